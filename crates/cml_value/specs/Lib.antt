@@ -1,0 +1,12 @@
+pub mod Value
+pub mod Limits
+pub mod Show
+pub mod Group
+pub mod Views
+pub mod GroupViews
+pub mod Codes
+pub mod GroupCodes
+pub mod Heights
+pub mod HeightsFall
+pub mod GroupHeights
+pub mod GroupHeightsFall

@@ -1,0 +1,13 @@
+//! The values, functions, events and forced groups of Concurrent ML.
+//!
+//! All of them are immutable. What may be large is shared, so a copy costs a count and no walk.
+#![tactic(auto)]
+
+mod group;
+mod number;
+mod value;
+
+pub use group::{Group, GroupKind};
+pub use number::{ChanId, IVarId, MVarId, MboxId, McastId, NackId, PortId, Tid};
+pub use value::limits::{MAX_DEPTH, MAX_NODES};
+pub use value::{Base, BaseKind, Event, EventKind, FnRef, Value, ValueKind};

@@ -1,0 +1,465 @@
+//! Values, functions with what they captured, base events, and events as a program builds them.
+
+ghost use Rattle.std.specs.Prelude.{◌≡◌, IfOk, IfErr};
+ghost use Rattle.cml_value.specs.Views.{value_of, base_of, event_of};
+
+pub mod limits;
+mod same;
+mod show;
+
+use crate::number::{ChanId, IVarId, MVarId, MboxId, McastId, NackId, PortId, Tid};
+use std::alloc::{AllocError, AllocFailed, Global};
+use std::marker::Model;
+use std::sync::{Arc, ArcStr};
+
+/// A value of a program. It is immutable, and its copies share what is large.
+#[cycle(value)]
+#[derive(Debug, Drop)]
+pub struct Value {
+    kind: ValueKind,
+}
+
+/// What a value is.
+#[cycle(value)]
+#[derive(Debug, Drop)]
+pub enum ValueKind {
+    Unit,
+    Int(i64),
+    Bool(bool),
+    Text(ArcStr),
+    Pair(Arc<(Value, Value)>),
+    Thread(Tid),
+    Chan(ChanId),
+    IVar(IVarId),
+    MVar(MVarId),
+    Mailbox(MboxId),
+    Mchan(McastId),
+    Port(PortId),
+    Event(Arc<Event>),
+}
+
+/// A function by its number, with the values that it has captured: its first arguments.
+#[cycle(value)]
+#[derive(Debug, Drop)]
+pub struct FnRef {
+    func: u32,
+    args: Arc<Vec<Value>>,
+}
+
+/// A base event: what one leaf of an event waits for.
+#[cycle(value)]
+#[derive(Debug, Drop)]
+pub struct Base {
+    kind: BaseKind,
+}
+
+/// What a base event waits for.
+#[cycle(value)]
+#[derive(Debug, Drop)]
+pub enum BaseKind {
+    /// Nothing: it can always be taken, and gives the value.
+    Always(Value),
+    /// A receiver of the value on the channel.
+    Send(ChanId, Value),
+    /// A sender on the channel.
+    Recv(ChanId),
+    /// The value of the I-variable, which stays.
+    IGet(IVarId),
+    /// The value of the M-variable, which it empties.
+    MTake(MVarId),
+    /// The value of the M-variable, which stays.
+    MGet(MVarId),
+    /// The value of the M-variable, in whose place it leaves its own.
+    MSwap(MVarId, Value),
+    /// The first item of the mailbox, which it takes.
+    MailRecv(MboxId),
+    /// The first unread message of the port, which it takes.
+    PortRecv(PortId),
+    /// The end of the thread.
+    Join(Tid),
+    /// The tick.
+    At(u64),
+    /// So many ticks from the moment at which the synchronization begins.
+    After(u64),
+    /// A choice that leaves out the branch of this nack.
+    Nack(NackId),
+}
+
+/// An event as a program builds it.
+#[cycle(value)]
+#[derive(Debug, Drop)]
+pub struct Event {
+    kind: EventKind,
+}
+
+/// What an event is.
+#[cycle(value)]
+#[derive(Debug, Drop)]
+pub enum EventKind {
+    /// Never enabled.
+    Never,
+    /// A base event.
+    Leaf(Base),
+    /// Any one of these.
+    Choose(Arc<Vec<Event>>),
+    /// The event, whose result goes through the function.
+    Wrap(Arc<Event>, FnRef),
+    /// The event that the function answers when a synchronization begins.
+    Guard(FnRef),
+    /// The same, where the function is given a fresh nack event.
+    WithNack(FnRef),
+    /// The branch of this nack.
+    Scope(NackId, Arc<Event>),
+}
+
+impl Model for Value {
+    ghost use Rattle.cml_value.specs.Value.{PlainValue};
+    ghost use Rattle.cml_value.specs.Heights.{value_height};
+    ghost use Rattle.cml_value.specs.Codes.{value_code};
+
+    ghost Value = { PlainValue };
+
+    ghost coded = { value_code };
+
+    ghost use Rattle.cml_value.specs.Views.{value_of};
+
+    ghost view = { λ a. value_of a.kind };
+
+    ghost size = { value_height };
+}
+
+impl Model for FnRef {
+    ghost use Rattle.cml_value.specs.Value.{PlainFunction, function, values};
+    ghost use Rattle.cml_value.specs.Heights.{function_height};
+    ghost use Rattle.cml_value.specs.Codes.{function_code};
+
+    ghost Value = { PlainFunction };
+
+    ghost coded = { function_code };
+
+    ghost view = { λ a. function a.func (values a.args.value.items) };
+
+    ghost size = { function_height };
+
+    ghost use Rattle.std.proofs.Common.{arith};
+    ghost use Rattle.cml_value.specs.HeightsFall.{most-values_height};
+
+    ghost size_decreases = { λ a h. Prim.omega (arith, most-values_height a.args.value.items) };
+}
+
+impl Model for Base {
+    ghost use Rattle.cml_value.specs.Value.{PlainBase};
+    ghost use Rattle.cml_value.specs.Heights.{base_height};
+    ghost use Rattle.cml_value.specs.Codes.{base_code};
+
+    ghost Value = { PlainBase };
+
+    ghost coded = { base_code };
+
+    ghost use Rattle.cml_value.specs.Views.{base_of};
+
+    ghost view = { λ a. base_of a.kind };
+
+    ghost size = { base_height };
+}
+
+impl Model for Event {
+    ghost use Rattle.cml_value.specs.Value.{PlainEvent};
+    ghost use Rattle.cml_value.specs.Heights.{event_height};
+    ghost use Rattle.cml_value.specs.Codes.{event_code};
+
+    ghost Value = { PlainEvent };
+
+    ghost coded = { event_code };
+
+    ghost use Rattle.cml_value.specs.Views.{event_of};
+
+    ghost view = { λ a. event_of a.kind };
+
+    ghost size = { event_height };
+
+    ghost use Rattle.cml_value.specs.HeightsFall.{deep_le-event_height};
+
+    ghost size_decreases = { λ a h. deep_le-event_height a.kind };
+}
+
+impl Value {
+    ghost use Rattle.cml_value.specs.Value.{text, pair, event};
+
+    /// The value of this kind.
+    pub fn new(kind: ValueKind) -> Value
+        ensures { result ≡ value_of kind }
+    {
+        Value { kind }
+    }
+
+    /// The text as a value.
+    ///
+    /// # Errors
+    /// Want of memory.
+    pub fn text(alloc: Global, characters: &str) -> Result<Value, AllocError>
+        ensures { IfOk result (λ v. v ≡ text characters.now) }
+    {
+        let kind = ValueKind::Text(ArcStr::from_str(alloc, characters)?);
+        Ok(Value { kind })
+    }
+
+    /// The pair of the two.
+    ///
+    /// # Errors
+    /// Want of memory, with both values.
+    pub fn pair(
+        alloc: Global,
+        first: Value,
+        second: Value,
+    ) -> Result<Value, AllocFailed<(Value, Value)>>
+        ensures ok { IfOk result (λ v. v ≡ pair first second) }
+        ensures err { IfErr result (λ back. back.value ≡ (first, second)) }
+    {
+        match Arc::new(alloc, (first, second)) {
+            Ok(both) => Ok(Value {
+                kind: ValueKind::Pair(both),
+            }),
+            Err(back) => Err(back),
+        }
+    }
+
+    /// The event as a value.
+    ///
+    /// # Errors
+    /// Want of memory, with the event.
+    pub fn event(alloc: Global, held: Event) -> Result<Value, AllocFailed<Event>>
+        ensures ok { IfOk result (λ v. v ≡ event held) }
+        ensures err { IfErr result (λ back. back.value ≡ held) }
+    {
+        match Arc::new(alloc, held) {
+            Ok(shared) => Ok(Value {
+                kind: ValueKind::Event(shared),
+            }),
+            Err(back) => Err(back),
+        }
+    }
+
+    /// What the value is.
+    pub fn kind(&self) -> &ValueKind
+        ensures { value_of result.now ≡ self.now }
+    {
+        &self.kind
+    }
+
+    /// The same, taken out.
+    pub fn into_kind(self) -> ValueKind
+        ensures { value_of result ≡ self }
+    {
+        self.kind
+    }
+
+    /// Another owner of the same value.
+    ///
+    /// # Errors
+    /// Want of memory: no more owners can be counted.
+    pub fn copy(&self) -> Result<Value, AllocError>
+        ensures { IfOk result (λ v. v ≡ self.now) }
+    {
+        match &self.kind {
+            ValueKind::Unit => Ok(Value::new(ValueKind::Unit)),
+            ValueKind::Int(z) => Ok(Value::new(ValueKind::Int(*z))),
+            ValueKind::Bool(b) => Ok(Value::new(ValueKind::Bool(*b))),
+            ValueKind::Text(s) => Ok(Value::new(ValueKind::Text(s.clone()?))),
+            ValueKind::Pair(p) => Ok(Value::new(ValueKind::Pair(Arc::try_clone(p)?))),
+            ValueKind::Thread(t) => Ok(Value::new(ValueKind::Thread(*t))),
+            ValueKind::Chan(c) => Ok(Value::new(ValueKind::Chan(*c))),
+            ValueKind::IVar(i) => Ok(Value::new(ValueKind::IVar(*i))),
+            ValueKind::MVar(m) => Ok(Value::new(ValueKind::MVar(*m))),
+            ValueKind::Mailbox(b) => Ok(Value::new(ValueKind::Mailbox(*b))),
+            ValueKind::Mchan(x) => Ok(Value::new(ValueKind::Mchan(*x))),
+            ValueKind::Port(p) => Ok(Value::new(ValueKind::Port(*p))),
+            ValueKind::Event(e) => Ok(Value::new(ValueKind::Event(Arc::try_clone(e)?))),
+        }
+    }
+}
+
+impl FnRef {
+    ghost use Rattle.cml_value.specs.Value.{function, values, func_of, args_of};
+
+    /// The function of this number with these captured values.
+    ///
+    /// # Errors
+    /// Want of memory, with the values.
+    pub fn new(alloc: Global, func: u32, args: Vec<Value>) -> Result<FnRef, AllocFailed<Vec<Value>>>
+        ensures ok { IfOk result (λ f. f ≡ function func (values args.items)) }
+        ensures err { IfErr result (λ back. back.value ≡ args) }
+    {
+        match Arc::new(alloc, args) {
+            Ok(args) => Ok(FnRef { func, args }),
+            Err(back) => Err(back),
+        }
+    }
+
+    /// The function's number.
+    pub fn func(&self) -> u32
+        ensures { result ≡ func_of self.now }
+    {
+        self.func
+    }
+
+    /// The captured values, in order.
+    pub fn args(&self) -> &[Value]
+        ensures { values result.now ≡ args_of self.now }
+    {
+        &self.args
+    }
+
+    /// Another owner of the same function.
+    ///
+    /// # Errors
+    /// Want of memory: no more owners can be counted.
+    pub fn copy(&self) -> Result<FnRef, AllocError>
+        ensures { IfOk result (λ f. f ≡ self.now) }
+    {
+        let args = Arc::try_clone(&self.args)?;
+        Ok(FnRef {
+            func: self.func,
+            args,
+        })
+    }
+}
+
+impl Base {
+    /// The base event of this kind.
+    pub fn new(kind: BaseKind) -> Base
+        ensures { result ≡ base_of kind }
+    {
+        Base { kind }
+    }
+
+    /// What it waits for.
+    pub fn kind(&self) -> &BaseKind
+        ensures { base_of result.now ≡ self.now }
+    {
+        &self.kind
+    }
+
+    /// The same, taken out.
+    pub fn into_kind(self) -> BaseKind
+        ensures { base_of result ≡ self }
+    {
+        self.kind
+    }
+
+    /// Another owner of the same base event.
+    ///
+    /// # Errors
+    /// Want of memory: no more owners can be counted.
+    pub fn copy(&self) -> Result<Base, AllocError>
+        ensures { IfOk result (λ b. b ≡ self.now) }
+    {
+        match &self.kind {
+            BaseKind::Always(v) => Ok(Base::new(BaseKind::Always(v.copy()?))),
+            BaseKind::Send(c, v) => Ok(Base::new(BaseKind::Send(*c, v.copy()?))),
+            BaseKind::Recv(c) => Ok(Base::new(BaseKind::Recv(*c))),
+            BaseKind::IGet(i) => Ok(Base::new(BaseKind::IGet(*i))),
+            BaseKind::MTake(m) => Ok(Base::new(BaseKind::MTake(*m))),
+            BaseKind::MGet(m) => Ok(Base::new(BaseKind::MGet(*m))),
+            BaseKind::MSwap(m, v) => Ok(Base::new(BaseKind::MSwap(*m, v.copy()?))),
+            BaseKind::MailRecv(b) => Ok(Base::new(BaseKind::MailRecv(*b))),
+            BaseKind::PortRecv(p) => Ok(Base::new(BaseKind::PortRecv(*p))),
+            BaseKind::Join(t) => Ok(Base::new(BaseKind::Join(*t))),
+            BaseKind::At(tick) => Ok(Base::new(BaseKind::At(*tick))),
+            BaseKind::After(delay) => Ok(Base::new(BaseKind::After(*delay))),
+            BaseKind::Nack(k) => Ok(Base::new(BaseKind::Nack(*k))),
+        }
+    }
+}
+
+impl Event {
+    ghost use Rattle.cml_value.specs.Value.{choose, wrap, scope, events};
+
+    /// The event of this kind.
+    pub fn new(kind: EventKind) -> Event
+        ensures { result ≡ event_of kind }
+    {
+        Event { kind }
+    }
+
+    /// Any one of these.
+    ///
+    /// # Errors
+    /// Want of memory, with the events.
+    pub fn choose(alloc: Global, members: Vec<Event>) -> Result<Event, AllocFailed<Vec<Event>>>
+        ensures ok { IfOk result (λ e. e ≡ choose (events members.items)) }
+        ensures err { IfErr result (λ back. back.value ≡ members) }
+    {
+        match Arc::new(alloc, members) {
+            Ok(shared) => Ok(Event {
+                kind: EventKind::Choose(shared),
+            }),
+            Err(back) => Err(back),
+        }
+    }
+
+    /// This event, whose result goes through the function.
+    ///
+    /// # Errors
+    /// Want of memory, with the event and the function.
+    pub fn wrap(self, alloc: Global, function: FnRef) -> Result<Event, AllocFailed<(Event, FnRef)>>
+        ensures ok { IfOk result (λ e. e ≡ wrap self function) }
+        ensures err { IfErr result (λ back. back.value ≡ (self, function)) }
+    {
+        match Arc::new(alloc, self) {
+            Ok(shared) => Ok(Event {
+                kind: EventKind::Wrap(shared, function),
+            }),
+            Err(back) => Err(AllocFailed {
+                value: (back.value, function),
+            }),
+        }
+    }
+
+    /// This event as the branch of the nack.
+    ///
+    /// # Errors
+    /// Want of memory, with the event.
+    pub fn scope(self, alloc: Global, nack: NackId) -> Result<Event, AllocFailed<Event>>
+        ensures ok { IfOk result (λ e. e ≡ scope nack.0 self) }
+        ensures err { IfErr result (λ back. back.value ≡ self) }
+    {
+        match Arc::new(alloc, self) {
+            Ok(shared) => Ok(Event {
+                kind: EventKind::Scope(nack, shared),
+            }),
+            Err(back) => Err(back),
+        }
+    }
+
+    /// What the event is.
+    pub fn kind(&self) -> &EventKind
+        ensures { event_of result.now ≡ self.now }
+    {
+        &self.kind
+    }
+
+    /// Another owner of the same event.
+    ///
+    /// # Errors
+    /// Want of memory: no more owners can be counted.
+    pub fn copy(&self) -> Result<Event, AllocError>
+        ensures { IfOk result (λ e. e ≡ self.now) }
+    {
+        match &self.kind {
+            EventKind::Never => Ok(Event::new(EventKind::Never)),
+            EventKind::Leaf(b) => Ok(Event::new(EventKind::Leaf(b.copy()?))),
+            EventKind::Choose(es) => Ok(Event::new(EventKind::Choose(Arc::try_clone(es)?))),
+            EventKind::Wrap(e, f) => {
+                let shared = Arc::try_clone(e)?;
+                Ok(Event::new(EventKind::Wrap(shared, f.copy()?)))
+            }
+            EventKind::Guard(f) => Ok(Event::new(EventKind::Guard(f.copy()?))),
+            EventKind::WithNack(f) => Ok(Event::new(EventKind::WithNack(f.copy()?))),
+            EventKind::Scope(k, e) => {
+                let shared = Arc::try_clone(e)?;
+                Ok(Event::new(EventKind::Scope(*k, shared)))
+            }
+        }
+    }
+}
