@@ -1,7 +1,7 @@
 -- A code of each group, leaf and scope: a tree of numbers from which it can be read back. The toolchain asks for one; no rule
 -- speaks of it.
-use Rattle.std.specs.Prelude.{◌≡◌, ℕ, List, refl}
-use Rattle.std.specs.Coded.{Coded, code_by, coded×, coded_list, coded_ℕ}
+use Rattle.std.specs.Prelude.{◌≡◌, List, refl}
+use Rattle.std.specs.Coded.{Coded, code_by, coded×, coded_list}
 use base.Stored.{Gv, gnil, gnum, gcons}
 use Rattle.cml_value.specs.Value.{PlainBase, PlainFunction}
 use Rattle.cml_value.specs.Codes.{base_code, function_code}
