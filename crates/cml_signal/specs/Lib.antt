@@ -1,0 +1,2 @@
+pub mod NackCell
+pub mod NackView
