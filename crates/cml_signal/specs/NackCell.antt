@@ -1,50 +1,43 @@
--- What becomes of a nack (Reppy's withNack). It is fresh while it belongs to the thread that asked for it, live while a pending
--- group has its branch, and then fired, where an event outside the branch was chosen, or held, where one inside was. It is lit
--- once it has fired, and from then on.
+-- What can become of a nack (Reppy's withNack). It is lit once it has fired, and from then on.
 use Rattle.std.specs.Prelude.{◌≡◌, ℕ, ◌==◌, Bool, true, false, Option, Some, None, Result, Ok, Err}
+use Rattle.cml_value.specs.Nack.{PlainNack, fresh_of, live, fired, held}
 use Rattle.cml_signal.specs.declared.nack.Spent.{Spent}
 
-pub data PlainCell : Type 0 where
-  fresh : ℕ → PlainCell
-  live : PlainCell
-  fired : PlainCell
-  held : PlainCell
-
 -- fresh, and this thread's
-abbrev pub is_fresh_of : ℕ → PlainCell → Bool
-is_fresh_of thread (fresh owner) = thread == owner
+abbrev pub is_fresh_of : ℕ → PlainNack → Bool
+is_fresh_of thread (fresh_of owner) = thread == owner
 is_fresh_of thread live = false
 is_fresh_of thread fired = false
 is_fresh_of thread held = false
 
-abbrev pub is_fired : PlainCell → Bool
-is_fired (fresh owner) = false
+abbrev pub is_fired : PlainNack → Bool
+is_fired (fresh_of owner) = false
 is_fired live = false
 is_fired fired = true
 is_fired held = false
 
 -- only a fresh nack can enter a pending group
-abbrev pub after_enter : PlainCell → Option PlainCell
-after_enter (fresh owner) = Some live
+abbrev pub after_enter : PlainNack → Option PlainNack
+after_enter (fresh_of owner) = Some live
 after_enter live = None
 after_enter fired = None
 after_enter held = None
 
 -- only a live nack can fire
-abbrev pub after_fire : PlainCell → Option PlainCell
-after_fire (fresh owner) = None
+abbrev pub after_fire : PlainNack → Option PlainNack
+after_fire (fresh_of owner) = None
 after_fire live = Some fired
 after_fire fired = None
 after_fire held = None
 
 -- only a live nack can be held
-abbrev pub after_hold : PlainCell → Option PlainCell
-after_hold (fresh owner) = None
+abbrev pub after_hold : PlainNack → Option PlainNack
+after_hold (fresh_of owner) = None
 after_hold live = Some held
 after_hold fired = None
 after_hold held = None
 
 -- The call makes the nack what it can become, or refuses where it can't, and then nothing changes.
-abbrev pub Becomes : Result (Unit {0}) Spent → Option PlainCell → PlainCell → PlainCell → Type 0
+abbrev pub Becomes : Result (Unit {0}) Spent → Option PlainNack → PlainNack → PlainNack → Type 0
 Becomes (Ok done) after old new = after ≡ Some new
 Becomes (Err spent) after old new = (after ≡ None) × (new ≡ old)

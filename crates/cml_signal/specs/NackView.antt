@@ -1,10 +1,10 @@
 -- What a nack is seen as, from its one field.
-use Rattle.cml_signal.specs.NackCell.{PlainCell, fresh, live, fired, held}
+use Rattle.cml_value.specs.Nack.{PlainNack, fresh_of, live, fired, held}
 use Rattle.cml_signal.specs.declared.nack.State.{State}
 use Rattle.cml_signal.specs.declared.nack.State.TheVariants as state
 
-abbrev pub cell_of : State → PlainCell
-cell_of (state.Fresh owner) = fresh owner.0
+abbrev pub cell_of : State → PlainNack
+cell_of (state.Fresh owner) = fresh_of owner.0
 cell_of state.Live = live
 cell_of state.Fired = fired
 cell_of state.Held = held

@@ -26,21 +26,22 @@ pub struct NackCell {
 }
 
 impl Model for NackCell {
-    ghost use Rattle.cml_signal.specs.NackCell.{PlainCell};
+    ghost use Rattle.cml_value.specs.Nack.{PlainNack};
     ghost use Rattle.cml_signal.specs.NackView.{cell_of};
 
-    ghost Value = { PlainCell };
+    ghost Value = { PlainNack };
 
     ghost view = { λ cell. cell_of cell.state };
 }
 
 impl NackCell {
     ghost use Rattle.cml_signal.specs.NackCell as spec;
-    ghost use Rattle.cml_signal.specs.NackCell.{fresh, Becomes};
+    ghost use Rattle.cml_value.specs.Nack.{fresh_of};
+    ghost use Rattle.cml_signal.specs.NackCell.{Becomes};
 
     /// A fresh nack of this thread.
     pub fn new(owner: Tid) -> NackCell
-        ensures { result ≡ fresh owner.0 }
+        ensures { result ≡ fresh_of owner.0 }
     {
         NackCell {
             state: State::Fresh(owner),

@@ -1,6 +1,7 @@
 pub mod Value
 pub mod Limits
 pub mod Show
+pub mod Nack
 pub mod Group
 pub mod Views
 pub mod GroupViews

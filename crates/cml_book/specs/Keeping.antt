@@ -1,0 +1,40 @@
+-- What a book keeps at all times.
+use Rattle.std.specs.Prelude.{ℕ, ◌≡◌, ◌+◌, ◌*◌, ◌≤◌, ◌==◌, Bool, true, false, if◌then◌else◌, List, [], ◌∷◌, length, map, All, Option, Some, None, slice_get, count_by}
+use Rattle.std.specs.List.{flat_map}
+use Rattle.cml_value.specs.Group.{scopes, nacks_of}
+use Rattle.cml_scan.specs.World.{PlainThread, PlainNack, fresh_of, live, fired, held, PlainWorld, PlainEntry, pending}
+use Rattle.cml_scan.specs.Table.{TellsLights}
+use Rattle.cml_scan.specs.declared.object.Light.{Light}
+
+-- the nacks of the scopes of all these pending groups
+abbrev pub pending_nacks : List PlainEntry → List ℕ
+pending_nacks entries = flat_map (λ e. nacks_of (scopes e.group)) entries
+
+-- 1 for a live nack, and else 0
+abbrev pub lives : Option PlainNack → ℕ
+lives None = 0
+lives (Some (fresh_of owner)) = 0
+lives (Some live) = 1
+lives (Some fired) = 0
+lives (Some held) = 0
+
+-- A nack is live exactly where a pending group has its branch, and then just one branch of one group is its own.
+abbrev pub NacksLive : PlainWorld → Type 0
+NacksLive w = (k : ℕ) → count_by (λ j. j == k) (pending_nacks (pending w)) ≡ lives (slice_get w.nacks k)
+
+-- the world of a book: there are no variables, mailboxes and multicast channels in it yet
+abbrev pub world_of : List PlainThread → ℕ → List PlainNack → ℕ → PlainWorld
+world_of threads channels nacks tick =
+    record { threads = threads; channels = channels; ivars = []; mvars = []; mailboxes = []; mchans = []; ports = []; nacks = nacks; tick = tick }
+
+-- The table was told the pending groups, and of each light that one of their leaves waits for whether it is lit. The nacks of the
+-- pending groups are live. No more threads, channels and nacks exist than are allowed. There is room for the lights of the nacks that a
+-- commit can fire.
+pub record Keeps (w : PlainWorld) (entries : List PlainEntry) (told : Light → Bool) (room : ℕ) : Type 0 where
+  pub told_groups : entries ≡ pending w
+  pub told_lights : TellsLights w told
+  pub nacks_live : NacksLive w
+  pub few_threads : length w.threads ≤ 4096
+  pub few_channels : w.channels ≤ 65536
+  pub few_nacks : length w.nacks ≤ 65536
+  pub roomy : All (λ e. 2 * length (scopes e.group) ≤ room) entries

@@ -1,0 +1,18 @@
+-- What a flat group keeps: the group, its leaves and its scopes.
+use Rattle.std.specs.Prelude.{◌≡◌, ◌≤◌, ℕ, List, length, true}
+use Rattle.cml_value.specs.Group.{PlainGroup, PlainLeaf, PlainScope, leaves, leaf_count, scopes, nacks_of, group_fits}
+use Rattle.cml_group.specs.Leaves.{numbers}
+use Rattle.cml_value.specs.declared.number.NackId.{NackId}
+
+-- at most 256 leaves, no deeper than 64, and of no more than 65,536 nodes
+pub record IsWithinLimits (g : PlainGroup) : Type 0 where
+  pub few_leaves : leaf_count g ≤ 256
+  pub fits : group_fits g ≡ true
+
+-- these are the leaves, the scopes and the nacks of the group, and the list of nacks has room for all of them
+pub record IsLaidOut (g : PlainGroup) (ls : List PlainLeaf) (ss : List PlainScope) (ks : List NackId) (room : ℕ) : Type 0 where
+  pub leaves_are : ls ≡ leaves g
+  pub scopes_are : ss ≡ scopes g
+  pub nacks_are : numbers ks ≡ nacks_of (scopes g)
+  pub has_room : length ss ≤ room
+  pub within : leaf_count g ≤ 256

@@ -1,0 +1,4 @@
+pub mod Leaves
+pub mod ScopeCodes
+pub mod LaidOut
+pub mod Faults

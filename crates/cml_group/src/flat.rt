@@ -1,0 +1,191 @@
+//! A group laid flat.
+
+ghost use Rattle.std.specs.Prelude.{◌≡◌, ◌≤◌, ◌<◌, length, map, filter, slice_get, IfOk, IfErr};
+ghost use Rattle.std.specs.Vec.{vec_capacity};
+ghost use Rattle.cml_value.specs.Group.{PlainGroup, leaf_count, scopes, nacks_of, lies_outside, fired};
+ghost use Rattle.cml_group.specs.Leaves.{pick, leaf_base, leaf_wraps, numbers};
+ghost use Rattle.cml_group.specs.LaidOut.{IsWithinLimits};
+ghost use Rattle.cml_group.specs.Faults.{Refuses};
+
+use crate::fault::FlatFault;
+use crate::lay::{Branch, Branches, Leaf, lay};
+use crate::limit::{MAX_LEAVES, spend_leaves};
+use cml_value::{Base, FnRef, Group, NackId};
+use smallvec::SmallVec;
+use std::alloc::{AllocError, Global};
+use std::marker::Model;
+
+/// A group laid flat. Its leaves are numbered from the left, from 0.
+#[derive(Debug, Drop)]
+pub struct Flat {
+    group: Group,
+    leaves: Vec<Leaf>,
+    branches: Branches,
+    nacks: Vec<NackId>,
+}
+
+impl Model for Flat {
+    ghost use Rattle.cml_value.specs.Group.{PlainGroup};
+    ghost use Rattle.cml_value.specs.GroupCodes.{group_code};
+    ghost use Rattle.cml_group.specs.LaidOut.{IsLaidOut};
+    ghost use Rattle.std.specs.Vec.{vec_capacity};
+
+    ghost Value = { PlainGroup };
+
+    ghost coded = { group_code };
+
+    ghost view = { λ a. a.group };
+
+    ghost invariant = { λ a. IsLaidOut a.group a.leaves.items a.branches.items a.nacks.items (vec_capacity a.nacks) };
+}
+
+/// What choosing a leaf leads to.
+#[derive(Debug, Drop)]
+pub struct Chosen {
+    /// What the leaf waited for.
+    pub base: Base,
+    /// The functions that its result goes through, in the order in which they run.
+    pub wraps: Vec<FnRef>,
+    /// The nacks that fire.
+    pub lost: Vec<NackId>,
+}
+
+// Puts the nacks of those branches in which the leaf does not lie into the list, which has room for them.
+fn fill_lost(lost: &mut Vec<NackId>, branches: &[Branch], leaf: usize)
+    requires { length branches.now ≤ vec_capacity lost.old }
+    ensures { numbers lost.new.items ≡ nacks_of (filter (lies_outside leaf) branches.now) }
+{
+    lost.clear();
+    for branch in branches {
+        if leaf < branch.first || branch.past <= leaf {
+            lost.push_reserved(branch.nack);
+        }
+    }
+}
+
+// The nacks of the branches, in a list of their number.
+fn nacks_in(alloc: Global, branches: &[Branch]) -> Result<Vec<NackId>, AllocError>
+    ensures nacks { IfOk result (λ ks. numbers ks.items ≡ nacks_of branches.now) }
+    ensures room { IfOk result (λ ks. length branches.now ≤ vec_capacity ks) }
+{
+    let mut nacks = Vec::with_capacity(alloc, branches.len())?;
+    for branch in branches {
+        nacks.push_reserved(branch.nack);
+    }
+    Ok(nacks)
+}
+
+/// The group laid flat, which a thread offers the leaves of. All that [`Flat::choose`] will hand out is reserved here.
+///
+/// The group is looked at node by node, also where parts are shared. So a group that is past the limits and is made of very
+/// many nodes without a leaf takes as long as it has nodes; any other is decided within 65,536 nodes.
+///
+/// # Errors
+/// More than [`MAX_LEAVES`] leaves, then too much depth or too many nodes, then want of memory, each with the group.
+pub fn flatten(alloc: Global, group: Group) -> Result<Flat, FlatFault>
+    ensures within { IfOk result (λ flat. IsWithinLimits group) }
+    ensures ok { IfOk result (λ flat. flat ≡ group) }
+    ensures err { IfErr result (λ fault. Refuses fault group) }
+{
+    if spend_leaves(&group, MAX_LEAVES).is_none() {
+        return Err(FlatFault::Leaves(group));
+    }
+    if !group.fits() {
+        return Err(FlatFault::Deep(group));
+    }
+    let mut leaves = Vec::new(alloc);
+    let mut branches = SmallVec::new(alloc);
+    if lay(&group, alloc, &mut leaves, &mut branches).is_err() {
+        return Err(FlatFault::Memory(group));
+    }
+    match nacks_in(alloc, branches.as_slice()) {
+        Ok(nacks) => Ok(Flat {
+            group,
+            leaves,
+            branches,
+            nacks,
+        }),
+        Err(_) => Err(FlatFault::Memory(group)),
+    }
+}
+
+impl Flat {
+    /// The group.
+    pub fn group(&self) -> &Group
+        ensures { result.now ≡ self.now }
+    {
+        &self.group
+    }
+
+    /// How many leaves there are, at most [`MAX_LEAVES`].
+    pub fn len(&self) -> usize
+        ensures len { result ≡ leaf_count self.now }
+        ensures few { result ≤ MAX_LEAVES }
+    {
+        self.leaves.len()
+    }
+
+    /// What the leaf of this number waits for.
+    pub fn leaf(&self, n: usize) -> &Base
+        requires { n < leaf_count self.now }
+        ensures { leaf_base self.now n ≡ Some result.now }
+    {
+        &self.leaves[n].base
+    }
+
+    /// The functions that the result of the leaf goes through, in the order in which they run: innermost first.
+    pub fn wraps(&self, n: usize) -> &[FnRef]
+        requires { n < leaf_count self.now }
+        ensures { leaf_wraps self.now n ≡ Some result.now }
+    {
+        &self.leaves[n].wraps
+    }
+
+    /// The nacks of all scopes, from the left, an outer one before those in it.
+    pub fn scopes(&self) -> &[NackId]
+        ensures { numbers result.now ≡ nacks_of (scopes self.now) }
+    {
+        &self.nacks
+    }
+
+    /// Whether the leaf lies outside the scope of this place, so that its nack fires where the leaf is chosen.
+    pub fn loses(&self, n: usize, scope: usize) -> bool
+        requires leaf { n < leaf_count self.now }
+        requires scope { scope < length (scopes self.now) }
+        ensures { slice_get (map (lies_outside n) (scopes self.now)) scope ≡ Some result }
+    {
+        let branch = &self.branches.as_slice()[scope];
+        n < branch.first || branch.past <= n
+    }
+
+    /// The nacks that fire where the leaf is chosen, in the order of [`Flat::scopes`].
+    ///
+    /// # Errors
+    /// Want of memory.
+    pub fn lost(&self, alloc: Global, n: usize) -> Result<Vec<NackId>, AllocError>
+        requires { n < leaf_count self.now }
+        ensures { IfOk result (λ ks. numbers ks.items ≡ fired self.now n) }
+    {
+        let branches = self.branches.as_slice();
+        let mut lost = Vec::with_capacity(alloc, branches.len())?;
+        fill_lost(&mut lost, branches, n);
+        Ok(lost)
+    }
+
+    /// The leaf, chosen. It takes no memory: the lists were reserved by [`flatten`].
+    pub fn choose(self, n: usize) -> Chosen
+        requires { n < leaf_count self }
+        ensures leaf { pick self n ≡ Some (record { base = result.base; wraps = result.wraps.items }) }
+        ensures lost { numbers result.lost.items ≡ fired self n }
+    {
+        let Flat {
+            group: _,
+            mut leaves,
+            branches,
+            nacks: mut lost,
+        } = self;
+        fill_lost(&mut lost, branches.as_slice(), n);
+        let Leaf { base, wraps } = leaves.swap_remove(n);
+        Chosen { base, wraps, lost }
+    }
+}

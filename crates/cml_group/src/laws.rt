@@ -1,0 +1,1 @@
+//! Laws of the leaves, the wraps and the scopes of a group. Each is proved, and does nothing.

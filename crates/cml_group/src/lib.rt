@@ -1,0 +1,13 @@
+//! Forced groups laid flat: the leaves of a group by number, the functions that the result of each goes through, and the
+//! nacks that fire where it is chosen.
+#![tactic(auto)]
+
+mod fault;
+mod flat;
+pub mod laws;
+mod lay;
+mod limit;
+
+pub use fault::FlatFault;
+pub use flat::{Chosen, Flat, flatten};
+pub use limit::MAX_LEAVES;

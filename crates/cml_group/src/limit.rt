@@ -1,0 +1,30 @@
+//! How many leaves a group has.
+
+ghost use Rattle.std.specs.Prelude.{◌≡◌, ◌+◌, nat_le, is_some, IfSome};
+ghost use Rattle.cml_value.specs.Group.{leaf_count};
+
+use cml_value::{Group, GroupKind};
+
+/// How many leaves a group may have.
+pub const MAX_LEAVES: usize = 256;
+
+// What is left of a budget of leaves, where it is enough.
+#[tactic(auto, using(std::proofs::lemmas::Bool::Decides::nat_tests, crate::proofs::Leaves::counts))]
+pub fn spend_leaves(group: &Group, budget: usize) -> Option<usize>
+    ensures enough { is_some result ≡ nat_le (leaf_count group.now) budget }
+    ensures left { IfSome result (λ left. left + leaf_count group.now ≡ budget) }
+{
+    match group.kind() {
+        GroupKind::Never => Some(budget),
+        GroupKind::Leaf(_) => budget.checked_sub(1),
+        GroupKind::Choose(gs) => {
+            let mut left = budget;
+            for g in gs.iter() {
+                left = spend_leaves(g, left)?;
+            }
+            Some(left)
+        }
+        GroupKind::Wrap(g, _) => spend_leaves(g, budget),
+        GroupKind::Scope(_, g) => spend_leaves(g, budget),
+    }
+}

@@ -1,0 +1,91 @@
+-- Which base events can be taken alone. Such a base is lit, and whether it is depends on the state of one object at most.
+use Rattle.std.specs.Prelude.{Bool, true, false, nat_le, ◌||◌, List, [], ◌∷◌, Option, Some, None, slice_get}
+use Rattle.cml_value.specs.Value.{PlainValue, PlainBase, always, send, recv, iget, mtake, mget, mswap, mail_recv, port_recv, join, at_tick, after_ticks, nack}
+use Rattle.cml_scan.specs.World.{PlainThread, running, pending_on, ended, PlainNack, fresh_of, live, fired, held, PlainWorld}
+use Rattle.cml_scan.specs.declared.object.Light.{Light}
+use Rattle.cml_scan.specs.declared.object.Light.TheVariants as of
+
+-- a variable is there and full
+abbrev pub is_full : Option (Option PlainValue) → Bool
+is_full None = false
+is_full (Some None) = false
+is_full (Some (Some v)) = true
+
+-- a mailbox or a port is there and has an item
+abbrev pub has_item : Option (List PlainValue) → Bool
+has_item None = false
+has_item (Some []) = false
+has_item (Some (v ∷ vs)) = true
+
+-- a thread is there and has ended
+abbrev pub has_ended : Option PlainThread → Bool
+has_ended None = false
+has_ended (Some running) = false
+has_ended (Some (pending_on g)) = false
+has_ended (Some ended) = true
+
+-- a nack is there and has fired
+abbrev pub has_fired : Option PlainNack → Bool
+has_fired None = false
+has_fired (Some (fresh_of t)) = false
+has_fired (Some live) = false
+has_fired (Some fired) = true
+has_fired (Some held) = false
+
+-- Whether the base can be taken alone. An alwaysEvt always can; a variable's base where the variable is full; a receive from a
+-- mailbox or a port where it has an item; a join where the thread has ended; an atTimeEvt from its tick on; a nack event where
+-- the nack has fired. A send and a receive on a channel need a partner and never can. An after never stands in a pending group.
+abbrev pub lit : PlainWorld → PlainBase → Bool
+lit w (always v) = true
+lit w (send c v) = false
+lit w (recv c) = false
+lit w (iget i) = is_full (slice_get w.ivars i)
+lit w (mtake m) = is_full (slice_get w.mvars m)
+lit w (mget m) = is_full (slice_get w.mvars m)
+lit w (mswap m v) = is_full (slice_get w.mvars m)
+lit w (mail_recv b) = has_item (slice_get w.mailboxes b)
+lit w (port_recv p) = has_item (slice_get w.ports p)
+lit w (join t) = has_ended (slice_get w.threads t)
+lit w (at_tick t) = nat_le t w.tick
+lit w (after_ticks d) = false
+lit w (nack k) = has_fired (slice_get w.nacks k)
+
+-- The light of a base: the object whose state it looks at. One that looks at none has no light.
+abbrev pub light : PlainBase → Option Light
+light (always v) = None
+light (send c v) = None
+light (recv c) = None
+light (iget i) = Some (of.IVar (record { 0 = i }))
+light (mtake m) = Some (of.MVar (record { 0 = m }))
+light (mget m) = Some (of.MVar (record { 0 = m }))
+light (mswap m v) = Some (of.MVar (record { 0 = m }))
+light (mail_recv b) = Some (of.Mailbox (record { 0 = b }))
+light (port_recv p) = Some (of.Port (record { 0 = p }))
+light (join t) = Some (of.Thread (record { 0 = t }))
+light (at_tick t) = Some (of.Tick t)
+light (after_ticks d) = None
+light (nack k) = Some (of.Nack (record { 0 = k }))
+
+-- whether the light is lit in the world
+abbrev pub light_of : PlainWorld → Light → Bool
+light_of w (of.IVar i) = is_full (slice_get w.ivars i.0)
+light_of w (of.MVar m) = is_full (slice_get w.mvars m.0)
+light_of w (of.Mailbox b) = has_item (slice_get w.mailboxes b.0)
+light_of w (of.Port p) = has_item (slice_get w.ports p.0)
+light_of w (of.Thread t) = has_ended (slice_get w.threads t.0)
+light_of w (of.Tick t) = nat_le t w.tick
+light_of w (of.Nack k) = has_fired (slice_get w.nacks k.0)
+
+-- whether the base is always, so that it can be taken whatever the lights are
+abbrev pub is_always : PlainBase → Bool
+is_always (always v) = true
+is_always _ = false
+
+-- what is told of the light that is there
+abbrev pub is_told : (Light → Bool) → Option Light → Bool
+is_told told None = false
+is_told told (Some l) = told l
+
+-- Whether the base can be taken alone, where this is told of the lights: it is always, or has a light that is lit.
+abbrev pub lit_by : (Light → Bool) → PlainBase → Bool
+lit_by told b = is_always b || is_told told (light b)

@@ -1,0 +1,100 @@
+-- Which communications are possible now, and in which order they are listed.
+use Rattle.std.specs.Prelude.{ℕ, ◌+◌, ◌==◌, Bool, true, false, not, ◌&&◌, if◌then◌else◌, List, [], ◌∷◌, ◌++◌, map, filter}
+use Rattle.std.specs.List.{flat_map, list_any}
+use Rattle.cml_value.specs.Value.{PlainBase, always, send, recv, iget, mtake, mget, mswap, mail_recv, port_recv, join, at_tick, after_ticks, nack}
+use Rattle.cml_value.specs.Group.{bases}
+use Rattle.cml_scan.specs.World.{PlainWorld, PlainEntry, pending}
+use Rattle.cml_scan.specs.Light.{lit, lit_by}
+use Rattle.cml_scan.specs.declared.object.Light.{Light}
+use Rattle.cml_scan.specs.declared.meet.Meet.{Meet}
+use Rattle.cml_scan.specs.declared.meet.Meet.TheVariants.{Single, Pair}
+use Rattle.cml_scan.specs.declared.meet.Place.{Place}
+
+-- a leaf of a pending thread, with its base event
+pub record PlainOffer : Type 0 where
+  pub thread : ℕ
+  pub leaf : ℕ
+  pub base : PlainBase
+
+-- the leaves of one thread that have these bases, of which the first has this number
+abbrev pub leaves_from : ℕ → ℕ → List PlainBase → List PlainOffer
+leaves_from thread leaf [] = []
+leaves_from thread leaf (b ∷ bs) = record { thread = thread; leaf = leaf; base = b } ∷ leaves_from thread (leaf + 1) bs
+
+-- the leaves of all, by thread and leaf
+abbrev pub offers_of : List PlainEntry → List PlainOffer
+offers_of entries = flat_map (λ e. leaves_from e.thread 0 (bases e.group)) entries
+
+-- the base receives on this channel
+abbrev pub receives_on : ℕ → PlainBase → Bool
+receives_on c (recv d) = c == d
+receives_on c _ = false
+
+-- The first sends and the second receives, on one channel (Reppy's matching of sendEvt and recvEvt). The sender is the head.
+abbrev pub meets : PlainBase → PlainBase → Bool
+meets (send c v) b = receives_on c b
+meets _ b = false
+
+-- Two leaves can communicate where they meet and are of two different threads: no synchronization matches itself.
+abbrev pub can_meet : PlainOffer → PlainOffer → Bool
+can_meet head other = not (head.thread == other.thread) && meets head.base other.base
+
+-- a leaf that is taken alone, and two that communicate, as rows of the table
+abbrev pub single : PlainOffer → Meet
+single o = Single (record { 0 = o.thread }) o.leaf
+
+abbrev pub pair : PlainOffer → PlainOffer → Meet
+pair head other = Pair (record { 0 = head.thread }) head.leaf (record { 0 = other.thread }) other.leaf
+
+-- the rows that this leaf heads, with those of these leaves that can meet it
+abbrev pub pairs_with : List PlainOffer → PlainOffer → List Meet
+pairs_with offers head = map (pair head) (filter (can_meet head) offers)
+
+-- first each leaf that can be taken alone, then each two leaves that can meet, by the head and then by the other
+abbrev pub rows_of : (PlainBase → Bool) → List PlainOffer → List Meet
+rows_of is_lit offers = map single (filter (λ o. is_lit o.base) offers) ++ flat_map (pairs_with offers) offers
+
+-- The scan: all communications that are possible now, found by looking at every leaf and at every two leaves of the pending threads.
+abbrev pub scan : PlainWorld → List Meet
+scan w = rows_of (lit w) (offers_of (pending w))
+
+-- the scan of these pending threads, where this is told of the lights
+abbrev pub scan_of : List PlainEntry → (Light → Bool) → List Meet
+scan_of entries told = rows_of (lit_by told) (offers_of entries)
+
+-- the place that begins a row: its only leaf, or the sender
+abbrev pub place_of : Meet → Place
+place_of (Single tid leaf) = record { tid = tid; leaf = leaf }
+place_of (Pair head head_leaf other other_leaf) = record { tid = head; leaf = head_leaf }
+
+abbrev pub same_place : Place → Place → Bool
+same_place p q = p.tid.0 == q.tid.0 && p.leaf == q.leaf
+
+-- those of these places that are not among the ones seen, each once, in order of first appearance
+abbrev pub firsts_after : List Place → List Place → List Place
+firsts_after seen [] = []
+firsts_after seen (p ∷ ps) = if list_any (same_place p) seen then firsts_after seen ps else p ∷ firsts_after (seen ++ p ∷ []) ps
+
+-- the places that begin one of these rows, each once, in order of first appearance
+abbrev pub heads_of : List Meet → List Place
+heads_of rows = firsts_after [] (map place_of rows)
+
+-- those of these rows that begin at this place, in order
+abbrev pub partners_of : List Meet → Place → List Meet
+partners_of rows head = filter (λ row. same_place head (place_of row)) rows
+
+abbrev pub heads : PlainWorld → List Place
+heads w = heads_of (scan w)
+
+abbrev pub partners : PlainWorld → Place → List Meet
+partners w head = partners_of (scan w) head
+
+abbrev pub same_row : Meet → Meet → Bool
+same_row (Single t l) (Single u m) = t.0 == u.0 && l == m
+same_row (Single t l) (Pair u m v n) = false
+same_row (Pair t k o j) (Single u m) = false
+same_row (Pair t k o j) (Pair u m v n) = (t.0 == u.0 && k == m) && (o.0 == v.0 && j == n)
+
+-- the row is one of these
+abbrev pub has_row : List Meet → Meet → Bool
+has_row rows row = list_any (same_row row) rows
