@@ -1,2 +1,13 @@
 pub mod Bases
 pub mod Heights
+pub mod Told
+pub mod Leaving
+pub mod Ordered
+pub mod Found
+pub mod Members
+pub mod Enabling
+pub mod Heads
+pub mod Ordering
+pub mod Firsts
+pub mod Partners
+pub mod Telling

@@ -1,8 +1,9 @@
 -- Which communications are possible now, and in which order they are listed.
-use Rattle.std.specs.Prelude.{ℕ, ◌+◌, ◌==◌, Bool, true, false, not, ◌&&◌, if◌then◌else◌, List, [], ◌∷◌, ◌++◌, map, filter}
+use Rattle.std.specs.Prelude.{ℕ, ◌+◌, ◌==◌, Bool, true, false, not, ◌&&◌, ◌||◌, if◌then◌else◌, List, [], ◌∷◌, ◌++◌, map, filter}
 use Rattle.std.specs.List.{flat_map, list_any}
 use Rattle.cml_value.specs.Value.{PlainBase, always, send, recv, iget, mtake, mget, mswap, mail_recv, port_recv, join, at_tick, after_ticks, nack}
 use Rattle.cml_value.specs.Group.{bases}
+use Rattle.cml_value.specs.declared.number.Tid.{Tid}
 use Rattle.cml_scan.specs.World.{PlainWorld, PlainEntry, pending}
 use Rattle.cml_scan.specs.Light.{lit, lit_by}
 use Rattle.cml_scan.specs.declared.object.Light.{Light}
@@ -98,3 +99,12 @@ same_row (Pair t k o j) (Pair u m v n) = (t.0 == u.0 && k == m) && (o.0 == v.0 &
 -- the row is one of these
 abbrev pub has_row : List Meet → Meet → Bool
 has_row rows row = list_any (same_row row) rows
+
+-- the thread is one of these
+abbrev pub is_among : List Tid → ℕ → Bool
+is_among tids thread = list_any (λ t. t.0 == thread) tids
+
+-- the row names one of these threads
+abbrev pub names : List Tid → Meet → Bool
+names gone (Single tid leaf) = is_among gone tid.0
+names gone (Pair head head_leaf other other_leaf) = is_among gone head.0 || is_among gone other.0

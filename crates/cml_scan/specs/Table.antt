@@ -6,13 +6,9 @@ use Rattle.cml_value.specs.Group.{PlainGroup, scopes, nacks_of}
 use Rattle.cml_value.specs.declared.number.Tid.{Tid}
 use Rattle.cml_scan.specs.World.{PlainEntry, PlainWorld, pending}
 use Rattle.cml_scan.specs.Light.{light, light_of, is_told}
-use Rattle.cml_scan.specs.Scan.{PlainOffer, offers_of}
+use Rattle.cml_scan.specs.Scan.{offers_of, is_among}
 use Rattle.cml_scan.specs.declared.object.Light.{Light}
 use Rattle.cml_scan.specs.declared.object.Light.TheVariants as of
-
--- the thread is one of these
-abbrev pub is_among : List Tid → ℕ → Bool
-is_among tids thread = list_any (λ t. t.0 == thread) tids
 
 -- all pending threads but these
 abbrev pub without : List Tid → List PlainEntry → List PlainEntry

@@ -1,6 +1,7 @@
 //! The world of a Concurrent ML program, the communications that are possible in it, and what a table of them promises.
 #![tactic(auto)]
 
+pub mod law;
 mod looks;
 mod meet;
 mod object;

@@ -1,0 +1,5 @@
+pub mod Pendings
+pub mod Lights
+pub mod Nacks
+pub mod Retold
+pub mod Keepings

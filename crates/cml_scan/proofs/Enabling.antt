@@ -1,0 +1,177 @@
+-- The rows of the scan of a world are those that are enabled in it.
+use Rattle.std.proofs.Common.{◌≡◌, ◌≢◌, ℕ, zero, suc, ◌+◌, ◌<◌, Bool, true, false, not, ◌&&◌, ◌||◌, nat_eq, nat_lt, cond, List, [], ◌∷◌, ◌++◌, map, length, slice_index_or, Option, Some, None, refl, ap, sym, ◌∙◌, arith}
+use Rattle.std.specs.Prelude.{slice_get, ◌↔◌, Any, Contains}
+use Rattle.std.specs.List.{filter, flat_map, list_any}
+use Rattle.std.proofs.lemmas.Bool.Decides.{nat_tests}
+use Rattle.std.proofs.lemmas.List.Folds.{Any-from_list_any, list_any-from_Any}
+use Rattle.cml_value.specs.Value.{PlainValue, PlainBase, always, send, recv, iget, mtake, mget, mswap, mail_recv, port_recv, join, at_tick, after_ticks, nack}
+use Rattle.cml_value.specs.Group.{PlainGroup, bases}
+use Rattle.cml_value.specs.declared.number.Tid.{Tid}
+use Rattle.cml_scan.specs.World.{PlainThread, running, pending_on, ended, PlainWorld, PlainEntry, pending_from, pending}
+use Rattle.cml_scan.specs.Light.{lit}
+use Rattle.cml_scan.specs.Scan.{PlainOffer, leaves_from, offers_of, meets, receives_on, rows_of, scan, same_place, same_row, has_row}
+use Rattle.cml_scan.specs.Order.{Every, Ascends, place, before, base_at, lit_at, meet_at, row_at}
+use Rattle.cml_scan.specs.Enabled.{leaf_of, WaitsFor, IsEnabled}
+use Rattle.cml_scan.specs.declared.meet.Meet.{Meet}
+use Rattle.cml_scan.specs.declared.meet.Meet.TheVariants.{Single, Pair}
+use Rattle.cml_scan.specs.declared.meet.Place.{Place}
+use Rattle.cml_scan.proofs.Ordered.{over_all, pending_past, offers_ascend, pending_sorted}
+use Rattle.cml_scan.proofs.Found.{not_later}
+use Rattle.cml_scan.proofs.Members.{has_found}
+
+-- the leaves of other threads, and a thread's own
+pub other_leaves : (p : Place) (u l : ℕ) (bs : List PlainBase) (rest : List PlainOffer) → nat_eq p.tid.0 u ≡ false → base_at p (leaves_from u l bs ++ rest) ≡ base_at p rest
+other_leaves p u l [] rest e = refl
+other_leaves p u l (b ∷ bs) rest e = rw e (other_leaves p u (l + 1) bs rest e)
+
+pub own_leaf : (p : Place) (k i : ℕ) (bs : List PlainBase) (rest : List PlainOffer) → p.leaf ≡ k + i → base_at p rest ≡ None → base_at p (leaves_from p.tid.0 k bs ++ rest) ≡ slice_get bs i
+own_leaf p k i [] rest e none = none
+own_leaf p k zero (b ∷ bs) rest e none = rw (here p.tid.0 p.leaf k e) refl
+  where
+    here : (t l k : ℕ) → l ≡ k + 0 → nat_eq t t && nat_eq l k ≡ true
+    here t l k e = grind (arith, nat_tests)
+own_leaf p k (suc i) (b ∷ bs) rest e none = rw (past p.tid.0 p.leaf k i e) (own_leaf p (k + 1) i bs rest (omega arith) none)
+  where
+    past : (t l k i : ℕ) → l ≡ k + suc i → nat_eq t t && nat_eq l k ≡ false
+    past t l k i e = grind (arith, nat_tests)
+
+none_after : (p : Place) (ts : List PlainThread) → base_at p (offers_of (pending_from (p.tid.0 + 1) ts)) ≡ None
+none_after p ts = not_later p (offers_of (pending_from (p.tid.0 + 1) ts)) (over_all p.tid.0 p.leaf (pending_from (p.tid.0 + 1) ts) (pending_past p.tid.0 (p.tid.0 + 1) ts (omega arith)))
+
+leaf_found : (p : Place) (n i : ℕ) (ts : List PlainThread) → p.tid.0 ≡ n + i → base_at p (offers_of (pending_from n ts)) ≡ leaf_of (slice_get ts i) p.leaf
+leaf_found p n i [] e = refl
+leaf_found p n zero (t ∷ ts) e = let same : p.tid.0 ≡ n = omega arith in at t same
+  where
+    at : (t : PlainThread) → p.tid.0 ≡ n → base_at p (offers_of (pending_from n (t ∷ ts))) ≡ leaf_of (Some t) p.leaf
+    at running same = rw (← same) (none_after p ts)
+    at (pending_on g) same = rw (← same) (own_leaf p 0 p.leaf (bases g) (offers_of (pending_from (p.tid.0 + 1) ts)) (omega arith) (none_after p ts))
+    at ended same = rw (← same) (none_after p ts)
+leaf_found p n (suc i) (t ∷ ts) e = at t (leaf_found p (n + 1) i ts (omega arith))
+  where
+    apart : (a n i : ℕ) → a ≡ n + suc i → nat_eq a n ≡ false
+    apart a n i e = grind (arith, nat_tests)
+    at : (t : PlainThread) → base_at p (offers_of (pending_from (n + 1) ts)) ≡ leaf_of (slice_get ts i) p.leaf → base_at p (offers_of (pending_from n (t ∷ ts))) ≡ leaf_of (slice_get ts i) p.leaf
+    at running k = k
+    at (pending_on g) k = other_leaves p n 0 (bases g) (offers_of (pending_from (n + 1) ts)) (apart p.tid.0 n i e) ∙ k
+    at ended k = k
+
+-- the base event at a place of a world
+pub base_at-world : (w : PlainWorld) (p : Place) → base_at p (offers_of (pending w)) ≡ leaf_of (slice_get w.threads p.tid.0) p.leaf
+base_at-world w p = leaf_found p 0 p.tid.0 w.threads (omega arith)
+
+lit_is : (f : PlainBase → Bool) (ob : Option PlainBase) → (lit_at f ob ≡ true) ↔ ((b : PlainBase) × (ob ≡ Some b) × (f b ≡ true))
+lit_is f None = (λ e. cc, λ h. cc)
+lit_is f (Some b) = (λ e. (b, refl, e), λ h. let same : b ≡ h.0 = cc in rw same h.2)
+
+receives_is : (c : ℕ) (b : PlainBase) → receives_on c b ≡ true → b ≡ recv c
+receives_is c (always v) e = cc
+receives_is c (send d v) e = cc
+receives_is c (recv d) e = let same : c ≡ d = eq c d e in ap recv (sym same)
+  where
+    eq : (c d : ℕ) → nat_eq c d ≡ true → c ≡ d
+    eq c d e = grind (arith, nat_tests)
+receives_is c (iget i) e = cc
+receives_is c (mtake m) e = cc
+receives_is c (mget m) e = cc
+receives_is c (mswap m v) e = cc
+receives_is c (mail_recv b) e = cc
+receives_is c (port_recv p) e = cc
+receives_is c (join t) e = cc
+receives_is c (at_tick t) e = cc
+receives_is c (after_ticks d) e = cc
+receives_is c (nack k) e = cc
+
+meets_is : (b d : PlainBase) → meets b d ≡ true → (c : ℕ) × (v : PlainValue) × (b ≡ send c v) × (d ≡ recv c)
+meets_is (send c v) d e = (c, v, refl, receives_is c d e)
+meets_is (always v) d e = cc
+meets_is (recv c) d e = cc
+meets_is (iget i) d e = cc
+meets_is (mtake m) d e = cc
+meets_is (mget m) d e = cc
+meets_is (mswap m v) d e = cc
+meets_is (mail_recv b) d e = cc
+meets_is (port_recv p) d e = cc
+meets_is (join t) d e = cc
+meets_is (at_tick t) d e = cc
+meets_is (after_ticks n) d e = cc
+meets_is (nack k) d e = cc
+
+pub both_true : (a b : Bool) → a && b ≡ true → (a ≡ true) × (b ≡ true)
+both_true true true e = (refl, refl)
+both_true true false e = cc
+both_true false b e = cc
+
+differ : (a b : ℕ) → not (nat_eq a b) ≡ true → a ≢ b
+differ a b e = λ same. let h : nat_eq a b ≡ true = eq a b same in let k : not (nat_eq a b) ≡ false = ap not h in cc
+  where
+    eq : (a b : ℕ) → a ≡ b → nat_eq a b ≡ true
+    eq a b e = grind (arith, nat_tests)
+
+unlike : (a b : ℕ) → a ≢ b → nat_eq a b ≡ false
+unlike a b h = grind (arith, nat_tests)
+
+alike : (a : ℕ) → nat_eq a a ≡ true
+alike a = grind (arith, nat_tests)
+
+meet_is : (a b : ℕ) (oc od : Option PlainBase) → (meet_at a b oc od ≡ true) ↔ ((c : ℕ) × (v : PlainValue) × (oc ≡ Some (send c v)) × (od ≡ Some (recv c)) × (a ≢ b))
+meet_is a b None od = (λ e. cc, λ h. cc)
+meet_is a b (Some x) None = (λ e. cc, λ h. cc)
+meet_is a b (Some x) (Some y) = (found, made)
+  where
+    found : meet_at a b (Some x) (Some y) ≡ true → (c : ℕ) × (v : PlainValue) × (Some x ≡ Some (send c v)) × (Some y ≡ Some (recv c)) × (a ≢ b)
+    found e = let two = both_true (not (nat_eq a b)) (meets x y) e in let m = meets_is x y two.1 in (m.0, m.1, ap Some m.2, ap Some m.3, differ a b two.0)
+    made : ((c : ℕ) × (v : PlainValue) × (Some x ≡ Some (send c v)) × (Some y ≡ Some (recv c)) × (a ≢ b)) → meet_at a b (Some x) (Some y) ≡ true
+    made h = let e : x ≡ send h.0 h.1 = let t = h.2 in cc in let f : y ≡ recv h.0 = let t = h.3 in cc in rw (e, f, unlike a b h.4, alike h.0) refl
+
+row_is : (w : PlainWorld) (row : Meet) → (row_at (lit w) (λ p. leaf_of (slice_get w.threads p.tid.0) p.leaf) row ≡ true) ↔ IsEnabled w row
+row_is w (Single t l) = lit_is (lit w) (leaf_of (slice_get w.threads t.0) l)
+row_is w (Pair h k o m) = meet_is h.0 o.0 (leaf_of (slice_get w.threads h.0) k) (leaf_of (slice_get w.threads o.0) m)
+
+row_at-agree : (f : PlainBase → Bool) (a b : Place → Option PlainBase) (row : Meet) → ((p : Place) → a p ≡ b p) → row_at f a row ≡ row_at f b row
+row_at-agree f a b (Single t l) same = ap (lit_at f) (same _)
+row_at-agree f a b (Pair h k o m) same =
+    ap (λ x. meet_at h.0 o.0 x (a (record { tid = o; leaf = m }))) (same (record { tid = h; leaf = k })) ∙ ap (λ x. meet_at h.0 o.0 (b (record { tid = h; leaf = k })) x) (same (record { tid = o; leaf = m }))
+
+pub has_row-scan : (w : PlainWorld) (row : Meet) → has_row (scan w) row ≡ row_at (lit w) (λ p. leaf_of (slice_get w.threads p.tid.0) p.leaf) row
+has_row-scan w row =
+    has_found (lit w) row (offers_of (pending w)) (offers_ascend (pending w) (pending_sorted w)) ∙ row_at-agree (lit w) (λ p. base_at p (offers_of (pending w))) (λ p. leaf_of (slice_get w.threads p.tid.0) p.leaf) row (base_at-world w)
+
+-- the same row, as a test and as a fact
+
+pub same_row_is : (r s : Meet) → same_row r s ≡ true → r ≡ s
+same_row_is (Single t k) (Single u l) e = two t.0 k u.0 l e
+  where
+    both : (a b c d : ℕ) → nat_eq a c && nat_eq b d ≡ true → (a ≡ c) × (b ≡ d)
+    both a b c d e = grind (arith, nat_tests)
+    two : (a b c d : ℕ) → nat_eq a c && nat_eq b d ≡ true → Single (record { 0 = a }) b ≡ Single (record { 0 = c }) d
+    two a b c d e = let h = both a b c d e in cc
+same_row_is (Single t k) (Pair u l v n) e = cc
+same_row_is (Pair t k o j) (Single u l) e = cc
+same_row_is (Pair t k o j) (Pair u l v n) e = four t.0 k o.0 j u.0 l v.0 n e
+  where
+    all : (a b c d e f g h : ℕ) → (nat_eq a e && nat_eq b f) && (nat_eq c g && nat_eq d h) ≡ true → (a ≡ e) × (b ≡ f) × (c ≡ g) × (d ≡ h)
+    all a b c d e f g h is = grind (arith, nat_tests)
+    four : (a b c d e f g h : ℕ) → (nat_eq a e && nat_eq b f) && (nat_eq c g && nat_eq d h) ≡ true → Pair (record { 0 = a }) b (record { 0 = c }) d ≡ Pair (record { 0 = e }) f (record { 0 = g }) h
+    four a b c d e f g h is = let s = all a b c d e f g h is in cc
+
+pub same_row_self : (r : Meet) → same_row r r ≡ true
+same_row_self (Single t k) = two t.0 k
+  where
+    two : (a b : ℕ) → nat_eq a a && nat_eq b b ≡ true
+    two a b = grind (arith, nat_tests)
+same_row_self (Pair t k o j) = four t.0 k o.0 j
+  where
+    four : (a b c d : ℕ) → (nat_eq a a && nat_eq b b) && (nat_eq c c && nat_eq d d) ≡ true
+    four a b c d = grind (arith, nat_tests)
+
+pub Contains-has_row : (rows : List Meet) (row : Meet) → has_row rows row ≡ true → Contains rows row
+Contains-has_row rows row e =
+    let any = Any-from_list_any (same_row row) rows e in let same : row ≡ any.1 = same_row_is row any.1 any.4 in rw same (any.0, any.2, any.3)
+
+pub has_row-Contains : (rows : List Meet) (row : Meet) → Contains rows row → has_row rows row ≡ true
+has_row-Contains rows row h = list_any-from_Any (same_row row) rows (h.0, row, h.1, h.2, same_row_self row)
+
+-- a row is in the scan exactly where its leaves are enabled
+pub scan-members : (w : PlainWorld) (row : Meet) → Contains (scan w) row ↔ IsEnabled w row
+scan-members w row =
+    (λ h. (row_is w row).0 (sym (has_row-scan w row) ∙ has_row-Contains (scan w) row h), λ e. Contains-has_row (scan w) row (has_row-scan w row ∙ (row_is w row).1 e))

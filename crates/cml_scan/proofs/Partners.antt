@@ -1,0 +1,79 @@
+-- The rows of a send are the other threads' receives of its channel; the heads are the lit leaves and then the leaves that have a
+-- partner. Both for what a table was told, and for a world.
+use Rattle.std.proofs.Common.{◌≡◌, ℕ, zero, suc, ◌+◌, ◌<◌, Bool, true, false, not, ◌&&◌, ◌||◌, nat_eq, cond, List, [], ◌∷◌, ◌++◌, map, length, slice_index_or, Option, Some, None, refl, ap, sym, ◌∙◌, arith}
+use Rattle.std.specs.Prelude.{Any, Contains, ◌↔◌}
+use Rattle.std.specs.List.{filter, flat_map, list_any}
+use Rattle.std.proofs.lemmas.List.Folds.{Any-from_list_any, list_any-from_Any}
+use Rattle.std.proofs.lemmas.List.Elements.{filter_agree}
+use Rattle.cml_value.specs.Value.{PlainValue, PlainBase, always, send, recv, iget, mtake, mget, mswap, mail_recv, port_recv, join, at_tick, after_ticks, nack}
+use Rattle.cml_scan.specs.World.{PlainWorld, PlainEntry, pending}
+use Rattle.cml_scan.specs.Light.{lit, lit_by, light_of}
+use Rattle.cml_scan.specs.Scan.{PlainOffer, offers_of, receives_on, meets, can_meet, pair, pairs_with, rows_of, scan, scan_of, place_of, same_place, partners_of, partners, heads_of, heads, has_row}
+use Rattle.cml_scan.specs.Order.{Ascends, IsSorted, place, before, base_at, has_partner, can_take}
+use Rattle.cml_scan.specs.declared.object.Light.{Light}
+use Rattle.cml_scan.specs.declared.meet.Meet.{Meet}
+use Rattle.cml_scan.specs.declared.meet.Meet.TheVariants.{Single, Pair}
+use Rattle.cml_scan.specs.declared.meet.Place.{Place}
+use Rattle.cml_scan.proofs.Ordered.{same_is, same_self, offers_ascend, pending_sorted}
+use Rattle.cml_scan.proofs.Found.{offer, singles_at, pairs_at, partners_found}
+use Rattle.cml_scan.proofs.Heads.{AreAt, at_self, heads_found}
+use Rattle.cml_scan.proofs.Told.{lit_by-light_of}
+
+-- no base event is lit and meets another
+pub lit_by-alone : (told : Light → Bool) (b c : PlainBase) → lit_by told b ≡ true → meets b c ≡ false
+lit_by-alone told (send d v) c e = cc
+lit_by-alone told (always v) c e = refl
+lit_by-alone told (recv d) c e = refl
+lit_by-alone told (iget i) c e = refl
+lit_by-alone told (mtake m) c e = refl
+lit_by-alone told (mget m) c e = refl
+lit_by-alone told (mswap m v) c e = refl
+lit_by-alone told (mail_recv b) c e = refl
+lit_by-alone told (port_recv p) c e = refl
+lit_by-alone told (join t) c e = refl
+lit_by-alone told (at_tick t) c e = refl
+lit_by-alone told (after_ticks d) c e = refl
+lit_by-alone told (nack k) c e = refl
+
+pub lit-alone : (w : PlainWorld) (b c : PlainBase) → lit w b ≡ true → meets b c ≡ false
+lit-alone w b c e = lit_by-alone (light_of w) b c (lit_by-light_of w b ∙ e)
+
+-- what stands at the place of a leaf that is there
+at_there : (xs os : List PlainOffer) (k : ℕ) (h : PlainOffer) → AreAt xs os → k < length os → slice_index_or os k h ≡ h → base_at (place h) xs ≡ Some h.base
+at_there xs [] k h here within is = absurd (omega arith)
+at_there xs (o ∷ os) zero h here within is = rw (← is) here.0
+at_there xs (o ∷ os) (suc k) h here within is = at_there xs os k h here.1 (omega arith) is
+
+pub base_at-there : (xs : List PlainOffer) (h : PlainOffer) → Ascends before (map place xs) → Contains xs h → base_at (place h) xs ≡ Some h.base
+base_at-there xs h up there = at_there xs xs there.0 h (at_self xs up) there.1 there.2
+
+-- the rows of a send, among leaves in order
+pub send_found : (is_lit : PlainBase → Bool) (xs : List PlainOffer) (h : PlainOffer) (c : ℕ) (v : PlainValue) → Ascends before (map place xs) → is_lit (send c v) ≡ false → Contains xs h → h.base ≡ send c v
+    → partners_of (rows_of is_lit xs) (place h) ≡ map (pair h) (filter (can_take h.thread c) xs)
+send_found is_lit xs h c v up dark there is =
+    partners_found is_lit (place h) xs up
+    ∙ ap (λ ob. singles_at is_lit (place h) ob ++ pairs_at xs (place h) ob) (base_at-there xs h up there)
+    ∙ own (is_lit h.base) (ap is_lit is ∙ dark)
+    ∙ ap (map (pair h)) (filter_agree (can_meet h) (can_take h.thread c) (λ o. ap (λ b. not (nat_eq h.thread o.thread) && meets b o.base) is) xs)
+  where
+    own : (b : Bool) → b ≡ false → cond b (Single (place h).tid (place h).leaf ∷ []) [] ++ pairs_with xs h ≡ pairs_with xs h
+    own true e = cc
+    own false e = refl
+
+-- the partners of a send among sorted threads
+pub scan_of-send : (entries : List PlainEntry) (told : Light → Bool) (h : PlainOffer) (c : ℕ) (v : PlainValue) → IsSorted entries → Contains (offers_of entries) h → h.base ≡ send c v
+    → partners_of (scan_of entries told) (place h) ≡ map (pair h) (filter (can_take h.thread c) (offers_of entries))
+scan_of-send entries told h c v up there is = send_found (lit_by told) (offers_of entries) h c v (offers_ascend entries up) refl there is
+
+pub scan-send : (w : PlainWorld) (h : PlainOffer) (c : ℕ) (v : PlainValue) → Contains (offers_of (pending w)) h → h.base ≡ send c v
+    → partners w (place h) ≡ map (pair h) (filter (can_take h.thread c) (offers_of (pending w)))
+scan-send w h c v there is = send_found (lit w) (offers_of (pending w)) h c v (offers_ascend (pending w) (pending_sorted w)) refl there is
+
+-- the heads among sorted threads
+pub scan_of-heads : (entries : List PlainEntry) (told : Light → Bool) → IsSorted entries
+    → heads_of (scan_of entries told) ≡ map place (filter (λ o. lit_by told o.base) (offers_of entries)) ++ map place (filter (has_partner (offers_of entries)) (offers_of entries))
+scan_of-heads entries told up = heads_found (lit_by told) (lit_by-alone told) (offers_of entries) (offers_ascend entries up)
+
+pub scan-heads : (w : PlainWorld)
+    → heads w ≡ map place (filter (λ o. lit w o.base) (offers_of (pending w))) ++ map place (filter (has_partner (offers_of (pending w))) (offers_of (pending w)))
+scan-heads w = heads_found (lit w) (lit-alone w) (offers_of (pending w)) (offers_ascend (pending w) (pending_sorted w))

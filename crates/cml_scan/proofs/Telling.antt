@@ -1,0 +1,100 @@
+-- What is known of the lights that pending leaves wait for, when threads go and come and lights change.
+use Rattle.std.proofs.Common.{◌≡◌, ℕ, ◌+◌, Bool, true, false, not, ◌&&◌, ◌||◌, nat_eq, nat_lt, cond, List, [], ◌∷◌, ◌++◌, map, Option, Some, None, refl, ap, sym, subst, ◌∙◌, arith}
+use Rattle.std.specs.Prelude.{All, Any, Contains}
+use Rattle.std.specs.List.{filter, flat_map, list_any}
+use Rattle.std.specs.Borrow.{Bor}
+use Rattle.std.proofs.lemmas.Bool.Decides.{nat_tests}
+use Rattle.std.proofs.lemmas.List.Elements.{All-nil, All-cons, All-head, All-tail, All-append, All-filter}
+use Rattle.std.proofs.lemmas.List.Concat.{flat_map-append}
+use Rattle.std.proofs.lemmas.List.Folds.{Any-from_list_any, list_any-from_Any}
+use Rattle.cml_value.specs.Value.{PlainBase}
+use Rattle.cml_value.specs.Group.{PlainGroup, bases}
+use Rattle.cml_value.specs.declared.number.Tid.{Tid}
+use Rattle.cml_scan.specs.World.{PlainWorld, PlainEntry, pending}
+use Rattle.cml_scan.specs.Light.{light, light_of, is_told}
+use Rattle.cml_scan.specs.Scan.{PlainOffer, leaves_from, offers_of, is_among}
+use Rattle.cml_scan.specs.Table.{without, with_entry, with_came, changed, same_light, has_light, AgreeFor}
+use Rattle.cml_scan.specs.declared.object.Light.{Light}
+use Rattle.cml_scan.specs.declared.object.Light.TheVariants as of
+
+-- of some of these threads, where it holds of all
+kept : (P : PlainOffer → Type 0) (test : PlainEntry → Bool) (es : List PlainEntry) → All P (offers_of es) → All P (offers_of (filter test es))
+kept P test [] all = all
+kept P test (e ∷ es) all = at (test e) (kept P test es (back P (leaves_from e.thread 0 (bases e.group)) (offers_of es) all))
+  where
+    back : (P : PlainOffer → Type 0) (xs ys : List PlainOffer) → All P (xs ++ ys) → All P ys
+    back P [] ys all = all
+    back P (x ∷ xs) ys all = back P xs ys (All-tail P x (xs ++ ys) all)
+    front : (P : PlainOffer → Type 0) (xs ys : List PlainOffer) → All P (xs ++ ys) → All P xs
+    front P [] ys all = All-nil P
+    front P (x ∷ xs) ys all = All-cons P x xs (All-head P x (xs ++ ys) all) (front P xs ys (All-tail P x (xs ++ ys) all))
+    at : (b : Bool) → All P (offers_of (filter test es)) → All P (offers_of (cond b (e ∷ filter test es) (filter test es)))
+    at true k = All-append P (leaves_from e.thread 0 (bases e.group)) (offers_of (filter test es)) (front P (leaves_from e.thread 0 (bases e.group)) (offers_of es) all) k
+    at false k = k
+
+-- the two say the same of each light that a leaf of the group waits for
+abbrev pub AgreeForGroup : PlainGroup → (Light → Bool) → (Light → Bool) → Type 0
+AgreeForGroup g told lit = All (λ b. is_told told (light b) ≡ is_told lit (light b)) (bases g)
+
+of_leaves : (P : PlainBase → Type 0) (thread leaf : ℕ) (bs : List PlainBase) → All P bs → All (λ o. P o.base) (leaves_from thread leaf bs)
+of_leaves P thread leaf [] all = All-nil (λ (o : PlainOffer). P o.base)
+of_leaves P thread leaf (b ∷ bs) all =
+    All-cons (λ (o : PlainOffer). P o.base) (record { thread = thread; leaf = leaf; base = b }) (leaves_from thread (leaf + 1) bs) (All-head P b bs all) (of_leaves P thread (leaf + 1) bs (All-tail P b bs all))
+
+-- threads go
+pub AgreeFor-without : (gone : List Tid) (es : List PlainEntry) (told lit : Light → Bool) → AgreeFor es told lit → AgreeFor (without gone es) told lit
+AgreeFor-without gone es told lit all = kept (λ o. is_told told (light o.base) ≡ is_told lit (light o.base)) (λ e. not (is_among gone e.thread)) es all
+
+-- a thread comes
+pub AgreeFor-with_entry : (e : PlainEntry) (es : List PlainEntry) (told lit : Light → Bool) → AgreeFor es told lit → AgreeForGroup e.group told lit → AgreeFor (with_entry e es) told lit
+AgreeFor-with_entry e es told lit all own =
+    let P : PlainOffer → Type 0 = λ o. is_told told (light o.base) ≡ is_told lit (light o.base) in
+    let low : List PlainEntry = filter (λ x. nat_lt x.thread e.thread) es in
+    let high : List PlainEntry = filter (λ x. nat_lt e.thread x.thread) es in
+    let both : offers_of (low ++ e ∷ high) ≡ offers_of low ++ offers_of (e ∷ high) = flat_map-append (λ (x : PlainEntry). leaves_from x.thread 0 (bases x.group)) low (e ∷ high) in
+    subst (All P) (sym both)
+        (All-append P (offers_of low) (offers_of (e ∷ high)) (kept P (λ x. nat_lt x.thread e.thread) es all)
+            (All-append P (leaves_from e.thread 0 (bases e.group)) (offers_of high)
+                (of_leaves (λ b. is_told told (light b) ≡ is_told lit (light b)) e.thread 0 (bases e.group) own) (kept P (λ x. nat_lt e.thread x.thread) es all)))
+
+-- the two say the same of each light that a leaf of the group that comes, if one does, waits for
+abbrev pub AgreeForCame : Option (Tid × Bor PlainGroup) → (Light → Bool) → (Light → Bool) → Type 0
+AgreeForCame None told lit = Unit {0}
+AgreeForCame (Some c) told lit = AgreeForGroup c.1.now told lit
+
+pub AgreeFor-changed : (es : List PlainEntry) (gone : List Tid) (came : Option (Tid × Bor PlainGroup)) (told lit : Light → Bool) → AgreeFor es told lit → AgreeForCame came told lit → AgreeFor (changed es gone came) told lit
+AgreeFor-changed es gone None told lit all own = AgreeFor-without gone es told lit all
+AgreeFor-changed es gone (Some c) told lit all own = AgreeFor-with_entry (record { thread = c.0.0; group = c.1.now }) (without gone es) told lit (AgreeFor-without gone es told lit all) own
+
+-- the same light, as a test and as a fact
+
+same_number : (a b : ℕ) → nat_eq a b ≡ true → a ≡ b
+same_number a b e = grind (arith, nat_tests)
+
+pub same_light_is : (l m : Light) → same_light l m ≡ true → l ≡ m
+same_light_is (of.IVar a) (of.IVar b) e = ap (λ n. of.IVar (record { 0 = n })) (same_number a.0 b.0 e)
+same_light_is (of.MVar a) (of.MVar b) e = ap (λ n. of.MVar (record { 0 = n })) (same_number a.0 b.0 e)
+same_light_is (of.Mailbox a) (of.Mailbox b) e = ap (λ n. of.Mailbox (record { 0 = n })) (same_number a.0 b.0 e)
+same_light_is (of.Port a) (of.Port b) e = ap (λ n. of.Port (record { 0 = n })) (same_number a.0 b.0 e)
+same_light_is (of.Thread a) (of.Thread b) e = ap (λ n. of.Thread (record { 0 = n })) (same_number a.0 b.0 e)
+same_light_is (of.Nack a) (of.Nack b) e = ap (λ n. of.Nack (record { 0 = n })) (same_number a.0 b.0 e)
+same_light_is (of.Tick a) (of.Tick b) e = ap of.Tick (same_number a b e)
+same_light_is _ _ e = cc
+
+alike : (a : ℕ) → nat_eq a a ≡ true
+alike a = grind (arith, nat_tests)
+
+pub same_light_self : (l : Light) → same_light l l ≡ true
+same_light_self (of.IVar a) = alike a.0
+same_light_self (of.MVar a) = alike a.0
+same_light_self (of.Mailbox a) = alike a.0
+same_light_self (of.Port a) = alike a.0
+same_light_self (of.Thread a) = alike a.0
+same_light_self (of.Tick a) = alike a
+same_light_self (of.Nack a) = alike a.0
+
+pub Contains-has_light : (lights : List Light) (l : Light) → has_light lights l ≡ true → Contains lights l
+Contains-has_light lights l e = let any = Any-from_list_any (same_light l) lights e in let same : l ≡ any.1 = same_light_is l any.1 any.4 in rw same (any.0, any.2, any.3)
+
+pub has_light-Contains : (lights : List Light) (l : Light) → Contains lights l → has_light lights l ≡ true
+has_light-Contains lights l h = list_any-from_Any (same_light l) lights (h.0, l, h.1, h.2, same_light_self l)

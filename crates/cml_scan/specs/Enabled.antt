@@ -1,0 +1,27 @@
+-- Which communications Concurrent ML allows, said of one row at a time, by what the threads wait on.
+use Rattle.std.specs.Prelude.{ℕ, ◌≡◌, ◌≢◌, Bool, true, List, [], ◌∷◌, Option, Some, None, slice_get}
+use Rattle.cml_value.specs.Value.{PlainValue, PlainBase, send, recv}
+use Rattle.cml_value.specs.Group.{bases}
+use Rattle.cml_value.specs.declared.number.Tid.{Tid}
+use Rattle.cml_scan.specs.World.{PlainThread, running, pending_on, ended, PlainWorld}
+use Rattle.cml_scan.specs.Light.{lit}
+use Rattle.cml_scan.specs.declared.meet.Meet.{Meet}
+use Rattle.cml_scan.specs.declared.meet.Meet.TheVariants.{Single, Pair}
+
+-- the base event of this leaf of what a thread does, if it is pending and its group has the leaf
+abbrev pub leaf_of : Option PlainThread → ℕ → Option PlainBase
+leaf_of None leaf = None
+leaf_of (Some running) leaf = None
+leaf_of (Some (pending_on g)) leaf = slice_get (bases g) leaf
+leaf_of (Some ended) leaf = None
+
+-- the thread is pending, and this is the base event of this leaf of its group
+abbrev pub WaitsFor : PlainWorld → Tid → ℕ → PlainBase → Type 0
+WaitsFor w tid leaf b = leaf_of (slice_get w.threads tid.0) leaf ≡ Some b
+
+-- One leaf alone is enabled where its base event is lit. Two leaves are enabled where they are of two different threads, and the
+-- first sends on a channel on which the second receives.
+abbrev pub IsEnabled : PlainWorld → Meet → Type 0
+IsEnabled w (Single tid leaf) = (b : PlainBase) × WaitsFor w tid leaf b × (lit w b ≡ true)
+IsEnabled w (Pair head head_leaf other other_leaf) =
+    (c : ℕ) × (v : PlainValue) × WaitsFor w head head_leaf (send c v) × WaitsFor w other other_leaf (recv c) × (head.0 ≢ other.0)
