@@ -1,5 +1,6 @@
 pub mod Pendings
 pub mod Lights
-pub mod Nacks
+pub mod NackLemmas
 pub mod Retold
+pub mod Scopes
 pub mod Keepings

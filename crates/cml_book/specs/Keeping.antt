@@ -5,6 +5,8 @@ use Rattle.cml_value.specs.Group.{scopes, nacks_of}
 use Rattle.cml_scan.specs.World.{PlainThread, PlainNack, fresh_of, live, fired, held, PlainWorld, PlainEntry, pending}
 use Rattle.cml_scan.specs.Table.{TellsLights}
 use Rattle.cml_scan.specs.declared.object.Light.{Light}
+use Rattle.cml_scan.specs.declared.object.Light.TheVariants as light
+use Rattle.cml_book.specs.Step.{times_named}
 
 -- the nacks of the scopes of all these pending groups
 abbrev pub pending_nacks : List PlainEntry → List ℕ
@@ -26,6 +28,27 @@ NacksLive w = (k : ℕ) → count_by (λ j. j == k) (pending_nacks (pending w)) 
 abbrev pub world_of : List PlainThread → ℕ → List PlainNack → ℕ → PlainWorld
 world_of threads channels nacks tick =
     record { threads = threads; channels = channels; ivars = []; mvars = []; mailboxes = []; mchans = []; ports = []; nacks = nacks; tick = tick }
+
+-- the light of a nack
+abbrev pub nack_light : ℕ → Light
+nack_light k = light.Nack (record { 0 = k })
+
+-- each of these nacks is live, and named once
+pub record AreLive (ks : List ℕ) (ns : List PlainNack) : Type 0 where
+  pub each : (k : ℕ) → times_named k ks ≤ lives (slice_get ns k)
+
+-- the nack is there, and fresh
+abbrev pub is_fresh : Option PlainNack → Bool
+is_fresh None = false
+is_fresh (Some (fresh_of owner)) = true
+is_fresh (Some live) = false
+is_fresh (Some fired) = false
+is_fresh (Some held) = false
+
+-- each of these nacks is fresh, and named once
+pub record AreFresh (ks : List ℕ) (ns : List PlainNack) : Type 0 where
+  pub once : (k : ℕ) → times_named k ks ≤ 1
+  pub each : (k : ℕ) → 1 ≤ times_named k ks → is_fresh (slice_get ns k) ≡ true
 
 -- The table was told the pending groups, and of each light that one of their leaves waits for whether it is lit. The nacks of the
 -- pending groups are live. No more threads, channels and nacks exist than are allowed. There is room for the lights of the nacks that a

@@ -3,6 +3,7 @@
 
 mod book;
 mod command;
+mod nacks;
 mod refusal;
 mod thread;
 

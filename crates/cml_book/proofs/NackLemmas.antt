@@ -9,7 +9,7 @@ use Rattle.cml_signal.specs.NackCell.{is_fresh_of}
 use Rattle.cml_scan.specs.World.{PlainThread, running, pending_on, ended, PlainNack, fresh_of, live, fired, held, PlainEntry, pending_from}
 use Rattle.cml_scan.specs.Light.{has_fired}
 use Rattle.cml_book.specs.Step.{times_named, with_nacks, settled, is_fresh_for}
-use Rattle.cml_book.specs.Keeping.{pending_nacks, lives}
+use Rattle.cml_book.specs.Keeping.{pending_nacks, lives, AreLive, AreFresh, is_fresh}
 
 -- a new fresh nack is not live
 pub lives-push : (ns : List PlainNack) (k t : ℕ) → lives (slice_get (ns ++ fresh_of t ∷ []) k) ≡ lives (slice_get ns k)
@@ -87,10 +87,6 @@ lives-le (Some (fresh_of t)) = omega arith
 lives-le (Some live) = omega arith
 lives-le (Some fired) = omega arith
 lives-le (Some held) = omega arith
-
--- each of these nacks is live, and named once
-pub record AreLive (ks : List ℕ) (ns : List PlainNack) : Type 0 where
-  pub each : (k : ℕ) → times_named k ks ≤ lives (slice_get ns k)
 
 pub first_live : (k : ℕ) (ks : List ℕ) (ns : List PlainNack) → AreLive (k ∷ ks) ns → slice_get ns k ≡ Some live
 first_live k ks ns h =
@@ -284,3 +280,40 @@ length-with_nacks (k ∷ ks) so ns = length-with_nacks ks so (slice_set ns k so)
 pub length-settled : (n : ℕ) (ss : List PlainScope) (ns : List PlainNack) → length (settled n ss ns) ≡ length ns
 length-settled n [] ns = refl
 length-settled n (s ∷ ss) ns = length-settled n ss (slice_set ns s.nack (settled_one n s)) ∙ length-set ns s.nack (settled_one n s)
+
+-- the nacks that can enter are fresh
+pub can_enter_fresh : (t : ℕ) (ks : List ℕ) (ns : List PlainNack) → list_all (λ j. is_fresh_for t (slice_get ns j) && (nat_eq (times_named j ks) 1)) ks ≡ true → AreFresh ks ns
+can_enter_fresh t ks ns h = record {
+  once = λ k. once k (nat_lt 0 (times_named k ks)) refl;
+  each = λ k n. let there = fresh_there t (slice_get ns k) (passes k n).0 in rw there refl;
+}
+  where
+    both : (a b : Bool) → a && b ≡ true → (a ≡ true) × (b ≡ true)
+    both true true e = (refl, refl)
+    both true false e = cc
+    both false b e = cc
+    passes : (k : ℕ) → 1 ≤ times_named k ks → (is_fresh_for t (slice_get ns k) ≡ true) × (nat_eq (times_named k ks) 1 ≡ true)
+    passes k n = both (is_fresh_for t (slice_get ns k)) (nat_eq (times_named k ks) 1) (named_passes (λ j. is_fresh_for t (slice_get ns j) && (nat_eq (times_named j ks) 1)) ks k h n)
+    once : (k : ℕ) (b : Bool) → nat_lt 0 (times_named k ks) ≡ b → times_named k ks ≤ 1
+    once k true e = let named : 1 ≤ times_named k ks = grind (arith, nat_tests) in let one = (passes k named).1 in grind (arith, nat_tests)
+    once k false e = grind (arith, nat_tests)
+
+pub first_fresh : (k : ℕ) (ks : List ℕ) (ns : List PlainNack) → AreFresh (k ∷ ks) ns → is_fresh (slice_get ns k) ≡ true
+first_fresh k ks ns h =
+    let one : nat_eq k k ≡ true = grind (arith, nat_tests) in
+    let two = times-named k k ks one in
+    h.each k (omega arith)
+
+-- the others are fresh still, once the first has entered
+pub rest_fresh : (k : ℕ) (ks : List ℕ) (ns : List PlainNack) (n : PlainNack) → AreFresh (k ∷ ks) ns → AreFresh ks (slice_set ns k n)
+rest_fresh k ks ns n h = record { once = λ j. once j (nat_eq k j) refl; each = λ j m. each j m (nat_eq k j) refl }
+  where
+    once : (j : ℕ) (b : Bool) → nat_eq k j ≡ b → times_named j ks ≤ 1
+    once j true e = let a = times-named k j ks e in let all = h.once j in omega arith
+    once j false e = let a = times-other k j ks e in let all = h.once j in omega arith
+    each : (j : ℕ) → 1 ≤ times_named j ks → (b : Bool) → nat_eq k j ≡ b → is_fresh (slice_get (slice_set ns k n) j) ≡ true
+    each j m true e = let a = times-named k j ks e in let all = h.once j in absurd (omega arith)
+    each j m false e =
+        let a = times-other k j ks e in
+        let differ : k ≢ j = grind (arith, nat_tests) in
+        ap is_fresh (get-set_other ns k j n differ) ∙ h.each j (omega arith)
