@@ -13,11 +13,11 @@ use Rattle.cml_scan.specs.declared.object.Light.{Light}
 use Rattle.cml_scan.specs.declared.object.Light.TheVariants as of
 use Rattle.cml_scan.proofs.Telling.{AgreeForGroup, AgreeFor-without, AgreeFor-with_entry}
 use Rattle.cml_book.specs.Step.{times_named, with_nacks, settled, is_fresh_for}
-use Rattle.cml_book.specs.Keeping.{world_of, pending_nacks, lives, NacksLive, AreLive, nack_light, Keeps}
+use Rattle.cml_book.specs.Keeping.{world_of, pending_nacks, lives, NacksLive, AreLive, nack_light, lights_in, Keeps}
 use Rattle.cml_book.proofs.Pendings.{pending-push, pending-end, pending-wait, pending-resume, without_none, without_two}
-use Rattle.cml_book.proofs.Lights.{agree_still, has_ended-push, has_ended-set, has_fired-push, light_of-same}
+use Rattle.cml_book.proofs.LightLemmas.{agree_still, has_ended-push, has_ended-set, has_fired-push, light_of-same}
 use Rattle.cml_book.proofs.NackLemmas.{lives-push, nacks-wait, nacks-resume, lives-settled, fired-settled, lives-enter, fired-enter, length-with_nacks, length-settled, get-set_other}
-use Rattle.cml_book.proofs.Retold.{lights_in, retold, group_told, lit_more, has_nack_light, no_nack_light}
+use Rattle.cml_book.proofs.Retold.{retold, group_told, lit_more, has_nack_light, no_nack_light}
 
 module _ (ts : List PlainThread) (c : ℕ) (ns : List PlainNack) (tick : ℕ) (es : List PlainEntry) (told : Light → Bool) (room : ℕ) where
   -- the same is kept of what says the same

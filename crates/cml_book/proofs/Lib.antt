@@ -1,6 +1,10 @@
 pub mod Pendings
-pub mod Lights
+pub mod LightLemmas
 pub mod NackLemmas
 pub mod Retold
 pub mod Scopes
 pub mod Keepings
+pub mod Heights
+pub mod Walks
+pub mod Entered
+pub mod Accepted

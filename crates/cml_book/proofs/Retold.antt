@@ -11,12 +11,8 @@ use Rattle.cml_scan.specs.Light.{light, is_told}
 use Rattle.cml_scan.specs.Table.{same_light, has_light, lit_after}
 use Rattle.cml_scan.specs.declared.object.Light.{Light}
 use Rattle.cml_scan.specs.declared.object.Light.TheVariants as of
-use Rattle.cml_book.specs.Keeping.{nack_light}
+use Rattle.cml_book.specs.Keeping.{nack_light, lights_in}
 use Rattle.cml_scan.proofs.Telling.{same_light_is, same_light_self, AgreeForGroup}
-
--- the lights of these base events
-abbrev pub lights_in : List PlainBase → List Light
-lights_in bs = filter_map light bs
 
 and_false : (b : Bool) → b && false ≡ false
 and_false true = refl

@@ -1,9 +1,11 @@
 -- What a book keeps at all times.
-use Rattle.std.specs.Prelude.{ℕ, ◌≡◌, ◌+◌, ◌*◌, ◌≤◌, ◌==◌, Bool, true, false, if◌then◌else◌, List, [], ◌∷◌, length, map, All, Option, Some, None, slice_get, count_by}
-use Rattle.std.specs.List.{flat_map}
+use Rattle.std.specs.Prelude.{ℕ, ◌≡◌, ◌+◌, ◌*◌, ◌≤◌, ◌==◌, Bool, true, false, not, if◌then◌else◌, List, [], ◌∷◌, length, map, All, Option, Some, None, slice_get, count_by}
+use Rattle.std.specs.List.{flat_map, filter_map}
 use Rattle.cml_value.specs.Group.{scopes, nacks_of}
 use Rattle.cml_scan.specs.World.{PlainThread, PlainNack, fresh_of, live, fired, held, PlainWorld, PlainEntry, pending}
 use Rattle.cml_scan.specs.Table.{TellsLights}
+use Rattle.cml_value.specs.Value.{PlainBase}
+use Rattle.cml_scan.specs.Light.{light as light_seen}
 use Rattle.cml_scan.specs.declared.object.Light.{Light}
 use Rattle.cml_scan.specs.declared.object.Light.TheVariants as light
 use Rattle.cml_book.specs.Step.{times_named}
@@ -32,6 +34,15 @@ world_of threads channels nacks tick =
 -- the light of a nack
 abbrev pub nack_light : ℕ → Light
 nack_light k = light.Nack (record { 0 = k })
+
+-- the lights that these base events look at
+abbrev pub lights_in : List PlainBase → List Light
+lights_in bs = filter_map light_seen bs
+
+-- a test as it should come out
+abbrev pub is_so : Bool → Bool → Bool
+is_so true b = b
+is_so false b = not b
 
 -- each of these nacks is live, and named once
 pub record AreLive (ks : List ℕ) (ns : List PlainNack) : Type 0 where

@@ -6,3 +6,5 @@ pub mod Views
 pub mod Threads
 pub mod Keeping
 pub mod Codes
+pub mod Walks
+pub mod Parties

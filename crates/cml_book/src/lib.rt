@@ -3,9 +3,13 @@
 
 mod book;
 mod command;
+mod entering;
+mod lights;
 mod nacks;
+mod party;
 mod refusal;
 mod thread;
+mod walk;
 
 pub use book::Book;
 pub use command::{Command, Committed, Reply, Resume, Stopped};

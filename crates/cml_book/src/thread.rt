@@ -1,6 +1,6 @@
 //! What a thread of a book does.
 
-ghost use Rattle.std.specs.Prelude.{◌≡◌};
+ghost use Rattle.std.specs.Prelude.{◌≡◌, Some};
 ghost use Rattle.cml_scan.specs.World.{running, pending_on, ended};
 
 use cml_group::Flat;
@@ -35,7 +35,9 @@ impl Model for Thread {
 
 impl Thread {
     ghost use Rattle.std.specs.Option.{option_copied};
+    ghost use Rattle.cml_scan.specs.Light.{has_ended};
     ghost use Rattle.cml_book.specs.Threads.{flat_of};
+    ghost use Rattle.cml_book.specs.Walks.{runs};
 
     pub fn running() -> Thread
         ensures { result ≡ running }
@@ -55,6 +57,26 @@ impl Thread {
         ensures { result ≡ ended }
     {
         Thread { state: State::Ended }
+    }
+
+    /// Whether it runs.
+    pub fn is_running(&self) -> bool
+        ensures { result ≡ runs self.now }
+    {
+        match &self.state {
+            State::Running => true,
+            State::Pending(_) | State::Ended => false,
+        }
+    }
+
+    /// Whether it has ended.
+    pub fn has_ended(&self) -> bool
+        ensures { result ≡ has_ended (Some self.now) }
+    {
+        match &self.state {
+            State::Ended => true,
+            State::Running | State::Pending(_) => false,
+        }
     }
 
     /// The group that it waits on, if it does.
