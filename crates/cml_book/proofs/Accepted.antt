@@ -30,7 +30,7 @@ is_not : (b : Bool) → not b ≡ false → b ≡ true
 is_not true e = refl
 is_not false e = sym e
 
-runs_none : (thread : Option PlainThread) → thread_refusal thread ≡ None → thread ≡ Some running
+pub runs_none : (thread : Option PlainThread) → thread_refusal thread ≡ None → thread ≡ Some running
 runs_none None e = cc
 runs_none (Some running) e = refl
 runs_none (Some (pending_on g)) e = cc

@@ -1,11 +1,12 @@
 -- What a table knows of the lights after it was told of some, each as it is.
-use Rattle.std.proofs.Common.{◌≡◌, ◌≢◌, ℕ, ◌+◌, ◌<◌, ◌≤◌, Bool, true, false, not, ◌&&◌, ◌||◌, nat_eq, cond, List, [], ◌∷◌, ◌++◌, length, map, refl, ap, sym, ◌∙◌, arith, zero, suc, Option, Some, None, slice_index_or}
-use Rattle.std.specs.Prelude.{All}
+use Rattle.std.proofs.Common.{◌≡◌, ◌≢◌, ℕ, ◌+◌, ◌<◌, ◌≤◌, Bool, true, false, not, ◌&&◌, ◌||◌, nat_eq, cond, List, [], ◌∷◌, ◌++◌, length, map, refl, ap, sym, ◌∙◌, arith, zero, suc, Option, Some, None, slice_index_or, append_assoc, drop}
+use Rattle.std.specs.Prelude.{All, slice_get}
+use Rattle.std.specs.Option.{option_map}
 use Rattle.std.specs.List.{filter, list_any, filter_map, cons_option}
 use Rattle.std.proofs.lemmas.Bool.Decides.{nat_tests}
 use Rattle.std.proofs.lemmas.List.Folds.{list_any-append}
 use Rattle.cml_value.specs.Value.{PlainBase}
-use Rattle.cml_value.specs.Group.{PlainGroup, bases}
+use Rattle.cml_value.specs.Group.{PlainGroup, PlainLeaf, bases}
 use Rattle.cml_value.specs.declared.number.NackId.{NackId}
 use Rattle.cml_scan.specs.Light.{light, is_told}
 use Rattle.cml_scan.specs.Table.{same_light, has_light, lit_after}
@@ -92,3 +93,24 @@ has_nack_light (k ∷ ks) n = rw (has_nack_light ks n, symmetric n.0 k) refl
 pub no_nack_light : (ks : List ℕ) (l : Light) → ((k : ℕ) → same_light l (nack_light k) ≡ false) → has_light (map nack_light ks) l ≡ false
 no_nack_light [] l h = refl
 no_nack_light (k ∷ ks) l h = rw (h k) (no_nack_light ks l h)
+
+-- the base at a place, of a list of leaves
+leaf_at : (ls : List PlainLeaf) (n : ℕ) (b : PlainBase) → option_map (λ l. l.base) (slice_get ls n) ≡ Some b → drop n (map (λ l. l.base) ls) ≡ b ∷ drop (suc n) (map (λ l. l.base) ls)
+leaf_at [] n b h = cc
+leaf_at (l ∷ ls) zero b h = let same : l.base ≡ b = cc in rw same refl
+leaf_at (l ∷ ls) (suc n) b h = leaf_at ls n b h
+
+lights_in-cons : (b : PlainBase) (bs : List PlainBase) → lights_in (b ∷ bs) ≡ lights_in (b ∷ []) ++ lights_in bs
+lights_in-cons b bs = at (light b)
+  where
+    at : (o : Option Light) → cons_option o (lights_in bs) ≡ cons_option o [] ++ lights_in bs
+    at None = refl
+    at (Some l) = refl
+
+-- one more leaf's light was found
+pub awaited_step : (ls : List PlainLeaf) (n : ℕ) (b : PlainBase) (found all : List Light) → option_map (λ l. l.base) (slice_get ls n) ≡ Some b
+    → found ++ lights_in (drop n (map (λ l. l.base) ls)) ≡ all → (found ++ lights_in (b ∷ [])) ++ lights_in (drop (suc n) (map (λ l. l.base) ls)) ≡ all
+awaited_step ls n b found all h e =
+    append_assoc found (lights_in (b ∷ [])) (lights_in (drop (suc n) (map (λ l. l.base) ls)))
+    ∙ ap (λ xs. found ++ xs) (sym (lights_in-cons b (drop (suc n) (map (λ l. l.base) ls))) ∙ ap lights_in (sym (leaf_at ls n b h)))
+    ∙ e

@@ -1,6 +1,6 @@
 //! A group as it enters, and the lights that its leaves wait for.
 
-ghost use Rattle.std.specs.Prelude.{◌≡◌, ◌≤◌, true, false, IfOk};
+ghost use Rattle.std.specs.Prelude.{◌≡◌, ◌≤◌, ◌++◌, ◌∷◌, [], true, false, IfOk, OnOk};
 ghost use Rattle.std.specs.List.{list_any, filter};
 ghost use Rattle.cml_value.specs.Group.{bases, leaf_count, group_fits};
 ghost use Rattle.cml_scan.specs.Light.{light_of};
@@ -10,7 +10,7 @@ ghost use Rattle.cml_book.specs.Keeping.{world_of, lights_in, is_so};
 use cml_group::{Flat, FlatFault, flatten};
 use cml_scan::{Light, light};
 use cml_signal::NackCell;
-use cml_value::Group;
+use cml_value::{Base, Group};
 use std::alloc::{AllocError, Global};
 
 use crate::entering::entering;
@@ -44,11 +44,22 @@ pub fn awaited_lights(alloc: Global, flat: &Flat) -> Result<Vec<Light>, AllocErr
 {
     let mut lights = Vec::new(alloc);
     for n in 0..flat.len() {
-        if let Some(awaited) = light(flat.leaf(n)) {
-            lights.push(awaited)?;
-        }
+        push_awaited(&mut lights, flat.leaf(n))?;
     }
     Ok(lights)
+}
+
+// The light of the base event behind the others, if it has one.
+fn push_awaited(lights: &mut Vec<Light>, base: &Base) -> Result<(), AllocError>
+    ensures { OnOk result (lights.new.items ≡ lights.old.items ++ lights_in (base.now ∷ [])) }
+{
+    match light(base) {
+        Some(awaited) => {
+            lights.push(awaited)?;
+            Ok(())
+        }
+        None => Ok(()),
+    }
 }
 
 /// Those of the lights that are so: lit, or not.
