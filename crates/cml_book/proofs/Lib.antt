@@ -4,6 +4,8 @@ pub mod NackLemmas
 pub mod Retold
 pub mod Scopes
 pub mod Keepings
+pub mod Commits
+pub mod Syncs
 pub mod Heights
 pub mod Walks
 pub mod Entered

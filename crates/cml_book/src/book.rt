@@ -12,7 +12,7 @@ use std::alloc::Global;
 use std::marker::Model;
 
 use crate::command::{Committed, Resume};
-use crate::lights::{awaited_lights, laid_flat, lights_so};
+use crate::lights::{Arrival, arriving};
 use crate::nacks::{enter, push_lights};
 use crate::party::{given, go_on, sent, waiting};
 use crate::refusal::{Fault, Refusal};
@@ -136,10 +136,7 @@ impl<T: Table> Book<T> {
         if let Some(why) = sync_refusal(&self.threads, self.channels, &self.nacks, self.tick, thread, group) {
             return Err(Fault::Refused(why));
         }
-        let flat = laid_flat(alloc, group, self.tick)?;
-        let awaited = awaited_lights(alloc, &flat)?;
-        let lit = lights_so(alloc, &awaited, &self.threads, &self.nacks, self.tick, true)?;
-        let unlit = lights_so(alloc, &awaited, &self.threads, &self.nacks, self.tick, false)?;
+        let Arrival { flat, lit, unlit } = arriving(alloc, group, &self.threads, &self.nacks, self.tick)?;
         self.lights.reserve(2 * flat.scopes().len())?;
         self.table.change(alloc, &[], Some((thread, flat.group())), &lit, &unlit)?;
         enter(&mut self.nacks, flat.scopes());

@@ -1,6 +1,6 @@
 //! A group as it enters, and the lights that its leaves wait for.
 
-ghost use Rattle.std.specs.Prelude.{◌≡◌, ◌≤◌, ◌++◌, ◌∷◌, [], true, false, IfOk, OnOk};
+ghost use Rattle.std.specs.Prelude.{◌≡◌, ◌≤◌, ◌++◌, ◌∷◌, [], true, false, not, IfOk, OnOk};
 ghost use Rattle.std.specs.List.{list_any, filter};
 ghost use Rattle.cml_value.specs.Group.{bases, leaf_count, group_fits};
 ghost use Rattle.cml_scan.specs.Light.{light_of};
@@ -16,11 +16,8 @@ use std::alloc::{AllocError, Global};
 use crate::entering::entering;
 use crate::thread::Thread;
 
-/// The group as it enters at this tick, laid flat.
-///
-/// # Errors
-/// Want of memory.
-pub fn laid_flat(alloc: Global, group: &Group, tick: u64) -> Result<Flat, AllocError>
+// The group as it enters at this tick, laid flat.
+fn laid_flat(alloc: Global, group: &Group, tick: u64) -> Result<Flat, AllocError>
     requires near { list_any (is_far tick) (bases group.now) ≡ false }
     requires few { leaf_count group.now ≤ 256 }
     requires fits { group_fits group.now ≡ true }
@@ -35,11 +32,45 @@ pub fn laid_flat(alloc: Global, group: &Group, tick: u64) -> Result<Flat, AllocE
     }
 }
 
-/// The lights that the leaves wait for.
+/// A group that is about to enter, and the lights that its leaves wait for: those that are lit, and those that are not.
+#[derive(Debug, Drop)]
+pub struct Arrival {
+    pub flat: Flat,
+    pub lit: Vec<Light>,
+    pub unlit: Vec<Light>,
+}
+
+/// The group as it enters at this tick.
 ///
 /// # Errors
 /// Want of memory.
-pub fn awaited_lights(alloc: Global, flat: &Flat) -> Result<Vec<Light>, AllocError>
+pub fn arriving(
+    alloc: Global,
+    group: &Group,
+    threads: &[Thread],
+    nacks: &[NackCell],
+    tick: u64,
+) -> Result<Arrival, AllocError>
+    requires near { list_any (is_far tick) (bases group.now) ≡ false }
+    requires few { leaf_count group.now ≤ 256 }
+    requires fits { group_fits group.now ≡ true }
+    ensures flat { IfOk result (λ a. a.flat ≡ entered tick group.now) }
+    ensures lit {
+        IfOk result (λ a. a.lit.items ≡ filter (λ l. light_of (world_of threads.now 0 nacks.now tick) l) (lights_in (bases a.flat)))
+    }
+    ensures unlit {
+        IfOk result (λ a. a.unlit.items ≡ filter (λ l. not (light_of (world_of threads.now 0 nacks.now tick) l)) (lights_in (bases a.flat)))
+    }
+{
+    let flat = laid_flat(alloc, group, tick)?;
+    let awaited = awaited_lights(alloc, &flat)?;
+    let lit = lights_so(alloc, &awaited, threads, nacks, tick, true)?;
+    let unlit = lights_so(alloc, &awaited, threads, nacks, tick, false)?;
+    Ok(Arrival { flat, lit, unlit })
+}
+
+// The lights that the leaves wait for.
+fn awaited_lights(alloc: Global, flat: &Flat) -> Result<Vec<Light>, AllocError>
     ensures { IfOk result (λ lights. lights.items ≡ lights_in (bases flat.now)) }
 {
     let mut lights = Vec::new(alloc);
@@ -62,11 +93,8 @@ fn push_awaited(lights: &mut Vec<Light>, base: &Base) -> Result<(), AllocError>
     }
 }
 
-/// Those of the lights that are so: lit, or not.
-///
-/// # Errors
-/// Want of memory.
-pub fn lights_so(
+// Those of the lights that are so: lit, or not.
+fn lights_so(
     alloc: Global,
     lights: &[Light],
     threads: &[Thread],

@@ -1,11 +1,11 @@
 //! The parties of a row that is taken.
 
-ghost use Rattle.std.specs.Prelude.{◌≡◌, Some, Option, slice_get, slice_set};
+ghost use Rattle.std.specs.Prelude.{◌≡◌, Some, slice_get, slice_set};
 ghost use Rattle.std.specs.Option.{option_copied, option_and_then};
-ghost use Rattle.cml_value.specs.Group.{PlainGroup, scopes, fired as fired_nacks};
+ghost use Rattle.cml_value.specs.Group.{scopes, fired as fired_nacks};
 ghost use Rattle.cml_scan.specs.World.{running};
 ghost use Rattle.cml_group.specs.Leaves.{pick, numbers};
-ghost use Rattle.cml_book.specs.Step.{sent as sent_value, settled};
+ghost use Rattle.cml_book.specs.Step.{sent as sent_value, settled, group_of};
 ghost use Rattle.cml_book.specs.Threads.{flat_of};
 ghost use Rattle.cml_book.specs.Parties.{WaitsOn, given_alone};
 
@@ -28,12 +28,14 @@ pub fn waiting(threads: &[Thread], thread: Tid) -> Option<&Flat>
 
 /// The thread goes on from this leaf of its group, whose nacks are settled.
 pub fn go_on(threads: &mut Vec<Thread>, cells: &mut Vec<NackCell>, thread: Tid, leaf: u32) -> Chosen
-    ghost group: { PlainGroup }
-    requires { WaitsOn threads.old.items cells.old.items thread.0 leaf group }
+    requires { WaitsOn threads.old.items cells.old.items thread.0 leaf (group_of (slice_get threads.old.items thread.0)) }
     ensures threads { threads.new.items ≡ slice_set threads.old.items thread.0 running }
-    ensures nacks { cells.new.items ≡ settled leaf (scopes group) cells.old.items }
-    ensures leaf { pick group leaf ≡ Some (record { base = result.base; wraps = result.wraps.items }) }
-    ensures lost { numbers result.lost.items ≡ fired_nacks group leaf }
+    ensures nacks { cells.new.items ≡ settled leaf (scopes (group_of (slice_get threads.old.items thread.0))) cells.old.items }
+    ensures leaf {
+        pick (group_of (slice_get threads.old.items thread.0)) leaf
+        ≡ Some (record { base = result.base; wraps = result.wraps.items })
+    }
+    ensures lost { numbers result.lost.items ≡ fired_nacks (group_of (slice_get threads.old.items thread.0)) leaf }
 {
     let leaf = leaf as usize;
     let place = thread.0 as usize;
