@@ -1,8 +1,8 @@
 -- How many leaves a group has, by its parts.
-use Rattle.std.proofs.Common.{◌≡◌, ℕ, ◌+◌, List, [], ◌∷◌, ◌++◌, length, map, refl, length-append}
+use Rattle.std.proofs.Common.{◌≡◌, ◌+◌, ◌++◌, length, map, length-append}
 use Rattle.std.proofs.lemmas.List.{length-map}
 use Rattle.cml_value.specs.Value.{PlainFunction}
-use Rattle.cml_value.specs.Group.{PlainGroup, wrap, PlainGroups, groups_and, leaves, leaves_of_all, leaf_count, wrapped_by}
+use Rattle.cml_value.specs.Group.{PlainGroup, PlainGroups, leaves, leaves_of_all, wrapped_by}
 
 pub leaf_count-wrap : (g : PlainGroup) (f : PlainFunction) → length (map (wrapped_by f) (leaves g)) ≡ length (leaves g)
 leaf_count-wrap g f = length-map (leaves g) (wrapped_by f)

@@ -77,8 +77,8 @@ fn nacks_in(alloc: Global, branches: &[Branch]) -> Result<Vec<NackId>, AllocErro
 
 /// The group laid flat, which a thread offers the leaves of. All that [`Flat::choose`] will hand out is reserved here.
 ///
-/// The group is looked at node by node, also where parts are shared. So a group that is past the limits and is made of very
-/// many nodes without a leaf takes as long as it has nodes; any other is decided within 65,536 nodes.
+/// The leaves are counted exactly, up to the limit, by a walk over the tree, in which a shared part counts each time that it
+/// stands there. So a group of more than 65,536 nodes and few leaves takes as long as it has nodes; any other stops before.
 ///
 /// # Errors
 /// More than [`MAX_LEAVES`] leaves, then too much depth or too many nodes, then want of memory, each with the group.
@@ -143,7 +143,8 @@ impl Flat {
 
     /// The nacks of all scopes, from the left, an outer one before those in it.
     pub fn scopes(&self) -> &[NackId]
-        ensures { numbers result.now ≡ nacks_of (scopes self.now) }
+        ensures nacks { numbers result.now ≡ nacks_of (scopes self.now) }
+        ensures len { length result.now ≡ length (scopes self.now) }
     {
         &self.nacks
     }

@@ -11,3 +11,6 @@ mod limit;
 pub use fault::FlatFault;
 pub use flat::{Chosen, Flat, flatten};
 pub use limit::MAX_LEAVES;
+
+#[cfg(test)]
+mod tests;

@@ -1,17 +1,15 @@
 -- The rows of the scan of a world are those that are enabled in it.
-use Rattle.std.proofs.Common.{◌≡◌, ◌≢◌, ℕ, zero, suc, ◌+◌, ◌<◌, Bool, true, false, not, ◌&&◌, ◌||◌, nat_eq, nat_lt, cond, List, [], ◌∷◌, ◌++◌, map, length, slice_index_or, Option, Some, None, refl, ap, sym, ◌∙◌, arith}
-use Rattle.std.specs.Prelude.{slice_get, ◌↔◌, Any, Contains}
-use Rattle.std.specs.List.{filter, flat_map, list_any}
+use Rattle.std.proofs.Common.{◌≡◌, ◌≢◌, ℕ, zero, suc, ◌+◌, Bool, true, false, not, ◌&&◌, nat_eq, List, [], ◌∷◌, ◌++◌, Option, Some, None, refl, ap, sym, ◌∙◌, arith}
+use Rattle.std.specs.Prelude.{slice_get, ◌↔◌, Contains}
 use Rattle.std.proofs.lemmas.Bool.Decides.{nat_tests}
 use Rattle.std.proofs.lemmas.List.Folds.{Any-from_list_any, list_any-from_Any}
 use Rattle.cml_value.specs.Value.{PlainValue, PlainBase, always, send, recv, iget, mtake, mget, mswap, mail_recv, port_recv, join, at_tick, after_ticks, nack}
-use Rattle.cml_value.specs.Group.{PlainGroup, bases}
-use Rattle.cml_value.specs.declared.number.Tid.{Tid}
-use Rattle.cml_scan.specs.World.{PlainThread, running, pending_on, ended, PlainWorld, PlainEntry, pending_from, pending}
+use Rattle.cml_value.specs.Group.{bases}
+use Rattle.cml_scan.specs.World.{PlainThread, running, pending_on, ended, PlainWorld, pending_from, pending}
 use Rattle.cml_scan.specs.Light.{lit}
-use Rattle.cml_scan.specs.Scan.{PlainOffer, leaves_from, offers_of, meets, receives_on, rows_of, scan, same_place, same_row, has_row}
-use Rattle.cml_scan.specs.Order.{Every, Ascends, place, before, base_at, lit_at, meet_at, row_at}
-use Rattle.cml_scan.specs.Enabled.{leaf_of, WaitsFor, IsEnabled}
+use Rattle.cml_scan.specs.Scan.{PlainOffer, leaves_from, offers_of, meets, receives_on, scan, same_row, has_row}
+use Rattle.cml_scan.specs.Order.{base_at, lit_at, meet_at, row_at}
+use Rattle.cml_scan.specs.Enabled.{leaf_of, IsEnabled}
 use Rattle.cml_scan.specs.declared.meet.Meet.{Meet}
 use Rattle.cml_scan.specs.declared.meet.Meet.TheVariants.{Single, Pair}
 use Rattle.cml_scan.specs.declared.meet.Place.{Place}
@@ -50,6 +48,7 @@ leaf_found p n (suc i) (t ∷ ts) e = at t (leaf_found p (n + 1) i ts (omega ari
   where
     apart : (a n i : ℕ) → a ≡ n + suc i → nat_eq a n ≡ false
     apart a n i e = grind (arith, nat_tests)
+
     at : (t : PlainThread) → base_at p (offers_of (pending_from (n + 1) ts)) ≡ leaf_of (slice_get ts i) p.leaf → base_at p (offers_of (pending_from n (t ∷ ts))) ≡ leaf_of (slice_get ts i) p.leaf
     at running k = k
     at (pending_on g) k = other_leaves p n 0 (bases g) (offers_of (pending_from (n + 1) ts)) (apart p.tid.0 n i e) ∙ k
@@ -120,6 +119,7 @@ meet_is a b (Some x) (Some y) = (found, made)
   where
     found : meet_at a b (Some x) (Some y) ≡ true → (c : ℕ) × (v : PlainValue) × (Some x ≡ Some (send c v)) × (Some y ≡ Some (recv c)) × (a ≢ b)
     found e = let two = both_true (not (nat_eq a b)) (meets x y) e in let m = meets_is x y two.1 in (m.0, m.1, ap Some m.2, ap Some m.3, differ a b two.0)
+
     made : ((c : ℕ) × (v : PlainValue) × (Some x ≡ Some (send c v)) × (Some y ≡ Some (recv c)) × (a ≢ b)) → meet_at a b (Some x) (Some y) ≡ true
     made h = let e : x ≡ send h.0 h.1 = let t = h.2 in cc in let f : y ≡ recv h.0 = let t = h.3 in cc in rw (e, f, unlike a b h.4, alike h.0) refl
 
@@ -143,6 +143,7 @@ same_row_is (Single t k) (Single u l) e = two t.0 k u.0 l e
   where
     both : (a b c d : ℕ) → nat_eq a c && nat_eq b d ≡ true → (a ≡ c) × (b ≡ d)
     both a b c d e = grind (arith, nat_tests)
+
     two : (a b c d : ℕ) → nat_eq a c && nat_eq b d ≡ true → Single (record { 0 = a }) b ≡ Single (record { 0 = c }) d
     two a b c d e = let h = both a b c d e in cc
 same_row_is (Single t k) (Pair u l v n) e = cc
@@ -151,6 +152,7 @@ same_row_is (Pair t k o j) (Pair u l v n) e = four t.0 k o.0 j u.0 l v.0 n e
   where
     all : (a b c d e f g h : ℕ) → (nat_eq a e && nat_eq b f) && (nat_eq c g && nat_eq d h) ≡ true → (a ≡ e) × (b ≡ f) × (c ≡ g) × (d ≡ h)
     all a b c d e f g h is = grind (arith, nat_tests)
+
     four : (a b c d e f g h : ℕ) → (nat_eq a e && nat_eq b f) && (nat_eq c g && nat_eq d h) ≡ true → Pair (record { 0 = a }) b (record { 0 = c }) d ≡ Pair (record { 0 = e }) f (record { 0 = g }) h
     four a b c d e f g h is = let s = all a b c d e f g h is in cc
 

@@ -1,11 +1,11 @@
 -- The heads: each place that begins a row, once, in order of first appearance.
-use Rattle.std.proofs.Common.{◌≡◌, ℕ, ◌+◌, ◌<◌, ◌≤◌, Bool, true, false, not, ◌&&◌, ◌||◌, nat_eq, nat_lt, cond, List, [], ◌∷◌, ◌++◌, map, length, slice_index_or, refl, ap, sym, ◌∙◌, arith}
-use Rattle.std.specs.Prelude.{All, AllPairs, Any, Contains, IsTrue, ◌↔◌}
-use Rattle.std.specs.List.{filter, list_any}
+use Rattle.std.proofs.Common.{◌≡◌, ℕ, ◌+◌, ◌<◌, Bool, true, false, not, ◌&&◌, ◌||◌, nat_lt, cond, List, [], ◌∷◌, ◌++◌, map, slice_index_or, refl, ap, sym, ◌∙◌, arith}
+use Rattle.std.specs.Prelude.{AllPairs, Any, Contains, ◌↔◌}
+use Rattle.std.specs.List.{list_any}
 use Rattle.std.proofs.lemmas.Bool.Decides.{nat_tests}
 use Rattle.std.proofs.lemmas.List.Folds.{list_any-append, Any-from_list_any, list_any-from_Any}
 use Rattle.cml_scan.specs.World.{PlainWorld}
-use Rattle.cml_scan.specs.Scan.{scan, place_of, same_place, firsts_after, heads_of, heads, partners_of, partners, same_row, has_row}
+use Rattle.cml_scan.specs.Scan.{scan, place_of, same_place, firsts_after, heads, partners_of, partners, same_row, has_row}
 use Rattle.cml_scan.specs.Order.{Every, Ascends, first_row}
 use Rattle.cml_scan.specs.declared.meet.Meet.{Meet}
 use Rattle.cml_scan.specs.declared.meet.Place.{Place}
@@ -24,6 +24,7 @@ firsts_unseen seen (p ∷ ps) = at (list_any (same_place p) seen) refl (λ more.
         or : (a b : Bool) → not (a || b) ≡ true → not a ≡ true
         or true b e = cc
         or false b e = refl
+
     at : (b : Bool) → list_any (same_place p) seen ≡ b → ((more : List Place) → Every (λ q. not (list_any (same_place q) more)) (firsts_after more ps))
         → Every (λ q. not (list_any (same_place q) seen)) (cond b (firsts_after seen ps) (p ∷ firsts_after (seen ++ p ∷ []) ps))
     at true e ih = ih seen
@@ -56,6 +57,7 @@ push_every row rows p (q ∷ qs) e away up = (rw (e, not_false (same_place q (pl
     not_false : (b : Bool) → not b ≡ true → b ≡ false
     not_false true e = cc
     not_false false e = refl
+
     more : (a b : ℕ) → nat_lt a b ≡ true → nat_lt (a + 1) (b + 1) ≡ true
     more a b e = grind (arith, nat_tests)
 
@@ -75,6 +77,7 @@ own_first row rows (q ∷ qs) away = (rw (same_self (place_of row), not_false (s
     not_false : (b : Bool) → not b ≡ true → b ≡ false
     not_false true e = cc
     not_false false e = refl
+
     above : (n : ℕ) → nat_lt 0 (n + 1) ≡ true
     above n = grind (arith, nat_tests)
 
@@ -112,10 +115,12 @@ firsts_all q seen (p ∷ ps) =
     skip true true e f g = refl
     skip false s e f g = refl
     skip true false e f g = let same : q ≡ p = same_is q p e in let h : list_any (same_place q) seen ≡ true = rw (same) g in cc
+
     move : (s b t : Bool) → (s || (b || false)) || t ≡ s || (b || t)
     move true b t = refl
     move false true t = refl
     move false false t = refl
+
     at : (b : Bool) → list_any (same_place p) seen ≡ b
         → ((more : List Place) → list_any (same_place q) more || list_any (same_place q) (firsts_after more ps) ≡ list_any (same_place q) more || list_any (same_place q) ps)
         → list_any (same_place q) seen || list_any (same_place q) (cond b (firsts_after seen ps) (p ∷ firsts_after (seen ++ p ∷ []) ps)) ≡ list_any (same_place q) seen || (same_place q p || list_any (same_place q) ps)
@@ -145,10 +150,12 @@ heads-members w p = (begins, begun)
   where
     same_list : list_any (same_place p) (heads w) ≡ list_any (λ row. same_place p (place_of row)) (scan w)
     same_list = firsts_all p [] (map place_of (scan w)) ∙ any_mapped p (scan w)
+
     begins : Contains (heads w) p → Any (λ row. place_of row ≡ p) (scan w)
     begins h =
         let any = Any-from_list_any (λ row. same_place p (place_of row)) (scan w) (sym same_list ∙ there_any p (heads w) h) in
         (any.0, any.1, any.2, any.3, sym (same_is p (place_of any.1) any.4))
+
     begun : Any (λ row. place_of row ≡ p) (scan w) → Contains (heads w) p
     begun h = any_there p (heads w) (same_list ∙ list_any-from_Any (λ row. same_place p (place_of row)) (scan w) (h.0, h.1, h.2, h.3, rw (h.4) (same_self p)))
 
@@ -161,6 +168,7 @@ has_row-partners p row (r ∷ rows) =
     none : (x : Bool) → x && false ≡ false
     none true = refl
     none false = refl
+
     at : (b m s : Bool) → same_row row r ≡ m → (m ≡ true → b ≡ s) → (x : Bool) → has_row (partners_of rows p) row ≡ x && s
         → has_row (cond b (r ∷ partners_of rows p) (partners_of rows p)) row ≡ (m || x) && s
     at true true s is same x ih = rw is (same refl)
@@ -175,5 +183,6 @@ partners-members w p row = (has, λ h. kept h.0 h.1)
     has : Contains (partners w p) row → Contains (scan w) row × (place_of row ≡ p)
     has h = let two = both_true (has_row (scan w) row) (same_place p (place_of row)) (sym (has_row-partners p row (scan w)) ∙ has_row-Contains (partners w p) row h) in
         (Contains-has_row (scan w) row two.0, sym (same_is p (place_of row) two.1))
+
     kept : Contains (scan w) row → place_of row ≡ p → Contains (partners w p) row
     kept h is = Contains-has_row (partners w p) row (has_row-partners p row (scan w) ∙ rw (has_row-Contains (scan w) row h, is) (same_self p))

@@ -1,15 +1,13 @@
 -- The rows that a place begins, and whether a row is there, by the base events of the leaves at its places.
-use Rattle.std.proofs.Common.{◌≡◌, ℕ, Bool, true, false, not, ◌&&◌, ◌||◌, nat_eq, nat_lt, cond, List, [], ◌∷◌, ◌++◌, map, Option, Some, None, refl, ap, sym, ◌∙◌, arith}
-use Rattle.std.specs.List.{filter, flat_map, list_any}
-use Rattle.std.proofs.lemmas.Bool.Decides.{nat_tests}
+use Rattle.std.proofs.Common.{◌≡◌, Bool, true, false, cond, List, [], ◌∷◌, ◌++◌, map, Option, Some, None, refl, ap, sym, ◌∙◌}
+use Rattle.std.specs.List.{filter, flat_map}
 use Rattle.std.proofs.lemmas.List.{append-nil}
 use Rattle.std.proofs.lemmas.List.Elements.{filter-append}
 use Rattle.cml_value.specs.Value.{PlainBase}
-use Rattle.cml_value.specs.declared.number.Tid.{Tid}
-use Rattle.cml_scan.specs.Scan.{PlainOffer, meets, can_meet, single, pair, pairs_with, rows_of, place_of, same_place, partners_of, same_row, has_row}
+use Rattle.cml_scan.specs.Scan.{PlainOffer, can_meet, single, pair, pairs_with, rows_of, place_of, same_place, partners_of}
 use Rattle.cml_scan.specs.Order.{Every, Ascends, place, before, base_at}
 use Rattle.cml_scan.specs.declared.meet.Meet.{Meet}
-use Rattle.cml_scan.specs.declared.meet.Meet.TheVariants.{Single, Pair}
+use Rattle.cml_scan.specs.declared.meet.Meet.TheVariants.{Single}
 use Rattle.cml_scan.specs.declared.meet.Place.{Place}
 use Rattle.cml_scan.proofs.Ordered.{same_is, later_away}
 
@@ -52,10 +50,12 @@ singles_found is_lit p (y ∷ ys) up = at (same_place p (place y)) refl (singles
         → partners_of (map single (cond l (y ∷ filter (λ o. is_lit o.base) ys) (filter (λ o. is_lit o.base) ys))) p ≡ cond l (Single p.tid p.leaf ∷ []) []
     here same e true none = rw (e, none) (ap (λ (q : Place). Single q.tid q.leaf ∷ []) (sym same))
     here same e false none = none
+
     there : (l : Bool) → same_place p (place y) ≡ false → partners_of (map single (filter (λ o. is_lit o.base) ys)) p ≡ singles_at is_lit p (base_at p ys)
         → partners_of (map single (cond l (y ∷ filter (λ o. is_lit o.base) ys) (filter (λ o. is_lit o.base) ys))) p ≡ singles_at is_lit p (base_at p ys)
     there true e k = rw e k
     there false e k = k
+
     at : (b : Bool) → same_place p (place y) ≡ b → partners_of (map single (filter (λ o. is_lit o.base) ys)) p ≡ singles_at is_lit p (base_at p ys)
         → partners_of (map single (filter (λ o. is_lit o.base) (y ∷ ys))) p ≡ singles_at is_lit p (cond b (Some y.base) (base_at p ys))
     at true e k =

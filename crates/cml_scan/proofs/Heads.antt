@@ -1,5 +1,5 @@
 -- The places that begin a row: the lit leaves, and then the leaves that have a partner.
-use Rattle.std.proofs.Common.{◌≡◌, ℕ, Bool, true, false, not, ◌&&◌, ◌||◌, cond, List, [], ◌∷◌, ◌++◌, map, Option, Some, None, refl, ap, sym, subst, ◌∙◌, append_assoc}
+use Rattle.std.proofs.Common.{◌≡◌, Bool, true, false, not, ◌&&◌, ◌||◌, cond, List, [], ◌∷◌, ◌++◌, map, Option, Some, None, refl, ap, sym, subst, ◌∙◌, append_assoc}
 use Rattle.std.specs.List.{filter, flat_map, list_any}
 use Rattle.std.proofs.lemmas.List.{append-nil, map-append}
 use Rattle.std.proofs.lemmas.List.Folds.{list_any-append}
@@ -7,7 +7,7 @@ use Rattle.cml_value.specs.Value.{PlainBase}
 use Rattle.cml_scan.specs.Scan.{PlainOffer, meets, can_meet, single, pair, pairs_with, rows_of, place_of, same_place, firsts_after, heads_of}
 use Rattle.cml_scan.specs.Order.{Every, Ascends, place, before, base_at, has_partner}
 use Rattle.cml_scan.specs.declared.meet.Place.{Place}
-use Rattle.cml_scan.proofs.Ordered.{same_is, same_self, earlier_away, later_away, Every-filter, Every-map, Every-unmap}
+use Rattle.cml_scan.proofs.Ordered.{same_is, same_self, earlier_away, Every-filter, Every-map, Every-unmap}
 use Rattle.cml_scan.proofs.Found.{offer, not_later}
 
 -- these places come new one after another
@@ -73,7 +73,7 @@ pair_heads_at : (xs rest : List PlainOffer) (seen : List Place) (h : PlainOffer)
     → ((seen : List Place) → AreFresh seen (map place (filter (has_partner xs) rest)) → firsts_after seen (map place_of (flat_map (pairs_with xs) rest)) ≡ map place (filter (has_partner xs) rest))
     → AreFresh seen (map place (cond b (h ∷ filter (has_partner xs) rest) (filter (has_partner xs) rest)))
     → firsts_after seen (map place_of (pairs_with xs h)) ++ firsts_after (seen ++ firsts_after seen (map place_of (pairs_with xs h))) (map place_of (flat_map (pairs_with xs) rest))
-        ≡ map place (cond b (h ∷ filter (has_partner xs) rest) (filter (has_partner xs) rest))
+    ≡ map place (cond b (h ∷ filter (has_partner xs) rest) (filter (has_partner xs) rest))
 pair_heads_at xs rest seen h true e ih fresh =
     let one : firsts_after seen (map place_of (pairs_with xs h)) ≡ place h ∷ [] = firsts_run seen h (filter (can_meet h) xs) true (sym e ∙ some_passes (can_meet h) xs) (λ _. fresh.0) in
     rw (one) (ap (λ ps. place h ∷ ps) (ih (seen ++ place h ∷ []) fresh.1))
@@ -183,6 +183,7 @@ heads_new is_lit alone xs (y ∷ ys) up here = at (has_partner xs y) refl (heads
     no_lit : (l : Bool) → is_lit y.base ≡ l → has_partner xs y ≡ true → not l ≡ true
     no_lit true e g = let none : has_partner xs y ≡ false = lit_no_partner is_lit alone y xs e in cc
     no_lit false e g = refl
+
     at : (b : Bool) → has_partner xs y ≡ b → Every (λ p. not (list_any (same_place p) (map place (filter (λ o. is_lit o.base) xs)))) (map place (filter (has_partner xs) ys))
         → Every (λ p. not (list_any (same_place p) (map place (filter (λ o. is_lit o.base) xs)))) (map place (cond b (y ∷ filter (has_partner xs) ys) (filter (has_partner xs) ys)))
     at true g k = (ap not (any_at (place y) (λ o. is_lit o.base) xs up ∙ ap (passes (λ o. is_lit o.base) (place y)) here.0) ∙ no_lit (is_lit y.base) refl g, k)
@@ -205,5 +206,5 @@ pub heads_found : (is_lit : PlainBase → Bool) → ((b c : PlainBase) → is_li
     → heads_of (rows_of is_lit xs) ≡ map place (filter (λ o. is_lit o.base) xs) ++ map place (filter (has_partner xs) xs)
 heads_found is_lit alone xs up =
     heads-fresh is_lit xs (fresh_join [] (map place (filter (λ o. is_lit o.base) xs)) (map place (filter (has_partner xs) xs))
-        (fresh_up [] (map place (filter (λ o. is_lit o.base) xs)) (places_up (λ o. is_lit o.base) xs up) (none_seen (map place (filter (λ o. is_lit o.base) xs))))
-        (fresh_up (map place (filter (λ o. is_lit o.base) xs)) (map place (filter (has_partner xs) xs)) (places_up (has_partner xs) xs up) (heads_new is_lit alone xs xs up (at_self xs up))))
+    (fresh_up [] (map place (filter (λ o. is_lit o.base) xs)) (places_up (λ o. is_lit o.base) xs up) (none_seen (map place (filter (λ o. is_lit o.base) xs))))
+    (fresh_up (map place (filter (λ o. is_lit o.base) xs)) (map place (filter (has_partner xs) xs)) (places_up (has_partner xs) xs up) (heads_new is_lit alone xs xs up (at_self xs up))))

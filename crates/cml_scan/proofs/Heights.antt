@@ -1,5 +1,5 @@
 -- A member lies lower than its list.
-use Rattle.std.proofs.Common.{◌≡◌, ℕ, zero, suc, ◌+◌, ◌<◌, List, [], ◌∷◌, length, slice_index_or, max, ap, arith, sym, ◌∙◌}
+use Rattle.std.proofs.Common.{◌≡◌, ℕ, zero, suc, ◌<◌, List, [], ◌∷◌, length, slice_index_or, ap, arith}
 use Rattle.cml_value.specs.Group.{PlainGroup, groups}
 use Rattle.cml_value.specs.GroupHeights.{group_height, groups_height}
 

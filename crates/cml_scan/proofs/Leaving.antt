@@ -1,5 +1,5 @@
 -- The rows that stay when threads go are the rows of the threads that stay.
-use Rattle.std.proofs.Common.{◌≡◌, ℕ, ◌+◌, Bool, true, false, not, ◌&&◌, ◌||◌, cond, List, [], ◌∷◌, ◌++◌, map, refl, ap, sym, ◌∙◌}
+use Rattle.std.proofs.Common.{◌≡◌, ℕ, ◌+◌, Bool, true, false, not, ◌||◌, cond, List, [], ◌∷◌, ◌++◌, map, refl, ap, sym, ◌∙◌}
 use Rattle.std.specs.List.{filter, flat_map}
 use Rattle.std.proofs.lemmas.List.Elements.{filter-append}
 use Rattle.cml_value.specs.Value.{PlainBase}
@@ -11,7 +11,6 @@ use Rattle.cml_scan.specs.Scan.{PlainOffer, can_meet, leaves_from, offers_of, si
 use Rattle.cml_scan.specs.Table.{without}
 use Rattle.cml_scan.specs.declared.object.Light.{Light}
 use Rattle.cml_scan.specs.declared.meet.Meet.{Meet}
-use Rattle.cml_scan.specs.declared.meet.Meet.TheVariants.{Single, Pair}
 use Rattle.cml_scan.proofs.Told.{scan_of-light_of, scan_of-agree, agree_on_all}
 
 -- the thread, the leaf, the row stays

@@ -11,3 +11,4 @@ pub mod Ordering
 pub mod Firsts
 pub mod Partners
 pub mod Telling
+pub mod Pending

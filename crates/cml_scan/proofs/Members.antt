@@ -1,19 +1,15 @@
 -- Which rows are there: those whose leaves are enabled.
-use Rattle.std.proofs.Common.{◌≡◌, ◌≢◌, ℕ, zero, suc, ◌+◌, ◌<◌, Bool, true, false, not, ◌&&◌, ◌||◌, nat_eq, nat_lt, cond, List, [], ◌∷◌, ◌++◌, map, Option, Some, None, refl, ap, sym, ◌∙◌, arith}
-use Rattle.std.specs.Prelude.{slice_get}
-use Rattle.std.specs.List.{filter, flat_map, list_any}
+use Rattle.std.proofs.Common.{◌≡◌, ℕ, Bool, true, false, ◌&&◌, ◌||◌, nat_eq, cond, List, [], ◌∷◌, ◌++◌, map, Option, Some, None, refl, ap, sym, ◌∙◌, arith}
+use Rattle.std.specs.List.{filter}
 use Rattle.std.proofs.lemmas.Bool.Decides.{nat_tests}
 use Rattle.cml_value.specs.Value.{PlainBase}
-use Rattle.cml_value.specs.Group.{PlainGroup, bases}
 use Rattle.cml_value.specs.declared.number.Tid.{Tid}
-use Rattle.cml_scan.specs.World.{PlainThread, running, pending_on, ended, PlainWorld, PlainEntry, pending_from, pending}
-use Rattle.cml_scan.specs.Light.{lit}
-use Rattle.cml_scan.specs.Scan.{PlainOffer, leaves_from, offers_of, meets, can_meet, single, pair, pairs_with, rows_of, scan, place_of, same_place, partners_of, same_row, has_row}
-use Rattle.cml_scan.specs.Order.{Every, Ascends, place, before, base_at, lit_at, meet_at, row_at}
+use Rattle.cml_scan.specs.Scan.{PlainOffer, can_meet, pair, pairs_with, rows_of, place_of, same_place, partners_of, same_row, has_row}
+use Rattle.cml_scan.specs.Order.{Ascends, place, before, base_at, lit_at, meet_at, row_at}
 use Rattle.cml_scan.specs.declared.meet.Meet.{Meet}
 use Rattle.cml_scan.specs.declared.meet.Meet.TheVariants.{Single, Pair}
 use Rattle.cml_scan.specs.declared.meet.Place.{Place}
-use Rattle.cml_scan.proofs.Ordered.{same_is, offers_ascend, pending_sorted}
+use Rattle.cml_scan.proofs.Ordered.{same_is}
 use Rattle.cml_scan.proofs.Found.{offer, singles_at, pairs_at, not_later, partners_found}
 
 -- whether a row is there: only the rows of its place matter
@@ -55,6 +51,7 @@ no_pair_there h q (y ∷ ys) none = at (same_place q (place y)) (can_meet h y) r
     off : (b : Bool) → (b && false) || false ≡ false
     off true = refl
     off false = refl
+
     at : (s m : Bool) → same_place q (place y) ≡ s → cond s (Some y.base) (base_at q ys) ≡ None
         → (base_at q ys ≡ None → has_row (map (pair h) (filter (can_meet h) ys)) (Pair (record { 0 = h.thread }) h.leaf q.tid q.leaf) ≡ false)
         → has_row (map (pair h) (cond m (y ∷ filter (can_meet h) ys) (filter (can_meet h) ys))) (Pair (record { 0 = h.thread }) h.leaf q.tid q.leaf) ≡ false
@@ -72,9 +69,11 @@ pair_there h q (y ∷ ys) up = at (same_place q (place y)) (can_meet h y) refl r
   where
     on : (t : Bool) → ((nat_eq h.thread h.thread && nat_eq h.leaf h.leaf) && true) || t ≡ true
     on t = rw (self_same h.thread h.leaf) refl
+
     off : (b t : Bool) → (b && false) || t ≡ t
     off true t = refl
     off false t = refl
+
     at : (s m : Bool) → same_place q (place y) ≡ s → can_meet h y ≡ m → has_row (map (pair h) (filter (can_meet h) ys)) (Pair (record { 0 = h.thread }) h.leaf q.tid q.leaf) ≡ meet_with h q (base_at q ys)
         → has_row (map (pair h) (cond m (y ∷ filter (can_meet h) ys) (filter (can_meet h) ys))) (Pair (record { 0 = h.thread }) h.leaf q.tid q.leaf) ≡ meet_with h q (cond s (Some y.base) (base_at q ys))
     at true true e f k =
@@ -100,6 +99,7 @@ pair_found is_lit a i c k xs (Some b) up =
     skip : (l : Bool) → has_row (cond l (Single a i ∷ []) [] ++ pairs_with xs (record { thread = a.0; leaf = i; base = b })) (Pair a i c k) ≡ has_row (pairs_with xs (record { thread = a.0; leaf = i; base = b })) (Pair a i c k)
     skip true = refl
     skip false = refl
+
     last : (ob : Option PlainBase) → meet_with (record { thread = a.0; leaf = i; base = b }) (record { tid = c; leaf = k }) ob ≡ meet_at a.0 c.0 (Some b) ob
     last None = refl
     last (Some d) = refl

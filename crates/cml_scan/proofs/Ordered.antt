@@ -1,6 +1,6 @@
 -- The pending threads of a world, and the leaves of sorted threads, stand in order.
-use Rattle.std.proofs.Common.{◌≡◌, ℕ, ◌+◌, ◌<◌, ◌≤◌, Bool, true, false, not, ◌&&◌, ◌||◌, nat_eq, nat_lt, cond, List, [], ◌∷◌, ◌++◌, map, Option, Some, None, refl, ap, sym, ◌∙◌, arith}
-use Rattle.std.specs.List.{filter, flat_map, list_any}
+use Rattle.std.proofs.Common.{◌≡◌, ℕ, ◌+◌, ◌<◌, Bool, true, false, not, ◌&&◌, ◌||◌, nat_eq, nat_lt, cond, List, [], ◌∷◌, ◌++◌, map, Option, Some, None, refl, arith}
+use Rattle.std.specs.List.{filter}
 use Rattle.std.specs.Borrow.{Bor}
 use Rattle.std.proofs.lemmas.Bool.Decides.{nat_tests}
 use Rattle.cml_value.specs.Value.{PlainBase}
@@ -8,8 +8,8 @@ use Rattle.cml_value.specs.Group.{PlainGroup, bases}
 use Rattle.cml_value.specs.declared.number.Tid.{Tid}
 use Rattle.cml_scan.specs.World.{PlainThread, running, pending_on, ended, PlainWorld, PlainEntry, pending_from, pending}
 use Rattle.cml_scan.specs.Scan.{PlainOffer, leaves_from, offers_of, same_place, is_among}
-use Rattle.cml_scan.specs.Table.{without, with_entry, with_came, changed}
-use Rattle.cml_scan.specs.Order.{Every, Ascends, IsSorted, place, before_numbers, before, base_at}
+use Rattle.cml_scan.specs.Table.{without, with_entry, changed}
+use Rattle.cml_scan.specs.Order.{Every, Ascends, IsSorted, place, before}
 use Rattle.cml_scan.specs.declared.meet.Place.{Place}
 
 -- what holds of each
@@ -72,6 +72,7 @@ same_is p q e = at p.tid.0 p.leaf q.tid.0 q.leaf e
   where
     both : (a b c d : ℕ) → nat_eq a c && nat_eq b d ≡ true → (a ≡ c) × (b ≡ d)
     both a b c d e = grind (arith, nat_tests)
+
     at : (a b c d : ℕ) → nat_eq a c && nat_eq b d ≡ true → let p : Place = record { tid = record { 0 = a }; leaf = b } in let q : Place = record { tid = record { 0 = c }; leaf = d } in p ≡ q
     at a b c d e = let h = both a b c d e in cc
 
@@ -102,6 +103,7 @@ over_all t m (e ∷ es) h = leaves e.thread 0 (bases e.group) h.0 (over_all t m 
   where
     first : (t u m l : ℕ) → nat_lt t u ≡ true → nat_lt t u || (nat_eq t u && nat_lt m l) ≡ true
     first t u m l e = rw e refl
+
     leaves : (u l : ℕ) (bs : List PlainBase) → nat_lt t u ≡ true → Every (before (record { tid = record { 0 = t }; leaf = m })) (map place (offers_of es))
         → Every (before (record { tid = record { 0 = t }; leaf = m })) (map place (leaves_from u l bs ++ offers_of es))
     leaves u l [] h k = k
@@ -164,8 +166,8 @@ sorted_with e es up =
     let fs : List PlainEntry = filter (λ x. nat_lt x.thread e.thread) es in
     let bs : List PlainEntry = filter (λ x. nat_lt e.thread x.thread) es in
     Ascends-append r fs (e ∷ bs) (Ascends-filter r (λ x. nat_lt x.thread e.thread) es up)
-        (all_before e fs bs (Every-passes (λ x. nat_lt x.thread e.thread) es) (Every-passes (λ x. nat_lt e.thread x.thread) es))
-        (Every-passes (λ x. nat_lt e.thread x.thread) es, Ascends-filter r (λ x. nat_lt e.thread x.thread) es up)
+    (all_before e fs bs (Every-passes (λ x. nat_lt x.thread e.thread) es) (Every-passes (λ x. nat_lt e.thread x.thread) es))
+    (Every-passes (λ x. nat_lt e.thread x.thread) es, Ascends-filter r (λ x. nat_lt e.thread x.thread) es up)
 
 -- what was told stays sorted
 pub sorted_changed : (es : List PlainEntry) (gone : List Tid) (came : Option (Tid × Bor PlainGroup)) → IsSorted es → IsSorted (changed es gone came)

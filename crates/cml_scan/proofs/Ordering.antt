@@ -1,5 +1,5 @@
 -- The rows stand in order, and so each stands once.
-use Rattle.std.proofs.Common.{◌≡◌, ◌≢◌, ℕ, Bool, true, false, not, ◌&&◌, ◌||◌, nat_eq, nat_lt, cond, List, [], ◌∷◌, ◌++◌, map, slice_index_or, length, ◌<◌, refl, ap, sym, ◌∙◌, arith}
+use Rattle.std.proofs.Common.{◌≡◌, ◌≢◌, ℕ, Bool, true, false, ◌&&◌, ◌||◌, nat_eq, nat_lt, List, [], ◌∷◌, map, slice_index_or, refl, arith}
 use Rattle.std.specs.Prelude.{All, AllPairs, IsTrue}
 use Rattle.std.specs.List.{filter, flat_map}
 use Rattle.std.proofs.lemmas.Bool.Decides.{nat_tests}
@@ -8,13 +8,13 @@ use Rattle.std.proofs.lemmas.List.Kept.{AllPairs-cons}
 use Rattle.cml_value.specs.Value.{PlainBase}
 use Rattle.cml_scan.specs.World.{PlainWorld, PlainEntry, pending}
 use Rattle.cml_scan.specs.Light.{lit, lit_by}
-use Rattle.cml_scan.specs.Scan.{PlainOffer, offers_of, can_meet, single, pair, pairs_with, rows_of, scan, scan_of, place_of, same_place, partners_of, partners}
+use Rattle.cml_scan.specs.Scan.{PlainOffer, offers_of, can_meet, single, pair, pairs_with, rows_of, scan, scan_of, place_of, same_place, partners}
 use Rattle.cml_scan.specs.Order.{Every, Ascends, IsSorted, place, before_numbers, before, row_before}
 use Rattle.cml_scan.specs.declared.object.Light.{Light}
 use Rattle.cml_scan.specs.declared.meet.Meet.{Meet}
 use Rattle.cml_scan.specs.declared.meet.Meet.TheVariants.{Single, Pair}
 use Rattle.cml_scan.specs.declared.meet.Place.{Place}
-use Rattle.cml_scan.proofs.Ordered.{Every-append, Every-filter, Every-map, Every-unmap, Ascends-filter, Ascends-append, AreBefore, offers_ascend, pending_sorted}
+use Rattle.cml_scan.proofs.Ordered.{Every-append, Every-map, Every-unmap, Ascends-filter, Ascends-append, AreBefore, offers_ascend, pending_sorted}
 
 pub All-Every : {X : Type 0} (t : X → Bool) (xs : List X) → Every t xs → All (λ x. IsTrue (t x)) xs
 All-Every t [] h = All-nil (λ x. IsTrue (t x))
@@ -59,7 +59,7 @@ later_pairs : (os : List PlainOffer) (h o : PlainOffer) (gs : List PlainOffer) �
 later_pairs os h o [] later = tt
 later_pairs os h o (g ∷ gs) later =
     Every-append (row_before (pair h o)) (pairs_with os g) (flat_map (pairs_with os) gs)
-        (every_pair (row_before (pair h o)) g (filter (can_meet g) os) (λ p. later_pair h o g p later.0)) (later_pairs os h o gs later.1)
+    (every_pair (row_before (pair h o)) g (filter (can_meet g) os) (λ p. later_pair h o g p later.0)) (later_pairs os h o gs later.1)
 
 pairs_before : (os : List PlainOffer) (h : PlainOffer) (gs ps : List PlainOffer) → Every (λ g. before (place h) (place g)) gs → AreBefore row_before (map (pair h) ps) (flat_map (pairs_with os) gs)
 pairs_before os h gs [] later = tt
@@ -69,9 +69,9 @@ all_pairs_up : (os gs : List PlainOffer) → Ascends (λ a b. before (place a) (
 all_pairs_up os [] up gs_up = tt
 all_pairs_up os (h ∷ gs) up gs_up =
     Ascends-append row_before (pairs_with os h) (flat_map (pairs_with os) gs)
-        (pairs_up h (filter (can_meet h) os) (Ascends-filter (λ a b. before (place a) (place b)) (can_meet h) os up))
-        (pairs_before os h gs (filter (can_meet h) os) gs_up.0)
-        (all_pairs_up os gs up gs_up.1)
+    (pairs_up h (filter (can_meet h) os) (Ascends-filter (λ a b. before (place a) (place b)) (can_meet h) os up))
+    (pairs_before os h gs (filter (can_meet h) os) gs_up.0)
+    (all_pairs_up os gs up gs_up.1)
 
 single_before : (o : PlainOffer) (os gs : List PlainOffer) → Every (row_before (single o)) (flat_map (pairs_with os) gs)
 single_before o os [] = tt
@@ -86,9 +86,9 @@ pub rows_ascend : (is_lit : PlainBase → Bool) (os : List PlainOffer) → Ascen
 rows_ascend is_lit os up =
     let each : Ascends (λ a b. before (place a) (place b)) os = Ascends-unmap os up in
     Ascends-append row_before (map single (filter (λ o. is_lit o.base) os)) (flat_map (pairs_with os) os)
-        (singles_up (filter (λ o. is_lit o.base) os) (Ascends-filter (λ a b. before (place a) (place b)) (λ o. is_lit o.base) os each))
-        (singles_before os os (filter (λ o. is_lit o.base) os))
-        (all_pairs_up os os each each)
+    (singles_up (filter (λ o. is_lit o.base) os) (Ascends-filter (λ a b. before (place a) (place b)) (λ o. is_lit o.base) os each))
+    (singles_before os os (filter (λ o. is_lit o.base) os))
+    (all_pairs_up os os each each)
 
 pub scan_of-ascends : (entries : List PlainEntry) (told : Light → Bool) → IsSorted entries → Ascends row_before (scan_of entries told)
 scan_of-ascends entries told up = rows_ascend (lit_by told) (offers_of entries) (offers_ascend entries up)
@@ -106,8 +106,10 @@ before_differs r s e = λ same. let e2 : row_before s s ≡ true = rw (same) at 
   where
     two : (a b : ℕ) → nat_lt a a || (nat_eq a a && nat_lt b b) ≡ true → ⊥
     two a b e = grind (arith, nat_tests)
+
     four : (a b c d : ℕ) → (nat_lt a a || (nat_eq a a && nat_lt b b)) || ((nat_eq a a && nat_eq b b) && (nat_lt c c || (nat_eq c c && nat_lt d d))) ≡ true → ⊥
     four a b c d e = grind (arith, nat_tests)
+
     none : (s : Meet) → row_before s s ≡ true → ⊥
     none (Single t k) e = two t.0 k e
     none (Pair t k o m) e = four t.0 k o.0 m e

@@ -1,21 +1,18 @@
 -- The rows of a send are the other threads' receives of its channel; the heads are the lit leaves and then the leaves that have a
 -- partner. Both for what a table was told, and for a world.
-use Rattle.std.proofs.Common.{◌≡◌, ℕ, zero, suc, ◌+◌, ◌<◌, Bool, true, false, not, ◌&&◌, ◌||◌, nat_eq, cond, List, [], ◌∷◌, ◌++◌, map, length, slice_index_or, Option, Some, None, refl, ap, sym, ◌∙◌, arith}
-use Rattle.std.specs.Prelude.{Any, Contains, ◌↔◌}
-use Rattle.std.specs.List.{filter, flat_map, list_any}
-use Rattle.std.proofs.lemmas.List.Folds.{Any-from_list_any, list_any-from_Any}
+use Rattle.std.proofs.Common.{◌≡◌, ℕ, zero, suc, ◌<◌, Bool, true, false, not, ◌&&◌, ◌||◌, nat_eq, cond, List, [], ◌∷◌, ◌++◌, map, length, slice_index_or, Some, refl, ap, ◌∙◌, arith}
+use Rattle.std.specs.Prelude.{Contains}
+use Rattle.std.specs.List.{filter, list_any}
 use Rattle.std.proofs.lemmas.List.Elements.{filter_agree}
 use Rattle.cml_value.specs.Value.{PlainValue, PlainBase, always, send, recv, iget, mtake, mget, mswap, mail_recv, port_recv, join, at_tick, after_ticks, nack}
 use Rattle.cml_scan.specs.World.{PlainWorld, PlainEntry, pending}
 use Rattle.cml_scan.specs.Light.{lit, lit_by, light_of}
-use Rattle.cml_scan.specs.Scan.{PlainOffer, offers_of, receives_on, meets, can_meet, pair, pairs_with, rows_of, scan, scan_of, place_of, same_place, partners_of, partners, heads_of, heads, has_row}
+use Rattle.cml_scan.specs.Scan.{PlainOffer, offers_of, meets, can_meet, pair, pairs_with, rows_of, scan_of, partners_of, partners, heads_of, heads}
 use Rattle.cml_scan.specs.Order.{Ascends, IsSorted, place, before, base_at, has_partner, can_take}
 use Rattle.cml_scan.specs.declared.object.Light.{Light}
-use Rattle.cml_scan.specs.declared.meet.Meet.{Meet}
-use Rattle.cml_scan.specs.declared.meet.Meet.TheVariants.{Single, Pair}
-use Rattle.cml_scan.specs.declared.meet.Place.{Place}
-use Rattle.cml_scan.proofs.Ordered.{same_is, same_self, offers_ascend, pending_sorted}
-use Rattle.cml_scan.proofs.Found.{offer, singles_at, pairs_at, partners_found}
+use Rattle.cml_scan.specs.declared.meet.Meet.TheVariants.{Single}
+use Rattle.cml_scan.proofs.Ordered.{offers_ascend, pending_sorted}
+use Rattle.cml_scan.proofs.Found.{singles_at, pairs_at, partners_found}
 use Rattle.cml_scan.proofs.Heads.{AreAt, at_self, heads_found}
 use Rattle.cml_scan.proofs.Told.{lit_by-light_of}
 
@@ -77,3 +74,8 @@ scan_of-heads entries told up = heads_found (lit_by told) (lit_by-alone told) (o
 pub scan-heads : (w : PlainWorld)
     → heads w ≡ map place (filter (λ o. lit w o.base) (offers_of (pending w))) ++ map place (filter (has_partner (offers_of (pending w))) (offers_of (pending w)))
 scan-heads w = heads_found (lit w) (lit-alone w) (offers_of (pending w)) (offers_ascend (pending w) (pending_sorted w))
+
+-- whether a send has a partner: a receive of its channel in another thread
+pub has_partner-send : (xs : List PlainOffer) (h : PlainOffer) (c : ℕ) (v : PlainValue) → h.base ≡ send c v → has_partner xs h ≡ list_any (can_take h.thread c) xs
+has_partner-send [] h c v is = refl
+has_partner-send (x ∷ xs) h c v is = rw (has_partner-send xs h c v is) (ap (λ b. (not (nat_eq h.thread x.thread) && meets b x.base) || list_any (can_take h.thread c) xs) is)

@@ -1,19 +1,19 @@
 -- What is known of the lights that pending leaves wait for, when threads go and come and lights change.
-use Rattle.std.proofs.Common.{◌≡◌, ℕ, ◌+◌, Bool, true, false, not, ◌&&◌, ◌||◌, nat_eq, nat_lt, cond, List, [], ◌∷◌, ◌++◌, map, Option, Some, None, refl, ap, sym, subst, ◌∙◌, arith}
-use Rattle.std.specs.Prelude.{All, Any, Contains}
-use Rattle.std.specs.List.{filter, flat_map, list_any}
+use Rattle.std.proofs.Common.{◌≡◌, ℕ, ◌+◌, Bool, true, false, not, nat_eq, nat_lt, cond, List, [], ◌∷◌, ◌++◌, Option, Some, None, ap, sym, subst, arith}
+use Rattle.std.specs.Prelude.{All, Contains}
+use Rattle.std.specs.List.{filter}
 use Rattle.std.specs.Borrow.{Bor}
 use Rattle.std.proofs.lemmas.Bool.Decides.{nat_tests}
-use Rattle.std.proofs.lemmas.List.Elements.{All-nil, All-cons, All-head, All-tail, All-append, All-filter}
+use Rattle.std.proofs.lemmas.List.Elements.{All-nil, All-cons, All-head, All-tail, All-append}
 use Rattle.std.proofs.lemmas.List.Concat.{flat_map-append}
 use Rattle.std.proofs.lemmas.List.Folds.{Any-from_list_any, list_any-from_Any}
 use Rattle.cml_value.specs.Value.{PlainBase}
 use Rattle.cml_value.specs.Group.{PlainGroup, bases}
 use Rattle.cml_value.specs.declared.number.Tid.{Tid}
-use Rattle.cml_scan.specs.World.{PlainWorld, PlainEntry, pending}
-use Rattle.cml_scan.specs.Light.{light, light_of, is_told}
+use Rattle.cml_scan.specs.World.{PlainEntry}
+use Rattle.cml_scan.specs.Light.{light, is_told}
 use Rattle.cml_scan.specs.Scan.{PlainOffer, leaves_from, offers_of, is_among}
-use Rattle.cml_scan.specs.Table.{without, with_entry, with_came, changed, same_light, has_light, AgreeFor}
+use Rattle.cml_scan.specs.Table.{without, with_entry, changed, same_light, has_light, AgreeFor}
 use Rattle.cml_scan.specs.declared.object.Light.{Light}
 use Rattle.cml_scan.specs.declared.object.Light.TheVariants as of
 
@@ -25,9 +25,11 @@ kept P test (e ∷ es) all = at (test e) (kept P test es (back P (leaves_from e.
     back : (P : PlainOffer → Type 0) (xs ys : List PlainOffer) → All P (xs ++ ys) → All P ys
     back P [] ys all = all
     back P (x ∷ xs) ys all = back P xs ys (All-tail P x (xs ++ ys) all)
+
     front : (P : PlainOffer → Type 0) (xs ys : List PlainOffer) → All P (xs ++ ys) → All P xs
     front P [] ys all = All-nil P
     front P (x ∷ xs) ys all = All-cons P x xs (All-head P x (xs ++ ys) all) (front P xs ys (All-tail P x (xs ++ ys) all))
+
     at : (b : Bool) → All P (offers_of (filter test es)) → All P (offers_of (cond b (e ∷ filter test es) (filter test es)))
     at true k = All-append P (leaves_from e.thread 0 (bases e.group)) (offers_of (filter test es)) (front P (leaves_from e.thread 0 (bases e.group)) (offers_of es) all) k
     at false k = k
@@ -53,9 +55,9 @@ AgreeFor-with_entry e es told lit all own =
     let high : List PlainEntry = filter (λ x. nat_lt e.thread x.thread) es in
     let both : offers_of (low ++ e ∷ high) ≡ offers_of low ++ offers_of (e ∷ high) = flat_map-append (λ (x : PlainEntry). leaves_from x.thread 0 (bases x.group)) low (e ∷ high) in
     subst (All P) (sym both)
-        (All-append P (offers_of low) (offers_of (e ∷ high)) (kept P (λ x. nat_lt x.thread e.thread) es all)
-            (All-append P (leaves_from e.thread 0 (bases e.group)) (offers_of high)
-                (of_leaves (λ b. is_told told (light b) ≡ is_told lit (light b)) e.thread 0 (bases e.group) own) (kept P (λ x. nat_lt e.thread x.thread) es all)))
+    (All-append P (offers_of low) (offers_of (e ∷ high)) (kept P (λ x. nat_lt x.thread e.thread) es all)
+    (All-append P (leaves_from e.thread 0 (bases e.group)) (offers_of high)
+    (of_leaves (λ b. is_told told (light b) ≡ is_told lit (light b)) e.thread 0 (bases e.group) own) (kept P (λ x. nat_lt e.thread x.thread) es all)))
 
 -- the two say the same of each light that a leaf of the group that comes, if one does, waits for
 abbrev pub AgreeForCame : Option (Tid × Bor PlainGroup) → (Light → Bool) → (Light → Bool) → Type 0

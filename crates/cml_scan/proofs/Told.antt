@@ -2,7 +2,7 @@
 use Rattle.std.proofs.Common.{◌≡◌, Bool, ◌||◌, List, [], ◌∷◌, ◌++◌, map, cond, slice_index_or, refl, ap, sym, ◌∙◌}
 use Rattle.std.specs.Prelude.{All, Option, Some, None}
 use Rattle.std.specs.List.{filter, flat_map}
-use Rattle.std.proofs.lemmas.List.Elements.{All-head, All-tail, filter_agree}
+use Rattle.std.proofs.lemmas.List.Elements.{All-head, All-tail}
 use Rattle.cml_value.specs.Value.{PlainBase, always, send, recv, iget, mtake, mget, mswap, mail_recv, port_recv, join, at_tick, after_ticks, nack}
 use Rattle.cml_scan.specs.World.{PlainWorld, PlainEntry, pending}
 use Rattle.cml_scan.specs.Light.{lit, light, light_of, is_always, is_told, lit_by}

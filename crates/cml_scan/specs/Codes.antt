@@ -1,7 +1,7 @@
 -- A code of the world: a tree of numbers from which it can be read back. The toolchain asks for one; no rule speaks of it.
 use Rattle.std.specs.Prelude.{◌≡◌, ℕ, List, Option, refl}
 use Rattle.std.specs.Coded.{Coded, code_by, coded×, coded_list, coded_option, coded_ℕ}
-use base.Stored.{Gv, gnil, gnum, gcons}
+use base.Stored.{Gv, gnum, gcons}
 use Rattle.cml_value.specs.Value.{PlainValue, PlainBase}
 use Rattle.cml_value.specs.Codes.{value_code, base_code}
 use Rattle.cml_value.specs.GroupCodes.{group_code}

@@ -1,5 +1,5 @@
 -- Which communications Concurrent ML allows, said of one row at a time, by what the threads wait on.
-use Rattle.std.specs.Prelude.{ℕ, ◌≡◌, ◌≢◌, Bool, true, List, [], ◌∷◌, Option, Some, None, slice_get}
+use Rattle.std.specs.Prelude.{ℕ, ◌≡◌, ◌≢◌, true, Option, Some, None, slice_get}
 use Rattle.cml_value.specs.Value.{PlainValue, PlainBase, send, recv}
 use Rattle.cml_value.specs.Group.{bases}
 use Rattle.cml_value.specs.declared.number.Tid.{Tid}

@@ -1,5 +1,5 @@
 -- What a table of communications was told, and how a change alters it.
-use Rattle.std.specs.Prelude.{ℕ, ◌≡◌, ◌≢◌, ◌==◌, Bool, true, false, if◌then◌else◌, not, ◌&&◌, nat_lt, List, [], ◌∷◌, ◌++◌, map, filter, Option, Some, None, All, Any, Contains}
+use Rattle.std.specs.Prelude.{ℕ, ◌≡◌, ◌≢◌, ◌==◌, Bool, true, false, if◌then◌else◌, not, nat_lt, List, ◌∷◌, ◌++◌, filter, Option, Some, None, All, Any, Contains}
 use Rattle.std.specs.List.{list_any, flat_map}
 use Rattle.std.specs.Borrow.{Bor}
 use Rattle.cml_value.specs.Group.{PlainGroup, scopes, nacks_of}

@@ -1,9 +1,10 @@
 //! Laws of the definitions, each a function that does nothing and whose contract is the law.
 
-ghost use Rattle.std.specs.Prelude.{◌≡◌, ◌≢◌, ◌↔◌, ◌<◌, ℕ, Bool, not, map, filter, ◌++◌, List, IsTrue, All, Any, AllPairs, Contains};
+ghost use Rattle.std.specs.Prelude.{◌≡◌, ◌≢◌, ◌↔◌, ◌<◌, ℕ, Bool, not, map, filter, ◌++◌, List};
+ghost use Rattle.std.specs.Prelude.{IsTrue, Any, AllPairs, Contains};
 ghost use Rattle.cml_value.specs.Value.{PlainValue, PlainBase, send};
 ghost use Rattle.cml_value.specs.declared.number.Tid.{Tid};
-ghost use Rattle.cml_scan.specs.World.{PlainWorld, PlainEntry, pending};
+ghost use Rattle.cml_scan.specs.World.{PlainWorld, pending};
 ghost use Rattle.cml_scan.specs.Light.{lit, light_of, lit_by};
 ghost use Rattle.cml_scan.specs.Scan.{PlainOffer, offers_of, pair, scan, scan_of, place_of, heads, partners, names};
 ghost use Rattle.cml_scan.specs.Table.{without, TellsLights};
@@ -16,81 +17,71 @@ ghost use Rattle.cml_scan.specs.declared.meet.Place.{Place};
 /// A row is in the scan exactly where its leaves are enabled.
 pub fn scan_lists_what_is_enabled()
     ensures { (w : PlainWorld) (row : Meet) → Contains (scan w) row ↔ IsEnabled w row }
-{
-}
+{}
 
 /// Each row of the scan stands once.
 pub fn scan_lists_each_row_once()
     ensures { (w : PlainWorld) → AllPairs (λ r s. r ≢ s) (scan w) }
-{
-}
+{}
 
 /// The rows of the scan stand in order.
 pub fn scan_is_in_order()
     ensures { (w : PlainWorld) → AllPairs (λ r s. IsTrue (row_before r s)) (scan w) }
-{
-}
+{}
 
-/// The heads are the places that begin a row; they stand in the order of their first rows, and so each stands once.
+/// The heads are the places that begin a row; they stand in the order of their first rows, and so
+/// each stands once.
 pub fn heads_begin_the_rows()
-    ensures members { (w : PlainWorld) (p : Place) → Contains (heads w) p ↔ Any (λ row. place_of row ≡ p) (scan w) }
-    ensures order { (w : PlainWorld) → AllPairs (λ p q. first_row p (scan w) < first_row q (scan w)) (heads w) }
-{
-}
+    ensures members { (w : PlainWorld) (p : Place) →
+        Contains (heads w) p ↔ Any (λ row. place_of row ≡ p) (scan w) }
+    ensures order { (w : PlainWorld) →
+        AllPairs (λ p q. first_row p (scan w) < first_row q (scan w)) (heads w) }
+{}
 
 /// The partners of a head are the rows that it begins, in order.
 pub fn partners_are_the_rows_of_a_head()
-    ensures members {
-        (w : PlainWorld) (p : Place) (row : Meet) → Contains (partners w p) row ↔ (Contains (scan w) row × (place_of row ≡ p))
-    }
-    ensures order { (w : PlainWorld) (p : Place) → AllPairs (λ r s. IsTrue (row_before r s)) (partners w p) }
-{
-}
+    ensures members { (w : PlainWorld) (p : Place) (row : Meet) →
+        Contains (partners w p) row ↔ (Contains (scan w) row × (place_of row ≡ p)) }
+    ensures order { (w : PlainWorld) (p : Place) →
+        AllPairs (λ r s. IsTrue (row_before r s)) (partners w p) }
+{}
 
 /// The scan depends on the pending groups and the lights alone.
 pub fn scan_depends_on_groups_and_lights()
-    ensures {
-        (v w : PlainWorld) → pending v ≡ pending w → ((l : Light) → light_of v l ≡ light_of w l) → scan v ≡ scan w
-    }
-{
-}
+    ensures { (v w : PlainWorld) →
+        pending v ≡ pending w → ((l : Light) → light_of v l ≡ light_of w l) → scan v ≡ scan w }
+{}
 
 /// After some threads leave, the scan is the old one without the rows that name them.
 pub fn scan_after_threads_leave()
-    ensures {
-        (gone : List Tid) (v w : PlainWorld) → pending w ≡ without gone (pending v) → ((l : Light) → light_of w l ≡ light_of v l) →
-            scan w ≡ filter (λ row. not (names gone row)) (scan v)
-    }
-{
-}
+    ensures { (gone : List Tid) (v w : PlainWorld) →
+        pending w ≡ without gone (pending v) → ((l : Light) → light_of w l ≡ light_of v l) →
+        scan w ≡ filter (λ row. not (names gone row)) (scan v) }
+{}
 
 /// The partners of a leaf that sends are the receives of its channel in other threads, by thread and leaf.
 pub fn partners_of_a_send()
-    ensures {
-        (w : PlainWorld) (head : PlainOffer) (c : ℕ) (v : PlainValue) → Contains (offers_of (pending w)) head → head.base ≡ send c v →
-            partners w (place head) ≡ map (pair head) (filter (can_take head.thread c) (offers_of (pending w)))
-    }
-{
-}
+    ensures { (w : PlainWorld) (head : PlainOffer) (c : ℕ) (v : PlainValue) →
+        Contains (offers_of (pending w)) head → head.base ≡ send c v →
+        partners w (place head)
+        ≡ map (pair head) (filter (can_take head.thread c) (offers_of (pending w))) }
+{}
 
 /// The heads are the lit leaves, and then the sends that have a partner.
 pub fn heads_are_lit_leaves_and_sends()
-    ensures {
-        (w : PlainWorld) → let leaves = offers_of (pending w) in
-            heads w ≡ map place (filter (λ o. lit w o.base) leaves) ++ map place (filter (has_partner leaves) leaves)
-    }
-{
-}
+    ensures { (w : PlainWorld) → let leaves = offers_of (pending w) in
+        heads w ≡ map place (filter (λ o. lit w o.base) leaves)
+        ++ map place (filter (has_partner leaves) leaves) }
+{}
 
 /// A base event is lit where it is always, or where its light is lit.
 pub fn lit_by_its_light()
     ensures { (w : PlainWorld) (b : PlainBase) → lit w b ≡ lit_by (light_of w) b }
-{
-}
+{}
 
-/// The scan of what a table was told is the scan of the world, wherever it was told of the pending threads and of each light that
-/// one of their leaves waits for.
+/// The scan of what a table was told is the scan of the world, wherever it was told of the pending
+/// threads and of each light that one of their leaves waits for.
 pub fn scan_of_what_was_told()
-    ensures { (w : PlainWorld) (told : Light → Bool) → TellsLights w told → scan_of (pending w) told ≡ scan w }
-{
-}
+    ensures { (w : PlainWorld) (told : Light → Bool) →
+        TellsLights w told → scan_of (pending w) told ≡ scan w }
+{}

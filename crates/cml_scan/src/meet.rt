@@ -25,7 +25,9 @@ pub enum Meet {
 /// A leaf of a thread.
 #[derive(Clone, Copy, Debug, PartialEq, Eq)]
 pub struct Place {
+    /// The thread.
     pub tid: Tid,
+    /// The leaf's number, from the left, from 0.
     pub leaf: u32,
 }
 
@@ -60,6 +62,6 @@ impl Place {
     pub fn same(&self, other: &Place) -> bool
         ensures { result ≡ spec.same_place self.now other.now }
     {
-        self == other
+        self.tid == other.tid && self.leaf == other.leaf
     }
 }

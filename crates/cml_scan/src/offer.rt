@@ -13,8 +13,11 @@ use std::marker::Model;
 /// A leaf of a pending thread, with its base event.
 #[derive(Debug, Drop)]
 pub struct Offer {
+    /// The thread.
     pub tid: Tid,
+    /// The leaf's number, from the left, from 0.
     pub leaf: u32,
+    /// What it waits for.
     pub base: Base,
 }
 
@@ -76,7 +79,8 @@ pub fn push_offers(
     tid: Tid,
     group: &Group,
 ) -> Result<(), AllocError>
-    ensures { IfOk result (λ _. offers.new.items ≡ offers.old.items ++ leaves_from tid.0 0 (bases group.now)) }
+    ensures { IfOk result
+        (λ _. offers.new.items ≡ offers.old.items ++ leaves_from tid.0 0 (bases group.now)) }
 {
     let bases = leaf_bases(alloc, group)?;
     for (leaf, base) in bases.iter().enumerate() {

@@ -96,7 +96,8 @@ fn push_pairs(rows: &mut Vec<Meet>, head: &Offer, offers: &[Offer]) -> Result<()
 /// # Errors
 /// Want of memory.
 pub fn rows<L: Lights>(alloc: Global, offers: &[Offer], lights: &L) -> Result<Vec<Meet>, AllocError>
-    ensures { IfOk result (λ rows. rows.items ≡ spec.rows_of (light_spec.lit_by (L.is_lit lights.now)) offers.now) }
+    ensures { IfOk result
+        (λ rows. rows.items ≡ spec.rows_of (light_spec.lit_by (L.is_lit lights.now)) offers.now) }
 {
     let mut rows = Vec::new(alloc);
     for offer in offers {

@@ -31,6 +31,7 @@ pub enum NackState {
 /// The state of all threads and objects, each by its number.
 #[derive(Debug, Drop)]
 pub struct World {
+    /// What each thread does.
     pub threads: Vec<ThreadState>,
     /// How many channels there are.
     pub channels: u32,
@@ -44,6 +45,7 @@ pub struct World {
     pub mchans: Vec<Vec<PortId>>,
     /// The unread messages of each port, the first to be taken first.
     pub ports: Vec<Vec<Value>>,
+    /// What has become of each nack.
     pub nacks: Vec<NackState>,
     /// The time now.
     pub tick: u64,

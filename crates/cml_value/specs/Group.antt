@@ -32,7 +32,8 @@ abbrev pub wrapped_by : PlainFunction → PlainLeaf → PlainLeaf
 wrapped_by f l = record { base = l.base; wraps = l.wraps ++ f ∷ [] }
 
 abbrev mutual
-  -- the leaves from the left, which are numbered from 0: never has none, and choose offers those of all its members
+  -- the leaves from the left, which are numbered from 0: never has none, choose offers those of all its members, and a scope
+  -- those of the event in it (Reppy's never, choose and wrap)
   pub leaves : PlainGroup → List PlainLeaf
   leaves never = []
   leaves (leaf b) = record { base = b; wraps = [] } ∷ []
@@ -79,7 +80,7 @@ scopes g = scopes_from 0 g
 abbrev pub nacks_of : List PlainScope → List ℕ
 nacks_of ss = map (λ s. s.nack) ss
 
--- the leaf of this number does not lie in the scope; none lies in a scope without leaves
+-- the leaf of this number does not lie in the scope; none lies in a scope without leaves, so such a nack fires at each choice
 abbrev pub lies_outside : ℕ → PlainScope → Bool
 lies_outside n s = nat_lt n s.first || nat_le s.past n
 

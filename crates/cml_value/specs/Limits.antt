@@ -3,8 +3,8 @@ use Rattle.std.specs.Prelude.{ℕ, ◌+◌, max, Bool, nat_le, ◌&&◌}
 use Rattle.cml_value.specs.Value.{PlainValue, pair, event, PlainValues, no_values, values_and, PlainFunction, function}
 use Rattle.cml_value.specs.Value.{PlainBase, always, send, mswap, PlainEvent, never, leaf, choose, wrap, guard, with_nack, scope, PlainEvents, no_events, events_and}
 
--- The depth: 1 for what has no parts, else one more than the deepest part. An event value counts as its event, a leaf
--- as its base event, and a function as the values that it has captured.
+-- The depth: 1 for what has no parts, as a choice of nothing, else one more than the deepest part. An event value counts as its
+-- event, a leaf as its base event, and a function as the values that it has captured.
 abbrev mutual
   pub value_depth : PlainValue → ℕ
   value_depth (pair a b) = max (value_depth a) (value_depth b) + 1
@@ -75,7 +75,7 @@ abbrev mutual
 abbrev pub is_within : ℕ → ℕ → ℕ → ℕ → Bool
 is_within depth_limit node_limit depth nodes = nat_le depth depth_limit && nat_le nodes node_limit
 
--- no deeper than 64, and of no more than 65,536 nodes
+-- no deeper than 64, and of no more than 65,536 nodes: what this runtime takes in (Concurrent ML has no such limit)
 abbrev pub value_fits : PlainValue → Bool
 value_fits v = is_within 64 65536 (value_depth v) (value_nodes v)
 

@@ -24,6 +24,8 @@ shown_truth false = codes "false"
 abbrev pub shown_number : List ℕ → ℕ → List ℕ
 shown_number kind n = codes "(" ++ kind ++ codes " " ++ decimal n ++ codes ")"
 
+-- a number is written in decimal, with a minus sign where it is negative, a pair with both its parts, and an event by that
+-- word alone, whatever is in it
 abbrev pub shown : PlainValue → List ℕ
 shown unit = codes "()"
 shown (int z) = signed_decimal z

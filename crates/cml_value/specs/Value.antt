@@ -2,7 +2,8 @@
 use Rattle.std.specs.Prelude.{ℕ, ℤ, Bool, List, [], ◌∷◌}
 
 mutual
-  -- a value of a program: a text by its UTF-8 bytes, a thread or an object by its number
+  -- a value of a program: a text by its UTF-8 bytes; by its number a thread, a channel, an I-variable, an M-variable, a mailbox,
+  -- a multicast channel (mchan) or a port of one
   pub data PlainValue : Type 0 where
     unit : PlainValue
     int : ℤ → PlainValue
@@ -44,8 +45,9 @@ mutual
     after_ticks : ℕ → PlainBase
     nack : ℕ → PlainBase
 
-  -- an event as a program builds it, where a guard and a withNack still wait for their function to be called;
-  -- a scope is a withNack whose function was called with the nack of this number
+  -- an event as a program builds it, where a guard and a withNack still wait for their function to be called (Reppy's never,
+  -- choose, wrap, guard and withNack). A scope is what a withNack becomes once its function was called with the nack of this
+  -- number: the event that the function answered, which is the branch of that nack.
   pub data PlainEvent : Type 0 where
     never : PlainEvent
     leaf : PlainBase → PlainEvent

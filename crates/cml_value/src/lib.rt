@@ -5,6 +5,8 @@
 
 mod group;
 mod number;
+#[cfg(test)]
+mod tests;
 mod value;
 
 pub use group::{Group, GroupKind};

@@ -23,18 +23,31 @@ pub struct Value {
 #[cycle(value)]
 #[derive(Debug, Drop)]
 pub enum ValueKind {
+    /// The value that says nothing.
     Unit,
+    /// A number.
     Int(i64),
+    /// A truth value.
     Bool(bool),
+    /// A text.
     Text(ArcStr),
+    /// A pair.
     Pair(Arc<(Value, Value)>),
+    /// A thread.
     Thread(Tid),
+    /// A channel.
     Chan(ChanId),
+    /// An I-variable.
     IVar(IVarId),
+    /// An M-variable.
     MVar(MVarId),
+    /// A mailbox.
     Mailbox(MboxId),
+    /// A multicast channel.
     Mchan(McastId),
+    /// A port of a multicast channel.
     Port(PortId),
+    /// An event.
     Event(Arc<Event>),
 }
 

@@ -1,4 +1,4 @@
-use Rattle.std.proofs.Common.{◌≡◌, ◌+◌, ◌≤◌, ◌++◌, drop, filter, length}
+use Rattle.std.proofs.Common.{◌≡◌, ◌≤◌, ◌++◌, drop, filter, length}
 use Rattle.std.specs.Vec.{vec_capacity}
 use Rattle.cml_value.specs.Group.{lies_outside, nacks_of}
 use Rattle.cml_group.specs.Leaves.{numbers}

@@ -1,4 +1,4 @@
-use Rattle.std.proofs.Common.{◌≡◌, ◌≤◌, ◌++◌, map, take, drop, length}
+use Rattle.std.proofs.Common.{◌≡◌, ◌++◌, map, take, drop, length}
 use Rattle.cml_value.specs.Group.{wrapped_by}
 use Rattle.cml_group.proofs.lay.wrap_from.Given as goal
 

@@ -1,5 +1,5 @@
-use Rattle.std.proofs.Common.{rules, ◌≡◌, ap, arith, ◌∙◌, ◌<◌}
-use Rattle.cml_value.specs.Group.{PlainGroup, choose, groups}
+use Rattle.std.proofs.Common.{◌≡◌, ap, arith, ◌∙◌, ◌<◌}
+use Rattle.cml_value.specs.Group.{choose, groups}
 use Rattle.cml_value.specs.GroupHeights.{group_height, groups_height}
 use Rattle.cml_scan.proofs.Heights.{member_below}
 use Rattle.cml_scan.proofs.offer.+push_bases.Goals as goal

@@ -1,0 +1,14 @@
+pub mod WordLemmas
+pub mod LiteralLemmas
+pub mod BeginLemmas
+pub mod NestLemmas
+pub mod TextLemmas
+pub mod ReadLemmas
+pub mod AnswerLemmas
+pub mod PrintLemmas
+pub mod PrintedLemmas
+pub mod LexPrintedLemmas
+pub mod RoundLemmas
+pub mod WholeLemmas
+pub mod CutLemmas
+pub mod SpanLemmas

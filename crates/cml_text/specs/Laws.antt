@@ -1,0 +1,28 @@
+-- What holds of every text.
+use Rattle.std.specs.Prelude.{◌≡◌, ℕ, ◌≤◌, None, List, length}
+use Rattle.cml_text.specs.Forms.{PlainSexpr, plain_forms, all_without_spans}
+use Rattle.cml_text.specs.Limits.{AreWithinLimits}
+use Rattle.cml_text.specs.Printed.{printed}
+use Rattle.cml_text.specs.Spans.{AreAtSpans}
+use Rattle.cml_text.specs.Texts.{Spells, fault_of}
+
+-- a text spells at most one list of forms, spans included
+abbrev pub SpellsOneAtMost : Type 0
+SpellsOneAtMost = (text : List ℕ) (forms others : List PlainSexpr) → Spells text forms → Spells text others → forms ≡ others
+
+-- a text that spells forms has no fault
+abbrev pub SpelledHasNoFault : Type 0
+SpelledHasNoFault = (text : List ℕ) (forms : List PlainSexpr) → Spells text forms → fault_of text ≡ None
+
+-- each form of a text, also inside lists, is spelled by the slice at its span
+abbrev pub EachAtItsSpan : Type 0
+EachAtItsSpan = (text : List ℕ) (forms : List PlainSexpr) → Spells text forms → AreAtSpans text (plain_forms forms)
+
+-- and a text that has no fault spells forms
+abbrev pub SpelledOrFaulty : Type 0
+SpelledOrFaulty = (text : List ℕ) → fault_of text ≡ None → (forms : List PlainSexpr) × Spells text forms
+
+-- what is printed of forms within the limits, if it is not too long, spells these forms, spans aside
+abbrev pub PrintedIsRead : Type 0
+PrintedIsRead = (forms : List PlainSexpr) → AreWithinLimits forms → length (printed forms) ≤ 1048576 →
+    (found : List PlainSexpr) × Spells (printed forms) found × (all_without_spans (plain_forms found) ≡ all_without_spans (plain_forms forms))

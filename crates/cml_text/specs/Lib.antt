@@ -1,0 +1,15 @@
+pub mod Faults
+pub mod Forms
+pub mod FormCodes
+pub mod FormFalls
+pub mod FormViews
+pub mod Lexemes
+pub mod Shapes
+pub mod Texts
+pub mod Steps
+pub mod Nests
+pub mod Answers
+pub mod Laws
+pub mod Printed
+pub mod Limits
+pub mod Spans
