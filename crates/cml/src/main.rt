@@ -1,0 +1,50 @@
+//! The program: `cml` with the real input, output, errors and files.
+#![tactic(auto)]
+
+use cml_host::input_output::{ReadFault, read_all};
+use cml_host::{Store, StoreFault, run_command};
+use std::alloc::Global;
+use std::process::ExitCode;
+use std::rt::Files;
+use std::{env, fs, io};
+
+/// The files of the system.
+#[derive(Drop)]
+struct Disk<'a, R: Files> {
+    rt: &'a R,
+}
+
+impl<'a, R: Files> Store for Disk<'a, R> {
+    fn load(&mut self, alloc: Global, name: &str, limit: usize) -> Result<Vec<u8>, StoreFault> {
+        let Ok(mut file) = fs::open(self.rt, name) else {
+            return Err(StoreFault::Refused);
+        };
+        match read_all(alloc, &mut file, limit, u64::MAX) {
+            Ok(bytes) => Ok(bytes),
+            Err(ReadFault::Memory) => Err(StoreFault::Memory),
+            Err(ReadFault::Read | ReadFault::Turns) => Err(StoreFault::Refused),
+        }
+    }
+
+    fn save(&mut self, name: &str, bytes: &[u8]) -> Result<(), StoreFault> {
+        match fs::write(self.rt, name, bytes) {
+            Ok(()) => Ok(()),
+            Err(_) => Err(StoreFault::Refused),
+        }
+    }
+}
+
+fn main(rt: HostRuntime) -> io::Result<ExitCode> {
+    let alloc = rt.alloc();
+    let words: Vec<String> = env::args(&rt)?.collect(alloc)?;
+    let mut store = Disk { rt: &rt };
+    let status = run_command(
+        alloc,
+        words.as_slice(),
+        &mut rt.stdin(),
+        &mut rt.stdout(),
+        &mut rt.stderr(),
+        &mut store,
+    );
+    Ok(ExitCode::from(status))
+}

@@ -1,0 +1,396 @@
+-- The parties of a row that is in the table, and what taking it does.
+use Rattle.std.proofs.Common.{◌≡◌, ◌≢◌, ℕ, ◌+◌, ◌*◌, ◌<◌, ◌≤◌, Bool, true, false, not, ◌||◌, nat_eq, cond, List, [], ◌∷◌, ◌++◌, length, map, refl, ap, sym, subst, ◌∙◌, arith, zero, suc, Option, Some, None, Ok, Err, slice_index_or, zero-add}
+use Rattle.std.specs.Prelude.{All, Any, AllPairs, Contains, slice_get, slice_set}
+use Rattle.std.specs.List.{filter, list_any, flat_map}
+use Rattle.std.specs.Option.{option_copied, option_and_then}
+use Rattle.std.specs.Borrow.{Bor}
+use Rattle.cml_book.specs.Threads.{flat_of}
+use Rattle.std.proofs.lemmas.Bool.Decides.{nat_tests}
+use Rattle.std.proofs.lemmas.List.{length-map}
+use Rattle.std.proofs.lemmas.List.Elements.{All-nil, All-cons, All-head, All-tail, All-map, All-weaker, Contains-append_left, Contains-append_right}
+use Rattle.cml_value.specs.Value.{PlainValue, unit, PlainBase, always, send, recv, iget, mtake, mget, mswap, mail_recv, port_recv, join, at_tick, after_ticks, nack, PlainFunction}
+use Rattle.cml_value.specs.Group.{PlainGroup, PlainLeaf, PlainScope, leaves, leaf_count, bases, scopes, nacks_of, lies_outside, fired as fired_nacks}
+use Rattle.cml_value.specs.declared.number.Tid.{Tid}
+use Rattle.cml_group.specs.Leaves.{pick}
+use Rattle.cml_scan.specs.World.{PlainThread, running, pending_on, ended, PlainNack, PlainWorld, PlainEntry, pending, pending_from}
+use Rattle.cml_scan.specs.Light.{light_of}
+use Rattle.cml_scan.specs.Scan.{scan, scan_of, has_row, is_among}
+use Rattle.cml_scan.specs.Table.{IsThere, without, lit_after, TellsLights, nacks_among, IsNackOf}
+use Rattle.cml_scan.specs.Enabled.{leaf_of, IsEnabled}
+use Rattle.cml_scan.specs.declared.object.Light.{Light}
+use Rattle.cml_scan.specs.declared.meet.Meet.{Meet}
+use Rattle.cml_scan.specs.declared.meet.Meet.TheVariants.{Single, Pair}
+use Rattle.cml_scan.proofs.Told.{scan_of-told}
+use Rattle.cml_scan.proofs.Enabling.{scan-members, Contains-has_row}
+use Rattle.cml_book.specs.Step.{group_of, base_at, commit, after, hands, given, taken, settled, released, resume, sent, times_named}
+use Rattle.cml_book.specs.Keeping.{world_of, Keeps, AreLive, nack_light}
+use Rattle.cml_book.specs.Parties.{WaitsOn, given_alone}
+use Rattle.cml_book.specs.Resumes.{PlainResume}
+use Rattle.cml_book.specs.declared.command.Committed.{Committed}
+use Rattle.cml_book.specs.declared.refusal.Refusal.TheVariants as refusal
+use Rattle.cml_book.proofs.NackLemmas.{nacks-resume, get-set_other}
+use Rattle.cml_book.proofs.Pendings.{without_two}
+use Rattle.cml_book.proofs.Retold.{lit_more}
+use Rattle.cml_book.proofs.Keepings.{keeps_same, keeps_resume}
+
+-- where the row is in the table, it is taken
+pub commit_is : (w : PlainWorld) (row : Meet) → has_row (scan w) row ≡ true → commit w row ≡ Ok (after w row, hands w row)
+commit_is w row h = rw h refl
+
+-- what the table shows is the scan
+pub scan_is : (w : PlainWorld) (es : List PlainEntry) (told : Light → Bool) (room : ℕ) → Keeps w es told room → scan_of es told ≡ scan w
+scan_is w es told room k = ap (λ xs. scan_of xs told) k.told_groups ∙ scan_of-told w told k.told_lights
+
+-- what holds of a pending thread's entry
+entry_at : (P : PlainEntry → Type 0) (n i : ℕ) (ts : List PlainThread) (g : PlainGroup) → slice_get ts i ≡ Some (pending_on g) → All P (pending_from n ts) → P (record { thread = n + i; group = g })
+entry_at P n i [] g h all = cc
+entry_at P n zero (running ∷ ts) g h all = cc
+entry_at P n zero (pending_on x ∷ ts) g h all =
+    let same : x ≡ g = cc in
+    let number : n + zero ≡ n = omega arith in
+    rw (number, ← same) (All-head P (record { thread = n; group = x }) (pending_from (n + 1) ts) all)
+entry_at P n zero (ended ∷ ts) g h all = cc
+entry_at P n (suc i) (running ∷ ts) g h all = let number : n + suc i ≡ (n + 1) + i = omega arith in rw number (entry_at P (n + 1) i ts g h all)
+entry_at P n (suc i) (pending_on x ∷ ts) g h all =
+    let number : n + suc i ≡ (n + 1) + i = omega arith in
+    rw number (entry_at P (n + 1) i ts g h (All-tail P (record { thread = n; group = x }) (pending_from (n + 1) ts) all))
+entry_at P n (suc i) (ended ∷ ts) g h all = let number : n + suc i ≡ (n + 1) + i = omega arith in rw number (entry_at P (n + 1) i ts g h all)
+
+-- a pending thread is there
+thread_at : (n i : ℕ) (ts : List PlainThread) (g : PlainGroup) → slice_get ts i ≡ Some (pending_on g) → (k : ℕ) × (e : PlainEntry) × (k < length (pending_from n ts)) × (slice_index_or (pending_from n ts) k e ≡ e) × (e.thread ≡ n + i)
+thread_at n i [] g h = cc
+thread_at n zero (running ∷ ts) g h = cc
+thread_at n zero (pending_on x ∷ ts) g h = (0, record { thread = n; group = x }, omega arith, refl, omega arith)
+thread_at n zero (ended ∷ ts) g h = cc
+thread_at n (suc i) (running ∷ ts) g h = let t = thread_at (n + 1) i ts g h in (t.0, t.1, t.2, t.3, t.4 ∙ omega arith)
+thread_at n (suc i) (pending_on x ∷ ts) g h = let t = thread_at (n + 1) i ts g h in (suc t.0, t.1, omega (arith, t.2), t.3, t.4 ∙ omega arith)
+thread_at n (suc i) (ended ∷ ts) g h = let t = thread_at (n + 1) i ts g h in (t.0, t.1, t.2, t.3, t.4 ∙ omega arith)
+
+-- a party of an enabled row: it waits on a group that has the leaf
+pub record Party (ts : List PlainThread) (ns : List PlainNack) (es : List PlainEntry) (room t n : ℕ) (b : PlainBase) : Type 0 where
+  pub group : PlainGroup
+  pub leaf : PlainLeaf
+  pub waits : slice_get ts t ≡ Some (pending_on group)
+  pub picked : pick group n ≡ Some leaf
+  pub base_is : leaf.base ≡ b
+  pub within : n < leaf_count group
+  pub alive : AreLive (nacks_of (scopes group)) ns
+  pub fits : 2 * length (scopes group) ≤ room
+
+pick_at : (ls : List PlainLeaf) (n : ℕ) (b : PlainBase) → slice_get (map (λ l. l.base) ls) n ≡ Some b → (l : PlainLeaf) × (slice_get ls n ≡ Some l) × (l.base ≡ b) × (n < length ls)
+pick_at [] n b h = cc
+pick_at (l ∷ ls) zero b h = (l, refl, cc, omega arith)
+pick_at (l ∷ ls) (suc n) b h = let p = pick_at ls n b h in (p.0, p.1, p.2, omega (arith, p.3))
+
+pub party_of : (ts : List PlainThread) (c : ℕ) (ns : List PlainNack) (tick : ℕ) (es : List PlainEntry) (told : Light → Bool) (room t n : ℕ) (b : PlainBase) → Keeps (world_of ts c ns tick) es told room
+    → leaf_of (slice_get ts t) n ≡ Some b → Party ts ns es room t n b
+party_of ts c ns tick es told room t n b k h = at (slice_get ts t) refl h
+  where
+    at : (o : Option PlainThread) → slice_get ts t ≡ o → leaf_of o n ≡ Some b → Party ts ns es room t n b
+    at None e h = cc
+    at (Some running) e h = cc
+    at (Some (pending_on g)) e h =
+        let p = pick_at (leaves g) n b h in
+        record {
+          group = g;
+          leaf = p.0;
+          waits = e;
+          picked = p.1;
+          base_is = p.2;
+          within = p.3;
+          alive = record { each = λ j. let a = nacks-resume j 0 t ts g e in let l = k.nacks_live j in omega arith };
+          fits = entry_at (λ x. 2 * length (scopes x.group) ≤ room) 0 t ts g e (rw (← k.told_groups) k.roomy);
+        }
+    at (Some ended) e h = cc
+
+pub single_party : (ts : List PlainThread) (c : ℕ) (ns : List PlainNack) (tick : ℕ) (es : List PlainEntry) (told : Light → Bool) (room : ℕ) (t : Tid) (n : ℕ) → Keeps (world_of ts c ns tick) es told room
+    → has_row (scan (world_of ts c ns tick)) (Single t n) ≡ true → (b : PlainBase) × Party ts ns es room t.0 n b
+single_party ts c ns tick es told room t n k h =
+    let e = (scan-members (world_of ts c ns tick) (Single t n)).0 (Contains-has_row (scan (world_of ts c ns tick)) (Single t n) h) in
+    (e.0, party_of ts c ns tick es told room t.0 n e.0 k e.1)
+
+-- the two parties of a pair, which differ
+pub record Parties (ts : List PlainThread) (ns : List PlainNack) (es : List PlainEntry) (room : ℕ) (h : Tid) (i : ℕ) (o : Tid) (j : ℕ) : Type 0 where
+  pub channel : ℕ
+  pub value : PlainValue
+  pub sender : Party ts ns es room h.0 i (send channel value)
+  pub receiver : Party ts ns es room o.0 j (recv channel)
+  pub differ : h.0 ≢ o.0
+
+pub pair_parties : (ts : List PlainThread) (c : ℕ) (ns : List PlainNack) (tick : ℕ) (es : List PlainEntry) (told : Light → Bool) (room : ℕ) (h : Tid) (i : ℕ) (o : Tid) (j : ℕ) → Keeps (world_of ts c ns tick) es told room
+    → has_row (scan (world_of ts c ns tick)) (Pair h i o j) ≡ true → Parties ts ns es room h i o j
+pair_parties ts c ns tick es told room h i o j k has =
+    let e = (scan-members (world_of ts c ns tick) (Pair h i o j)).0 (Contains-has_row (scan (world_of ts c ns tick)) (Pair h i o j) has) in
+    record {
+      channel = e.0;
+      value = e.1;
+      sender = party_of ts c ns tick es told room h.0 i (send e.0 e.1) k e.2;
+      receiver = party_of ts c ns tick es told room o.0 j (recv e.0) k e.3;
+      differ = e.4;
+    }
+
+-- the group that a call finds
+pub waiting_is : (r : Option (Bor PlainGroup)) (ts ts' : List PlainThread) (t : ℕ) (g : PlainGroup) → option_copied r ≡ option_and_then flat_of (slice_get ts' t) → ts' ≡ ts → slice_get ts t ≡ Some (pending_on g)
+    → option_copied r ≡ Some g
+waiting_is r ts ts' t g e same waits = e ∙ rw same (rw waits refl)
+
+pub flat_is : (r : Option (Bor PlainGroup)) (f : Bor PlainGroup) (g : PlainGroup) → option_copied r ≡ Some g → r ≡ Some f → f.now ≡ g
+flat_is r f g e is = let both : option_copied (Some f) ≡ Some g = rw is at e in cc
+
+pub found : (r : Option (Bor PlainGroup)) (g : PlainGroup) → option_copied r ≡ Some g → r ≡ None → ⊥
+found r g e is = let both = subst (λ (x : Option (Bor PlainGroup)). option_copied x ≡ Some g) is e in cc
+
+-- a pending thread is there
+pub is_there : (ts : List PlainThread) (es : List PlainEntry) (t : Tid) (g : PlainGroup) → slice_get ts t.0 ≡ Some (pending_on g) → es ≡ pending_from 0 ts → IsThere es t
+is_there ts es t g waits same = let a = thread_at 0 t.0 ts g waits in rw same (a.0, a.1, a.2, a.3, a.4 ∙ zero-add t.0)
+
+pub waits_on : (ts : List PlainThread) (ns : List PlainNack) (es : List PlainEntry) (room t n : ℕ) (b : PlainBase) → Party ts ns es room t n b → WaitsOn ts ns t n (group_of (slice_get ts t))
+waits_on ts ns es room t n b p = rw p.waits (record { waits = p.waits; within = p.within; alive = p.alive })
+
+-- there are no variables, mailboxes and ports
+given_is : (ts : List PlainThread) (c : ℕ) (ns : List PlainNack) (tick : ℕ) (b : PlainBase) → given (world_of ts c ns tick) b ≡ given_alone b
+given_is ts c ns tick (always v) = refl
+given_is ts c ns tick (send k v) = refl
+given_is ts c ns tick (recv k) = refl
+given_is ts c ns tick (iget i) = refl
+given_is ts c ns tick (mtake m) = refl
+given_is ts c ns tick (mget m) = refl
+given_is ts c ns tick (mswap m v) = refl
+given_is ts c ns tick (mail_recv x) = refl
+given_is ts c ns tick (port_recv x) = refl
+given_is ts c ns tick (join t) = refl
+given_is ts c ns tick (at_tick t) = refl
+given_is ts c ns tick (after_ticks d) = refl
+given_is ts c ns tick (nack k) = refl
+
+taken_is : (ts : List PlainThread) (c : ℕ) (ns : List PlainNack) (tick : ℕ) (b : PlainBase) → taken (world_of ts c ns tick) b ≡ world_of ts c ns tick
+taken_is ts c ns tick (always v) = refl
+taken_is ts c ns tick (send k v) = refl
+taken_is ts c ns tick (recv k) = refl
+taken_is ts c ns tick (iget i) = refl
+taken_is ts c ns tick (mtake m) = refl
+taken_is ts c ns tick (mget m) = refl
+taken_is ts c ns tick (mswap m v) = refl
+taken_is ts c ns tick (mail_recv x) = refl
+taken_is ts c ns tick (port_recv x) = refl
+taken_is ts c ns tick (join t) = refl
+taken_is ts c ns tick (at_tick t) = refl
+taken_is ts c ns tick (after_ticks d) = refl
+taken_is ts c ns tick (nack k) = refl
+
+released_is : (ts : List PlainThread) (c : ℕ) (ns : List PlainNack) (tick t n : ℕ) (g : PlainGroup) → slice_get ts t ≡ Some (pending_on g)
+    → released (world_of ts c ns tick) t n ≡ world_of (slice_set ts t running) c (settled n (scopes g) ns) tick
+released_is ts c ns tick t n g waits = ap (λ x. world_of (slice_set ts t running) c (settled n (scopes (group_of x)) ns) tick) waits
+
+resume_is : (ts : List PlainThread) (c : ℕ) (ns : List PlainNack) (tick t n : ℕ) (g : PlainGroup) (b : PlainBase) (ws : List PlainFunction) (v : PlainValue) → slice_get ts t ≡ Some (pending_on g) → pick g n ≡ Some (record { base = b; wraps = ws })
+    → resume (world_of ts c ns tick) t n v ≡ record { thread = t; value = v; wraps = ws; fired = fired_nacks g n }
+resume_is ts c ns tick t n g b ws v waits picked = rw waits (rw picked refl)
+
+base_at_is : (ts : List PlainThread) (c : ℕ) (ns : List PlainNack) (tick t n : ℕ) (g : PlainGroup) (b : PlainBase) (ws : List PlainFunction) → slice_get ts t ≡ Some (pending_on g) → pick g n ≡ Some (record { base = b; wraps = ws })
+    → base_at (world_of ts c ns tick) t n ≡ b
+base_at_is ts c ns tick t n g b ws waits picked = rw waits (rw picked refl)
+
+-- what taking a leaf alone gives
+pub single_taken : (ts : List PlainThread) (c : ℕ) (ns : List PlainNack) (tick : ℕ) (t : Tid) (n : ℕ) (g : PlainGroup) (b : PlainBase) (ws : List PlainFunction) → slice_get ts t.0 ≡ Some (pending_on g)
+    → pick g n ≡ Some (record { base = b; wraps = ws }) → has_row (scan (world_of ts c ns tick)) (Single t n) ≡ true
+    → commit (world_of ts c ns tick) (Single t n)
+    ≡ Ok (world_of (slice_set ts t.0 running) c (settled n (scopes g) ns) tick, record { head = record { thread = t.0; value = given_alone b; wraps = ws; fired = fired_nacks g n }; partner = None })
+single_taken ts c ns tick t n g b ws waits picked has =
+    let base : base_at (world_of ts c ns tick) t.0 n ≡ b = base_at_is ts c ns tick t.0 n g b ws waits picked in
+    let world : after (world_of ts c ns tick) (Single t n) ≡ world_of (slice_set ts t.0 running) c (settled n (scopes g) ns) tick
+    = ap (λ w. released w t.0 n) (taken_is ts c ns tick (base_at (world_of ts c ns tick) t.0 n)) ∙ released_is ts c ns tick t.0 n g waits in
+    let value : given (world_of ts c ns tick) (base_at (world_of ts c ns tick) t.0 n) ≡ given_alone b = ap (given (world_of ts c ns tick)) base ∙ given_is ts c ns tick b in
+    let head : PlainResume → Committed = λ r. record { head = r; partner = None } in
+    let handed : hands (world_of ts c ns tick) (Single t n) ≡ record { head = record { thread = t.0; value = given_alone b; wraps = ws; fired = fired_nacks g n }; partner = None }
+    = ap (λ v. head (resume (world_of ts c ns tick) t.0 n v)) value ∙ ap head (resume_is ts c ns tick t.0 n g b ws (given_alone b) waits picked) in
+    commit_is (world_of ts c ns tick) (Single t n) has ∙ ap (λ w. Ok (w, hands (world_of ts c ns tick) (Single t n))) world ∙ ap (λ h. Ok (world_of (slice_set ts t.0 running) c (settled n (scopes g) ns) tick, h)) handed
+
+-- the nacks of a thread that goes are among those of the threads that go
+nack_among : (gone : List Tid) (n i : ℕ) (ts : List PlainThread) (g : PlainGroup) (k : ℕ) → slice_get ts i ≡ Some (pending_on g) → is_among gone (n + i) ≡ true → Contains (nacks_of (scopes g)) k
+    → Contains (nacks_among gone (pending_from n ts)) k
+nack_among gone n i [] g k h goes there = cc
+nack_among gone n zero (running ∷ ts) g k h goes there = cc
+nack_among gone n zero (pending_on x ∷ ts) g k h goes there =
+    let same : x ≡ g = cc in
+    let number : n + zero ≡ n = omega arith in
+    let own : is_among gone n ≡ true = ap (is_among gone) (sym number) ∙ goes in
+    rw own (Contains-append_left (nacks_of (scopes x)) (flat_map (λ e. nacks_of (scopes e.group)) (filter (λ e. is_among gone e.thread) (pending_from (n + 1) ts))) k (rw same there))
+nack_among gone n zero (ended ∷ ts) g k h goes there = cc
+nack_among gone n (suc i) (running ∷ ts) g k h goes there = let number : n + suc i ≡ (n + 1) + i = omega arith in nack_among gone (n + 1) i ts g k h (ap (is_among gone) (sym number) ∙ goes) there
+nack_among gone n (suc i) (pending_on x ∷ ts) g k h goes there =
+    let number : n + suc i ≡ (n + 1) + i = omega arith in
+    at (is_among gone n) (nack_among gone (n + 1) i ts g k h (ap (is_among gone) (sym number) ∙ goes) there)
+  where
+    at : (b : Bool) → Contains (nacks_among gone (pending_from (n + 1) ts)) k
+        → Contains (flat_map (λ e. nacks_of (scopes e.group)) (cond b (record { thread = n; group = x } ∷ filter (λ e. is_among gone e.thread) (pending_from (n + 1) ts)) (filter (λ e. is_among gone e.thread) (pending_from (n + 1) ts)))) k
+    at true ih = Contains-append_right (nacks_of (scopes x)) (nacks_among gone (pending_from (n + 1) ts)) k ih
+    at false ih = ih
+nack_among gone n (suc i) (ended ∷ ts) g k h goes there = let number : n + suc i ≡ (n + 1) + i = omega arith in nack_among gone (n + 1) i ts g k h (ap (is_among gone) (sym number) ∙ goes) there
+
+only : (k : ℕ) → Contains (k ∷ []) k
+only k = (0, omega arith, refl)
+
+-- the nacks that a leaf loses are nacks of the group
+lost_there : (n : ℕ) (ss : List PlainScope) → All (Contains (nacks_of ss)) (nacks_of (filter (lies_outside n) ss))
+lost_there n [] = All-nil (Contains [])
+lost_there n (s ∷ ss) = at (lies_outside n s) (All-weaker (Contains (nacks_of ss)) (Contains (s.nack ∷ nacks_of ss)) (λ k h. Contains-append_right (s.nack ∷ []) (nacks_of ss) k h) (nacks_of (filter (lies_outside n) ss)) (lost_there n ss))
+  where
+    at : (b : Bool) → All (Contains (s.nack ∷ nacks_of ss)) (nacks_of (filter (lies_outside n) ss)) → All (Contains (s.nack ∷ nacks_of ss)) (nacks_of (cond b (s ∷ filter (lies_outside n) ss) (filter (lies_outside n) ss)))
+    at true ih = All-cons (Contains (s.nack ∷ nacks_of ss)) s.nack (nacks_of (filter (lies_outside n) ss)) (Contains-append_left (s.nack ∷ []) (nacks_of ss) s.nack (only s.nack)) ih
+    at false ih = ih
+
+-- so a table whose changes are sure takes them
+pub sure_lights : (gone : List Tid) (ts : List PlainThread) (es : List PlainEntry) (t n : ℕ) (g : PlainGroup) → slice_get ts t ≡ Some (pending_on g) → es ≡ pending_from 0 ts → is_among gone t ≡ true
+    → All (IsNackOf (nacks_among gone es)) (map nack_light (fired_nacks g n))
+sure_lights gone ts es t n g waits same goes =
+    All-map (IsNackOf (nacks_among gone es)) nack_light (fired_nacks g n)
+    (All-weaker (Contains (nacks_of (scopes g))) (λ k. IsNackOf (nacks_among gone es) (nack_light k)) (λ k h. rw same (nack_among gone 0 t ts g k waits (ap (is_among gone) (zero-add t) ∙ goes) h)) (fired_nacks g n) (lost_there n (scopes g)))
+
+-- the lights that the table is told
+pub told_lights : (before pushed told : List Light) (flat g : PlainGroup) (n : ℕ) → before ≡ [] → flat ≡ g → pushed ≡ before ++ map nack_light (fired_nacks flat n) → told ≡ pushed → told ≡ map nack_light (fired_nacks g n)
+told_lights before pushed told flat g n none is e f = f ∙ e ∙ rw (none, is) refl
+
+-- the thread is among those that go
+pub gone_one : (t : Tid) → is_among (t ∷ []) t.0 ≡ true
+gone_one t = one t.0
+  where
+    one : (n : ℕ) → nat_eq n n || false ≡ true
+    one n = grind (arith, nat_tests)
+
+-- what a book keeps when one thread has gone on
+pub keeps_single : (ts : List PlainThread) (c : ℕ) (ns : List PlainNack) (tick : ℕ) (es : List PlainEntry) (told : Light → Bool) (room : ℕ) (t : Tid) (n : ℕ) (g : PlainGroup) (es' : List PlainEntry) (told' : Light → Bool)
+    (ts' : List PlainThread) (ns' : List PlainNack) (lit : List Light) (room' : ℕ)
+    → Keeps (world_of ts c ns tick) es told room → slice_get ts t.0 ≡ Some (pending_on g) → ts' ≡ slice_set ts t.0 running → ns' ≡ settled n (scopes (group_of (slice_get ts t.0))) ns
+    → lit ≡ map nack_light (fired_nacks g n) → es' ≡ without (t ∷ []) es → ((l : Light) → told' l ≡ lit_after lit [] l (told l)) → room' ≡ room
+    → Keeps (world_of ts' c ns' tick) es' told' room'
+keeps_single ts c ns tick es told room t n g es' told' ts' ns' lit room' k waits threads nacks lights gone tells size =
+    let cells : ns' ≡ settled n (scopes g) ns = nacks ∙ ap (λ x. settled n (scopes (group_of x)) ns) waits in
+    rw (threads, cells, size)
+    (keeps_same (slice_set ts t.0 running) c (settled n (scopes g) ns) tick (without (t ∷ []) es) (λ l. lit_after (map nack_light (fired_nacks g n)) [] l (told l)) room es' told' gone
+    (λ l. tells l ∙ ap (λ x. lit_after x [] l (told l)) lights) (keeps_resume ts c ns tick es told room t n g k waits))
+
+-- what the call for a single answers
+pub single_returns : (ts : List PlainThread) (c : ℕ) (ns : List PlainNack) (tick : ℕ) (t : Tid) (n : ℕ) (g : PlainGroup) (b : PlainBase) (ws : List PlainFunction) (v : PlainValue) (fs : List ℕ) (ts' : List PlainThread) (ns' : List PlainNack) (r : PlainResume)
+    → slice_get ts t.0 ≡ Some (pending_on g) → pick (group_of (slice_get ts t.0)) n ≡ Some (record { base = b; wraps = ws }) → has_row (scan (world_of ts c ns tick)) (Single t n) ≡ true
+    → ts' ≡ slice_set ts t.0 running → ns' ≡ settled n (scopes (group_of (slice_get ts t.0))) ns → v ≡ given_alone b → fs ≡ fired_nacks (group_of (slice_get ts t.0)) n
+    → r ≡ record { thread = t.0; value = v; wraps = ws; fired = fs }
+    → commit (world_of ts c ns tick) (Single t n) ≡ Ok (world_of ts' c ns' tick, record { head = r; partner = None })
+single_returns ts c ns tick t n g b ws v fs ts' ns' r waits picked has threads nacks value lost made =
+    let group : group_of (slice_get ts t.0) ≡ g = ap group_of waits in
+    let own = subst (λ x. pick x n ≡ Some (record { base = b; wraps = ws })) group picked in
+    let cells : ns' ≡ settled n (scopes g) ns = nacks ∙ ap (λ x. settled n (scopes x) ns) group in
+    let handed : r ≡ record { thread = t.0; value = given_alone b; wraps = ws; fired = fired_nacks g n } = made ∙ rw (value, lost, group) refl in
+    rw (threads, cells, handed) (single_taken ts c ns tick t n g b ws waits own has)
+
+-- the receiver waits still, once the sender has gone on
+pub second_waits : (ts : List PlainThread) (c : ℕ) (ns : List PlainNack) (tick : ℕ) (es : List PlainEntry) (told : Light → Bool) (room : ℕ) (h : Tid) (i : ℕ) (o : Tid) (j : ℕ) (a : PlainGroup) (g : PlainGroup) (ts' : List PlainThread) (ns' : List PlainNack)
+    → Keeps (world_of ts c ns tick) es told room → slice_get ts h.0 ≡ Some (pending_on a) → slice_get ts o.0 ≡ Some (pending_on g) → h.0 ≢ o.0 → j < leaf_count g
+    → ts' ≡ slice_set ts h.0 running → ns' ≡ settled i (scopes (group_of (slice_get ts h.0))) ns
+    → (slice_get ts' o.0 ≡ Some (pending_on g)) × WaitsOn ts' ns' o.0 j (group_of (slice_get ts' o.0))
+second_waits ts c ns tick es told room h i o j a g ts' ns' k first second differ within threads nacks =
+    let cells : ns' ≡ settled i (scopes a) ns = nacks ∙ ap (λ x. settled i (scopes (group_of x)) ns) first in
+    let waits : slice_get (slice_set ts h.0 running) o.0 ≡ Some (pending_on g) = get-set_other ts h.0 o.0 running differ ∙ second in
+    let k1 = keeps_resume ts c ns tick es told room h i a k first in
+    let live_still : AreLive (nacks_of (scopes g)) (settled i (scopes a) ns) = record { each = λ n. let x = nacks-resume n 0 o.0 (slice_set ts h.0 running) g waits in let y = k1.nacks_live n in omega arith } in
+    rw (threads, cells) (waits, rw waits (record { waits = waits; within = within; alive = live_still }))
+
+-- what a book keeps when a sender and a receiver have gone on
+pub keeps_pair : (ts : List PlainThread) (c : ℕ) (ns : List PlainNack) (tick : ℕ) (es : List PlainEntry) (told : Light → Bool) (room : ℕ) (h : Tid) (i : ℕ) (o : Tid) (j : ℕ) (a g : PlainGroup) (es' : List PlainEntry) (told' : Light → Bool)
+    (ts1 ts2 : List PlainThread) (ns1 ns2 : List PlainNack) (lit : List Light) (room' : ℕ)
+    → Keeps (world_of ts c ns tick) es told room → slice_get ts h.0 ≡ Some (pending_on a) → slice_get ts o.0 ≡ Some (pending_on g) → h.0 ≢ o.0
+    → ts1 ≡ slice_set ts h.0 running → ns1 ≡ settled i (scopes (group_of (slice_get ts h.0))) ns
+    → ts2 ≡ slice_set ts1 o.0 running → ns2 ≡ settled j (scopes (group_of (slice_get ts1 o.0))) ns1
+    → lit ≡ map nack_light (fired_nacks a i) ++ map nack_light (fired_nacks g j) → es' ≡ without (h ∷ o ∷ []) es → ((l : Light) → told' l ≡ lit_after lit [] l (told l)) → room' ≡ room
+    → Keeps (world_of ts2 c ns2 tick) es' told' room'
+keeps_pair ts c ns tick es told room h i o j a g es' told' ts1 ts2 ns1 ns2 lit room' k first second differ threads1 nacks1 threads2 nacks2 lights gone tells size =
+    let waits : slice_get (slice_set ts h.0 running) o.0 ≡ Some (pending_on g) = get-set_other ts h.0 o.0 running differ ∙ second in
+    let cells1 : ns1 ≡ settled i (scopes a) ns = nacks1 ∙ ap (λ x. settled i (scopes (group_of x)) ns) first in
+    let now2 : ts2 ≡ slice_set (slice_set ts h.0 running) o.0 running = threads2 ∙ ap (λ x. slice_set x o.0 running) threads1 in
+    let cells2 : ns2 ≡ settled j (scopes g) (settled i (scopes a) ns) =
+    nacks2 ∙ ap (λ x. settled j (scopes (group_of (slice_get x o.0))) ns1) threads1 ∙ ap (λ x. settled j (scopes (group_of x)) ns1) waits ∙ ap (settled j (scopes g)) cells1 in
+    let k1 = keeps_resume ts c ns tick es told room h i a k first in
+    let k2 = keeps_resume (slice_set ts h.0 running) c (settled i (scopes a) ns) tick (without (h ∷ []) es) (λ l. lit_after (map nack_light (fired_nacks a i)) [] l (told l)) room o j g k1 waits in
+    rw (now2, cells2, size)
+    (keeps_same (slice_set (slice_set ts h.0 running) o.0 running) c (settled j (scopes g) (settled i (scopes a) ns)) tick (without (o ∷ []) (without (h ∷ []) es))
+    (λ l. lit_after (map nack_light (fired_nacks g j)) [] l (lit_after (map nack_light (fired_nacks a i)) [] l (told l))) room es' told' (gone ∙ sym (without_two h o es))
+    (λ l. tells l ∙ ap (λ x. lit_after x [] l (told l)) lights ∙ lit_more (map nack_light (fired_nacks a i)) (map nack_light (fired_nacks g j)) l (told l)) k2)
+
+-- what the call for a pair answers
+pub pair_returns : (ts : List PlainThread) (c : ℕ) (ns : List PlainNack) (tick : ℕ) (h : Tid) (i : ℕ) (o : Tid) (j : ℕ) (a g : PlainGroup) (b d : PlainBase) (ws us : List PlainFunction) (v u : PlainValue) (fs es : List ℕ)
+    (ts1 ts2 : List PlainThread) (ns1 ns2 : List PlainNack) (r q : PlainResume)
+    → slice_get ts h.0 ≡ Some (pending_on a) → slice_get ts o.0 ≡ Some (pending_on g) → h.0 ≢ o.0 → has_row (scan (world_of ts c ns tick)) (Pair h i o j) ≡ true
+    → ts1 ≡ slice_set ts h.0 running → ns1 ≡ settled i (scopes (group_of (slice_get ts h.0))) ns
+    → ts2 ≡ slice_set ts1 o.0 running → ns2 ≡ settled j (scopes (group_of (slice_get ts1 o.0))) ns1
+    → pick (group_of (slice_get ts h.0)) i ≡ Some (record { base = b; wraps = ws }) → fs ≡ fired_nacks (group_of (slice_get ts h.0)) i
+    → pick (group_of (slice_get ts1 o.0)) j ≡ Some (record { base = d; wraps = us }) → es ≡ fired_nacks (group_of (slice_get ts1 o.0)) j
+    → u ≡ unit → v ≡ sent b
+    → r ≡ record { thread = h.0; value = u; wraps = ws; fired = fs } → q ≡ record { thread = o.0; value = v; wraps = us; fired = es }
+    → commit (world_of ts c ns tick) (Pair h i o j) ≡ Ok (world_of ts2 c ns2 tick, record { head = r; partner = Some q })
+pair_returns ts c ns tick h i o j a g b d ws us v u fs es ts1 ts2 ns1 ns2 r q first second differ has threads1 nacks1 threads2 nacks2 picked1 lost1 picked2 lost2 head_value value made1 made2 =
+    let w : PlainWorld = world_of ts c ns tick in
+    let group1 : group_of (slice_get ts h.0) ≡ a = ap group_of first in
+    let waits : slice_get (slice_set ts h.0 running) o.0 ≡ Some (pending_on g) = get-set_other ts h.0 o.0 running differ ∙ second in
+    let group2 : group_of (slice_get ts1 o.0) ≡ g = ap (λ x. group_of (slice_get x o.0)) threads1 ∙ ap group_of waits in
+    let own1 = subst (λ x. pick x i ≡ Some (record { base = b; wraps = ws })) group1 picked1 in
+    let own2 = subst (λ x. pick x j ≡ Some (record { base = d; wraps = us })) group2 picked2 in
+    let cells1 : ns1 ≡ settled i (scopes a) ns = nacks1 ∙ ap (λ x. settled i (scopes x) ns) group1 in
+    let now2 : ts2 ≡ slice_set (slice_set ts h.0 running) o.0 running = threads2 ∙ ap (λ x. slice_set x o.0 running) threads1 in
+    let cells2 : ns2 ≡ settled j (scopes g) (settled i (scopes a) ns) = nacks2 ∙ ap (λ x. settled j (scopes x) ns1) group2 ∙ ap (settled j (scopes g)) cells1 in
+    let one : released w h.0 i ≡ world_of (slice_set ts h.0 running) c (settled i (scopes a) ns) tick = released_is ts c ns tick h.0 i a first in
+    let world : after w (Pair h i o j) ≡ world_of ts2 c ns2 tick =
+    ap (λ x. released x o.0 j) one ∙ released_is (slice_set ts h.0 running) c (settled i (scopes a) ns) tick o.0 j g waits ∙ ap (λ x. world_of x c (settled j (scopes g) (settled i (scopes a) ns)) tick) (sym now2) ∙ ap (λ x. world_of ts2 c x tick) (sym cells2) in
+    let base : base_at w h.0 i ≡ b = base_at_is ts c ns tick h.0 i a b ws first own1 in
+    let head : resume w h.0 i unit ≡ r = resume_is ts c ns tick h.0 i a b ws unit first own1 ∙ sym (made1 ∙ rw (head_value, lost1, group1) refl) in
+    let partner : resume w o.0 j (sent (base_at w h.0 i)) ≡ q =
+    ap (λ x. resume w o.0 j (sent x)) base ∙ resume_is ts c ns tick o.0 j g d us (sent b) second own2 ∙ sym (made2 ∙ rw (value, lost2, group2) refl) in
+    let both : PlainResume → PlainResume → Committed = λ x y. record { head = x; partner = Some y } in
+    let handed : hands w (Pair h i o j) ≡ record { head = r; partner = Some q } = ap (λ x. both x (resume w o.0 j (sent (base_at w h.0 i)))) head ∙ ap (both r) partner in
+    commit_is w (Pair h i o j) has ∙ ap (λ x. Ok (x, hands w (Pair h i o j))) world ∙ ap (λ x. Ok (world_of ts2 c ns2 tick, x)) handed
+
+pub told_two : (before pushed more told : List Light) (flat1 flat2 a g : PlainGroup) (i j : ℕ) → before ≡ [] → flat1 ≡ a → flat2 ≡ g → pushed ≡ before ++ map nack_light (fired_nacks flat1 i)
+    → more ≡ pushed ++ map nack_light (fired_nacks flat2 j) → told ≡ more → told ≡ map nack_light (fired_nacks a i) ++ map nack_light (fired_nacks g j)
+told_two before pushed more told flat1 flat2 a g i j none is1 is2 e1 e2 f =
+    let first : pushed ≡ map nack_light (fired_nacks a i) = e1 ∙ ap (λ x. x ++ map nack_light (fired_nacks flat1 i)) none ∙ ap (λ x. map nack_light (fired_nacks x i)) is1 in
+    let both : more ≡ map nack_light (fired_nacks a i) ++ map nack_light (fired_nacks g j) = e2 ∙ ap (λ x. x ++ map nack_light (fired_nacks flat2 j)) first ∙ ap (λ x. map nack_light (fired_nacks a i) ++ map nack_light (fired_nacks x j)) is2 in
+    f ∙ both
+
+pub gone_two : (h o : Tid) → (is_among (h ∷ o ∷ []) h.0 ≡ true) × (is_among (h ∷ o ∷ []) o.0 ≡ true)
+gone_two h o = two h.0 o.0
+  where
+    two : (m n : ℕ) → (nat_eq m m || (nat_eq n m || false) ≡ true) × (nat_eq m n || (nat_eq n n || false) ≡ true)
+    two m n = (grind (arith, nat_tests), grind (arith, nat_tests))
+
+pub two_differ : (h o : Tid) → h.0 ≢ o.0 → AllPairs (λ a b. a.0 ≢ b.0) (h ∷ o ∷ [])
+two_differ h o ne zero (suc zero) d lt small = ne
+two_differ h o ne zero zero d lt small = absurd (omega arith)
+two_differ h o ne zero (suc (suc j)) d lt small = absurd (omega arith)
+two_differ h o ne (suc i) j d lt small = absurd (omega arith)
+
+-- a leaf loses no more nacks than the group has
+few : (n : ℕ) (ss : List PlainScope) → length (nacks_of (filter (lies_outside n) ss)) ≤ length ss
+few n [] = omega arith
+few n (s ∷ ss) = at (lies_outside n s) (few n ss)
+  where
+    at : (b : Bool) → length (nacks_of (filter (lies_outside n) ss)) ≤ length ss → length (nacks_of (cond b (s ∷ filter (lies_outside n) ss) (filter (lies_outside n) ss))) ≤ suc (length ss)
+    at true ih = omega (arith, ih)
+    at false ih = omega (arith, ih)
+
+-- so there is room for the lights of two groups
+pub room_for_two : (before pushed : List Light) (flat1 flat2 a g : PlainGroup) (i room : ℕ) → before ≡ [] → flat1 ≡ a → flat2 ≡ g → pushed ≡ before ++ map nack_light (fired_nacks flat1 i)
+    → 2 * length (scopes a) ≤ room → 2 * length (scopes g) ≤ room → length pushed + length (scopes flat2) ≤ room
+room_for_two before pushed flat1 flat2 a g i room none is1 is2 e fits1 fits2 =
+    let first : pushed ≡ map nack_light (fired_nacks a i) = e ∙ ap (λ x. x ++ map nack_light (fired_nacks flat1 i)) none ∙ ap (λ x. map nack_light (fired_nacks x i)) is1 in
+    let size : length pushed ≡ length (fired_nacks a i) = ap length first ∙ length-map (fired_nacks a i) nack_light in
+    let few_lost : length (fired_nacks a i) ≤ length (scopes a) = few i (scopes a) in
+    rw (is2, size) (omega (arith, few_lost, fits1, fits2))
+
+-- a row that is not in the table is refused
+pub row_refused : (w : PlainWorld) (es : List PlainEntry) (told : Light → Bool) (room : ℕ) (row : Meet) (has : Bool) → Keeps w es told room → has ≡ has_row (scan_of es told) row → has ≡ false → commit w row ≡ Err refusal.Row
+row_refused w es told room row has k is lacks =
+    let none : has_row (scan w) row ≡ false = ap (λ rows. has_row rows row) (sym (scan_is w es told room k)) ∙ sym is ∙ lacks in
+    rw none refl
+
+-- one that is there is in the scan
+pub row_there : (w : PlainWorld) (es : List PlainEntry) (told : Light → Bool) (room : ℕ) (row chosen : Meet) (has : Bool) → Keeps w es told room → has ≡ has_row (scan_of es told) row → has ≡ true → row ≡ chosen → has_row (scan w) chosen ≡ true
+row_there w es told room row chosen has k is holds same =
+    ap (has_row (scan w)) (sym same) ∙ ap (λ rows. has_row rows row) (sym (scan_is w es told room k)) ∙ sym is ∙ holds

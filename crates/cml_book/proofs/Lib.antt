@@ -1,0 +1,15 @@
+pub mod Pendings
+pub mod LightLemmas
+pub mod NackLemmas
+pub mod Retold
+pub mod Scopes
+pub mod Keepings
+pub mod Commits
+pub mod Syncs
+pub mod Heights
+pub mod Walks
+pub mod Entered
+pub mod Accepted
+pub mod KeptLemmas
+pub mod Runs
+pub mod PendingThreads

@@ -1,0 +1,327 @@
+-- Which nacks are live, and which have fired, after a change.
+use Rattle.std.proofs.Common.{◌≡◌, ◌≢◌, ℕ, ◌+◌, ◌-◌, ◌<◌, ◌≤◌, Bool, true, false, not, ◌&&◌, ◌||◌, nat_eq, nat_lt, cond, List, [], ◌∷◌, ◌++◌, length, refl, ap, sym, ◌∙◌, arith, zero, suc, Option, Some, None, map, length-set, zero-add}
+use Rattle.std.specs.Prelude.{slice_set, slice_get, All, count_by}
+use Rattle.std.specs.List.{filter, list_any, list_all, flat_map}
+use Rattle.std.proofs.lemmas.List.Sums.{sum_by-append, sum_by-cons}
+use Rattle.std.proofs.lemmas.Bool.Decides.{nat_tests}
+use Rattle.cml_value.specs.Group.{PlainGroup, PlainScope, scopes, nacks_of, lies_outside}
+use Rattle.cml_signal.specs.NackCell.{is_fresh_of}
+use Rattle.cml_scan.specs.World.{PlainThread, running, pending_on, ended, PlainNack, fresh_of, live, fired, held, PlainEntry, pending_from}
+use Rattle.cml_scan.specs.Light.{has_fired}
+use Rattle.cml_book.specs.Step.{times_named, with_nacks, settled, is_fresh_for}
+use Rattle.cml_book.specs.Keeping.{pending_nacks, lives, AreLive, AreFresh, is_fresh}
+
+-- a new fresh nack is not live
+pub lives-push : (ns : List PlainNack) (k t : ℕ) → lives (slice_get (ns ++ fresh_of t ∷ []) k) ≡ lives (slice_get ns k)
+lives-push [] zero t = refl
+lives-push [] (suc k) t = refl
+lives-push (n ∷ ns) zero t = refl
+lives-push (n ∷ ns) (suc k) t = lives-push ns k t
+
+pub times-append : (k : ℕ) (xs ys : List ℕ) → times_named k (xs ++ ys) ≡ times_named k xs + times_named k ys
+times-append k xs ys = sum_by-append (λ j. cond (nat_eq j k) 1 0) xs ys
+
+pub times-named : (j k : ℕ) (ks : List ℕ) → nat_eq j k ≡ true → times_named k (j ∷ ks) ≡ 1 + times_named k ks
+times-named j k ks e = sum_by-cons (λ x. cond (nat_eq x k) 1 0) j ks ∙ ap (λ b. cond b 1 0 + times_named k ks) e
+
+pub times-other : (j k : ℕ) (ks : List ℕ) → nat_eq j k ≡ false → times_named k (j ∷ ks) ≡ times_named k ks
+times-other j k ks e = sum_by-cons (λ x. cond (nat_eq x k) 1 0) j ks ∙ ap (λ b. cond b 1 0 + times_named k ks) e ∙ zero-add (times_named k ks)
+
+-- the nacks of a thread that waits are one more group's
+pub nacks-wait : (k n i : ℕ) (ts : List PlainThread) (g : PlainGroup) → slice_get ts i ≡ Some running
+    → times_named k (pending_nacks (pending_from n (slice_set ts i (pending_on g)))) ≡ times_named k (pending_nacks (pending_from n ts)) + times_named k (nacks_of (scopes g))
+nacks-wait k n i [] g h = cc
+nacks-wait k n zero (running ∷ ts) g h = times-append k (nacks_of (scopes g)) (pending_nacks (pending_from (n + 1) ts)) ∙ omega arith
+nacks-wait k n zero (pending_on x ∷ ts) g h = cc
+nacks-wait k n zero (ended ∷ ts) g h = cc
+nacks-wait k n (suc i) (running ∷ ts) g h = nacks-wait k (n + 1) i ts g h
+nacks-wait k n (suc i) (pending_on x ∷ ts) g h =
+    let ih = nacks-wait k (n + 1) i ts g h in
+    let a = times-append k (nacks_of (scopes x)) (pending_nacks (pending_from (n + 1) (slice_set ts i (pending_on g)))) in
+    let b = times-append k (nacks_of (scopes x)) (pending_nacks (pending_from (n + 1) ts)) in
+    omega arith
+nacks-wait k n (suc i) (ended ∷ ts) g h = nacks-wait k (n + 1) i ts g h
+
+-- and of one that goes on, one less
+pub nacks-resume : (k n i : ℕ) (ts : List PlainThread) (g : PlainGroup) → slice_get ts i ≡ Some (pending_on g)
+    → times_named k (pending_nacks (pending_from n (slice_set ts i running))) + times_named k (nacks_of (scopes g)) ≡ times_named k (pending_nacks (pending_from n ts))
+nacks-resume k n i [] g h = cc
+nacks-resume k n zero (running ∷ ts) g h = cc
+nacks-resume k n zero (pending_on x ∷ ts) g h =
+    let same : x ≡ g = cc in
+    let a = times-append k (nacks_of (scopes x)) (pending_nacks (pending_from (n + 1) ts)) in
+    rw (← same) (omega arith)
+nacks-resume k n zero (ended ∷ ts) g h = cc
+nacks-resume k n (suc i) (running ∷ ts) g h = nacks-resume k (n + 1) i ts g h
+nacks-resume k n (suc i) (pending_on x ∷ ts) g h =
+    let ih = nacks-resume k (n + 1) i ts g h in
+    let a = times-append k (nacks_of (scopes x)) (pending_nacks (pending_from (n + 1) (slice_set ts i running))) in
+    let b = times-append k (nacks_of (scopes x)) (pending_nacks (pending_from (n + 1) ts)) in
+    omega arith
+nacks-resume k n (suc i) (ended ∷ ts) g h = nacks-resume k (n + 1) i ts g h
+
+-- what stands at another place, and at this one
+pub get-set_other : {X : Type 0} (xs : List X) (i j : ℕ) (x : X) → i ≢ j → slice_get (slice_set xs i x) j ≡ slice_get xs j
+get-set_other [] i j x h = refl
+get-set_other (y ∷ xs) zero zero x h = absurd (h refl)
+get-set_other (y ∷ xs) zero (suc j) x h = refl
+get-set_other (y ∷ xs) (suc i) zero x h = refl
+get-set_other (y ∷ xs) (suc i) (suc j) x h = get-set_other xs i j x (λ e. h (ap suc e))
+
+pub get-set_same : {X : Type 0} (xs : List X) (i : ℕ) (x y : X) → slice_get xs i ≡ Some y → slice_get (slice_set xs i x) i ≡ Some x
+get-set_same [] i x y h = cc
+get-set_same (z ∷ xs) zero x y h = refl
+get-set_same (z ∷ xs) (suc i) x y h = get-set_same xs i x y h
+
+-- live, where it counts
+pub lives-live : (o : Option PlainNack) → 1 ≤ lives o → o ≡ Some live
+lives-live None h = absurd (omega arith)
+lives-live (Some (fresh_of t)) h = absurd (omega arith)
+lives-live (Some live) h = refl
+lives-live (Some fired) h = absurd (omega arith)
+lives-live (Some held) h = absurd (omega arith)
+
+pub lives-le : (o : Option PlainNack) → lives o ≤ 1
+lives-le None = omega arith
+lives-le (Some (fresh_of t)) = omega arith
+lives-le (Some live) = omega arith
+lives-le (Some fired) = omega arith
+lives-le (Some held) = omega arith
+
+pub first_live : (k : ℕ) (ks : List ℕ) (ns : List PlainNack) → AreLive (k ∷ ks) ns → slice_get ns k ≡ Some live
+first_live k ks ns h =
+    let e = h.each k in
+    let one : nat_eq k k ≡ true = grind (arith, nat_tests) in
+    let two = times-named k k ks one in
+    lives-live (slice_get ns k) (omega arith)
+
+-- the others are live still, once the first is not
+pub rest_live : (k : ℕ) (ks : List ℕ) (ns : List PlainNack) (n : PlainNack) → lives (Some n) ≡ 0 → AreLive (k ∷ ks) ns → AreLive ks (slice_set ns k n)
+rest_live k ks ns n dead h = record { each = λ j. at j (nat_eq k j) refl }
+  where
+    at : (j : ℕ) (b : Bool) → nat_eq k j ≡ b → times_named j ks ≤ lives (slice_get (slice_set ns k n) j)
+    at j true e =
+        let same : k ≡ j = grind (arith, nat_tests) in
+        let all = h.each j in
+        let one = times-named k j ks e in
+        let most = lives-le (slice_get ns j) in
+        omega arith
+    at j false e =
+        let differ : k ≢ j = grind (arith, nat_tests) in
+        let all = h.each j in
+        let none = times-other k j ks e in
+        let same : lives (slice_get (slice_set ns k n) j) ≡ lives (slice_get ns j) = ap lives (get-set_other ns k j n differ) in
+        omega arith
+
+-- what becomes of the nack of a scope
+abbrev pub settled_one : ℕ → PlainScope → PlainNack
+settled_one n s = cond (lies_outside n s) fired held
+
+pub settled_one-dead : (n : ℕ) (s : PlainScope) → lives (Some (settled_one n s)) ≡ 0
+settled_one-dead n s = at (lies_outside n s)
+  where
+    at : (b : Bool) → lives (Some (cond b fired held)) ≡ 0
+    at true = refl
+    at false = refl
+
+-- The nacks of a group that goes on are live no more, and the others as before.
+pub lives-settled : (n : ℕ) (ss : List PlainScope) (ns : List PlainNack) (k : ℕ) → AreLive (nacks_of ss) ns
+    → lives (slice_get (settled n ss ns) k) + times_named k (nacks_of ss) ≡ lives (slice_get ns k)
+lives-settled n [] ns k h = omega arith
+lives-settled n (s ∷ ss) ns k h =
+    let ih = lives-settled n ss (slice_set ns s.nack (settled_one n s)) k (rest_live s.nack (nacks_of ss) ns (settled_one n s) (settled_one-dead n s) h) in
+    at (nat_eq s.nack k) refl ih
+  where
+    at : (b : Bool) → nat_eq s.nack k ≡ b → lives (slice_get (settled n ss (slice_set ns s.nack (settled_one n s))) k) + times_named k (nacks_of ss) ≡ lives (slice_get (slice_set ns s.nack (settled_one n s)) k)
+        → lives (slice_get (settled n ss (slice_set ns s.nack (settled_one n s))) k) + times_named k (s.nack ∷ nacks_of ss) ≡ lives (slice_get ns k)
+    at true e ih =
+        let same : s.nack ≡ k = grind (arith, nat_tests) in
+        let alive : slice_get ns s.nack ≡ Some live = first_live s.nack (nacks_of ss) ns h in
+        let now : lives (slice_get (slice_set ns s.nack (settled_one n s)) k) ≡ 0 = rw (← same) (ap lives (get-set_same ns s.nack (settled_one n s) live alive) ∙ settled_one-dead n s) in
+        let before : lives (slice_get ns k) ≡ 1 = rw (← same) (ap lives alive) in
+        let once = times-named s.nack k (nacks_of ss) e in
+        omega arith
+    at false e ih =
+        let differ : s.nack ≢ k = grind (arith, nat_tests) in
+        let none = times-other s.nack k (nacks_of ss) e in
+        let other : lives (slice_get (slice_set ns s.nack (settled_one n s)) k) ≡ lives (slice_get ns k) = ap lives (get-set_other ns s.nack k (settled_one n s) differ) in
+        omega arith
+
+-- A nack has fired where it had, or where it is one of those that the leaf loses.
+pub fired-settled : (n : ℕ) (ss : List PlainScope) (ns : List PlainNack) (k : ℕ) → AreLive (nacks_of ss) ns
+    → has_fired (slice_get (settled n ss ns) k) ≡ list_any (λ j. nat_eq j k) (nacks_of (filter (lies_outside n) ss)) || has_fired (slice_get ns k)
+fired-settled n [] ns k h = refl
+fired-settled n (s ∷ ss) ns k h =
+    let ih = fired-settled n ss (slice_set ns s.nack (settled_one n s)) k (rest_live s.nack (nacks_of ss) ns (settled_one n s) (settled_one-dead n s) h) in
+    ih ∙ at (nat_eq s.nack k) (lies_outside n s) refl refl
+  where
+    rest : Bool
+    rest = list_any (λ j. nat_eq j k) (nacks_of (filter (lies_outside n) ss))
+
+    alive : slice_get ns s.nack ≡ Some live
+    alive = first_live s.nack (nacks_of ss) ns h
+
+    or_true : (b : Bool) → b || true ≡ true
+    or_true true = refl
+    or_true false = refl
+
+    at : (b o : Bool) → nat_eq s.nack k ≡ b → lies_outside n s ≡ o
+        → rest || has_fired (slice_get (slice_set ns s.nack (cond (lies_outside n s) fired held)) k)
+        ≡ list_any (λ j. nat_eq j k) (nacks_of (cond (lies_outside n s) (s ∷ filter (lies_outside n) ss) (filter (lies_outside n) ss))) || has_fired (slice_get ns k)
+    at true true e f =
+        let same : s.nack ≡ k = grind (arith, nat_tests) in
+        let now : has_fired (slice_get (slice_set ns s.nack fired) k) ≡ true = rw (← same) (ap has_fired (get-set_same ns s.nack fired live alive)) in
+        rw (f, e, now) (or_true rest)
+    at true false e f =
+        let same : s.nack ≡ k = grind (arith, nat_tests) in
+        let now : has_fired (slice_get (slice_set ns s.nack held) k) ≡ false = rw (← same) (ap has_fired (get-set_same ns s.nack held live alive)) in
+        let before : has_fired (slice_get ns k) ≡ false = rw (← same) (ap has_fired alive) in
+        rw (f, now, before) refl
+    at false true e f =
+        let differ : s.nack ≢ k = grind (arith, nat_tests) in
+        rw (f, e, get-set_other ns s.nack k fired differ) refl
+    at false false e f =
+        let differ : s.nack ≢ k = grind (arith, nat_tests) in
+        rw (f, get-set_other ns s.nack k held differ) refl
+
+-- what a nack that these do not name is after they are set
+pub with_nacks-other : (ks : List ℕ) (so : PlainNack) (ns : List PlainNack) (k : ℕ) → times_named k ks ≡ 0 → slice_get (with_nacks ks so ns) k ≡ slice_get ns k
+with_nacks-other [] so ns k h = refl
+with_nacks-other (j ∷ ks) so ns k h = at (nat_eq j k) refl (with_nacks-other ks so (slice_set ns j so) k)
+  where
+    at : (b : Bool) → nat_eq j k ≡ b → (times_named k ks ≡ 0 → slice_get (with_nacks ks so (slice_set ns j so)) k ≡ slice_get (slice_set ns j so) k)
+        → slice_get (with_nacks ks so (slice_set ns j so)) k ≡ slice_get ns k
+    at true e ih = let one = times-named j k ks e in absurd (omega arith)
+    at false e ih =
+        let none = times-other j k ks e in
+        let differ : j ≢ k = grind (arith, nat_tests) in
+        ih (omega arith) ∙ get-set_other ns j k so differ
+
+-- and one that they name, if it is there
+pub with_nacks-named : (ks : List ℕ) (so n : PlainNack) (ns : List PlainNack) (k : ℕ) → 1 ≤ times_named k ks → slice_get ns k ≡ Some n → slice_get (with_nacks ks so ns) k ≡ Some so
+with_nacks-named [] so n ns k h there = absurd (omega arith)
+with_nacks-named (j ∷ ks) so n ns k h there = at (nat_eq j k) (nat_lt 0 (times_named k ks)) refl refl (λ m. with_nacks-named ks so m (slice_set ns j so) k)
+  where
+    at : (b c : Bool) → nat_eq j k ≡ b → nat_lt 0 (times_named k ks) ≡ c
+        → ((m : PlainNack) → 1 ≤ times_named k ks → slice_get (slice_set ns j so) k ≡ Some m → slice_get (with_nacks ks so (slice_set ns j so)) k ≡ Some so)
+        → slice_get (with_nacks ks so (slice_set ns j so)) k ≡ Some so
+    at true true e f ih =
+        let same : j ≡ k = grind (arith, nat_tests) in
+        let more : 1 ≤ times_named k ks = grind (arith, nat_tests) in
+        ih so more (rw same (get-set_same ns k so n there))
+    at true false e f ih =
+        let same : j ≡ k = grind (arith, nat_tests) in
+        let none : times_named k ks ≡ 0 = grind (arith, nat_tests) in
+        with_nacks-other ks so (slice_set ns j so) k none ∙ rw same (get-set_same ns k so n there)
+    at false c e f ih =
+        let differ : j ≢ k = grind (arith, nat_tests) in
+        let none = times-other j k ks e in
+        ih n (omega arith) (get-set_other ns j k so differ ∙ there)
+
+-- a test that all pass, a named one passes
+pub named_passes : (p : ℕ → Bool) (ks : List ℕ) (k : ℕ) → list_all p ks ≡ true → 1 ≤ times_named k ks → p k ≡ true
+named_passes p [] k h n = absurd (omega arith)
+named_passes p (j ∷ ks) k h n = at (nat_eq j k) refl (both (p j) (list_all p ks) h) (named_passes p ks k)
+  where
+    both : (a b : Bool) → a && b ≡ true → (a ≡ true) × (b ≡ true)
+    both true true e = (refl, refl)
+    both true false e = cc
+    both false b e = cc
+
+    at : (b : Bool) → nat_eq j k ≡ b → (p j ≡ true) × (list_all p ks ≡ true) → (list_all p ks ≡ true → 1 ≤ times_named k ks → p k ≡ true) → p k ≡ true
+    at true e two ih = let same : j ≡ k = grind (arith, nat_tests) in rw (← same) two.0
+    at false e two ih = let none = times-other j k ks e in ih two.1 (omega arith)
+
+fresh_there : (t : ℕ) (o : Option PlainNack) → is_fresh_for t o ≡ true → o ≡ Some (fresh_of t)
+fresh_there t None h = cc
+fresh_there t (Some (fresh_of owner)) h = let same : t ≡ owner = grind (arith, nat_tests) in rw same refl
+fresh_there t (Some live) h = cc
+fresh_there t (Some fired) h = cc
+fresh_there t (Some held) h = cc
+
+-- the nacks that enter are fresh and named once, so that each is live from then on
+pub lives-enter : (t : ℕ) (ks : List ℕ) (ns : List PlainNack) (k : ℕ) → list_all (λ j. is_fresh_for t (slice_get ns j) && (nat_eq (times_named j ks) 1)) ks ≡ true
+    → lives (slice_get (with_nacks ks live ns) k) ≡ lives (slice_get ns k) + times_named k ks
+lives-enter t ks ns k h = at (nat_lt 0 (times_named k ks)) refl
+  where
+    both : (a b : Bool) → a && b ≡ true → (a ≡ true) × (b ≡ true)
+    both true true e = (refl, refl)
+    both true false e = cc
+    both false b e = cc
+
+    at : (c : Bool) → nat_lt 0 (times_named k ks) ≡ c → lives (slice_get (with_nacks ks live ns) k) ≡ lives (slice_get ns k) + times_named k ks
+    at true e =
+        let named : 1 ≤ times_named k ks = grind (arith, nat_tests) in
+        let two = both (is_fresh_for t (slice_get ns k)) (nat_eq (times_named k ks) 1) (named_passes (λ j. is_fresh_for t (slice_get ns j) && (nat_eq (times_named j ks) 1)) ks k h named) in
+        let there : slice_get ns k ≡ Some (fresh_of t) = fresh_there t (slice_get ns k) two.0 in
+        let once : times_named k ks ≡ 1 = let f = two.1 in grind (arith, nat_tests) in
+        rw (with_nacks-named ks live (fresh_of t) ns k named there, there, once) refl
+    at false e =
+        let none : times_named k ks ≡ 0 = grind (arith, nat_tests) in
+        rw (with_nacks-other ks live ns k none, none) (omega arith)
+
+pub fired-enter : (t : ℕ) (ks : List ℕ) (ns : List PlainNack) (k : ℕ) → list_all (λ j. is_fresh_for t (slice_get ns j) && (nat_eq (times_named j ks) 1)) ks ≡ true
+    → has_fired (slice_get (with_nacks ks live ns) k) ≡ has_fired (slice_get ns k)
+fired-enter t ks ns k h = at (nat_lt 0 (times_named k ks)) refl
+  where
+    both : (a b : Bool) → a && b ≡ true → a ≡ true
+    both true b e = refl
+    both false b e = cc
+
+    at : (c : Bool) → nat_lt 0 (times_named k ks) ≡ c → has_fired (slice_get (with_nacks ks live ns) k) ≡ has_fired (slice_get ns k)
+    at true e =
+        let named : 1 ≤ times_named k ks = grind (arith, nat_tests) in
+        let fresh = both (is_fresh_for t (slice_get ns k)) (nat_eq (times_named k ks) 1) (named_passes (λ j. is_fresh_for t (slice_get ns j) && (nat_eq (times_named j ks) 1)) ks k h named) in
+        let there : slice_get ns k ≡ Some (fresh_of t) = fresh_there t (slice_get ns k) fresh in
+        rw (with_nacks-named ks live (fresh_of t) ns k named there, there) refl
+    at false e =
+        let none : times_named k ks ≡ 0 = grind (arith, nat_tests) in
+        ap has_fired (with_nacks-other ks live ns k none)
+
+pub length-with_nacks : (ks : List ℕ) (so : PlainNack) (ns : List PlainNack) → length (with_nacks ks so ns) ≡ length ns
+length-with_nacks [] so ns = refl
+length-with_nacks (k ∷ ks) so ns = length-with_nacks ks so (slice_set ns k so) ∙ length-set ns k so
+
+pub length-settled : (n : ℕ) (ss : List PlainScope) (ns : List PlainNack) → length (settled n ss ns) ≡ length ns
+length-settled n [] ns = refl
+length-settled n (s ∷ ss) ns = length-settled n ss (slice_set ns s.nack (settled_one n s)) ∙ length-set ns s.nack (settled_one n s)
+
+-- the nacks that can enter are fresh
+pub can_enter_fresh : (t : ℕ) (ks : List ℕ) (ns : List PlainNack) → list_all (λ j. is_fresh_for t (slice_get ns j) && (nat_eq (times_named j ks) 1)) ks ≡ true → AreFresh ks ns
+can_enter_fresh t ks ns h = record {
+  once = λ k. once k (nat_lt 0 (times_named k ks)) refl;
+  each = λ k n. let there = fresh_there t (slice_get ns k) (passes k n).0 in rw there refl;
+}
+  where
+    both : (a b : Bool) → a && b ≡ true → (a ≡ true) × (b ≡ true)
+    both true true e = (refl, refl)
+    both true false e = cc
+    both false b e = cc
+
+    passes : (k : ℕ) → 1 ≤ times_named k ks → (is_fresh_for t (slice_get ns k) ≡ true) × (nat_eq (times_named k ks) 1 ≡ true)
+    passes k n = both (is_fresh_for t (slice_get ns k)) (nat_eq (times_named k ks) 1) (named_passes (λ j. is_fresh_for t (slice_get ns j) && (nat_eq (times_named j ks) 1)) ks k h n)
+
+    once : (k : ℕ) (b : Bool) → nat_lt 0 (times_named k ks) ≡ b → times_named k ks ≤ 1
+    once k true e = let named : 1 ≤ times_named k ks = grind (arith, nat_tests) in let one = (passes k named).1 in grind (arith, nat_tests)
+    once k false e = grind (arith, nat_tests)
+
+pub first_fresh : (k : ℕ) (ks : List ℕ) (ns : List PlainNack) → AreFresh (k ∷ ks) ns → is_fresh (slice_get ns k) ≡ true
+first_fresh k ks ns h =
+    let one : nat_eq k k ≡ true = grind (arith, nat_tests) in
+    let two = times-named k k ks one in
+    h.each k (omega arith)
+
+-- the others are fresh still, once the first has entered
+pub rest_fresh : (k : ℕ) (ks : List ℕ) (ns : List PlainNack) (n : PlainNack) → AreFresh (k ∷ ks) ns → AreFresh ks (slice_set ns k n)
+rest_fresh k ks ns n h = record { once = λ j. once j (nat_eq k j) refl; each = λ j m. each j m (nat_eq k j) refl }
+  where
+    once : (j : ℕ) (b : Bool) → nat_eq k j ≡ b → times_named j ks ≤ 1
+    once j true e = let a = times-named k j ks e in let all = h.once j in omega arith
+    once j false e = let a = times-other k j ks e in let all = h.once j in omega arith
+
+    each : (j : ℕ) → 1 ≤ times_named j ks → (b : Bool) → nat_eq k j ≡ b → is_fresh (slice_get (slice_set ns k n) j) ≡ true
+    each j m true e = let a = times-named k j ks e in let all = h.once j in absurd (omega arith)
+    each j m false e =
+        let a = times-other k j ks e in
+        let differ : k ≢ j = grind (arith, nat_tests) in
+        ap is_fresh (get-set_other ns k j n differ) ∙ h.each j (omega arith)

@@ -1,0 +1,15 @@
+use Rattle.std.proofs.Common.{◌≡◌, sym, suc, arith, add-one, slice_index_or}
+use Rattle.cml_value.specs.Group.{scopes}
+use Rattle.cml_book.proofs.Scopes.{scope_at, settle_step, next_live}
+use Rattle.cml_book.proofs.nacks.settle.Goals as goal
+
+pub settle_one-requires : goal.settle_one-requires
+settle_one-requires c =
+    let p = scope_at c.args.leaf c.loop-i.i (scopes c.args.flat.now) c.scopes-nacks.result.now c.loses.result (record { 0 = 0 }) c.loop-i-test.true c.scopes-nacks.ensures.nacks c.loses.ensures in
+    next_live _ _ _ _ _ _ p c.loop-i.invariant.alive
+
+pub loop-i-preserved : goal.loop-i-preserved
+loop-i-preserved c =
+    let p = scope_at c.args.leaf c.loop-i.i (scopes c.args.flat.now) c.scopes-nacks.result.now c.loses.result (record { 0 = 0 }) c.loop-i-test.true c.scopes-nacks.ensures.nacks c.loses.ensures in
+    let s = settle_step _ _ _ _ _ _ c.settle_one.new.cells.items _ p c.settle_one.ensures c.loop-i.invariant.leads c.loop-i.invariant.alive in
+    rw add-one (record { leads = s.0; alive = s.1 })

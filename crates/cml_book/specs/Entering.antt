@@ -1,0 +1,43 @@
+-- How a group enters: what comes after so many ticks comes at a tick from now on.
+use Rattle.std.specs.Prelude.{ℕ, ◌+◌, ◌^◌, Bool, false, nat_lt}
+use Rattle.cml_value.specs.Value.{PlainBase, always, send, recv, iget, mtake, mget, mswap, mail_recv, port_recv, join, at_tick, after_ticks, nack}
+use Rattle.cml_value.specs.Group.{PlainGroup, never, leaf, choose, wrap, scope, PlainGroups, no_groups, groups_and}
+
+-- the base event as it enters at this tick (Reppy's timeOutEvt counts from the moment of the synchronization)
+abbrev pub entered_base : ℕ → PlainBase → PlainBase
+entered_base tick (after_ticks d) = at_tick (tick + d)
+entered_base tick (always v) = always v
+entered_base tick (send c v) = send c v
+entered_base tick (recv c) = recv c
+entered_base tick (iget i) = iget i
+entered_base tick (mtake m) = mtake m
+entered_base tick (mget m) = mget m
+entered_base tick (mswap m v) = mswap m v
+entered_base tick (mail_recv b) = mail_recv b
+entered_base tick (port_recv p) = port_recv p
+entered_base tick (join t) = join t
+entered_base tick (at_tick t) = at_tick t
+entered_base tick (nack k) = nack k
+
+abbrev mutual
+  -- the group as it enters at this tick: each of its leaves so
+  pub entered : ℕ → PlainGroup → PlainGroup
+  entered tick never = never
+  entered tick (leaf b) = leaf (entered_base tick b)
+  entered tick (choose gs) = choose (entered_all tick gs)
+  entered tick (wrap g f) = wrap (entered tick g) f
+  entered tick (scope k g) = scope k (entered tick g)
+
+  pub entered_all : ℕ → PlainGroups → PlainGroups
+  entered_all tick no_groups = no_groups
+  entered_all tick (groups_and g gs) = groups_and (entered tick g) (entered_all tick gs)
+
+-- the greatest tick
+abbrev pub max_tick : ℕ
+max_tick = 2 ^ 62
+
+-- the base event waits for a tick above the greatest
+abbrev pub is_far : ℕ → PlainBase → Bool
+is_far tick (at_tick t) = nat_lt max_tick t
+is_far tick (after_ticks d) = nat_lt max_tick (tick + d)
+is_far tick _ = false

@@ -1,0 +1,21 @@
+//! The book of pending threads: what every command of Concurrent ML does, with a table of what can happen next.
+#![tactic(auto)]
+
+mod book;
+mod command;
+mod entering;
+mod kept;
+mod lights;
+mod nacks;
+mod party;
+mod refusal;
+mod run;
+#[cfg(test)]
+mod tests;
+mod thread;
+mod walk;
+
+pub use book::{Book, MAX_OBJECTS, MAX_THREADS};
+pub use command::{Command, Committed, Reply, Resume, Stopped};
+pub use kept::KeptRows;
+pub use refusal::{Fault, Refusal};

@@ -1,0 +1,81 @@
+//! What becomes of the nacks of a group.
+
+ghost use Rattle.std.specs.Prelude.{◌≡◌, ◌<◌, ◌≤◌, ◌+◌, ◌++◌, [], ◌∷◌, length, map, slice_get, slice_set, Some, true, if◌then◌else◌};
+ghost use Rattle.std.specs.Vec.{vec_capacity};
+ghost use Rattle.cml_value.specs.Group.{leaf_count, scopes, nacks_of, fired as fired_nacks};
+ghost use Rattle.cml_value.specs.Nack.{live, fired, held};
+ghost use Rattle.cml_group.specs.Leaves.{numbers};
+ghost use Rattle.cml_book.specs.Step.{settled, with_nacks};
+ghost use Rattle.cml_book.specs.Keeping.{nack_light, AreLive, AreFresh, is_fresh};
+
+use cml_group::Flat;
+use cml_scan::Light;
+use cml_signal::NackCell;
+use cml_value::NackId;
+
+/// Puts the lights of the nacks that choosing the leaf fires behind those that stand there. There is room for them.
+pub fn push_lights(lights: &mut Vec<Light>, flat: &Flat, leaf: usize)
+    requires leaf { leaf < leaf_count flat.now }
+    requires room { length lights.old.items + length (scopes flat.now) ≤ vec_capacity lights.old }
+    ensures lights { lights.new.items ≡ lights.old.items ++ map nack_light (fired_nacks flat.now leaf) }
+    ensures room { vec_capacity lights.new ≡ vec_capacity lights.old }
+{
+    let nacks = flat.scopes();
+    for i in 0..nacks.len() {
+        push_light(lights, nacks[i], flat.loses(leaf, i));
+    }
+}
+
+fn push_light(lights: &mut Vec<Light>, nack: NackId, is_lost: bool)
+    requires { length lights.old.items + 1 ≤ vec_capacity lights.old }
+    ensures lights { lights.new.items ≡ (if is_lost then lights.old.items ++ nack_light nack.0 ∷ [] else lights.old.items) }
+    ensures room { vec_capacity lights.new ≡ vec_capacity lights.old }
+{
+    if is_lost {
+        lights.push_reserved(Light::Nack(nack));
+    }
+}
+
+/// Fires the nacks in whose branches the leaf does not lie, and holds the others.
+pub fn settle(cells: &mut Vec<NackCell>, flat: &Flat, leaf: usize)
+    requires leaf { leaf < leaf_count flat.now }
+    requires alive { AreLive (nacks_of (scopes flat.now)) cells.old.items }
+    ensures { cells.new.items ≡ settled leaf (scopes flat.now) cells.old.items }
+{
+    let nacks = flat.scopes();
+    for i in 0..nacks.len() {
+        settle_one(cells, nacks[i], flat.loses(leaf, i));
+    }
+}
+
+fn settle_one(cells: &mut Vec<NackCell>, nack: NackId, is_lost: bool)
+    requires { slice_get cells.old.items nack.0 ≡ Some live }
+    ensures { cells.new.items ≡ slice_set cells.old.items nack.0 (if is_lost then fired else held) }
+{
+    let place = nack.0 as usize;
+    if place < cells.len() {
+        let cell = &mut cells[place];
+        let _ = if is_lost { cell.fire() } else { cell.hold() };
+    }
+}
+
+/// Makes these nacks live.
+pub fn enter(cells: &mut Vec<NackCell>, nacks: &[NackId])
+    requires { AreFresh (numbers nacks.now) cells.old.items }
+    ensures { cells.new.items ≡ with_nacks (numbers nacks.now) live cells.old.items }
+{
+    for nack in nacks {
+        enter_one(cells, *nack);
+    }
+}
+
+fn enter_one(cells: &mut Vec<NackCell>, nack: NackId)
+    requires { is_fresh (slice_get cells.old.items nack.0) ≡ true }
+    ensures { cells.new.items ≡ slice_set cells.old.items nack.0 live }
+{
+    let place = nack.0 as usize;
+    if place < cells.len() {
+        let cell = &mut cells[place];
+        let _ = cell.enter();
+    }
+}

@@ -1,0 +1,96 @@
+//! Why a command was refused.
+
+ghost use Rattle.std.specs.Prelude.{◌≡◌, codes};
+ghost use Rattle.cml_book.specs.Refusals.{number_of, name_of};
+
+use std::alloc::AllocError;
+use thiserror::Error;
+
+/// Why a command was refused. The first that fits, in this order, is the answer, and the command changes nothing.
+#[derive(Clone, Copy, Debug, PartialEq, Eq)]
+pub enum Refusal {
+    /// The thread that does the command does not exist.
+    Thread,
+    /// That thread does not run.
+    State,
+    /// An object, a thread or a nack that the command, a base event or a scope names does not exist.
+    Object,
+    /// A variable is full already.
+    Put,
+    /// The row is not in the table now.
+    Row,
+    /// The clock would go backwards.
+    Clock,
+    /// A group has more than 256 leaves.
+    Leaves,
+    /// A value or a group is deeper than 64, or has more than 65,536 nodes.
+    Deep,
+    /// A tick lies above 2^62.
+    Far,
+    /// There can be no more threads, objects, nacks or items.
+    Full,
+    /// A scope's nack is not fresh, or another thread's, or named by two scopes.
+    Nack,
+}
+
+impl Refusal {
+    /// The number by which replies name it, from 1.
+    pub fn number(self) -> u8
+        ensures { result ≡ number_of self }
+    {
+        match self {
+            Refusal::Thread => 1,
+            Refusal::State => 2,
+            Refusal::Object => 3,
+            Refusal::Put => 4,
+            Refusal::Row => 5,
+            Refusal::Clock => 6,
+            Refusal::Leaves => 7,
+            Refusal::Deep => 8,
+            Refusal::Far => 9,
+            Refusal::Full => 10,
+            Refusal::Nack => 11,
+        }
+    }
+
+    /// The name by which replies call it.
+    pub fn name(self) -> &'static str
+        ensures { result.now ≡ name_of self }
+    {
+        match self {
+            Refusal::Thread => "thread",
+            Refusal::State => "state",
+            Refusal::Object => "object",
+            Refusal::Put => "put",
+            Refusal::Row => "row",
+            Refusal::Clock => "clock",
+            Refusal::Leaves => "leaves",
+            Refusal::Deep => "deep",
+            Refusal::Far => "far",
+            Refusal::Full => "full",
+            Refusal::Nack => "nack",
+        }
+    }
+}
+
+/// Why a call did nothing.
+#[derive(Clone, Copy, Debug, PartialEq, Eq, Error)]
+pub enum Fault {
+    /// The rules refuse it.
+    #[error("the command is refused")]
+    Refused(Refusal),
+    /// A growth was refused, of a command that the rules accept.
+    #[error("out of memory")]
+    Memory,
+}
+
+impl From<AllocError> for Fault {
+    ghost use Rattle.std.specs.Prelude.{◌≡◌};
+    ghost use Rattle.cml_book.specs.declared.refusal.Fault.TheVariants.{Memory};
+
+    ghost from_gives = { λ _ e. e ≡ Memory };
+
+    fn from(_error: AllocError) -> Fault {
+        Fault::Memory
+    }
+}

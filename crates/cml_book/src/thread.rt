@@ -1,0 +1,122 @@
+//! What a thread of a book does.
+
+ghost use Rattle.std.specs.Prelude.{◌≡◌, ◌≤◌, Some, IfOk, length, map};
+ghost use Rattle.cml_scan.specs.World.{running, pending_on, ended, pending_from};
+
+use cml_group::Flat;
+use cml_value::Tid;
+use std::alloc::{AllocError, Global};
+use std::marker::Model;
+use std::mem;
+
+/// A thread.
+#[derive(Debug, Drop)]
+pub struct Thread {
+    state: State,
+}
+
+#[derive(Debug, Drop)]
+enum State {
+    Running,
+    // with the group that it waits on, laid flat
+    Pending(Flat),
+    Ended,
+}
+
+impl Model for Thread {
+    ghost use Rattle.cml_scan.specs.World.{PlainThread};
+    ghost use Rattle.cml_scan.specs.Codes.{thread_code};
+    ghost use Rattle.cml_book.specs.Views.{thread_of};
+
+    ghost Value = { PlainThread };
+
+    ghost coded = { thread_code };
+
+    ghost view = { λ t. thread_of t.state };
+}
+
+impl Thread {
+    ghost use Rattle.std.specs.Option.{option_copied};
+    ghost use Rattle.cml_scan.specs.Light.{has_ended};
+    ghost use Rattle.cml_book.specs.Threads.{flat_of};
+    ghost use Rattle.cml_book.specs.Walks.{runs};
+
+    pub fn running() -> Thread
+        ensures { result ≡ running }
+    {
+        Thread {
+            state: State::Running,
+        }
+    }
+
+    pub fn pending(flat: Flat) -> Thread
+        ensures { result ≡ pending_on flat }
+    {
+        Thread {
+            state: State::Pending(flat),
+        }
+    }
+
+    pub fn ended() -> Thread
+        ensures { result ≡ ended }
+    {
+        Thread {
+            state: State::Ended,
+        }
+    }
+
+    /// Whether it runs.
+    pub fn is_running(&self) -> bool
+        ensures { result ≡ runs self.now }
+    {
+        match &self.state {
+            State::Running => true,
+            State::Pending(_) | State::Ended => false,
+        }
+    }
+
+    /// Whether it has ended.
+    pub fn has_ended(&self) -> bool
+        ensures { result ≡ has_ended (Some self.now) }
+    {
+        match &self.state {
+            State::Ended => true,
+            State::Running | State::Pending(_) => false,
+        }
+    }
+
+    /// The group that it waits on, if it does.
+    pub fn flat(&self) -> Option<&Flat>
+        ensures { option_copied result ≡ flat_of self.now }
+    {
+        match &self.state {
+            State::Pending(flat) => Some(flat),
+            State::Running | State::Ended => None,
+        }
+    }
+
+    /// It runs from now on; the group that it waited on comes out.
+    pub fn release(&mut self) -> Option<Flat>
+        ensures value { result ≡ flat_of self.old }
+        ensures runs { self.new ≡ running }
+    {
+        match mem::replace(&mut self.state, State::Running) {
+            State::Pending(flat) => Some(flat),
+            State::Running | State::Ended => None,
+        }
+    }
+}
+
+/// The numbers of the threads that are pending, ascending.
+pub fn pending_threads(alloc: Global, threads: &[Thread]) -> Result<Vec<Tid>, AllocError>
+    requires { length threads.now ≤ 4096 }
+    ensures { IfOk result (λ tids. map (λ t. t.0) tids.items ≡ map (λ e. e.thread) (pending_from 0 threads.now)) }
+{
+    let mut tids: Vec<Tid> = Vec::new(alloc);
+    for i in 0..threads.len() {
+        if threads[i].flat().is_some() {
+            tids.push(Tid(i as u32))?;
+        }
+    }
+    Ok(tids)
+}

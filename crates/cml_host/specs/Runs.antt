@@ -1,0 +1,92 @@
+-- What a run of the engine did: which bytes came, and which text was written.
+use Rattle.std.specs.Prelude.{◌≡◌, ◌⊎◌, ℕ, ◌<◌, Bool, true, false, List, ◌++◌, length, codes, Option}
+use Rattle.std.specs.Io.KnownBytes.{Appends, Consumes, IsAtEnd, Keeps}
+use Rattle.cml_scan.specs.World.{PlainWorld}
+use Rattle.cml_book.specs.Step.{empty_world}
+use Rattle.cml_host.specs.declared.trace.order.Order.{Order}
+use Rattle.cml_host.specs.declared.trace.engine.TraceEnd.{TraceEnd}
+use Rattle.cml_host.specs.declared.trace.engine.TraceFault.{TraceFault}
+use Rattle.cml_host.specs.declared.trace.engine.TraceFault.TheVariants.{Read, Turns, Write, Memory}
+use Rattle.cml_host.specs.Orders.{Asks, IsBad}
+use Rattle.cml_host.specs.Replies.{line}
+use Rattle.cml_host.specs.Answers.{answer_to, world_after, bad_line, lines, Answers, max_input, AnswersTrace}
+
+-- the text is a beginning of what answers these lines
+pub record BeginsAnswer (n : ℕ) (w : PlainWorld) (all : List (List ℕ)) (part : List ℕ) : Type 0 where
+  pub text : List ℕ
+  pub unwritten : List ℕ
+  pub end : TraceEnd
+  pub answered : Answers n w all text end
+  pub begun : text ≡ part ++ unwritten
+
+-- the text is a beginning of what answers the first of these lines
+pub record BeginsFirst (n : ℕ) (w : PlainWorld) (all : List (List ℕ)) (part : List ℕ) : Type 0 where
+  pub done : List (List ℕ)
+  pub others : List (List ℕ)
+  pub split : all ≡ done ++ others
+  pub begins : BeginsAnswer n w done part
+
+-- the lines were answered, and the text that answers them was written
+pub record AreAnswered (n : ℕ) (w : PlainWorld) (all : List (List ℕ)) (held holds : Option (List ℕ)) (end : TraceEnd) : Type 0 where
+  pub text : List ℕ
+  pub answered : Answers n w all text end
+  pub written : Appends held holds text
+
+-- a beginning of what answers the lines was written
+pub record AreBegun (n : ℕ) (w : PlainWorld) (all : List (List ℕ)) (held holds : Option (List ℕ)) : Type 0 where
+  pub part : List ℕ
+  pub begins : BeginsAnswer n w all part
+  pub written : Appends held holds part
+
+-- a beginning of what answers the first of the lines was written
+pub record FirstBegun (n : ℕ) (w : PlainWorld) (all : List (List ℕ)) (held holds : Option (List ℕ)) : Type 0 where
+  pub part : List ℕ
+  pub begins : BeginsFirst n w all part
+  pub written : Appends held holds part
+
+-- A line was answered, and the text of that written. The trace goes on in the world after it; or the line is bad.
+abbrev pub LineAnswered : ℕ → PlainWorld → PlainWorld → List ℕ → Option (List ℕ) → Option (List ℕ) → Bool → Type 0
+LineAnswered n old new first held holds true =
+    (what : Order) × Asks first what × (new ≡ world_after what old) × Appends held holds (answer_to what old)
+LineAnswered n old new first held holds false = IsBad first × Appends held holds (bad_line n)
+
+-- the fault is one of a write or of memory
+abbrev pub IsWriteOrMemory : TraceFault → Type 0
+IsWriteOrMemory Read = ⊥
+IsWriteOrMemory Turns = ⊥
+IsWriteOrMemory Write = Unit {0}
+IsWriteOrMemory Memory = Unit {0}
+
+-- the bytes came from the reader, and they are all that it had, or more than a trace can have
+pub record Came (had left : Option (List ℕ)) (bytes : List ℕ) : Type 0 where
+  pub consumed : Consumes had left bytes
+  pub whole : IsAtEnd left ⊎ (max_input < length bytes)
+
+-- The trace that came from the reader was answered: the writer holds what it held, and behind it the text that answers the trace.
+pub record IsAnswered (had left held holds : Option (List ℕ)) (end : TraceEnd) : Type 0 where
+  pub trace : List ℕ
+  pub text : List ℕ
+  pub came : Came had left trace
+  pub answered : AnswersTrace trace text end
+  pub written : Appends held holds text
+
+-- the text is a beginning of what answers the trace
+abbrev pub BeginsTrace : List ℕ → List ℕ → Type 0
+BeginsTrace trace part = BeginsAnswer 1 empty_world (lines trace) part
+    ⊎ ((max_input < length trace) × ((unwritten : List ℕ) × (line (codes "too long") ≡ part ++ unwritten)))
+
+-- the trace came, and a beginning of what answers it was written
+pub record IsBegun (had left held holds : Option (List ℕ)) : Type 0 where
+  pub trace : List ℕ
+  pub part : List ℕ
+  pub came : Came had left trace
+  pub answered : BeginsTrace trace part
+  pub written : Appends held holds part
+
+-- What was written where the trace was not answered to its end: nothing where it was not read whole, and else a beginning of the text
+-- that answers it.
+abbrev pub IsBroken : Option (List ℕ) → Option (List ℕ) → Option (List ℕ) → Option (List ℕ) → TraceFault → Type 0
+IsBroken had left held holds Read = Keeps held holds
+IsBroken had left held holds Turns = Keeps held holds
+IsBroken had left held holds Write = IsBegun had left held holds
+IsBroken had left held holds Memory = Keeps held holds ⊎ IsBegun had left held holds

@@ -1,0 +1,107 @@
+//! The commands of the program.
+
+ghost use Rattle.std.specs.Prelude.{◌≡◌, map};
+ghost use Rattle.std.specs.Io.KnownBytes.{Keeps};
+ghost use Rattle.std.specs.String.{string_bytes};
+ghost use Rattle.cml_host.specs.Statuses as spec;
+ghost use Rattle.cml_host.specs.Statuses.{Says, HelpRan, TraceRan, Ran};
+
+use crate::input_output::write_out;
+use crate::store::Store;
+use crate::trace::{TraceEnd, TraceFault, run_trace};
+use cml_words::{Answer, Task, read_words};
+use std::alloc::{AllocError, Global};
+use std::io::{Read, Write};
+
+/// Runs the command that the words name, the first of which names the program, and answers the status of the process.
+///
+/// It reads the input, and writes what the command says to the output and what went wrong to the errors. The status is 0 where all was
+/// done, 1 where the words, the input or the output are at fault, 2 where a text is refused, and 5 where memory ran out.
+pub fn run_command<R: Read, O: Write, E: Write, S: Store>(
+    alloc: Global,
+    words: &[String],
+    input: &mut R,
+    out: &mut O,
+    err: &mut E,
+    _store: &mut S,
+) -> u8
+    ensures { Ran (map string_bytes words.now) (R.remaining input.old) (R.remaining input.new) (O.contents out.old) (O.contents out.new) (E.contents err.old) (E.contents err.new) result }
+{
+    match read_words(alloc, words) {
+        Ok(Answer::Task(Task::Trace)) => trace(alloc, input, out, err),
+        Ok(Answer::Help(text)) => help(text.as_bytes(), out, err),
+        Ok(Answer::Fault(text)) => {
+            say(err, text.as_bytes());
+            1
+        }
+        Err(AllocError) => {
+            say(err, b"memory\n");
+            5
+        }
+    }
+}
+
+// Writes the text that was asked for.
+fn help<O: Write, E: Write>(text: &[u8], out: &mut O, err: &mut E) -> u8
+    ensures { HelpRan text.now (O.contents out.old) (O.contents out.new) (E.contents err.old) (E.contents err.new) result }
+{
+    match write_out(out, text) {
+        Ok(()) => 0,
+        Err(_) => {
+            say(err, b"cannot write output\n");
+            1
+        }
+    }
+}
+
+// Answers the trace on the input.
+fn trace<R: Read, O: Write, E: Write>(alloc: Global, input: &mut R, out: &mut O, err: &mut E) -> u8
+    ensures { TraceRan (R.remaining input.old) (R.remaining input.new) (O.contents out.old) (O.contents out.new) (E.contents err.old) (E.contents err.new) result }
+{
+    match run_trace(alloc, input, out) {
+        Ok(end) => status_of(end),
+        Err(fault) => {
+            say(err, fault_line(fault).as_bytes());
+            fault_status(fault)
+        }
+    }
+}
+
+fn status_of(end: TraceEnd) -> u8
+    ensures { result ≡ spec.status_of end }
+{
+    match end {
+        TraceEnd::Done => 0,
+        TraceEnd::Bad(_) => 2,
+        TraceEnd::TooLong => 2,
+    }
+}
+
+fn fault_status(fault: TraceFault) -> u8
+    ensures { result ≡ spec.fault_status fault }
+{
+    match fault {
+        TraceFault::Read => 1,
+        TraceFault::Turns => 1,
+        TraceFault::Write => 1,
+        TraceFault::Memory => 5,
+    }
+}
+
+fn fault_line(fault: TraceFault) -> &'static str
+    ensures { result.now ≡ spec.fault_line fault }
+{
+    match fault {
+        TraceFault::Read => "cannot read input\n",
+        TraceFault::Turns => "cannot read input\n",
+        TraceFault::Write => "cannot write output\n",
+        TraceFault::Memory => "memory\n",
+    }
+}
+
+// Says what went wrong, as far as it can be said.
+fn say<E: Write>(err: &mut E, line: &[u8])
+    ensures { Says (E.contents err.old) (E.contents err.new) line.now }
+{
+    let _ = write_out(err, line);
+}

@@ -1,0 +1,10 @@
+//! The program: what the words of its command line ask for, over any input, output and store.
+#![tactic(auto)]
+
+mod command;
+pub mod input_output;
+mod store;
+pub mod trace;
+
+pub use command::run_command;
+pub use store::{Store, StoreFault};

@@ -1,0 +1,14 @@
+//! What holds of every trace. The function does nothing, and its contract is the law.
+
+ghost use Rattle.cml_host.specs.Laws.{HasOneAnswer};
+
+use cml_text::laws::{spelled_has_no_fault, spelled_or_faulty, spells_one_at_most};
+
+/// Every trace has an answer, and no other one.
+pub fn has_one_answer()
+    ensures { HasOneAnswer }
+{
+    spelled_or_faulty();
+    spelled_has_no_fault();
+    spells_one_at_most();
+}

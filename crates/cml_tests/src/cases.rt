@@ -1,0 +1,168 @@
+//! Worked cases: traces with the text that answers them.
+
+use crate::run::{repeated, trace_gives};
+use std::test::Fail;
+
+#[test]
+fn bad_line(rt: HostRuntime) -> Result<(), Fail> {
+    let input = "spawn\nfoo\nspawn\n";
+    let output = "thread 0\nbad 2\n";
+    trace_gives(&rt, rt.alloc(), input, output, 2)
+}
+
+#[test]
+fn choose_nested_63(rt: HostRuntime) -> Result<(), Fail> {
+    let input = repeated(
+        rt.alloc(),
+        &[
+            ("spawn\nsync 0 ", 1),
+            ("(choose ", 63),
+            ("never", 1),
+            (")", 63),
+            ("\n", 1),
+        ],
+    )?;
+    let output = "thread 0\nok\n";
+    trace_gives(&rt, rt.alloc(), input.as_str(), output, 0)
+}
+
+#[test]
+fn choose_nested_64(rt: HostRuntime) -> Result<(), Fail> {
+    let input = repeated(
+        rt.alloc(),
+        &[
+            ("spawn\nsync 0 ", 1),
+            ("(choose ", 64),
+            ("never", 1),
+            (")", 64),
+            ("\n", 1),
+        ],
+    )?;
+    let output = "thread 0\nrefused 8 deep\n";
+    trace_gives(&rt, rt.alloc(), input.as_str(), output, 0)
+}
+
+#[test]
+fn empty_trace(rt: HostRuntime) -> Result<(), Fail> {
+    let input = "";
+    let output = "";
+    trace_gives(&rt, rt.alloc(), input, output, 0)
+}
+
+#[test]
+fn first_exchange(rt: HostRuntime) -> Result<(), Fail> {
+    let input =
+        "spawn\nspawn\nchan\nsync 0 (send 0 5)\nsync 1 (recv 0)\nrows\ncommit 0 0 1 0\nrows\n";
+    let output =
+        "thread 0\nthread 1\nchan 0\nok\nok\nrows 1\nrow 0 0 1 0\nresume 0 ()\nresume 1 5\nfired\nrows 0\n";
+    trace_gives(&rt, rt.alloc(), input, output, 0)
+}
+
+#[test]
+fn leaves_256(rt: HostRuntime) -> Result<(), Fail> {
+    let input = repeated(
+        rt.alloc(),
+        &[
+            ("spawn\nsync 0 (choose", 1),
+            (" (always 1)", 256),
+            (")\n", 1),
+        ],
+    )?;
+    let output = "thread 0\nok\n";
+    trace_gives(&rt, rt.alloc(), input.as_str(), output, 0)
+}
+
+#[test]
+fn leaves_257(rt: HostRuntime) -> Result<(), Fail> {
+    let input = repeated(
+        rt.alloc(),
+        &[
+            ("spawn\nsync 0 (choose", 1),
+            (" (always 1)", 257),
+            (")\n", 1),
+        ],
+    )?;
+    let output = "thread 0\nrefused 7 leaves\n";
+    trace_gives(&rt, rt.alloc(), input.as_str(), output, 0)
+}
+
+#[test]
+fn nack_stays_lit(rt: HostRuntime) -> Result<(), Fail> {
+    let input =
+        "spawn\nspawn\nspawn\nnack 0\nsync 1 (nack 0)\nrows\nsync 0 (choose (always 1) (scope 0 never))\ncommit 0 0\nsync 2 (nack 0)\nrows\n";
+    let output =
+        "thread 0\nthread 1\nthread 2\nnack 0\nok\nrows 0\nok\nresume 0 1\nfired 0\nok\nrows 2\nrow 1 0\nrow 2 0\n";
+    trace_gives(&rt, rt.alloc(), input, output, 0)
+}
+
+#[test]
+fn nested_scopes_fire_the_inner(rt: HostRuntime) -> Result<(), Fail> {
+    let input =
+        "spawn\nspawn\nchan\nchan\nnack 1\nnack 1\nsync 0 (send 0 9)\nsync 1 (scope 0 (choose (recv 0) (scope 1 (recv 1))))\ncommit 0 0 1 0\n";
+    let output =
+        "thread 0\nthread 1\nchan 0\nchan 1\nnack 0\nnack 1\nok\nok\nresume 0 ()\nresume 1 9\nfired 1\n";
+    trace_gives(&rt, rt.alloc(), input, output, 0)
+}
+
+#[test]
+fn no_match_within_one_thread(rt: HostRuntime) -> Result<(), Fail> {
+    let input = "spawn\nchan\nsync 0 (choose (send 0 1) (recv 0))\nrows\n";
+    let output = "thread 0\nchan 0\nok\nrows 0\n";
+    trace_gives(&rt, rt.alloc(), input, output, 0)
+}
+
+#[test]
+fn own_nack_not_lit(rt: HostRuntime) -> Result<(), Fail> {
+    let input = "spawn\nnack 0\nsync 0 (scope 0 (nack 0))\nrows\n";
+    let output = "thread 0\nnack 0\nok\nrows 0\n";
+    trace_gives(&rt, rt.alloc(), input, output, 0)
+}
+
+#[test]
+fn refusals_of_nacks(rt: HostRuntime) -> Result<(), Fail> {
+    let input =
+        "spawn\nspawn\nnack 0\nsync 1 (scope 0 never)\nsync 0 (choose (scope 0 never) (scope 0 never))\nsync 0 (scope 1 never)\nsync 0 (scope 0 (always 1))\ncommit 0 0\nsync 0 (scope 0 never)\n";
+    let output =
+        "thread 0\nthread 1\nnack 0\nrefused 11 nack\nrefused 11 nack\nrefused 3 object\nok\nresume 0 1\nfired\nrefused 11 nack\n";
+    trace_gives(&rt, rt.alloc(), input, output, 0)
+}
+
+#[test]
+fn refusals_of_threads(rt: HostRuntime) -> Result<(), Fail> {
+    let input = "spawn\nsync 1 never\nsync 0 (recv 0)\nsync 0 never\nsync 0 never\nend 0\nend 5\n";
+    let output =
+        "thread 0\nrefused 1 thread\nrefused 3 object\nok\nrefused 2 state\nrefused 2 state\nrefused 1 thread\n";
+    trace_gives(&rt, rt.alloc(), input, output, 0)
+}
+
+#[test]
+fn scope_without_leaves_fires(rt: HostRuntime) -> Result<(), Fail> {
+    let input = "spawn\nnack 0\nsync 0 (choose (scope 0 never) (always 3))\nrows\ncommit 0 0\n";
+    let output = "thread 0\nnack 0\nok\nrows 1\nrow 0 0\nresume 0 3\nfired 0\n";
+    trace_gives(&rt, rt.alloc(), input, output, 0)
+}
+
+#[test]
+fn stale_row_refused(rt: HostRuntime) -> Result<(), Fail> {
+    let input =
+        "spawn\nspawn\nchan\nsync 0 (send 0 5)\nsync 1 (recv 0)\nrows\ncommit 0 0 1 0\nrows\ncommit 0 0 1 0\nrows\n";
+    let output =
+        "thread 0\nthread 1\nchan 0\nok\nok\nrows 1\nrow 0 0 1 0\nresume 0 ()\nresume 1 5\nfired\nrows 0\nrefused 5 row\nrows 0\n";
+    trace_gives(&rt, rt.alloc(), input, output, 0)
+}
+
+#[test]
+fn two_choices_that_mirror(rt: HostRuntime) -> Result<(), Fail> {
+    let input =
+        "spawn\nspawn\nchan\nsync 0 (choose (send 0 1) (recv 0))\nsync 1 (choose (send 0 1) (recv 0))\nrows\ncommit 0 0 1 1\nrows\n";
+    let output =
+        "thread 0\nthread 1\nchan 0\nok\nok\nrows 2\nrow 0 0 1 1\nrow 1 0 0 1\nresume 0 ()\nresume 1 1\nfired\nrows 0\n";
+    trace_gives(&rt, rt.alloc(), input, output, 0)
+}
+
+#[test]
+fn wraps_innermost_first(rt: HostRuntime) -> Result<(), Fail> {
+    let input = "spawn\nsync 0 (wrap (wrap (always 4) 7 1) 8)\ncommit 0 0\n";
+    let output = "thread 0\nok\nresume 0 4 (7 1) (8)\nfired\n";
+    trace_gives(&rt, rt.alloc(), input, output, 0)
+}
