@@ -179,8 +179,8 @@ taken_is ts c ns tick (after_ticks d) = refl
 taken_is ts c ns tick (nack k) = refl
 
 released_is : (ts : List PlainThread) (c : ℕ) (ns : List PlainNack) (tick t n : ℕ) (g : PlainGroup) → slice_get ts t ≡ Some (pending_on g)
-    → released (world_of ts c ns tick) t n ≡ world_of (slice_set ts t running) c (settled n (scopes g) ns) tick
-released_is ts c ns tick t n g waits = ap (λ x. world_of (slice_set ts t running) c (settled n (scopes (group_of x)) ns) tick) waits
+    → released (world_of ts c ns tick) t n ≡ world_of (slice_set ts t running) c (settled n g ns) tick
+released_is ts c ns tick t n g waits = ap (λ x. world_of (slice_set ts t running) c (settled n (group_of x) ns) tick) waits
 
 resume_is : (ts : List PlainThread) (c : ℕ) (ns : List PlainNack) (tick t n : ℕ) (g : PlainGroup) (b : PlainBase) (ws : List PlainFunction) (v : PlainValue) → slice_get ts t ≡ Some (pending_on g) → pick g n ≡ Some (record { base = b; wraps = ws })
     → resume (world_of ts c ns tick) t n v ≡ record { thread = t; value = v; wraps = ws; fired = fired_nacks g n }
@@ -194,16 +194,16 @@ base_at_is ts c ns tick t n g b ws waits picked = rw waits (rw picked refl)
 pub single_taken : (ts : List PlainThread) (c : ℕ) (ns : List PlainNack) (tick : ℕ) (t : Tid) (n : ℕ) (g : PlainGroup) (b : PlainBase) (ws : List PlainFunction) → slice_get ts t.0 ≡ Some (pending_on g)
     → pick g n ≡ Some (record { base = b; wraps = ws }) → has_row (scan (world_of ts c ns tick)) (Single t n) ≡ true
     → commit (world_of ts c ns tick) (Single t n)
-    ≡ Ok (world_of (slice_set ts t.0 running) c (settled n (scopes g) ns) tick, record { head = record { thread = t.0; value = given_alone b; wraps = ws; fired = fired_nacks g n }; partner = None })
+    ≡ Ok (world_of (slice_set ts t.0 running) c (settled n g ns) tick, record { head = record { thread = t.0; value = given_alone b; wraps = ws; fired = fired_nacks g n }; partner = None })
 single_taken ts c ns tick t n g b ws waits picked has =
     let base : base_at (world_of ts c ns tick) t.0 n ≡ b = base_at_is ts c ns tick t.0 n g b ws waits picked in
-    let world : after (world_of ts c ns tick) (Single t n) ≡ world_of (slice_set ts t.0 running) c (settled n (scopes g) ns) tick
+    let world : after (world_of ts c ns tick) (Single t n) ≡ world_of (slice_set ts t.0 running) c (settled n g ns) tick
     = ap (λ w. released w t.0 n) (taken_is ts c ns tick (base_at (world_of ts c ns tick) t.0 n)) ∙ released_is ts c ns tick t.0 n g waits in
     let value : given (world_of ts c ns tick) (base_at (world_of ts c ns tick) t.0 n) ≡ given_alone b = ap (given (world_of ts c ns tick)) base ∙ given_is ts c ns tick b in
     let head : PlainResume → Committed = λ r. record { head = r; partner = None } in
     let handed : hands (world_of ts c ns tick) (Single t n) ≡ record { head = record { thread = t.0; value = given_alone b; wraps = ws; fired = fired_nacks g n }; partner = None }
     = ap (λ v. head (resume (world_of ts c ns tick) t.0 n v)) value ∙ ap head (resume_is ts c ns tick t.0 n g b ws (given_alone b) waits picked) in
-    commit_is (world_of ts c ns tick) (Single t n) has ∙ ap (λ w. Ok (w, hands (world_of ts c ns tick) (Single t n))) world ∙ ap (λ h. Ok (world_of (slice_set ts t.0 running) c (settled n (scopes g) ns) tick, h)) handed
+    commit_is (world_of ts c ns tick) (Single t n) has ∙ ap (λ w. Ok (w, hands (world_of ts c ns tick) (Single t n))) world ∙ ap (λ h. Ok (world_of (slice_set ts t.0 running) c (settled n g ns) tick, h)) handed
 
 -- the nacks of a thread that goes are among those of the threads that go
 nack_among : (gone : List Tid) (n i : ℕ) (ts : List PlainThread) (g : PlainGroup) (k : ℕ) → slice_get ts i ≡ Some (pending_on g) → is_among gone (n + i) ≡ true → Contains (nacks_of (scopes g)) k
@@ -260,58 +260,58 @@ gone_one t = one t.0
 -- what a book keeps when one thread has gone on
 pub keeps_single : (ts : List PlainThread) (c : ℕ) (ns : List PlainNack) (tick : ℕ) (es : List PlainEntry) (told : Light → Bool) (room : ℕ) (t : Tid) (n : ℕ) (g : PlainGroup) (es' : List PlainEntry) (told' : Light → Bool)
     (ts' : List PlainThread) (ns' : List PlainNack) (lit : List Light) (room' : ℕ)
-    → Keeps (world_of ts c ns tick) es told room → slice_get ts t.0 ≡ Some (pending_on g) → ts' ≡ slice_set ts t.0 running → ns' ≡ settled n (scopes (group_of (slice_get ts t.0))) ns
+    → Keeps (world_of ts c ns tick) es told room → slice_get ts t.0 ≡ Some (pending_on g) → ts' ≡ slice_set ts t.0 running → ns' ≡ settled n (group_of (slice_get ts t.0)) ns
     → lit ≡ map nack_light (fired_nacks g n) → es' ≡ without (t ∷ []) es → ((l : Light) → told' l ≡ lit_after lit [] l (told l)) → room' ≡ room
     → Keeps (world_of ts' c ns' tick) es' told' room'
 keeps_single ts c ns tick es told room t n g es' told' ts' ns' lit room' k waits threads nacks lights gone tells size =
-    let cells : ns' ≡ settled n (scopes g) ns = nacks ∙ ap (λ x. settled n (scopes (group_of x)) ns) waits in
+    let cells : ns' ≡ settled n g ns = nacks ∙ ap (λ x. settled n (group_of x) ns) waits in
     rw (threads, cells, size)
-    (keeps_same (slice_set ts t.0 running) c (settled n (scopes g) ns) tick (without (t ∷ []) es) (λ l. lit_after (map nack_light (fired_nacks g n)) [] l (told l)) room es' told' gone
+    (keeps_same (slice_set ts t.0 running) c (settled n g ns) tick (without (t ∷ []) es) (λ l. lit_after (map nack_light (fired_nacks g n)) [] l (told l)) room es' told' gone
     (λ l. tells l ∙ ap (λ x. lit_after x [] l (told l)) lights) (keeps_resume ts c ns tick es told room t n g k waits))
 
 -- what the call for a single answers
 pub single_returns : (ts : List PlainThread) (c : ℕ) (ns : List PlainNack) (tick : ℕ) (t : Tid) (n : ℕ) (g : PlainGroup) (b : PlainBase) (ws : List PlainFunction) (v : PlainValue) (fs : List ℕ) (ts' : List PlainThread) (ns' : List PlainNack) (r : PlainResume)
     → slice_get ts t.0 ≡ Some (pending_on g) → pick (group_of (slice_get ts t.0)) n ≡ Some (record { base = b; wraps = ws }) → has_row (scan (world_of ts c ns tick)) (Single t n) ≡ true
-    → ts' ≡ slice_set ts t.0 running → ns' ≡ settled n (scopes (group_of (slice_get ts t.0))) ns → v ≡ given_alone b → fs ≡ fired_nacks (group_of (slice_get ts t.0)) n
+    → ts' ≡ slice_set ts t.0 running → ns' ≡ settled n (group_of (slice_get ts t.0)) ns → v ≡ given_alone b → fs ≡ fired_nacks (group_of (slice_get ts t.0)) n
     → r ≡ record { thread = t.0; value = v; wraps = ws; fired = fs }
     → commit (world_of ts c ns tick) (Single t n) ≡ Ok (world_of ts' c ns' tick, record { head = r; partner = None })
 single_returns ts c ns tick t n g b ws v fs ts' ns' r waits picked has threads nacks value lost made =
     let group : group_of (slice_get ts t.0) ≡ g = ap group_of waits in
     let own = subst (λ x. pick x n ≡ Some (record { base = b; wraps = ws })) group picked in
-    let cells : ns' ≡ settled n (scopes g) ns = nacks ∙ ap (λ x. settled n (scopes x) ns) group in
+    let cells : ns' ≡ settled n g ns = nacks ∙ ap (λ x. settled n x ns) group in
     let handed : r ≡ record { thread = t.0; value = given_alone b; wraps = ws; fired = fired_nacks g n } = made ∙ rw (value, lost, group) refl in
     rw (threads, cells, handed) (single_taken ts c ns tick t n g b ws waits own has)
 
 -- the receiver waits still, once the sender has gone on
 pub second_waits : (ts : List PlainThread) (c : ℕ) (ns : List PlainNack) (tick : ℕ) (es : List PlainEntry) (told : Light → Bool) (room : ℕ) (h : Tid) (i : ℕ) (o : Tid) (j : ℕ) (a : PlainGroup) (g : PlainGroup) (ts' : List PlainThread) (ns' : List PlainNack)
     → Keeps (world_of ts c ns tick) es told room → slice_get ts h.0 ≡ Some (pending_on a) → slice_get ts o.0 ≡ Some (pending_on g) → h.0 ≢ o.0 → j < leaf_count g
-    → ts' ≡ slice_set ts h.0 running → ns' ≡ settled i (scopes (group_of (slice_get ts h.0))) ns
+    → ts' ≡ slice_set ts h.0 running → ns' ≡ settled i (group_of (slice_get ts h.0)) ns
     → (slice_get ts' o.0 ≡ Some (pending_on g)) × WaitsOn ts' ns' o.0 j (group_of (slice_get ts' o.0))
 second_waits ts c ns tick es told room h i o j a g ts' ns' k first second differ within threads nacks =
-    let cells : ns' ≡ settled i (scopes a) ns = nacks ∙ ap (λ x. settled i (scopes (group_of x)) ns) first in
+    let cells : ns' ≡ settled i a ns = nacks ∙ ap (λ x. settled i (group_of x) ns) first in
     let waits : slice_get (slice_set ts h.0 running) o.0 ≡ Some (pending_on g) = get-set_other ts h.0 o.0 running differ ∙ second in
     let k1 = keeps_resume ts c ns tick es told room h i a k first in
-    let live_still : AreLive (nacks_of (scopes g)) (settled i (scopes a) ns) = record { each = λ n. let x = nacks-resume n 0 o.0 (slice_set ts h.0 running) g waits in let y = k1.nacks_live n in omega arith } in
+    let live_still : AreLive (nacks_of (scopes g)) (settled i a ns) = record { each = λ n. let x = nacks-resume n 0 o.0 (slice_set ts h.0 running) g waits in let y = k1.nacks_live n in omega arith } in
     rw (threads, cells) (waits, rw waits (record { waits = waits; within = within; alive = live_still }))
 
 -- what a book keeps when a sender and a receiver have gone on
 pub keeps_pair : (ts : List PlainThread) (c : ℕ) (ns : List PlainNack) (tick : ℕ) (es : List PlainEntry) (told : Light → Bool) (room : ℕ) (h : Tid) (i : ℕ) (o : Tid) (j : ℕ) (a g : PlainGroup) (es' : List PlainEntry) (told' : Light → Bool)
     (ts1 ts2 : List PlainThread) (ns1 ns2 : List PlainNack) (lit : List Light) (room' : ℕ)
     → Keeps (world_of ts c ns tick) es told room → slice_get ts h.0 ≡ Some (pending_on a) → slice_get ts o.0 ≡ Some (pending_on g) → h.0 ≢ o.0
-    → ts1 ≡ slice_set ts h.0 running → ns1 ≡ settled i (scopes (group_of (slice_get ts h.0))) ns
-    → ts2 ≡ slice_set ts1 o.0 running → ns2 ≡ settled j (scopes (group_of (slice_get ts1 o.0))) ns1
+    → ts1 ≡ slice_set ts h.0 running → ns1 ≡ settled i (group_of (slice_get ts h.0)) ns
+    → ts2 ≡ slice_set ts1 o.0 running → ns2 ≡ settled j (group_of (slice_get ts1 o.0)) ns1
     → lit ≡ map nack_light (fired_nacks a i) ++ map nack_light (fired_nacks g j) → es' ≡ without (h ∷ o ∷ []) es → ((l : Light) → told' l ≡ lit_after lit [] l (told l)) → room' ≡ room
     → Keeps (world_of ts2 c ns2 tick) es' told' room'
 keeps_pair ts c ns tick es told room h i o j a g es' told' ts1 ts2 ns1 ns2 lit room' k first second differ threads1 nacks1 threads2 nacks2 lights gone tells size =
     let waits : slice_get (slice_set ts h.0 running) o.0 ≡ Some (pending_on g) = get-set_other ts h.0 o.0 running differ ∙ second in
-    let cells1 : ns1 ≡ settled i (scopes a) ns = nacks1 ∙ ap (λ x. settled i (scopes (group_of x)) ns) first in
+    let cells1 : ns1 ≡ settled i a ns = nacks1 ∙ ap (λ x. settled i (group_of x) ns) first in
     let now2 : ts2 ≡ slice_set (slice_set ts h.0 running) o.0 running = threads2 ∙ ap (λ x. slice_set x o.0 running) threads1 in
-    let cells2 : ns2 ≡ settled j (scopes g) (settled i (scopes a) ns) =
-    nacks2 ∙ ap (λ x. settled j (scopes (group_of (slice_get x o.0))) ns1) threads1 ∙ ap (λ x. settled j (scopes (group_of x)) ns1) waits ∙ ap (settled j (scopes g)) cells1 in
+    let cells2 : ns2 ≡ settled j g (settled i a ns) =
+    nacks2 ∙ ap (λ x. settled j (group_of (slice_get x o.0)) ns1) threads1 ∙ ap (λ x. settled j (group_of x) ns1) waits ∙ ap (settled j g) cells1 in
     let k1 = keeps_resume ts c ns tick es told room h i a k first in
-    let k2 = keeps_resume (slice_set ts h.0 running) c (settled i (scopes a) ns) tick (without (h ∷ []) es) (λ l. lit_after (map nack_light (fired_nacks a i)) [] l (told l)) room o j g k1 waits in
+    let k2 = keeps_resume (slice_set ts h.0 running) c (settled i a ns) tick (without (h ∷ []) es) (λ l. lit_after (map nack_light (fired_nacks a i)) [] l (told l)) room o j g k1 waits in
     rw (now2, cells2, size)
-    (keeps_same (slice_set (slice_set ts h.0 running) o.0 running) c (settled j (scopes g) (settled i (scopes a) ns)) tick (without (o ∷ []) (without (h ∷ []) es))
+    (keeps_same (slice_set (slice_set ts h.0 running) o.0 running) c (settled j g (settled i a ns)) tick (without (o ∷ []) (without (h ∷ []) es))
     (λ l. lit_after (map nack_light (fired_nacks g j)) [] l (lit_after (map nack_light (fired_nacks a i)) [] l (told l))) room es' told' (gone ∙ sym (without_two h o es))
     (λ l. tells l ∙ ap (λ x. lit_after x [] l (told l)) lights ∙ lit_more (map nack_light (fired_nacks a i)) (map nack_light (fired_nacks g j)) l (told l)) k2)
 
@@ -319,8 +319,8 @@ keeps_pair ts c ns tick es told room h i o j a g es' told' ts1 ts2 ns1 ns2 lit r
 pub pair_returns : (ts : List PlainThread) (c : ℕ) (ns : List PlainNack) (tick : ℕ) (h : Tid) (i : ℕ) (o : Tid) (j : ℕ) (a g : PlainGroup) (b d : PlainBase) (ws us : List PlainFunction) (v u : PlainValue) (fs es : List ℕ)
     (ts1 ts2 : List PlainThread) (ns1 ns2 : List PlainNack) (r q : PlainResume)
     → slice_get ts h.0 ≡ Some (pending_on a) → slice_get ts o.0 ≡ Some (pending_on g) → h.0 ≢ o.0 → has_row (scan (world_of ts c ns tick)) (Pair h i o j) ≡ true
-    → ts1 ≡ slice_set ts h.0 running → ns1 ≡ settled i (scopes (group_of (slice_get ts h.0))) ns
-    → ts2 ≡ slice_set ts1 o.0 running → ns2 ≡ settled j (scopes (group_of (slice_get ts1 o.0))) ns1
+    → ts1 ≡ slice_set ts h.0 running → ns1 ≡ settled i (group_of (slice_get ts h.0)) ns
+    → ts2 ≡ slice_set ts1 o.0 running → ns2 ≡ settled j (group_of (slice_get ts1 o.0)) ns1
     → pick (group_of (slice_get ts h.0)) i ≡ Some (record { base = b; wraps = ws }) → fs ≡ fired_nacks (group_of (slice_get ts h.0)) i
     → pick (group_of (slice_get ts1 o.0)) j ≡ Some (record { base = d; wraps = us }) → es ≡ fired_nacks (group_of (slice_get ts1 o.0)) j
     → u ≡ unit → v ≡ sent b
@@ -333,12 +333,12 @@ pair_returns ts c ns tick h i o j a g b d ws us v u fs es ts1 ts2 ns1 ns2 r q fi
     let group2 : group_of (slice_get ts1 o.0) ≡ g = ap (λ x. group_of (slice_get x o.0)) threads1 ∙ ap group_of waits in
     let own1 = subst (λ x. pick x i ≡ Some (record { base = b; wraps = ws })) group1 picked1 in
     let own2 = subst (λ x. pick x j ≡ Some (record { base = d; wraps = us })) group2 picked2 in
-    let cells1 : ns1 ≡ settled i (scopes a) ns = nacks1 ∙ ap (λ x. settled i (scopes x) ns) group1 in
+    let cells1 : ns1 ≡ settled i a ns = nacks1 ∙ ap (λ x. settled i x ns) group1 in
     let now2 : ts2 ≡ slice_set (slice_set ts h.0 running) o.0 running = threads2 ∙ ap (λ x. slice_set x o.0 running) threads1 in
-    let cells2 : ns2 ≡ settled j (scopes g) (settled i (scopes a) ns) = nacks2 ∙ ap (λ x. settled j (scopes x) ns1) group2 ∙ ap (settled j (scopes g)) cells1 in
-    let one : released w h.0 i ≡ world_of (slice_set ts h.0 running) c (settled i (scopes a) ns) tick = released_is ts c ns tick h.0 i a first in
+    let cells2 : ns2 ≡ settled j g (settled i a ns) = nacks2 ∙ ap (λ x. settled j x ns1) group2 ∙ ap (settled j g) cells1 in
+    let one : released w h.0 i ≡ world_of (slice_set ts h.0 running) c (settled i a ns) tick = released_is ts c ns tick h.0 i a first in
     let world : after w (Pair h i o j) ≡ world_of ts2 c ns2 tick =
-    ap (λ x. released x o.0 j) one ∙ released_is (slice_set ts h.0 running) c (settled i (scopes a) ns) tick o.0 j g waits ∙ ap (λ x. world_of x c (settled j (scopes g) (settled i (scopes a) ns)) tick) (sym now2) ∙ ap (λ x. world_of ts2 c x tick) (sym cells2) in
+    ap (λ x. released x o.0 j) one ∙ released_is (slice_set ts h.0 running) c (settled i a ns) tick o.0 j g waits ∙ ap (λ x. world_of x c (settled j g (settled i a ns)) tick) (sym now2) ∙ ap (λ x. world_of ts2 c x tick) (sym cells2) in
     let base : base_at w h.0 i ≡ b = base_at_is ts c ns tick h.0 i a b ws first own1 in
     let head : resume w h.0 i unit ≡ r = resume_is ts c ns tick h.0 i a b ws unit first own1 ∙ sym (made1 ∙ rw (head_value, lost1, group1) refl) in
     let partner : resume w o.0 j (sent (base_at w h.0 i)) ≡ q =

@@ -16,7 +16,7 @@ use Rattle.cml_book.specs.Step.{times_named, with_nacks, settled, is_fresh_for}
 use Rattle.cml_book.specs.Keeping.{world_of, pending_nacks, lives, NacksLive, AreLive, nack_light, lights_in, Keeps}
 use Rattle.cml_book.proofs.Pendings.{pending-push, pending-end, pending-wait, pending-resume, without_none, without_two}
 use Rattle.cml_book.proofs.LightLemmas.{agree_still, has_ended-push, has_ended-set, has_fired-push, light_of-same}
-use Rattle.cml_book.proofs.NackLemmas.{lives-push, nacks-wait, nacks-resume, lives-settled, fired-settled, lives-enter, fired-enter, length-with_nacks, length-settled, get-set_other}
+use Rattle.cml_book.proofs.NackLemmas.{lives-push, nacks-wait, nacks-resume, lives-settled_group, fired-settled_group, lives-enter, fired-enter, length-with_nacks, length-settled_group, get-set_other}
 use Rattle.cml_book.proofs.Retold.{retold, group_told, lit_more, has_nack_light, no_nack_light}
 
 module _ (ts : List PlainThread) (c : ℕ) (ns : List PlainNack) (tick : ℕ) (es : List PlainEntry) (told : Light → Bool) (room : ℕ) where
@@ -133,10 +133,10 @@ module _ (ts : List PlainThread) (c : ℕ) (ns : List PlainNack) (tick : ℕ) (e
 
   -- a pending thread goes on from a leaf, and the nacks that the leaf loses are told to be lit
   pub keeps_resume : (t : Tid) (n : ℕ) (g : PlainGroup) → Keeps (world_of ts c ns tick) es told room → slice_get ts t.0 ≡ Some (pending_on g)
-      → Keeps (world_of (slice_set ts t.0 running) c (settled n (scopes g) ns) tick) (without (t ∷ []) es) (λ l. lit_after (map nack_light (fired_nacks g n)) [] l (told l)) room
+      → Keeps (world_of (slice_set ts t.0 running) c (settled n g ns) tick) (without (t ∷ []) es) (λ l. lit_after (map nack_light (fired_nacks g n)) [] l (told l)) room
   keeps_resume t n g k waits =
       let w : PlainWorld = world_of ts c ns tick in
-      let w' : PlainWorld = world_of (slice_set ts t.0 running) c (settled n (scopes g) ns) tick in
+      let w' : PlainWorld = world_of (slice_set ts t.0 running) c (settled n g ns) tick in
       let new : pending w' ≡ without (t ∷ []) (pending w) = pending-resume t 0 t.0 ts (omega arith) in
       record {
         told_groups = ap (without (t ∷ [])) k.told_groups ∙ sym new;
@@ -144,25 +144,25 @@ module _ (ts : List PlainThread) (c : ℕ) (ns : List PlainNack) (tick : ℕ) (e
         nacks_live = λ j.
             let a = nacks-resume j 0 t.0 ts g waits in
             let b = k.nacks_live j in
-            let d = lives-settled n (scopes g) ns j alive in
+            let d = lives-settled_group n g ns j alive in
             omega arith;
         few_threads = rw (length-set ts t.0 running) k.few_threads;
         few_channels = k.few_channels;
-        few_nacks = rw (length-settled n (scopes g) ns) k.few_nacks;
+        few_nacks = rw (length-settled_group n g ns) k.few_nacks;
         roomy = All-filter _ (λ x. 2 * length (scopes x.group) ≤ room) es k.roomy;
       }
     where
       alive : AreLive (nacks_of (scopes g)) ns
       alive = record { each = λ j. let a = nacks-resume j 0 t.0 ts g waits in let b = k.nacks_live j in omega arith }
 
-      after : (l : Light) → told l ≡ light_of (world_of ts c ns tick) l → lit_after (map nack_light (fired_nacks g n)) [] l (told l) ≡ light_of (world_of (slice_set ts t.0 running) c (settled n (scopes g) ns) tick) l
+      after : (l : Light) → told l ≡ light_of (world_of ts c ns tick) l → lit_after (map nack_light (fired_nacks g n)) [] l (told l) ≡ light_of (world_of (slice_set ts t.0 running) c (settled n g ns) tick) l
       after (of.IVar i) e = rw (no_nack_light (fired_nacks g n) (of.IVar i) (λ j. refl)) e
       after (of.MVar m) e = rw (no_nack_light (fired_nacks g n) (of.MVar m) (λ j. refl)) e
       after (of.Mailbox b) e = rw (no_nack_light (fired_nacks g n) (of.Mailbox b) (λ j. refl)) e
       after (of.Port p) e = rw (no_nack_light (fired_nacks g n) (of.Port p) (λ j. refl)) e
       after (of.Thread u) e = rw (no_nack_light (fired_nacks g n) (of.Thread u) (λ j. refl)) (e ∙ sym (has_ended-set ts t.0 u.0 running (ap has_ended waits) refl))
       after (of.Tick m) e = rw (no_nack_light (fired_nacks g n) (of.Tick m) (λ j. refl)) e
-      after (of.Nack m) e = rw (has_nack_light (fired_nacks g n) m, fired-settled n (scopes g) ns m.0 alive, e) (same (list_any (λ j. nat_eq j m.0) (fired_nacks g n)) (has_fired (slice_get ns m.0)))
+      after (of.Nack m) e = rw (has_nack_light (fired_nacks g n) m, fired-settled_group n g ns m.0 alive, e) (same (list_any (λ j. nat_eq j m.0) (fired_nacks g n)) (has_fired (slice_get ns m.0)))
         where
           same : (a b : Bool) → cond a true b ≡ a || b
           same true b = refl

@@ -117,6 +117,11 @@ rest_live k ks ns n dead h = record { each = λ j. at j (nat_eq k j) refl }
 abbrev pub settled_one : ℕ → PlainScope → PlainNack
 settled_one n s = cond (lies_outside n s) fired held
 
+-- the nacks of these scopes settled one after another, as the code goes
+abbrev pub settled_in_turn : ℕ → List PlainScope → List PlainNack → List PlainNack
+settled_in_turn n [] nacks = nacks
+settled_in_turn n (s ∷ ss) nacks = settled_in_turn n ss (slice_set nacks s.nack (settled_one n s))
+
 pub settled_one-dead : (n : ℕ) (s : PlainScope) → lives (Some (settled_one n s)) ≡ 0
 settled_one-dead n s = at (lies_outside n s)
   where
@@ -126,14 +131,14 @@ settled_one-dead n s = at (lies_outside n s)
 
 -- The nacks of a group that goes on are live no more, and the others as before.
 pub lives-settled : (n : ℕ) (ss : List PlainScope) (ns : List PlainNack) (k : ℕ) → AreLive (nacks_of ss) ns
-    → lives (slice_get (settled n ss ns) k) + times_named k (nacks_of ss) ≡ lives (slice_get ns k)
+    → lives (slice_get (settled_in_turn n ss ns) k) + times_named k (nacks_of ss) ≡ lives (slice_get ns k)
 lives-settled n [] ns k h = omega arith
 lives-settled n (s ∷ ss) ns k h =
     let ih = lives-settled n ss (slice_set ns s.nack (settled_one n s)) k (rest_live s.nack (nacks_of ss) ns (settled_one n s) (settled_one-dead n s) h) in
     at (nat_eq s.nack k) refl ih
   where
-    at : (b : Bool) → nat_eq s.nack k ≡ b → lives (slice_get (settled n ss (slice_set ns s.nack (settled_one n s))) k) + times_named k (nacks_of ss) ≡ lives (slice_get (slice_set ns s.nack (settled_one n s)) k)
-        → lives (slice_get (settled n ss (slice_set ns s.nack (settled_one n s))) k) + times_named k (s.nack ∷ nacks_of ss) ≡ lives (slice_get ns k)
+    at : (b : Bool) → nat_eq s.nack k ≡ b → lives (slice_get (settled_in_turn n ss (slice_set ns s.nack (settled_one n s))) k) + times_named k (nacks_of ss) ≡ lives (slice_get (slice_set ns s.nack (settled_one n s)) k)
+        → lives (slice_get (settled_in_turn n ss (slice_set ns s.nack (settled_one n s))) k) + times_named k (s.nack ∷ nacks_of ss) ≡ lives (slice_get ns k)
     at true e ih =
         let same : s.nack ≡ k = grind (arith, nat_tests) in
         let alive : slice_get ns s.nack ≡ Some live = first_live s.nack (nacks_of ss) ns h in
@@ -149,7 +154,7 @@ lives-settled n (s ∷ ss) ns k h =
 
 -- A nack has fired where it had, or where it is one of those that the leaf loses.
 pub fired-settled : (n : ℕ) (ss : List PlainScope) (ns : List PlainNack) (k : ℕ) → AreLive (nacks_of ss) ns
-    → has_fired (slice_get (settled n ss ns) k) ≡ list_any (λ j. nat_eq j k) (nacks_of (filter (lies_outside n) ss)) || has_fired (slice_get ns k)
+    → has_fired (slice_get (settled_in_turn n ss ns) k) ≡ list_any (λ j. nat_eq j k) (nacks_of (filter (lies_outside n) ss)) || has_fired (slice_get ns k)
 fired-settled n [] ns k h = refl
 fired-settled n (s ∷ ss) ns k h =
     let ih = fired-settled n ss (slice_set ns s.nack (settled_one n s)) k (rest_live s.nack (nacks_of ss) ns (settled_one n s) (settled_one-dead n s) h) in
@@ -282,9 +287,70 @@ pub length-with_nacks : (ks : List ℕ) (so : PlainNack) (ns : List PlainNack) �
 length-with_nacks [] so ns = refl
 length-with_nacks (k ∷ ks) so ns = length-with_nacks ks so (slice_set ns k so) ∙ length-set ns k so
 
-pub length-settled : (n : ℕ) (ss : List PlainScope) (ns : List PlainNack) → length (settled n ss ns) ≡ length ns
-length-settled n [] ns = refl
-length-settled n (s ∷ ss) ns = length-settled n ss (slice_set ns s.nack (settled_one n s)) ∙ length-set ns s.nack (settled_one n s)
+-- setting at two places, in either order
+set-set_other : {X : Type 0} (xs : List X) (i j : ℕ) (x y : X) → i ≢ j → slice_set (slice_set xs i x) j y ≡ slice_set (slice_set xs j y) i x
+set-set_other [] i j x y h = refl
+set-set_other (z ∷ xs) zero zero x y h = absurd (h refl)
+set-set_other (z ∷ xs) zero (suc j) x y h = refl
+set-set_other (z ∷ xs) (suc i) zero x y h = refl
+set-set_other (z ∷ xs) (suc i) (suc j) x y h = ap (λ l. z ∷ l) (set-set_other xs i j x y (λ e. h (ap suc e)))
+
+-- setting twice at one place
+set-set_same : {X : Type 0} (xs : List X) (i : ℕ) (x y : X) → slice_set (slice_set xs i x) i y ≡ slice_set xs i y
+set-set_same [] i x y = refl
+set-set_same (z ∷ xs) zero x y = refl
+set-set_same (z ∷ xs) (suc i) x y = ap (λ l. z ∷ l) (set-set_same xs i x y)
+
+-- a nack that these do not name may be set before them or after them
+with_nacks-set : (ks : List ℕ) (so x : PlainNack) (ns : List PlainNack) (j : ℕ) → times_named j ks ≡ 0 → with_nacks ks so (slice_set ns j x) ≡ slice_set (with_nacks ks so ns) j x
+with_nacks-set [] so x ns j h = refl
+with_nacks-set (k ∷ ks) so x ns j h = at (nat_eq k j) refl (with_nacks-set ks so x (slice_set ns k so) j)
+  where
+    at : (b : Bool) → nat_eq k j ≡ b → (times_named j ks ≡ 0 → with_nacks ks so (slice_set (slice_set ns k so) j x) ≡ slice_set (with_nacks ks so (slice_set ns k so)) j x)
+        → with_nacks ks so (slice_set (slice_set ns j x) k so) ≡ slice_set (with_nacks ks so (slice_set ns k so)) j x
+    at true e ih = let one = times-named k j ks e in absurd (omega arith)
+    at false e ih =
+        let none = times-other k j ks e in
+        let differ : j ≢ k = grind (arith, nat_tests) in
+        ap (with_nacks ks so) (set-set_other ns j k x so differ) ∙ ih (omega arith)
+
+-- one after another is all held, and then those of the branches in which the leaf does not lie fired
+pub settled_is : (n : ℕ) (ss : List PlainScope) (ns : List PlainNack) → AreLive (nacks_of ss) ns
+    → settled_in_turn n ss ns ≡ with_nacks (nacks_of (filter (lies_outside n) ss)) fired (with_nacks (nacks_of ss) held ns)
+settled_is n [] ns h = refl
+settled_is n (s ∷ ss) ns h =
+    settled_is n ss (slice_set ns s.nack (settled_one n s)) (rest_live s.nack (nacks_of ss) ns (settled_one n s) (settled_one-dead n s) h) ∙ at (lies_outside n s) refl
+  where
+    lost : List ℕ
+    lost = nacks_of (filter (lies_outside n) ss)
+
+    none : times_named s.nack (nacks_of ss) ≡ 0
+    none =
+        let all = h.each s.nack in
+        let most = lives-le (slice_get ns s.nack) in
+        let one : nat_eq s.nack s.nack ≡ true = grind (arith, nat_tests) in
+        let once = times-named s.nack s.nack (nacks_of ss) one in
+        omega arith
+
+    at : (b : Bool) → lies_outside n s ≡ b → with_nacks lost fired (with_nacks (nacks_of ss) held (slice_set ns s.nack (cond (lies_outside n s) fired held)))
+        ≡ with_nacks (nacks_of (cond (lies_outside n s) (s ∷ filter (lies_outside n) ss) (filter (lies_outside n) ss))) fired (with_nacks (nacks_of ss) held (slice_set ns s.nack held))
+    at true e =
+        let first : with_nacks (nacks_of ss) held (slice_set ns s.nack fired) ≡ slice_set (with_nacks (nacks_of ss) held ns) s.nack fired = with_nacks-set (nacks_of ss) held fired ns s.nack none in
+        let second : slice_set (with_nacks (nacks_of ss) held (slice_set ns s.nack held)) s.nack fired ≡ slice_set (with_nacks (nacks_of ss) held ns) s.nack fired =
+        ap (λ l. slice_set l s.nack fired) (with_nacks-set (nacks_of ss) held held ns s.nack none) ∙ set-set_same (with_nacks (nacks_of ss) held ns) s.nack held fired in
+        rw e (ap (with_nacks lost fired) (first ∙ sym second))
+    at false e = rw e refl
+
+pub lives-settled_group : (n : ℕ) (g : PlainGroup) (ns : List PlainNack) (k : ℕ) → AreLive (nacks_of (scopes g)) ns
+    → lives (slice_get (settled n g ns) k) + times_named k (nacks_of (scopes g)) ≡ lives (slice_get ns k)
+lives-settled_group n g ns k h = ap (λ l. lives (slice_get l k) + times_named k (nacks_of (scopes g))) (sym (settled_is n (scopes g) ns h)) ∙ lives-settled n (scopes g) ns k h
+
+pub fired-settled_group : (n : ℕ) (g : PlainGroup) (ns : List PlainNack) (k : ℕ) → AreLive (nacks_of (scopes g)) ns
+    → has_fired (slice_get (settled n g ns) k) ≡ list_any (λ j. nat_eq j k) (nacks_of (filter (lies_outside n) (scopes g))) || has_fired (slice_get ns k)
+fired-settled_group n g ns k h = ap (λ l. has_fired (slice_get l k)) (sym (settled_is n (scopes g) ns h)) ∙ fired-settled n (scopes g) ns k h
+
+pub length-settled_group : (n : ℕ) (g : PlainGroup) (ns : List PlainNack) → length (settled n g ns) ≡ length ns
+length-settled_group n g ns = length-with_nacks (nacks_of (filter (lies_outside n) (scopes g))) fired (with_nacks (nacks_of (scopes g)) held ns) ∙ length-with_nacks (nacks_of (scopes g)) held ns
 
 -- the nacks that can enter are fresh
 pub can_enter_fresh : (t : ℕ) (ks : List ℕ) (ns : List PlainNack) → list_all (λ j. is_fresh_for t (slice_get ns j) && (nat_eq (times_named j ks) 1)) ks ≡ true → AreFresh ks ns

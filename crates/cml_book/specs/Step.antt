@@ -1,5 +1,5 @@
 -- What each command does to the world, and what it answers: one outcome for each command, by cases.
-use Rattle.std.specs.Prelude.{ℕ, ◌≡◌, ◌+◌, ◌^◌, ◌==◌, Bool, true, false, not, ◌&&◌, ◌||◌, nat_lt, nat_le, List, [], ◌∷◌, ◌++◌, length, map, filter, Option, Some, None, Result, Ok, Err, IsOk, alloc_error, slice_get, slice_set, count_by, if◌then◌else◌}
+use Rattle.std.specs.Prelude.{ℕ, ◌≡◌, ◌≢◌, ◌+◌, ◌^◌, ◌==◌, Bool, true, false, not, ◌&&◌, ◌||◌, nat_lt, nat_le, List, [], ◌∷◌, ◌++◌, length, map, filter, Option, Some, None, Result, Ok, Err, IsOk, alloc_error, slice_get, slice_set, count_by, if◌then◌else◌}
 use Rattle.std.specs.List.{list_all, list_any}
 use Rattle.std.specs.declared.alloc.AllocError.{AllocError}
 use Rattle.cml_value.specs.Value.{PlainValue, unit, PlainFunction}
@@ -67,7 +67,7 @@ thread_refusal (Some ended) = Some refusal.State
 abbrev pub with_thread : PlainWorld → ℕ → PlainThread → PlainWorld
 with_thread w t thread = record w { threads = slice_set w.threads t thread }
 
--- the nacks with these so
+-- the nacks after each of these was set so
 abbrev pub with_nacks : List ℕ → PlainNack → List PlainNack → List PlainNack
 with_nacks [] so nacks = nacks
 with_nacks (k ∷ ks) so nacks = with_nacks ks so (slice_set nacks k so)
@@ -159,14 +159,16 @@ group_of (Some running) = never
 group_of (Some (pending_on g)) = g
 group_of (Some ended) = never
 
+-- the group that the thread of this number waits on
 abbrev pub group_at : PlainWorld → ℕ → PlainGroup
 group_at w t = group_of (slice_get w.threads t)
 
--- the base event and the wraps of a leaf; one that is not there has nothing to give
+-- the base event of a leaf; one that is not there has nothing to give
 abbrev pub base_of : Option PlainLeaf → PlainBase
 base_of None = always unit
 base_of (Some l) = l.base
 
+-- its wraps, innermost first
 abbrev pub wraps_of : Option PlainLeaf → List PlainFunction
 wraps_of None = []
 wraps_of (Some l) = l.wraps
@@ -175,17 +177,19 @@ wraps_of (Some l) = l.wraps
 abbrev pub base_at : PlainWorld → ℕ → ℕ → PlainBase
 base_at w t n = base_of (slice_get (leaves (group_at w t)) n)
 
--- the value in a variable, and the first item of a list
+-- the value in a variable; an empty one has unit
 abbrev pub value_in : Option (Option PlainValue) → PlainValue
 value_in None = unit
 value_in (Some None) = unit
 value_in (Some (Some v)) = v
 
+-- the first item of a mailbox or a port; an empty one has unit
 abbrev pub first_of : Option (List PlainValue) → PlainValue
 first_of None = unit
 first_of (Some []) = unit
 first_of (Some (v ∷ vs)) = v
 
+-- the items behind the first
 abbrev pub rest_of : Option (List PlainValue) → List PlainValue
 rest_of None = []
 rest_of (Some []) = []
@@ -256,14 +260,14 @@ abbrev pub hands : PlainWorld → Meet → Committed
 hands w (Single t n) = record { head = resume w t.0 n (given w (base_at w t.0 n)); partner = None }
 hands w (Pair h i o j) = record { head = resume w h.0 i unit; partner = Some (resume w o.0 j (sent (base_at w h.0 i))) }
 
--- The nacks of these scopes after the leaf of this number was chosen: one in whose branch it does not lie has fired, any other is held.
-abbrev pub settled : ℕ → List PlainScope → List PlainNack → List PlainNack
-settled n [] nacks = nacks
-settled n (s ∷ ss) nacks = settled n ss (slice_set nacks s.nack (if lies_outside n s then fired else held))
+-- The nacks after the leaf of this number was chosen from the group: of its scopes' nacks those that the leaf fires have fired, and the
+-- others are held (Reppy's withNack).
+abbrev pub settled : ℕ → PlainGroup → List PlainNack → List PlainNack
+settled n g nacks = with_nacks (fired_nacks g n) fired (with_nacks (nacks_of (scopes g)) held nacks)
 
 -- the thread goes on from this leaf: it runs, and the nacks of its group are settled
 abbrev pub released : PlainWorld → ℕ → ℕ → PlainWorld
-released w t n = record w { threads = slice_set w.threads t running; nacks = settled n (scopes (group_at w t)) w.nacks }
+released w t n = record w { threads = slice_set w.threads t running; nacks = settled n (group_at w t) w.nacks }
 
 -- the world after a row was taken
 abbrev pub after : PlainWorld → Meet → PlainWorld
@@ -284,18 +288,18 @@ Does (Err (Refused why)) outcome old new = (outcome ≡ Err why) × (new ≡ old
 Does (Err Memory) outcome old new = IsOk outcome × (new ≡ old)
 
 -- the world and the reply of an outcome; a refusal leaves the world as it was
-abbrev pub told : {R : Type 0} → (R → Reply) → PlainWorld → Outcome R → PlainWorld × Reply
-told reply_for w (Ok next) = (next.0, reply_for next.1)
-told reply_for w (Err why) = (w, reply.Refused why)
+abbrev pub answered : {R : Type 0} → (R → Reply) → PlainWorld → Outcome R → PlainWorld × Reply
+answered reply_for w (Ok next) = (next.0, reply_for next.1)
+answered reply_for w (Err why) = (w, reply.Refused why)
 
 -- one command, by cases
 abbrev pub step : PlainWorld → Command → PlainWorld × Reply
-step w command.Spawn = told reply.Thread w (spawn w)
-step w command.MakeChan = told reply.Chan w (make_chan w)
-step w (command.Nack t) = told reply.Nack w (make_nack w t.0)
-step w (command.Sync t g) = told (λ _. reply.Done) w (sync w t.0 g)
-step w (command.Commit row) = told reply.Committed w (commit w row)
-step w (command.End t) = told (λ _. reply.Done) w (finish w t.0)
+step w command.Spawn = answered reply.Thread w (spawn w)
+step w command.MakeChan = answered reply.Chan w (make_chan w)
+step w (command.Nack t) = answered reply.Nack w (make_nack w t.0)
+step w (command.Sync t g) = answered (λ _. reply.Done) w (sync w t.0 g)
+step w (command.Commit row) = answered reply.Committed w (commit w row)
+step w (command.End t) = answered (λ _. reply.Done) w (finish w t.0)
 
 -- a refusal is a reply; want of memory is none
 abbrev pub refused_reply : Fault → Result Reply AllocError
@@ -312,12 +316,13 @@ abbrev pub world_after : List Command → PlainWorld → PlainWorld
 world_after [] w = w
 world_after (c ∷ cs) w = world_after cs (step w c).0
 
--- Some of the commands were done, with these replies, and these are left.
+-- Some of the commands were done, with these replies, and these are left, of which there is at least one.
 pub record HasStopped (commands : List Command) (replies : List Reply) (left : List Command) (old new : PlainWorld) : Type 0 where
   pub done : List Command
   pub split : commands ≡ done ++ left
   pub told_so_far : replies ≡ replies_of done old
   pub stands : new ≡ world_after done old
+  pub some_left : left ≢ []
 
 -- the world in which nothing is, at time 0
 abbrev pub empty_world : PlainWorld

@@ -98,7 +98,7 @@ impl<T: Table> Book<T> {
         ensures step { Does result (spec.make_chan self.old) self.old self.new }
         ensures sure { result ≢ Err Fault.Memory }
     {
-        if self.channels >= 65_536 {
+        if self.channels as usize >= MAX_OBJECTS {
             return Err(Fault::Refused(Refusal::Full));
         }
         let channel = ChanId(self.channels);

@@ -4,6 +4,7 @@ use crate::refusal::Refusal;
 use cml_scan::Meet;
 use cml_value::{ChanId, FnRef, Group, NackId, Tid, Value};
 use std::marker::Model;
+use thiserror::Error;
 
 /// A party of a committed row, which goes on.
 #[derive(Debug, Drop)]
@@ -67,12 +68,24 @@ impl Resume {
     {
         &self.fired
     }
+
+    /// The thread, the value, the functions and the nacks, for one who keeps them.
+    pub fn into_parts(self) -> (Tid, Value, Vec<FnRef>, Vec<NackId>)
+        ensures tid { result.0.0 ≡ self.thread }
+        ensures value { result.1 ≡ self.value }
+        ensures wraps { result.2.items ≡ self.wraps }
+        ensures fired { map (λ k. k.0) result.3.items ≡ self.fired }
+    {
+        (self.tid, self.value, self.wraps, self.fired)
+    }
 }
 
 /// What the parties of a committed row get, the head first: of a pair, the sender.
 #[derive(Debug, Drop)]
 pub struct Committed {
+    /// The party that begins the row: of a pair, the sender.
     pub head: Resume,
+    /// The receiver of a pair.
     pub partner: Option<Resume>,
 }
 
@@ -111,8 +124,11 @@ pub enum Reply {
 }
 
 /// A run that wanted memory: the replies to the commands that were done, and the commands that were not.
-#[derive(Debug, Drop)]
+#[derive(Debug, Drop, Error)]
+#[error("out of memory before the run was done")]
 pub struct Stopped {
+    /// The replies to the commands that were done, in order.
     pub replies: Vec<Reply>,
+    /// The commands that were not done, in order, of which the first wanted memory.
     pub left: Vec<Command>,
 }

@@ -40,7 +40,7 @@ fn push_light(lights: &mut Vec<Light>, nack: NackId, is_lost: bool)
 pub fn settle(cells: &mut Vec<NackCell>, flat: &Flat, leaf: usize)
     requires leaf { leaf < leaf_count flat.now }
     requires alive { AreLive (nacks_of (scopes flat.now)) cells.old.items }
-    ensures { cells.new.items ≡ settled leaf (scopes flat.now) cells.old.items }
+    ensures { cells.new.items ≡ settled leaf flat.now cells.old.items }
 {
     let nacks = flat.scopes();
     for i in 0..nacks.len() {

@@ -29,7 +29,7 @@ pub fn waiting(threads: &[Thread], thread: Tid) -> Option<&Flat>
 pub fn go_on(threads: &mut Vec<Thread>, cells: &mut Vec<NackCell>, thread: Tid, leaf: u32) -> Chosen
     requires { WaitsOn threads.old.items cells.old.items thread.0 leaf (group_of (slice_get threads.old.items thread.0)) }
     ensures threads { threads.new.items ≡ slice_set threads.old.items thread.0 running }
-    ensures nacks { cells.new.items ≡ settled leaf (scopes (group_of (slice_get threads.old.items thread.0))) cells.old.items }
+    ensures nacks { cells.new.items ≡ settled leaf (group_of (slice_get threads.old.items thread.0)) cells.old.items }
     ensures leaf { pick (group_of (slice_get threads.old.items thread.0)) leaf
         ≡ Some (record { base = result.base; wraps = result.wraps.items }) }
     ensures lost { numbers result.lost.items ≡ fired_nacks (group_of (slice_get threads.old.items thread.0)) leaf }

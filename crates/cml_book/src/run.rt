@@ -10,11 +10,8 @@ use cml_scan::Table;
 use std::alloc::{AllocError, Global};
 
 impl<T: Table> Book<T> {
-    /// One command. A refusal is a reply.
-    ///
-    /// # Errors
-    /// Want of memory; nothing changes.
-    pub fn perform(&mut self, alloc: Global, command: &Command) -> Result<Reply, AllocError>
+    // One command. A refusal is a reply.
+    fn perform(&mut self, alloc: Global, command: &Command) -> Result<Reply, AllocError>
         ensures ok { IfOk result (λ reply. spec.step self.old command.now ≡ (self.new, reply)) }
         ensures err { OnErr result (self.new ≡ self.old) }
     {

@@ -2,7 +2,8 @@
 
 use crate::{Book, Fault, KeptRows, Refusal};
 use cml_scan::{Meet, Table};
-use cml_value::{Base, BaseKind, ChanId, Group, GroupKind, NackId, Tid, Value, ValueKind};
+use cml_value::{Base, BaseKind, ChanId, Group, GroupKind, IVarId, NackId, Tid, Value, ValueKind};
+use std::alloc::Global;
 use std::test::Fail;
 
 fn leaf(kind: BaseKind) -> Group {
@@ -55,6 +56,77 @@ fn a_nack_is_for_its_thread(rt: HostRuntime) -> Result<(), Fail> {
     assert_eq!(rt;
         book.end(alloc, Tid(0)),
         Err(Fault::Refused(Refusal::State))
+    );
+    Ok(())
+}
+
+#[test]
+fn what_needs_no_object_is_waited_for(rt: HostRuntime) -> Result<(), Fail> {
+    let alloc = rt.alloc();
+    let mut book = Book::new(alloc, KeptRows::new(alloc));
+    assert_eq!(rt; book.spawn(), Ok(Tid(0)));
+    assert_eq!(rt; book.spawn(), Ok(Tid(1)));
+    assert_eq!(rt; book.spawn(), Ok(Tid(2)));
+    assert_eq!(rt;
+        book.sync(alloc, Tid(0), &leaf(BaseKind::Join(Tid(1)))),
+        Ok(())
+    );
+    assert_eq!(rt; book.sync(alloc, Tid(2), &leaf(BaseKind::After(0))), Ok(()));
+    let joined = Meet::Single {
+        tid: Tid(0),
+        leaf: 0,
+    };
+    let woken = Meet::Single {
+        tid: Tid(2),
+        leaf: 0,
+    };
+    assert!(rt; !book.table().has(&joined));
+    assert!(rt; book.table().has(&woken));
+    assert_eq!(rt; book.end(alloc, Tid(1)), Ok(()));
+    assert!(rt; book.table().has(&joined));
+    let committed = book.commit(alloc, joined).expect(&rt, "ample memory");
+    let (tid, value, wraps, fired) = committed.head.into_parts();
+    assert_eq!(rt; tid, Tid(0));
+    assert!(rt; value.same(&Value::new(ValueKind::Unit)));
+    assert_eq!(rt; (wraps.len(), fired.len()), (0, 0));
+    Ok(())
+}
+
+fn refusal_of(book: &mut Book<KeptRows>, alloc: Global, kind: BaseKind) -> Option<Refusal> {
+    match book.sync(alloc, Tid(0), &leaf(kind)) {
+        Err(Fault::Refused(why)) => Some(why),
+        Ok(()) | Err(Fault::Memory) => None,
+    }
+}
+
+#[test]
+fn a_wait_is_refused_by_what_it_names(rt: HostRuntime) -> Result<(), Fail> {
+    let alloc = rt.alloc();
+    let mut book = Book::new(alloc, KeptRows::new(alloc));
+    assert_eq!(rt; book.spawn(), Ok(Tid(0)));
+    let variable = BaseKind::IGet(IVarId(0));
+    assert_eq!(rt;
+        refusal_of(&mut book, alloc, variable),
+        Some(Refusal::Object)
+    );
+    let missing = BaseKind::Join(Tid(1));
+    assert_eq!(rt;
+        refusal_of(&mut book, alloc, missing),
+        Some(Refusal::Object)
+    );
+    let far = BaseKind::At(4_611_686_018_427_387_905);
+    assert_eq!(rt; refusal_of(&mut book, alloc, far), Some(Refusal::Far));
+    let overflowing = BaseKind::After(u64::MAX);
+    assert_eq!(rt;
+        refusal_of(&mut book, alloc, overflowing),
+        Some(Refusal::Far)
+    );
+    let greatest = BaseKind::At(4_611_686_018_427_387_904);
+    assert_eq!(rt; refusal_of(&mut book, alloc, greatest), None);
+    let anything = BaseKind::At(0);
+    assert_eq!(rt;
+        refusal_of(&mut book, alloc, anything),
+        Some(Refusal::State)
     );
     Ok(())
 }

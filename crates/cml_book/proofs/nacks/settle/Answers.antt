@@ -1,7 +1,11 @@
 use Rattle.std.proofs.Common.{◌≡◌, sym, suc, arith, add-one, slice_index_or}
 use Rattle.cml_value.specs.Group.{scopes}
 use Rattle.cml_book.proofs.Scopes.{scope_at, settle_step, next_live}
+use Rattle.cml_book.proofs.NackLemmas.{settled_is}
 use Rattle.cml_book.proofs.nacks.settle.Goals as goal
+
+pub loop-i-init : goal.loop-i-init
+loop-i-init c = record { leads = settled_is c.args.leaf (scopes c.args.flat.now) c.args.cells.now.items c.requires.alive; alive = c.requires.alive }
 
 pub settle_one-requires : goal.settle_one-requires
 settle_one-requires c =
