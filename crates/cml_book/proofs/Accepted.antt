@@ -1,12 +1,11 @@
 -- What is known where a wait on a group is not refused.
-use Rattle.std.proofs.Common.{◌≡◌, ℕ, ◌≤◌, Bool, true, false, not, nat_lt, nat_le, Option, Some, None, refl, sym, arith}
+use Rattle.std.proofs.Common.{◌≡◌, ℕ, ◌≤◌, Bool, true, false, not, nat_lt, Option, Some, None, refl, sym, arith}
 use Rattle.std.specs.Prelude.{slice_get}
 use Rattle.std.specs.List.{list_any}
 use Rattle.std.proofs.lemmas.Bool.Decides.{nat_tests}
 use Rattle.cml_value.specs.Group.{PlainGroup, leaf_count, bases, scopes, nacks_of, group_fits}
 use Rattle.cml_scan.specs.World.{PlainThread, running, pending_on, ended, PlainWorld}
 use Rattle.cml_book.specs.declared.refusal.Refusal.{Refusal}
-use Rattle.cml_book.specs.declared.refusal.Refusal.TheVariants as refusal
 use Rattle.cml_book.specs.Entering.{is_far}
 use Rattle.cml_book.specs.Step.{first_if, first_of_both, thread_refusal, group_exists, can_enter, sync_refusal}
 

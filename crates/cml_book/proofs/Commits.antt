@@ -1,7 +1,7 @@
 -- The parties of a row that is in the table, and what taking it does.
-use Rattle.std.proofs.Common.{◌≡◌, ◌≢◌, ℕ, ◌+◌, ◌*◌, ◌<◌, ◌≤◌, Bool, true, false, not, ◌||◌, nat_eq, cond, List, [], ◌∷◌, ◌++◌, length, map, refl, ap, sym, subst, ◌∙◌, arith, zero, suc, Option, Some, None, Ok, Err, slice_index_or, zero-add}
-use Rattle.std.specs.Prelude.{All, Any, AllPairs, Contains, slice_get, slice_set}
-use Rattle.std.specs.List.{filter, list_any, flat_map}
+use Rattle.std.proofs.Common.{◌≡◌, ◌≢◌, ℕ, ◌+◌, ◌*◌, ◌<◌, ◌≤◌, Bool, true, false, ◌||◌, nat_eq, cond, List, [], ◌∷◌, ◌++◌, length, map, refl, ap, sym, subst, ◌∙◌, arith, zero, suc, Option, Some, None, Ok, Err, slice_index_or, zero-add}
+use Rattle.std.specs.Prelude.{All, AllPairs, Contains, slice_get, slice_set}
+use Rattle.std.specs.List.{filter, flat_map}
 use Rattle.std.specs.Option.{option_copied, option_and_then}
 use Rattle.std.specs.Borrow.{Bor}
 use Rattle.cml_book.specs.Threads.{flat_of}
@@ -9,20 +9,19 @@ use Rattle.std.proofs.lemmas.Bool.Decides.{nat_tests}
 use Rattle.std.proofs.lemmas.List.{length-map}
 use Rattle.std.proofs.lemmas.List.Elements.{All-nil, All-cons, All-head, All-tail, All-map, All-weaker, Contains-append_left, Contains-append_right}
 use Rattle.cml_value.specs.Value.{PlainValue, unit, PlainBase, always, send, recv, iget, mtake, mget, mswap, mail_recv, port_recv, join, at_tick, after_ticks, nack, PlainFunction}
-use Rattle.cml_value.specs.Group.{PlainGroup, PlainLeaf, PlainScope, leaves, leaf_count, bases, scopes, nacks_of, lies_outside, fired as fired_nacks}
+use Rattle.cml_value.specs.Group.{PlainGroup, PlainLeaf, PlainScope, leaves, leaf_count, scopes, nacks_of, lies_outside, fired as fired_nacks}
 use Rattle.cml_value.specs.declared.number.Tid.{Tid}
 use Rattle.cml_group.specs.Leaves.{pick}
-use Rattle.cml_scan.specs.World.{PlainThread, running, pending_on, ended, PlainNack, PlainWorld, PlainEntry, pending, pending_from}
-use Rattle.cml_scan.specs.Light.{light_of}
+use Rattle.cml_scan.specs.World.{PlainThread, running, pending_on, ended, PlainNack, PlainWorld, PlainEntry, pending_from}
 use Rattle.cml_scan.specs.Scan.{scan, scan_of, has_row, is_among}
-use Rattle.cml_scan.specs.Table.{IsThere, without, lit_after, TellsLights, nacks_among, IsNackOf}
-use Rattle.cml_scan.specs.Enabled.{leaf_of, IsEnabled}
+use Rattle.cml_scan.specs.Table.{IsThere, without, lit_after, nacks_among, IsNackOf}
+use Rattle.cml_scan.specs.Enabled.{leaf_of}
 use Rattle.cml_scan.specs.declared.object.Light.{Light}
 use Rattle.cml_scan.specs.declared.meet.Meet.{Meet}
 use Rattle.cml_scan.specs.declared.meet.Meet.TheVariants.{Single, Pair}
 use Rattle.cml_scan.proofs.Told.{scan_of-told}
 use Rattle.cml_scan.proofs.Enabling.{scan-members, Contains-has_row}
-use Rattle.cml_book.specs.Step.{group_of, base_at, commit, after, hands, given, taken, settled, released, resume, sent, times_named}
+use Rattle.cml_book.specs.Step.{group_of, base_at, commit, after, hands, given, taken, settled, released, resume, sent}
 use Rattle.cml_book.specs.Keeping.{world_of, Keeps, AreLive, nack_light}
 use Rattle.cml_book.specs.Parties.{WaitsOn, given_alone}
 use Rattle.cml_book.specs.Resumes.{PlainResume}

@@ -1,9 +1,7 @@
 -- A member of a choice lies lower than the choice, so a walk through it ends.
-use Rattle.std.proofs.Common.{◌≡◌, ℕ, zero, suc, ◌+◌, ◌<◌, List, [], ◌∷◌, length, get_or, arith, ap, sym, ◌∙◌, refl}
+use Rattle.std.proofs.Common.{◌≡◌, ℕ, zero, suc, ◌<◌, List, [], ◌∷◌, length, get_or, arith, ap}
 use Rattle.cml_value.specs.Group.{PlainGroup, choose, groups}
 use Rattle.cml_value.specs.GroupHeights.{group_height, groups_height}
-use Rattle.cml_value.specs.GroupViews.{group_of}
-use Rattle.cml_value.specs.declared.group.GroupKind.{GroupKind}
 
 member_height : (gs : List PlainGroup) (i : ℕ) (d : PlainGroup) → i < length gs → group_height (get_or gs i d) < groups_height (groups gs)
 member_height [] i d h = absurd (omega arith)

@@ -1,23 +1,23 @@
 -- What a book keeps after each kind of change.
-use Rattle.std.proofs.Common.{◌≡◌, ◌≢◌, ℕ, ◌+◌, ◌*◌, ◌<◌, ◌≤◌, Bool, true, false, not, ◌&&◌, ◌||◌, nat_eq, nat_lt, cond, List, [], ◌∷◌, ◌++◌, length, map, refl, ap, sym, subst, ◌∙◌, arith, zero, suc, Option, Some, None, length-append, length-set, slice_index_or}
+use Rattle.std.proofs.Common.{◌≡◌, ◌≢◌, ℕ, ◌+◌, ◌*◌, ◌<◌, ◌≤◌, Bool, true, false, not, ◌&&◌, ◌||◌, nat_eq, nat_lt, cond, List, [], ◌∷◌, ◌++◌, length, map, refl, ap, sym, ◌∙◌, arith, zero, suc, Option, Some, None, length-append, length-set, slice_index_or}
 use Rattle.std.specs.Prelude.{All, slice_get, slice_set}
 use Rattle.std.specs.List.{filter, list_any, list_all}
 use Rattle.std.proofs.lemmas.Bool.Decides.{nat_tests}
-use Rattle.std.proofs.lemmas.List.Elements.{All-nil, All-cons, All-append, All-filter, All-weaker}
-use Rattle.cml_value.specs.Group.{PlainGroup, PlainScope, scopes, nacks_of, lies_outside, fired as fired_nacks, bases}
+use Rattle.std.proofs.lemmas.List.Elements.{All-cons, All-append, All-filter, All-weaker}
+use Rattle.cml_value.specs.Group.{PlainGroup, scopes, nacks_of, fired as fired_nacks, bases}
 use Rattle.cml_value.specs.declared.number.Tid.{Tid}
-use Rattle.cml_scan.specs.World.{PlainThread, running, pending_on, ended, PlainNack, fresh_of, live, fired, held, PlainWorld, PlainEntry, pending, pending_from}
+use Rattle.cml_scan.specs.World.{PlainThread, running, pending_on, ended, PlainNack, fresh_of, live, PlainWorld, PlainEntry, pending}
 use Rattle.cml_scan.specs.Light.{has_ended, has_fired, light, light_of, is_told}
-use Rattle.cml_scan.specs.Table.{without, with_entry, has_light, lit_after, AgreeFor, TellsLights}
+use Rattle.cml_scan.specs.Table.{without, with_entry, lit_after, AgreeFor}
 use Rattle.cml_scan.specs.declared.object.Light.{Light}
 use Rattle.cml_scan.specs.declared.object.Light.TheVariants as of
 use Rattle.cml_scan.proofs.Telling.{AgreeForGroup, AgreeFor-without, AgreeFor-with_entry}
 use Rattle.cml_book.specs.Step.{times_named, with_nacks, settled, is_fresh_for}
-use Rattle.cml_book.specs.Keeping.{world_of, pending_nacks, lives, NacksLive, AreLive, nack_light, lights_in, Keeps}
-use Rattle.cml_book.proofs.Pendings.{pending-push, pending-end, pending-wait, pending-resume, without_none, without_two}
+use Rattle.cml_book.specs.Keeping.{world_of, AreLive, nack_light, lights_in, Keeps}
+use Rattle.cml_book.proofs.Pendings.{pending-push, pending-end, pending-wait, pending-resume, without_none}
 use Rattle.cml_book.proofs.LightLemmas.{agree_still, has_ended-push, has_ended-set, has_fired-push, light_of-same}
 use Rattle.cml_book.proofs.NackLemmas.{lives-push, nacks-wait, nacks-resume, lives-settled_group, fired-settled_group, lives-enter, fired-enter, length-with_nacks, length-settled_group, get-set_other}
-use Rattle.cml_book.proofs.Retold.{retold, group_told, lit_more, has_nack_light, no_nack_light}
+use Rattle.cml_book.proofs.Retold.{retold, group_told, has_nack_light, no_nack_light}
 
 module _ (ts : List PlainThread) (c : ℕ) (ns : List PlainNack) (tick : ℕ) (es : List PlainEntry) (told : Light → Bool) (room : ℕ) where
   -- the same is kept of what says the same

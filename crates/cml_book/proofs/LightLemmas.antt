@@ -1,12 +1,11 @@
 -- What a change of the world does to the lights that a table was told.
-use Rattle.std.proofs.Common.{◌≡◌, ◌≢◌, ℕ, ◌+◌, ◌<◌, ◌≤◌, Bool, true, false, not, ◌||◌, nat_eq, nat_lt, cond, List, [], ◌∷◌, ◌++◌, length, refl, ap, sym, ◌∙◌, arith, zero, suc, Option, Some, None}
-use Rattle.std.specs.Prelude.{slice_set, slice_get, All}
-use Rattle.std.specs.List.{filter, list_any}
-use Rattle.std.proofs.lemmas.List.Elements.{All-nil, All-cons, All-weaker}
-use Rattle.cml_scan.specs.World.{PlainThread, running, pending_on, ended, PlainNack, fresh_of, live, fired, held, PlainWorld, PlainEntry, pending}
+use Rattle.std.proofs.Common.{◌≡◌, ℕ, Bool, false, List, [], ◌∷◌, ◌++◌, refl, sym, ◌∙◌, zero, suc, Option, Some, None}
+use Rattle.std.specs.Prelude.{slice_set, slice_get}
+use Rattle.std.proofs.lemmas.List.Elements.{All-weaker}
+use Rattle.cml_scan.specs.World.{PlainThread, running, PlainNack, fresh_of, PlainEntry}
 use Rattle.cml_scan.specs.Light.{has_ended, has_fired, light_of, light, is_told}
 use Rattle.cml_scan.specs.Scan.{PlainOffer, offers_of}
-use Rattle.cml_scan.specs.Table.{AgreeFor, TellsLights}
+use Rattle.cml_scan.specs.Table.{AgreeFor}
 use Rattle.cml_scan.specs.declared.object.Light.{Light}
 use Rattle.cml_scan.specs.declared.object.Light.TheVariants as of
 use Rattle.cml_book.specs.Keeping.{world_of}

@@ -1,12 +1,11 @@
 -- Which nacks are live, and which have fired, after a change.
-use Rattle.std.proofs.Common.{◌≡◌, ◌≢◌, ℕ, ◌+◌, ◌-◌, ◌<◌, ◌≤◌, Bool, true, false, not, ◌&&◌, ◌||◌, nat_eq, nat_lt, cond, List, [], ◌∷◌, ◌++◌, length, refl, ap, sym, ◌∙◌, arith, zero, suc, Option, Some, None, map, length-set, zero-add}
-use Rattle.std.specs.Prelude.{slice_set, slice_get, All, count_by}
-use Rattle.std.specs.List.{filter, list_any, list_all, flat_map}
+use Rattle.std.proofs.Common.{◌≡◌, ◌≢◌, ℕ, ◌+◌, ◌≤◌, Bool, true, false, ◌&&◌, ◌||◌, nat_eq, nat_lt, cond, List, [], ◌∷◌, ◌++◌, length, refl, ap, sym, ◌∙◌, arith, zero, suc, Option, Some, None, length-set, zero-add}
+use Rattle.std.specs.Prelude.{slice_set, slice_get}
+use Rattle.std.specs.List.{filter, list_any, list_all}
 use Rattle.std.proofs.lemmas.List.Sums.{sum_by-append, sum_by-cons}
 use Rattle.std.proofs.lemmas.Bool.Decides.{nat_tests}
 use Rattle.cml_value.specs.Group.{PlainGroup, PlainScope, scopes, nacks_of, lies_outside}
-use Rattle.cml_signal.specs.NackCell.{is_fresh_of}
-use Rattle.cml_scan.specs.World.{PlainThread, running, pending_on, ended, PlainNack, fresh_of, live, fired, held, PlainEntry, pending_from}
+use Rattle.cml_scan.specs.World.{PlainThread, running, pending_on, ended, PlainNack, fresh_of, live, fired, held, pending_from}
 use Rattle.cml_scan.specs.Light.{has_fired}
 use Rattle.cml_book.specs.Step.{times_named, with_nacks, settled, is_fresh_for}
 use Rattle.cml_book.specs.Keeping.{pending_nacks, lives, AreLive, AreFresh, is_fresh}

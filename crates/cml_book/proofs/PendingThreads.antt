@@ -1,11 +1,11 @@
 -- The numbers of the pending threads, one thread more at a time.
-use Rattle.std.proofs.Common.{◌≡◌, ℕ, ◌+◌, ◌<◌, List, [], ◌∷◌, ◌++◌, length, map, take, slice_index_or, refl, ap, sym, ◌∙◌, arith, zero, suc, zero-add, Option, Some, None, true, false}
+use Rattle.std.proofs.Common.{◌≡◌, ℕ, ◌+◌, ◌<◌, List, [], ◌∷◌, ◌++◌, length, map, take, slice_index_or, refl, ap, sym, ◌∙◌, arith, suc, zero-add, Option, Some, None, true, false}
 use Rattle.std.specs.Option.{option_copied, is_some}
 use Rattle.std.specs.Borrow.{Bor}
 use Rattle.std.proofs.lemmas.List.{map-append, take_more, length-take-le}
 use Rattle.cml_value.specs.Group.{PlainGroup}
 use Rattle.cml_value.specs.declared.number.Tid.{Tid}
-use Rattle.cml_scan.specs.World.{PlainThread, running, pending_on, ended, PlainEntry, pending_from}
+use Rattle.cml_scan.specs.World.{PlainThread, running, pending_on, ended, pending_from}
 use Rattle.cml_book.specs.Threads.{flat_of}
 
 -- the numbers of the threads that wait

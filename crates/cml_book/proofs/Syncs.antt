@@ -1,18 +1,16 @@
 -- A wait on a group that is not refused.
-use Rattle.std.proofs.Common.{◌≡◌, ◌≢◌, ℕ, ◌+◌, ◌*◌, ◌<◌, ◌≤◌, Bool, true, false, not, ◌&&◌, List, [], ◌∷◌, ◌++◌, length, map, refl, ap, sym, subst, ◌∙◌, arith, Option, Some, None, Ok, Err, cond, nat_eq}
-use Rattle.std.specs.Prelude.{All, slice_get, slice_set, IsOk}
-use Rattle.std.specs.List.{filter, list_any, list_all}
+use Rattle.std.proofs.Common.{◌≡◌, ℕ, ◌*◌, ◌≤◌, Bool, true, false, not, ◌&&◌, List, [], ◌∷◌, length, refl, ap, sym, subst, ◌∙◌, Some, None, Ok, Err, cond, nat_eq}
+use Rattle.std.specs.Prelude.{All, slice_get, slice_set}
+use Rattle.std.specs.List.{filter, list_all}
 use Rattle.std.proofs.lemmas.List.Elements.{All-nil, All-cons, filter_agree}
-use Rattle.cml_value.specs.Value.{PlainBase}
 use Rattle.cml_value.specs.Group.{PlainGroup, bases, scopes, nacks_of}
-use Rattle.cml_scan.specs.World.{PlainThread, running, pending_on, PlainNack, live, PlainWorld, PlainEntry}
+use Rattle.cml_scan.specs.World.{PlainThread, pending_on, PlainNack, live, PlainWorld, PlainEntry}
 use Rattle.cml_scan.specs.Light.{light_of}
 use Rattle.cml_scan.specs.Table.{has_light, same_light, AreApart, with_entry, without, lit_after}
 use Rattle.cml_scan.specs.declared.object.Light.{Light}
 use Rattle.cml_scan.proofs.Telling.{same_light_is}
 use Rattle.cml_book.specs.declared.refusal.Refusal.{Refusal}
-use Rattle.cml_book.specs.declared.refusal.Fault.{Fault}
-use Rattle.cml_book.specs.declared.refusal.Fault.TheVariants.{Refused, Memory}
+use Rattle.cml_book.specs.declared.refusal.Fault.TheVariants.{Memory}
 use Rattle.cml_book.specs.Entering.{entered}
 use Rattle.cml_book.specs.Step.{Outcome, sync, sync_refusal, with_nacks, Does, is_fresh_for, times_named}
 use Rattle.cml_book.proofs.Accepted.{Accepted}

@@ -1,5 +1,5 @@
 -- A party of a row that is taken.
-use Rattle.std.specs.Prelude.{ℕ, ◌≡◌, ◌<◌, ◌≤◌, List, Some, slice_get}
+use Rattle.std.specs.Prelude.{ℕ, ◌≡◌, ◌<◌, List, Some, slice_get}
 use Rattle.cml_value.specs.Value.{PlainValue, unit, PlainBase, always, send, recv, iget, mtake, mget, mswap, mail_recv, port_recv, join, at_tick, after_ticks, nack}
 use Rattle.cml_value.specs.Group.{PlainGroup, leaf_count, scopes, nacks_of}
 use Rattle.cml_scan.specs.World.{PlainThread, pending_on, PlainNack}

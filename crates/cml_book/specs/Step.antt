@@ -1,10 +1,10 @@
 -- What each command does to the world, and what it answers: one outcome for each command, by cases.
-use Rattle.std.specs.Prelude.{ℕ, ◌≡◌, ◌≢◌, ◌+◌, ◌^◌, ◌==◌, Bool, true, false, not, ◌&&◌, ◌||◌, nat_lt, nat_le, List, [], ◌∷◌, ◌++◌, length, map, filter, Option, Some, None, Result, Ok, Err, IsOk, alloc_error, slice_get, slice_set, count_by, if◌then◌else◌}
+use Rattle.std.specs.Prelude.{ℕ, ◌≡◌, ◌≢◌, ◌+◌, ◌==◌, Bool, true, false, not, ◌&&◌, nat_lt, nat_le, List, [], ◌∷◌, ◌++◌, length, Option, Some, None, Result, Ok, Err, IsOk, alloc_error, slice_get, slice_set, count_by}
 use Rattle.std.specs.List.{list_all, list_any}
 use Rattle.std.specs.declared.alloc.AllocError.{AllocError}
 use Rattle.cml_value.specs.Value.{PlainValue, unit, PlainFunction}
 use Rattle.cml_value.specs.Value.{PlainBase, always, send, recv, iget, mtake, mget, mswap, mail_recv, port_recv, join, at_tick, after_ticks, nack}
-use Rattle.cml_value.specs.Group.{PlainGroup, never, PlainLeaf, PlainScope, leaves, leaf_count, bases, scopes, nacks_of, lies_outside, fired as fired_nacks, group_fits}
+use Rattle.cml_value.specs.Group.{PlainGroup, never, PlainLeaf, leaves, leaf_count, bases, scopes, nacks_of, fired as fired_nacks, group_fits}
 use Rattle.cml_scan.specs.World.{PlainThread, running, pending_on, ended, PlainNack, fresh_of, live, fired, held, PlainWorld}
 use Rattle.cml_scan.specs.Scan.{scan, has_row}
 use Rattle.cml_scan.specs.declared.meet.Meet.{Meet}

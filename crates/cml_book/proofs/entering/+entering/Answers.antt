@@ -1,9 +1,9 @@
-use Rattle.std.proofs.Common.{◌≡◌, ◌≤◌, length, take, map, ap, sym, ◌∙◌, arith}
+use Rattle.std.proofs.Common.{◌≡◌, map, ap, sym, ◌∙◌, arith}
 use Rattle.std.specs.List.{list_any}
 use Rattle.std.proofs.lemmas.List.{take_all}
 use Rattle.cml_value.specs.Group.{PlainGroup, choose, groups, bases}
 use Rattle.cml_value.specs.GroupViews.{group_of}
-use Rattle.cml_book.specs.Entering.{entered, entered_all, is_far}
+use Rattle.cml_book.specs.Entering.{entered, is_far}
 use Rattle.cml_book.proofs.Heights.{member_falls}
 use Rattle.cml_book.proofs.Entered.{near_member, groups-entered}
 use Rattle.cml_book.proofs.entering.+entering.Goals as goal

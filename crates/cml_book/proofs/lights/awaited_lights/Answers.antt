@@ -1,4 +1,4 @@
-use Rattle.std.proofs.Common.{◌≡◌, ◌++◌, sym, ◌∙◌, ap, arith, add-one, suc}
+use Rattle.std.proofs.Common.{add-one}
 use Rattle.cml_value.specs.Group.{leaves}
 use Rattle.cml_book.proofs.Retold.{awaited_step}
 use Rattle.cml_book.proofs.lights.awaited_lights.Goals as goal

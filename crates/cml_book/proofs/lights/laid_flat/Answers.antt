@@ -1,4 +1,4 @@
-use Rattle.std.proofs.Common.{arith, ◌≡◌, ap, true, false, sym, ◌∙◌}
+use Rattle.std.proofs.Common.{arith, ap}
 use Rattle.cml_value.specs.Group.{group_fits, leaf_count}
 use Rattle.cml_book.proofs.Entered.{leaf_count-entered, group_fits-entered}
 use Rattle.cml_book.proofs.lights.laid_flat.Goals as goal

@@ -1,4 +1,4 @@
-use Rattle.std.proofs.Common.{◌≡◌, drop, subst, sym, ◌∙◌, ap, suc, arith, add-one, slice_index_or}
+use Rattle.std.proofs.Common.{drop, subst, sym, ◌∙◌, ap, suc, add-one, slice_index_or}
 use Rattle.std.proofs.Math.Seq.{drop-cons}
 use Rattle.cml_value.specs.Nack.{live}
 use Rattle.cml_group.specs.Leaves.{numbers}

@@ -1,6 +1,5 @@
-use Rattle.std.proofs.Common.{◌≡◌, ◌++◌, ◌+◌, ◌-◌, ◌<◌, ◌≤◌, Bool, length, map, sym, ◌∙◌, ap, suc, arith, add-one, slice_index_or, length-append, cond, true, false, List, [], ◌∷◌}
-use Rattle.std.specs.Vec.{vec_capacity}
-use Rattle.cml_value.specs.Group.{scopes, nacks_of}
+use Rattle.std.proofs.Common.{◌<◌, length, ◌∙◌, arith, add-one, slice_index_or}
+use Rattle.cml_value.specs.Group.{scopes}
 use Rattle.cml_book.proofs.Scopes.{scope_at, lights_from, length_nacks, length_lit}
 use Rattle.cml_book.proofs.nacks.push_lights.Goals as goal
 

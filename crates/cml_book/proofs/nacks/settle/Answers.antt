@@ -1,4 +1,4 @@
-use Rattle.std.proofs.Common.{◌≡◌, sym, suc, arith, add-one, slice_index_or}
+use Rattle.std.proofs.Common.{add-one}
 use Rattle.cml_value.specs.Group.{scopes}
 use Rattle.cml_book.proofs.Scopes.{scope_at, settle_step, next_live}
 use Rattle.cml_book.proofs.NackLemmas.{settled_is}

@@ -1,6 +1,4 @@
-use Rattle.std.proofs.Common.{rules, ℕ, ◌≡◌, ◌<◌, Some, None, length, map, true, false, refl, sym, ◌∙◌, ap, arith, subst}
-use Rattle.std.specs.Option.{option_copied}
-use Rattle.cml_book.specs.Threads.{flat_of}
+use Rattle.std.proofs.Common.{◌<◌, length, map, refl, sym, ◌∙◌, ap, arith}
 use Rattle.cml_book.proofs.PendingThreads.{other_more, pending_more, waits_if, else_not}
 use Rattle.cml_book.proofs.thread.pending_threads.Goals.{then-is_some+in_ok-push, else-is_some}
 use Rattle.cml_book.proofs.thread.pending_threads.Goals as goal

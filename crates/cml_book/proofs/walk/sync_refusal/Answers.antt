@@ -1,5 +1,4 @@
-use Rattle.std.proofs.Common.{◌≡◌, true, false, None, ap, sym, ◌∙◌}
-use Rattle.cml_book.specs.Step.{first_if}
+use Rattle.std.proofs.Common.{sym, ◌∙◌}
 use Rattle.cml_book.proofs.Walks.{late_refusal}
 use Rattle.cml_book.proofs.walk.sync_refusal.Goals as goal
 

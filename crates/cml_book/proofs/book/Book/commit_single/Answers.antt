@@ -1,15 +1,8 @@
-use Rattle.std.proofs.Common.{rules, ◌≡◌, ◌≤◌, ◌+◌, ◌*◌, ◌++◌, [], ◌∷◌, length, map, Some, None, sym, ◌∙◌, ap, refl, arith, subst, true, All}
-use Rattle.std.specs.Prelude.{slice_get, slice_set}
+use Rattle.std.proofs.Common.{◌≡◌, [], ◌∷◌, length, sym, ◌∙◌, ap, refl, arith, subst, All}
 use Rattle.std.specs.Vec.{vec_capacity}
 use Rattle.std.proofs.lemmas.List.Elements.{All-nil, All-cons}
-use Rattle.cml_value.specs.Group.{scopes, fired}
-use Rattle.cml_scan.specs.Scan.{scan, has_row}
-use Rattle.cml_scan.specs.Table.{IsThere, IsNackOf, nacks_among, lit_after}
-use Rattle.cml_scan.specs.declared.meet.Meet.TheVariants.{Single, Pair}
-use Rattle.cml_book.specs.Step.{settled, group_of}
-use Rattle.cml_book.specs.Keeping.{world_of, nack_light}
-use Rattle.cml_book.proofs.Keepings.{keeps_same, keeps_resume}
-use Rattle.cml_book.proofs.Commits.{single_party, waiting_is, flat_is, found, is_there, waits_on, single_taken, sure_lights, told_lights, gone_one, keeps_single, single_returns}
+use Rattle.cml_scan.specs.Table.{IsThere, IsNackOf, nacks_among}
+use Rattle.cml_book.proofs.Commits.{single_party, waiting_is, flat_is, found, is_there, waits_on, sure_lights, told_lights, gone_one, keeps_single, single_returns}
 use Rattle.cml_book.proofs.book.Book.commit_single.Goals as goal
 
 pub unreachable-requires : goal.unreachable-requires

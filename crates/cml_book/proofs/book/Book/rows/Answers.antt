@@ -1,4 +1,4 @@
-use Rattle.std.proofs.Common.{rules, ◌≡◌, IfOk, subst}
+use Rattle.std.proofs.Common.{◌≡◌, IfOk, subst}
 use Rattle.cml_book.specs.Keeping.{world_of}
 use Rattle.cml_book.proofs.Commits.{scan_is}
 use Rattle.cml_book.proofs.book.Book.rows.Goals as goal

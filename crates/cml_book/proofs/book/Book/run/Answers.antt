@@ -1,4 +1,4 @@
-use Rattle.std.proofs.Common.{◌<◌, length, ◌∙◌, arith, vec_len}
+use Rattle.std.proofs.Common.{◌<◌, length, ◌∙◌, arith}
 use Rattle.cml_book.proofs.Runs.{replies_more, world_more}
 use Rattle.cml_book.proofs.book.Book.run.Goals as goal
 

@@ -1,9 +1,7 @@
-use Rattle.std.proofs.Common.{rules, ◌≡◌, ◌≤◌, ◌*◌, length, List, Some, None, sym, ◌∙◌, ap, refl, arith, subst, ◌<◌}
-use Rattle.std.specs.Prelude.{slice_get, slice_set}
+use Rattle.std.proofs.Common.{rules, ◌≡◌, length, Some, None, sym, ◌∙◌, ap, refl, arith, subst}
+use Rattle.std.specs.Prelude.{slice_set}
 use Rattle.cml_value.specs.Group.{scopes, nacks_of, bases}
 use Rattle.cml_scan.specs.Light.{light_of}
-use Rattle.cml_scan.specs.Table.{with_entry, without}
-use Rattle.cml_book.specs.Entering.{entered}
 use Rattle.cml_value.specs.Nack.{live}
 use Rattle.cml_group.specs.Leaves.{numbers}
 use Rattle.std.specs.Vec.{vec_capacity}

@@ -1,4 +1,3 @@
-use Rattle.std.proofs.Common.{rules, ◌≡◌}
 use Rattle.cml_book.specs.Keeping.{world_of}
 use Rattle.cml_book.proofs.Commits.{scan_is}
 use Rattle.cml_book.proofs.book.Book.table.Goals as goal
