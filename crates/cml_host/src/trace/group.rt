@@ -91,11 +91,7 @@ fn wrapped(
 }
 
 // The group, if there is one, in the scope of the nack of this number.
-fn scoped(
-    alloc: Global,
-    number: &Sexpr,
-    inner: Option<Group>,
-) -> Result<Option<Group>, AllocError>
+fn scoped(alloc: Global, number: &Sexpr, inner: Option<Group>) -> Result<Option<Group>, AllocError>
     ensures { IfOk result (λ group. group ≡ both plain.scope (value_spec.number_in number.now) inner) }
 {
     let Some(nack) = number_in(number) else {

@@ -16,5 +16,4 @@ pub fn has_one_answer()
 /// Every word is the one that its spelling names.
 pub fn spelling_names_word()
     ensures { SpellingNamesWord }
-{
-}
+{}
