@@ -6,7 +6,7 @@ use cml_host::{Store, StoreFault, run_command};
 use std::alloc::Global;
 use std::io::ErrorKind;
 use std::process::ExitCode;
-use std::rt::{Alloc, Env, Files};
+use std::rt::{Env, Files};
 use std::{env, fs, io};
 
 /// The files of the system.
@@ -39,7 +39,7 @@ impl<'a, R: Files> Store for Disk<'a, R> {
 }
 
 // The words of the command line, the program's name first.
-fn words<R: Alloc<A = Global> + Env>(rt: &R) -> io::Result<Vec<String>> {
+fn words(rt: &(impl AllocGlobal + Env)) -> io::Result<Vec<String>> {
     Ok(env::args(rt)?.collect(rt.alloc())?)
 }
 
