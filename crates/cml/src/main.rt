@@ -1,11 +1,12 @@
 //! The program: `cml` with the real input, output, errors and files.
 #![tactic(auto)]
 
-use cml_host::input_output::{ReadFault, read_all};
+use cml_host::input_output::{ReadFault, read_all, write_out};
 use cml_host::{Store, StoreFault, run_command};
 use std::alloc::Global;
+use std::io::ErrorKind;
 use std::process::ExitCode;
-use std::rt::Files;
+use std::rt::{Env, Files};
 use std::{env, fs, io};
 
 /// The files of the system.
@@ -19,8 +20,11 @@ impl<'a, R: Files> Store for Disk<'a, R> {
         let Ok(mut file) = fs::open(self.rt, name) else {
             return Err(StoreFault::Refused);
         };
-        match read_all(alloc, &mut file, limit, u64::MAX) {
-            Ok(bytes) => Ok(bytes),
+        match read_all(alloc, &mut file, limit, (limit as u64).saturating_mul(2)) {
+            Ok(mut bytes) => {
+                bytes.truncate(limit.saturating_add(1));
+                Ok(bytes)
+            }
             Err(ReadFault::Memory) => Err(StoreFault::Memory),
             Err(ReadFault::Read | ReadFault::Turns) => Err(StoreFault::Refused),
         }
@@ -34,9 +38,21 @@ impl<'a, R: Files> Store for Disk<'a, R> {
     }
 }
 
+// The words of the command line, the program's name first.
+fn words(rt: &(impl AllocGlobal + Env)) -> io::Result<Vec<String>> {
+    Ok(env::args(rt)?.collect(rt.alloc())?)
+}
+
 fn main(rt: HostRuntime) -> io::Result<ExitCode> {
     let alloc = rt.alloc();
-    let words: Vec<String> = env::args(&rt)?.collect(alloc)?;
+    let words = match words(&rt) {
+        Ok(words) => words,
+        Err(error) if error.kind() == ErrorKind::OutOfMemory => {
+            let _ = write_out(&mut rt.stderr(), b"memory\n");
+            return Ok(ExitCode::from(5));
+        }
+        Err(error) => return Err(error),
+    };
     let mut store = Disk { rt: &rt };
     let status = run_command(
         alloc,

@@ -1,13 +1,16 @@
 -- How the answers to lines put together the answer to a trace.
-use Rattle.std.proofs.Common.{◌≡◌, ℕ, ◌+◌, ◌<◌, ◌⊎◌, Result, Ok, Err, OnErr, codes, List, [], ◌∷◌, ◌++◌, Option, Some, None, true, false, length, take, drop, refl, ap, sym, ◌∙◌, subst, inl, inr, append_assoc, append-nil}
+use Rattle.std.proofs.Common.{◌≡◌, ℕ, ◌+◌, ◌<◌, ◌⊎◌, Result, Ok, Err, OnErr, IfErr, codes, List, [], ◌∷◌, ◌++◌, Option, Some, None, true, false, length, take, drop, refl, ap, sym, ◌∙◌, subst, inl, inr, append_assoc, append-nil}
 use Rattle.std.proofs.lemmas.List.{take-append-drop}
 use Rattle.std.specs.Borrow.{Bor}
+use Rattle.std.specs.Result.{IsErrAnd}
 use Rattle.std.specs.Io.KnownBytes.{Appends, Consumes, IsAtEnd}
 use Rattle.std.proofs.KnownBytes.{Appends-trans, Appends-nil}
 use Rattle.cml_scan.specs.World.{PlainWorld}
 use Rattle.cml_host.specs.declared.trace.order.Order.{Order}
 use Rattle.cml_host.specs.declared.trace.engine.TraceEnd.{TraceEnd}
 use Rattle.cml_host.specs.declared.trace.engine.TraceEnd.TheVariants.{Done, Bad, TooLong}
+use Rattle.cml_host.specs.declared.trace.engine.TraceFault.{TraceFault}
+use Rattle.cml_host.specs.declared.trace.engine.TraceFault.TheVariants.{Write}
 use Rattle.cml_text.specs.Forms.{PlainSexpr}
 use Rattle.cml_text.specs.Faults.{PlainFault}
 use Rattle.cml_text.specs.Texts.{Spells, fault_of}
@@ -16,7 +19,7 @@ use Rattle.cml_host.specs.Orders.{Asks, IsBad, order_of}
 use Rattle.cml_host.specs.Answers.{answer_to, world_after, bad_line, lines, Answers, max_input}
 use Rattle.cml_host.specs.Replies.{line}
 use Rattle.cml_host.specs.Lines.{lines_behind}
-use Rattle.cml_host.specs.Runs.{AreAnswered, AreBegun, FirstBegun, LineAnswered, IsBegun, IsAnswered}
+use Rattle.cml_host.specs.Runs.{AreAnswered, AreBegun, FirstBegun, LineAnswered, IsBegun, IsAnswered, IsBroken}
 
 -- Behind these lines, which this text answers, the trace goes on with that number in that world.
 pub record Leads (n : ℕ) (w : PlainWorld) (done : List (List ℕ)) (told : List ℕ) (m : ℕ) (v : PlainWorld) : Type 0 where
@@ -235,6 +238,12 @@ IsBegun-too_long had left held holds trace k consumed whole long written = recor
   answered = inr (long, (drop k (line (codes "too long")), take_drop k (line (codes "too long"))));
   written = written;
 }
+
+-- a write failed
+pub broken_write : (r : Result TraceEnd TraceFault) (had left held holds : Option (List ℕ)) → IsErrAnd r (λ fault. fault ≡ Write) → IsBegun had left held holds →
+    IfErr r (IsBroken had left held holds)
+broken_write (Ok a) had left held holds is begun = tt
+broken_write (Err fault) had left held holds is begun = subst (λ (f : TraceFault). IsBroken had left held holds f) (sym is) begun
 
 -- a trace that is too long was answered so
 pub IsAnswered-too_long : (had left held holds : Option (List ℕ)) (trace : List ℕ) → Consumes had left trace → IsAtEnd left ⊎ (max_input < length trace) →

@@ -26,10 +26,12 @@ leaf_by word forms = option_map leaf (base_by word forms)
 abbrev pub function_in : PlainSexpr → List PlainSexpr → Option PlainFunction
 function_in f vs = both (λ n captured. function n (values captured)) (number_in f) (all_of (map value_in vs))
 
+-- a group, wrapped by a function: the form of the group, then that of the function, then those of its captured values
 abbrev pub wrap_by : List PlainSexpr → List (Option PlainGroup) → Option PlainGroup
 wrap_by (g ∷ f ∷ vs) (inner ∷ rest) = both wrap inner (function_in f vs)
 wrap_by _ found = None
 
+-- a group in the scope of a nack: the form of the nack's number, then that of the group
 abbrev pub scope_by : List PlainSexpr → List (Option PlainGroup) → Option PlainGroup
 scope_by (k ∷ g ∷ []) (number ∷ inner ∷ rest) = both scope (number_in k) inner
 scope_by _ found = None
@@ -41,16 +43,20 @@ group_by word.Wrap forms found = wrap_by forms found
 group_by word.Scope forms found = scope_by forms found
 group_by word forms found = leaf_by word forms
 
+-- a word alone is a group only where it is the one for never
 abbrev pub never_of : Option Word → Option PlainGroup
 never_of (Some word.Never) = Some never
 never_of (Some _) = None
 never_of None = None
 
+-- the group of a list, by the word at its head and the forms behind it; `found` has of each form, the head too, the group that it is,
+-- if it is one
 abbrev pub listed : Option (Word × List PlainSexpr) → List (Option PlainGroup) → Option PlainGroup
 listed None found = None
 listed (Some head) found = group_by head.0 head.1 (drop 1 found)
 
 abbrev mutual
+  -- the group that the form is, if it is one
   pub group_in : PlainSexpr → Option PlainGroup
   group_in (plain_name span name) = never_of (word_of name)
   group_in (plain_int span z) = None

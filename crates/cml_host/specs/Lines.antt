@@ -3,6 +3,7 @@ use Rattle.std.specs.Prelude.{ℕ, ◌+◌, List, [], length, Option, Some, None
 use Rattle.std.specs.Borrow.{Bor}
 use Rattle.cml_host.specs.Answers.{lines}
 
+-- the lines of what is left, or none where nothing is left
 abbrev pub lines_behind : Option (Bor (List ℕ)) → List (List ℕ)
 lines_behind None = []
 lines_behind (Some rest) = lines rest.now

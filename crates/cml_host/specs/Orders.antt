@@ -16,10 +16,11 @@ use Rattle.cml_host.specs.Given.{both}
 use Rattle.cml_host.specs.ValueForms.{number_in}
 use Rattle.cml_host.specs.GroupForms.{group_in}
 
--- a leaf alone, and two leaves, as rows
+-- a row of one leaf: its thread and its number
 abbrev pub single : ℕ → ℕ → Meet
 single t n = Single (record { 0 = t }) n
 
+-- a row of two leaves, each with its thread: the head's, then the other's
 abbrev pub pair : (ℕ × ℕ) → (ℕ × ℕ) → Meet
 pair head other = Pair (record { 0 = head.0 }) head.1 (record { 0 = other.0 }) other.1
 
@@ -38,10 +39,12 @@ command_by word.Commit (t ∷ n ∷ u ∷ m ∷ []) = both (λ head other. comma
 command_by word.End (t ∷ []) = option_map (λ thread. command.End (record { 0 = thread })) (number_in t)
 command_by _ forms = None
 
+-- the rows are asked for by their word alone, with no form behind it
 abbrev pub rows_by : List PlainSexpr → Option Order
 rows_by [] = Some order.Rows
 rows_by (form ∷ forms) = None
 
+-- what these forms behind their word ask for, if they ask for anything: the rows, or a command
 abbrev pub order_by : Word → List PlainSexpr → Option Order
 order_by word.Rows forms = rows_by forms
 order_by word forms = option_map order.Do (command_by word forms)

@@ -43,10 +43,12 @@ shown_function (function f vs) = codes " (" ++ decimal f ++ shown_values vs ++ c
 abbrev pub resume_line : PlainResume → List ℕ
 resume_line r = line (codes "resume" ++ spaced r.thread ++ codes " " ++ shown r.value ++ flat_map shown_function r.wraps)
 
+-- the line of the partner that goes on too, if there is one
 abbrev pub partner_line : Option PlainResume → List ℕ
 partner_line None = []
 partner_line (Some r) = resume_line r
 
+-- the nacks that the partner's leaf fired, if there is a partner
 abbrev pub fired_of : Option PlainResume → List ℕ
 fired_of None = []
 fired_of (Some r) = r.fired
@@ -56,9 +58,11 @@ abbrev pub committed_text : Committed → List ℕ
 committed_text c = resume_line c.head ++ partner_line c.partner
     ++ line (codes "fired" ++ flat_map spaced c.head.fired ++ flat_map spaced (fired_of c.partner))
 
+-- a refusal: its number and its name
 abbrev pub refused_line : Refusal → List ℕ
 refused_line why = line (codes "refused" ++ spaced (number_of why) ++ codes " " ++ name_of why)
 
+-- the lines of a reply: what was made and its number, ok, what was committed, or why the command was refused
 abbrev pub reply_text : Reply → List ℕ
 reply_text (reply.Thread t) = line (codes "thread" ++ spaced t.0)
 reply_text (reply.Chan c) = line (codes "chan" ++ spaced c.0)

@@ -3,6 +3,8 @@ use Rattle.std.specs.Prelude.{◌≡◌, ◌⊎◌, ℕ, ◌<◌, Bool, true, fa
 use Rattle.std.specs.Io.KnownBytes.{Appends, Consumes, IsAtEnd, Keeps}
 use Rattle.cml_scan.specs.World.{PlainWorld}
 use Rattle.cml_book.specs.Step.{empty_world}
+use Rattle.cml_host.specs.declared.input_output.ReadFault.{ReadFault}
+use Rattle.cml_host.specs.declared.input_output.ReadFault.TheVariants as read
 use Rattle.cml_host.specs.declared.trace.order.Order.{Order}
 use Rattle.cml_host.specs.declared.trace.engine.TraceEnd.{TraceEnd}
 use Rattle.cml_host.specs.declared.trace.engine.TraceFault.{TraceFault}
@@ -56,6 +58,12 @@ IsWriteOrMemory Read = ⊥
 IsWriteOrMemory Turns = ⊥
 IsWriteOrMemory Write = Unit {0}
 IsWriteOrMemory Memory = Unit {0}
+
+-- the fault of a trace whose input was not read
+abbrev pub read_fault : ReadFault → TraceFault
+read_fault read.Read = Read
+read_fault read.Turns = Turns
+read_fault read.Memory = Memory
 
 -- the bytes came from the reader, and they are all that it had, or more than a trace can have
 pub record Came (had left : Option (List ℕ)) (bytes : List ℕ) : Type 0 where

@@ -13,7 +13,7 @@ use Rattle.cml_host.specs.declared.trace.engine.TraceFault.TheVariants.{Read, Tu
 use Rattle.cml_host.specs.Replies.{line}
 use Rattle.cml_host.specs.Runs.{IsAnswered, IsBroken}
 
--- a beginning of this text was written, all of it where no write failed
+-- a beginning of this text was written
 abbrev pub Says : Option (List ℕ) → Option (List ℕ) → List ℕ → Type 0
 Says held holds text = (part : List ℕ) × (unwritten : List ℕ) × (text ≡ part ++ unwritten) × Appends held holds part
 
@@ -30,6 +30,7 @@ fault_status Turns = 1
 fault_status Write = 1
 fault_status Memory = 5
 
+-- the line that the errors get of a fault
 abbrev pub fault_line : TraceFault → List ℕ
 fault_line Read = line (codes "cannot read input")
 fault_line Turns = line (codes "cannot read input")

@@ -13,12 +13,14 @@ abbrev pub number_of : ℤ → Option ℕ
 number_of (pos n) = if nat_lt n 4294967296 then Some n else None
 number_of (negsuc n) = None
 
+-- such a number, which is written as an integer
 abbrev pub number_in : PlainSexpr → Option ℕ
 number_in (plain_name span name) = None
 number_in (plain_int span z) = number_of z
 number_in (plain_text span bytes) = None
 number_in (plain_list span parts) = None
 
+-- the truth value that a word is, if it is one
 abbrev pub truth_of : Option Word → Option PlainValue
 truth_of None = None
 truth_of (Some word.True) = Some (truth true)
@@ -36,6 +38,7 @@ numbered word.Mchan n = Some (mchan n)
 numbered word.Port n = Some (port n)
 numbered _ n = None
 
+-- the same, where the kind or the number may be missing
 abbrev pub numbered_in : Option Word → Option ℕ → Option PlainValue
 numbered_in (Some kind) (Some n) = numbered kind n
 numbered_in (Some kind) None = None
@@ -47,6 +50,7 @@ paired_in (Some word.Pair) a b = both pair a b
 paired_in (Some _) a b = None
 paired_in None a b = None
 
+-- the value that the form is, if it is one
 abbrev pub value_in : PlainSexpr → Option PlainValue
 value_in (plain_name span name) = truth_of (word_of name)
 value_in (plain_int span z) = Some (int z)

@@ -4,8 +4,8 @@ use Rattle.std.specs.Str.{bytes_eq}
 use Rattle.cml_text.specs.Forms.{PlainSexpr, plain_name, plain_int, plain_text, plain_list}
 use Rattle.cml_host.specs.declared.trace.word.Word.{Word}
 use Rattle.cml_host.specs.declared.trace.word.Word.TheVariants.{Spawn, Chan, Nack, Sync, Rows, Commit, End, Never, Choose, Wrap, Scope, Always, Send, Recv, True, False, Pair, Thread, IVar, MVar, Mailbox, Mchan, Port}
-use Rattle.cml_host.specs.declared.trace.word.TheConstants.{WORDS}
 
+-- how each word is spelled
 abbrev pub spelling : Word → List ℕ
 spelling Spawn = codes "spawn"
 spelling Chan = codes "chan"
@@ -31,9 +31,16 @@ spelling Mailbox = codes "mailbox"
 spelling Mchan = codes "mchan"
 spelling Port = codes "port"
 
+-- each word once
+abbrev pub all_words : List Word
+all_words =
+    Spawn ∷ Chan ∷ Nack ∷ Sync ∷ Rows ∷ Commit ∷ End ∷
+    Never ∷ Choose ∷ Wrap ∷ Scope ∷ Always ∷ Send ∷ Recv ∷
+    True ∷ False ∷ Pair ∷ Thread ∷ IVar ∷ MVar ∷ Mailbox ∷ Mchan ∷ Port ∷ []
+
 -- the word that is spelled so, if one is
 abbrev pub word_of : List ℕ → Option Word
-word_of name = find (λ word. bytes_eq (spelling word) name) WORDS
+word_of name = find (λ word. bytes_eq (spelling word) name) all_words
 
 -- the word that a form is, if it is one
 abbrev pub name_in : PlainSexpr → Option Word

@@ -16,10 +16,11 @@ pub enum StoreFault {
 
 /// Where scripts and schedules lie, each under its name.
 pub trait Store {
-    /// The bytes under the name: all of them, or where there are more than the limit, more than the limit of the first ones.
+    /// The bytes under the name: all of them, or where there are more than the limit, the first of them, one more than the limit. They
+    /// are read in at most twice as many reads as the limit.
     ///
     /// # Errors
-    /// A refusal, or want of memory.
+    /// A refusal, also where they do not end in so many reads, or want of memory.
     fn load(&mut self, alloc: Global, name: &str, limit: usize) -> Result<Vec<u8>, StoreFault>;
 
     /// Keeps the bytes under the name.

@@ -14,7 +14,8 @@ commands = with_subcommand (record { top = record (new_app (codes "cml")).top { 
 abbrev pub faults : List (List ℕ) → Kinds
 faults words = fault_of commands words
 
--- A command is answered only where nothing is wrong, help only where it is asked for, and a fault only where there is one.
+-- A command is answered only where nothing is wrong, help only where it is asked for, and a fault only where there is one. There is one
+-- command, so words with which nothing is wrong name it.
 abbrev pub IsAnswer : List (List ℕ) → Answer → Type 0
 IsAnswer words (answer.Task task) = faults words ≡ []
 IsAnswer words (answer.Help text) = IsAmong DisplayHelp (faults words) ⊎ IsAmong DisplayVersion (faults words)

@@ -3,7 +3,7 @@
 ghost use Rattle.std.specs.Prelude.{◌≡◌, ◌≤◌, ℕ, [], ◌∷◌, length, IfOk, IfErr, OnErr, OnOk};
 ghost use Rattle.std.specs.String.{string_bytes};
 ghost use Rattle.cml_book.specs.Step.{step};
-ghost use Rattle.cml_host.specs.Answers.{answer_to, world_after, lines};
+ghost use Rattle.cml_host.specs.Answers.{answer_to, world_after, lines, max_input};
 ghost use Rattle.cml_host.specs.Replies.{reply_text};
 ghost use Rattle.cml_host.specs.Runs.{LineAnswered, AreAnswered, AreBegun, FirstBegun, IsAnswered, IsBroken, IsWriteOrMemory};
 
@@ -63,6 +63,21 @@ impl From<AllocError> for TraceFault {
     }
 }
 
+impl From<ReadFault> for TraceFault {
+    ghost use Rattle.std.specs.Prelude.{◌≡◌};
+    ghost use Rattle.cml_host.specs.Runs.{read_fault};
+
+    ghost from_gives = { λ fault e. e ≡ read_fault fault };
+
+    fn from(fault: ReadFault) -> TraceFault {
+        match fault {
+            ReadFault::Read => TraceFault::Read,
+            ReadFault::Turns => TraceFault::Turns,
+            ReadFault::Memory => TraceFault::Memory,
+        }
+    }
+}
+
 impl From<WriteFault> for TraceFault {
     ghost use Rattle.std.specs.Prelude.{◌≡◌};
     ghost use Rattle.cml_host.specs.declared.trace.engine.TraceFault.TheVariants.{Write};
@@ -87,17 +102,10 @@ pub fn run_trace<R: Read, W: Write>(
     ensures ok { IfOk result (IsAnswered (R.remaining reader.old) (R.remaining reader.new) (W.contents writer.old) (W.contents writer.new)) }
     ensures err { IfErr result (IsBroken (R.remaining reader.old) (R.remaining reader.new) (W.contents writer.old) (W.contents writer.new)) }
 {
-    let input = match read_all(alloc, reader, MAX_INPUT, MAX_READS) {
-        Ok(input) => input,
-        Err(ReadFault::Read) => return Err(TraceFault::Read),
-        Err(ReadFault::Turns) => return Err(TraceFault::Turns),
-        Err(ReadFault::Memory) => return Err(TraceFault::Memory),
-    };
+    let input = read_all(alloc, reader, MAX_INPUT, MAX_READS)?;
     if input.len() > MAX_INPUT {
-        return match write_out(writer, b"too long\n") {
-            Ok(()) => Ok(TraceEnd::TooLong),
-            Err(_) => Err(TraceFault::Write),
-        };
+        write_out(writer, b"too long\n")?;
+        return Ok(TraceEnd::TooLong);
     }
     let mut book = Book::new(alloc, KeptRows::new(alloc));
     answer_lines(alloc, &mut book, input.as_slice(), writer)
@@ -110,7 +118,7 @@ fn answer_lines<T: Table, W: Write>(
     input: &[u8],
     writer: &mut W,
 ) -> Result<TraceEnd, TraceFault>
-    requires { length input.now ≤ 1048576 }
+    requires { length input.now ≤ max_input }
     ensures ok { IfOk result (AreAnswered 1 book.old (lines input.now) (W.contents writer.old) (W.contents writer.new)) }
     ensures err { OnErr result (AreBegun 1 book.old (lines input.now) (W.contents writer.old) (W.contents writer.new)) }
     ensures kind { IfErr result IsWriteOrMemory }

@@ -1,8 +1,11 @@
 //! The groups that forms of a trace are.
 
 ghost use Rattle.std.specs.Prelude.{◌≡◌, ◌<◌, map, IfOk, IfSome, IfNone};
+ghost use Rattle.cml_value.specs.Group as plain;
 ghost use Rattle.cml_text.specs.Forms.{plain_forms, nesting, nesting_of};
 ghost use Rattle.cml_host.specs.Words as word_spec;
+ghost use Rattle.cml_host.specs.Given.{both};
+ghost use Rattle.cml_host.specs.ValueForms as value_spec;
 ghost use Rattle.cml_host.specs.GroupForms as spec;
 ghost use Rattle.cml_host.specs.declared.trace.word.Word.TheVariants as word;
 
@@ -30,30 +33,20 @@ pub fn group_in(alloc: Global, form: &Sexpr) -> Result<Option<Group>, AllocError
             }
             Ok(Some(Group::choose(alloc, members)?))
         }
-        Word::Wrap => {
-            let [inner, function, values @ ..] = behind else {
-                return Ok(None);
-            };
-            let Some(group) = group_in(alloc, inner)? else {
-                return Ok(None);
-            };
-            let Some(function) = function_in(alloc, function, values)? else {
-                return Ok(None);
-            };
-            Ok(Some(group.wrap(alloc, function)?))
-        }
-        Word::Scope => {
-            let [number, inner] = behind else {
-                return Ok(None);
-            };
-            let Some(nack) = number_in(number) else {
-                return Ok(None);
-            };
-            let Some(group) = group_in(alloc, inner)? else {
-                return Ok(None);
-            };
-            Ok(Some(group.scope(alloc, NackId(nack))?))
-        }
+        Word::Wrap => match behind {
+            [inner, function, values @ ..] => {
+                let inner = group_in(alloc, inner)?;
+                wrapped(alloc, inner, function, values)
+            }
+            _ => Ok(None),
+        },
+        Word::Scope => match behind {
+            [number, inner] => {
+                let inner = group_in(alloc, inner)?;
+                scoped(alloc, number, inner)
+            }
+            _ => Ok(None),
+        },
         _ => leaf_by(alloc, word, behind),
     }
 }
@@ -76,6 +69,37 @@ fn never_of(word: Option<Word>) -> Option<Group>
     match word {
         Some(Word::Never) => Some(Group::new(GroupKind::Never)),
         _ => None,
+    }
+}
+
+// The group, if there is one, wrapped by the function of this number with these captured values.
+fn wrapped(
+    alloc: Global,
+    inner: Option<Group>,
+    function: &Sexpr,
+    captured: &[Sexpr],
+) -> Result<Option<Group>, AllocError>
+    ensures { IfOk result (λ group. group ≡ both plain.wrap inner (spec.function_in function.now captured.now)) }
+{
+    let Some(inner) = inner else {
+        return Ok(None);
+    };
+    match function_in(alloc, function, captured)? {
+        Some(function) => Ok(Some(inner.wrap(alloc, function)?)),
+        None => Ok(None),
+    }
+}
+
+// The group, if there is one, in the scope of the nack of this number.
+fn scoped(alloc: Global, number: &Sexpr, inner: Option<Group>) -> Result<Option<Group>, AllocError>
+    ensures { IfOk result (λ group. group ≡ both plain.scope (value_spec.number_in number.now) inner) }
+{
+    let Some(nack) = number_in(number) else {
+        return Ok(None);
+    };
+    match inner {
+        Some(inner) => Ok(Some(inner.scope(alloc, NackId(nack))?)),
+        None => Ok(None),
     }
 }
 

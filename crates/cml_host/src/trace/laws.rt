@@ -1,6 +1,6 @@
-//! What holds of every trace. The function does nothing, and its contract is the law.
+//! What holds of every word and of every trace. Each function does nothing, and its contract is the law.
 
-ghost use Rattle.cml_host.specs.Laws.{HasOneAnswer};
+ghost use Rattle.cml_host.specs.Laws.{HasOneAnswer, SpellingNamesWord};
 
 use cml_text::laws::{spelled_has_no_fault, spelled_or_faulty, spells_one_at_most};
 
@@ -12,3 +12,8 @@ pub fn has_one_answer()
     spelled_has_no_fault();
     spells_one_at_most();
 }
+
+/// Every word is the one that its spelling names.
+pub fn spelling_names_word()
+    ensures { SpellingNamesWord }
+{}
