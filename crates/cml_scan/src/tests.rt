@@ -1,5 +1,5 @@
 use crate::{
-    Light, Lights, Meet, NackState, Place, ThreadState, World, leaf_bases, light, offers,
+    Light, Lights, Meet, NackState, Offer, Place, ThreadState, World, leaf_bases, light, offers,
     push_offers, rows, scan,
 };
 use cml_value::{
@@ -7,7 +7,10 @@ use cml_value::{
     Value, ValueKind,
 };
 use std::alloc::Global;
+use std::process::Abort;
 use std::test::Fail;
+
+const MEMORY: &str = "memory";
 
 fn int(z: i64) -> Value {
     Value::new(ValueKind::Int(z))
@@ -263,27 +266,59 @@ fn lights_of_a_world(rt: HostRuntime) -> Result<(), Fail> {
     Ok(())
 }
 
-#[test]
-fn leaves_of_a_group(rt: HostRuntime) -> Result<(), Fail> {
+// A leaf below a wrap, beside the branch of nack 0, which holds a receive on channel 3.
+fn wrapped_beside_a_branch(rt: &(impl Abort + AllocGlobal)) -> Group {
     let alloc = rt.alloc();
-    let id = FnRef::new(alloc, 0, Vec::new(alloc))?;
-    let wrapped = leaf(BaseKind::Always(int(1))).wrap(alloc, id)?;
-    let scoped = either(alloc, Group::new(GroupKind::Never), recv(3))?.scope(alloc, NackId(0))?;
-    let group = either(alloc, wrapped, scoped)?;
-    let bases = leaf_bases(alloc, &group)?;
-    assert_eq!(rt; bases.len(), 2);
-    assert!(rt; bases[0].same(&Base::new(BaseKind::Always(int(1)))));
-    assert!(rt; bases[1].same(&Base::new(BaseKind::Recv(ChanId(3)))));
+    let id = FnRef::new(alloc, 0, Vec::new(alloc)).expect(rt, MEMORY);
+    let wrapped = leaf(BaseKind::Always(int(1)));
+    let wrapped = wrapped.wrap(alloc, id).expect(rt, MEMORY);
+    let scoped = two(rt, Group::new(GroupKind::Never), recv(3));
+    let scoped = scoped.scope(alloc, NackId(0)).expect(rt, MEMORY);
+    two(rt, wrapped, scoped)
+}
 
-    let mut all = Vec::new(alloc);
-    push_offers(alloc, &mut all, Tid(0), &send(3, 2))?;
-    push_offers(alloc, &mut all, Tid(4), &group)?;
-    let world = half_lit(alloc)?;
-    let found = rows(alloc, &all, &world)?;
+fn two(rt: &(impl Abort + AllocGlobal), first: Group, second: Group) -> Group {
+    let members = Vec::from_array(rt.alloc(), [first, second]).expect(rt, MEMORY);
+    Group::choose(rt.alloc(), members).expect(rt, MEMORY)
+}
+
+fn is_of(base: &Base, kind: BaseKind) -> bool {
+    let other = Base::new(kind);
+    let same = base.same(&other);
+    drop(other);
+    same
+}
+
+#[test]
+fn leaves_of_a_group(rt: HostRuntime) {
+    let group = wrapped_beside_a_branch(&rt);
+    let bases = leaf_bases(rt.alloc(), &group).expect(&rt, MEMORY);
+    drop(group);
+    assert_eq!(rt; bases.len(), 2);
+    assert!(rt; is_of(&bases[0], BaseKind::Always(int(1))));
+    assert!(rt; is_of(&bases[1], BaseKind::Recv(ChanId(3))));
+    drop(bases);
+}
+
+fn offer(rt: &(impl Abort + AllocGlobal), all: &mut Vec<Offer>, thread: u32, group: Group) {
+    push_offers(rt.alloc(), all, Tid(thread), &group).expect(rt, MEMORY);
+    drop(group);
+}
+
+#[test]
+fn rows_of_offers(rt: HostRuntime) -> Result<(), Fail> {
+    let world = half_lit(rt.alloc())?;
+    let mut all = Vec::new(rt.alloc());
+    offer(&rt, &mut all, 0, send(3, 2));
+    offer(&rt, &mut all, 4, wrapped_beside_a_branch(&rt));
+    let found = rows(rt.alloc(), &all, &world).expect(&rt, MEMORY);
+    drop(all);
+    drop(world);
     assert_eq!(rt;
         found.as_slice(),
         [single(4, 0), pair(0, 0, 4, 1)].as_slice()
     );
+    drop(found);
     Ok(())
 }
 
