@@ -79,9 +79,12 @@ pub record IsAnswered (had left held holds : Option (List ℕ)) (end : TraceEnd)
   pub written : Appends held holds text
 
 -- the text is a beginning of what answers the trace
-abbrev pub BeginsTrace : List ℕ → List ℕ → Type 0
-BeginsTrace trace part = BeginsAnswer 1 empty_world (lines trace) part
-    ⊎ ((max_input < length trace) × ((unwritten : List ℕ) × (line (codes "too long") ≡ part ++ unwritten)))
+pub record BeginsTrace (trace part : List ℕ) : Type 0 where
+  pub text : List ℕ
+  pub unwritten : List ℕ
+  pub end : TraceEnd
+  pub answered : AnswersTrace trace text end
+  pub begun : text ≡ part ++ unwritten
 
 -- the trace came, and a beginning of what answers it was written
 pub record IsBegun (had left held holds : Option (List ℕ)) : Type 0 where
