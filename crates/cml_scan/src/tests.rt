@@ -1,3 +1,7 @@
+//! Worlds whose rows, lights, leaves and offers were worked out by hand.
+//!
+//! What a test has made it drops by name: a drop that is left to the compiler stands in the body with all its cases, and is proved there anew.
+
 use crate::{
     Light, Lights, Meet, NackState, Offer, Place, ThreadState, World, leaf_bases, light, offers,
     push_offers, rows, scan,
@@ -6,11 +10,13 @@ use cml_value::{
     Base, BaseKind, ChanId, FnRef, Group, GroupKind, IVarId, MVarId, MboxId, NackId, PortId, Tid,
     Value, ValueKind,
 };
-use std::alloc::Global;
 use std::process::Abort;
-use std::test::Fail;
 
 const MEMORY: &str = "memory";
+
+fn list<T, const N: usize>(rt: &(impl Abort + AllocGlobal), items: [T; N]) -> Vec<T> {
+    Vec::from_array(rt.alloc(), items).expect(rt, MEMORY)
+}
 
 fn int(z: i64) -> Value {
     Value::new(ValueKind::Int(z))
@@ -28,8 +34,9 @@ fn recv(channel: u32) -> Group {
     leaf(BaseKind::Recv(ChanId(channel)))
 }
 
-fn either(alloc: Global, first: Group, second: Group) -> Result<Group, Fail> {
-    Ok(Group::choose(alloc, vec![in alloc; first, second]?)?)
+fn either(rt: &(impl Abort + AllocGlobal), first: Group, second: Group) -> Group {
+    let members = list(rt, [first, second]);
+    Group::choose(rt.alloc(), members).expect(rt, MEMORY)
 }
 
 fn single(tid: u32, leaf: u32) -> Meet {
@@ -48,63 +55,63 @@ fn pair(head: u32, head_leaf: u32, other: u32, other_leaf: u32) -> Meet {
     }
 }
 
-fn pending(groups: Vec<Group>, alloc: Global) -> Result<World, Fail> {
-    let mut world = World::new(alloc);
-    for group in groups {
-        world.threads.push(ThreadState::Pending(group))?;
+fn world_of<const N: usize>(rt: &(impl Abort + AllocGlobal), threads: [ThreadState; N]) -> World {
+    let mut world = World::new(rt.alloc());
+    world.threads = list(rt, threads);
+    world
+}
+
+// Threads with these groups pending, and one channel.
+fn pending<const N: usize>(rt: &(impl Abort + AllocGlobal), groups: [Group; N]) -> World {
+    let mut world = World::new(rt.alloc());
+    for group in list(rt, groups) {
+        let thread = ThreadState::Pending(group);
+        world.threads.push(thread).expect(rt, MEMORY);
     }
-    Ok(world)
+    world.channels = 1;
+    world
+}
+
+fn rows_are(rt: &(impl Abort + AllocGlobal), world: World, expected: &[Meet]) {
+    let found = scan(rt.alloc(), &world).expect(rt, MEMORY);
+    drop(world);
+    assert_eq!(rt; found.as_slice(), expected);
+    drop(found);
 }
 
 #[test]
-fn first_exchange(rt: HostRuntime) -> Result<(), Fail> {
-    let alloc = rt.alloc();
-    let mut world = pending(vec![in alloc; send(0, 5), recv(0)]?, alloc)?;
-    world.channels = 1;
-    assert_eq!(rt;
-        scan(alloc, &world)?.as_slice(),
-        [pair(0, 0, 1, 0)].as_slice()
+fn first_exchange(rt: HostRuntime) {
+    rows_are(
+        &rt,
+        pending(&rt, [send(0, 5), recv(0)]),
+        &[pair(0, 0, 1, 0)],
     );
-    world.threads = vec![in alloc; ThreadState::Running, ThreadState::Running]?;
-    assert_eq!(rt; scan(alloc, &world)?.len(), 0);
-    Ok(())
+    let mut after = world_of(&rt, [ThreadState::Running, ThreadState::Running]);
+    after.channels = 1;
+    rows_are(&rt, after, &[]);
 }
 
 #[test]
-fn no_match_within_one_thread(rt: HostRuntime) -> Result<(), Fail> {
-    let alloc = rt.alloc();
-    let both = either(alloc, send(0, 1), recv(0))?;
-    let mut world = pending(vec![in alloc; both]?, alloc)?;
-    world.channels = 1;
-    assert_eq!(rt; scan(alloc, &world)?.len(), 0);
-    Ok(())
+fn no_match_within_one_thread(rt: HostRuntime) {
+    let both = either(&rt, send(0, 1), recv(0));
+    rows_are(&rt, pending(&rt, [both]), &[]);
 }
 
 #[test]
-fn two_choices_that_mirror(rt: HostRuntime) -> Result<(), Fail> {
-    let alloc = rt.alloc();
-    let first = either(alloc, send(0, 1), recv(0))?;
-    let second = either(alloc, send(0, 1), recv(0))?;
-    let mut world = pending(vec![in alloc; first, second]?, alloc)?;
-    world.channels = 1;
-    let rows = scan(alloc, &world)?;
-    assert_eq!(rt;
-        rows.as_slice(),
-        [pair(0, 0, 1, 1), pair(1, 0, 0, 1)].as_slice()
+fn two_choices_that_mirror(rt: HostRuntime) {
+    let first = either(&rt, send(0, 1), recv(0));
+    let second = either(&rt, send(0, 1), recv(0));
+    rows_are(
+        &rt,
+        pending(&rt, [first, second]),
+        &[pair(0, 0, 1, 1), pair(1, 0, 0, 1)],
     );
-    Ok(())
 }
 
-/// The rows of these threads round M-variable 0.
-fn round_an_mvar(
-    alloc: Global,
-    threads: Vec<ThreadState>,
-    value: Option<Value>,
-) -> Result<Vec<Meet>, Fail> {
-    let mut world = World::new(alloc);
-    world.threads = threads;
-    world.mvars.push(value)?;
-    Ok(scan(alloc, &world)?)
+// M-variable 0 holds the value.
+fn with_mvar(rt: &(impl Abort + AllocGlobal), mut world: World, value: Option<Value>) -> World {
+    world.mvars.push(value).expect(rt, MEMORY);
+    world
 }
 
 fn taker() -> ThreadState {
@@ -116,60 +123,61 @@ fn reader() -> ThreadState {
 }
 
 #[test]
-fn mvar_takers_and_reader(rt: HostRuntime) -> Result<(), Fail> {
-    let alloc = rt.alloc();
-    let threads = vec![in alloc; taker(), taker(), reader()]?;
-    let full = round_an_mvar(alloc, threads, Some(int(8)))?;
-    assert_eq!(rt;
-        full.as_slice(),
-        [single(0, 0), single(1, 0), single(2, 0)].as_slice()
-    );
-    let threads = vec![in alloc; ThreadState::Running, taker(), reader()]?;
-    assert_eq!(rt; round_an_mvar(alloc, threads, None)?.len(), 0);
-    Ok(())
+fn mvar_takers_and_reader(rt: HostRuntime) {
+    let threads = world_of(&rt, [taker(), taker(), reader()]);
+    let full = with_mvar(&rt, threads, Some(int(8)));
+    rows_are(&rt, full, &[single(0, 0), single(1, 0), single(2, 0)]);
+    let threads = world_of(&rt, [ThreadState::Running, taker(), reader()]);
+    let empty = with_mvar(&rt, threads, None);
+    rows_are(&rt, empty, &[]);
 }
 
 #[test]
-fn mvar_put_again(rt: HostRuntime) -> Result<(), Fail> {
-    let alloc = rt.alloc();
-    let threads = vec![in alloc; ThreadState::Running, taker(), reader()]?;
-    let full = round_an_mvar(alloc, threads, Some(int(9)))?;
-    assert_eq!(rt; full.as_slice(), [single(1, 0), single(2, 0)].as_slice());
-    let threads = vec![in alloc; ThreadState::Running, taker(), ThreadState::Running]?;
-    let read = round_an_mvar(alloc, threads, Some(int(9)))?;
-    assert_eq!(rt; read.as_slice(), [single(1, 0)].as_slice());
-    Ok(())
+fn mvar_put_again(rt: HostRuntime) {
+    let threads = world_of(&rt, [ThreadState::Running, taker(), reader()]);
+    let full = with_mvar(&rt, threads, Some(int(9)));
+    rows_are(&rt, full, &[single(1, 0), single(2, 0)]);
+    let threads = world_of(&rt, [ThreadState::Running, taker(), ThreadState::Running]);
+    let read = with_mvar(&rt, threads, Some(int(9)));
+    rows_are(&rt, read, &[single(1, 0)]);
+}
+
+fn waiter() -> ThreadState {
+    ThreadState::Pending(leaf(BaseKind::Nack(NackId(0))))
+}
+
+fn with_nack(rt: &(impl Abort + AllocGlobal), mut world: World, nack: NackState) -> World {
+    world.nacks.push(nack).expect(rt, MEMORY);
+    world
 }
 
 #[test]
-fn nack_stays_lit(rt: HostRuntime) -> Result<(), Fail> {
-    let alloc = rt.alloc();
-    let wait = || ThreadState::Pending(leaf(BaseKind::Nack(NackId(0))));
-    let mut world = World::new(alloc);
-    world.threads = vec![in alloc; ThreadState::Running, wait(), ThreadState::Running]?;
-    world.nacks = vec![in alloc; NackState::Fresh(Tid(0))]?;
-    assert_eq!(rt; scan(alloc, &world)?.len(), 0);
-    world.threads = vec![in alloc; ThreadState::Running, wait(), wait()]?;
-    world.nacks = vec![in alloc; NackState::Fired]?;
-    let rows = scan(alloc, &world)?;
-    assert_eq!(rt; rows.as_slice(), [single(1, 0), single(2, 0)].as_slice());
-    Ok(())
+fn nack_stays_lit(rt: HostRuntime) {
+    let threads = world_of(&rt, [ThreadState::Running, waiter(), ThreadState::Running]);
+    let fresh = with_nack(&rt, threads, NackState::Fresh(Tid(0)));
+    rows_are(&rt, fresh, &[]);
+    let threads = world_of(&rt, [ThreadState::Running, waiter(), waiter()]);
+    let fired = with_nack(&rt, threads, NackState::Fired);
+    rows_are(&rt, fired, &[single(1, 0), single(2, 0)]);
+}
+
+fn alarm() -> ThreadState {
+    ThreadState::Pending(leaf(BaseKind::At(15)))
+}
+
+fn at(mut world: World, tick: u64) -> World {
+    world.tick = tick;
+    world
 }
 
 #[test]
-fn timeouts_and_clock(rt: HostRuntime) -> Result<(), Fail> {
-    let alloc = rt.alloc();
-    let alarm = || ThreadState::Pending(leaf(BaseKind::At(15)));
-    let mut world = World::new(alloc);
-    world.threads = vec![in alloc; alarm(), ThreadState::Running]?;
-    world.tick = 14;
-    assert_eq!(rt; scan(alloc, &world)?.len(), 0);
-    world.tick = 15;
-    assert_eq!(rt; scan(alloc, &world)?.as_slice(), [single(0, 0)].as_slice());
-    world.threads = vec![in alloc; alarm(), alarm()]?;
-    let rows = scan(alloc, &world)?;
-    assert_eq!(rt; rows.as_slice(), [single(0, 0), single(1, 0)].as_slice());
-    Ok(())
+fn timeouts_and_clock(rt: HostRuntime) {
+    let early = at(world_of(&rt, [alarm(), ThreadState::Running]), 14);
+    rows_are(&rt, early, &[]);
+    let due = at(world_of(&rt, [alarm(), ThreadState::Running]), 15);
+    rows_are(&rt, due, &[single(0, 0)]);
+    let both = at(world_of(&rt, [alarm(), alarm()]), 15);
+    rows_are(&rt, both, &[single(0, 0), single(1, 0)]);
 }
 
 fn light_of(kind: BaseKind) -> Option<Light> {
@@ -226,16 +234,15 @@ fn lights_of_signals(rt: HostRuntime) {
 }
 
 /// Of each kind the object 0 is lit, and the object 1 is not; of object 2 there is none.
-fn half_lit(alloc: Global) -> Result<World, Fail> {
-    let mut world = World::new(alloc);
-    world.threads = vec![in alloc; ThreadState::Ended, ThreadState::Running]?;
-    world.ivars = vec![in alloc; Some(int(1)), None]?;
-    world.mvars = vec![in alloc; Some(int(1)), None]?;
-    world.mailboxes = vec![in alloc; vec![in alloc; int(1)]?, Vec::new(alloc)]?;
-    world.mchans = vec![in alloc; vec![in alloc; PortId(0), PortId(1)]?]?;
-    world.ports = vec![in alloc; vec![in alloc; int(1)]?, Vec::new(alloc)]?;
-    world.nacks = vec![in alloc; NackState::Fired, NackState::Held]?;
-    Ok(world)
+fn half_lit(rt: &(impl Abort + AllocGlobal)) -> World {
+    let mut world = world_of(rt, [ThreadState::Ended, ThreadState::Running]);
+    world.ivars = list(rt, [Some(int(1)), None]);
+    world.mvars = list(rt, [Some(int(1)), None]);
+    world.mailboxes = list(rt, [list(rt, [int(1)]), list(rt, [])]);
+    world.mchans = list(rt, [list(rt, [PortId(0), PortId(1)])]);
+    world.ports = list(rt, [list(rt, [int(1)]), list(rt, [])]);
+    world.nacks = list(rt, [NackState::Fired, NackState::Held]);
+    world
 }
 
 fn lights(n: u32) -> [Light; 6] {
@@ -250,8 +257,8 @@ fn lights(n: u32) -> [Light; 6] {
 }
 
 #[test]
-fn lights_of_a_world(rt: HostRuntime) -> Result<(), Fail> {
-    let world = half_lit(rt.alloc())?;
+fn lights_of_a_world(rt: HostRuntime) {
+    let world = half_lit(&rt);
     for l in lights(0) {
         assert!(rt; world.is_lit(l));
     }
@@ -263,7 +270,7 @@ fn lights_of_a_world(rt: HostRuntime) -> Result<(), Fail> {
     }
     assert!(rt; world.is_lit(Light::Tick(0)));
     assert!(rt; !world.is_lit(Light::Tick(1)));
-    Ok(())
+    drop(world);
 }
 
 // A leaf below a wrap, beside the branch of nack 0, which holds a receive on channel 3.
@@ -272,14 +279,9 @@ fn wrapped_beside_a_branch(rt: &(impl Abort + AllocGlobal)) -> Group {
     let id = FnRef::new(alloc, 0, Vec::new(alloc)).expect(rt, MEMORY);
     let wrapped = leaf(BaseKind::Always(int(1)));
     let wrapped = wrapped.wrap(alloc, id).expect(rt, MEMORY);
-    let scoped = two(rt, Group::new(GroupKind::Never), recv(3));
+    let scoped = either(rt, Group::new(GroupKind::Never), recv(3));
     let scoped = scoped.scope(alloc, NackId(0)).expect(rt, MEMORY);
-    two(rt, wrapped, scoped)
-}
-
-fn two(rt: &(impl Abort + AllocGlobal), first: Group, second: Group) -> Group {
-    let members = Vec::from_array(rt.alloc(), [first, second]).expect(rt, MEMORY);
-    Group::choose(rt.alloc(), members).expect(rt, MEMORY)
+    either(rt, wrapped, scoped)
 }
 
 fn is_of(base: &Base, kind: BaseKind) -> bool {
@@ -306,8 +308,8 @@ fn offer(rt: &(impl Abort + AllocGlobal), all: &mut Vec<Offer>, thread: u32, gro
 }
 
 #[test]
-fn rows_of_offers(rt: HostRuntime) -> Result<(), Fail> {
-    let world = half_lit(rt.alloc())?;
+fn rows_of_offers(rt: HostRuntime) {
+    let world = half_lit(&rt);
     let mut all = Vec::new(rt.alloc());
     offer(&rt, &mut all, 0, send(3, 2));
     offer(&rt, &mut all, 4, wrapped_beside_a_branch(&rt));
@@ -319,21 +321,19 @@ fn rows_of_offers(rt: HostRuntime) -> Result<(), Fail> {
         [single(4, 0), pair(0, 0, 4, 1)].as_slice()
     );
     drop(found);
-    Ok(())
 }
 
 #[test]
-fn offers_of_a_world(rt: HostRuntime) -> Result<(), Fail> {
-    let alloc = rt.alloc();
-    let mut world = half_lit(alloc)?;
-    world
-        .threads
-        .push(ThreadState::Pending(either(alloc, recv(0), recv(1))?))?;
-    let all = offers(alloc, &world)?;
+fn offers_of_a_world(rt: HostRuntime) {
+    let mut world = half_lit(&rt);
+    let thread = ThreadState::Pending(either(&rt, recv(0), recv(1)));
+    world.threads.push(thread).expect(&rt, MEMORY);
+    let all = offers(rt.alloc(), &world).expect(&rt, MEMORY);
+    drop(world);
     assert_eq!(rt; all.len(), 2);
     assert_eq!(rt; (all[0].tid, all[0].leaf), (Tid(2), 0));
     assert_eq!(rt; (all[1].tid, all[1].leaf), (Tid(2), 1));
-    Ok(())
+    drop(all);
 }
 
 #[test]
