@@ -167,15 +167,24 @@ fn values_of_every_kind(rt: HostRuntime) -> Result<(), Fail> {
         ("sync 0 (send 0 true)\n", "resume 1 true\n"),
         ("sync 0 (send 0 false)\n", "resume 1 false\n"),
         ("sync 0 (send 0 -7)\n", "resume 1 -7\n"),
-        ("sync 0 (send 0 \"a \\\"text\\\" of\\ntwo lines\")\n", "resume 1 \"a \\\"text\\\" of\\ntwo lines\"\n"),
-        ("sync 0 (send 0 (pair (pair 1 \"one\") ()))\n", "resume 1 (pair (pair 1 \"one\") ())\n"),
+        (
+            "sync 0 (send 0 \"a \\\"text\\\" of\\ntwo lines\")\n",
+            "resume 1 \"a \\\"text\\\" of\\ntwo lines\"\n",
+        ),
+        (
+            "sync 0 (send 0 (pair (pair 1 \"one\") ()))\n",
+            "resume 1 (pair (pair 1 \"one\") ())\n",
+        ),
         ("sync 0 (send 0 (thread 1))\n", "resume 1 (thread 1)\n"),
         ("sync 0 (send 0 (chan 0))\n", "resume 1 (chan 0)\n"),
         ("sync 0 (send 0 (ivar 2))\n", "resume 1 (ivar 2)\n"),
         ("sync 0 (send 0 (mvar 3))\n", "resume 1 (mvar 3)\n"),
         ("sync 0 (send 0 (mailbox 4))\n", "resume 1 (mailbox 4)\n"),
         ("sync 0 (send 0 (mchan 5))\n", "resume 1 (mchan 5)\n"),
-        ("sync 0 (send 0 (port 4294967295))\n", "resume 1 (port 4294967295)\n"),
+        (
+            "sync 0 (send 0 (port 4294967295))\n",
+            "resume 1 (port 4294967295)\n",
+        ),
     ] {
         let input = repeated(
             rt.alloc(),
