@@ -161,6 +161,53 @@ fn two_choices_that_mirror(rt: HostRuntime) -> Result<(), Fail> {
 }
 
 #[test]
+fn values_of_every_kind(rt: HostRuntime) -> Result<(), Fail> {
+    for (sent, received) in [
+        ("sync 0 (send 0 ())\n", "resume 1 ()\n"),
+        ("sync 0 (send 0 true)\n", "resume 1 true\n"),
+        ("sync 0 (send 0 false)\n", "resume 1 false\n"),
+        ("sync 0 (send 0 -7)\n", "resume 1 -7\n"),
+        (
+            "sync 0 (send 0 \"a \\\"text\\\" of\\ntwo lines\")\n",
+            "resume 1 \"a \\\"text\\\" of\\ntwo lines\"\n",
+        ),
+        (
+            "sync 0 (send 0 (pair (pair 1 \"one\") ()))\n",
+            "resume 1 (pair (pair 1 \"one\") ())\n",
+        ),
+        ("sync 0 (send 0 (thread 1))\n", "resume 1 (thread 1)\n"),
+        ("sync 0 (send 0 (chan 0))\n", "resume 1 (chan 0)\n"),
+        ("sync 0 (send 0 (ivar 2))\n", "resume 1 (ivar 2)\n"),
+        ("sync 0 (send 0 (mvar 3))\n", "resume 1 (mvar 3)\n"),
+        ("sync 0 (send 0 (mailbox 4))\n", "resume 1 (mailbox 4)\n"),
+        ("sync 0 (send 0 (mchan 5))\n", "resume 1 (mchan 5)\n"),
+        (
+            "sync 0 (send 0 (port 4294967295))\n",
+            "resume 1 (port 4294967295)\n",
+        ),
+    ] {
+        let input = repeated(
+            rt.alloc(),
+            &[
+                ("spawn\nspawn\nchan\nsync 1 (recv 0)\n", 1),
+                (sent, 1),
+                ("commit 0 0 1 0\n", 1),
+            ],
+        )?;
+        let output = repeated(
+            rt.alloc(),
+            &[
+                ("thread 0\nthread 1\nchan 0\nok\nok\nresume 0 ()\n", 1),
+                (received, 1),
+                ("fired\n", 1),
+            ],
+        )?;
+        trace_gives(&rt, rt.alloc(), input.as_str(), output.as_str(), 0)?;
+    }
+    Ok(())
+}
+
+#[test]
 fn wraps_innermost_first(rt: HostRuntime) -> Result<(), Fail> {
     let input = "spawn\nsync 0 (wrap (wrap (always 4) 7 1) 8)\ncommit 0 0\n";
     let output = "thread 0\nok\nresume 0 4 (7 1) (8)\nfired\n";
