@@ -6,7 +6,6 @@ use Rattle.std.specs.Result.{IsErrAnd}
 use Rattle.std.specs.Io.KnownBytes.{Appends, Consumes, IsAtEnd}
 use Rattle.std.proofs.KnownBytes.{Appends-trans, Appends-nil}
 use Rattle.cml_scan.specs.World.{PlainWorld}
-use Rattle.cml_book.specs.Step.{empty_world}
 use Rattle.cml_host.specs.declared.trace.order.Order.{Order}
 use Rattle.cml_host.specs.declared.trace.engine.TraceEnd.{TraceEnd}
 use Rattle.cml_host.specs.declared.trace.engine.TraceEnd.TheVariants.{Done, Bad, TooLong}
@@ -244,23 +243,6 @@ IsBegun-too_long had left held holds trace k consumed whole long written = recor
     begun = take_drop k (line (codes "too long"));
   };
   written = written;
-}
-
--- a beginning of what the lines of a trace are answered begins what the trace is answered
-pub IsBegun-lines : (had left held holds : Option (List ℕ)) (trace : List ℕ) → Consumes had left trace → IsAtEnd left ⊎ (max_input < length trace) →
-    length trace ≤ max_input → AreBegun 1 empty_world (lines trace) held holds → IsBegun had left held holds
-IsBegun-lines had left held holds trace consumed whole few a = record {
-  trace = trace;
-  part = a.part;
-  came = record { consumed = consumed; whole = whole };
-  answered = record {
-    text = a.begins.text;
-    unwritten = a.begins.unwritten;
-    end = a.begins.end;
-    answered = inl (few, a.begins.answered);
-    begun = a.begins.begun;
-  };
-  written = a.written;
 }
 
 -- a write failed
