@@ -27,7 +27,7 @@ world_after order.Skip w = w
 world_after order.Rows w = w
 world_after (order.Do c) w = (step w c).0
 
--- what a bad line is answered: its number
+-- what the bad line of this number is answered
 abbrev pub bad_line : ℕ → List ℕ
 bad_line n = line (codes "bad" ++ spaced n)
 

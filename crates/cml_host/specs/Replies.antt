@@ -43,12 +43,12 @@ shown_function (function f vs) = codes " (" ++ decimal f ++ shown_values vs ++ c
 abbrev pub resume_line : PlainResume → List ℕ
 resume_line r = line (codes "resume" ++ spaced r.thread ++ codes " " ++ shown r.value ++ flat_map shown_function r.wraps)
 
--- the line of the partner that goes on too, if there is one
+-- the line of the partner, if there is one
 abbrev pub partner_line : Option PlainResume → List ℕ
 partner_line None = []
 partner_line (Some r) = resume_line r
 
--- the nacks that the partner's leaf fired, if there is a partner
+-- the nacks that fired for the partner, if there is one
 abbrev pub fired_of : Option PlainResume → List ℕ
 fired_of None = []
 fired_of (Some r) = r.fired

@@ -30,7 +30,7 @@ fault_status Turns = 1
 fault_status Write = 1
 fault_status Memory = 5
 
--- the line that the errors get of a fault
+-- the line that tells of the fault
 abbrev pub fault_line : TraceFault → List ℕ
 fault_line Read = line (codes "cannot read input")
 fault_line Turns = line (codes "cannot read input")

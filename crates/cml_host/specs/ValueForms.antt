@@ -13,7 +13,7 @@ abbrev pub number_of : ℤ → Option ℕ
 number_of (pos n) = if nat_lt n 4294967296 then Some n else None
 number_of (negsuc n) = None
 
--- such a number, which is written as an integer
+-- such a number, if the form is one
 abbrev pub number_in : PlainSexpr → Option ℕ
 number_in (plain_name span name) = None
 number_in (plain_int span z) = number_of z

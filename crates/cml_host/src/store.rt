@@ -1,5 +1,7 @@
 //! Where scripts and schedules lie.
 
+ghost use Rattle.std.specs.Prelude.{◌+◌, ◌≤◌, length, IfOk};
+
 use std::alloc::Global;
 use thiserror::Error;
 
@@ -21,7 +23,8 @@ pub trait Store {
     ///
     /// # Errors
     /// A refusal, also where they do not end in so many reads, or want of memory.
-    fn load(&mut self, alloc: Global, name: &str, limit: usize) -> Result<Vec<u8>, StoreFault>;
+    fn load(&mut self, alloc: Global, name: &str, limit: usize) -> Result<Vec<u8>, StoreFault>
+        ensures { IfOk result (λ bytes. length bytes.items ≤ limit + 1) };
 
     /// Keeps the bytes under the name.
     ///

@@ -1,6 +1,8 @@
 //! Worked cases: traces with the text that answers them.
 
 use crate::run::{repeated, trace_gives};
+use std::alloc::Global;
+use std::process::Abort;
 use std::test::Fail;
 
 #[test]
@@ -160,6 +162,15 @@ fn two_choices_that_mirror(rt: HostRuntime) -> Result<(), Fail> {
     trace_gives(&rt, rt.alloc(), input, output, 0)
 }
 
+// What thread 0 sends by this line is what thread 1 goes on with by that one.
+fn passes(rt: &impl Abort, alloc: Global, sent: &str, received: &str) -> Result<(), Fail> {
+    let before = "spawn\nspawn\nchan\nsync 1 (recv 0)\n";
+    let input = repeated(alloc, &[(before, 1), (sent, 1), ("commit 0 0 1 0\n", 1)])?;
+    let made = "thread 0\nthread 1\nchan 0\nok\nok\nresume 0 ()\n";
+    let output = repeated(alloc, &[(made, 1), (received, 1), ("fired\n", 1)])?;
+    trace_gives(rt, alloc, input.as_str(), output.as_str(), 0)
+}
+
 #[test]
 fn values_of_every_kind(rt: HostRuntime) -> Result<(), Fail> {
     for (sent, received) in [
@@ -186,23 +197,7 @@ fn values_of_every_kind(rt: HostRuntime) -> Result<(), Fail> {
             "resume 1 (port 4294967295)\n",
         ),
     ] {
-        let input = repeated(
-            rt.alloc(),
-            &[
-                ("spawn\nspawn\nchan\nsync 1 (recv 0)\n", 1),
-                (sent, 1),
-                ("commit 0 0 1 0\n", 1),
-            ],
-        )?;
-        let output = repeated(
-            rt.alloc(),
-            &[
-                ("thread 0\nthread 1\nchan 0\nok\nok\nresume 0 ()\n", 1),
-                (received, 1),
-                ("fired\n", 1),
-            ],
-        )?;
-        trace_gives(&rt, rt.alloc(), input.as_str(), output.as_str(), 0)?;
+        passes(&rt, rt.alloc(), sent, received)?;
     }
     Ok(())
 }
