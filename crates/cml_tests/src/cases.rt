@@ -164,10 +164,13 @@ fn two_choices_that_mirror(rt: HostRuntime) -> Result<(), Fail> {
 
 // What thread 0 sends by this line is what thread 1 goes on with by that one.
 fn passes(rt: &impl Abort, alloc: Global, sent: &str, received: &str) -> Result<(), Fail> {
-    let before = "spawn\nspawn\nchan\nsync 1 (recv 0)\n";
-    let input = repeated(alloc, &[(before, 1), (sent, 1), ("commit 0 0 1 0\n", 1)])?;
-    let made = "thread 0\nthread 1\nchan 0\nok\nok\nresume 0 ()\n";
-    let output = repeated(alloc, &[(made, 1), (received, 1), ("fired\n", 1)])?;
+    let mut input = String::from_str(alloc, "spawn\nspawn\nchan\nsync 1 (recv 0)\n")?;
+    input.push_str(sent)?;
+    input.push_str("commit 0 0 1 0\n")?;
+    let mut output = String::from_str(alloc, "thread 0\nthread 1\nchan 0\nok\nok\n")?;
+    output.push_str("resume 0 ()\n")?;
+    output.push_str(received)?;
+    output.push_str("fired\n")?;
     trace_gives(rt, alloc, input.as_str(), output.as_str(), 0)
 }
 
