@@ -1,6 +1,7 @@
 //! Faults of words, of reading and of writing.
 
-use crate::run::{NoFiles, words};
+use crate::no_files::NoFiles;
+use crate::run::words;
 use cml_host::run_command;
 use std::io::{Error, ErrorKind, Read, Result as IoResult, Write};
 use std::test::Fail;

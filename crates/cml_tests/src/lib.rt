@@ -9,5 +9,6 @@ mod examples;
 mod faults;
 #[cfg(test)]
 mod limits;
+pub mod no_files;
 #[cfg(test)]
 mod run;

@@ -1,23 +1,10 @@
 //! The program, over memory.
 
-use cml_host::{Store, StoreFault, run_command};
+use crate::no_files::NoFiles;
+use cml_host::run_command;
 use std::alloc::{AllocError, Global};
 use std::process::Abort;
 use std::test::Fail;
-
-/// A store in which nothing is.
-#[derive(Drop)]
-pub struct NoFiles;
-
-impl Store for NoFiles {
-    fn load(&mut self, _alloc: Global, _name: &str, _limit: usize) -> Result<Vec<u8>, StoreFault> {
-        Err(StoreFault::Refused)
-    }
-
-    fn save(&mut self, _name: &str, _bytes: &[u8]) -> Result<(), StoreFault> {
-        Err(StoreFault::Refused)
-    }
-}
 
 /// The words of a command line, behind the program's name.
 pub fn words(alloc: Global, line: &str) -> Result<Vec<String>, AllocError> {
