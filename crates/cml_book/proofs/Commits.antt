@@ -149,33 +149,11 @@ waits_on ts ns es room t n b p = rw p.waits (record { waits = p.waits; within = 
 -- there are no variables, mailboxes and ports
 given_is : (ts : List PlainThread) (c : ℕ) (ns : List PlainNack) (tick : ℕ) (b : PlainBase) → given (world_of ts c ns tick) b ≡ given_alone b
 given_is ts c ns tick (always v) = refl
-given_is ts c ns tick (send k v) = refl
-given_is ts c ns tick (recv k) = refl
-given_is ts c ns tick (iget i) = refl
-given_is ts c ns tick (mtake m) = refl
-given_is ts c ns tick (mget m) = refl
-given_is ts c ns tick (mswap m v) = refl
-given_is ts c ns tick (mail_recv x) = refl
-given_is ts c ns tick (port_recv x) = refl
-given_is ts c ns tick (join t) = refl
-given_is ts c ns tick (at_tick t) = refl
-given_is ts c ns tick (after_ticks d) = refl
-given_is ts c ns tick (nack k) = refl
+given_is ts c ns tick _ = refl
 
 taken_is : (ts : List PlainThread) (c : ℕ) (ns : List PlainNack) (tick : ℕ) (b : PlainBase) → taken (world_of ts c ns tick) b ≡ world_of ts c ns tick
 taken_is ts c ns tick (always v) = refl
-taken_is ts c ns tick (send k v) = refl
-taken_is ts c ns tick (recv k) = refl
-taken_is ts c ns tick (iget i) = refl
-taken_is ts c ns tick (mtake m) = refl
-taken_is ts c ns tick (mget m) = refl
-taken_is ts c ns tick (mswap m v) = refl
-taken_is ts c ns tick (mail_recv x) = refl
-taken_is ts c ns tick (port_recv x) = refl
-taken_is ts c ns tick (join t) = refl
-taken_is ts c ns tick (at_tick t) = refl
-taken_is ts c ns tick (after_ticks d) = refl
-taken_is ts c ns tick (nack k) = refl
+taken_is ts c ns tick _ = refl
 
 released_is : (ts : List PlainThread) (c : ℕ) (ns : List PlainNack) (tick t n : ℕ) (g : PlainGroup) → slice_get ts t ≡ Some (pending_on g)
     → released (world_of ts c ns tick) t n ≡ world_of (slice_set ts t running) c (settled n g ns) tick

@@ -70,34 +70,12 @@ pub scopes-entered : (tick : ℕ) (g : PlainGroup) → scopes (entered tick g) �
 scopes-entered tick g = scopes_from-entered tick 0 g
 
 base_depth-entered : (tick : ℕ) (b : PlainBase) → base_depth (entered_base tick b) ≡ base_depth b
-base_depth-entered tick (always v) = refl
-base_depth-entered tick (send c v) = refl
-base_depth-entered tick (recv c) = refl
-base_depth-entered tick (iget i) = refl
-base_depth-entered tick (mtake m) = refl
-base_depth-entered tick (mget m) = refl
-base_depth-entered tick (mswap m v) = refl
-base_depth-entered tick (mail_recv b) = refl
-base_depth-entered tick (port_recv p) = refl
-base_depth-entered tick (join t) = refl
-base_depth-entered tick (at_tick t) = refl
 base_depth-entered tick (after_ticks d) = refl
-base_depth-entered tick (nack k) = refl
+base_depth-entered tick _ = refl
 
 base_nodes-entered : (tick : ℕ) (b : PlainBase) → base_nodes (entered_base tick b) ≡ base_nodes b
-base_nodes-entered tick (always v) = refl
-base_nodes-entered tick (send c v) = refl
-base_nodes-entered tick (recv c) = refl
-base_nodes-entered tick (iget i) = refl
-base_nodes-entered tick (mtake m) = refl
-base_nodes-entered tick (mget m) = refl
-base_nodes-entered tick (mswap m v) = refl
-base_nodes-entered tick (mail_recv b) = refl
-base_nodes-entered tick (port_recv p) = refl
-base_nodes-entered tick (join t) = refl
-base_nodes-entered tick (at_tick t) = refl
 base_nodes-entered tick (after_ticks d) = refl
-base_nodes-entered tick (nack k) = refl
+base_nodes-entered tick _ = refl
 
 mutual
   pub group_depth-entered : (tick : ℕ) (g : PlainGroup) → group_depth (entered tick g) ≡ group_depth g
@@ -134,19 +112,8 @@ group_fits-entered tick g =
 
 -- no after is left, so each light that an entered base waits for is told
 pub entered_base-no_after : (tick : ℕ) (b : PlainBase) (d : ℕ) → entered_base tick b ≢ after_ticks d
-entered_base-no_after tick (always v) d e = cc
-entered_base-no_after tick (send c v) d e = cc
-entered_base-no_after tick (recv c) d e = cc
-entered_base-no_after tick (iget i) d e = cc
-entered_base-no_after tick (mtake m) d e = cc
-entered_base-no_after tick (mget m) d e = cc
-entered_base-no_after tick (mswap m v) d e = cc
-entered_base-no_after tick (mail_recv b) d e = cc
-entered_base-no_after tick (port_recv p) d e = cc
-entered_base-no_after tick (join t) d e = cc
-entered_base-no_after tick (at_tick t) d e = cc
 entered_base-no_after tick (after_ticks n) d e = cc
-entered_base-no_after tick (nack k) d e = cc
+entered_base-no_after tick _ d e = cc
 
 -- in an entered group no leaf waits for an after
 pub bases-entered-no_after : (tick : ℕ) (g : PlainGroup) → All (λ b. (d : ℕ) → b ≢ after_ticks d) (bases (entered tick g))
@@ -159,19 +126,8 @@ pub light-entered_after : (tick d : ℕ) → light (entered_base tick (after_tic
 light-entered_after tick d = refl
 
 pub light-entered_base : (tick : ℕ) (b : PlainBase) → ((d : ℕ) → b ≢ after_ticks d) → light (entered_base tick b) ≡ light b
-light-entered_base tick (always v) h = refl
-light-entered_base tick (send c v) h = refl
-light-entered_base tick (recv c) h = refl
-light-entered_base tick (iget i) h = refl
-light-entered_base tick (mtake m) h = refl
-light-entered_base tick (mget m) h = refl
-light-entered_base tick (mswap m v) h = refl
-light-entered_base tick (mail_recv b) h = refl
-light-entered_base tick (port_recv p) h = refl
-light-entered_base tick (join t) h = refl
-light-entered_base tick (at_tick t) h = refl
 light-entered_base tick (after_ticks d) h = absurd (h d refl)
-light-entered_base tick (nack k) h = refl
+light-entered_base tick _ h = refl
 
 -- the entered members of a choice, as one term
 pub groups-entered : (tick : ℕ) (gs : List PlainGroup) → groups (map (entered tick) gs) ≡ entered_all tick (groups gs)

@@ -105,18 +105,7 @@ pub ruleset leaf_steps = (leaf_count-wrap, leaf_count-append)
 
 pub base_exists-world_of : (threads : List PlainThread) (channels : ℕ) (nacks : List PlainNack) (tick : ℕ) (b : PlainBase) → base_exists (world_of threads channels nacks tick) b ≡ exists_among (length threads) channels (length nacks) b
 base_exists-world_of threads channels nacks tick (always v) = refl
-base_exists-world_of threads channels nacks tick (send c v) = refl
-base_exists-world_of threads channels nacks tick (recv c) = refl
-base_exists-world_of threads channels nacks tick (iget i) = grind (arith, nat_tests)
-base_exists-world_of threads channels nacks tick (mtake m) = grind (arith, nat_tests)
-base_exists-world_of threads channels nacks tick (mget m) = grind (arith, nat_tests)
-base_exists-world_of threads channels nacks tick (mswap m v) = grind (arith, nat_tests)
-base_exists-world_of threads channels nacks tick (mail_recv b) = grind (arith, nat_tests)
-base_exists-world_of threads channels nacks tick (port_recv p) = grind (arith, nat_tests)
-base_exists-world_of threads channels nacks tick (join t) = refl
-base_exists-world_of threads channels nacks tick (at_tick t) = refl
-base_exists-world_of threads channels nacks tick (after_ticks d) = refl
-base_exists-world_of threads channels nacks tick (nack k) = refl
+base_exists-world_of threads channels nacks tick _ = grind (arith, nat_tests)
 
 -- the bases exist in a world of so many threads and objects
 pub all_exist : (threads : List PlainThread) (channels : ℕ) (nacks : List PlainNack) (tick : ℕ) (bs : List PlainBase) → list_all (base_exists (world_of threads channels nacks tick)) bs ≡ list_all (exists_among (length threads) channels (length nacks)) bs

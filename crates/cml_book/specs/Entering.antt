@@ -6,18 +6,7 @@ use Rattle.cml_value.specs.Group.{PlainGroup, never, leaf, choose, wrap, scope, 
 -- the base event as it enters at this tick (Reppy's timeOutEvt counts from the moment of the synchronization)
 abbrev pub entered_base : ℕ → PlainBase → PlainBase
 entered_base tick (after_ticks d) = at_tick (tick + d)
-entered_base tick (always v) = always v
-entered_base tick (send c v) = send c v
-entered_base tick (recv c) = recv c
-entered_base tick (iget i) = iget i
-entered_base tick (mtake m) = mtake m
-entered_base tick (mget m) = mget m
-entered_base tick (mswap m v) = mswap m v
-entered_base tick (mail_recv b) = mail_recv b
-entered_base tick (port_recv p) = port_recv p
-entered_base tick (join t) = join t
-entered_base tick (at_tick t) = at_tick t
-entered_base tick (nack k) = nack k
+entered_base tick b = b
 
 abbrev mutual
   -- the group as it enters at this tick: each of its leaves so

@@ -14,15 +14,4 @@ pub record WaitsOn (ts : List PlainThread) (ns : List PlainNack) (t leaf : ℕ) 
 -- The value of a base event that is taken alone, where there are no variables, mailboxes and ports: that of an alwaysEvt, and else unit.
 abbrev pub given_alone : PlainBase → PlainValue
 given_alone (always v) = v
-given_alone (send c v) = unit
-given_alone (recv c) = unit
-given_alone (iget i) = unit
-given_alone (mtake m) = unit
-given_alone (mget m) = unit
-given_alone (mswap m v) = unit
-given_alone (mail_recv b) = unit
-given_alone (port_recv p) = unit
-given_alone (join t) = unit
-given_alone (at_tick t) = unit
-given_alone (after_ticks d) = unit
-given_alone (nack k) = unit
+given_alone _ = unit

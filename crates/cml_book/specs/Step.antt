@@ -199,51 +199,27 @@ rest_of (Some (v ∷ vs)) = vs
 -- and unit for a join, a time and a nack.
 abbrev pub given : PlainWorld → PlainBase → PlainValue
 given w (always v) = v
-given w (send c v) = unit
-given w (recv c) = unit
 given w (iget i) = value_in (slice_get w.ivars i)
 given w (mtake m) = value_in (slice_get w.mvars m)
 given w (mget m) = value_in (slice_get w.mvars m)
 given w (mswap m v) = value_in (slice_get w.mvars m)
 given w (mail_recv b) = first_of (slice_get w.mailboxes b)
 given w (port_recv p) = first_of (slice_get w.ports p)
-given w (join t) = unit
-given w (at_tick t) = unit
-given w (after_ticks d) = unit
-given w (nack k) = unit
+given w _ = unit
 
 -- The world in which it was taken: an mTake leaves its variable empty, an mSwap leaves its own value there, and a receive from a
 -- mailbox or a port leaves the items behind the first.
 abbrev pub taken : PlainWorld → PlainBase → PlainWorld
-taken w (always v) = w
-taken w (send c v) = w
-taken w (recv c) = w
-taken w (iget i) = w
 taken w (mtake m) = record w { mvars = slice_set w.mvars m None }
-taken w (mget m) = w
 taken w (mswap m v) = record w { mvars = slice_set w.mvars m (Some v) }
 taken w (mail_recv b) = record w { mailboxes = slice_set w.mailboxes b (rest_of (slice_get w.mailboxes b)) }
 taken w (port_recv p) = record w { ports = slice_set w.ports p (rest_of (slice_get w.ports p)) }
-taken w (join t) = w
-taken w (at_tick t) = w
-taken w (after_ticks d) = w
-taken w (nack k) = w
+taken w _ = w
 
 -- the value that a send hands over
 abbrev pub sent : PlainBase → PlainValue
 sent (send c v) = v
-sent (always v) = unit
-sent (recv c) = unit
-sent (iget i) = unit
-sent (mtake m) = unit
-sent (mget m) = unit
-sent (mswap m v) = unit
-sent (mail_recv b) = unit
-sent (port_recv p) = unit
-sent (join t) = unit
-sent (at_tick t) = unit
-sent (after_ticks d) = unit
-sent (nack k) = unit
+sent _ = unit
 
 -- a party goes on with this value, from this leaf of its group
 abbrev pub resume : PlainWorld → ℕ → ℕ → PlainValue → PlainResume

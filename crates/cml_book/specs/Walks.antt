@@ -8,16 +8,11 @@ abbrev pub exists_among : ℕ → ℕ → ℕ → PlainBase → Bool
 exists_among threads channels nacks (always v) = true
 exists_among threads channels nacks (send c v) = nat_lt c channels
 exists_among threads channels nacks (recv c) = nat_lt c channels
-exists_among threads channels nacks (iget i) = false
-exists_among threads channels nacks (mtake m) = false
-exists_among threads channels nacks (mget m) = false
-exists_among threads channels nacks (mswap m v) = false
-exists_among threads channels nacks (mail_recv b) = false
-exists_among threads channels nacks (port_recv p) = false
 exists_among threads channels nacks (join t) = nat_lt t threads
 exists_among threads channels nacks (at_tick t) = true
 exists_among threads channels nacks (after_ticks d) = true
 exists_among threads channels nacks (nack k) = nat_lt k nacks
+exists_among threads channels nacks _ = false
 
 -- the thread runs
 abbrev pub runs : PlainThread → Bool

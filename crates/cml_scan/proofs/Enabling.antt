@@ -63,37 +63,15 @@ lit_is f None = (λ e. cc, λ h. cc)
 lit_is f (Some b) = (λ e. (b, refl, e), λ h. let same : b ≡ h.0 = cc in rw same h.2)
 
 receives_is : (c : ℕ) (b : PlainBase) → receives_on c b ≡ true → b ≡ recv c
-receives_is c (always v) e = cc
-receives_is c (send d v) e = cc
 receives_is c (recv d) e = let same : c ≡ d = eq c d e in ap recv (sym same)
   where
     eq : (c d : ℕ) → nat_eq c d ≡ true → c ≡ d
     eq c d e = grind (arith, nat_tests)
-receives_is c (iget i) e = cc
-receives_is c (mtake m) e = cc
-receives_is c (mget m) e = cc
-receives_is c (mswap m v) e = cc
-receives_is c (mail_recv b) e = cc
-receives_is c (port_recv p) e = cc
-receives_is c (join t) e = cc
-receives_is c (at_tick t) e = cc
-receives_is c (after_ticks d) e = cc
-receives_is c (nack k) e = cc
+receives_is c _ e = cc
 
 meets_is : (b d : PlainBase) → meets b d ≡ true → (c : ℕ) × (v : PlainValue) × (b ≡ send c v) × (d ≡ recv c)
 meets_is (send c v) d e = (c, v, refl, receives_is c d e)
-meets_is (always v) d e = cc
-meets_is (recv c) d e = cc
-meets_is (iget i) d e = cc
-meets_is (mtake m) d e = cc
-meets_is (mget m) d e = cc
-meets_is (mswap m v) d e = cc
-meets_is (mail_recv b) d e = cc
-meets_is (port_recv p) d e = cc
-meets_is (join t) d e = cc
-meets_is (at_tick t) d e = cc
-meets_is (after_ticks n) d e = cc
-meets_is (nack k) d e = cc
+meets_is _ d e = cc
 
 pub both_true : (a b : Bool) → a && b ≡ true → (a ≡ true) × (b ≡ true)
 both_true true true e = (refl, refl)

@@ -19,18 +19,7 @@ use Rattle.cml_scan.proofs.Told.{lit_by-light_of}
 -- no base event is lit and meets another
 pub lit_by-alone : (told : Light → Bool) (b c : PlainBase) → lit_by told b ≡ true → meets b c ≡ false
 lit_by-alone told (send d v) c e = cc
-lit_by-alone told (always v) c e = refl
-lit_by-alone told (recv d) c e = refl
-lit_by-alone told (iget i) c e = refl
-lit_by-alone told (mtake m) c e = refl
-lit_by-alone told (mget m) c e = refl
-lit_by-alone told (mswap m v) c e = refl
-lit_by-alone told (mail_recv b) c e = refl
-lit_by-alone told (port_recv p) c e = refl
-lit_by-alone told (join t) c e = refl
-lit_by-alone told (at_tick t) c e = refl
-lit_by-alone told (after_ticks d) c e = refl
-lit_by-alone told (nack k) c e = refl
+lit_by-alone told _ c e = refl
 
 pub lit-alone : (w : PlainWorld) (b c : PlainBase) → lit w b ≡ true → meets b c ≡ false
 lit-alone w b c e = lit_by-alone (light_of w) b c (lit_by-light_of w b ∙ e)

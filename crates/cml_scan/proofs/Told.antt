@@ -13,18 +13,7 @@ use Rattle.cml_scan.specs.declared.object.Light.{Light}
 -- a base is lit where it is always, or its light is lit
 pub lit_by-light_of : (w : PlainWorld) (b : PlainBase) → lit_by (light_of w) b ≡ lit w b
 lit_by-light_of w (always v) = refl
-lit_by-light_of w (send c v) = refl
-lit_by-light_of w (recv c) = refl
-lit_by-light_of w (iget i) = refl
-lit_by-light_of w (mtake m) = refl
-lit_by-light_of w (mget m) = refl
-lit_by-light_of w (mswap m v) = refl
-lit_by-light_of w (mail_recv b) = refl
-lit_by-light_of w (port_recv p) = refl
-lit_by-light_of w (join t) = refl
-lit_by-light_of w (at_tick t) = refl
-lit_by-light_of w (after_ticks d) = refl
-lit_by-light_of w (nack k) = refl
+lit_by-light_of w _ = refl
 
 lit_agree : (p q : PlainBase → Bool) (offers : List PlainOffer) → All (λ o. p o.base ≡ q o.base) offers → filter (λ o. p o.base) offers ≡ filter (λ o. q o.base) offers
 lit_agree p q [] same = refl
