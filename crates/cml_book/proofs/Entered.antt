@@ -122,7 +122,7 @@ bases-entered-no_after tick g =
     subst P (sym (bases-entered tick g)) (All-map (λ (b : PlainBase). (d : ℕ) → b ≢ after_ticks d) (entered_base tick) (bases g) (λ k d _. entered_base-no_after tick (get_or (bases g) k d)))
 
 -- the light of an entered after is its tick, and any other base has the light that it had
-pub light-entered_after : (tick d : ℕ) → light (entered_base tick (after_ticks d)) ≡ Some (of.Tick (tick + d))
+pub light-entered_after : (tick d : ℕ) → light (entered_base tick (after_ticks d)) ≡ Some (of.Alarm (tick + d))
 light-entered_after tick d = refl
 
 pub light-entered_base : (tick : ℕ) (b : PlainBase) → ((d : ℕ) → b ≢ after_ticks d) → light (entered_base tick b) ≡ light b

@@ -60,7 +60,7 @@ module _ (ts : List PlainThread) (c : ℕ) (ns : List PlainNack) (tick : ℕ) (e
 
   -- a running thread ends
   pub keeps_end : (t : Tid) (es' : List PlainEntry) (told' : Light → Bool) → Keeps (world_of ts c ns tick) es told room → slice_get ts t.0 ≡ Some running
-      → es' ≡ without [] es → ((l : Light) → told' l ≡ lit_after (of.Thread t ∷ []) [] l (told l)) → Keeps (world_of (slice_set ts t.0 ended) c ns tick) es' told' room
+      → es' ≡ without [] es → ((l : Light) → told' l ≡ lit_after (of.Joined t ∷ []) [] l (told l)) → Keeps (world_of (slice_set ts t.0 ended) c ns tick) es' told' room
   keeps_end t es' told' k runs gone lit = record {
     told_groups = gone ∙ without_none es ∙ k.told_groups ∙ sym (pending-end 0 t.0 ts runs);
     told_lights = rw (pending-end 0 t.0 ts runs) (agree_still (pending (world_of ts c ns tick)) told told' (light_of (world_of ts c ns tick)) (light_of (world_of (slice_set ts t.0 ended) c ns tick))
@@ -77,17 +77,17 @@ module _ (ts : List PlainThread) (c : ℕ) (ns : List PlainNack) (tick : ℕ) (e
       there (x ∷ xs) zero h = refl
       there (x ∷ xs) (suc i) h = there xs i h
 
-      thread : (u : Tid) (b : Bool) → nat_eq u.0 t.0 ≡ b → told (of.Thread u) ≡ has_ended (slice_get ts u.0) → cond (b || false) true (told (of.Thread u)) ≡ has_ended (slice_get (slice_set ts t.0 ended) u.0)
+      thread : (u : Tid) (b : Bool) → nat_eq u.0 t.0 ≡ b → told (of.Joined u) ≡ has_ended (slice_get ts u.0) → cond (b || false) true (told (of.Joined u)) ≡ has_ended (slice_get (slice_set ts t.0 ended) u.0)
       thread u true e h = let same : t.0 ≡ u.0 = grind (arith, nat_tests) in sym (rw (← same) (there ts t.0 runs))
       thread u false e h = let differ : t.0 ≢ u.0 = grind (arith, nat_tests) in h ∙ sym (ap has_ended (get-set_other ts t.0 u.0 ended differ))
 
-      after : (l : Light) → told l ≡ light_of (world_of ts c ns tick) l → lit_after (of.Thread t ∷ []) [] l (told l) ≡ light_of (world_of (slice_set ts t.0 ended) c ns tick) l
+      after : (l : Light) → told l ≡ light_of (world_of ts c ns tick) l → lit_after (of.Joined t ∷ []) [] l (told l) ≡ light_of (world_of (slice_set ts t.0 ended) c ns tick) l
       after (of.IVar i) e = e
       after (of.MVar m) e = e
-      after (of.Mailbox b) e = e
+      after (of.Mbox b) e = e
       after (of.Port p) e = e
-      after (of.Thread u) e = thread u (nat_eq u.0 t.0) refl e
-      after (of.Tick n) e = e
+      after (of.Joined u) e = thread u (nat_eq u.0 t.0) refl e
+      after (of.Alarm n) e = e
       after (of.Nack n) e = e
 
   -- a running thread waits on a group, whose lights are told as they are
@@ -158,10 +158,10 @@ module _ (ts : List PlainThread) (c : ℕ) (ns : List PlainNack) (tick : ℕ) (e
       after : (l : Light) → told l ≡ light_of (world_of ts c ns tick) l → lit_after (map nack_light (fired_nacks g n)) [] l (told l) ≡ light_of (world_of (slice_set ts t.0 running) c (settled n g ns) tick) l
       after (of.IVar i) e = rw (no_nack_light (fired_nacks g n) (of.IVar i) (λ j. refl)) e
       after (of.MVar m) e = rw (no_nack_light (fired_nacks g n) (of.MVar m) (λ j. refl)) e
-      after (of.Mailbox b) e = rw (no_nack_light (fired_nacks g n) (of.Mailbox b) (λ j. refl)) e
+      after (of.Mbox b) e = rw (no_nack_light (fired_nacks g n) (of.Mbox b) (λ j. refl)) e
       after (of.Port p) e = rw (no_nack_light (fired_nacks g n) (of.Port p) (λ j. refl)) e
-      after (of.Thread u) e = rw (no_nack_light (fired_nacks g n) (of.Thread u) (λ j. refl)) (e ∙ sym (has_ended-set ts t.0 u.0 running (ap has_ended waits) refl))
-      after (of.Tick m) e = rw (no_nack_light (fired_nacks g n) (of.Tick m) (λ j. refl)) e
+      after (of.Joined u) e = rw (no_nack_light (fired_nacks g n) (of.Joined u) (λ j. refl)) (e ∙ sym (has_ended-set ts t.0 u.0 running (ap has_ended waits) refl))
+      after (of.Alarm m) e = rw (no_nack_light (fired_nacks g n) (of.Alarm m) (λ j. refl)) e
       after (of.Nack m) e = rw (has_nack_light (fired_nacks g n) m, fired-settled_group n g ns m.0 alive, e) (same (list_any (λ j. nat_eq j m.0) (fired_nacks g n)) (has_fired (slice_get ns m.0)))
         where
           same : (a b : Bool) → cond a true b ≡ a || b

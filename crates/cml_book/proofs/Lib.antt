@@ -10,6 +10,5 @@ pub mod Heights
 pub mod Walks
 pub mod Entered
 pub mod Accepted
-pub mod KeptLemmas
 pub mod Runs
 pub mod PendingThreads

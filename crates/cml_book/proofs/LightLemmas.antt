@@ -44,6 +44,6 @@ has_fired-push (n ∷ ns) (suc i) t = has_fired-push ns i t
 -- the lights of a world whose threads have ended as before and whose nacks have fired as before
 pub light_of-same : (ts ts' : List PlainThread) (c c' : ℕ) (ns ns' : List PlainNack) (tick : ℕ) → ((i : ℕ) → has_ended (slice_get ts' i) ≡ has_ended (slice_get ts i))
     → ((i : ℕ) → has_fired (slice_get ns' i) ≡ has_fired (slice_get ns i)) → (l : Light) → light_of (world_of ts' c' ns' tick) l ≡ light_of (world_of ts c ns tick) l
-light_of-same ts ts' c c' ns ns' tick p q (of.Thread t) = p t.0
+light_of-same ts ts' c c' ns ns' tick p q (of.Joined t) = p t.0
 light_of-same ts ts' c c' ns ns' tick p q (of.Nack k) = q k.0
 light_of-same ts ts' c c' ns ns' tick p q _ = refl

@@ -8,4 +8,3 @@ pub mod Keeping
 pub mod Codes
 pub mod Walks
 pub mod Parties
-pub mod Kept

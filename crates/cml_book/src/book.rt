@@ -170,7 +170,7 @@ impl<T: Table> Book<T> {
             return Err(Fault::Refused(why));
         }
         self.table
-            .change(alloc, &[], None, &[Light::Thread(thread)], &[])?;
+            .change(alloc, &[], None, &[Light::Joined(thread)], &[])?;
         put(&mut self.threads, thread, Thread::ended());
         Ok(())
     }

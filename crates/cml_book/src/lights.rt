@@ -112,15 +112,15 @@ fn is_lit(threads: &[Thread], nacks: &[NackCell], tick: u64, l: Light) -> bool
     ensures { result ≡ light_of (world_of threads.now 0 nacks.now tick) l }
 {
     match l {
-        Light::Thread(t) => match threads.get(t.0 as usize) {
+        Light::Joined(t) => match threads.get(t.0 as usize) {
             Some(thread) => thread.has_ended(),
             None => false,
         },
-        Light::Tick(at) => at <= tick,
+        Light::Alarm(at) => at <= tick,
         Light::Nack(k) => match nacks.get(k.0 as usize) {
             Some(cell) => cell.is_fired(),
             None => false,
         },
-        Light::IVar(_) | Light::MVar(_) | Light::Mailbox(_) | Light::Port(_) => false,
+        Light::IVar(_) | Light::MVar(_) | Light::Mbox(_) | Light::Port(_) => false,
     }
 }

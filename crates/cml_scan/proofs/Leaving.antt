@@ -8,10 +8,10 @@ use Rattle.cml_value.specs.declared.number.Tid.{Tid}
 use Rattle.cml_scan.specs.World.{PlainWorld, PlainEntry, pending}
 use Rattle.cml_scan.specs.Light.{light_of}
 use Rattle.cml_scan.specs.Scan.{PlainOffer, can_meet, leaves_from, offers_of, single, pair, pairs_with, rows_of, scan, scan_of, is_among, names}
-use Rattle.cml_scan.specs.Table.{without}
+use Rattle.cml_scan.specs.Table.{without, AgreeFor}
 use Rattle.cml_scan.specs.declared.object.Light.{Light}
 use Rattle.cml_scan.specs.declared.meet.Meet.{Meet}
-use Rattle.cml_scan.proofs.Told.{scan_of-light_of, scan_of-agree, agree_on_all}
+use Rattle.cml_scan.proofs.Told.{scan_of-light_of, scan_of-agree}
 
 -- the thread, the leaf, the row stays
 abbrev pub is_staying : List Tid → ℕ → Bool
@@ -115,10 +115,10 @@ pub scan_of-without : (gone : List Tid) (es : List PlainEntry) (told : Light →
 scan_of-without gone es told = ap (rows_of _) (offers_of-without gone es) ∙ sym (rows_stay gone _ (offers_of es))
 
 -- the scan of a world that threads have left is the old one without the rows that name them
-pub scan-without : (gone : List Tid) (v w : PlainWorld) → pending w ≡ without gone (pending v) → ((l : Light) → light_of w l ≡ light_of v l) → scan w ≡ filter (λ row. not (names gone row)) (scan v)
+pub scan-without : (gone : List Tid) (v w : PlainWorld) → pending w ≡ without gone (pending v) → AgreeFor (pending w) (light_of w) (light_of v) → scan w ≡ filter (λ row. not (names gone row)) (scan v)
 scan-without gone v w left lights =
     sym (scan_of-light_of w)
-    ∙ scan_of-agree (pending w) (light_of w) (light_of v) (agree_on_all (pending w) (light_of w) (light_of v) lights)
+    ∙ scan_of-agree (pending w) (light_of w) (light_of v) lights
     ∙ ap (λ es. scan_of es (light_of v)) left
     ∙ scan_of-without gone (pending v) (light_of v)
     ∙ ap (filter (λ row. not (names gone row))) (scan_of-light_of v)

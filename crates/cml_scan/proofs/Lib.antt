@@ -11,4 +11,3 @@ pub mod Ordering
 pub mod Firsts
 pub mod Partners
 pub mod Telling
-pub mod Pending

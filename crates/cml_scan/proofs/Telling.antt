@@ -76,11 +76,11 @@ same_number a b e = grind (arith, nat_tests)
 pub same_light_is : (l m : Light) → same_light l m ≡ true → l ≡ m
 same_light_is (of.IVar a) (of.IVar b) e = ap (λ n. of.IVar (record { 0 = n })) (same_number a.0 b.0 e)
 same_light_is (of.MVar a) (of.MVar b) e = ap (λ n. of.MVar (record { 0 = n })) (same_number a.0 b.0 e)
-same_light_is (of.Mailbox a) (of.Mailbox b) e = ap (λ n. of.Mailbox (record { 0 = n })) (same_number a.0 b.0 e)
+same_light_is (of.Mbox a) (of.Mbox b) e = ap (λ n. of.Mbox (record { 0 = n })) (same_number a.0 b.0 e)
 same_light_is (of.Port a) (of.Port b) e = ap (λ n. of.Port (record { 0 = n })) (same_number a.0 b.0 e)
-same_light_is (of.Thread a) (of.Thread b) e = ap (λ n. of.Thread (record { 0 = n })) (same_number a.0 b.0 e)
+same_light_is (of.Joined a) (of.Joined b) e = ap (λ n. of.Joined (record { 0 = n })) (same_number a.0 b.0 e)
 same_light_is (of.Nack a) (of.Nack b) e = ap (λ n. of.Nack (record { 0 = n })) (same_number a.0 b.0 e)
-same_light_is (of.Tick a) (of.Tick b) e = ap of.Tick (same_number a b e)
+same_light_is (of.Alarm a) (of.Alarm b) e = ap of.Alarm (same_number a b e)
 same_light_is _ _ e = cc
 
 alike : (a : ℕ) → nat_eq a a ≡ true
@@ -89,10 +89,10 @@ alike a = grind (arith, nat_tests)
 pub same_light_self : (l : Light) → same_light l l ≡ true
 same_light_self (of.IVar a) = alike a.0
 same_light_self (of.MVar a) = alike a.0
-same_light_self (of.Mailbox a) = alike a.0
+same_light_self (of.Mbox a) = alike a.0
 same_light_self (of.Port a) = alike a.0
-same_light_self (of.Thread a) = alike a.0
-same_light_self (of.Tick a) = alike a
+same_light_self (of.Joined a) = alike a.0
+same_light_self (of.Alarm a) = alike a
 same_light_self (of.Nack a) = alike a.0
 
 pub Contains-has_light : (lights : List Light) (l : Light) → has_light lights l ≡ true → Contains lights l

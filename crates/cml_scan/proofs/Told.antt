@@ -1,6 +1,6 @@
 -- The scan looks at no light but those that a pending leaf waits for.
 use Rattle.std.proofs.Common.{◌≡◌, Bool, ◌||◌, List, [], ◌∷◌, ◌++◌, map, cond, slice_index_or, refl, ap, sym, ◌∙◌}
-use Rattle.std.specs.Prelude.{All, Option, Some, None}
+use Rattle.std.specs.Prelude.{All}
 use Rattle.std.specs.List.{filter, flat_map}
 use Rattle.std.proofs.lemmas.List.Elements.{All-head, All-tail}
 use Rattle.cml_value.specs.Value.{PlainBase, always, send, recv, iget, mtake, mget, mswap, mail_recv, port_recv, join, at_tick, after_ticks, nack}
@@ -41,15 +41,6 @@ scan_of-light_of w = rows_of-agree (lit_by (light_of w)) (lit w) (offers_of (pen
 pub scan_of-told : (w : PlainWorld) (told : Light → Bool) → TellsLights w told → scan_of (pending w) told ≡ scan w
 scan_of-told w told tells = scan_of-agree (pending w) told (light_of w) tells ∙ scan_of-light_of w
 
-same_told : (told lit : Light → Bool) → ((l : Light) → told l ≡ lit l) → (ol : Option Light) → is_told told ol ≡ is_told lit ol
-same_told told lit same None = refl
-same_told told lit same (Some l) = same l
-
--- who says the same of all lights agrees on those that a pending leaf waits for
-pub agree_on_all : (entries : List PlainEntry) (told lit : Light → Bool) → ((l : Light) → told l ≡ lit l) → AgreeFor entries told lit
-agree_on_all entries told lit same = λ k d within. same_told told lit same (light (slice_index_or (offers_of entries) k d).base)
-
--- the scan depends on the pending groups and the lights alone
-pub scan-depends : (v w : PlainWorld) → pending v ≡ pending w → ((l : Light) → light_of v l ≡ light_of w l) → scan v ≡ scan w
-scan-depends v w same lights =
-    sym (scan_of-light_of v) ∙ scan_of-agree (pending v) (light_of v) (light_of w) (agree_on_all (pending v) (light_of v) (light_of w) lights) ∙ ap (λ es. scan_of es (light_of w)) same ∙ scan_of-light_of w
+-- the scan depends on the pending groups and the lights that their leaves wait for alone
+pub scan-depends : (v w : PlainWorld) → pending v ≡ pending w → AgreeFor (pending w) (light_of v) (light_of w) → scan v ≡ scan w
+scan-depends v w same lights = sym (scan_of-light_of v) ∙ ap (λ es. scan_of es (light_of v)) same ∙ scan_of-agree (pending w) (light_of v) (light_of w) lights ∙ scan_of-light_of w

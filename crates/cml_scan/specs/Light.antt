@@ -59,10 +59,10 @@ light (iget i) = Some (of.IVar (record { 0 = i }))
 light (mtake m) = Some (of.MVar (record { 0 = m }))
 light (mget m) = Some (of.MVar (record { 0 = m }))
 light (mswap m v) = Some (of.MVar (record { 0 = m }))
-light (mail_recv b) = Some (of.Mailbox (record { 0 = b }))
+light (mail_recv b) = Some (of.Mbox (record { 0 = b }))
 light (port_recv p) = Some (of.Port (record { 0 = p }))
-light (join t) = Some (of.Thread (record { 0 = t }))
-light (at_tick t) = Some (of.Tick t)
+light (join t) = Some (of.Joined (record { 0 = t }))
+light (at_tick t) = Some (of.Alarm t)
 light (after_ticks d) = None
 light (nack k) = Some (of.Nack (record { 0 = k }))
 
@@ -70,10 +70,10 @@ light (nack k) = Some (of.Nack (record { 0 = k }))
 abbrev pub light_of : PlainWorld → Light → Bool
 light_of w (of.IVar i) = is_full (slice_get w.ivars i.0)
 light_of w (of.MVar m) = is_full (slice_get w.mvars m.0)
-light_of w (of.Mailbox b) = has_item (slice_get w.mailboxes b.0)
+light_of w (of.Mbox b) = has_item (slice_get w.mailboxes b.0)
 light_of w (of.Port p) = has_item (slice_get w.ports p.0)
-light_of w (of.Thread t) = has_ended (slice_get w.threads t.0)
-light_of w (of.Tick t) = nat_le t w.tick
+light_of w (of.Joined t) = has_ended (slice_get w.threads t.0)
+light_of w (of.Alarm t) = nat_le t w.tick
 light_of w (of.Nack k) = has_fired (slice_get w.nacks k.0)
 
 -- whether the base is always, so that it can be taken whatever the lights are

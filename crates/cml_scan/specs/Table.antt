@@ -38,10 +38,10 @@ IsNew entries (Some c) = All (λ e. e.thread ≢ c.0.0) entries
 abbrev pub same_light : Light → Light → Bool
 same_light (of.IVar i) (of.IVar j) = i.0 == j.0
 same_light (of.MVar m) (of.MVar n) = m.0 == n.0
-same_light (of.Mailbox b) (of.Mailbox c) = b.0 == c.0
+same_light (of.Mbox b) (of.Mbox c) = b.0 == c.0
 same_light (of.Port p) (of.Port q) = p.0 == q.0
-same_light (of.Thread t) (of.Thread u) = t.0 == u.0
-same_light (of.Tick t) (of.Tick u) = t == u
+same_light (of.Joined t) (of.Joined u) = t.0 == u.0
+same_light (of.Alarm t) (of.Alarm u) = t == u
 same_light (of.Nack k) (of.Nack l) = k.0 == l.0
 same_light _ _ = false
 

@@ -7,7 +7,7 @@ ghost use Rattle.cml_value.specs.declared.number.Tid.{Tid};
 ghost use Rattle.cml_scan.specs.World.{PlainWorld, pending};
 ghost use Rattle.cml_scan.specs.Light.{lit, light_of, lit_by};
 ghost use Rattle.cml_scan.specs.Scan.{PlainOffer, offers_of, pair, scan, scan_of, place_of, heads, partners, names};
-ghost use Rattle.cml_scan.specs.Table.{without, TellsLights};
+ghost use Rattle.cml_scan.specs.Table.{without, AgreeFor, TellsLights};
 ghost use Rattle.cml_scan.specs.Order.{place, row_before, first_row, has_partner, can_take};
 ghost use Rattle.cml_scan.specs.Enabled.{IsEnabled};
 ghost use Rattle.cml_scan.specs.declared.object.Light.{Light};
@@ -46,16 +46,18 @@ pub fn partners_are_the_rows_of_a_head()
         AllPairs (λ r s. IsTrue (row_before r s)) (partners w p) }
 {}
 
-/// The scan depends on the pending groups and the lights alone.
+/// The scan depends on the pending groups and the lights that their leaves wait for alone.
 pub fn scan_depends_on_groups_and_lights()
     ensures { (v w : PlainWorld) →
-        pending v ≡ pending w → ((l : Light) → light_of v l ≡ light_of w l) → scan v ≡ scan w }
+        pending v ≡ pending w → AgreeFor (pending w) (light_of v) (light_of w) →
+        scan v ≡ scan w }
 {}
 
-/// After some threads leave, the scan is the old one without the rows that name them.
+/// After some threads leave, the scan is the old one without the rows that name them, where each light
+/// that a leaf of the others waits for is as it was.
 pub fn scan_after_threads_leave()
     ensures { (gone : List Tid) (v w : PlainWorld) →
-        pending w ≡ without gone (pending v) → ((l : Light) → light_of w l ≡ light_of v l) →
+        pending w ≡ without gone (pending v) → AgreeFor (pending w) (light_of w) (light_of v) →
         scan w ≡ filter (λ row. not (names gone row)) (scan v) }
 {}
 

@@ -14,10 +14,10 @@ pub fn light(base: &Base) -> Option<Light>
         BaseKind::Always(_) | BaseKind::Send(_, _) | BaseKind::Recv(_) | BaseKind::After(_) => None,
         BaseKind::IGet(i) => Some(Light::IVar(*i)),
         BaseKind::MTake(m) | BaseKind::MGet(m) | BaseKind::MSwap(m, _) => Some(Light::MVar(*m)),
-        BaseKind::MailRecv(b) => Some(Light::Mailbox(*b)),
+        BaseKind::MailRecv(b) => Some(Light::Mbox(*b)),
         BaseKind::PortRecv(p) => Some(Light::Port(*p)),
-        BaseKind::Join(t) => Some(Light::Thread(*t)),
-        BaseKind::At(tick) => Some(Light::Tick(*tick)),
+        BaseKind::Join(t) => Some(Light::Joined(*t)),
+        BaseKind::At(tick) => Some(Light::Alarm(*tick)),
         BaseKind::Nack(k) => Some(Light::Nack(*k)),
     }
 }

@@ -10,13 +10,13 @@ pub enum Light {
     /// An M-variable, lit while it is full.
     MVar(MVarId),
     /// A mailbox, lit while it has an item.
-    Mailbox(MboxId),
+    Mbox(MboxId),
     /// A port, lit while it has an unread message.
     Port(PortId),
     /// A thread, lit once it has ended.
-    Thread(Tid),
+    Joined(Tid),
     /// A tick, lit from then on.
-    Tick(u64),
+    Alarm(u64),
     /// A nack, lit once it has fired.
     Nack(NackId),
 }

@@ -1,6 +1,6 @@
 //! The leaves of pending threads.
 
-ghost use Rattle.std.specs.Prelude.{◌≡◌, ◌++◌, IfOk};
+ghost use Rattle.std.specs.Prelude.{◌≡◌, ◌++◌, length, take, IfOk, OnOk, OnErr};
 ghost use Rattle.cml_value.specs.Group.{bases};
 ghost use Rattle.cml_scan.specs.Scan.{offers_of, leaves_from};
 ghost use Rattle.cml_scan.specs.World.{pending};
@@ -11,7 +11,7 @@ use std::alloc::{AllocError, Global};
 use std::marker::Model;
 
 /// A leaf of a pending thread, with its base event.
-#[derive(Debug, Drop)]
+#[derive(Drop)]
 pub struct Offer {
     /// The thread.
     pub tid: Tid,
@@ -32,10 +32,7 @@ impl Model for Offer {
     ghost view = { λ o. record { thread = o.tid.0; leaf = o.leaf; base = o.base } };
 }
 
-/// Puts the base events of the group's leaves behind those that stand there.
-///
-/// # Errors
-/// Want of memory. What was put there until then stays.
+// Puts the base events of the group's leaves behind those that stand there. At want of memory, what was put there until then stays.
 #[tactic(auto, using(crate::proofs::Bases::base_steps))]
 fn push_bases(all: &mut Vec<Base>, group: &Group) -> Result<(), AllocError>
     ensures { IfOk result (λ _. all.new.items ≡ all.old.items ++ bases group.now) }
@@ -72,17 +69,32 @@ pub fn leaf_bases(alloc: Global, group: &Group) -> Result<Vec<Base>, AllocError>
 /// Puts the leaves of a thread's group behind those that stand there.
 ///
 /// # Errors
-/// Want of memory, also where a leaf has no number. What was put there until then stays.
+/// Want of memory, also where a leaf has no number. Nothing was put there.
 pub fn push_offers(
     alloc: Global,
     offers: &mut Vec<Offer>,
     tid: Tid,
     group: &Group,
 ) -> Result<(), AllocError>
-    ensures { IfOk result
-        (λ _. offers.new.items ≡ offers.old.items ++ leaves_from tid.0 0 (bases group.now)) }
+    ensures ok { OnOk result
+        (offers.new.items ≡ offers.old.items ++ leaves_from tid.0 0 (bases group.now)) }
+    ensures err { OnErr result (offers.new.items ≡ offers.old.items) }
 {
     let bases = leaf_bases(alloc, group)?;
+    let before = offers.len();
+    let pushed = push_leaves(offers, tid, &bases);
+    if pushed.is_err() {
+        offers.truncate(before);
+    }
+    pushed
+}
+
+// Puts the leaves of a thread that have these bases behind those that stand there. At want of memory, which is answered also where a
+// leaf has no number, some of them may stand there.
+fn push_leaves(offers: &mut Vec<Offer>, tid: Tid, bases: &[Base]) -> Result<(), AllocError>
+    ensures ok { OnOk result (offers.new.items ≡ offers.old.items ++ leaves_from tid.0 0 bases.now) }
+    ensures err { take (length offers.old.items) offers.new.items ≡ offers.old.items }
+{
     for (leaf, base) in bases.iter().enumerate() {
         offers.push(Offer {
             tid,
@@ -109,7 +121,7 @@ pub fn offers(alloc: Global, world: &World) -> Result<Vec<Offer>, AllocError>
     Ok(all)
 }
 
-/// A place in a list as the number of a thread or a leaf. There is no memory for a list in which it is too large.
+// A place in a list as the number of a thread or a leaf. There is no memory for a list in which it is too large.
 fn number(place: usize) -> Result<u32, AllocError>
     ensures { IfOk result (λ n. n ≡ place) }
 {

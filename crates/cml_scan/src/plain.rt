@@ -29,7 +29,7 @@ impl Lights for World {
         match light {
             Light::IVar(i) => matches!(self.ivars.get(i.0 as usize), Some(Some(_))),
             Light::MVar(m) => matches!(self.mvars.get(m.0 as usize), Some(Some(_))),
-            Light::Mailbox(b) => self
+            Light::Mbox(b) => self
                 .mailboxes
                 .get(b.0 as usize)
                 .is_some_and(|items| !items.is_empty()),
@@ -37,14 +37,14 @@ impl Lights for World {
                 .ports
                 .get(p.0 as usize)
                 .is_some_and(|items| !items.is_empty()),
-            Light::Thread(t) => matches!(self.threads.get(t.0 as usize), Some(ThreadState::Ended)),
-            Light::Tick(tick) => tick <= self.tick,
+            Light::Joined(t) => matches!(self.threads.get(t.0 as usize), Some(ThreadState::Ended)),
+            Light::Alarm(tick) => tick <= self.tick,
             Light::Nack(k) => matches!(self.nacks.get(k.0 as usize), Some(NackState::Fired)),
         }
     }
 }
 
-/// Whether the base event can be taken alone.
+// Whether the base event can be taken alone.
 fn is_lit_by<L: Lights>(lights: &L, base: &Base) -> bool
     ensures { result ≡ light_spec.lit_by (L.is_lit lights.now) base.now }
 {
@@ -57,7 +57,7 @@ fn is_lit_by<L: Lights>(lights: &L, base: &Base) -> bool
     }
 }
 
-/// Whether the first sends what the second receives.
+// Whether the first sends what the second receives.
 fn meets(head: &Base, other: &Base) -> bool
     ensures { result ≡ spec.meets head.now other.now }
 {
@@ -67,14 +67,14 @@ fn meets(head: &Base, other: &Base) -> bool
     }
 }
 
-/// Whether the two leaves are of two threads, and the first sends what the second receives.
+// Whether the two leaves are of two threads, and the first sends what the second receives.
 fn can_meet(head: &Offer, other: &Offer) -> bool
     ensures { result ≡ spec.can_meet head.now other.now }
 {
     head.tid != other.tid && meets(&head.base, &other.base)
 }
 
-/// Puts the rows that this leaf heads behind those that stand there.
+// Puts the rows that this leaf heads behind those that stand there.
 fn push_pairs(rows: &mut Vec<Meet>, head: &Offer, offers: &[Offer]) -> Result<(), AllocError>
     ensures { IfOk result (λ _. rows.new.items ≡ rows.old.items ++ spec.pairs_with offers.now head.now) }
 {

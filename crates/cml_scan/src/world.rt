@@ -5,7 +5,7 @@ use std::alloc::Global;
 use std::marker::Model;
 
 /// What a thread does.
-#[derive(Debug, Drop)]
+#[derive(Drop)]
 pub enum ThreadState {
     /// It runs.
     Running,
@@ -16,7 +16,7 @@ pub enum ThreadState {
 }
 
 /// What has become of a nack.
-#[derive(Clone, Copy, Debug, PartialEq, Eq)]
+#[derive(Clone, Copy, PartialEq, Eq)]
 pub enum NackState {
     /// This thread asked for it, and has not synchronized with it yet.
     Fresh(Tid),
@@ -29,7 +29,7 @@ pub enum NackState {
 }
 
 /// The state of all threads and objects, each by its number.
-#[derive(Debug, Drop)]
+#[derive(Drop)]
 pub struct World {
     /// What each thread does.
     pub threads: Vec<ThreadState>,
