@@ -6,8 +6,10 @@ use Rattle.std.proofs.lemmas.Bool.Decides.{nat_tests}
 use Rattle.cml_value.specs.Group.{PlainGroup, leaf_count, bases, scopes, nacks_of, group_fits}
 use Rattle.cml_scan.specs.World.{PlainThread, running, pending_on, ended, PlainWorld}
 use Rattle.cml_book.specs.declared.refusal.Refusal.{Refusal}
+use Rattle.cml_book.specs.declared.refusal.Refusal.TheVariants as refusal
 use Rattle.cml_book.specs.Entering.{is_far}
-use Rattle.cml_book.specs.Step.{first_if, first_of_both, thread_refusal, group_exists, can_enter, sync_refusal}
+use Rattle.cml_book.specs.Outcomes.{first_if, first_of_both, thread_refusal}
+use Rattle.cml_book.specs.Sync.{group_exists, can_enter, sync_refusal}
 
 pub record Accepted (w : PlainWorld) (t : ℕ) (g : PlainGroup) : Type 0 where
   pub thread_runs : slice_get w.threads t ≡ Some running
@@ -30,10 +32,8 @@ is_not true e = refl
 is_not false e = sym e
 
 pub runs_none : (thread : Option PlainThread) → thread_refusal thread ≡ None → thread ≡ Some running
-runs_none None e = cc
 runs_none (Some running) e = refl
-runs_none (Some (pending_on g)) e = cc
-runs_none (Some ended) e = cc
+runs_none _ e = cc
 
 few_none : (n : ℕ) → nat_lt 256 n ≡ false → n ≤ 256
 few_none n e = grind (arith, nat_tests)
@@ -54,3 +54,10 @@ accepted w t g e =
       near = far.0;
       enters = is_not _ spent.0;
     }
+
+-- the last refusal of a wait for its shape, where the first four don't fit
+pub past_four : (why : Option Refusal) (exists many fits far b : Bool) → why ≡ None → exists ≡ true → not many ≡ true → fits ≡ true → far ≡ b
+    → first_of_both why (first_if (not exists) refusal.Object (first_if many refusal.Leaves (first_if (not fits) refusal.Deep (first_if far refusal.Far None)))) ≡ first_if b refusal.Far None
+past_four why exists many fits far b e there few fit is =
+    let small : many ≡ false = elim many as (λ m. not m ≡ true → m ≡ false) [ true ↦ λ h. sym h | false ↦ λ _. refl ] few in
+    rw (e, there, small, fit, is) refl

@@ -4,15 +4,14 @@ use Rattle.std.specs.Prelude.{All, AllPairs, Contains, slice_get, slice_set}
 use Rattle.std.specs.List.{filter, flat_map}
 use Rattle.std.specs.Option.{option_copied, option_and_then}
 use Rattle.std.specs.Borrow.{Bor}
-use Rattle.cml_book.specs.Threads.{flat_of}
 use Rattle.std.proofs.lemmas.Bool.Decides.{nat_tests}
 use Rattle.std.proofs.lemmas.List.{length-map}
 use Rattle.std.proofs.lemmas.List.Elements.{All-nil, All-cons, All-head, All-tail, All-map, All-weaker, Contains-append_left, Contains-append_right}
-use Rattle.cml_value.specs.Value.{PlainValue, unit, PlainBase, always, send, recv, iget, mtake, mget, mswap, mail_recv, port_recv, join, at_tick, after_ticks, nack, PlainFunction}
+use Rattle.cml_value.specs.Value.{PlainValue, unit, PlainBase, always, send, recv, PlainFunction}
 use Rattle.cml_value.specs.Group.{PlainGroup, PlainLeaf, PlainScope, leaves, leaf_count, scopes, nacks_of, lies_outside, fired as fired_nacks}
 use Rattle.cml_value.specs.declared.number.Tid.{Tid}
 use Rattle.cml_group.specs.Leaves.{pick}
-use Rattle.cml_scan.specs.World.{PlainThread, running, pending_on, ended, PlainNack, PlainWorld, PlainEntry, pending_from}
+use Rattle.cml_scan.specs.World.{PlainThread, running, pending_on, ended, PlainWorld, PlainEntry, pending_from}
 use Rattle.cml_scan.specs.Scan.{scan, scan_of, has_row, is_among}
 use Rattle.cml_scan.specs.Table.{IsThere, without, lit_after, nacks_among, IsNackOf}
 use Rattle.cml_scan.specs.Enabled.{leaf_of}
@@ -21,9 +20,10 @@ use Rattle.cml_scan.specs.declared.meet.Meet.{Meet}
 use Rattle.cml_scan.specs.declared.meet.Meet.TheVariants.{Single, Pair}
 use Rattle.cml_scan.proofs.Told.{scan_of-told}
 use Rattle.cml_scan.proofs.Enabling.{scan-members, Contains-has_row}
-use Rattle.cml_book.specs.Step.{group_of, base_at, commit, after, hands, given, taken, settled, released, resume, sent}
-use Rattle.cml_book.specs.Keeping.{world_of, Keeps, AreLive, nack_light}
-use Rattle.cml_book.specs.Parties.{WaitsOn, given_alone}
+use Rattle.cml_book.specs.Commit.{awaited, group_awaited, base_awaited, base_or_unit, wraps_or_none, commit, after, hands, given, taken, released, resume, sent}
+use Rattle.cml_book.specs.Threads.{flat_of}
+use Rattle.cml_book.specs.Keeping.{Keeps, AreLive, nack_light}
+use Rattle.cml_book.specs.Parties.{WaitsOn}
 use Rattle.cml_book.specs.Resumes.{PlainResume}
 use Rattle.cml_book.specs.declared.command.Committed.{Committed}
 use Rattle.cml_book.specs.declared.refusal.Refusal.TheVariants as refusal
@@ -66,121 +66,87 @@ thread_at n (suc i) (pending_on x ∷ ts) g h = let t = thread_at (n + 1) i ts g
 thread_at n (suc i) (ended ∷ ts) g h = let t = thread_at (n + 1) i ts g h in (t.0, t.1, t.2, t.3, t.4 ∙ omega arith)
 
 -- a party of an enabled row: it waits on a group that has the leaf
-pub record Party (ts : List PlainThread) (ns : List PlainNack) (es : List PlainEntry) (room t n : ℕ) (b : PlainBase) : Type 0 where
+pub record Party (w : PlainWorld) (room t n : ℕ) (b : PlainBase) : Type 0 where
   pub group : PlainGroup
-  pub leaf : PlainLeaf
-  pub waits : slice_get ts t ≡ Some (pending_on group)
-  pub picked : pick group n ≡ Some leaf
-  pub base_is : leaf.base ≡ b
+  pub waits : slice_get w.threads t ≡ Some (pending_on group)
+  pub base_is : base_or_unit (pick group n) ≡ b
   pub within : n < leaf_count group
-  pub alive : AreLive (nacks_of (scopes group)) ns
+  pub alive : AreLive (nacks_of (scopes group)) w.nacks
   pub fits : 2 * length (scopes group) ≤ room
 
-pick_at : (ls : List PlainLeaf) (n : ℕ) (b : PlainBase) → slice_get (map (λ l. l.base) ls) n ≡ Some b → (l : PlainLeaf) × (slice_get ls n ≡ Some l) × (l.base ≡ b) × (n < length ls)
+pick_at : (ls : List PlainLeaf) (n : ℕ) (b : PlainBase) → slice_get (map (λ l. l.base) ls) n ≡ Some b → (base_or_unit (slice_get ls n) ≡ b) × (n < length ls)
 pick_at [] n b h = cc
-pick_at (l ∷ ls) zero b h = (l, refl, cc, omega arith)
-pick_at (l ∷ ls) (suc n) b h = let p = pick_at ls n b h in (p.0, p.1, p.2, omega (arith, p.3))
+pick_at (l ∷ ls) zero b h = (cc, omega arith)
+pick_at (l ∷ ls) (suc n) b h = let p = pick_at ls n b h in (p.0, omega (arith, p.1))
 
-pub party_of : (ts : List PlainThread) (c : ℕ) (ns : List PlainNack) (tick : ℕ) (es : List PlainEntry) (told : Light → Bool) (room t n : ℕ) (b : PlainBase) → Keeps (world_of ts c ns tick) es told room
-    → leaf_of (slice_get ts t) n ≡ Some b → Party ts ns es room t n b
-party_of ts c ns tick es told room t n b k h = at (slice_get ts t) refl h
+pub party_of : (w : PlainWorld) (es : List PlainEntry) (told : Light → Bool) (room t n : ℕ) (b : PlainBase) → Keeps w es told room → leaf_of (slice_get w.threads t) n ≡ Some b → Party w room t n b
+party_of w es told room t n b k h = at (slice_get w.threads t) refl h
   where
-    at : (o : Option PlainThread) → slice_get ts t ≡ o → leaf_of o n ≡ Some b → Party ts ns es room t n b
-    at None e h = cc
-    at (Some running) e h = cc
+    at : (o : Option PlainThread) → slice_get w.threads t ≡ o → leaf_of o n ≡ Some b → Party w room t n b
     at (Some (pending_on g)) e h =
         let p = pick_at (leaves g) n b h in
         record {
           group = g;
-          leaf = p.0;
           waits = e;
-          picked = p.1;
-          base_is = p.2;
-          within = p.3;
-          alive = record { each = λ j. let a = nacks-resume j 0 t ts g e in let l = k.nacks_live j in omega arith };
-          fits = entry_at (λ x. 2 * length (scopes x.group) ≤ room) 0 t ts g e (rw (← k.told_groups) k.roomy);
+          base_is = p.0;
+          within = p.1;
+          alive = record { each = λ j. let a = nacks-resume j 0 t w.threads g e in let l = k.nacks_live j in omega arith };
+          fits = entry_at (λ x. 2 * length (scopes x.group) ≤ room) 0 t w.threads g e (rw (← k.told_groups) k.roomy);
         }
-    at (Some ended) e h = cc
+    at _ e h = cc
 
-pub single_party : (ts : List PlainThread) (c : ℕ) (ns : List PlainNack) (tick : ℕ) (es : List PlainEntry) (told : Light → Bool) (room : ℕ) (t : Tid) (n : ℕ) → Keeps (world_of ts c ns tick) es told room
-    → has_row (scan (world_of ts c ns tick)) (Single t n) ≡ true → (b : PlainBase) × Party ts ns es room t.0 n b
-single_party ts c ns tick es told room t n k h =
-    let e = (scan-members (world_of ts c ns tick) (Single t n)).0 (Contains-has_row (scan (world_of ts c ns tick)) (Single t n) h) in
-    (e.0, party_of ts c ns tick es told room t.0 n e.0 k e.1)
+pub single_party : (w : PlainWorld) (es : List PlainEntry) (told : Light → Bool) (room : ℕ) (t : Tid) (n : ℕ) → Keeps w es told room → has_row (scan w) (Single t n) ≡ true → (b : PlainBase) × Party w room t.0 n b
+single_party w es told room t n k h =
+    let e = (scan-members w (Single t n)).0 (Contains-has_row (scan w) (Single t n) h) in
+    (e.0, party_of w es told room t.0 n e.0 k e.1)
 
 -- the two parties of a pair, which differ
-pub record Parties (ts : List PlainThread) (ns : List PlainNack) (es : List PlainEntry) (room : ℕ) (h : Tid) (i : ℕ) (o : Tid) (j : ℕ) : Type 0 where
+pub record Parties (w : PlainWorld) (room : ℕ) (h : Tid) (i : ℕ) (o : Tid) (j : ℕ) : Type 0 where
   pub channel : ℕ
   pub value : PlainValue
-  pub sender : Party ts ns es room h.0 i (send channel value)
-  pub receiver : Party ts ns es room o.0 j (recv channel)
+  pub sender : Party w room h.0 i (send channel value)
+  pub receiver : Party w room o.0 j (recv channel)
   pub differ : h.0 ≢ o.0
 
-pub pair_parties : (ts : List PlainThread) (c : ℕ) (ns : List PlainNack) (tick : ℕ) (es : List PlainEntry) (told : Light → Bool) (room : ℕ) (h : Tid) (i : ℕ) (o : Tid) (j : ℕ) → Keeps (world_of ts c ns tick) es told room
-    → has_row (scan (world_of ts c ns tick)) (Pair h i o j) ≡ true → Parties ts ns es room h i o j
-pair_parties ts c ns tick es told room h i o j k has =
-    let e = (scan-members (world_of ts c ns tick) (Pair h i o j)).0 (Contains-has_row (scan (world_of ts c ns tick)) (Pair h i o j) has) in
+pub pair_parties : (w : PlainWorld) (es : List PlainEntry) (told : Light → Bool) (room : ℕ) (h : Tid) (i : ℕ) (o : Tid) (j : ℕ) → Keeps w es told room → has_row (scan w) (Pair h i o j) ≡ true → Parties w room h i o j
+pair_parties w es told room h i o j k has =
+    let e = (scan-members w (Pair h i o j)).0 (Contains-has_row (scan w) (Pair h i o j) has) in
     record {
       channel = e.0;
       value = e.1;
-      sender = party_of ts c ns tick es told room h.0 i (send e.0 e.1) k e.2;
-      receiver = party_of ts c ns tick es told room o.0 j (recv e.0) k e.3;
+      sender = party_of w es told room h.0 i (send e.0 e.1) k e.2;
+      receiver = party_of w es told room o.0 j (recv e.0) k e.3;
       differ = e.4;
     }
 
 -- the group that a call finds
-pub waiting_is : (r : Option (Bor PlainGroup)) (ts ts' : List PlainThread) (t : ℕ) (g : PlainGroup) → option_copied r ≡ option_and_then flat_of (slice_get ts' t) → ts' ≡ ts → slice_get ts t ≡ Some (pending_on g)
-    → option_copied r ≡ Some g
-waiting_is r ts ts' t g e same waits = e ∙ rw same (rw waits refl)
+pub flat_is : (r : Option (Bor PlainGroup)) (f : Bor PlainGroup) (w : PlainWorld) (t : ℕ) (g : PlainGroup) → option_copied r ≡ option_and_then flat_of (slice_get w.threads t) → slice_get w.threads t ≡ Some (pending_on g) → r ≡ Some f → f.now ≡ g
+flat_is r f w t g e waits is =
+    let there : option_and_then flat_of (slice_get w.threads t) ≡ Some g = rw waits refl in
+    let both : option_copied (Some f) ≡ Some g = rw is at (e ∙ there) in
+    cc
 
-pub flat_is : (r : Option (Bor PlainGroup)) (f : Bor PlainGroup) (g : PlainGroup) → option_copied r ≡ Some g → r ≡ Some f → f.now ≡ g
-flat_is r f g e is = let both : option_copied (Some f) ≡ Some g = rw is at e in cc
-
-pub found : (r : Option (Bor PlainGroup)) (g : PlainGroup) → option_copied r ≡ Some g → r ≡ None → ⊥
-found r g e is = let both = subst (λ (x : Option (Bor PlainGroup)). option_copied x ≡ Some g) is e in cc
+pub found : (r : Option (Bor PlainGroup)) (w : PlainWorld) (t : ℕ) (g : PlainGroup) → option_copied r ≡ option_and_then flat_of (slice_get w.threads t) → slice_get w.threads t ≡ Some (pending_on g) → r ≡ None → ⊥
+found r w t g e waits is =
+    let there : option_and_then flat_of (slice_get w.threads t) ≡ Some g = rw waits refl in
+    let both : option_copied None ≡ Some g = subst (λ (x : Option (Bor PlainGroup)). option_copied x ≡ Some g) is (e ∙ there) in
+    cc
 
 -- a pending thread is there
-pub is_there : (ts : List PlainThread) (es : List PlainEntry) (t : Tid) (g : PlainGroup) → slice_get ts t.0 ≡ Some (pending_on g) → es ≡ pending_from 0 ts → IsThere es t
-is_there ts es t g waits same = let a = thread_at 0 t.0 ts g waits in rw same (a.0, a.1, a.2, a.3, a.4 ∙ zero-add t.0)
+pub is_there : (w : PlainWorld) (es : List PlainEntry) (t : Tid) (g : PlainGroup) → slice_get w.threads t.0 ≡ Some (pending_on g) → es ≡ pending_from 0 w.threads → IsThere es t
+is_there w es t g waits same = let a = thread_at 0 t.0 w.threads g waits in rw same (a.0, a.1, a.2, a.3, a.4 ∙ zero-add t.0)
 
-pub waits_on : (ts : List PlainThread) (ns : List PlainNack) (es : List PlainEntry) (room t n : ℕ) (b : PlainBase) → Party ts ns es room t n b → WaitsOn ts ns t n (group_of (slice_get ts t))
-waits_on ts ns es room t n b p = rw p.waits (record { waits = p.waits; within = p.within; alive = p.alive })
+pub waits_on : (w : PlainWorld) (room t n : ℕ) (b : PlainBase) → Party w room t n b → WaitsOn w.threads w.nacks t n (group_awaited w t)
+waits_on w room t n b p = rw p.waits (record { waits = p.waits; within = p.within; alive = p.alive })
 
--- there are no variables, mailboxes and ports
-given_is : (ts : List PlainThread) (c : ℕ) (ns : List PlainNack) (tick : ℕ) (b : PlainBase) → given (world_of ts c ns tick) b ≡ given_alone b
-given_is ts c ns tick (always v) = refl
-given_is ts c ns tick _ = refl
+-- what is taken alone is the same before and after its thread goes on
+given_after : (w : PlainWorld) (t n : ℕ) (b : PlainBase) → given (released w t n) b ≡ given w b
+given_after w t n (always v) = refl
+given_after w t n _ = refl
 
-taken_is : (ts : List PlainThread) (c : ℕ) (ns : List PlainNack) (tick : ℕ) (b : PlainBase) → taken (world_of ts c ns tick) b ≡ world_of ts c ns tick
-taken_is ts c ns tick (always v) = refl
-taken_is ts c ns tick _ = refl
-
-released_is : (ts : List PlainThread) (c : ℕ) (ns : List PlainNack) (tick t n : ℕ) (g : PlainGroup) → slice_get ts t ≡ Some (pending_on g)
-    → released (world_of ts c ns tick) t n ≡ world_of (slice_set ts t running) c (settled n g ns) tick
-released_is ts c ns tick t n g waits = ap (λ x. world_of (slice_set ts t running) c (settled n (group_of x) ns) tick) waits
-
-resume_is : (ts : List PlainThread) (c : ℕ) (ns : List PlainNack) (tick t n : ℕ) (g : PlainGroup) (b : PlainBase) (ws : List PlainFunction) (v : PlainValue) → slice_get ts t ≡ Some (pending_on g) → pick g n ≡ Some (record { base = b; wraps = ws })
-    → resume (world_of ts c ns tick) t n v ≡ record { thread = t; value = v; wraps = ws; fired = fired_nacks g n }
-resume_is ts c ns tick t n g b ws v waits picked = rw waits (rw picked refl)
-
-base_at_is : (ts : List PlainThread) (c : ℕ) (ns : List PlainNack) (tick t n : ℕ) (g : PlainGroup) (b : PlainBase) (ws : List PlainFunction) → slice_get ts t ≡ Some (pending_on g) → pick g n ≡ Some (record { base = b; wraps = ws })
-    → base_at (world_of ts c ns tick) t n ≡ b
-base_at_is ts c ns tick t n g b ws waits picked = rw waits (rw picked refl)
-
--- what taking a leaf alone gives
-pub single_taken : (ts : List PlainThread) (c : ℕ) (ns : List PlainNack) (tick : ℕ) (t : Tid) (n : ℕ) (g : PlainGroup) (b : PlainBase) (ws : List PlainFunction) → slice_get ts t.0 ≡ Some (pending_on g)
-    → pick g n ≡ Some (record { base = b; wraps = ws }) → has_row (scan (world_of ts c ns tick)) (Single t n) ≡ true
-    → commit (world_of ts c ns tick) (Single t n)
-    ≡ Ok (world_of (slice_set ts t.0 running) c (settled n g ns) tick, record { head = record { thread = t.0; value = given_alone b; wraps = ws; fired = fired_nacks g n }; partner = None })
-single_taken ts c ns tick t n g b ws waits picked has =
-    let base : base_at (world_of ts c ns tick) t.0 n ≡ b = base_at_is ts c ns tick t.0 n g b ws waits picked in
-    let world : after (world_of ts c ns tick) (Single t n) ≡ world_of (slice_set ts t.0 running) c (settled n g ns) tick
-    = ap (λ w. released w t.0 n) (taken_is ts c ns tick (base_at (world_of ts c ns tick) t.0 n)) ∙ released_is ts c ns tick t.0 n g waits in
-    let value : given (world_of ts c ns tick) (base_at (world_of ts c ns tick) t.0 n) ≡ given_alone b = ap (given (world_of ts c ns tick)) base ∙ given_is ts c ns tick b in
-    let head : PlainResume → Committed = λ r. record { head = r; partner = None } in
-    let handed : hands (world_of ts c ns tick) (Single t n) ≡ record { head = record { thread = t.0; value = given_alone b; wraps = ws; fired = fired_nacks g n }; partner = None }
-    = ap (λ v. head (resume (world_of ts c ns tick) t.0 n v)) value ∙ ap head (resume_is ts c ns tick t.0 n g b ws (given_alone b) waits picked) in
-    commit_is (world_of ts c ns tick) (Single t n) has ∙ ap (λ w. Ok (w, hands (world_of ts c ns tick) (Single t n))) world ∙ ap (λ h. Ok (world_of (slice_set ts t.0 running) c (settled n g ns) tick, h)) handed
+taken_after : (w : PlainWorld) (t n : ℕ) (b : PlainBase) → taken (released w t n) b ≡ released (taken w b) t n
+taken_after w t n (always v) = refl
+taken_after w t n _ = refl
 
 -- the nacks of a thread that goes are among those of the threads that go
 nack_among : (gone : List Tid) (n i : ℕ) (ts : List PlainThread) (g : PlainGroup) (k : ℕ) → slice_get ts i ≡ Some (pending_on g) → is_among gone (n + i) ≡ true → Contains (nacks_of (scopes g)) k
@@ -235,101 +201,77 @@ gone_one t = one t.0
     one n = grind (arith, nat_tests)
 
 -- what a book keeps when one thread has gone on
-pub keeps_single : (ts : List PlainThread) (c : ℕ) (ns : List PlainNack) (tick : ℕ) (es : List PlainEntry) (told : Light → Bool) (room : ℕ) (t : Tid) (n : ℕ) (g : PlainGroup) (es' : List PlainEntry) (told' : Light → Bool)
-    (ts' : List PlainThread) (ns' : List PlainNack) (lit : List Light) (room' : ℕ)
-    → Keeps (world_of ts c ns tick) es told room → slice_get ts t.0 ≡ Some (pending_on g) → ts' ≡ slice_set ts t.0 running → ns' ≡ settled n (group_of (slice_get ts t.0)) ns
+pub keeps_single : (w : PlainWorld) (es : List PlainEntry) (told : Light → Bool) (room : ℕ) (t : Tid) (n : ℕ) (g : PlainGroup) (es' : List PlainEntry) (told' : Light → Bool) (w1 : PlainWorld) (lit : List Light) (room' : ℕ)
+    → Keeps w es told room → slice_get w.threads t.0 ≡ Some (pending_on g) → w1 ≡ released w t.0 n
     → lit ≡ map nack_light (fired_nacks g n) → es' ≡ without (t ∷ []) es → ((l : Light) → told' l ≡ lit_after lit [] l (told l)) → room' ≡ room
-    → Keeps (world_of ts' c ns' tick) es' told' room'
-keeps_single ts c ns tick es told room t n g es' told' ts' ns' lit room' k waits threads nacks lights gone tells size =
-    let cells : ns' ≡ settled n g ns = nacks ∙ ap (λ x. settled n (group_of x) ns) waits in
-    rw (threads, cells, size)
-    (keeps_same (slice_set ts t.0 running) c (settled n g ns) tick (without (t ∷ []) es) (λ l. lit_after (map nack_light (fired_nacks g n)) [] l (told l)) room es' told' gone
-    (λ l. tells l ∙ ap (λ x. lit_after x [] l (told l)) lights) (keeps_resume ts c ns tick es told room t n g k waits))
+    → Keeps w1 es' told' room'
+keeps_single w es told room t n g es' told' w1 lit room' k waits one lights gone tells size =
+    rw (one, size)
+    (keeps_same (released w t.0 n) (without (t ∷ []) es) (λ l. lit_after (map nack_light (fired_nacks g n)) [] l (told l)) room es' told' gone
+    (λ l. tells l ∙ ap (λ x. lit_after x [] l (told l)) lights) (keeps_resume w es told room t n g k waits))
 
 -- what the call for a single answers
-pub single_returns : (ts : List PlainThread) (c : ℕ) (ns : List PlainNack) (tick : ℕ) (t : Tid) (n : ℕ) (g : PlainGroup) (b : PlainBase) (ws : List PlainFunction) (v : PlainValue) (fs : List ℕ) (ts' : List PlainThread) (ns' : List PlainNack) (r : PlainResume)
-    → slice_get ts t.0 ≡ Some (pending_on g) → pick (group_of (slice_get ts t.0)) n ≡ Some (record { base = b; wraps = ws }) → has_row (scan (world_of ts c ns tick)) (Single t n) ≡ true
-    → ts' ≡ slice_set ts t.0 running → ns' ≡ settled n (group_of (slice_get ts t.0)) ns → v ≡ given_alone b → fs ≡ fired_nacks (group_of (slice_get ts t.0)) n
+pub single_returns : (w : PlainWorld) (t : Tid) (n : ℕ) (b : PlainBase) (ws : List PlainFunction) (v : PlainValue) (fs : List ℕ) (w1 : PlainWorld) (r : PlainResume)
+    → has_row (scan w) (Single t n) ≡ true → pick (group_awaited w t.0) n ≡ Some (record { base = b; wraps = ws })
+    → w1 ≡ released w t.0 n → v ≡ given w1 b → w1 ≡ taken w1 b → fs ≡ fired_nacks (group_awaited w t.0) n
     → r ≡ record { thread = t.0; value = v; wraps = ws; fired = fs }
-    → commit (world_of ts c ns tick) (Single t n) ≡ Ok (world_of ts' c ns' tick, record { head = r; partner = None })
-single_returns ts c ns tick t n g b ws v fs ts' ns' r waits picked has threads nacks value lost made =
-    let group : group_of (slice_get ts t.0) ≡ g = ap group_of waits in
-    let own = subst (λ x. pick x n ≡ Some (record { base = b; wraps = ws })) group picked in
-    let cells : ns' ≡ settled n g ns = nacks ∙ ap (λ x. settled n x ns) group in
-    let handed : r ≡ record { thread = t.0; value = given_alone b; wraps = ws; fired = fired_nacks g n } = made ∙ rw (value, lost, group) refl in
-    rw (threads, cells, handed) (single_taken ts c ns tick t n g b ws waits own has)
+    → commit w (Single t n) ≡ Ok (w1, record { head = r; partner = None })
+single_returns w t n b ws v fs w1 r has picked one value same lost made =
+    let base : base_awaited w t.0 n ≡ b = ap base_or_unit picked in
+    let world : w1 ≡ after w (Single t n) = same ∙ ap (λ x. taken x b) one ∙ taken_after w t.0 n b ∙ ap (λ x. released (taken w x) t.0 n) (sym base) in
+    let own : v ≡ given w (base_awaited w t.0 n) = value ∙ ap (λ x. given x b) one ∙ given_after w t.0 n b ∙ ap (given w) (sym base) in
+    let wraps : ws ≡ wraps_or_none (pick (group_awaited w t.0) n) = sym (ap wraps_or_none picked) in
+    let head : r ≡ resume w t.0 n (given w (base_awaited w t.0 n)) = made ∙ rw (own, wraps, lost) refl in
+    commit_is w (Single t n) has ∙ rw (world, head) refl
 
 -- the receiver waits still, once the sender has gone on
-pub second_waits : (ts : List PlainThread) (c : ℕ) (ns : List PlainNack) (tick : ℕ) (es : List PlainEntry) (told : Light → Bool) (room : ℕ) (h : Tid) (i : ℕ) (o : Tid) (j : ℕ) (a : PlainGroup) (g : PlainGroup) (ts' : List PlainThread) (ns' : List PlainNack)
-    → Keeps (world_of ts c ns tick) es told room → slice_get ts h.0 ≡ Some (pending_on a) → slice_get ts o.0 ≡ Some (pending_on g) → h.0 ≢ o.0 → j < leaf_count g
-    → ts' ≡ slice_set ts h.0 running → ns' ≡ settled i (group_of (slice_get ts h.0)) ns
-    → (slice_get ts' o.0 ≡ Some (pending_on g)) × WaitsOn ts' ns' o.0 j (group_of (slice_get ts' o.0))
-second_waits ts c ns tick es told room h i o j a g ts' ns' k first second differ within threads nacks =
-    let cells : ns' ≡ settled i a ns = nacks ∙ ap (λ x. settled i (group_of x) ns) first in
-    let waits : slice_get (slice_set ts h.0 running) o.0 ≡ Some (pending_on g) = get-set_other ts h.0 o.0 running differ ∙ second in
-    let k1 = keeps_resume ts c ns tick es told room h i a k first in
-    let live_still : AreLive (nacks_of (scopes g)) (settled i a ns) = record { each = λ n. let x = nacks-resume n 0 o.0 (slice_set ts h.0 running) g waits in let y = k1.nacks_live n in omega arith } in
-    rw (threads, cells) (waits, rw waits (record { waits = waits; within = within; alive = live_still }))
+pub second_waits : (w : PlainWorld) (es : List PlainEntry) (told : Light → Bool) (room : ℕ) (h : Tid) (i : ℕ) (o : Tid) (j : ℕ) (a g : PlainGroup) (w1 : PlainWorld)
+    → Keeps w es told room → slice_get w.threads h.0 ≡ Some (pending_on a) → slice_get w.threads o.0 ≡ Some (pending_on g) → h.0 ≢ o.0 → j < leaf_count g
+    → w1 ≡ released w h.0 i → WaitsOn w1.threads w1.nacks o.0 j (group_awaited w1 o.0)
+second_waits w es told room h i o j a g w1 k first second differ within one =
+    let waits : slice_get (released w h.0 i).threads o.0 ≡ Some (pending_on g) = get-set_other w.threads h.0 o.0 running differ ∙ second in
+    let k1 = keeps_resume w es told room h i a k first in
+    let alive : AreLive (nacks_of (scopes g)) (released w h.0 i).nacks = record { each = λ n. let x = nacks-resume n 0 o.0 (released w h.0 i).threads g waits in let y = k1.nacks_live n in omega arith } in
+    rw (one, waits) (record { waits = waits; within = within; alive = alive })
 
 -- what a book keeps when a sender and a receiver have gone on
-pub keeps_pair : (ts : List PlainThread) (c : ℕ) (ns : List PlainNack) (tick : ℕ) (es : List PlainEntry) (told : Light → Bool) (room : ℕ) (h : Tid) (i : ℕ) (o : Tid) (j : ℕ) (a g : PlainGroup) (es' : List PlainEntry) (told' : Light → Bool)
-    (ts1 ts2 : List PlainThread) (ns1 ns2 : List PlainNack) (lit : List Light) (room' : ℕ)
-    → Keeps (world_of ts c ns tick) es told room → slice_get ts h.0 ≡ Some (pending_on a) → slice_get ts o.0 ≡ Some (pending_on g) → h.0 ≢ o.0
-    → ts1 ≡ slice_set ts h.0 running → ns1 ≡ settled i (group_of (slice_get ts h.0)) ns
-    → ts2 ≡ slice_set ts1 o.0 running → ns2 ≡ settled j (group_of (slice_get ts1 o.0)) ns1
+pub keeps_pair : (w : PlainWorld) (es : List PlainEntry) (told : Light → Bool) (room : ℕ) (h : Tid) (i : ℕ) (o : Tid) (j : ℕ) (a g : PlainGroup) (es' : List PlainEntry) (told' : Light → Bool) (w1 w2 : PlainWorld) (lit : List Light) (room' : ℕ)
+    → Keeps w es told room → slice_get w.threads h.0 ≡ Some (pending_on a) → slice_get w.threads o.0 ≡ Some (pending_on g) → h.0 ≢ o.0
+    → w1 ≡ released w h.0 i → w2 ≡ released w1 o.0 j
     → lit ≡ map nack_light (fired_nacks a i) ++ map nack_light (fired_nacks g j) → es' ≡ without (h ∷ o ∷ []) es → ((l : Light) → told' l ≡ lit_after lit [] l (told l)) → room' ≡ room
-    → Keeps (world_of ts2 c ns2 tick) es' told' room'
-keeps_pair ts c ns tick es told room h i o j a g es' told' ts1 ts2 ns1 ns2 lit room' k first second differ threads1 nacks1 threads2 nacks2 lights gone tells size =
-    let waits : slice_get (slice_set ts h.0 running) o.0 ≡ Some (pending_on g) = get-set_other ts h.0 o.0 running differ ∙ second in
-    let cells1 : ns1 ≡ settled i a ns = nacks1 ∙ ap (λ x. settled i (group_of x) ns) first in
-    let now2 : ts2 ≡ slice_set (slice_set ts h.0 running) o.0 running = threads2 ∙ ap (λ x. slice_set x o.0 running) threads1 in
-    let cells2 : ns2 ≡ settled j g (settled i a ns) =
-    nacks2 ∙ ap (λ x. settled j (group_of (slice_get x o.0)) ns1) threads1 ∙ ap (λ x. settled j (group_of x) ns1) waits ∙ ap (settled j g) cells1 in
-    let k1 = keeps_resume ts c ns tick es told room h i a k first in
-    let k2 = keeps_resume (slice_set ts h.0 running) c (settled i a ns) tick (without (h ∷ []) es) (λ l. lit_after (map nack_light (fired_nacks a i)) [] l (told l)) room o j g k1 waits in
-    rw (now2, cells2, size)
-    (keeps_same (slice_set (slice_set ts h.0 running) o.0 running) c (settled j g (settled i a ns)) tick (without (o ∷ []) (without (h ∷ []) es))
+    → Keeps w2 es' told' room'
+keeps_pair w es told room h i o j a g es' told' w1 w2 lit room' k first second differ one two lights gone tells size =
+    let both : w2 ≡ released (released w h.0 i) o.0 j = two ∙ ap (λ x. released x o.0 j) one in
+    let waits : slice_get (released w h.0 i).threads o.0 ≡ Some (pending_on g) = get-set_other w.threads h.0 o.0 running differ ∙ second in
+    let k1 = keeps_resume w es told room h i a k first in
+    let k2 = keeps_resume (released w h.0 i) (without (h ∷ []) es) (λ l. lit_after (map nack_light (fired_nacks a i)) [] l (told l)) room o j g k1 waits in
+    rw (both, size)
+    (keeps_same (released (released w h.0 i) o.0 j) (without (o ∷ []) (without (h ∷ []) es))
     (λ l. lit_after (map nack_light (fired_nacks g j)) [] l (lit_after (map nack_light (fired_nacks a i)) [] l (told l))) room es' told' (gone ∙ sym (without_two h o es))
     (λ l. tells l ∙ ap (λ x. lit_after x [] l (told l)) lights ∙ lit_more (map nack_light (fired_nacks a i)) (map nack_light (fired_nacks g j)) l (told l)) k2)
 
 -- what the call for a pair answers
-pub pair_returns : (ts : List PlainThread) (c : ℕ) (ns : List PlainNack) (tick : ℕ) (h : Tid) (i : ℕ) (o : Tid) (j : ℕ) (a g : PlainGroup) (b d : PlainBase) (ws us : List PlainFunction) (v u : PlainValue) (fs es : List ℕ)
-    (ts1 ts2 : List PlainThread) (ns1 ns2 : List PlainNack) (r q : PlainResume)
-    → slice_get ts h.0 ≡ Some (pending_on a) → slice_get ts o.0 ≡ Some (pending_on g) → h.0 ≢ o.0 → has_row (scan (world_of ts c ns tick)) (Pair h i o j) ≡ true
-    → ts1 ≡ slice_set ts h.0 running → ns1 ≡ settled i (group_of (slice_get ts h.0)) ns
-    → ts2 ≡ slice_set ts1 o.0 running → ns2 ≡ settled j (group_of (slice_get ts1 o.0)) ns1
-    → pick (group_of (slice_get ts h.0)) i ≡ Some (record { base = b; wraps = ws }) → fs ≡ fired_nacks (group_of (slice_get ts h.0)) i
-    → pick (group_of (slice_get ts1 o.0)) j ≡ Some (record { base = d; wraps = us }) → es ≡ fired_nacks (group_of (slice_get ts1 o.0)) j
+pub pair_returns : (w : PlainWorld) (h : Tid) (i : ℕ) (o : Tid) (j : ℕ) (b d : PlainBase) (ws us : List PlainFunction) (v u : PlainValue) (fs es : List ℕ) (w1 w2 : PlainWorld) (r q : PlainResume)
+    → has_row (scan w) (Pair h i o j) ≡ true → h.0 ≢ o.0 → w1 ≡ released w h.0 i → w2 ≡ released w1 o.0 j
+    → pick (group_awaited w h.0) i ≡ Some (record { base = b; wraps = ws }) → fs ≡ fired_nacks (group_awaited w h.0) i
+    → pick (group_awaited w1 o.0) j ≡ Some (record { base = d; wraps = us }) → es ≡ fired_nacks (group_awaited w1 o.0) j
     → u ≡ unit → v ≡ sent b
     → r ≡ record { thread = h.0; value = u; wraps = ws; fired = fs } → q ≡ record { thread = o.0; value = v; wraps = us; fired = es }
-    → commit (world_of ts c ns tick) (Pair h i o j) ≡ Ok (world_of ts2 c ns2 tick, record { head = r; partner = Some q })
-pair_returns ts c ns tick h i o j a g b d ws us v u fs es ts1 ts2 ns1 ns2 r q first second differ has threads1 nacks1 threads2 nacks2 picked1 lost1 picked2 lost2 head_value value made1 made2 =
-    let w : PlainWorld = world_of ts c ns tick in
-    let group1 : group_of (slice_get ts h.0) ≡ a = ap group_of first in
-    let waits : slice_get (slice_set ts h.0 running) o.0 ≡ Some (pending_on g) = get-set_other ts h.0 o.0 running differ ∙ second in
-    let group2 : group_of (slice_get ts1 o.0) ≡ g = ap (λ x. group_of (slice_get x o.0)) threads1 ∙ ap group_of waits in
-    let own1 = subst (λ x. pick x i ≡ Some (record { base = b; wraps = ws })) group1 picked1 in
+    → commit w (Pair h i o j) ≡ Ok (w2, record { head = r; partner = Some q })
+pair_returns w h i o j b d ws us v u fs es w1 w2 r q has differ one two picked1 lost1 picked2 lost2 head_value value made1 made2 =
+    let group2 : group_awaited w1 o.0 ≡ group_awaited w o.0 = ap (λ (x : PlainWorld). group_awaited x o.0) one ∙ ap awaited (get-set_other w.threads h.0 o.0 running differ) in
     let own2 = subst (λ x. pick x j ≡ Some (record { base = d; wraps = us })) group2 picked2 in
-    let cells1 : ns1 ≡ settled i a ns = nacks1 ∙ ap (λ x. settled i x ns) group1 in
-    let now2 : ts2 ≡ slice_set (slice_set ts h.0 running) o.0 running = threads2 ∙ ap (λ x. slice_set x o.0 running) threads1 in
-    let cells2 : ns2 ≡ settled j g (settled i a ns) = nacks2 ∙ ap (λ x. settled j x ns1) group2 ∙ ap (settled j g) cells1 in
-    let one : released w h.0 i ≡ world_of (slice_set ts h.0 running) c (settled i a ns) tick = released_is ts c ns tick h.0 i a first in
-    let world : after w (Pair h i o j) ≡ world_of ts2 c ns2 tick =
-    ap (λ x. released x o.0 j) one ∙ released_is (slice_set ts h.0 running) c (settled i a ns) tick o.0 j g waits ∙ ap (λ x. world_of x c (settled j g (settled i a ns)) tick) (sym now2) ∙ ap (λ x. world_of ts2 c x tick) (sym cells2) in
-    let base : base_at w h.0 i ≡ b = base_at_is ts c ns tick h.0 i a b ws first own1 in
-    let head : resume w h.0 i unit ≡ r = resume_is ts c ns tick h.0 i a b ws unit first own1 ∙ sym (made1 ∙ rw (head_value, lost1, group1) refl) in
-    let partner : resume w o.0 j (sent (base_at w h.0 i)) ≡ q =
-    ap (λ x. resume w o.0 j (sent x)) base ∙ resume_is ts c ns tick o.0 j g d us (sent b) second own2 ∙ sym (made2 ∙ rw (value, lost2, group2) refl) in
-    let both : PlainResume → PlainResume → Committed = λ x y. record { head = x; partner = Some y } in
-    let handed : hands w (Pair h i o j) ≡ record { head = r; partner = Some q } = ap (λ x. both x (resume w o.0 j (sent (base_at w h.0 i)))) head ∙ ap (both r) partner in
-    commit_is w (Pair h i o j) has ∙ ap (λ x. Ok (x, hands w (Pair h i o j))) world ∙ ap (λ x. Ok (world_of ts2 c ns2 tick, x)) handed
+    let world : w2 ≡ after w (Pair h i o j) = two ∙ ap (λ x. released x o.0 j) one in
+    let base : b ≡ base_awaited w h.0 i = sym (ap base_or_unit picked1) in
+    let wraps1 : ws ≡ wraps_or_none (pick (group_awaited w h.0) i) = sym (ap wraps_or_none picked1) in
+    let wraps2 : us ≡ wraps_or_none (pick (group_awaited w o.0) j) = sym (ap wraps_or_none own2) in
+    let head : r ≡ resume w h.0 i unit = made1 ∙ rw (head_value, wraps1, lost1) refl in
+    let partner : q ≡ resume w o.0 j (sent (base_awaited w h.0 i)) = made2 ∙ rw (value, base, wraps2, lost2, group2) refl in
+    commit_is w (Pair h i o j) has ∙ rw (world, head, partner) refl
 
 pub told_two : (before pushed more told : List Light) (flat1 flat2 a g : PlainGroup) (i j : ℕ) → before ≡ [] → flat1 ≡ a → flat2 ≡ g → pushed ≡ before ++ map nack_light (fired_nacks flat1 i)
     → more ≡ pushed ++ map nack_light (fired_nacks flat2 j) → told ≡ more → told ≡ map nack_light (fired_nacks a i) ++ map nack_light (fired_nacks g j)
-told_two before pushed more told flat1 flat2 a g i j none is1 is2 e1 e2 f =
-    let first : pushed ≡ map nack_light (fired_nacks a i) = e1 ∙ ap (λ x. x ++ map nack_light (fired_nacks flat1 i)) none ∙ ap (λ x. map nack_light (fired_nacks x i)) is1 in
-    let both : more ≡ map nack_light (fired_nacks a i) ++ map nack_light (fired_nacks g j) = e2 ∙ ap (λ x. x ++ map nack_light (fired_nacks flat2 j)) first ∙ ap (λ x. map nack_light (fired_nacks a i) ++ map nack_light (fired_nacks x j)) is2 in
-    f ∙ both
+told_two before pushed more told flat1 flat2 a g i j none is1 is2 e1 e2 f = f ∙ e2 ∙ rw (e1, none, is1, is2) refl
 
 pub gone_two : (h o : Tid) → (is_among (h ∷ o ∷ []) h.0 ≡ true) × (is_among (h ∷ o ∷ []) o.0 ≡ true)
 gone_two h o = two h.0 o.0

@@ -3,7 +3,9 @@ pub mod LightLemmas
 pub mod NackLemmas
 pub mod Retold
 pub mod Scopes
+pub mod Marking
 pub mod Keepings
+pub mod Taking
 pub mod Commits
 pub mod Syncs
 pub mod Heights

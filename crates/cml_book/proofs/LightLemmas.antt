@@ -2,13 +2,12 @@
 use Rattle.std.proofs.Common.{◌≡◌, ℕ, Bool, false, List, [], ◌∷◌, ◌++◌, refl, sym, ◌∙◌, zero, suc, Option, Some, None}
 use Rattle.std.specs.Prelude.{slice_set, slice_get}
 use Rattle.std.proofs.lemmas.List.Elements.{All-weaker}
-use Rattle.cml_scan.specs.World.{PlainThread, running, PlainNack, fresh_of, PlainEntry}
+use Rattle.cml_scan.specs.World.{PlainThread, running, PlainNack, fresh_of, PlainWorld, PlainEntry}
 use Rattle.cml_scan.specs.Light.{has_ended, has_fired, light_of, light, is_told}
 use Rattle.cml_scan.specs.Scan.{PlainOffer, offers_of}
 use Rattle.cml_scan.specs.Table.{AgreeFor}
 use Rattle.cml_scan.specs.declared.object.Light.{Light}
 use Rattle.cml_scan.specs.declared.object.Light.TheVariants as of
-use Rattle.cml_book.specs.Keeping.{world_of}
 
 -- if the lights are as they were, what was told of them still stands
 pub agree_still : (es : List PlainEntry) (told told' lit lit' : Light → Bool) → ((l : Light) → told l ≡ lit l → told' l ≡ lit' l) → AgreeFor es told lit → AgreeFor es told' lit'
@@ -42,8 +41,8 @@ has_fired-push (n ∷ ns) zero t = refl
 has_fired-push (n ∷ ns) (suc i) t = has_fired-push ns i t
 
 -- the lights of a world whose threads have ended as before and whose nacks have fired as before
-pub light_of-same : (ts ts' : List PlainThread) (c c' : ℕ) (ns ns' : List PlainNack) (tick : ℕ) → ((i : ℕ) → has_ended (slice_get ts' i) ≡ has_ended (slice_get ts i))
-    → ((i : ℕ) → has_fired (slice_get ns' i) ≡ has_fired (slice_get ns i)) → (l : Light) → light_of (world_of ts' c' ns' tick) l ≡ light_of (world_of ts c ns tick) l
-light_of-same ts ts' c c' ns ns' tick p q (of.Joined t) = p t.0
-light_of-same ts ts' c c' ns ns' tick p q (of.Nack k) = q k.0
-light_of-same ts ts' c c' ns ns' tick p q _ = refl
+pub light_of-same : (w : PlainWorld) (ts : List PlainThread) (ns : List PlainNack) → ((i : ℕ) → has_ended (slice_get ts i) ≡ has_ended (slice_get w.threads i))
+    → ((i : ℕ) → has_fired (slice_get ns i) ≡ has_fired (slice_get w.nacks i)) → (l : Light) → light_of (record w { threads = ts; nacks = ns }) l ≡ light_of w l
+light_of-same w ts ns p q (of.Joined t) = p t.0
+light_of-same w ts ns p q (of.Nack k) = q k.0
+light_of-same w ts ns p q _ = refl

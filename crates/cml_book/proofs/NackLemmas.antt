@@ -5,9 +5,10 @@ use Rattle.std.specs.List.{filter, list_any, list_all}
 use Rattle.std.proofs.lemmas.List.Sums.{sum_by-append, sum_by-cons}
 use Rattle.std.proofs.lemmas.Bool.Decides.{nat_tests}
 use Rattle.cml_value.specs.Group.{PlainGroup, PlainScope, scopes, nacks_of, lies_outside}
-use Rattle.cml_scan.specs.World.{PlainThread, running, pending_on, ended, PlainNack, fresh_of, live, fired, held, pending_from}
+use Rattle.cml_scan.specs.World.{PlainThread, running, pending_on, ended, PlainNack, fresh_of, live, fired, held, PlainWorld, pending_from}
 use Rattle.cml_scan.specs.Light.{has_fired}
-use Rattle.cml_book.specs.Step.{times_named, with_nacks, settled, is_fresh_for}
+use Rattle.cml_book.specs.Sync.{times_named, with_each, is_fresh_for, can_enter}
+use Rattle.cml_book.specs.Commit.{settled}
 use Rattle.cml_book.specs.Keeping.{pending_nacks, lives, AreLive, AreFresh, is_fresh}
 
 -- a new fresh nack is not live
@@ -74,18 +75,12 @@ get-set_same (z ∷ xs) (suc i) x y h = get-set_same xs i x y h
 
 -- live, where it counts
 pub lives-live : (o : Option PlainNack) → 1 ≤ lives o → o ≡ Some live
-lives-live None h = absurd (omega arith)
-lives-live (Some (fresh_of t)) h = absurd (omega arith)
 lives-live (Some live) h = refl
-lives-live (Some fired) h = absurd (omega arith)
-lives-live (Some held) h = absurd (omega arith)
+lives-live _ h = absurd (omega arith)
 
 pub lives-le : (o : Option PlainNack) → lives o ≤ 1
-lives-le None = omega arith
-lives-le (Some (fresh_of t)) = omega arith
 lives-le (Some live) = omega arith
-lives-le (Some fired) = omega arith
-lives-le (Some held) = omega arith
+lives-le _ = omega arith
 
 pub first_live : (k : ℕ) (ks : List ℕ) (ns : List PlainNack) → AreLive (k ∷ ks) ns → slice_get ns k ≡ Some live
 first_live k ks ns h =
@@ -189,12 +184,12 @@ fired-settled n (s ∷ ss) ns k h =
         rw (f, get-set_other ns s.nack k held differ) refl
 
 -- what a nack that these do not name is after they are set
-pub with_nacks-other : (ks : List ℕ) (so : PlainNack) (ns : List PlainNack) (k : ℕ) → times_named k ks ≡ 0 → slice_get (with_nacks ks so ns) k ≡ slice_get ns k
-with_nacks-other [] so ns k h = refl
-with_nacks-other (j ∷ ks) so ns k h = at (nat_eq j k) refl (with_nacks-other ks so (slice_set ns j so) k)
+pub with_each-other : {X : Type 0} (ks : List ℕ) (so : X) (ns : List X) (k : ℕ) → times_named k ks ≡ 0 → slice_get (with_each ks so ns) k ≡ slice_get ns k
+with_each-other [] so ns k h = refl
+with_each-other (j ∷ ks) so ns k h = at (nat_eq j k) refl (with_each-other ks so (slice_set ns j so) k)
   where
-    at : (b : Bool) → nat_eq j k ≡ b → (times_named k ks ≡ 0 → slice_get (with_nacks ks so (slice_set ns j so)) k ≡ slice_get (slice_set ns j so) k)
-        → slice_get (with_nacks ks so (slice_set ns j so)) k ≡ slice_get ns k
+    at : (b : Bool) → nat_eq j k ≡ b → (times_named k ks ≡ 0 → slice_get (with_each ks so (slice_set ns j so)) k ≡ slice_get (slice_set ns j so) k)
+        → slice_get (with_each ks so (slice_set ns j so)) k ≡ slice_get ns k
     at true e ih = let one = times-named j k ks e in absurd (omega arith)
     at false e ih =
         let none = times-other j k ks e in
@@ -202,13 +197,13 @@ with_nacks-other (j ∷ ks) so ns k h = at (nat_eq j k) refl (with_nacks-other k
         ih (omega arith) ∙ get-set_other ns j k so differ
 
 -- and one that they name, if it is there
-pub with_nacks-named : (ks : List ℕ) (so n : PlainNack) (ns : List PlainNack) (k : ℕ) → 1 ≤ times_named k ks → slice_get ns k ≡ Some n → slice_get (with_nacks ks so ns) k ≡ Some so
-with_nacks-named [] so n ns k h there = absurd (omega arith)
-with_nacks-named (j ∷ ks) so n ns k h there = at (nat_eq j k) (nat_lt 0 (times_named k ks)) refl refl (λ m. with_nacks-named ks so m (slice_set ns j so) k)
+pub with_each-named : {X : Type 0} (ks : List ℕ) (so n : X) (ns : List X) (k : ℕ) → 1 ≤ times_named k ks → slice_get ns k ≡ Some n → slice_get (with_each ks so ns) k ≡ Some so
+with_each-named [] so n ns k h there = absurd (omega arith)
+with_each-named (j ∷ ks) so n ns k h there = at (nat_eq j k) (nat_lt 0 (times_named k ks)) refl refl (λ m. with_each-named ks so m (slice_set ns j so) k)
   where
     at : (b c : Bool) → nat_eq j k ≡ b → nat_lt 0 (times_named k ks) ≡ c
-        → ((m : PlainNack) → 1 ≤ times_named k ks → slice_get (slice_set ns j so) k ≡ Some m → slice_get (with_nacks ks so (slice_set ns j so)) k ≡ Some so)
-        → slice_get (with_nacks ks so (slice_set ns j so)) k ≡ Some so
+        → ((m : _) → 1 ≤ times_named k ks → slice_get (slice_set ns j so) k ≡ Some m → slice_get (with_each ks so (slice_set ns j so)) k ≡ Some so)
+        → slice_get (with_each ks so (slice_set ns j so)) k ≡ Some so
     at true true e f ih =
         let same : j ≡ k = grind (arith, nat_tests) in
         let more : 1 ≤ times_named k ks = grind (arith, nat_tests) in
@@ -216,7 +211,7 @@ with_nacks-named (j ∷ ks) so n ns k h there = at (nat_eq j k) (nat_lt 0 (times
     at true false e f ih =
         let same : j ≡ k = grind (arith, nat_tests) in
         let none : times_named k ks ≡ 0 = grind (arith, nat_tests) in
-        with_nacks-other ks so (slice_set ns j so) k none ∙ rw same (get-set_same ns k so n there)
+        with_each-other ks so (slice_set ns j so) k none ∙ rw same (get-set_same ns k so n there)
     at false c e f ih =
         let differ : j ≢ k = grind (arith, nat_tests) in
         let none = times-other j k ks e in
@@ -237,54 +232,57 @@ named_passes p (j ∷ ks) k h n = at (nat_eq j k) refl (both (p j) (list_all p k
     at false e two ih = let none = times-other j k ks e in ih two.1 (omega arith)
 
 fresh_there : (t : ℕ) (o : Option PlainNack) → is_fresh_for t o ≡ true → o ≡ Some (fresh_of t)
-fresh_there t None h = cc
 fresh_there t (Some (fresh_of owner)) h = let same : t ≡ owner = grind (arith, nat_tests) in rw same refl
-fresh_there t (Some live) h = cc
-fresh_there t (Some fired) h = cc
-fresh_there t (Some held) h = cc
+fresh_there t _ h = cc
 
--- the nacks that enter are fresh and named once, so that each is live from then on
-pub lives-enter : (t : ℕ) (ks : List ℕ) (ns : List PlainNack) (k : ℕ) → list_all (λ j. is_fresh_for t (slice_get ns j) && (nat_eq (times_named j ks) 1)) ks ≡ true
-    → lives (slice_get (with_nacks ks live ns) k) ≡ lives (slice_get ns k) + times_named k ks
-lives-enter t ks ns k h = at (nat_lt 0 (times_named k ks)) refl
+-- the scopes' nacks can enter: each is fresh and this thread's, and each is named once
+pub record CanEnter (t : ℕ) (ks : List ℕ) (ns : List PlainNack) : Type 0 where
+  pub fresh : list_all (λ k. is_fresh_for t (slice_get ns k)) ks ≡ true
+  pub once : list_all (λ k. nat_eq (times_named k ks) 1) ks ≡ true
+
+pub can_enter_is : (w : PlainWorld) (t : ℕ) (ks : List ℕ) → can_enter w t ks ≡ true → CanEnter t ks w.nacks
+can_enter_is w t ks h = let two = both _ _ h in record { fresh = two.0; once = two.1 }
   where
     both : (a b : Bool) → a && b ≡ true → (a ≡ true) × (b ≡ true)
     both true true e = (refl, refl)
     both true false e = cc
     both false b e = cc
 
-    at : (c : Bool) → nat_lt 0 (times_named k ks) ≡ c → lives (slice_get (with_nacks ks live ns) k) ≡ lives (slice_get ns k) + times_named k ks
+named_fresh : (t : ℕ) (ks : List ℕ) (ns : List PlainNack) (k : ℕ) → CanEnter t ks ns → 1 ≤ times_named k ks → slice_get ns k ≡ Some (fresh_of t)
+named_fresh t ks ns k h named = fresh_there t (slice_get ns k) (named_passes (λ j. is_fresh_for t (slice_get ns j)) ks k h.fresh named)
+
+named_once : (t : ℕ) (ks : List ℕ) (ns : List PlainNack) (k : ℕ) → CanEnter t ks ns → 1 ≤ times_named k ks → times_named k ks ≡ 1
+named_once t ks ns k h named = let e : nat_eq (times_named k ks) 1 ≡ true = named_passes (λ j. nat_eq (times_named j ks) 1) ks k h.once named in grind (arith, nat_tests)
+
+-- the nacks that enter are fresh and named once, so that each is live from then on
+pub lives-enter : (t : ℕ) (ks : List ℕ) (ns : List PlainNack) (k : ℕ) → CanEnter t ks ns → lives (slice_get (with_each ks live ns) k) ≡ lives (slice_get ns k) + times_named k ks
+lives-enter t ks ns k h = at (nat_lt 0 (times_named k ks)) refl
+  where
+    at : (c : Bool) → nat_lt 0 (times_named k ks) ≡ c → lives (slice_get (with_each ks live ns) k) ≡ lives (slice_get ns k) + times_named k ks
     at true e =
         let named : 1 ≤ times_named k ks = grind (arith, nat_tests) in
-        let two = both (is_fresh_for t (slice_get ns k)) (nat_eq (times_named k ks) 1) (named_passes (λ j. is_fresh_for t (slice_get ns j) && (nat_eq (times_named j ks) 1)) ks k h named) in
-        let there : slice_get ns k ≡ Some (fresh_of t) = fresh_there t (slice_get ns k) two.0 in
-        let once : times_named k ks ≡ 1 = let f = two.1 in grind (arith, nat_tests) in
-        rw (with_nacks-named ks live (fresh_of t) ns k named there, there, once) refl
+        let there = named_fresh t ks ns k h named in
+        let once = named_once t ks ns k h named in
+        rw (with_each-named ks live (fresh_of t) ns k named there, there, once) refl
     at false e =
         let none : times_named k ks ≡ 0 = grind (arith, nat_tests) in
-        rw (with_nacks-other ks live ns k none, none) (omega arith)
+        rw (with_each-other ks live ns k none, none) (omega arith)
 
-pub fired-enter : (t : ℕ) (ks : List ℕ) (ns : List PlainNack) (k : ℕ) → list_all (λ j. is_fresh_for t (slice_get ns j) && (nat_eq (times_named j ks) 1)) ks ≡ true
-    → has_fired (slice_get (with_nacks ks live ns) k) ≡ has_fired (slice_get ns k)
+pub fired-enter : (t : ℕ) (ks : List ℕ) (ns : List PlainNack) (k : ℕ) → CanEnter t ks ns → has_fired (slice_get (with_each ks live ns) k) ≡ has_fired (slice_get ns k)
 fired-enter t ks ns k h = at (nat_lt 0 (times_named k ks)) refl
   where
-    both : (a b : Bool) → a && b ≡ true → a ≡ true
-    both true b e = refl
-    both false b e = cc
-
-    at : (c : Bool) → nat_lt 0 (times_named k ks) ≡ c → has_fired (slice_get (with_nacks ks live ns) k) ≡ has_fired (slice_get ns k)
+    at : (c : Bool) → nat_lt 0 (times_named k ks) ≡ c → has_fired (slice_get (with_each ks live ns) k) ≡ has_fired (slice_get ns k)
     at true e =
         let named : 1 ≤ times_named k ks = grind (arith, nat_tests) in
-        let fresh = both (is_fresh_for t (slice_get ns k)) (nat_eq (times_named k ks) 1) (named_passes (λ j. is_fresh_for t (slice_get ns j) && (nat_eq (times_named j ks) 1)) ks k h named) in
-        let there : slice_get ns k ≡ Some (fresh_of t) = fresh_there t (slice_get ns k) fresh in
-        rw (with_nacks-named ks live (fresh_of t) ns k named there, there) refl
+        let there = named_fresh t ks ns k h named in
+        rw (with_each-named ks live (fresh_of t) ns k named there, there) refl
     at false e =
         let none : times_named k ks ≡ 0 = grind (arith, nat_tests) in
-        ap has_fired (with_nacks-other ks live ns k none)
+        ap has_fired (with_each-other ks live ns k none)
 
-pub length-with_nacks : (ks : List ℕ) (so : PlainNack) (ns : List PlainNack) → length (with_nacks ks so ns) ≡ length ns
-length-with_nacks [] so ns = refl
-length-with_nacks (k ∷ ks) so ns = length-with_nacks ks so (slice_set ns k so) ∙ length-set ns k so
+pub length-with_each : {X : Type 0} (ks : List ℕ) (so : X) (ns : List X) → length (with_each ks so ns) ≡ length ns
+length-with_each [] so ns = refl
+length-with_each (k ∷ ks) so ns = length-with_each ks so (slice_set ns k so) ∙ length-set ns k so
 
 -- setting at two places, in either order
 set-set_other : {X : Type 0} (xs : List X) (i j : ℕ) (x y : X) → i ≢ j → slice_set (slice_set xs i x) j y ≡ slice_set (slice_set xs j y) i x
@@ -301,21 +299,21 @@ set-set_same (z ∷ xs) zero x y = refl
 set-set_same (z ∷ xs) (suc i) x y = ap (λ l. z ∷ l) (set-set_same xs i x y)
 
 -- a nack that these do not name may be set before them or after them
-with_nacks-set : (ks : List ℕ) (so x : PlainNack) (ns : List PlainNack) (j : ℕ) → times_named j ks ≡ 0 → with_nacks ks so (slice_set ns j x) ≡ slice_set (with_nacks ks so ns) j x
-with_nacks-set [] so x ns j h = refl
-with_nacks-set (k ∷ ks) so x ns j h = at (nat_eq k j) refl (with_nacks-set ks so x (slice_set ns k so) j)
+with_each-set : (ks : List ℕ) (so x : PlainNack) (ns : List PlainNack) (j : ℕ) → times_named j ks ≡ 0 → with_each ks so (slice_set ns j x) ≡ slice_set (with_each ks so ns) j x
+with_each-set [] so x ns j h = refl
+with_each-set (k ∷ ks) so x ns j h = at (nat_eq k j) refl (with_each-set ks so x (slice_set ns k so) j)
   where
-    at : (b : Bool) → nat_eq k j ≡ b → (times_named j ks ≡ 0 → with_nacks ks so (slice_set (slice_set ns k so) j x) ≡ slice_set (with_nacks ks so (slice_set ns k so)) j x)
-        → with_nacks ks so (slice_set (slice_set ns j x) k so) ≡ slice_set (with_nacks ks so (slice_set ns k so)) j x
+    at : (b : Bool) → nat_eq k j ≡ b → (times_named j ks ≡ 0 → with_each ks so (slice_set (slice_set ns k so) j x) ≡ slice_set (with_each ks so (slice_set ns k so)) j x)
+        → with_each ks so (slice_set (slice_set ns j x) k so) ≡ slice_set (with_each ks so (slice_set ns k so)) j x
     at true e ih = let one = times-named k j ks e in absurd (omega arith)
     at false e ih =
         let none = times-other k j ks e in
         let differ : j ≢ k = grind (arith, nat_tests) in
-        ap (with_nacks ks so) (set-set_other ns j k x so differ) ∙ ih (omega arith)
+        ap (with_each ks so) (set-set_other ns j k x so differ) ∙ ih (omega arith)
 
 -- one after another is all held, and then those of the branches in which the leaf does not lie fired
 pub settled_is : (n : ℕ) (ss : List PlainScope) (ns : List PlainNack) → AreLive (nacks_of ss) ns
-    → settled_in_turn n ss ns ≡ with_nacks (nacks_of (filter (lies_outside n) ss)) fired (with_nacks (nacks_of ss) held ns)
+    → settled_in_turn n ss ns ≡ with_each (nacks_of (filter (lies_outside n) ss)) fired (with_each (nacks_of ss) held ns)
 settled_is n [] ns h = refl
 settled_is n (s ∷ ss) ns h =
     settled_is n ss (slice_set ns s.nack (settled_one n s)) (rest_live s.nack (nacks_of ss) ns (settled_one n s) (settled_one-dead n s) h) ∙ at (lies_outside n s) refl
@@ -331,13 +329,13 @@ settled_is n (s ∷ ss) ns h =
         let once = times-named s.nack s.nack (nacks_of ss) one in
         omega arith
 
-    at : (b : Bool) → lies_outside n s ≡ b → with_nacks lost fired (with_nacks (nacks_of ss) held (slice_set ns s.nack (cond (lies_outside n s) fired held)))
-        ≡ with_nacks (nacks_of (cond (lies_outside n s) (s ∷ filter (lies_outside n) ss) (filter (lies_outside n) ss))) fired (with_nacks (nacks_of ss) held (slice_set ns s.nack held))
+    at : (b : Bool) → lies_outside n s ≡ b → with_each lost fired (with_each (nacks_of ss) held (slice_set ns s.nack (cond (lies_outside n s) fired held)))
+        ≡ with_each (nacks_of (cond (lies_outside n s) (s ∷ filter (lies_outside n) ss) (filter (lies_outside n) ss))) fired (with_each (nacks_of ss) held (slice_set ns s.nack held))
     at true e =
-        let first : with_nacks (nacks_of ss) held (slice_set ns s.nack fired) ≡ slice_set (with_nacks (nacks_of ss) held ns) s.nack fired = with_nacks-set (nacks_of ss) held fired ns s.nack none in
-        let second : slice_set (with_nacks (nacks_of ss) held (slice_set ns s.nack held)) s.nack fired ≡ slice_set (with_nacks (nacks_of ss) held ns) s.nack fired =
-        ap (λ l. slice_set l s.nack fired) (with_nacks-set (nacks_of ss) held held ns s.nack none) ∙ set-set_same (with_nacks (nacks_of ss) held ns) s.nack held fired in
-        rw e (ap (with_nacks lost fired) (first ∙ sym second))
+        let first : with_each (nacks_of ss) held (slice_set ns s.nack fired) ≡ slice_set (with_each (nacks_of ss) held ns) s.nack fired = with_each-set (nacks_of ss) held fired ns s.nack none in
+        let second : slice_set (with_each (nacks_of ss) held (slice_set ns s.nack held)) s.nack fired ≡ slice_set (with_each (nacks_of ss) held ns) s.nack fired =
+        ap (λ l. slice_set l s.nack fired) (with_each-set (nacks_of ss) held held ns s.nack none) ∙ set-set_same (with_each (nacks_of ss) held ns) s.nack held fired in
+        rw e (ap (with_each lost fired) (first ∙ sym second))
     at false e = rw e refl
 
 pub lives-settled_group : (n : ℕ) (g : PlainGroup) (ns : List PlainNack) (k : ℕ) → AreLive (nacks_of (scopes g)) ns
@@ -349,25 +347,17 @@ pub fired-settled_group : (n : ℕ) (g : PlainGroup) (ns : List PlainNack) (k : 
 fired-settled_group n g ns k h = ap (λ l. has_fired (slice_get l k)) (sym (settled_is n (scopes g) ns h)) ∙ fired-settled n (scopes g) ns k h
 
 pub length-settled_group : (n : ℕ) (g : PlainGroup) (ns : List PlainNack) → length (settled n g ns) ≡ length ns
-length-settled_group n g ns = length-with_nacks (nacks_of (filter (lies_outside n) (scopes g))) fired (with_nacks (nacks_of (scopes g)) held ns) ∙ length-with_nacks (nacks_of (scopes g)) held ns
+length-settled_group n g ns = length-with_each (nacks_of (filter (lies_outside n) (scopes g))) fired (with_each (nacks_of (scopes g)) held ns) ∙ length-with_each (nacks_of (scopes g)) held ns
 
 -- the nacks that can enter are fresh
-pub can_enter_fresh : (t : ℕ) (ks : List ℕ) (ns : List PlainNack) → list_all (λ j. is_fresh_for t (slice_get ns j) && (nat_eq (times_named j ks) 1)) ks ≡ true → AreFresh ks ns
+pub can_enter_fresh : (t : ℕ) (ks : List ℕ) (ns : List PlainNack) → CanEnter t ks ns → AreFresh ks ns
 can_enter_fresh t ks ns h = record {
   once = λ k. once k (nat_lt 0 (times_named k ks)) refl;
-  each = λ k n. let there = fresh_there t (slice_get ns k) (passes k n).0 in rw there refl;
+  each = λ k n. rw (named_fresh t ks ns k h n) refl;
 }
   where
-    both : (a b : Bool) → a && b ≡ true → (a ≡ true) × (b ≡ true)
-    both true true e = (refl, refl)
-    both true false e = cc
-    both false b e = cc
-
-    passes : (k : ℕ) → 1 ≤ times_named k ks → (is_fresh_for t (slice_get ns k) ≡ true) × (nat_eq (times_named k ks) 1 ≡ true)
-    passes k n = both (is_fresh_for t (slice_get ns k)) (nat_eq (times_named k ks) 1) (named_passes (λ j. is_fresh_for t (slice_get ns j) && (nat_eq (times_named j ks) 1)) ks k h n)
-
     once : (k : ℕ) (b : Bool) → nat_lt 0 (times_named k ks) ≡ b → times_named k ks ≤ 1
-    once k true e = let named : 1 ≤ times_named k ks = grind (arith, nat_tests) in let one = (passes k named).1 in grind (arith, nat_tests)
+    once k true e = let named : 1 ≤ times_named k ks = grind (arith, nat_tests) in let one = named_once t ks ns k h named in omega arith
     once k false e = grind (arith, nat_tests)
 
 pub first_fresh : (k : ℕ) (ks : List ℕ) (ns : List PlainNack) → AreFresh (k ∷ ks) ns → is_fresh (slice_get ns k) ≡ true

@@ -1,27 +1,58 @@
--- One more command of a run.
-use Rattle.std.proofs.Common.{◌≡◌, ℕ, ◌+◌, ◌<◌, List, [], ◌∷◌, ◌++◌, length, take, slice_index_or, refl, ap, sym, ◌∙◌}
-use Rattle.std.proofs.lemmas.List.{take_more}
+-- The commands of a run, one after another.
+use Rattle.std.proofs.Common.{◌≡◌, ◌≢◌, List, [], ◌∷◌, ◌++◌, reverse, refl, ap, sym, ◌∙◌}
+use Rattle.std.proofs.lemmas.List.{append_assoc, append-nil, reverse-append}
 use Rattle.cml_scan.specs.World.{PlainWorld}
 use Rattle.cml_book.specs.declared.command.Command.{Command}
 use Rattle.cml_book.specs.declared.command.Reply.{Reply}
-use Rattle.cml_book.specs.Step.{step, replies_of, world_after}
+use Rattle.cml_book.specs.Step.{step, replies_of, world_after, HasStopped}
 
-pub replies_push : (cs : List Command) (c : Command) (w : PlainWorld) → replies_of (cs ++ c ∷ []) w ≡ replies_of cs w ++ (step (world_after cs w) c).1 ∷ []
+replies_push : (cs : List Command) (c : Command) (w : PlainWorld) → replies_of (cs ++ c ∷ []) w ≡ replies_of cs w ++ (step (world_after cs w) c).1 ∷ []
 replies_push [] c w = refl
 replies_push (x ∷ cs) c w = ap (λ rs. (step w x).1 ∷ rs) (replies_push cs c (step w x).0)
 
-pub world_push : (cs : List Command) (c : Command) (w : PlainWorld) → world_after (cs ++ c ∷ []) w ≡ (step (world_after cs w) c).0
+world_push : (cs : List Command) (c : Command) (w : PlainWorld) → world_after (cs ++ c ∷ []) w ≡ (step (world_after cs w) c).0
 world_push [] c w = refl
 world_push (x ∷ cs) c w = world_push cs c (step w x).0
 
--- the command at i, after those before it
-next : (cs : List Command) (i : ℕ) (c : Command) → i < length cs → c ≡ slice_index_or cs i c → take (i + 1) cs ≡ take i cs ++ c ∷ []
-next cs i c lt is = take_more cs i c lt ∙ ap (λ x. take i cs ++ x ∷ []) (sym is)
+-- some of the commands are done, and those that are left stand in reverse
+pub record Goes (commands left : List Command) (replies : List Reply) (old now : PlainWorld) : Type 0 where
+  pub done : List Command
+  pub split : commands ≡ done ++ reverse left
+  pub told : replies ≡ replies_of done old
+  pub stands : now ≡ world_after done old
 
-pub replies_more : (cs : List Command) (i : ℕ) (c : Command) (w now : PlainWorld) (rs : List Reply) → i < length cs → c ≡ slice_index_or cs i c
-    → rs ≡ replies_of (take i cs) w → now ≡ world_after (take i cs) w → rs ++ (step now c).1 ∷ [] ≡ replies_of (take (i + 1) cs) w
-replies_more cs i c w now rs lt is told stands = rw (next cs i c lt is, told, stands) (sym (replies_push (take i cs) c w))
+pub begins : (commands left : List Command) (replies : List Reply) (w : PlainWorld) → left ≡ reverse commands → reverse left ≡ commands → replies ≡ [] → Goes commands left replies w w
+begins commands left replies w e f none = record { done = []; split = sym f; told = none; stands = refl }
 
-pub world_more : (cs : List Command) (i : ℕ) (c : Command) (w now : PlainWorld) → i < length cs → c ≡ slice_index_or cs i c
-    → now ≡ world_after (take i cs) w → (step now c).0 ≡ world_after (take (i + 1) cs) w
-world_more cs i c w now lt is stands = rw (next cs i c lt is, stands) (sym (world_push (take i cs) c w))
+first_left : (left before : List Command) (c : Command) → before ≡ left ++ c ∷ [] → reverse before ≡ c ∷ reverse left
+first_left left before c e = ap reverse e ∙ reverse-append left (c ∷ [])
+
+-- one more is done
+pub goes_on : (commands before left : List Command) (replies replies' : List Reply) (old now now' : PlainWorld) (c : Command) → Goes commands before replies old now → before ≡ left ++ c ∷ []
+    → replies' ≡ replies ++ (step now c).1 ∷ [] → now' ≡ (step now c).0 → Goes commands left replies' old now'
+goes_on commands before left replies replies' old now now' c g e told stands = record {
+  done = g.done ++ c ∷ [];
+  split = g.split ∙ ap (λ cs. g.done ++ cs) (first_left left before c e) ∙ sym (append_assoc g.done (c ∷ []) (reverse left));
+  told = told ∙ rw (g.told, g.stands) (sym (replies_push g.done c old));
+  stands = stands ∙ ap (λ w. (step w c).0) g.stands ∙ sym (world_push g.done c old);
+}
+
+-- all are done
+pub all_done : (commands left : List Command) (replies : List Reply) (old now : PlainWorld) → Goes commands left replies old now → left ≡ [] → (replies ≡ replies_of commands old) × (now ≡ world_after commands old)
+all_done commands left replies old now g none =
+    let all : g.done ≡ commands = sym (g.split ∙ ap (λ cs. g.done ++ reverse cs) none ∙ append-nil g.done) in
+    (g.told ∙ ap (λ cs. replies_of cs old) all, g.stands ∙ ap (λ cs. world_after cs old) all)
+
+-- the run stops at a command, which comes back with those behind it
+pub stops : (commands before left final : List Command) (replies replies' : List Reply) (old now now' : PlainWorld) (c back : Command) → Goes commands before replies old now → before ≡ left ++ c ∷ []
+    → back ≡ c → final ≡ reverse (left ++ back ∷ []) → replies' ≡ replies → now' ≡ now → HasStopped commands replies' final old now'
+stops commands before left final replies replies' old now now' c back g e same is told stands =
+    let final_is : final ≡ reverse before = is ∙ ap (λ x. reverse (left ++ x ∷ [])) same ∙ ap reverse (sym e) in
+    let first : final ≡ c ∷ reverse left = final_is ∙ first_left left before c e in
+    record {
+      done = g.done;
+      split = g.split ∙ ap (λ cs. g.done ++ cs) (sym final_is);
+      told_so_far = told ∙ g.told;
+      stands = stands ∙ g.stands;
+      some_left = λ none. let both : c ∷ reverse left ≡ [] = sym first ∙ none in cc;
+    }

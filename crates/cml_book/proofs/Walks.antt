@@ -1,20 +1,14 @@
 -- The base events and the scopes of a group, by its parts.
-use Rattle.std.proofs.Common.{◌≡◌, ℕ, ◌+◌, suc, ◌<◌, get_or, drop, drop-cons, add-one, sym, ◌==◌, Option, None, ◌&&◌, ◌||◌, Bool, true, false, not, nat_lt, List, [], ◌∷◌, ◌++◌, length, map, cond, refl, ap, ◌∙◌, arith, length-append}
+use Rattle.std.proofs.Common.{◌≡◌, ℕ, ◌+◌, suc, ◌<◌, get_or, drop, drop-cons, add-one, sym, ◌&&◌, ◌||◌, Bool, true, false, not, List, [], ◌∷◌, ◌++◌, length, map, refl, ap, ◌∙◌, arith, length-append}
 use Rattle.std.specs.List.{list_all, list_any}
 use Rattle.std.proofs.lemmas.List.{length-map, map-append}
 use Rattle.std.proofs.lemmas.List.Folds.{list_all-append}
-use Rattle.std.proofs.lemmas.List.Sums.{sum_by-append, sum_by-cons}
-use Rattle.std.proofs.lemmas.Bool.Decides.{nat_tests}
-use Rattle.cml_value.specs.Value.{PlainBase, always, send, recv, iget, mtake, mget, mswap, mail_recv, port_recv, join, at_tick, after_ticks, nack, PlainFunction}
+use Rattle.cml_value.specs.Value.{PlainBase, PlainFunction}
 use Rattle.cml_value.specs.Group.{PlainGroup, never, leaf, choose, wrap, scope, PlainGroups, no_groups, groups_and, groups, group_fits, PlainLeaf, wrapped_by, leaves, leaves_of_all, leaf_count, bases, PlainScope, scopes, scopes_from, scopes_from_all, nacks_of}
-use Rattle.cml_scan.specs.World.{PlainThread, PlainNack}
+use Rattle.std.specs.Prelude.{slice_get, slice_set}
 use Rattle.cml_book.specs.Entering.{is_far}
-use Rattle.cml_book.specs.Keeping.{world_of}
-use Rattle.cml_book.specs.Step.{base_exists, times_named, is_fresh_for, first_of_both, first_if, thread_refusal, sync_refusal}
-use Rattle.cml_book.specs.declared.refusal.Refusal.{Refusal}
-use Rattle.cml_book.specs.declared.refusal.Refusal.TheVariants as refusal
-use Rattle.std.specs.Prelude.{slice_get}
-use Rattle.cml_book.specs.Walks.{exists_among}
+use Rattle.cml_book.specs.Sync.{with_each}
+use Rattle.cml_book.specs.Marks.{is_that, was_each_other}
 
 -- the base events of all groups of a list
 abbrev pub bases_of_all : PlainGroups → List PlainBase
@@ -82,19 +76,6 @@ nacks_go_on p gs i g h is passes =
 
 pub ruleset nack_steps = (nacks-groups_and, list_all-append)
 
-pub times-groups_and : (k : ℕ) (g : PlainGroup) (gs : PlainGroups) → times_named k (nacks_of_all (groups_and g gs)) ≡ times_named k (nacks_of (scopes g)) + times_named k (nacks_of_all gs)
-times-groups_and k g gs = ap (times_named k) (nacks-groups_and g gs) ∙ sum_by-append (λ j. cond (j == k) 1 0) (nacks_of (scopes g)) (nacks_of_all gs)
-
-pub times-scope : (k j : ℕ) (js : List ℕ) → times_named k (j ∷ js) ≡ cond (j == k) 1 0 + times_named k js
-times-scope k j js = sum_by-cons (λ i. cond (i == k) 1 0) j js
-
--- what the members from one on name is what it names and what those behind it name
-pub names_go_on : (k : ℕ) (gs : List PlainGroup) (i : ℕ) (g : PlainGroup) → i < length gs → g ≡ get_or gs i g → times_named k (nacks_of_all (groups (drop i gs))) ≡ times_named k (nacks_of (scopes g)) + times_named k (nacks_of_all (groups (drop (i + 1) gs)))
-names_go_on k gs i g h is =
-    ap (λ (x : PlainGroups). times_named k (nacks_of_all x)) (groups-drop gs i g h is) ∙ times-groups_and k g (groups (drop (i + 1) gs))
-
-pub ruleset name_steps = (times-groups_and, times-scope)
-
 pub leaf_count-wrap : (g : PlainGroup) (f : PlainFunction) → length (map (wrapped_by f) (leaves g)) ≡ length (leaves g)
 leaf_count-wrap g f = length-map (leaves g) (wrapped_by f)
 
@@ -102,18 +83,6 @@ pub leaf_count-append : (g : PlainGroup) (gs : PlainGroups) → length (leaves g
 leaf_count-append g gs = length-append (leaves g) (leaves_of_all gs)
 
 pub ruleset leaf_steps = (leaf_count-wrap, leaf_count-append)
-
-pub base_exists-world_of : (threads : List PlainThread) (channels : ℕ) (nacks : List PlainNack) (tick : ℕ) (b : PlainBase) → base_exists (world_of threads channels nacks tick) b ≡ exists_among (length threads) channels (length nacks) b
-base_exists-world_of threads channels nacks tick (always v) = refl
-base_exists-world_of threads channels nacks tick _ = grind (arith, nat_tests)
-
--- the bases exist in a world of so many threads and objects
-pub all_exist : (threads : List PlainThread) (channels : ℕ) (nacks : List PlainNack) (tick : ℕ) (bs : List PlainBase) → list_all (base_exists (world_of threads channels nacks tick)) bs ≡ list_all (exists_among (length threads) channels (length nacks)) bs
-all_exist threads channels nacks tick [] = refl
-all_exist threads channels nacks tick (b ∷ bs) =
-    let here = base_exists-world_of threads channels nacks tick b in
-    let rest = all_exist threads channels nacks tick bs in
-    cc
 
 not_any : {X : Type 0} (p : X → Bool) (xs : List X) → list_any p xs ≡ not (list_all (λ x. not (p x)) xs)
 not_any p [] = refl
@@ -125,27 +94,45 @@ not_any p (x ∷ xs) =
 pub any_far : (tick : ℕ) (bs : List PlainBase) → list_any (is_far tick) bs ≡ not (list_all (λ b. not (is_far tick b)) bs)
 any_far tick bs = not_any (is_far tick) bs
 
--- the first five refusals don't fit
-past_five : (why : Option Refusal) (bases_there nacks_there many fits : Bool) (rest : Option Refusal) → why ≡ None → bases_there ≡ true → nacks_there ≡ true → not many ≡ true → fits ≡ true → first_of_both why (first_if (not (bases_there && nacks_there)) refusal.Object (first_if many refusal.Leaves (first_if (not fits) refusal.Deep rest))) ≡ rest
-past_five why bases_there nacks_there many fits rest a b c few e =
-    let d : many ≡ false = elim many as (λ m. not m ≡ true → m ≡ false) [ true ↦ λ h. sym h | false ↦ λ _. refl ] few in
-    rw (a, b, c, d, e)
+pub ruleset refusal_steps = (any_far)
 
--- what is left of the refusal of a wait then
-pub late_refusal : (threads : List PlainThread) (channels : ℕ) (nacks : List PlainNack) (tick t : ℕ) (g : PlainGroup) →
-    thread_refusal (slice_get threads t) ≡ None →
-    list_all (exists_among (length threads) channels (length nacks)) (bases g) ≡ true →
-    list_all (λ k. nat_lt k (length nacks)) (nacks_of (scopes g)) ≡ true →
-    not (nat_lt 256 (leaf_count g)) ≡ true →
-    group_fits g ≡ true →
-    sync_refusal (world_of threads channels nacks tick) t g
-    ≡ first_if (not (list_all (λ b. not (is_far tick b)) (bases g))) refusal.Far
-    (first_if (not (list_all (λ k. is_fresh_for t (slice_get nacks k) && (times_named k (nacks_of (scopes g)) == 1)) (nacks_of (scopes g)))) refusal.Nack None)
-late_refusal threads channels nacks tick t g a b c d e =
-    let there : list_all (base_exists (world_of threads channels nacks tick)) (bases g) ≡ true = all_exist threads channels nacks tick (bases g) ∙ b in
-    let late = past_five (thread_refusal (slice_get threads t)) (list_all (base_exists (world_of threads channels nacks tick)) (bases g)) (list_all (λ k. nat_lt k (length nacks)) (nacks_of (scopes g))) (nat_lt 256 (leaf_count g)) (group_fits g) (first_if (list_any (is_far tick) (bases g)) refusal.Far
-    (first_if (not (list_all (λ k. is_fresh_for t (slice_get nacks k) && (times_named k (nacks_of (scopes g)) == 1)) (nacks_of (scopes g)))) refusal.Nack None)) a there c d e in
-    late ∙ ap (λ (far : Bool). first_if far refusal.Far
-    (first_if (not (list_all (λ k. is_fresh_for t (slice_get nacks k) && (times_named k (nacks_of (scopes g)) == 1)) (nacks_of (scopes g)))) refusal.Nack None)) (any_far tick (bases g))
+-- places are set one list after another
+pub with_each-append : {X : Type 0} (js ks : List ℕ) (so : X) (xs : List X) → with_each (js ++ ks) so xs ≡ with_each ks so (with_each js so xs)
+with_each-append [] ks so xs = refl
+with_each-append (j ∷ js) ks so xs = with_each-append js ks so (slice_set xs j so)
 
-pub ruleset refusal_steps = (all_exist)
+pub was_each_other-append : (so : Bool) (js ks : List ℕ) (marks : List Bool) → was_each_other so (js ++ ks) marks ≡ was_each_other so js marks && was_each_other so ks (with_each js so marks)
+was_each_other-append so [] ks marks = refl
+was_each_other-append so (j ∷ js) ks marks =
+    ap (λ b. not (is_that so (slice_get marks j)) && b) (was_each_other-append so js ks (slice_set marks j so))
+    ∙ and_assoc (not (is_that so (slice_get marks j))) (was_each_other so js (slice_set marks j so)) (was_each_other so ks (with_each js so (slice_set marks j so)))
+  where
+    and_assoc : (a b c : Bool) → a && (b && c) ≡ a && b && c
+    and_assoc true b c = refl
+    and_assoc false b c = refl
+
+-- the marks of the members from one on are those of that member, and then of those behind it
+pub set_goes_on : (so : Bool) (gs : List PlainGroup) (i : ℕ) (g : PlainGroup) (marks : List Bool) → i < length gs → g ≡ get_or gs i g
+    → with_each (nacks_of_all (groups (drop i gs))) so marks ≡ with_each (nacks_of_all (groups (drop (i + 1) gs))) so (with_each (nacks_of (scopes g)) so marks)
+set_goes_on so gs i g marks h is =
+    let rest = groups (drop (i + 1) gs) in
+    ap (λ (x : PlainGroups). with_each (nacks_of_all x) so marks) (groups-drop gs i g h is)
+    ∙ ap (λ ks. with_each ks so marks) (nacks-groups_and g rest)
+    ∙ with_each-append (nacks_of (scopes g)) (nacks_of_all rest) so marks
+
+pub other_goes_on : (so : Bool) (gs : List PlainGroup) (i : ℕ) (g : PlainGroup) (marks : List Bool) → i < length gs → g ≡ get_or gs i g
+    → was_each_other so (nacks_of_all (groups (drop i gs))) marks
+    ≡ was_each_other so (nacks_of (scopes g)) marks && was_each_other so (nacks_of_all (groups (drop (i + 1) gs))) (with_each (nacks_of (scopes g)) so marks)
+other_goes_on so gs i g marks h is =
+    let rest = groups (drop (i + 1) gs) in
+    ap (λ (x : PlainGroups). was_each_other so (nacks_of_all x) marks) (groups-drop gs i g h is)
+    ∙ ap (λ ks. was_each_other so ks marks) (nacks-groups_and g rest)
+    ∙ was_each_other-append so (nacks_of (scopes g)) (nacks_of_all rest) marks
+
+-- the answer so far, where a member was so already, and where none was
+pub other_fails : (all here rest from whole : Bool) → here ≡ false → from ≡ here && rest → all && from ≡ whole → false && rest ≡ whole
+other_fails true here rest from whole e f h = sym (rw e at f) ∙ h
+other_fails false here rest from whole e f h = h
+
+pub other_holds : (all here rest from whole : Bool) → here ≡ true → from ≡ here && rest → all && from ≡ whole → all && rest ≡ whole
+other_holds all here rest from whole e f h = let g : from ≡ rest = rw e at f in ap (λ b. all && b) (sym g) ∙ h

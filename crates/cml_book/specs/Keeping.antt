@@ -8,7 +8,8 @@ use Rattle.cml_value.specs.Value.{PlainBase}
 use Rattle.cml_scan.specs.Light.{light as light_seen}
 use Rattle.cml_scan.specs.declared.object.Light.{Light}
 use Rattle.cml_scan.specs.declared.object.Light.TheVariants as light
-use Rattle.cml_book.specs.Step.{times_named}
+use Rattle.cml_book.specs.Outcomes.{max_threads, max_objects}
+use Rattle.cml_book.specs.Sync.{times_named}
 
 -- the nacks of the scopes of all these pending groups
 abbrev pub pending_nacks : List PlainEntry → List ℕ
@@ -16,20 +17,12 @@ pending_nacks entries = flat_map (λ e. nacks_of (scopes e.group)) entries
 
 -- 1 for a live nack, and else 0
 abbrev pub lives : Option PlainNack → ℕ
-lives None = 0
-lives (Some (fresh_of owner)) = 0
 lives (Some live) = 1
-lives (Some fired) = 0
-lives (Some held) = 0
+lives _ = 0
 
 -- A nack is live exactly where a pending group has its branch, and then just one branch of one group is its own.
 abbrev pub NacksLive : PlainWorld → Type 0
 NacksLive w = (k : ℕ) → count_by (λ j. j == k) (pending_nacks (pending w)) ≡ lives (slice_get w.nacks k)
-
--- the world of a book: there are no variables, mailboxes and multicast channels in it yet
-abbrev pub world_of : List PlainThread → ℕ → List PlainNack → ℕ → PlainWorld
-world_of threads channels nacks tick =
-    record { threads = threads; channels = channels; ivars = []; mvars = []; mailboxes = []; mchans = []; ports = []; nacks = nacks; tick = tick }
 
 -- the light of a nack
 abbrev pub nack_light : ℕ → Light
@@ -44,17 +37,20 @@ abbrev pub is_so : Bool → Bool → Bool
 is_so true b = b
 is_so false b = not b
 
+-- no more threads, channels and nacks exist than are allowed
+pub record AreFew (threads channels nacks : ℕ) : Type 0 where
+  pub few_threads : threads ≤ max_threads
+  pub few_channels : channels ≤ max_objects
+  pub few_nacks : nacks ≤ max_objects
+
 -- each of these nacks is live, and named once
 pub record AreLive (ks : List ℕ) (ns : List PlainNack) : Type 0 where
   pub each : (k : ℕ) → times_named k ks ≤ lives (slice_get ns k)
 
 -- the nack is there, and fresh
 abbrev pub is_fresh : Option PlainNack → Bool
-is_fresh None = false
 is_fresh (Some (fresh_of owner)) = true
-is_fresh (Some live) = false
-is_fresh (Some fired) = false
-is_fresh (Some held) = false
+is_fresh _ = false
 
 -- each of these nacks is fresh, and named once
 pub record AreFresh (ks : List ℕ) (ns : List PlainNack) : Type 0 where
@@ -62,13 +58,9 @@ pub record AreFresh (ks : List ℕ) (ns : List PlainNack) : Type 0 where
   pub each : (k : ℕ) → 1 ≤ times_named k ks → is_fresh (slice_get ns k) ≡ true
 
 -- The table was told the pending groups, and of each light that one of their leaves waits for whether it is lit. The nacks of the
--- pending groups are live. No more threads, channels and nacks exist than are allowed. There is room for the lights of the nacks that a
--- commit can fire.
+-- pending groups are live. There is room for the lights of the nacks that a commit can fire.
 pub record Keeps (w : PlainWorld) (entries : List PlainEntry) (told : Light → Bool) (room : ℕ) : Type 0 where
   pub told_groups : entries ≡ pending w
   pub told_lights : TellsLights w told
   pub nacks_live : NacksLive w
-  pub few_threads : length w.threads ≤ 4096
-  pub few_channels : w.channels ≤ 65536
-  pub few_nacks : length w.nacks ≤ 65536
   pub roomy : All (λ e. 2 * length (scopes e.group) ≤ room) entries

@@ -1,6 +1,5 @@
 -- A party of a row that is taken.
 use Rattle.std.specs.Prelude.{ℕ, ◌≡◌, ◌<◌, List, Some, slice_get}
-use Rattle.cml_value.specs.Value.{PlainValue, unit, PlainBase, always, send, recv, iget, mtake, mget, mswap, mail_recv, port_recv, join, at_tick, after_ticks, nack}
 use Rattle.cml_value.specs.Group.{PlainGroup, leaf_count, scopes, nacks_of}
 use Rattle.cml_scan.specs.World.{PlainThread, pending_on, PlainNack}
 use Rattle.cml_book.specs.Keeping.{AreLive}
@@ -10,8 +9,3 @@ pub record WaitsOn (ts : List PlainThread) (ns : List PlainNack) (t leaf : ℕ) 
   pub waits : slice_get ts t ≡ Some (pending_on g)
   pub within : leaf < leaf_count g
   pub alive : AreLive (nacks_of (scopes g)) ns
-
--- The value of a base event that is taken alone, where there are no variables, mailboxes and ports: that of an alwaysEvt, and else unit.
-abbrev pub given_alone : PlainBase → PlainValue
-given_alone (always v) = v
-given_alone _ = unit

@@ -1,21 +1,24 @@
--- What the bases and the scopes of a group are asked before a wait on it begins, where only the numbers of the threads and objects count.
-use Rattle.std.specs.Prelude.{ℕ, Bool, true, false, nat_lt}
-use Rattle.cml_value.specs.Value.{PlainBase, always, send, recv, iget, mtake, mget, mswap, mail_recv, port_recv, join, at_tick, after_ticks, nack}
-use Rattle.cml_scan.specs.World.{PlainThread, running, pending_on, ended}
-
--- The thread or object that the base names is among so many threads, channels and nacks. There are no variables, mailboxes and ports.
-abbrev pub exists_among : ℕ → ℕ → ℕ → PlainBase → Bool
-exists_among threads channels nacks (always v) = true
-exists_among threads channels nacks (send c v) = nat_lt c channels
-exists_among threads channels nacks (recv c) = nat_lt c channels
-exists_among threads channels nacks (join t) = nat_lt t threads
-exists_among threads channels nacks (at_tick t) = true
-exists_among threads channels nacks (after_ticks d) = true
-exists_among threads channels nacks (nack k) = nat_lt k nacks
-exists_among threads channels nacks _ = false
+-- What a thread and its group are asked before it waits.
+use Rattle.std.specs.Prelude.{ℕ, Bool, true, false, not, nat_lt, Option, Some, None, slice_get}
+use Rattle.std.specs.List.{list_any}
+use Rattle.cml_value.specs.Group.{PlainGroup, bases, leaf_count, group_fits}
+use Rattle.cml_scan.specs.World.{PlainThread, running, pending_on, ended, PlainWorld}
+use Rattle.cml_book.specs.declared.refusal.Refusal.{Refusal}
+use Rattle.cml_book.specs.declared.refusal.Refusal.TheVariants as refusal
+use Rattle.cml_book.specs.Entering.{is_far}
+use Rattle.cml_book.specs.Outcomes.{first_if, first_of_both, thread_refusal}
+use Rattle.cml_book.specs.Sync.{group_exists}
 
 -- the thread runs
 abbrev pub runs : PlainThread → Bool
 runs running = true
-runs (pending_on g) = false
-runs ended = false
+runs _ = false
+
+-- the first refusal of a wait but the last one, which speaks of the nacks of the scopes
+abbrev pub shape_refusal : PlainWorld → ℕ → PlainGroup → Option Refusal
+shape_refusal w t g =
+    first_of_both (thread_refusal (slice_get w.threads t))
+    (first_if (not (group_exists w g)) refusal.Object
+    (first_if (nat_lt 256 (leaf_count g)) refusal.Leaves
+    (first_if (not (group_fits g)) refusal.Deep
+    (first_if (list_any (is_far w.tick) (bases g)) refusal.Far None))))

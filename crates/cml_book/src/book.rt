@@ -1,20 +1,25 @@
 //! The book.
 
-ghost use Rattle.std.specs.Prelude.{◌≡◌, ◌≢◌, IfOk, IfErr, OnOk, OnErr, IsTrue, Err, true, slice_set, map, length};
+ghost use Rattle.std.specs.Prelude.{◌≡◌, ◌≢◌, IfOk, OnOk, OnErr, IsTrue, Err, true, false, map, length};
 ghost use Rattle.cml_scan.specs.World.{pending};
 ghost use Rattle.cml_scan.specs.Scan.{scan, scan_of, has_row};
-ghost use Rattle.cml_book.specs.Step as spec;
-ghost use Rattle.cml_book.specs.Step.{Does};
+ghost use Rattle.cml_book.specs.Step.{empty_world};
+ghost use Rattle.cml_book.specs.Outcomes.{Does};
+ghost use Rattle.cml_book.specs.Spawn.{spawn as spawned};
+ghost use Rattle.cml_book.specs.MakeChan.{make_chan as made};
+ghost use Rattle.cml_book.specs.Nack as nack_spec;
+ghost use Rattle.cml_book.specs.Sync as sync_spec;
+ghost use Rattle.cml_book.specs.End as end_spec;
+ghost use Rattle.cml_book.specs.Commit as commit_spec;
+ghost use Rattle.cml_book.specs.Commit.{is_reading};
 
 use crate::command::{Committed, Resume};
-use crate::lights::{Arrival, arriving};
-use crate::nacks::{enter, push_lights};
-use crate::party::{given, go_on, sent, waiting};
+use crate::lights::Arrival;
+use crate::nacks::push_lights;
+use crate::party::sent;
 use crate::refusal::{Fault, Refusal};
-use crate::thread::{Thread, pending_threads};
-use crate::walk::{sync_refusal, thread_refusal};
+use crate::state::State;
 use cml_scan::{Light, Meet, Table};
-use cml_signal::NackCell;
 use cml_value::{ChanId, Group, NackId, Tid, Value, ValueKind};
 use std::alloc::{AllocError, Global};
 use std::marker::Model;
@@ -29,10 +34,7 @@ pub const MAX_OBJECTS: usize = 65_536;
 /// threads.
 #[derive(Drop)]
 pub struct Book<T: Table> {
-    threads: Vec<Thread>,
-    channels: u32,
-    nacks: Vec<NackCell>,
-    tick: u64,
+    state: State,
     table: T,
     // empty between the calls; its room is for the lights of the nacks that a commit fires
     lights: Vec<Light>,
@@ -43,17 +45,16 @@ impl<T: Table> Model for Book<T> {
     ghost use Rattle.std.specs.Vec.{vec_capacity};
     ghost use Rattle.cml_scan.specs.World.{PlainWorld};
     ghost use Rattle.cml_scan.specs.Codes.{world_code};
-    ghost use Rattle.cml_book.specs.Keeping.{Keeps, world_of};
+    ghost use Rattle.cml_book.specs.Keeping.{Keeps};
 
     ghost Value = { PlainWorld };
 
     ghost coded = { world_code };
 
-    ghost view = { λ b. world_of b.threads.items b.channels b.nacks.items b.tick };
+    ghost view = { λ b. b.state };
 
     ghost invariant = { λ b.
-        (Keeps (world_of b.threads.items b.channels b.nacks.items b.tick) (T.entries b.table) (T.is_lit b.table) (vec_capacity b.lights))
-        × (b.lights.items ≡ []) };
+        (Keeps b.state (T.entries b.table) (T.is_lit b.table) (vec_capacity b.lights)) × (b.lights.items ≡ []) };
 }
 
 impl<T: Table> Book<T> {
@@ -62,13 +63,10 @@ impl<T: Table> Book<T> {
     /// A book in which nothing is, over a table that was told nothing.
     pub fn new(alloc: Global, table: T) -> Book<T>
         requires { T.entries table ≡ [] }
-        ensures { result ≡ spec.empty_world }
+        ensures { result ≡ empty_world }
     {
         Book {
-            threads: Vec::new(alloc),
-            channels: 0,
-            nacks: Vec::new(alloc),
-            tick: 0,
+            state: State::new(alloc),
             table,
             lights: Vec::new(alloc),
         }
@@ -79,15 +77,9 @@ impl<T: Table> Book<T> {
     /// # Errors
     /// Refused where there are 4,096 of them; want of memory.
     pub fn spawn(&mut self) -> Result<Tid, Fault>
-        ensures { Does result (spec.spawn self.old) self.old self.new }
+        ensures { Does result (spawned self.old) self.old self.new }
     {
-        if self.threads.len() >= MAX_THREADS {
-            return Err(Fault::Refused(Refusal::Full));
-        }
-        let thread = Tid(self.threads.len() as u32);
-        self.threads.reserve(1)?;
-        self.threads.push_reserved(Thread::running());
-        Ok(thread)
+        self.state.spawn()
     }
 
     /// Makes a channel.
@@ -95,15 +87,10 @@ impl<T: Table> Book<T> {
     /// # Errors
     /// Refused where there are 65,536 of them.
     pub fn make_chan(&mut self) -> Result<ChanId, Fault>
-        ensures step { Does result (spec.make_chan self.old) self.old self.new }
+        ensures step { Does result (made self.old) self.old self.new }
         ensures sure { result ≢ Err Fault.Memory }
     {
-        if self.channels as usize >= MAX_OBJECTS {
-            return Err(Fault::Refused(Refusal::Full));
-        }
-        let channel = ChanId(self.channels);
-        self.channels += 1;
-        Ok(channel)
+        self.state.make_chan()
     }
 
     /// Makes a fresh nack for the thread.
@@ -111,18 +98,9 @@ impl<T: Table> Book<T> {
     /// # Errors
     /// Refused where there is no such thread, where it does not run, or where there are 65,536 nacks; want of memory.
     pub fn nack(&mut self, owner: Tid) -> Result<NackId, Fault>
-        ensures { Does result (spec.make_nack self.old owner.0) self.old self.new }
+        ensures { Does result (nack_spec.nack self.old owner.0) self.old self.new }
     {
-        if let Some(why) = thread_refusal(&self.threads, owner) {
-            return Err(Fault::Refused(why));
-        }
-        if self.nacks.len() >= MAX_OBJECTS {
-            return Err(Fault::Refused(Refusal::Full));
-        }
-        let nack = NackId(self.nacks.len() as u32);
-        self.nacks.reserve(1)?;
-        self.nacks.push_reserved(NackCell::new(owner));
-        Ok(nack)
+        self.state.nack(owner)
     }
 
     /// The thread waits on the group, of which a copy enters. Its `after` count from now on.
@@ -132,30 +110,24 @@ impl<T: Table> Book<T> {
     /// group has more than 256 leaves, is too deep or has too many nodes, where a tick lies too far, or where a scope's nack is
     /// not fresh, not the thread's, or named twice; the first of these. Want of memory.
     pub fn sync(&mut self, alloc: Global, thread: Tid, group: &Group) -> Result<(), Fault>
-        ensures { Does result (spec.sync self.old thread.0 group.now) self.old self.new }
+        ensures { Does result (sync_spec.sync self.old thread.0 group.now) self.old self.new }
     {
-        if let Some(why) = sync_refusal(
-            &self.threads,
-            self.channels,
-            &self.nacks,
-            self.tick,
-            thread,
-            group,
-        ) {
+        if let Some(why) = self.state.sync_refusal(thread, group) {
             return Err(Fault::Refused(why));
         }
-        let Arrival { flat, lit, unlit } = arriving(
-            alloc,
-            group,
-            &self.threads,
-            &self.nacks,
-            self.tick,
-        )?;
-        self.lights.reserve(2 * flat.scopes().len())?;
-        self.table
-            .change(alloc, &[], Some((thread, flat.group())), &lit, &unlit)?;
-        enter(&mut self.nacks, flat.scopes());
-        put(&mut self.threads, thread, Thread::pending(flat));
+        let arrival = self.state.arrival(alloc, group)?;
+        let lights = 2 * arrival.flat.scopes().len();
+        let Ok(()) = self.lights.reserve(lights) else {
+            drop(arrival);
+            return Err(Fault::Memory);
+        };
+        let Arrival { flat, lit, unlit } = &arrival;
+        let came = Some((thread, flat.group()));
+        let Ok(()) = self.table.change(alloc, &[], came, lit, unlit) else {
+            drop(arrival);
+            return Err(Fault::Memory);
+        };
+        self.state.wait(thread, arrival.flat);
         Ok(())
     }
 
@@ -164,24 +136,25 @@ impl<T: Table> Book<T> {
     /// # Errors
     /// Refused where there is no such thread, or where it does not run; want of memory.
     pub fn end(&mut self, alloc: Global, thread: Tid) -> Result<(), Fault>
-        ensures { Does result (spec.finish self.old thread.0) self.old self.new }
+        ensures { Does result (end_spec.end self.old thread.0) self.old self.new }
     {
-        if let Some(why) = thread_refusal(&self.threads, thread) {
+        if let Some(why) = self.state.thread_refusal(thread) {
             return Err(Fault::Refused(why));
         }
         self.table
             .change(alloc, &[], None, &[Light::Joined(thread)], &[])?;
-        put(&mut self.threads, thread, Thread::ended());
+        self.state.end(thread);
         Ok(())
     }
 
     /// Takes the row: its parties go on, with what it hands them.
     ///
     /// # Errors
-    /// Refused exactly where the row is not in the table; want of memory, but not where the table's changes are sure.
+    /// Refused exactly where the row is not in the table; want of memory. Over a table whose changes are sure, want of memory
+    /// is answered only where the row reads a variable and leaves its value there, of which a copy is made.
     pub fn commit(&mut self, alloc: Global, row: Meet) -> Result<Committed, Fault>
-        ensures step { Does result (spec.commit self.old row) self.old self.new }
-        ensures sure { IsTrue T.SURE → result ≢ Err Fault.Memory }
+        ensures step { Does result (commit_spec.commit self.old row) self.old self.new }
+        ensures sure { IsTrue T.SURE → is_reading self.old row ≡ false → result ≢ Err Fault.Memory }
     {
         if !self.table.has(&row) {
             return Err(Fault::Refused(Refusal::Row));
@@ -205,30 +178,18 @@ impl<T: Table> Book<T> {
         &self.table
     }
 
-    /// All rows that can be taken now, in order.
-    ///
-    /// # Errors
-    /// Want of memory.
-    pub fn rows(&self, alloc: Global) -> Result<Vec<Meet>, AllocError>
-        ensures { IfOk result (λ rows. rows.items ≡ scan self.now) }
-    {
-        self.table.rows(alloc)
-    }
-
     /// The number that the next thread will have, if there is room for one.
     pub fn next_thread(&self) -> Tid
         ensures { result.0 ≡ length self.now.threads }
     {
-        let next = self.threads.len();
-        Tid(next as u32)
+        self.state.next_thread()
     }
 
     /// The number that the next nack will have, if there is room for one.
     pub fn next_nack(&self) -> NackId
         ensures { result.0 ≡ length self.now.nacks }
     {
-        let next = self.nacks.len();
-        NackId(next as u32)
+        self.state.next_nack()
     }
 
     /// The pending threads, ascending.
@@ -238,24 +199,25 @@ impl<T: Table> Book<T> {
     pub fn pending(&self, alloc: Global) -> Result<Vec<Tid>, AllocError>
         ensures { IfOk result (λ threads. map (λ t. t.0) threads.items ≡ map (λ e. e.thread) (pending self.now)) }
     {
-        pending_threads(alloc, &self.threads)
+        self.state.pending(alloc)
     }
 
     fn commit_single(&mut self, alloc: Global, tid: Tid, leaf: u32) -> Result<Committed, Fault>
         requires { has_row (scan self.old) (Meet.Single tid leaf) ≡ true }
-        ensures step { Does result (spec.commit self.old (Meet.Single tid leaf)) self.old self.new }
-        ensures sure { IsTrue T.SURE → result ≢ Err Fault.Memory }
+        ensures step { Does result (commit_spec.commit self.old (Meet.Single tid leaf)) self.old self.new }
+        ensures sure { IsTrue T.SURE → is_reading self.old (Meet.Single tid leaf) ≡ false → result ≢ Err Fault.Memory }
     {
-        let Some(flat) = waiting(&self.threads, tid) else {
+        let Some(flat) = self.state.waiting(tid) else {
             unreachable!();
         };
         push_lights(&mut self.lights, flat, leaf as usize);
         let changed = self.table.change(alloc, &[tid], None, &self.lights, &[]);
         self.lights.clear();
         changed?;
-        let chosen = go_on(&mut self.threads, &mut self.nacks, tid, leaf);
+        let chosen = self.state.go_on(tid, leaf);
+        let value = self.state.given(chosen.base);
         Ok(Committed {
-            head: Resume::new(tid, given(chosen.base), chosen.wraps, chosen.lost),
+            head: Resume::new(tid, value, chosen.wraps, chosen.lost),
             partner: None,
         })
     }
@@ -269,14 +231,14 @@ impl<T: Table> Book<T> {
         other_leaf: u32,
     ) -> Result<Committed, Fault>
         requires { has_row (scan self.old) (Meet.Pair head head_leaf other other_leaf) ≡ true }
-        ensures step { Does result (spec.commit self.old (Meet.Pair head head_leaf other other_leaf)) self.old self.new }
+        ensures step { Does result (commit_spec.commit self.old (Meet.Pair head head_leaf other other_leaf)) self.old self.new }
         ensures sure { IsTrue T.SURE → result ≢ Err Fault.Memory }
     {
-        let Some(sender) = waiting(&self.threads, head) else {
+        let Some(sender) = self.state.waiting(head) else {
             unreachable!();
         };
         push_lights(&mut self.lights, sender, head_leaf as usize);
-        let Some(receiver) = waiting(&self.threads, other) else {
+        let Some(receiver) = self.state.waiting(other) else {
             unreachable!();
         };
         push_lights(&mut self.lights, receiver, other_leaf as usize);
@@ -285,21 +247,11 @@ impl<T: Table> Book<T> {
             .change(alloc, &[head, other], None, &self.lights, &[]);
         self.lights.clear();
         changed?;
-        let sender = go_on(&mut self.threads, &mut self.nacks, head, head_leaf);
-        let receiver = go_on(&mut self.threads, &mut self.nacks, other, other_leaf);
+        let sender = self.state.go_on(head, head_leaf);
+        let receiver = self.state.go_on(other, other_leaf);
         Ok(Committed {
             head: Resume::new(head, Value::new(ValueKind::Unit), sender.wraps, sender.lost),
             partner: Some(Resume::new(other, sent(sender.base), receiver.wraps, receiver.lost)),
         })
-    }
-}
-
-// The thread is so from now on, if it is there.
-fn put(threads: &mut Vec<Thread>, thread: Tid, so: Thread)
-    ensures { threads.new.items ≡ slice_set threads.old.items thread.0 so }
-{
-    let place = thread.0 as usize;
-    if place < threads.len() {
-        threads[place] = so;
     }
 }

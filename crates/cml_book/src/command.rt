@@ -4,10 +4,9 @@ use crate::refusal::Refusal;
 use cml_scan::Meet;
 use cml_value::{ChanId, FnRef, Group, NackId, Tid, Value};
 use std::marker::Model;
-use thiserror::Error;
 
 /// A party of a committed row, which goes on.
-#[derive(Debug, Drop)]
+#[derive(Drop)]
 pub struct Resume {
     tid: Tid,
     value: Value,
@@ -81,7 +80,7 @@ impl Resume {
 }
 
 /// What the parties of a committed row get, the head first: of a pair, the sender.
-#[derive(Debug, Drop)]
+#[derive(Drop)]
 pub struct Committed {
     /// The party that begins the row: of a pair, the sender.
     pub head: Resume,
@@ -90,7 +89,7 @@ pub struct Committed {
 }
 
 /// A command.
-#[derive(Debug, Drop)]
+#[derive(Drop)]
 pub enum Command {
     /// Makes a thread, which runs.
     Spawn,
@@ -107,7 +106,7 @@ pub enum Command {
 }
 
 /// What a command answers.
-#[derive(Debug, Drop)]
+#[derive(Drop)]
 pub enum Reply {
     /// A thread was made.
     Thread(Tid),
@@ -124,8 +123,7 @@ pub enum Reply {
 }
 
 /// A run that wanted memory: the replies to the commands that were done, and the commands that were not.
-#[derive(Debug, Drop, Error)]
-#[error("out of memory before the run was done")]
+#[derive(Drop)]
 pub struct Stopped {
     /// The replies to the commands that were done, in order.
     pub replies: Vec<Reply>,

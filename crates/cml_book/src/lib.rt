@@ -4,18 +4,17 @@
 mod book;
 mod command;
 mod entering;
-mod kept;
 mod lights;
+mod marks;
 mod nacks;
 mod party;
 mod refusal;
 mod run;
-#[cfg(test)]
-mod tests;
+mod state;
 mod thread;
 mod walk;
 
 pub use book::{Book, MAX_OBJECTS, MAX_THREADS};
+pub use cml_kept::KeptRows;
 pub use command::{Command, Committed, Reply, Resume, Stopped};
-pub use kept::KeptRows;
-pub use refusal::{Fault, Refusal};
+pub use refusal::{Fault, Refusal, Returned};

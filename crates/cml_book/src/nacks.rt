@@ -5,7 +5,8 @@ ghost use Rattle.std.specs.Vec.{vec_capacity};
 ghost use Rattle.cml_value.specs.Group.{leaf_count, scopes, nacks_of, fired as fired_nacks};
 ghost use Rattle.cml_value.specs.Nack.{live, fired, held};
 ghost use Rattle.cml_group.specs.Leaves.{numbers};
-ghost use Rattle.cml_book.specs.Step.{settled, with_nacks};
+ghost use Rattle.cml_book.specs.Commit.{settled};
+ghost use Rattle.cml_book.specs.Sync.{with_each};
 ghost use Rattle.cml_book.specs.Keeping.{nack_light, AreLive, AreFresh, is_fresh};
 
 use cml_group::Flat;
@@ -62,7 +63,7 @@ fn settle_one(cells: &mut Vec<NackCell>, nack: NackId, is_lost: bool)
 /// Makes these nacks live.
 pub fn enter(cells: &mut Vec<NackCell>, nacks: &[NackId])
     requires { AreFresh (numbers nacks.now) cells.old.items }
-    ensures { cells.new.items ≡ with_nacks (numbers nacks.now) live cells.old.items }
+    ensures { cells.new.items ≡ with_each (numbers nacks.now) live cells.old.items }
 {
     for nack in nacks {
         enter_one(cells, *nack);

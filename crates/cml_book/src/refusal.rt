@@ -84,6 +84,15 @@ pub enum Fault {
     Memory,
 }
 
+/// Why a call that was handed a value did nothing. The value comes back unchanged.
+#[derive(Drop)]
+pub struct Returned<V> {
+    /// What was handed in.
+    pub value: V,
+    /// Why nothing was done.
+    pub fault: Fault,
+}
+
 impl From<AllocError> for Fault {
     ghost use Rattle.std.specs.Prelude.{◌≡◌};
     ghost use Rattle.cml_book.specs.declared.refusal.Fault.TheVariants.{Memory};

@@ -2,6 +2,7 @@
 
 ghost use Rattle.std.specs.Prelude.{◌≡◌, ◌≤◌, Some, IfOk, length, map};
 ghost use Rattle.cml_scan.specs.World.{running, pending_on, ended, pending_from};
+ghost use Rattle.cml_book.specs.Outcomes.{max_threads};
 
 use cml_group::Flat;
 use cml_value::Tid;
@@ -10,13 +11,13 @@ use std::marker::Model;
 use std::mem;
 
 /// A thread.
-#[derive(Debug, Drop)]
+#[derive(Drop)]
 pub struct Thread {
-    state: State,
+    doing: Doing,
 }
 
-#[derive(Debug, Drop)]
-enum State {
+#[derive(Drop)]
+enum Doing {
     Running,
     // with the group that it waits on, laid flat
     Pending(Flat),
@@ -32,7 +33,7 @@ impl Model for Thread {
 
     ghost coded = { thread_code };
 
-    ghost view = { λ t. thread_of t.state };
+    ghost view = { λ t. thread_of t.doing };
 }
 
 impl Thread {
@@ -45,7 +46,7 @@ impl Thread {
         ensures { result ≡ running }
     {
         Thread {
-            state: State::Running,
+            doing: Doing::Running,
         }
     }
 
@@ -53,7 +54,7 @@ impl Thread {
         ensures { result ≡ pending_on flat }
     {
         Thread {
-            state: State::Pending(flat),
+            doing: Doing::Pending(flat),
         }
     }
 
@@ -61,7 +62,7 @@ impl Thread {
         ensures { result ≡ ended }
     {
         Thread {
-            state: State::Ended,
+            doing: Doing::Ended,
         }
     }
 
@@ -69,9 +70,9 @@ impl Thread {
     pub fn is_running(&self) -> bool
         ensures { result ≡ runs self.now }
     {
-        match &self.state {
-            State::Running => true,
-            State::Pending(_) | State::Ended => false,
+        match &self.doing {
+            Doing::Running => true,
+            _ => false,
         }
     }
 
@@ -79,9 +80,9 @@ impl Thread {
     pub fn has_ended(&self) -> bool
         ensures { result ≡ has_ended (Some self.now) }
     {
-        match &self.state {
-            State::Ended => true,
-            State::Running | State::Pending(_) => false,
+        match &self.doing {
+            Doing::Ended => true,
+            Doing::Running | Doing::Pending(_) => false,
         }
     }
 
@@ -89,9 +90,9 @@ impl Thread {
     pub fn flat(&self) -> Option<&Flat>
         ensures { option_copied result ≡ flat_of self.now }
     {
-        match &self.state {
-            State::Pending(flat) => Some(flat),
-            State::Running | State::Ended => None,
+        match &self.doing {
+            Doing::Pending(flat) => Some(flat),
+            Doing::Running | Doing::Ended => None,
         }
     }
 
@@ -100,16 +101,16 @@ impl Thread {
         ensures value { result ≡ flat_of self.old }
         ensures runs { self.new ≡ running }
     {
-        match mem::replace(&mut self.state, State::Running) {
-            State::Pending(flat) => Some(flat),
-            State::Running | State::Ended => None,
+        match mem::replace(&mut self.doing, Doing::Running) {
+            Doing::Pending(flat) => Some(flat),
+            Doing::Running | Doing::Ended => None,
         }
     }
 }
 
 /// The numbers of the threads that are pending, ascending.
 pub fn pending_threads(alloc: Global, threads: &[Thread]) -> Result<Vec<Tid>, AllocError>
-    requires { length threads.now ≤ 4096 }
+    requires { length threads.now ≤ max_threads }
     ensures { IfOk result (λ tids. map (λ t. t.0) tids.items ≡ map (λ e. e.thread) (pending_from 0 threads.now)) }
 {
     let mut tids: Vec<Tid> = Vec::new(alloc);

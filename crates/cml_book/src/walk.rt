@@ -1,17 +1,16 @@
 //! Walks over a group that take no memory, and why a wait on it is refused.
 
-ghost use Rattle.std.specs.Prelude.{◌≡◌, ◌+◌, ◌==◌, ◌&&◌, ℕ, Bool, not, nat_lt, nat_le, slice_get, is_some, IfSome};
+ghost use Rattle.std.specs.Prelude.{◌≡◌, ◌+◌, ℕ, Bool, not, nat_lt, nat_le, length, slice_get, is_some, IfSome};
 ghost use Rattle.std.specs.List.{list_all};
 ghost use Rattle.cml_value.specs.Value.{PlainBase};
 ghost use Rattle.cml_value.specs.Group.{bases, scopes, nacks_of, leaf_count};
 ghost use Rattle.cml_book.specs.Entering.{is_far};
-ghost use Rattle.cml_book.specs.Keeping.{world_of};
-ghost use Rattle.cml_book.specs.Step as spec;
-ghost use Rattle.cml_book.specs.Step.{times_named, is_fresh_for};
-ghost use Rattle.cml_book.specs.Walks.{exists_among};
+ghost use Rattle.cml_book.specs.Sync as spec;
+ghost use Rattle.cml_book.specs.Sync.{base_exists, is_fresh_for};
+ghost use Rattle.cml_book.specs.Walks.{shape_refusal};
 
 use crate::refusal::Refusal;
-use crate::thread::Thread;
+use crate::state::State;
 use cml_group::MAX_LEAVES;
 use cml_signal::NackCell;
 use cml_value::{Base, BaseKind, Group, GroupKind, NackId, Tid};
@@ -19,7 +18,7 @@ use cml_value::{Base, BaseKind, Group, GroupKind, NackId, Tid};
 // The greatest tick.
 const MAX_TICK: u64 = 4_611_686_018_427_387_904;
 
-/// What each base event of a group is asked.
+// What each base event of a group is asked.
 pub(crate) trait BaseTest {
     ghost passes: { Self → PlainBase → Bool };
 
@@ -27,7 +26,7 @@ pub(crate) trait BaseTest {
         ensures { result ≡ passes self.now base.now };
 }
 
-/// What the nack of each scope of a group is asked.
+// What the nack of each scope of a group is asked.
 pub(crate) trait NackTest {
     ghost passes: { Self → ℕ → Bool };
 
@@ -76,40 +75,6 @@ pub(crate) fn all_nacks<P: NackTest>(test: &P, group: &Group) -> bool
     }
 }
 
-// What is left of a budget of scopes that name the nack, where it is enough.
-#[tactic(auto, using(std::proofs::lemmas::Bool::Decides::nat_tests, crate::proofs::Walks::name_steps))]
-fn spend_names(nack: NackId, group: &Group, budget: u8) -> Option<u8>
-    ensures enough { is_some result ≡ nat_le (times_named nack.0 (nacks_of (scopes group.now))) budget }
-    ensures left { IfSome result (λ left. left + times_named nack.0 (nacks_of (scopes group.now)) ≡ budget) }
-{
-    match group.kind() {
-        GroupKind::Never | GroupKind::Leaf(_) => Some(budget),
-        GroupKind::Choose(gs) => {
-            let mut left = budget;
-            for g in gs.iter() {
-                left = spend_names(nack, g, left)?;
-            }
-            Some(left)
-        }
-        GroupKind::Wrap(g, _) => spend_names(nack, g, budget),
-        GroupKind::Scope(k, g) => {
-            let left = spend_names(nack, g, budget)?;
-            if k.0 == nack.0 {
-                left.checked_sub(1)
-            } else {
-                Some(left)
-            }
-        }
-    }
-}
-
-/// Whether just one scope of the group names the nack.
-pub(crate) fn is_named_once(nack: NackId, group: &Group) -> bool
-    ensures { result ≡ (times_named nack.0 (nacks_of (scopes group.now)) == 1) }
-{
-    spend_names(nack, group, 1) == Some(0)
-}
-
 // What is left of a budget of leaves, where it is enough.
 #[tactic(auto, using(std::proofs::lemmas::Bool::Decides::nat_tests, crate::proofs::Walks::leaf_steps))]
 fn spend_leaves(group: &Group, budget: usize) -> Option<usize>
@@ -138,16 +103,8 @@ pub(crate) fn has_few_leaves(group: &Group) -> bool
     spend_leaves(group, MAX_LEAVES).is_some()
 }
 
-/// How many threads and objects there are: what a base event names must be among them.
-#[derive(Drop)]
-pub(crate) struct Existing {
-    pub threads: usize,
-    pub channels: u32,
-    pub nacks: usize,
-}
-
-impl BaseTest for Existing {
-    ghost passes = { λ s b. exists_among s.threads s.channels s.nacks b };
+impl BaseTest for State {
+    ghost passes = { base_exists };
 
     fn passes(&self, base: &Base) -> bool {
         match base.kind() {
@@ -160,24 +117,24 @@ impl BaseTest for Existing {
             | BaseKind::MSwap(_, _)
             | BaseKind::MailRecv(_)
             | BaseKind::PortRecv(_) => false,
-            BaseKind::Join(t) => (t.0 as usize) < self.threads,
-            BaseKind::Nack(k) => (k.0 as usize) < self.nacks,
+            BaseKind::Join(t) => (t.0 as usize) < self.threads.len(),
+            BaseKind::Nack(k) => (k.0 as usize) < self.nacks.len(),
         }
     }
 }
 
-impl NackTest for Existing {
-    ghost passes = { λ s k. nat_lt k s.nacks };
+impl NackTest for State {
+    ghost passes = { λ w k. nat_lt k (length w.nacks) };
 
     fn passes(&self, nack: NackId) -> bool {
-        (nack.0 as usize) < self.nacks
+        (nack.0 as usize) < self.nacks.len()
     }
 }
 
-/// The tick now: a base event must not wait for one above the greatest.
+// The tick now: a base event must not wait for one above the greatest.
 #[derive(Drop)]
-pub(crate) struct Near {
-    pub tick: u64,
+struct Near {
+    tick: u64,
 }
 
 impl BaseTest for Near {
@@ -195,76 +152,66 @@ impl BaseTest for Near {
     }
 }
 
-/// A thread that begins to wait on the group: the nack of a scope must be fresh, this thread's, and named once.
+// A thread that begins to wait: the nack of a scope must be fresh, and this thread's.
 #[derive(Drop)]
-pub(crate) struct Enterable<'a> {
-    pub thread: Tid,
-    pub nacks: &'a [NackCell],
-    pub group: &'a Group,
+struct FreshFor<'a> {
+    thread: Tid,
+    nacks: &'a [NackCell],
 }
 
-impl<'a> NackTest for Enterable<'a> {
-    ghost passes = { λ s k. is_fresh_for s.thread.0 (slice_get s.nacks.now k) && (times_named k (nacks_of (scopes s.group.now)) == 1) };
+impl<'a> NackTest for FreshFor<'a> {
+    ghost passes = { λ s k. is_fresh_for s.thread.0 (slice_get s.nacks.now k) };
 
     fn passes(&self, nack: NackId) -> bool {
-        let is_fresh = match self.nacks.get(nack.0 as usize) {
+        match self.nacks.get(nack.0 as usize) {
             Some(cell) => cell.is_fresh_of(self.thread),
             None => false,
+        }
+    }
+}
+
+impl State {
+    /// Why the thread can't wait on the group, if it can't: the first refusal that fits.
+    pub fn sync_refusal(&mut self, thread: Tid, group: &Group) -> Option<Refusal>
+        ensures why { result ≡ spec.sync_refusal self.old thread.0 group.now }
+        ensures same { self.new ≡ self.old }
+    {
+        if let Some(why) = self.shape_refusal(thread, group) {
+            return Some(why);
+        }
+        let fresh = FreshFor {
+            thread,
+            nacks: &self.nacks,
         };
-        is_fresh && is_named_once(nack, self.group)
+        if !all_nacks(&fresh, group) {
+            return Some(Refusal::Nack);
+        }
+        if !self.marks.each_once(group) {
+            return Some(Refusal::Nack);
+        }
+        None
     }
-}
 
-/// Why the thread can't do a command, if it can't.
-pub(crate) fn thread_refusal(threads: &[Thread], thread: Tid) -> Option<Refusal>
-    ensures { result ≡ spec.thread_refusal (slice_get threads.now thread.0) }
-{
-    match threads.get(thread.0 as usize) {
-        Some(found) if found.is_running() => None,
-        Some(_) => Some(Refusal::State),
-        None => Some(Refusal::Thread),
+    // The same, but for what speaks of the nacks of the scopes alone.
+    #[tactic(auto, using(crate::proofs::Walks::refusal_steps))]
+    fn shape_refusal(&self, thread: Tid, group: &Group) -> Option<Refusal>
+        ensures { result ≡ shape_refusal self.now thread.0 group.now }
+    {
+        if let Some(why) = self.thread_refusal(thread) {
+            return Some(why);
+        }
+        if !all_bases(self, group) || !all_nacks(self, group) {
+            return Some(Refusal::Object);
+        }
+        if !has_few_leaves(group) {
+            return Some(Refusal::Leaves);
+        }
+        if !group.fits() {
+            return Some(Refusal::Deep);
+        }
+        if !all_bases(&Near { tick: self.tick }, group) {
+            return Some(Refusal::Far);
+        }
+        None
     }
-}
-
-/// Why the thread can't wait on the group, if it can't: the first refusal that fits.
-#[tactic(auto, using(crate::proofs::Walks::refusal_steps))]
-pub(crate) fn sync_refusal(
-    threads: &[Thread],
-    channels: u32,
-    nacks: &[NackCell],
-    tick: u64,
-    thread: Tid,
-    group: &Group,
-) -> Option<Refusal>
-    ensures { result ≡ spec.sync_refusal (world_of threads.now channels nacks.now tick) thread.0 group.now }
-{
-    if let Some(why) = thread_refusal(threads, thread) {
-        return Some(why);
-    }
-    let existing = Existing {
-        threads: threads.len(),
-        channels,
-        nacks: nacks.len(),
-    };
-    if !all_bases(&existing, group) || !all_nacks(&existing, group) {
-        return Some(Refusal::Object);
-    }
-    if !has_few_leaves(group) {
-        return Some(Refusal::Leaves);
-    }
-    if !group.fits() {
-        return Some(Refusal::Deep);
-    }
-    if !all_bases(&Near { tick }, group) {
-        return Some(Refusal::Far);
-    }
-    let enterable = Enterable {
-        thread,
-        nacks,
-        group,
-    };
-    if !all_nacks(&enterable, group) {
-        return Some(Refusal::Nack);
-    }
-    None
 }

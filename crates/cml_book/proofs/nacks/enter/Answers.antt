@@ -2,7 +2,7 @@ use Rattle.std.proofs.Common.{drop, subst, sym, ◌∙◌, ap, suc, add-one, sli
 use Rattle.std.proofs.Math.Seq.{drop-cons}
 use Rattle.cml_value.specs.Nack.{live}
 use Rattle.cml_group.specs.Leaves.{numbers}
-use Rattle.cml_book.specs.Step.{with_nacks}
+use Rattle.cml_book.specs.Sync.{with_each}
 use Rattle.cml_book.specs.Keeping.{AreFresh}
 use Rattle.cml_book.proofs.NackLemmas.{rest_fresh}
 use Rattle.cml_book.proofs.nacks.enter.Goals as goal
@@ -14,6 +14,6 @@ loop-nack-preserved c =
     let found = drop-cons ks i (record { 0 = 0 }) c.loop-nack-test.true in
     let k = slice_index_or ks i (record { 0 = 0 }) in
     let fresh = subst (λ xs. AreFresh (numbers xs) c.loop-nack.cells.items) found c.loop-nack.invariant.fresh in
-    let leads = ap (λ xs. with_nacks (numbers xs) live c.loop-nack.cells.items) (sym found) ∙ c.loop-nack.invariant.leads in
+    let leads = ap (λ xs. with_each (numbers xs) live c.loop-nack.cells.items) (sym found) ∙ c.loop-nack.invariant.leads in
     rw (add-one, c.enter_one.ensures)
     (record { leads = leads; fresh = rest_fresh k.0 (numbers (drop (suc i) ks)) c.loop-nack.cells.items live fresh })

@@ -1,6 +1,6 @@
 use Rattle.std.proofs.Common.{◌≡◌, drop}
 use Rattle.cml_value.specs.Group.{scopes, nacks_of}
-use Rattle.cml_book.specs.Step.{settled}
+use Rattle.cml_book.specs.Commit.{settled}
 use Rattle.cml_book.proofs.NackLemmas.{settled_in_turn}
 use Rattle.cml_book.specs.Keeping.{AreLive}
 use Rattle.cml_book.proofs.nacks.settle.Given as goal

@@ -4,116 +4,128 @@ use Rattle.std.proofs.lemmas.List.Elements.{All-nil, All-cons, All-append}
 use Rattle.cml_value.specs.Group.{fired}
 use Rattle.cml_scan.specs.Table.{IsThere, IsNackOf, nacks_among}
 use Rattle.cml_book.specs.Keeping.{nack_light}
-use Rattle.cml_book.proofs.Commits.{pair_parties, waiting_is, flat_is, found, is_there, waits_on, second_waits, sure_lights, told_two, gone_two, two_differ, room_for_two, keeps_pair, pair_returns}
+use Rattle.cml_book.proofs.Commits.{pair_parties, flat_is, found, is_there, waits_on, second_waits, sure_lights, told_two, gone_two, two_differ, room_for_two, keeps_pair, pair_returns}
 use Rattle.cml_book.proofs.book.Book.commit_pair.Goals as goal
 
 pub unreachable-requires : goal.unreachable-requires
 unreachable-requires g c =
+    let w = c.self.inside.state in
     let has = rw (← c.self.view_is) at c.requires in
-    let p = pair_parties c.self.inside.threads.items c.self.inside.channels c.self.inside.nacks.items c.self.inside.tick _ _ _ c.args.head c.args.head_leaf c.args.other c.args.other_leaf c.self.invariant.0 has in
-    found c.waiting.result p.sender.group (waiting_is c.waiting.result c.self.inside.threads.items c.deref.result.now c.args.head.0 p.sender.group c.waiting.ensures c.deref.ensures.value p.sender.waits) c.in_default.is
+    let p = pair_parties w _ _ _ c.args.head c.args.head_leaf c.args.other c.args.other_leaf c.self.invariant.0 has in
+    found c.waiting.result w c.args.head.0 p.sender.group c.waiting.ensures p.sender.waits c.in_default.is
 
 pub push_lights-requires-clause-leaf : goal.push_lights-requires-clause-leaf
 push_lights-requires-clause-leaf g c =
+    let w = c.self.inside.state in
     let has = rw (← c.self.view_is) at c.requires in
-    let p = pair_parties c.self.inside.threads.items c.self.inside.channels c.self.inside.nacks.items c.self.inside.tick _ _ _ c.args.head c.args.head_leaf c.args.other c.args.other_leaf c.self.invariant.0 has in
-    let is1 = flat_is c.waiting.result c.in-Some.sender p.sender.group (waiting_is c.waiting.result c.self.inside.threads.items c.deref.result.now c.args.head.0 p.sender.group c.waiting.ensures c.deref.ensures.value p.sender.waits) c.in-Some.is in
+    let p = pair_parties w _ _ _ c.args.head c.args.head_leaf c.args.other c.args.other_leaf c.self.invariant.0 has in
+    let is1 = flat_is c.waiting.result c.in-Some.sender w c.args.head.0 p.sender.group c.waiting.ensures p.sender.waits c.in-Some.is in
     rw is1 p.sender.within
 
 pub push_lights-requires-clause-room : goal.push_lights-requires-clause-room
 push_lights-requires-clause-room g c =
+    let w = c.self.inside.state in
     let has = rw (← c.self.view_is) at c.requires in
-    let p = pair_parties c.self.inside.threads.items c.self.inside.channels c.self.inside.nacks.items c.self.inside.tick _ _ _ c.args.head c.args.head_leaf c.args.other c.args.other_leaf c.self.invariant.0 has in
-    let is1 = flat_is c.waiting.result c.in-Some.sender p.sender.group (waiting_is c.waiting.result c.self.inside.threads.items c.deref.result.now c.args.head.0 p.sender.group c.waiting.ensures c.deref.ensures.value p.sender.waits) c.in-Some.is in
+    let p = pair_parties w _ _ _ c.args.head c.args.head_leaf c.args.other c.args.other_leaf c.self.invariant.0 has in
+    let is1 = flat_is c.waiting.result c.in-Some.sender w c.args.head.0 p.sender.group c.waiting.ensures p.sender.waits c.in-Some.is in
     let none_yet : length c.self.inside.lights.items ≡ 0 = ap length c.self.invariant.1 in
     let fits = p.sender.fits in
     rw is1 (omega arith)
 
 pub unreachable-requires-in_default-waiting : goal.unreachable-requires-in_default-waiting
 unreachable-requires-in_default-waiting g c =
+    let w = c.self.inside.state in
     let has = rw (← c.self.view_is) at c.requires in
-    let p = pair_parties c.self.inside.threads.items c.self.inside.channels c.self.inside.nacks.items c.self.inside.tick _ _ _ c.args.head c.args.head_leaf c.args.other c.args.other_leaf c.self.invariant.0 has in
-    found c.waiting-2.result p.receiver.group (waiting_is c.waiting-2.result c.self.inside.threads.items c.deref-2.result.now c.args.other.0 p.receiver.group c.waiting-2.ensures c.deref-2.ensures.value p.receiver.waits) c.in_default-waiting.is
+    let p = pair_parties w _ _ _ c.args.head c.args.head_leaf c.args.other c.args.other_leaf c.self.invariant.0 has in
+    found c.waiting-2.result w c.args.other.0 p.receiver.group c.waiting-2.ensures p.receiver.waits c.in_default-waiting.is
 
 pub push_lights-requires-2-clause-leaf : goal.push_lights-requires-2-clause-leaf
 push_lights-requires-2-clause-leaf g c =
+    let w = c.self.inside.state in
     let has = rw (← c.self.view_is) at c.requires in
-    let p = pair_parties c.self.inside.threads.items c.self.inside.channels c.self.inside.nacks.items c.self.inside.tick _ _ _ c.args.head c.args.head_leaf c.args.other c.args.other_leaf c.self.invariant.0 has in
-    let is2 = flat_is c.waiting-2.result c.in-Some-waiting.receiver p.receiver.group (waiting_is c.waiting-2.result c.self.inside.threads.items c.deref-2.result.now c.args.other.0 p.receiver.group c.waiting-2.ensures c.deref-2.ensures.value p.receiver.waits) c.in-Some-waiting.is in
+    let p = pair_parties w _ _ _ c.args.head c.args.head_leaf c.args.other c.args.other_leaf c.self.invariant.0 has in
+    let is2 = flat_is c.waiting-2.result c.in-Some-waiting.receiver w c.args.other.0 p.receiver.group c.waiting-2.ensures p.receiver.waits c.in-Some-waiting.is in
     rw is2 p.receiver.within
 
 pub push_lights-requires-2-clause-room : goal.push_lights-requires-2-clause-room
 push_lights-requires-2-clause-room g c =
+    let w = c.self.inside.state in
     let has = rw (← c.self.view_is) at c.requires in
-    let p = pair_parties c.self.inside.threads.items c.self.inside.channels c.self.inside.nacks.items c.self.inside.tick _ _ _ c.args.head c.args.head_leaf c.args.other c.args.other_leaf c.self.invariant.0 has in
-    let is1 = flat_is c.waiting.result c.in-Some.sender p.sender.group (waiting_is c.waiting.result c.self.inside.threads.items c.deref.result.now c.args.head.0 p.sender.group c.waiting.ensures c.deref.ensures.value p.sender.waits) c.in-Some.is in
-    let is2 = flat_is c.waiting-2.result c.in-Some-waiting.receiver p.receiver.group (waiting_is c.waiting-2.result c.self.inside.threads.items c.deref-2.result.now c.args.other.0 p.receiver.group c.waiting-2.ensures c.deref-2.ensures.value p.receiver.waits) c.in-Some-waiting.is in
+    let p = pair_parties w _ _ _ c.args.head c.args.head_leaf c.args.other c.args.other_leaf c.self.invariant.0 has in
+    let is1 = flat_is c.waiting.result c.in-Some.sender w c.args.head.0 p.sender.group c.waiting.ensures p.sender.waits c.in-Some.is in
+    let is2 = flat_is c.waiting-2.result c.in-Some-waiting.receiver w c.args.other.0 p.receiver.group c.waiting-2.ensures p.receiver.waits c.in-Some-waiting.is in
     rw c.push_lights.ensures.room (room_for_two c.self.inside.lights.items c.push_lights.new.lights.items c.in-Some.sender.now c.in-Some-waiting.receiver.now p.sender.group p.receiver.group c.args.head_leaf (vec_capacity c.self.inside.lights)
     c.self.invariant.1 is1 is2 c.push_lights.ensures.lights p.sender.fits p.receiver.fits)
 
 pub change-changed-requires-clause-there : goal.change-changed-requires-clause-there
 change-changed-requires-clause-there g c =
+    let w = c.self.inside.state in
     let has = rw (← c.self.view_is) at c.requires in
-    let p = pair_parties c.self.inside.threads.items c.self.inside.channels c.self.inside.nacks.items c.self.inside.tick _ _ _ c.args.head c.args.head_leaf c.args.other c.args.other_leaf c.self.invariant.0 has in
+    let p = pair_parties w _ _ _ c.args.head c.args.head_leaf c.args.other c.args.other_leaf c.self.invariant.0 has in
     let there = IsThere (g.T.Table.entries c.self.inside.table) in
-    All-cons there c.args.head (c.args.other ∷ []) (is_there c.self.inside.threads.items (g.T.Table.entries c.self.inside.table) c.args.head p.sender.group p.sender.waits c.self.invariant.0.told_groups)
-    (All-cons there c.args.other [] (is_there c.self.inside.threads.items (g.T.Table.entries c.self.inside.table) c.args.other p.receiver.group p.receiver.waits c.self.invariant.0.told_groups) (All-nil there))
+    All-cons there c.args.head (c.args.other ∷ []) (is_there w (g.T.Table.entries c.self.inside.table) c.args.head p.sender.group p.sender.waits c.self.invariant.0.told_groups)
+    (All-cons there c.args.other [] (is_there w (g.T.Table.entries c.self.inside.table) c.args.other p.receiver.group p.receiver.waits c.self.invariant.0.told_groups) (All-nil there))
 
 pub change-changed-requires-clause-once : goal.change-changed-requires-clause-once
 change-changed-requires-clause-once g c =
+    let w = c.self.inside.state in
     let has = rw (← c.self.view_is) at c.requires in
-    let p = pair_parties c.self.inside.threads.items c.self.inside.channels c.self.inside.nacks.items c.self.inside.tick _ _ _ c.args.head c.args.head_leaf c.args.other c.args.other_leaf c.self.invariant.0 has in
+    let p = pair_parties w _ _ _ c.args.head c.args.head_leaf c.args.other c.args.other_leaf c.self.invariant.0 has in
     two_differ c.args.head c.args.other p.differ
 
 pub returns-in_err-changed-clause-sure : goal.returns-in_err-changed-clause-sure
-returns-in_err-changed-clause-sure g c =
-    λ sure wants.
+returns-in_err-changed-clause-sure g c = λ sure wants.
+    let w = c.self.inside.state in
     let has = rw (← c.self.view_is) at c.requires in
-    let p = pair_parties c.self.inside.threads.items c.self.inside.channels c.self.inside.nacks.items c.self.inside.tick _ _ _ c.args.head c.args.head_leaf c.args.other c.args.other_leaf c.self.invariant.0 has in
-    let is1 = flat_is c.waiting.result c.in-Some.sender p.sender.group (waiting_is c.waiting.result c.self.inside.threads.items c.deref.result.now c.args.head.0 p.sender.group c.waiting.ensures c.deref.ensures.value p.sender.waits) c.in-Some.is in
-    let is2 = flat_is c.waiting-2.result c.in-Some-waiting.receiver p.receiver.group (waiting_is c.waiting-2.result c.self.inside.threads.items c.deref-2.result.now c.args.other.0 p.receiver.group c.waiting-2.ensures c.deref-2.ensures.value p.receiver.waits) c.in-Some-waiting.is in
-    let lights = told_two c.self.inside.lights.items c.push_lights.new.lights.items c.push_lights-2.new.lights.items c.deref-3.result.now c.in-Some.sender.now c.in-Some-waiting.receiver.now p.sender.group p.receiver.group
-    c.args.head_leaf c.args.other_leaf c.self.invariant.1 is1 is2 c.push_lights.ensures.lights c.push_lights-2.ensures.lights c.deref-3.ensures.value in
-    let nack = IsNackOf (nacks_among (c.args.head ∷ c.args.other ∷ []) (g.T.Table.entries c.self.inside.table)) in
-    let senders = sure_lights (c.args.head ∷ c.args.other ∷ []) c.self.inside.threads.items (g.T.Table.entries c.self.inside.table) c.args.head.0 c.args.head_leaf p.sender.group p.sender.waits c.self.invariant.0.told_groups (gone_two c.args.head c.args.other).0 in
-    let receivers = sure_lights (c.args.head ∷ c.args.other ∷ []) c.self.inside.threads.items (g.T.Table.entries c.self.inside.table) c.args.other.0 c.args.other_leaf p.receiver.group p.receiver.waits c.self.invariant.0.told_groups (gone_two c.args.head c.args.other).1 in
-    let all = All-append nack (map nack_light (fired p.sender.group c.args.head_leaf)) (map nack_light (fired p.receiver.group c.args.other_leaf)) senders receivers in
-    let ok = c.in_err-changed.ensures.sure sure refl (subst (All nack) (sym lights) all) in
+    let p = pair_parties w _ _ _ c.args.head c.args.head_leaf c.args.other c.args.other_leaf c.self.invariant.0 has in
+    let is1 = flat_is c.waiting.result c.in-Some.sender w c.args.head.0 p.sender.group c.waiting.ensures p.sender.waits c.in-Some.is in
+    let is2 = flat_is c.waiting-2.result c.in-Some-waiting.receiver w c.args.other.0 p.receiver.group c.waiting-2.ensures p.receiver.waits c.in-Some-waiting.is in
+    let lights = told_two c.self.inside.lights.items c.push_lights.new.lights.items c.push_lights-2.new.lights.items c.deref.result.now c.in-Some.sender.now c.in-Some-waiting.receiver.now p.sender.group p.receiver.group
+    c.args.head_leaf c.args.other_leaf c.self.invariant.1 is1 is2 c.push_lights.ensures.lights c.push_lights-2.ensures.lights c.deref.ensures.value in
+    let gone = c.args.head ∷ c.args.other ∷ [] in
+    let es = g.T.Table.entries c.self.inside.table in
+    let senders = sure_lights gone w.threads es c.args.head.0 c.args.head_leaf p.sender.group p.sender.waits c.self.invariant.0.told_groups (gone_two c.args.head c.args.other).0 in
+    let receivers = sure_lights gone w.threads es c.args.other.0 c.args.other_leaf p.receiver.group p.receiver.waits c.self.invariant.0.told_groups (gone_two c.args.head c.args.other).1 in
+    let all = All-append (IsNackOf (nacks_among gone es)) (map nack_light (fired p.sender.group c.args.head_leaf)) (map nack_light (fired p.receiver.group c.args.other_leaf)) senders receivers in
+    let ok = c.in_err-changed.ensures.sure sure refl (subst (All (IsNackOf (nacks_among gone es))) (sym lights) all) in
     cc
 
 pub go_on-sender-requires : goal.go_on-sender-requires
 go_on-sender-requires g c =
+    let w = c.self.inside.state in
     let has = rw (← c.self.view_is) at c.requires in
-    let p = pair_parties c.self.inside.threads.items c.self.inside.channels c.self.inside.nacks.items c.self.inside.tick _ _ _ c.args.head c.args.head_leaf c.args.other c.args.other_leaf c.self.invariant.0 has in
-    waits_on c.self.inside.threads.items c.self.inside.nacks.items _ _ c.args.head.0 c.args.head_leaf _ p.sender
+    let p = pair_parties w _ _ _ c.args.head c.args.head_leaf c.args.other c.args.other_leaf c.self.invariant.0 has in
+    waits_on w _ c.args.head.0 c.args.head_leaf _ p.sender
 
 pub go_on-receiver-requires : goal.go_on-receiver-requires
 go_on-receiver-requires g c =
+    let w = c.self.inside.state in
     let has = rw (← c.self.view_is) at c.requires in
-    let p = pair_parties c.self.inside.threads.items c.self.inside.channels c.self.inside.nacks.items c.self.inside.tick _ _ _ c.args.head c.args.head_leaf c.args.other c.args.other_leaf c.self.invariant.0 has in
-    (second_waits c.self.inside.threads.items c.self.inside.channels c.self.inside.nacks.items c.self.inside.tick _ _ _ c.args.head c.args.head_leaf c.args.other c.args.other_leaf p.sender.group p.receiver.group
-    c.go_on-sender.new.threads.items c.go_on-sender.new.cells.items c.self.invariant.0 p.sender.waits p.receiver.waits p.differ p.receiver.within c.go_on-sender.ensures.threads c.go_on-sender.ensures.nacks).1
+    let p = pair_parties w _ _ _ c.args.head c.args.head_leaf c.args.other c.args.other_leaf c.self.invariant.0 has in
+    second_waits w _ _ _ c.args.head c.args.head_leaf c.args.other c.args.other_leaf p.sender.group p.receiver.group
+    c.go_on-sender.new.self c.self.invariant.0 p.sender.waits p.receiver.waits p.differ p.receiver.within c.go_on-sender.ensures.world
 
 pub invariant_of-self-2 : goal.invariant_of-self-2
 invariant_of-self-2 g c =
+    let w = c.self.inside.state in
     let has = rw (← c.self.view_is) at c.requires in
-    let p = pair_parties c.self.inside.threads.items c.self.inside.channels c.self.inside.nacks.items c.self.inside.tick _ _ _ c.args.head c.args.head_leaf c.args.other c.args.other_leaf c.self.invariant.0 has in
-    let is1 = flat_is c.waiting.result c.in-Some.sender p.sender.group (waiting_is c.waiting.result c.self.inside.threads.items c.deref.result.now c.args.head.0 p.sender.group c.waiting.ensures c.deref.ensures.value p.sender.waits) c.in-Some.is in
-    let is2 = flat_is c.waiting-2.result c.in-Some-waiting.receiver p.receiver.group (waiting_is c.waiting-2.result c.self.inside.threads.items c.deref-2.result.now c.args.other.0 p.receiver.group c.waiting-2.ensures c.deref-2.ensures.value p.receiver.waits) c.in-Some-waiting.is in
-    let lights = told_two c.self.inside.lights.items c.push_lights.new.lights.items c.push_lights-2.new.lights.items c.deref-3.result.now c.in-Some.sender.now c.in-Some-waiting.receiver.now p.sender.group p.receiver.group
-    c.args.head_leaf c.args.other_leaf c.self.invariant.1 is1 is2 c.push_lights.ensures.lights c.push_lights-2.ensures.lights c.deref-3.ensures.value in
-    let k = keeps_pair c.self.inside.threads.items c.self.inside.channels c.self.inside.nacks.items c.self.inside.tick _ _ _ c.args.head c.args.head_leaf c.args.other c.args.other_leaf p.sender.group p.receiver.group
-    (g.T.Table.entries c.change-changed.new.self) (g.T.Table.is_lit c.change-changed.new.self) c.go_on-sender.new.threads.items c.go_on-receiver.new.threads.items c.go_on-sender.new.cells.items c.go_on-receiver.new.cells.items
-    c.deref-3.result.now (vec_capacity c.clear.new.self) c.self.invariant.0 p.sender.waits p.receiver.waits p.differ c.go_on-sender.ensures.threads c.go_on-sender.ensures.nacks c.go_on-receiver.ensures.threads c.go_on-receiver.ensures.nacks
+    let p = pair_parties w _ _ _ c.args.head c.args.head_leaf c.args.other c.args.other_leaf c.self.invariant.0 has in
+    let is1 = flat_is c.waiting.result c.in-Some.sender w c.args.head.0 p.sender.group c.waiting.ensures p.sender.waits c.in-Some.is in
+    let is2 = flat_is c.waiting-2.result c.in-Some-waiting.receiver w c.args.other.0 p.receiver.group c.waiting-2.ensures p.receiver.waits c.in-Some-waiting.is in
+    let lights = told_two c.self.inside.lights.items c.push_lights.new.lights.items c.push_lights-2.new.lights.items c.deref.result.now c.in-Some.sender.now c.in-Some-waiting.receiver.now p.sender.group p.receiver.group
+    c.args.head_leaf c.args.other_leaf c.self.invariant.1 is1 is2 c.push_lights.ensures.lights c.push_lights-2.ensures.lights c.deref.ensures.value in
+    let k = keeps_pair w _ _ _ c.args.head c.args.head_leaf c.args.other c.args.other_leaf p.sender.group p.receiver.group
+    (g.T.Table.entries c.change-changed.new.self) (g.T.Table.is_lit c.change-changed.new.self) c.go_on-sender.new.self c.go_on-receiver.new.self
+    c.deref.result.now (vec_capacity c.clear.new.self) c.self.invariant.0 p.sender.waits p.receiver.waits p.differ c.go_on-sender.ensures.world c.go_on-receiver.ensures.world
     lights c.in_ok-changed.ensures.ok c.in_ok-changed.ensures.ok_lit (c.clear.ensures.capacity ∙ c.push_lights-2.ensures.room ∙ c.push_lights.ensures.room) in
     (k, c.clear.ensures.items)
 
 pub returns-clause-step : goal.returns-clause-step
 returns-clause-step g c =
+    let w = c.self.inside.state in
     let has = rw (← c.self.view_is) at c.requires in
-    let p = pair_parties c.self.inside.threads.items c.self.inside.channels c.self.inside.nacks.items c.self.inside.tick _ _ _ c.args.head c.args.head_leaf c.args.other c.args.other_leaf c.self.invariant.0 has in
+    let p = pair_parties w _ _ _ c.args.head c.args.head_leaf c.args.other c.args.other_leaf c.self.invariant.0 has in
     rw (← c.self.view_is)
-    (pair_returns c.self.inside.threads.items c.self.inside.channels c.self.inside.nacks.items c.self.inside.tick c.args.head c.args.head_leaf c.args.other c.args.other_leaf p.sender.group p.receiver.group _ _ _ _ _ _ _ _
-    c.go_on-sender.new.threads.items c.go_on-receiver.new.threads.items c.go_on-sender.new.cells.items c.go_on-receiver.new.cells.items c.new-2.result c.new-3.result
-    p.sender.waits p.receiver.waits p.differ has c.go_on-sender.ensures.threads c.go_on-sender.ensures.nacks c.go_on-receiver.ensures.threads c.go_on-receiver.ensures.nacks
+    (pair_returns w c.args.head c.args.head_leaf c.args.other c.args.other_leaf _ _ _ _ _ _ _ _ c.go_on-sender.new.self c.go_on-receiver.new.self c.new-2.result c.new-3.result
+    has p.differ c.go_on-sender.ensures.world c.go_on-receiver.ensures.world
     c.go_on-sender.ensures.leaf c.go_on-sender.ensures.lost c.go_on-receiver.ensures.leaf c.go_on-receiver.ensures.lost c.new.ensures c.sent.ensures c.new-2.ensures c.new-3.ensures)

@@ -1,11 +1,10 @@
-use Rattle.std.proofs.Common.{◌≡◌, take}
-use Rattle.cml_book.specs.Step.{replies_of, world_after}
+use Rattle.std.proofs.Common.{vec_len}
+use Rattle.cml_book.proofs.Runs.{Goes}
 use Rattle.cml_book.proofs.book.Book.run.Given as goal
 
--- the replies so far and the world are those of the commands so far
-abbrev pub invariant-loop-i : goal.invariant-loop-i
-invariant-loop-i g l = record {
-  told : l.replies.items ≡ replies_of (take l.i l.commands.items) l.fn.self;
-  stands : l.self ≡ world_after (take l.i l.commands.items) l.fn.self;
-  same : l.commands.items ≡ l.fn.commands.items;
-}
+abbrev pub decreases-loop-command : goal.decreases-loop-command
+decreases-loop-command g l = vec_len l.commands
+
+-- some of the commands are done, and those that are left stand in reverse
+abbrev pub invariant-loop-command : goal.invariant-loop-command
+invariant-loop-command g l = Goes l.fn.commands.items l.commands.items l.replies.items l.fn.self l.self

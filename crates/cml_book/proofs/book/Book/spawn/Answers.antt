@@ -1,8 +1,5 @@
-use Rattle.std.proofs.Common.{arith, ◌<◌, length}
 use Rattle.cml_book.proofs.Keepings.{keeps_spawn}
 use Rattle.cml_book.proofs.book.Book.spawn.Goals as goal
 
-pub invariant_of-self-2 : goal.invariant_of-self-2
-invariant_of-self-2 g c =
-    let few : length c.self.inside.threads.items < 4096 = omega arith in
-    rw (c.push_reserved.ensures.items, c.running.ensures, c.in_ok-reserve.ensures.items) (keeps_spawn _ _ _ _ _ _ _ c.self.invariant.0 few, c.self.invariant.1)
+pub invariant_of-self : goal.invariant_of-self
+invariant_of-self g c = (keeps_spawn c.self.inside.state _ _ _ c.spawn.result c.spawn.new.self c.spawn.ensures c.self.invariant.0, c.self.invariant.1)

@@ -1,84 +1,76 @@
-use Rattle.std.proofs.Common.{rules, ◌≡◌, length, Some, None, sym, ◌∙◌, ap, refl, arith, subst}
-use Rattle.std.specs.Prelude.{slice_set}
-use Rattle.cml_value.specs.Group.{scopes, nacks_of, bases}
-use Rattle.cml_scan.specs.Light.{light_of}
-use Rattle.cml_value.specs.Nack.{live}
-use Rattle.cml_group.specs.Leaves.{numbers}
+use Rattle.std.proofs.Common.{rules, ◌≡◌, ℕ, Bool, List, length, Some, None, sym, ◌∙◌, ap, refl, arith, subst}
 use Rattle.std.specs.Vec.{vec_capacity}
-use Rattle.cml_book.specs.Step.{sync_refusal, with_nacks}
-use Rattle.cml_book.specs.Keeping.{world_of, lights_in, AreFresh}
+use Rattle.cml_value.specs.Group.{scopes, nacks_of, bases}
+use Rattle.cml_scan.specs.World.{PlainWorld, PlainEntry}
+use Rattle.cml_scan.specs.Light.{light_of}
+use Rattle.cml_scan.specs.declared.object.Light.{Light}
+use Rattle.cml_book.specs.Sync.{sync_refusal, waiting}
+use Rattle.cml_book.specs.Keeping.{lights_in, Keeps}
 use Rattle.cml_book.proofs.NackLemmas.{can_enter_fresh}
 use Rattle.cml_book.proofs.Scopes.{length_nacks}
-use Rattle.cml_book.proofs.Entered.{scopes-entered}
 use Rattle.cml_book.proofs.Pendings.{running_is_new}
 use Rattle.cml_book.proofs.Accepted.{accepted}
-use Rattle.cml_book.proofs.Syncs.{sync_refused, sync_accepted, wants_memory, arrives_lit, apart_of, keeps_arrives, world_arrives}
+use Rattle.cml_book.proofs.Syncs.{sync_refused, sync_accepted, apart_of, enters_flat, keeps_arrives}
 use Rattle.cml_book.proofs.book.Book.sync.Goals as goal
+
+keeps_again : {v w : PlainWorld} {es : List PlainEntry} {told : Light → Bool} {room : ℕ} → w ≡ v → Keeps v es told room → Keeps w es told room
+keeps_again {es = es} {told = told} {room = room} same k = subst (λ (x : PlainWorld). Keeps x es told room) (sym same) k
 
 pub returns-in-Some : goal.returns-in-Some
 returns-in-Some g c =
-    let w = world_of c.self.inside.threads.items c.self.inside.channels c.self.inside.nacks.items c.self.inside.tick in
-    let why : sync_refusal w c.args.thread.0 c.args.group.now ≡ Some c.in-Some.why = rw (← c.deref.ensures.value, ← c.deref-2.ensures.value) (sym c.sync_refusal.ensures ∙ c.in-Some.is) in
-    rw (← c.self.view_is) (sync_refused w c.args.thread.0 c.args.group.now c.in-Some.why why, refl)
+    (rw (← c.self.view_is) (sync_refused c.self.inside.state c.args.thread.0 c.args.group.now c.in-Some.why (sym c.sync_refusal.ensures.why ∙ c.in-Some.is)), c.sync_refusal.ensures.same ∙ c.self.view_is)
+
+pub returns-in_default-reserve : goal.returns-in_default-reserve
+returns-in_default-reserve g c =
+    let none : sync_refusal c.self.inside.state c.args.thread.0 c.args.group.now ≡ None = sym c.sync_refusal.ensures.why ∙ c.in_default.is in
+    (rw (← c.self.view_is) (rw (sync_accepted c.self.inside.state c.args.thread.0 c.args.group.now none) refl), c.sync_refusal.ensures.same ∙ c.self.view_is)
+
+pub returns-in_default-change : goal.returns-in_default-change
+returns-in_default-change g c =
+    let none : sync_refusal c.self.inside.state c.args.thread.0 c.args.group.now ≡ None = sym c.sync_refusal.ensures.why ∙ c.in_default.is in
+    (rw (← c.self.view_is) (rw (sync_accepted c.self.inside.state c.args.thread.0 c.args.group.now none) refl), c.sync_refusal.ensures.same ∙ c.self.view_is)
 
 pub change-requires-clause-new : goal.change-requires-clause-new
 change-requires-clause-new g c =
-    let w = world_of c.self.inside.threads.items c.self.inside.channels c.self.inside.nacks.items c.self.inside.tick in
-    let none : sync_refusal w c.args.thread.0 c.args.group.now ≡ None = rw (← c.deref.ensures.value, ← c.deref-2.ensures.value) (sym c.sync_refusal.ensures ∙ c.in_default.is) in
+    let w = c.sync_refusal.new.self in
+    let same = c.sync_refusal.ensures.same in
+    let none : sync_refusal w c.args.thread.0 c.args.group.now ≡ None = ap (λ (x : PlainWorld). sync_refusal x c.args.thread.0 c.args.group.now) same ∙ sym c.sync_refusal.ensures.why ∙ c.in_default.is in
+    let k = keeps_again same c.self.invariant.0 in
     let a = accepted w c.args.thread.0 c.args.group.now none in
-    rw (c.self.invariant.0.told_groups) (running_is_new c.args.thread.0 0 c.args.thread.0 c.self.inside.threads.items (omega arith) a.thread_runs)
+    rw (k.told_groups) (running_is_new c.args.thread.0 0 c.args.thread.0 w.threads (omega arith) a.thread_runs)
 
 pub change-requires-clause-apart : goal.change-requires-clause-apart
 change-requires-clause-apart g c =
-    let l = arrives_lit c.self.inside.threads.items c.self.inside.channels c.self.inside.nacks.items c.self.inside.tick c.deref-3.result.now c.deref-4.result.now c.in_ok-flat.field-0.flat c.deref-5.result.now c.deref-6.result.now
-    c.deref-3.ensures.value c.deref-4.ensures.value (c.deref-5.ensures.value ∙ c.in_ok-flat.ensures.lit) (c.deref-6.ensures.value ∙ c.in_ok-flat.ensures.unlit) in
-    apart_of (light_of (world_of c.self.inside.threads.items c.self.inside.channels c.self.inside.nacks.items c.self.inside.tick)) (lights_in (bases c.in_ok-flat.field-0.flat)) _ _ l.0 l.1
+    apart_of (light_of c.sync_refusal.new.self) (lights_in (bases c.in_ok-arrival.arrival.flat)) _ _ (c.deref.ensures.value ∙ c.in_ok-arrival.ensures.lit) (c.deref-2.ensures.value ∙ c.in_ok-arrival.ensures.unlit)
 
-pub enter-requires : goal.enter-requires
-enter-requires g c =
-    let w = world_of c.self.inside.threads.items c.self.inside.channels c.self.inside.nacks.items c.self.inside.tick in
-    let none : sync_refusal w c.args.thread.0 c.args.group.now ≡ None = rw (← c.deref.ensures.value, ← c.deref-2.ensures.value) (sym c.sync_refusal.ensures ∙ c.in_default.is) in
+pub wait-requires : goal.wait-requires
+wait-requires g c =
+    let w = c.sync_refusal.new.self in
+    let same = c.sync_refusal.ensures.same in
+    let none : sync_refusal w c.args.thread.0 c.args.group.now ≡ None = ap (λ (x : PlainWorld). sync_refusal x c.args.thread.0 c.args.group.now) same ∙ sym c.sync_refusal.ensures.why ∙ c.in_default.is in
     let a = accepted w c.args.thread.0 c.args.group.now none in
-    let same : numbers c.scopes-2.result.now ≡ nacks_of (scopes c.args.group.now) =
-    c.scopes-2.ensures.nacks ∙ ap (λ x. nacks_of (scopes x)) c.in_ok-flat.ensures.flat ∙ ap nacks_of (scopes-entered c.self.inside.tick c.args.group.now) in
-    subst (λ ks. AreFresh ks c.self.inside.nacks.items) (sym same) (can_enter_fresh c.args.thread.0 (nacks_of (scopes c.args.group.now)) c.self.inside.nacks.items a.enters)
+    can_enter_fresh c.args.thread.0 _ w.nacks (enters_flat w c.args.thread.0 c.args.group.now c.in_ok-arrival.arrival.flat a c.in_ok-arrival.ensures.flat)
 
 pub invariant_of-self-2 : goal.invariant_of-self-2
 invariant_of-self-2 g c =
-    let w = world_of c.self.inside.threads.items c.self.inside.channels c.self.inside.nacks.items c.self.inside.tick in
-    let none : sync_refusal w c.args.thread.0 c.args.group.now ≡ None = rw (← c.deref.ensures.value, ← c.deref-2.ensures.value) (sym c.sync_refusal.ensures ∙ c.in_default.is) in
+    let w = c.sync_refusal.new.self in
+    let same = c.sync_refusal.ensures.same in
+    let none : sync_refusal w c.args.thread.0 c.args.group.now ≡ None = ap (λ (x : PlainWorld). sync_refusal x c.args.thread.0 c.args.group.now) same ∙ sym c.sync_refusal.ensures.why ∙ c.in_default.is in
     let a = accepted w c.args.thread.0 c.args.group.now none in
-    let flat = c.in_ok-flat.field-0.flat in
-    let l = arrives_lit c.self.inside.threads.items c.self.inside.channels c.self.inside.nacks.items c.self.inside.tick c.deref-3.result.now c.deref-4.result.now c.in_ok-flat.field-0.flat c.deref-5.result.now c.deref-6.result.now
-    c.deref-3.ensures.value c.deref-4.ensures.value (c.deref-5.ensures.value ∙ c.in_ok-flat.ensures.lit) (c.deref-6.ensures.value ∙ c.in_ok-flat.ensures.unlit) in
+    let flat = c.in_ok-arrival.arrival.flat in
     let all = length_nacks (scopes flat) c.scopes.result.now c.scopes.ensures.nacks in
-    let room = c.in_ok-reserve.ensures.ok in
-    let grows = c.in_ok-reserve.ensures.capacity in
-    let none_yet : length c.self.inside.lights.items ≡ 0 = ap length c.self.invariant.1 in
-    let k = keeps_arrives c.self.inside.threads.items c.self.inside.channels c.self.inside.nacks.items c.self.inside.tick _ _ _ c.args.thread.0 c.args.group.now flat (vec_capacity c.reserve.new.self) _ _
-    c.put.new.threads.items c.enter.new.cells.items c.deref-5.result.now c.deref-6.result.now c.group.result.now
-    c.self.invariant.0 a c.in_ok-flat.ensures.flat (omega arith) grows
-    (c.put.ensures ∙ ap (λ x. slice_set c.self.inside.threads.items c.args.thread.0 x) c.pending.ensures) (c.enter.ensures ∙ ap (λ ks. with_nacks ks live c.self.inside.nacks.items) c.scopes-2.ensures.nacks)
-    c.group.ensures c.in_ok-change.ensures.ok c.in_ok-change.ensures.ok_lit l.0 l.1 in
-    (k, c.in_ok-reserve.ensures.items ∙ c.self.invariant.1)
+    let room = c.in-Ok.ensures.ok in
+    let grows = c.in-Ok.ensures.capacity in
+    let k = keeps_arrives w (g.T.Table.entries c.self.inside.table) (g.T.Table.is_lit c.self.inside.table) (vec_capacity c.self.inside.lights) c.args.thread.0 c.args.group.now flat (vec_capacity c.reserve.new.self)
+    (g.T.Table.entries c.change.new.self) (g.T.Table.is_lit c.change.new.self) c.deref.result.now c.deref-2.result.now c.group.result.now
+    (keeps_again same c.self.invariant.0) a c.in_ok-arrival.ensures.flat (omega arith) grows
+    c.group.ensures c.in-Ok-change.ensures.ok c.in-Ok-change.ensures.ok_lit (c.deref.ensures.value ∙ c.in_ok-arrival.ensures.lit) (c.deref-2.ensures.value ∙ c.in_ok-arrival.ensures.unlit) in
+    (rw c.wait.ensures k, c.in-Ok.ensures.items ∙ c.self.invariant.1)
 
 pub returns : goal.returns
 returns g c =
-    let w = world_of c.self.inside.threads.items c.self.inside.channels c.self.inside.nacks.items c.self.inside.tick in
-    let none : sync_refusal w c.args.thread.0 c.args.group.now ≡ None = rw (← c.deref.ensures.value, ← c.deref-2.ensures.value) (sym c.sync_refusal.ensures ∙ c.in_default.is) in
-    let flat = c.in_ok-flat.field-0.flat in
-    rw (← c.self.view_is)
-    (world_arrives c.self.inside.threads.items c.self.inside.channels c.self.inside.nacks.items c.self.inside.tick c.args.thread.0 c.args.group.now flat c.put.new.threads.items c.enter.new.cells.items none c.in_ok-flat.ensures.flat
-    (c.put.ensures ∙ ap (λ x. slice_set c.self.inside.threads.items c.args.thread.0 x) c.pending.ensures) (c.enter.ensures ∙ ap (λ ks. with_nacks ks live c.self.inside.nacks.items) c.scopes-2.ensures.nacks))
-
-pub returns-in_err-reserve : goal.returns-in_err-reserve
-returns-in_err-reserve g c =
-    let w = world_of c.self.inside.threads.items c.self.inside.channels c.self.inside.nacks.items c.self.inside.tick in
-    let none : sync_refusal w c.args.thread.0 c.args.group.now ≡ None = rw (← c.deref.ensures.value, ← c.deref-2.ensures.value) (sym c.sync_refusal.ensures ∙ c.in_default.is) in
-    rw (← c.self.view_is) (wants_memory c.from_residual-in_err-reserve.result _ w w _ (search rules) (sync_accepted w c.args.thread.0 c.args.group.now none) refl)
-
-pub returns-in_err-change : goal.returns-in_err-change
-returns-in_err-change g c =
-    let w = world_of c.self.inside.threads.items c.self.inside.channels c.self.inside.nacks.items c.self.inside.tick in
-    let none : sync_refusal w c.args.thread.0 c.args.group.now ≡ None = rw (← c.deref.ensures.value, ← c.deref-2.ensures.value) (sym c.sync_refusal.ensures ∙ c.in_default.is) in
-    rw (← c.self.view_is) (wants_memory c.from_residual-in_err-change.result _ w w _ (search rules) (sync_accepted w c.args.thread.0 c.args.group.now none) refl)
+    let w = c.sync_refusal.new.self in
+    let same = c.sync_refusal.ensures.same in
+    let none : sync_refusal w c.args.thread.0 c.args.group.now ≡ None = ap (λ (x : PlainWorld). sync_refusal x c.args.thread.0 c.args.group.now) same ∙ sym c.sync_refusal.ensures.why ∙ c.in_default.is in
+    let new : c.wait.new.self ≡ _ = c.wait.ensures ∙ ap (waiting w c.args.thread.0) c.in_ok-arrival.ensures.flat in
+    rw (← c.self.view_is, ← same, new) (sync_accepted w c.args.thread.0 c.args.group.now none)

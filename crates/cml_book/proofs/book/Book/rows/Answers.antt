@@ -1,9 +1,0 @@
-use Rattle.std.proofs.Common.{◌≡◌, IfOk, subst}
-use Rattle.cml_book.specs.Keeping.{world_of}
-use Rattle.cml_book.proofs.Commits.{scan_is}
-use Rattle.cml_book.proofs.book.Book.rows.Goals as goal
-
-pub returns : goal.returns
-returns g c =
-    let is = scan_is (world_of c.self.inside.threads.items c.self.inside.channels c.self.inside.nacks.items c.self.inside.tick) (g.T.Table.entries c.self.inside.table) (g.T.Table.is_lit c.self.inside.table) _ c.self.invariant.0 in
-    rw (← c.self.view_is) (subst (λ xs. IfOk c.rows.result (λ rows. rows.items ≡ xs)) is c.rows.ensures)

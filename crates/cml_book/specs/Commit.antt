@@ -1,0 +1,123 @@
+-- The command that takes a row.
+use Rattle.std.specs.Prelude.{ℕ, Bool, true, false, not, List, [], ◌∷◌, Option, Some, None, Ok, slice_get, slice_set}
+use Rattle.cml_value.specs.Value.{PlainValue, PlainFunction, unit, PlainBase, always, send, iget, mtake, mget, mswap, mail_recv, port_recv}
+use Rattle.cml_value.specs.Group.{PlainGroup, never, PlainLeaf, leaves, scopes, nacks_of, fired as fired_nacks}
+use Rattle.cml_scan.specs.World.{PlainThread, running, pending_on, ended, PlainNack, fired, held, PlainWorld}
+use Rattle.cml_scan.specs.Scan.{scan, has_row}
+use Rattle.cml_scan.specs.declared.meet.Meet.{Meet}
+use Rattle.cml_scan.specs.declared.meet.Meet.TheVariants.{Single, Pair}
+use Rattle.cml_book.specs.declared.refusal.Refusal.TheVariants.{Row}
+use Rattle.cml_book.specs.declared.command.Committed.{Committed}
+use Rattle.cml_book.specs.Outcomes.{Outcome, refuse_if}
+use Rattle.cml_book.specs.Sync.{with_each}
+use Rattle.cml_book.specs.Resumes.{PlainResume}
+
+-- the group that a thread waits on; any other thread waits on nothing
+abbrev pub awaited : Option PlainThread → PlainGroup
+awaited (Some (pending_on g)) = g
+awaited _ = never
+
+-- the group that the thread of this number waits on
+abbrev pub group_awaited : PlainWorld → ℕ → PlainGroup
+group_awaited w t = awaited (slice_get w.threads t)
+
+-- the base event of a leaf; one that is not there has nothing to give
+abbrev pub base_or_unit : Option PlainLeaf → PlainBase
+base_or_unit None = always unit
+base_or_unit (Some l) = l.base
+
+-- its wraps, innermost first
+abbrev pub wraps_or_none : Option PlainLeaf → List PlainFunction
+wraps_or_none None = []
+wraps_or_none (Some l) = l.wraps
+
+-- what a thread waits for at this leaf
+abbrev pub base_awaited : PlainWorld → ℕ → ℕ → PlainBase
+base_awaited w t n = base_or_unit (slice_get (leaves (group_awaited w t)) n)
+
+-- the value in a variable; an empty one has unit
+abbrev pub variable_value : Option (Option PlainValue) → PlainValue
+variable_value (Some (Some v)) = v
+variable_value _ = unit
+
+-- the first item of a mailbox or a port; an empty one has unit
+abbrev pub first_of : Option (List PlainValue) → PlainValue
+first_of (Some (v ∷ vs)) = v
+first_of _ = unit
+
+-- the items behind the first
+abbrev pub rest_of : Option (List PlainValue) → List PlainValue
+rest_of (Some (v ∷ vs)) = vs
+rest_of _ = []
+
+-- The value of a base event that is taken alone: that of an alwaysEvt, that in a variable, the first item of a mailbox or a port,
+-- and unit for a join, a time and a nack.
+abbrev pub given : PlainWorld → PlainBase → PlainValue
+given w (always v) = v
+given w (iget i) = variable_value (slice_get w.ivars i)
+given w (mtake m) = variable_value (slice_get w.mvars m)
+given w (mget m) = variable_value (slice_get w.mvars m)
+given w (mswap m v) = variable_value (slice_get w.mvars m)
+given w (mail_recv b) = first_of (slice_get w.mailboxes b)
+given w (port_recv p) = first_of (slice_get w.ports p)
+given w _ = unit
+
+-- The world in which it was taken: an mTake leaves its variable empty, an mSwap leaves its own value there, and a receive from a
+-- mailbox or a port leaves the items behind the first.
+abbrev pub taken : PlainWorld → PlainBase → PlainWorld
+taken w (mtake m) = record w { mvars = slice_set w.mvars m None }
+taken w (mswap m v) = record w { mvars = slice_set w.mvars m (Some v) }
+taken w (mail_recv b) = record w { mailboxes = slice_set w.mailboxes b (rest_of (slice_get w.mailboxes b)) }
+taken w (port_recv p) = record w { ports = slice_set w.ports p (rest_of (slice_get w.ports p)) }
+taken w _ = w
+
+-- The base event reads a variable and leaves its value there (Reppy's iGetEvt and mGetEvt), so that what is handed over is a copy.
+abbrev pub is_read : PlainBase → Bool
+is_read (iget i) = true
+is_read (mget m) = true
+is_read _ = false
+
+-- the row takes such a base event
+abbrev pub is_reading : PlainWorld → Meet → Bool
+is_reading w (Single t n) = is_read (base_awaited w t.0 n)
+is_reading w (Pair h i o j) = false
+
+-- the value that a send hands over
+abbrev pub sent : PlainBase → PlainValue
+sent (send c v) = v
+sent _ = unit
+
+-- a party goes on with this value, from this leaf of its group
+abbrev pub resume : PlainWorld → ℕ → ℕ → PlainValue → PlainResume
+resume w t n v = record {
+  thread = t;
+  value = v;
+  wraps = wraps_or_none (slice_get (leaves (group_awaited w t)) n);
+  fired = fired_nacks (group_awaited w t) n;
+}
+
+-- What the parties of a row get: the sender unit, the receiver the sent value (Reppy's sendEvt and recvEvt), and a single the value
+-- of its base event.
+abbrev pub hands : PlainWorld → Meet → Committed
+hands w (Single t n) = record { head = resume w t.0 n (given w (base_awaited w t.0 n)); partner = None }
+hands w (Pair h i o j) = record { head = resume w h.0 i unit; partner = Some (resume w o.0 j (sent (base_awaited w h.0 i))) }
+
+-- The nacks after the leaf of this number was chosen from the group: of its scopes' nacks those that the leaf fires have fired, and the
+-- others are held (Reppy's withNack).
+abbrev pub settled : ℕ → PlainGroup → List PlainNack → List PlainNack
+settled n g nacks = with_each (fired_nacks g n) fired (with_each (nacks_of (scopes g)) held nacks)
+
+-- the thread goes on from this leaf: it runs, and the nacks of its group are settled
+abbrev pub released : PlainWorld → ℕ → ℕ → PlainWorld
+released w t n = record w { threads = slice_set w.threads t running; nacks = settled n (group_awaited w t) w.nacks }
+
+-- the world after a row was taken
+abbrev pub after : PlainWorld → Meet → PlainWorld
+after w (Single t n) = released (taken w (base_awaited w t.0 n)) t.0 n
+after w (Pair h i o j) = released (released w h.0 i) o.0 j
+
+-- The row is taken, if it is enabled now.
+abbrev pub commit : PlainWorld → Meet → Outcome Committed
+commit w row =
+    refuse_if (not (has_row (scan w) row)) Row
+    (Ok (after w row, hands w row))

@@ -1,0 +1,97 @@
+//! Marks, one for each number, by which it is found whether a number is named twice.
+
+ghost use Rattle.std.specs.Prelude.{◌≡◌, ◌==◌, ◌+◌, true, not, nat_lt, OnOk, OnErr, slice_get, slice_set};
+ghost use Rattle.std.specs.List.{list_all};
+ghost use Rattle.cml_value.specs.Group.{scopes, nacks_of};
+ghost use Rattle.cml_book.specs.Sync.{times_named, with_each};
+ghost use Rattle.cml_book.specs.Marks.{is_that, was_each_other};
+
+use cml_value::{Group, GroupKind, NackId};
+use std::alloc::{AllocError, Global};
+use std::marker::Model;
+
+/// So many numbers can be marked. None is, between the calls.
+#[derive(Drop)]
+pub struct Marks {
+    marks: Vec<bool>,
+}
+
+impl Model for Marks {
+    ghost use Rattle.std.specs.Prelude.{ℕ, length};
+    ghost use Rattle.cml_book.specs.Marks.{AreClear};
+
+    ghost Value = { ℕ };
+
+    ghost view = { λ m. length m.marks.items };
+
+    ghost invariant = { λ m. AreClear m.marks.items };
+}
+
+impl Marks {
+    pub fn new(alloc: Global) -> Marks
+        ensures { result ≡ 0 }
+    {
+        Marks {
+            marks: Vec::new(alloc),
+        }
+    }
+
+    /// One number more can be marked.
+    pub fn grow(&mut self) -> Result<(), AllocError>
+        ensures ok { OnOk result (self.new ≡ self.old + 1) }
+        ensures err { OnErr result (self.new ≡ self.old) }
+    {
+        self.marks.reserve(1)?;
+        self.marks.push_reserved(false);
+        Ok(())
+    }
+
+    /// Whether each nack that a scope of the group names is named by no other scope. One pass marks them, another takes the marks away.
+    pub fn each_once(&mut self, group: &Group) -> bool
+        requires { list_all (λ k. nat_lt k self.old) (nacks_of (scopes group.now)) ≡ true }
+        ensures once { result ≡ (let ks = nacks_of (scopes group.now) in list_all (λ k. times_named k ks == 1) ks) }
+        ensures same { self.new ≡ self.old }
+    {
+        let once = set_each(&mut self.marks, group, true);
+        set_each(&mut self.marks, group, false);
+        once
+    }
+}
+
+// Sets the mark of each scope's nack; whether each was not yet so when its turn came.
+#[tactic(auto, using(crate::proofs::Walks::nack_steps))]
+fn set_each(marks: &mut Vec<bool>, group: &Group, so: bool) -> bool
+    ensures marks { marks.new.items ≡ with_each (nacks_of (scopes group.now)) so marks.old.items }
+    ensures other { result ≡ was_each_other so (nacks_of (scopes group.now)) marks.old.items }
+{
+    match group.kind() {
+        GroupKind::Never | GroupKind::Leaf(_) => true,
+        GroupKind::Choose(gs) => {
+            let mut all = true;
+            for g in gs.iter() {
+                if !set_each(marks, g, so) {
+                    all = false;
+                }
+            }
+            all
+        }
+        GroupKind::Wrap(g, _) => set_each(marks, g, so),
+        GroupKind::Scope(k, g) => {
+            let other = set_one(marks, *k, so);
+            set_each(marks, g, so) && other
+        }
+    }
+}
+
+fn set_one(marks: &mut Vec<bool>, nack: NackId, so: bool) -> bool
+    ensures marks { marks.new.items ≡ slice_set marks.old.items nack.0 so }
+    ensures other { result ≡ not (is_that so (slice_get marks.old.items nack.0)) }
+{
+    let place = nack.0 as usize;
+    if place >= marks.len() {
+        return true;
+    }
+    let was = marks[place];
+    marks[place] = so;
+    was != so
+}
