@@ -1,6 +1,6 @@
 use Rattle.cml_value.specs.Group.{groups}
 use Rattle.cml_group.proofs.Fired.{fired_scope, fired_choice}
-use Rattle.cml_group.proofs.laws.fired_by_parts.Goals as goal
+use Rattle.cml_group.proofs.law.fired_by_parts.Goals as goal
 
 pub returns-clause-scope : goal.returns-clause-scope
 returns-clause-scope c = fired_scope

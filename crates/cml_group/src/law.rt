@@ -21,8 +21,10 @@ pub fn named_leaves()
 
 /// A leaf below a wrap is the leaf without the wrap, and its result goes through the same functions and then through the wrap's.
 pub fn wrapped_leaf()
-    ensures base { (g : PlainGroup) (f : PlainFunction) (n : ℕ) → leaf_base (wrap g f) n ≡ leaf_base g n }
-    ensures wraps { (g : PlainGroup) (f : PlainFunction) (n : ℕ) → leaf_wraps (wrap g f) n ≡ option_map (λ fs. fs ++ f ∷ []) (leaf_wraps g n) }
+    ensures base { (g : PlainGroup) (f : PlainFunction) (n : ℕ) →
+        leaf_base (wrap g f) n ≡ leaf_base g n }
+    ensures wraps { (g : PlainGroup) (f : PlainFunction) (n : ℕ) →
+        leaf_wraps (wrap g f) n ≡ option_map (λ fs. fs ++ f ∷ []) (leaf_wraps g n) }
 {}
 
 /// Choosing a leaf fires no nack whose scope holds it, and the nack of every other scope once.
@@ -37,13 +39,24 @@ pub fn fired_by_parts()
     ensures never { (n : ℕ) → fired never n ≡ [] }
     ensures leaf { (b : PlainBase) (n : ℕ) → fired (leaf b) n ≡ [] }
     ensures wrap { (g : PlainGroup) (f : PlainFunction) (n : ℕ) → fired (wrap g f) n ≡ fired g n }
-    ensures scope { (k : ℕ) (g : PlainGroup) (n : ℕ) → fired (scope k g) n ≡ (if nat_lt n (leaf_count g) then fired g n else k ∷ nacks_of (scopes g)) }
+    ensures scope { (k : ℕ) (g : PlainGroup) (n : ℕ) → fired (scope k g) n
+        ≡ (if nat_lt n (leaf_count g) then fired g n else k ∷ nacks_of (scopes g)) }
     ensures no_choice { (n : ℕ) → fired (choose (groups [])) n ≡ [] }
-    ensures choice { (g : PlainGroup) (gs : List PlainGroup) (n : ℕ) → fired (choose (groups (g ∷ gs))) n ≡ (if nat_lt n (leaf_count g) then fired g n ++ nacks_of (scopes (choose (groups gs))) else nacks_of (scopes g) ++ fired (choose (groups gs)) (n - leaf_count g)) }
+    ensures choice { (g : PlainGroup) (gs : List PlainGroup) (n : ℕ) →
+        fired (choose (groups (g ∷ gs))) n
+        ≡ (if nat_lt n (leaf_count g) then fired g n ++ nacks_of (scopes (choose (groups gs)))
+        else nacks_of (scopes g) ++ fired (choose (groups gs)) (n - leaf_count g)) }
 {}
 
-/// The nacks of all scopes, by the parts of the group: an outer one before those in it, and those of a choice member by member.
+/// The nacks of all scopes, by the parts of the group: none in never and in a leaf, under a wrap those without it, an outer one
+/// before those in it, and those of a choice member by member.
 pub fn nacks_by_parts()
-    ensures scope { (k : ℕ) (g : PlainGroup) → nacks_of (scopes (scope k g)) ≡ k ∷ nacks_of (scopes g) }
-    ensures choice { (gs : List PlainGroup) → nacks_of (scopes (choose (groups gs))) ≡ flat_map (λ g. nacks_of (scopes g)) gs }
+    ensures never { nacks_of (scopes never) ≡ [] }
+    ensures leaf { (b : PlainBase) → nacks_of (scopes (leaf b)) ≡ [] }
+    ensures wrap { (g : PlainGroup) (f : PlainFunction) →
+        nacks_of (scopes (wrap g f)) ≡ nacks_of (scopes g) }
+    ensures scope { (k : ℕ) (g : PlainGroup) →
+        nacks_of (scopes (scope k g)) ≡ k ∷ nacks_of (scopes g) }
+    ensures choice { (gs : List PlainGroup) →
+        nacks_of (scopes (choose (groups gs))) ≡ flat_map (λ g. nacks_of (scopes g)) gs }
 {}
