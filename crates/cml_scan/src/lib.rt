@@ -17,6 +17,3 @@ pub use offer::{Offer, leaf_bases, offers, push_offers};
 pub use plain::{Lights, rows, scan};
 pub use table::Table;
 pub use world::{NackState, ThreadState, World};
-
-#[cfg(test)]
-mod tests;
