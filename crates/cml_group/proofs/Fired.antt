@@ -24,11 +24,10 @@ outside-append ss us n = ap nacks_of (filter-append (lies_outside n) ss us) ∙ 
 -- the nacks do not hang on the number of the first leaf
 mutual
   pub nacks_from : (m k : ℕ) (g : PlainGroup) → nacks_of (scopes_from m g) ≡ nacks_of (scopes_from k g)
-  nacks_from m k never = refl
-  nacks_from m k (leaf b) = refl
   nacks_from m k (choose gs) = nacks_from_all m k gs
   nacks_from m k (wrap g f) = nacks_from m k g
   nacks_from m k (scope x g) = ap (λ l. x ∷ l) (nacks_from m k g)
+  nacks_from m k _ = refl
 
   pub nacks_from_all : (m k : ℕ) (gs : PlainGroups) → nacks_of (scopes_from_all m gs) ≡ nacks_of (scopes_from_all k gs)
   nacks_from_all m k no_groups = refl
@@ -57,13 +56,12 @@ lies_in n s h k = grind (arith, nat_tests)
 -- a leaf outside the group fires all its nacks
 mutual
   pub outside_all : (m n : ℕ) (g : PlainGroup) → (n < m) ⊎ (m + leaf_count g ≤ n) → outside (scopes_from m g) n ≡ nacks_of (scopes_from m g)
-  outside_all m n never h = refl
-  outside_all m n (leaf b) h = refl
   outside_all m n (choose gs) h = outside_all_of m n gs h
   outside_all m n (wrap g f) h = let e = leaf_count-wrap g f in outside_all m n g (grind arith)
   outside_all m n (scope x g) h =
       let s : PlainScope = record { nack = x; first = m; past = m + leaf_count g } in
       outside_yes n s (scopes_from m g) (lies_out n s h) ∙ ap (λ l. x ∷ l) (outside_all m n g h)
+  outside_all m n _ h = refl
 
   pub outside_all_of : (m n : ℕ) (gs : PlainGroups) → (n < m) ⊎ (m + count_of_all gs ≤ n) → outside (scopes_from_all m gs) n ≡ nacks_of (scopes_from_all m gs)
   outside_all_of m n no_groups h = refl
@@ -88,12 +86,11 @@ outside_same m n x f p g q ss ts e h = grind (arith, nat_tests)
 -- what a leaf fires does not hang on the number of the first leaf
 mutual
   pub outside_shifted : (d m n : ℕ) (g : PlainGroup) → outside (scopes_from (d + m) g) (d + n) ≡ outside (scopes_from m g) n
-  outside_shifted d m n never = refl
-  outside_shifted d m n (leaf b) = refl
   outside_shifted d m n (choose gs) = outside_shifted_of d m n gs
   outside_shifted d m n (wrap g f) = outside_shifted d m n g
   outside_shifted d m n (scope x g) =
       outside_same (d + n) n x (d + m) (d + m + leaf_count g) m (m + leaf_count g) _ _ (lies_shifted d n x m (m + leaf_count g) (d + m + leaf_count g) (omega arith)) (outside_shifted d m n g)
+  outside_shifted d m n _ = refl
 
   pub outside_shifted_of : (d m n : ℕ) (gs : PlainGroups) → outside (scopes_from_all (d + m) gs) (d + n) ≡ outside (scopes_from_all m gs) n
   outside_shifted_of d m n no_groups = refl

@@ -4,9 +4,13 @@ use Rattle.cml_value.specs.Group.{PlainGroup, PlainLeaf, PlainScope, leaves, lea
 use Rattle.cml_group.specs.Leaves.{numbers}
 use Rattle.cml_value.specs.declared.number.NackId.{NackId}
 
--- at most 256 leaves, no deeper than 64, and of no more than 65,536 nodes
+-- the most leaves of a group that a thread can offer (Concurrent ML has no such limit)
+abbrev pub max_leaves : ℕ
+max_leaves = 256
+
+-- at most so many leaves, and within the limits of depth and of nodes
 pub record IsWithinLimits (g : PlainGroup) : Type 0 where
-  pub few_leaves : leaf_count g ≤ 256
+  pub few_leaves : leaf_count g ≤ max_leaves
   pub fits : group_fits g ≡ true
 
 -- these are the leaves, the scopes and the nacks of the group, and the list of nacks has room for all of them
@@ -15,4 +19,4 @@ pub record IsLaidOut (g : PlainGroup) (ls : List PlainLeaf) (ss : List PlainScop
   pub scopes_are : ss ≡ scopes g
   pub nacks_are : numbers ks ≡ nacks_of (scopes g)
   pub has_room : length ss ≤ room
-  pub within : leaf_count g ≤ 256
+  pub within : leaf_count g ≤ max_leaves

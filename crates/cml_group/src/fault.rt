@@ -1,10 +1,11 @@
 //! Why a group is not laid flat.
 
 use cml_value::Group;
+use std::fmt;
 use thiserror::Error;
 
 /// Why a group is not laid flat. Each hands the group back.
-#[derive(Debug, Drop, Error)]
+#[derive(Drop, Error)]
 pub enum FlatFault {
     /// It has more than [`MAX_LEAVES`](crate::MAX_LEAVES) leaves.
     #[error("the group has more than 256 leaves")]
@@ -15,4 +16,11 @@ pub enum FlatFault {
     /// Want of memory.
     #[error("out of memory")]
     Memory(Group),
+}
+
+// The groups themselves are not shown.
+impl fmt::Debug for FlatFault {
+    fn fmt<W: fmt::Write>(&self, f: &mut fmt::Formatter<W>) -> fmt::Result {
+        write!(f, "{self}")
+    }
 }

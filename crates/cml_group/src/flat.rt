@@ -16,7 +16,7 @@ use std::alloc::{AllocError, Global};
 use std::marker::Model;
 
 /// A group laid flat. Its leaves are numbered from the left, from 0.
-#[derive(Debug, Drop)]
+#[derive(Drop)]
 pub struct Flat {
     group: Group,
     leaves: Vec<Leaf>,
@@ -40,25 +40,25 @@ impl Model for Flat {
 }
 
 /// What choosing a leaf leads to.
-#[derive(Debug, Drop)]
+#[derive(Drop)]
 pub struct Chosen {
     /// What the leaf waited for.
     pub base: Base,
     /// The functions that its result goes through, in the order in which they run.
     pub wraps: Vec<FnRef>,
     /// The nacks that fire.
-    pub lost: Vec<NackId>,
+    pub fired: Vec<NackId>,
 }
 
 // Puts the nacks of those branches in which the leaf does not lie into the list, which has room for them.
-fn fill_lost(lost: &mut Vec<NackId>, branches: &[Branch], leaf: usize)
-    requires { length branches.now ≤ vec_capacity lost.old }
-    ensures { numbers lost.new.items ≡ nacks_of (filter (lies_outside leaf) branches.now) }
+fn fill(nacks: &mut Vec<NackId>, branches: &[Branch], leaf: usize)
+    requires { length branches.now ≤ vec_capacity nacks.old }
+    ensures { numbers nacks.new.items ≡ nacks_of (filter (lies_outside leaf) branches.now) }
 {
-    lost.clear();
+    nacks.clear();
     for branch in branches {
         if leaf < branch.first || branch.past <= leaf {
-            lost.push_reserved(branch.nack);
+            nacks.push_reserved(branch.nack);
         }
     }
 }
@@ -149,8 +149,8 @@ impl Flat {
         &self.nacks
     }
 
-    /// Whether the leaf lies outside the scope of this place, so that its nack fires where the leaf is chosen.
-    pub fn loses(&self, n: usize, scope: usize) -> bool
+    /// Whether the nack of the scope at this place fires where the leaf is chosen: the leaf lies outside the scope.
+    pub fn fires(&self, n: usize, scope: usize) -> bool
         requires leaf { n < leaf_count self.now }
         requires scope { scope < length (scopes self.now) }
         ensures { slice_get (map (lies_outside n) (scopes self.now)) scope ≡ Some result }
@@ -163,30 +163,35 @@ impl Flat {
     ///
     /// # Errors
     /// Want of memory.
-    pub fn lost(&self, alloc: Global, n: usize) -> Result<Vec<NackId>, AllocError>
+    pub fn fired(&self, alloc: Global, n: usize) -> Result<Vec<NackId>, AllocError>
         requires { n < leaf_count self.now }
         ensures { IfOk result (λ ks. numbers ks.items ≡ fired self.now n) }
     {
         let branches = self.branches.as_slice();
-        let mut lost = Vec::with_capacity(alloc, branches.len())?;
-        fill_lost(&mut lost, branches, n);
-        Ok(lost)
+        let mut nacks = Vec::with_capacity(alloc, branches.len())?;
+        fill(&mut nacks, branches, n);
+        Ok(nacks)
     }
 
     /// The leaf, chosen. It takes no memory: the lists were reserved by [`flatten`].
     pub fn choose(self, n: usize) -> Chosen
         requires { n < leaf_count self }
-        ensures leaf { pick self n ≡ Some (record { base = result.base; wraps = result.wraps.items }) }
-        ensures lost { numbers result.lost.items ≡ fired self n }
+        ensures leaf { pick self n
+            ≡ Some (record { base = result.base; wraps = result.wraps.items }) }
+        ensures fired { numbers result.fired.items ≡ fired self n }
     {
         let Flat {
             group: _,
             mut leaves,
             branches,
-            nacks: mut lost,
+            mut nacks,
         } = self;
-        fill_lost(&mut lost, branches.as_slice(), n);
+        fill(&mut nacks, branches.as_slice(), n);
         let Leaf { base, wraps } = leaves.swap_remove(n);
-        Chosen { base, wraps, lost }
+        Chosen {
+            base,
+            wraps,
+            fired: nacks,
+        }
     }
 }

@@ -9,7 +9,7 @@ use std::alloc::{AllocError, Global};
 use std::marker::Model;
 
 /// A leaf, with the functions that its result goes through, innermost first.
-#[derive(Debug, Drop)]
+#[derive(Drop)]
 pub struct Leaf {
     pub base: Base,
     pub wraps: Vec<FnRef>,
@@ -38,7 +38,7 @@ impl Leaf {
 }
 
 /// The branch of a nack: its first leaf, and the number past its last one.
-#[derive(Debug, Drop)]
+#[derive(Drop)]
 pub struct Branch {
     pub nack: NackId,
     pub first: usize,
@@ -71,7 +71,8 @@ pub type Branches = SmallVec<Branch, 4>;
 
 // Puts the function behind those of each leaf from this number on.
 fn wrap_from(leaves: &mut Vec<Leaf>, first: usize, function: &FnRef) -> Result<(), AllocError>
-    ensures { OnOk result (leaves.new.items ≡ take first leaves.old.items ++ map (wrapped_by function.now) (drop first leaves.old.items)) }
+    ensures { OnOk result (leaves.new.items
+        ≡ take first leaves.old.items ++ map (wrapped_by function.now) (drop first leaves.old.items)) }
 {
     for i in first..leaves.len() {
         leaves[i].wrap(function)?;
@@ -89,8 +90,10 @@ pub fn lay(
     leaves: &mut Vec<Leaf>,
     branches: &mut Branches,
 ) -> Result<(), AllocError>
-    ensures leaves_added { OnOk result (leaves.new.items ≡ leaves.old.items ++ leaves_of group.now) }
-    ensures scopes_added { OnOk result (branches.new.items ≡ branches.old.items ++ scopes_from (length leaves.old.items) group.now) }
+    ensures leaves_added { OnOk result
+        (leaves.new.items ≡ leaves.old.items ++ leaves_of group.now) }
+    ensures scopes_added { OnOk result
+        (branches.new.items ≡ branches.old.items ++ scopes_from (length leaves.old.items) group.now) }
 {
     match group.kind() {
         GroupKind::Never => Ok(()),

@@ -4,13 +4,10 @@
 
 mod fault;
 mod flat;
-pub mod laws;
+pub mod law;
 mod lay;
 mod limit;
 
 pub use fault::FlatFault;
 pub use flat::{Chosen, Flat, flatten};
 pub use limit::MAX_LEAVES;
-
-#[cfg(test)]
-mod tests;

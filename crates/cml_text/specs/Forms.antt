@@ -34,10 +34,8 @@ span_of (plain_list span forms) = span
 -- how many lists stand inside one another at most
 abbrev mutual
   pub nesting : PlainSexpr → ℕ
-  nesting (plain_name span bytes) = 0
-  nesting (plain_int span value) = 0
-  nesting (plain_text span bytes) = 0
   nesting (plain_list span forms) = nesting_of forms + 1
+  nesting _ = 0
 
   pub nesting_of : PlainForms → ℕ
   nesting_of no_forms = 0

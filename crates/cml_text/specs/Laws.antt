@@ -3,6 +3,7 @@ use Rattle.std.specs.Prelude.{◌≡◌, ℕ, ◌≤◌, None, List, length}
 use Rattle.cml_text.specs.Forms.{PlainSexpr, plain_forms, all_without_spans}
 use Rattle.cml_text.specs.Limits.{AreWithinLimits}
 use Rattle.cml_text.specs.Printed.{printed}
+use Rattle.cml_text.specs.Sizes.{text_limit}
 use Rattle.cml_text.specs.Spans.{AreAtSpans}
 use Rattle.cml_text.specs.Texts.{Spells, fault_of}
 
@@ -24,5 +25,5 @@ SpelledOrFaulty = (text : List ℕ) → fault_of text ≡ None → (forms : List
 
 -- what is printed of forms within the limits, if it is not too long, spells these forms, spans aside
 abbrev pub PrintedIsRead : Type 0
-PrintedIsRead = (forms : List PlainSexpr) → AreWithinLimits forms → length (printed forms) ≤ 1048576 →
+PrintedIsRead = (forms : List PlainSexpr) → AreWithinLimits forms → length (printed forms) ≤ text_limit →
     (found : List PlainSexpr) × Spells (printed forms) found × (all_without_spans (plain_forms found) ≡ all_without_spans (plain_forms forms))

@@ -11,6 +11,7 @@ use Rattle.unicode_ident.specs.Ident.{is_xid_start, is_xid_continue}
 use Rattle.cml_text.specs.declared.sexpr.Span.{Span}
 use Rattle.cml_text.specs.declared.fault.FaultKind.{FaultKind}
 use Rattle.cml_text.specs.declared.fault.FaultKind.TheVariants.{Unclosed, Character, Escape, Number, Long}
+use Rattle.cml_text.specs.Sizes.{literal_limit}
 use Rattle.cml_text.specs.Faults.{PlainFault}
 use Rattle.cml_text.specs.Forms.{PlainSexpr, plain_name, plain_int, plain_text}
 
@@ -127,15 +128,14 @@ token_lexeme at token =
 -- a text by what stands behind its opening quote
 abbrev pub literal_lexeme : ℕ → Literal → Lexeme
 literal_lexeme at (closed content more) =
-    if nat_le (length content) 4096 then leaf (plain_text (span_from at (1 + more)) content) else fault_at at Long
+    if nat_le (length content) literal_limit then leaf (plain_text (span_from at (1 + more)) content) else fault_at at Long
 literal_lexeme at endless = fault_at at Unclosed
 literal_lexeme at (no_escape place) = fault_at (at + 1 + place) Escape
 
 -- how many bytes behind its opening quote belong to a literal
 abbrev pub literal_more : Literal → ℕ
 literal_more (closed content more) = more
-literal_more endless = 0
-literal_more (no_escape place) = 0
+literal_more _ = 0
 
 -- What a byte at a place begins, with the bytes behind it: the word, if it begins one, and how many of the bytes behind it belong to
 -- what it begins. A token goes on up to the next delimiter, and a comment to the end of its line.

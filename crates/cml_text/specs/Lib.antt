@@ -1,3 +1,4 @@
+pub mod Sizes
 pub mod Faults
 pub mod Forms
 pub mod FormCodes

@@ -1,6 +1,7 @@
 -- Which forms can be printed and read back.
 use Rattle.std.specs.Prelude.{◌^◌, ◌<◌, ◌≤◌, ℤ, pos, negsuc, IsTrue, List, length}
 use Rattle.std.specs.Str.{IsUtf8}
+use Rattle.cml_text.specs.Sizes.{literal_limit, nesting_limit}
 use Rattle.cml_text.specs.Forms.{PlainSexpr, plain_name, plain_int, plain_text, plain_list, PlainForms, no_forms, forms_and, plain_forms, nesting_of}
 use Rattle.cml_text.specs.Lexemes.{is_name}
 
@@ -9,19 +10,19 @@ abbrev pub IsSmall : ℤ → Type 0
 IsSmall (pos n) = n < 2 ^ 63
 IsSmall (negsuc n) = n < 2 ^ 63
 
--- a name is spelled as one, a number has 64 bits, and a text has at most 4,096 bytes
+-- a name is spelled as one, a number has 64 bits, and a text is not too long
 abbrev mutual
   pub IsProper : PlainSexpr → Type 0
   IsProper (plain_name span bytes) = IsUtf8 bytes × IsTrue (is_name bytes)
   IsProper (plain_int span value) = IsSmall value
-  IsProper (plain_text span bytes) = IsUtf8 bytes × (length bytes ≤ 4096)
+  IsProper (plain_text span bytes) = IsUtf8 bytes × (length bytes ≤ literal_limit)
   IsProper (plain_list span forms) = AreProper forms
 
   pub AreProper : PlainForms → Type 0
   AreProper no_forms = Unit {0}
   AreProper (forms_and form forms) = IsProper form × AreProper forms
 
--- and at most 256 lists stand inside one another
+-- and no more lists stand inside one another than may
 pub record AreWithinLimits (forms : List PlainSexpr) : Type 0 where
   pub proper : AreProper (plain_forms forms)
-  pub shallow : nesting_of (plain_forms forms) ≤ 256
+  pub shallow : nesting_of (plain_forms forms) ≤ nesting_limit

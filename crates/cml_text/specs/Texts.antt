@@ -3,30 +3,29 @@ use Rattle.std.specs.Prelude.{◌≡◌, ℕ, ◌-◌, ◌≤◌, nat_lt, if◌t
 use Rattle.std.specs.Str.{IsUtf8, is_utf8}
 use Rattle.std.specs.Str.Lossy.{utf8_valid_len}
 use Rattle.cml_text.specs.declared.fault.FaultKind.TheVariants.{Unclosed, Stray, Deep, Long, Utf8}
+use Rattle.cml_text.specs.Sizes.{text_limit, nesting_limit}
 use Rattle.cml_text.specs.Faults.{PlainFault}
-use Rattle.cml_text.specs.Forms.{PlainSexpr, plain_name, plain_int, plain_text, plain_list, PlainForms, no_forms, forms_and, plain_forms, nesting_of}
+use Rattle.cml_text.specs.Forms.{PlainSexpr, plain_list, PlainForms, no_forms, forms_and, plain_forms, nesting_of}
 use Rattle.cml_text.specs.Lexemes.{Lexeme, opening, closing, leaf, faulty, lexemes}
 
 -- The words that spell a form: a list is a parenthesis where it starts, its forms, and a parenthesis where it ends; every other
 -- form is one word.
 abbrev mutual
   pub words : PlainSexpr → List Lexeme
-  words (plain_name span bytes) = leaf (plain_name span bytes) ∷ []
-  words (plain_int span value) = leaf (plain_int span value) ∷ []
-  words (plain_text span bytes) = leaf (plain_text span bytes) ∷ []
   words (plain_list span forms) = opening span.start ∷ (words_of forms ++ closing span.end ∷ [])
+  words form = leaf form ∷ []
 
   pub words_of : PlainForms → List Lexeme
   words_of no_forms = []
   words_of (forms_and form forms) = words form ++ words_of forms
 
--- The text spells these forms, one after another: it is not too long, it is UTF-8, its words are those that spell the forms, and at
--- most 256 lists stand inside one another.
+-- The text spells these forms, one after another: it is not too long, it is UTF-8, its words are those that spell the forms, and no
+-- more lists stand inside one another than may.
 pub record Spells (text : List ℕ) (forms : List PlainSexpr) : Type 0 where
-  pub short : length text ≤ 1048576
+  pub short : length text ≤ text_limit
   pub utf8 : IsUtf8 text
   pub spelled : lexemes 0 0 text ≡ words_of (plain_forms forms)
-  pub shallow : nesting_of (plain_forms forms) ≤ 256
+  pub shallow : nesting_of (plain_forms forms) ≤ nesting_limit
 
 -- at the end the innermost open list is at fault, if one is open
 abbrev pub unclosed : List ℕ → Option PlainFault
@@ -36,7 +35,7 @@ unclosed (start ∷ opens) = Some (record { kind = Unclosed; at = start })
 -- The first fault of the words from the left, given where the lists that are open began, the innermost first.
 abbrev pub first_fault : List Lexeme → List ℕ → Option PlainFault
 first_fault [] opens = unclosed opens
-first_fault (opening at ∷ rest) opens = if nat_lt (length opens) 256 then first_fault rest (at ∷ opens) else Some (record { kind = Deep; at = at })
+first_fault (opening at ∷ rest) opens = if nat_lt (length opens) nesting_limit then first_fault rest (at ∷ opens) else Some (record { kind = Deep; at = at })
 first_fault (closing end ∷ rest) [] = Some (record { kind = Stray; at = end - 1 })
 first_fault (closing end ∷ rest) (start ∷ opens) = first_fault rest opens
 first_fault (leaf form ∷ rest) opens = first_fault rest opens
@@ -45,6 +44,6 @@ first_fault (faulty fault ∷ rest) opens = Some fault
 -- The fault of a text: that it is too long comes first, then that it is not UTF-8, and then its first fault from the left.
 unfoldable pub fault_of : List ℕ → Option PlainFault
 fault_of text =
-    if nat_lt 1048576 (length text) then Some (record { kind = Long; at = 1048576 })
+    if nat_lt text_limit (length text) then Some (record { kind = Long; at = text_limit })
     else if not (is_utf8 text) then Some (record { kind = Utf8; at = utf8_valid_len text })
     else first_fault (lexemes 0 0 text) []

@@ -2,7 +2,7 @@
 #![tactic(auto)]
 
 mod fault;
-pub mod laws;
+pub mod law;
 mod nest;
 mod printer;
 mod reader;
@@ -13,6 +13,3 @@ pub use fault::{FaultKind, TextFault};
 pub use printer::print;
 pub use reader::read;
 pub use sexpr::{Name, Sexpr, Shape, Span};
-
-#[cfg(test)]
-mod tests;

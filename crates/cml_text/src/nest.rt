@@ -10,7 +10,7 @@ use crate::word::Word;
 use std::alloc::{AllocError, Global};
 use std::mem;
 
-/// The most lists that stand inside one another.
+// The most lists that stand inside one another.
 const NESTING_LIMIT: usize = 256;
 
 /// A list that is open: where it starts, and the forms that stand before it in the list around it.
@@ -20,14 +20,15 @@ pub struct OpenList {
     before: Vec<Sexpr>,
 }
 
-/// Takes a parenthesis that opens a list. From then on `forms` are those of the new list.
+// Takes a parenthesis that opens a list. From then on `forms` are those of the new list.
 fn open_list(
     alloc: Global,
     lists: &mut Vec<OpenList>,
     forms: &mut Vec<Sexpr>,
     at: usize,
 ) -> Result<(), TextFault>
-    ensures ok { OnOk result (Takes (opening at) lists.old.items forms.old.items lists.new.items forms.new.items) }
+    ensures ok { OnOk result
+        (Takes (opening at) lists.old.items forms.old.items lists.new.items forms.new.items) }
     ensures err { IfErr result (FaultsAt (opening at) lists.old.items) }
 {
     if lists.len() >= NESTING_LIMIT {
@@ -41,10 +42,11 @@ fn open_list(
     Ok(())
 }
 
-/// Takes a parenthesis that closes the innermost list, which becomes a form of the list around it.
+// Takes a parenthesis that closes the innermost list, which becomes a form of the list around it.
 fn close_list(lists: &mut Vec<OpenList>, forms: &mut Vec<Sexpr>, at: usize) -> Result<(), TextFault>
     requires fits { at < 2 ^ 63 }
-    ensures ok { OnOk result (Takes (closing (at + 1)) lists.old.items forms.old.items lists.new.items forms.new.items) }
+    ensures ok { OnOk result
+        (Takes (closing (at + 1)) lists.old.items forms.old.items lists.new.items forms.new.items) }
     ensures err { IfErr result (FaultsAt (closing (at + 1)) lists.old.items) }
 {
     match lists.pop() {
@@ -70,7 +72,8 @@ pub fn take_word(
 ) -> Result<(), TextFault>
     requires fits { at < 2 ^ 63 }
     requires leaf { IsLeafWord (Some word) }
-    ensures ok { OnOk result (Takes (lexeme_of at word) lists.old.items forms.old.items lists.new.items forms.new.items) }
+    ensures ok { OnOk result
+        (Takes (lexeme_of at word) lists.old.items forms.old.items lists.new.items forms.new.items) }
     ensures err { IfErr result (FaultsAt (lexeme_of at word) lists.old.items) }
 {
     match word {

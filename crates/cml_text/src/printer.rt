@@ -34,11 +34,13 @@ pub fn push_quoted(text: &mut String, content: &str) -> Result<(), AllocError>
     text.push('"')
 }
 
-/// Appends the escape for the first character, if there is one, and gives the text behind it.
+// Appends the escape for the first character, if there is one, and gives the text behind it.
 fn push_first<'a>(text: &mut String, special: &'a str) -> Result<&'a str, AllocError>
     requires { 0 < length special.now → IsFalse (needs_no_escape (slice_index special.now 0)) }
-    ensures appended { IfOk result (λ rest. string_bytes text.new ++ flat_map escaped rest.now ≡ string_bytes text.old ++ flat_map escaped special.now) }
-    ensures shorter { IfOk result (λ rest. 0 < length special.now → length rest.now < length special.now) }
+    ensures appended { IfOk result (λ rest. string_bytes text.new ++ flat_map escaped rest.now
+        ≡ string_bytes text.old ++ flat_map escaped special.now) }
+    ensures shorter { IfOk result
+        (λ rest. 0 < length special.now → length rest.now < length special.now) }
     ensures none { IfOk result (λ rest. length rest.now ≤ length special.now) }
 {
     if special.is_empty() {
@@ -48,7 +50,7 @@ fn push_first<'a>(text: &mut String, special: &'a str) -> Result<&'a str, AllocE
     Ok(past_ascii(special))
 }
 
-/// How many bytes come before the first that is printed by an escape.
+// How many bytes come before the first that is printed by an escape.
 fn plain_len(bytes: &[u8]) -> usize
     ensures { result ≡ prefix_len needs_no_escape bytes.now }
 {
@@ -58,7 +60,7 @@ fn plain_len(bytes: &[u8]) -> usize
         .count()
 }
 
-/// Appends the escape for a byte that needs one.
+// Appends the escape for a byte that needs one.
 fn push_escaped(text: &mut String, byte: u8) -> Result<(), AllocError>
     requires { IsFalse (needs_no_escape byte) }
     ensures { OnOk result (string_bytes text.new ≡ string_bytes text.old ++ escaped byte) }

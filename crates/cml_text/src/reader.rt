@@ -15,7 +15,7 @@ use crate::sexpr::Sexpr;
 use crate::word::word_at;
 use std::alloc::Global;
 
-/// The most bytes of a text.
+// The most bytes of a text.
 const TEXT_LIMIT: usize = 1_048_576;
 
 /// The forms that a text spells, one after another.
@@ -31,7 +31,8 @@ pub fn read(alloc: Global, text: &[u8]) -> Result<Vec<Sexpr>, TextFault>
     // A fault is the fault of the text.
     ensures fault { IfErr result (λ fault. IsFault fault (fault_of text.now)) }
     // The fault of the text is answered, unless memory runs out.
-    ensures only_fault { (fault : PlainFault) → fault_of text.now ≡ Some fault → FailsWith result fault }
+    ensures only_fault { (fault : PlainFault) →
+        fault_of text.now ≡ Some fault → FailsWith result fault }
 {
     if text.len() > TEXT_LIMIT {
         return Err(TextFault::At {
@@ -48,7 +49,7 @@ pub fn read(alloc: Global, text: &[u8]) -> Result<Vec<Sexpr>, TextFault>
     }
 }
 
-/// The forms of a text that is UTF-8 and not too long.
+// The forms of a text that is UTF-8 and not too long.
 fn forms_of(alloc: Global, text: &str) -> Result<Vec<Sexpr>, TextFault>
     requires fits { length text.now < 2 ^ 62 }
     ensures words { IfOk result (λ forms. lexemes 0 0 text.now ≡ words_in forms.items) }

@@ -14,7 +14,7 @@ pub struct Span {
 }
 
 /// The spelling of a name. Every value of this type is spelled as one.
-#[derive(Debug, Drop)]
+#[derive(Drop)]
 pub struct Name {
     spelling: String,
 }
@@ -57,14 +57,14 @@ impl Name {
 ///
 /// Forms are made by reading a text, so they nest at most 256 deep.
 #[cycle(data)]
-#[derive(Debug, Drop)]
+#[derive(Drop)]
 pub struct Sexpr {
     span: Span,
     node: Node,
 }
 
 #[cycle(data)]
-#[derive(Debug, Drop)]
+#[derive(Drop)]
 enum Node {
     Name(Name),
     Int(i64),
@@ -92,7 +92,7 @@ impl Model for Sexpr {
 }
 
 /// What kind of form it is, and what it holds.
-#[derive(Clone, Copy, Debug)]
+#[derive(Clone, Copy)]
 pub enum Shape<'a> {
     Name(&'a Name),
     Int(i64),
@@ -163,7 +163,8 @@ impl Sexpr {
 
     /// Appends the form as it is printed.
     pub(crate) fn push_to(&self, text: &mut String) -> Result<(), AllocError>
-        ensures { OnOk result (string_bytes text.new ≡ string_bytes text.old ++ printed_form self.now) }
+        ensures { OnOk result
+            (string_bytes text.new ≡ string_bytes text.old ++ printed_form self.now) }
     {
         match &self.node {
             Node::Name(name) => text.push_str(name.as_str()),

@@ -12,7 +12,7 @@ use crate::sexpr::{Name, Sexpr, Span};
 use std::alloc::{AllocError, Global};
 use unicode_ident::{is_xid_continue, is_xid_start};
 
-/// The most bytes of a text literal, after its escapes.
+// The most bytes of a text literal, after its escapes.
 const LITERAL_LIMIT: usize = 4096;
 
 /// A word of a text.
@@ -23,7 +23,7 @@ pub enum Word {
     Leaf(Sexpr),
 }
 
-/// What stands behind an opening quote.
+// What stands behind an opening quote.
 #[derive(Drop)]
 enum Quoted<'a> {
     Closed { content: String, rest: &'a str },
@@ -59,7 +59,7 @@ pub fn word_at(alloc: Global, at: usize, text: &str) -> Result<(Option<Word>, &s
     }
 }
 
-/// Whether the byte is a space, a tab, a carriage return or a line feed.
+// Whether the byte is a space, a tab, a carriage return or a line feed.
 fn is_separator(byte: u8) -> bool
     ensures { result ≡ is_separator byte }
 {
@@ -76,7 +76,7 @@ pub fn past_ascii(text: &str) -> &str
     rest
 }
 
-/// The text from the end of its first line on.
+// The text from the end of its first line on.
 fn past_comment(text: &str) -> &str
     ensures { result.now ≡ drop (prefix_len is_comment_byte text.now) text.now }
 {
@@ -84,14 +84,14 @@ fn past_comment(text: &str) -> &str
     rest
 }
 
-/// How many bytes come before the first line feed.
+// How many bytes come before the first line feed.
 fn comment_len(bytes: &[u8]) -> usize
     ensures { result ≡ prefix_len is_comment_byte bytes.now }
 {
     bytes.iter().take_while(|byte| **byte != b'\n').count()
 }
 
-/// How many bytes come before the first delimiter.
+// How many bytes come before the first delimiter.
 fn token_len(bytes: &[u8]) -> usize
     ensures { result ≡ prefix_len is_token_byte bytes.now }
 {
@@ -101,14 +101,14 @@ fn token_len(bytes: &[u8]) -> usize
         .count()
 }
 
-/// Whether the byte ends a token.
+// Whether the byte ends a token.
 fn is_delimiter(byte: u8) -> bool
     ensures { result ≡ is_delimiter byte }
 {
     is_separator(byte) || matches!(byte, b'(' | b')' | b'"' | b';')
 }
 
-/// How many bytes come before the first quote or backslash.
+// How many bytes come before the first quote or backslash.
 fn plain_len(bytes: &[u8]) -> usize
     ensures { result ≡ prefix_len is_plain bytes.now }
 {
@@ -118,7 +118,7 @@ fn plain_len(bytes: &[u8]) -> usize
         .count()
 }
 
-/// What a backslash and the byte stand for, if they are an escape.
+// What a backslash and the byte stand for, if they are an escape.
 fn unescaped(byte: u8) -> Option<char>
     ensures { result ≡ unescaped byte }
 {
@@ -130,7 +130,7 @@ fn unescaped(byte: u8) -> Option<char>
     }
 }
 
-/// The text that begins the text with its opening quote, at a place, and the text behind it.
+// The text that begins the text with its opening quote, at a place, and the text behind it.
 fn text_form(alloc: Global, at: usize, text: &str) -> Result<(Sexpr, &str), TextFault>
     requires begins { 0 < length text.now }
     requires quote { slice_index text.now 0 ≡ 34 }
@@ -165,7 +165,7 @@ fn text_form(alloc: Global, at: usize, text: &str) -> Result<(Sexpr, &str), Text
     }
 }
 
-/// What stands behind an opening quote.
+// What stands behind an opening quote.
 fn read_quoted(alloc: Global, text: &str) -> Result<Quoted<'_>, AllocError>
     ensures { IfOk result (IsQuoted text.now) }
 {
@@ -193,7 +193,7 @@ fn read_quoted(alloc: Global, text: &str) -> Result<Quoted<'_>, AllocError>
     Ok(Quoted::Endless)
 }
 
-/// The number or the name that a token spells.
+// The number or the name that a token spells.
 #[tactic(auto, unfolding(crate::specs::Lexemes::token_lexeme))]
 fn token_form(alloc: Global, at: usize, token: &str) -> Result<Sexpr, TextFault>
     requires fits { at + length token.now < 2 ^ 63 }
@@ -223,7 +223,7 @@ fn token_form(alloc: Global, at: usize, token: &str) -> Result<Sexpr, TextFault>
     Ok(Sexpr::name(span, name))
 }
 
-/// Whether the token is digits, with a minus before them or none.
+// Whether the token is digits, with a minus before them or none.
 fn is_number(token: &[u8]) -> bool
     ensures { result ≡ is_number token.now }
 {
@@ -233,21 +233,21 @@ fn is_number(token: &[u8]) -> bool
     }
 }
 
-/// Whether there are digits and nothing else.
+// Whether there are digits and nothing else.
 fn are_digits(bytes: &[u8]) -> bool
     ensures { result ≡ are_digits bytes.now }
 {
     !bytes.is_empty() && all_digits(bytes)
 }
 
-/// Whether each byte is a digit.
+// Whether each byte is a digit.
 fn all_digits(bytes: &[u8]) -> bool
     ensures { result ≡ list_all is_ascii_digit bytes.now }
 {
     bytes.iter().all(|byte| byte.is_ascii_digit())
 }
 
-/// The value of a number, if it is in range.
+// The value of a number, if it is in range.
 fn number_value(token: &str) -> Option<i64>
     requires { IsTrue (is_number token.now) }
     ensures { result ≡ number_value token.now }
@@ -255,7 +255,7 @@ fn number_value(token: &str) -> Option<i64>
     token.parse::<i64>().ok()
 }
 
-/// Whether the token is the spelling of a name.
+// Whether the token is the spelling of a name.
 #[tactic(auto, unfolding(crate::specs::Lexemes::is_name))]
 fn is_name(token: &str) -> bool
     ensures { result ≡ is_name token.now }
@@ -263,14 +263,14 @@ fn is_name(token: &str) -> bool
     is_operator(token.as_bytes()) || is_word(token)
 }
 
-/// Whether the token is an operator.
+// Whether the token is an operator.
 fn is_operator(token: &[u8]) -> bool
     ensures { result ≡ is_operator token.now }
 {
     matches!(token, [b'+' | b'-' | b'*' | b'<' | b'='])
 }
 
-/// Whether the token is a character that may start a name, and then such as may continue one.
+// Whether the token is a character that may start a name, and then such as may continue one.
 fn is_word(token: &str) -> bool
     ensures { result ≡ is_word (chars token.now) }
 {
@@ -280,23 +280,24 @@ fn is_word(token: &str) -> bool
     }
 }
 
-/// The first character, and the text behind it.
+// The first character, and the text behind it.
 fn split_first(text: &str) -> Option<(char, &str)>
-    ensures { MatchOption result (chars text.now ≡ []) (λ found. chars text.now ≡ found.0 ∷ chars found.1.now) }
+    ensures { MatchOption result (chars text.now ≡ [])
+        (λ found. chars text.now ≡ found.0 ∷ chars found.1.now) }
 {
     let first = text.chars().next()?;
     let (_first, rest) = text.split_at(first.len_utf8());
     Some((first, rest))
 }
 
-/// Whether a name may go on with each of the characters.
+// Whether a name may go on with each of the characters.
 fn continues_name(text: &str) -> bool
     ensures { result ≡ list_all is_xid_continue (chars text.now) }
 {
     text.chars().all(|character| is_xid_continue(character))
 }
 
-/// Whether a name may start with the character.
+// Whether a name may start with the character.
 fn starts_name(character: char) -> bool
     ensures { result ≡ ((character == 95) || is_xid_start character) }
 {

@@ -2,7 +2,7 @@
 -- functions the result of a leaf goes through, and which nacks fire where a leaf is chosen.
 use Rattle.std.specs.Prelude.{ℕ, ◌+◌, max, Bool, nat_lt, nat_le, ◌||◌, List, [], ◌∷◌, ◌++◌, map, filter, length}
 use Rattle.cml_value.specs.Value.{PlainBase, PlainFunction}
-use Rattle.cml_value.specs.Limits.{base_depth, function_depth, base_nodes, function_nodes, is_within}
+use Rattle.cml_value.specs.Limits.{base_depth, function_depth, base_nodes, function_nodes, is_within, max_depth, max_nodes}
 
 mutual
   pub data PlainGroup : Type 0 where
@@ -114,6 +114,6 @@ abbrev mutual
   groups_nodes no_groups = 0
   groups_nodes (groups_and g gs) = group_nodes g + groups_nodes gs
 
--- no deeper than 64, and of no more than 65,536 nodes
+-- within the limits of depth and of nodes
 abbrev pub group_fits : PlainGroup → Bool
-group_fits g = is_within 64 65536 (group_depth g) (group_nodes g)
+group_fits g = is_within max_depth max_nodes (group_depth g) (group_nodes g)

@@ -4,7 +4,7 @@ use Rattle.std.proofs.Common.{arith}
 use denote.Param.Weighed.{most}
 use Rattle.cml_value.specs.Group.{PlainGroup, groups}
 use Rattle.cml_value.specs.GroupHeights.{group_height, groups_height}
-use Rattle.cml_value.specs.GroupViews.{group_of}
+use Rattle.cml_value.specs.GroupViews.{plain_group}
 use Rattle.cml_value.specs.declared.group.GroupKind.{GroupKind}
 use Rattle.cml_value.specs.declared.group.GroupKind.TheVariants as group_kind
 use Rattle.cml_value.specs.declared.group.Group.TheDeep.{deep-GroupKind}
@@ -13,9 +13,6 @@ pub most-groups_height : (gs : List PlainGroup) → most (λ g. group_height g +
 most-groups_height [] = omega arith
 most-groups_height (g ∷ gs) = omega (arith, most-groups_height gs)
 
-pub deep_le-group_height : (k : GroupKind) → max (deep-GroupKind k) 0 ≤ group_height (group_of k)
-deep_le-group_height group_kind.Never = omega arith
-deep_le-group_height (group_kind.Leaf b) = omega arith
+pub deep_le-group_height : (k : GroupKind) → max (deep-GroupKind k) 0 ≤ group_height (plain_group k)
 deep_le-group_height (group_kind.Choose gs) = omega (arith, most-groups_height gs.value.items)
-deep_le-group_height (group_kind.Wrap g f) = omega arith
-deep_le-group_height (group_kind.Scope k g) = omega arith
+deep_le-group_height _ = omega arith

@@ -3,9 +3,9 @@ use Rattle.cml_value.specs.Group.{PlainGroup, never, leaf, choose, wrap, scope, 
 use Rattle.cml_value.specs.declared.group.GroupKind.{GroupKind}
 use Rattle.cml_value.specs.declared.group.GroupKind.TheVariants as group_kind
 
-abbrev pub group_of : GroupKind → PlainGroup
-group_of group_kind.Never = never
-group_of (group_kind.Leaf b) = leaf b
-group_of (group_kind.Choose gs) = choose (groups gs.value.items)
-group_of (group_kind.Wrap g f) = wrap g.value f
-group_of (group_kind.Scope k g) = scope k.0 g.value
+abbrev pub plain_group : GroupKind → PlainGroup
+plain_group group_kind.Never = never
+plain_group (group_kind.Leaf b) = leaf b
+plain_group (group_kind.Choose gs) = choose (groups gs.value.items)
+plain_group (group_kind.Wrap g f) = wrap g.value f
+plain_group (group_kind.Scope k g) = scope k.0 g.value

@@ -4,7 +4,7 @@ use Rattle.std.proofs.Common.{arith}
 use denote.Param.Weighed.{most}
 use Rattle.cml_value.specs.Value.{PlainValue, PlainEvent, values, events}
 use Rattle.cml_value.specs.Heights.{value_height, values_height, event_height, events_height}
-use Rattle.cml_value.specs.Views.{event_of}
+use Rattle.cml_value.specs.Views.{plain_event}
 use Rattle.cml_value.specs.declared.value.EventKind.{EventKind}
 use Rattle.cml_value.specs.declared.value.EventKind.TheVariants as event_kind
 use Rattle.cml_value.specs.declared.value.Base.TheDeep.{deep-EventKind}
@@ -17,11 +17,6 @@ pub most-events_height : (es : List PlainEvent) → most (λ e. event_height e +
 most-events_height [] = omega arith
 most-events_height (e ∷ es) = omega (arith, most-events_height es)
 
-pub deep_le-event_height : (k : EventKind) → max (deep-EventKind k) 0 ≤ event_height (event_of k)
-deep_le-event_height event_kind.Never = omega arith
-deep_le-event_height (event_kind.Leaf b) = omega arith
+pub deep_le-event_height : (k : EventKind) → max (deep-EventKind k) 0 ≤ event_height (plain_event k)
 deep_le-event_height (event_kind.Choose es) = omega (arith, most-events_height es.value.items)
-deep_le-event_height (event_kind.Wrap e f) = omega arith
-deep_le-event_height (event_kind.Guard f) = omega arith
-deep_le-event_height (event_kind.WithNack f) = omega arith
-deep_le-event_height (event_kind.Scope k e) = omega arith
+deep_le-event_height _ = omega arith

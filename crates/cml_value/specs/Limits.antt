@@ -75,9 +75,15 @@ abbrev mutual
 abbrev pub is_within : ℕ → ℕ → ℕ → ℕ → Bool
 is_within depth_limit node_limit depth nodes = nat_le depth depth_limit && nat_le nodes node_limit
 
--- no deeper than 64, and of no more than 65,536 nodes: what this runtime takes in (Concurrent ML has no such limit)
+-- what this runtime takes in is no deeper than this, and of no more nodes than this (Concurrent ML has no such limit)
+abbrev pub max_depth : ℕ
+max_depth = 64
+
+abbrev pub max_nodes : ℕ
+max_nodes = 65536
+
 abbrev pub value_fits : PlainValue → Bool
-value_fits v = is_within 64 65536 (value_depth v) (value_nodes v)
+value_fits v = is_within max_depth max_nodes (value_depth v) (value_nodes v)
 
 abbrev pub event_fits : PlainEvent → Bool
-event_fits e = is_within 64 65536 (event_depth e) (event_nodes e)
+event_fits e = is_within max_depth max_nodes (event_depth e) (event_nodes e)

@@ -10,41 +10,41 @@ use Rattle.cml_value.specs.declared.value.BaseKind.TheVariants as base_kind
 use Rattle.cml_value.specs.declared.value.EventKind.{EventKind}
 use Rattle.cml_value.specs.declared.value.EventKind.TheVariants as event_kind
 
-abbrev pub value_of : ValueKind → PlainValue
-value_of value_kind.Unit = unit
-value_of (value_kind.Int z) = int z
-value_of (value_kind.Bool b) = truth b
-value_of (value_kind.Text s) = text (arc_str_bytes s)
-value_of (value_kind.Pair p) = pair p.value.0 p.value.1
-value_of (value_kind.Thread t) = thread t.0
-value_of (value_kind.Chan c) = chan c.0
-value_of (value_kind.IVar i) = ivar i.0
-value_of (value_kind.MVar m) = mvar m.0
-value_of (value_kind.Mailbox b) = mailbox b.0
-value_of (value_kind.Mchan x) = mchan x.0
-value_of (value_kind.Port p) = port p.0
-value_of (value_kind.Event e) = event e.value
+abbrev pub plain_value : ValueKind → PlainValue
+plain_value value_kind.Unit = unit
+plain_value (value_kind.Int z) = int z
+plain_value (value_kind.Bool b) = truth b
+plain_value (value_kind.Text s) = text (arc_str_bytes s)
+plain_value (value_kind.Pair p) = pair p.value.0 p.value.1
+plain_value (value_kind.Thread t) = thread t.0
+plain_value (value_kind.Chan c) = chan c.0
+plain_value (value_kind.IVar i) = ivar i.0
+plain_value (value_kind.MVar m) = mvar m.0
+plain_value (value_kind.Mailbox b) = mailbox b.0
+plain_value (value_kind.Mchan x) = mchan x.0
+plain_value (value_kind.Port p) = port p.0
+plain_value (value_kind.Event e) = event e.value
 
-abbrev pub base_of : BaseKind → PlainBase
-base_of (base_kind.Always v) = always v
-base_of (base_kind.Send c v) = send c.0 v
-base_of (base_kind.Recv c) = recv c.0
-base_of (base_kind.IGet i) = iget i.0
-base_of (base_kind.MTake m) = mtake m.0
-base_of (base_kind.MGet m) = mget m.0
-base_of (base_kind.MSwap m v) = mswap m.0 v
-base_of (base_kind.MailRecv b) = mail_recv b.0
-base_of (base_kind.PortRecv p) = port_recv p.0
-base_of (base_kind.Join t) = join t.0
-base_of (base_kind.At tick) = at_tick tick
-base_of (base_kind.After delay) = after_ticks delay
-base_of (base_kind.Nack k) = nack k.0
+abbrev pub plain_base : BaseKind → PlainBase
+plain_base (base_kind.Always v) = always v
+plain_base (base_kind.Send c v) = send c.0 v
+plain_base (base_kind.Recv c) = recv c.0
+plain_base (base_kind.IGet i) = iget i.0
+plain_base (base_kind.MTake m) = mtake m.0
+plain_base (base_kind.MGet m) = mget m.0
+plain_base (base_kind.MSwap m v) = mswap m.0 v
+plain_base (base_kind.MailRecv b) = mail_recv b.0
+plain_base (base_kind.PortRecv p) = port_recv p.0
+plain_base (base_kind.Join t) = join t.0
+plain_base (base_kind.At tick) = at_tick tick
+plain_base (base_kind.After delay) = after_ticks delay
+plain_base (base_kind.Nack k) = nack k.0
 
-abbrev pub event_of : EventKind → PlainEvent
-event_of event_kind.Never = never
-event_of (event_kind.Leaf b) = leaf b
-event_of (event_kind.Choose es) = choose (events es.value.items)
-event_of (event_kind.Wrap e f) = wrap e.value f
-event_of (event_kind.Guard f) = guard f
-event_of (event_kind.WithNack f) = with_nack f
-event_of (event_kind.Scope k e) = scope k.0 e.value
+abbrev pub plain_event : EventKind → PlainEvent
+plain_event event_kind.Never = never
+plain_event (event_kind.Leaf b) = leaf b
+plain_event (event_kind.Choose es) = choose (events es.value.items)
+plain_event (event_kind.Wrap e f) = wrap e.value f
+plain_event (event_kind.Guard f) = guard f
+plain_event (event_kind.WithNack f) = with_nack f
+plain_event (event_kind.Scope k e) = scope k.0 e.value

@@ -1,7 +1,7 @@
 //! Forced events.
 
 ghost use Rattle.std.specs.Prelude.{◌≡◌, IfOk, IfErr, IsTrue, ◌↔◌};
-ghost use Rattle.cml_value.specs.GroupViews.{group_of};
+ghost use Rattle.cml_value.specs.GroupViews.{plain_group};
 
 mod limits;
 
@@ -14,14 +14,14 @@ use std::sync::Arc;
 /// A forced event, which a thread can synchronize on: no guard and no withNack stands in it.
 /// It is immutable, and its copies share what is large.
 #[cycle(group)]
-#[derive(Debug, Drop)]
+#[derive(Drop)]
 pub struct Group {
     kind: GroupKind,
 }
 
 /// What a group is.
 #[cycle(group)]
-#[derive(Debug, Drop)]
+#[derive(Drop)]
 pub enum GroupKind {
     /// Never enabled.
     Never,
@@ -44,9 +44,9 @@ impl Model for Group {
 
     ghost coded = { group_code };
 
-    ghost use Rattle.cml_value.specs.GroupViews.{group_of};
+    ghost use Rattle.cml_value.specs.GroupViews.{plain_group};
 
-    ghost view = { λ a. group_of a.kind };
+    ghost view = { λ a. plain_group a.kind };
 
     ghost size = { group_height };
 
@@ -60,7 +60,7 @@ impl Group {
 
     /// The group of this kind.
     pub fn new(kind: GroupKind) -> Group
-        ensures { result ≡ group_of kind }
+        ensures { result ≡ plain_group kind }
     {
         Group { kind }
     }
@@ -117,7 +117,7 @@ impl Group {
 
     /// What the group is.
     pub fn kind(&self) -> &GroupKind
-        ensures { group_of result.now ≡ self.now }
+        ensures { plain_group result.now ≡ self.now }
     {
         &self.kind
     }
@@ -129,19 +129,20 @@ impl Group {
     pub fn copy(&self) -> Result<Group, AllocError>
         ensures { IfOk result (λ g. g ≡ self.now) }
     {
-        match &self.kind {
-            GroupKind::Never => Ok(Group::new(GroupKind::Never)),
-            GroupKind::Leaf(b) => Ok(Group::new(GroupKind::Leaf(b.copy()?))),
-            GroupKind::Choose(gs) => Ok(Group::new(GroupKind::Choose(Arc::try_clone(gs)?))),
+        let kind = match &self.kind {
+            GroupKind::Never => GroupKind::Never,
+            GroupKind::Leaf(b) => GroupKind::Leaf(b.copy()?),
+            GroupKind::Choose(gs) => GroupKind::Choose(Arc::try_clone(gs)?),
             GroupKind::Wrap(g, f) => {
                 let shared = Arc::try_clone(g)?;
-                Ok(Group::new(GroupKind::Wrap(shared, f.copy()?)))
+                GroupKind::Wrap(shared, f.copy()?)
             }
             GroupKind::Scope(k, g) => {
                 let shared = Arc::try_clone(g)?;
-                Ok(Group::new(GroupKind::Scope(*k, shared)))
+                GroupKind::Scope(*k, shared)
             }
-        }
+        };
+        Ok(Group { kind })
     }
 
     /// Whether the two are the same group, part for part.

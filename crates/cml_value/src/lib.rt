@@ -5,8 +5,6 @@
 
 mod group;
 mod number;
-#[cfg(test)]
-mod tests;
 mod value;
 
 pub use group::{Group, GroupKind};

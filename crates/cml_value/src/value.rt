@@ -1,7 +1,7 @@
 //! Values, functions with what they captured, base events, and events as a program builds them.
 
 ghost use Rattle.std.specs.Prelude.{◌≡◌, IfOk, IfErr};
-ghost use Rattle.cml_value.specs.Views.{value_of, base_of, event_of};
+ghost use Rattle.cml_value.specs.Views.{plain_value, plain_base, plain_event};
 
 pub mod limits;
 mod same;
@@ -14,14 +14,14 @@ use std::sync::{Arc, ArcStr};
 
 /// A value of a program. It is immutable, and its copies share what is large.
 #[cycle(value)]
-#[derive(Debug, Drop)]
+#[derive(Drop)]
 pub struct Value {
     kind: ValueKind,
 }
 
 /// What a value is.
 #[cycle(value)]
-#[derive(Debug, Drop)]
+#[derive(Drop)]
 pub enum ValueKind {
     /// The value that says nothing.
     Unit,
@@ -53,7 +53,7 @@ pub enum ValueKind {
 
 /// A function by its number, with the values that it has captured: its first arguments.
 #[cycle(value)]
-#[derive(Debug, Drop)]
+#[derive(Drop)]
 pub struct FnRef {
     func: u32,
     args: Arc<Vec<Value>>,
@@ -61,14 +61,14 @@ pub struct FnRef {
 
 /// A base event: what one leaf of an event waits for.
 #[cycle(value)]
-#[derive(Debug, Drop)]
+#[derive(Drop)]
 pub struct Base {
     kind: BaseKind,
 }
 
 /// What a base event waits for.
 #[cycle(value)]
-#[derive(Debug, Drop)]
+#[derive(Drop)]
 pub enum BaseKind {
     /// Nothing: it can always be taken, and gives the value.
     Always(Value),
@@ -100,14 +100,14 @@ pub enum BaseKind {
 
 /// An event as a program builds it.
 #[cycle(value)]
-#[derive(Debug, Drop)]
+#[derive(Drop)]
 pub struct Event {
     kind: EventKind,
 }
 
 /// What an event is.
 #[cycle(value)]
-#[derive(Debug, Drop)]
+#[derive(Drop)]
 pub enum EventKind {
     /// Never enabled.
     Never,
@@ -134,9 +134,9 @@ impl Model for Value {
 
     ghost coded = { value_code };
 
-    ghost use Rattle.cml_value.specs.Views.{value_of};
+    ghost use Rattle.cml_value.specs.Views.{plain_value};
 
-    ghost view = { λ a. value_of a.kind };
+    ghost view = { λ a. plain_value a.kind };
 
     ghost size = { value_height };
 }
@@ -169,9 +169,9 @@ impl Model for Base {
 
     ghost coded = { base_code };
 
-    ghost use Rattle.cml_value.specs.Views.{base_of};
+    ghost use Rattle.cml_value.specs.Views.{plain_base};
 
-    ghost view = { λ a. base_of a.kind };
+    ghost view = { λ a. plain_base a.kind };
 
     ghost size = { base_height };
 }
@@ -185,9 +185,9 @@ impl Model for Event {
 
     ghost coded = { event_code };
 
-    ghost use Rattle.cml_value.specs.Views.{event_of};
+    ghost use Rattle.cml_value.specs.Views.{plain_event};
 
-    ghost view = { λ a. event_of a.kind };
+    ghost view = { λ a. plain_event a.kind };
 
     ghost size = { event_height };
 
@@ -201,7 +201,7 @@ impl Value {
 
     /// The value of this kind.
     pub fn new(kind: ValueKind) -> Value
-        ensures { result ≡ value_of kind }
+        ensures { result ≡ plain_value kind }
     {
         Value { kind }
     }
@@ -255,14 +255,14 @@ impl Value {
 
     /// What the value is.
     pub fn kind(&self) -> &ValueKind
-        ensures { value_of result.now ≡ self.now }
+        ensures { plain_value result.now ≡ self.now }
     {
         &self.kind
     }
 
     /// The same, taken out.
     pub fn into_kind(self) -> ValueKind
-        ensures { value_of result ≡ self }
+        ensures { plain_value result ≡ self }
     {
         self.kind
     }
@@ -274,21 +274,22 @@ impl Value {
     pub fn copy(&self) -> Result<Value, AllocError>
         ensures { IfOk result (λ v. v ≡ self.now) }
     {
-        match &self.kind {
-            ValueKind::Unit => Ok(Value::new(ValueKind::Unit)),
-            ValueKind::Int(z) => Ok(Value::new(ValueKind::Int(*z))),
-            ValueKind::Bool(b) => Ok(Value::new(ValueKind::Bool(*b))),
-            ValueKind::Text(s) => Ok(Value::new(ValueKind::Text(s.clone()?))),
-            ValueKind::Pair(p) => Ok(Value::new(ValueKind::Pair(Arc::try_clone(p)?))),
-            ValueKind::Thread(t) => Ok(Value::new(ValueKind::Thread(*t))),
-            ValueKind::Chan(c) => Ok(Value::new(ValueKind::Chan(*c))),
-            ValueKind::IVar(i) => Ok(Value::new(ValueKind::IVar(*i))),
-            ValueKind::MVar(m) => Ok(Value::new(ValueKind::MVar(*m))),
-            ValueKind::Mailbox(b) => Ok(Value::new(ValueKind::Mailbox(*b))),
-            ValueKind::Mchan(x) => Ok(Value::new(ValueKind::Mchan(*x))),
-            ValueKind::Port(p) => Ok(Value::new(ValueKind::Port(*p))),
-            ValueKind::Event(e) => Ok(Value::new(ValueKind::Event(Arc::try_clone(e)?))),
-        }
+        let kind = match &self.kind {
+            ValueKind::Unit => ValueKind::Unit,
+            ValueKind::Int(z) => ValueKind::Int(*z),
+            ValueKind::Bool(b) => ValueKind::Bool(*b),
+            ValueKind::Text(s) => ValueKind::Text(s.clone()?),
+            ValueKind::Pair(p) => ValueKind::Pair(Arc::try_clone(p)?),
+            ValueKind::Thread(t) => ValueKind::Thread(*t),
+            ValueKind::Chan(c) => ValueKind::Chan(*c),
+            ValueKind::IVar(i) => ValueKind::IVar(*i),
+            ValueKind::MVar(m) => ValueKind::MVar(*m),
+            ValueKind::Mailbox(b) => ValueKind::Mailbox(*b),
+            ValueKind::Mchan(x) => ValueKind::Mchan(*x),
+            ValueKind::Port(p) => ValueKind::Port(*p),
+            ValueKind::Event(e) => ValueKind::Event(Arc::try_clone(e)?),
+        };
+        Ok(Value { kind })
     }
 }
 
@@ -341,21 +342,21 @@ impl FnRef {
 impl Base {
     /// The base event of this kind.
     pub fn new(kind: BaseKind) -> Base
-        ensures { result ≡ base_of kind }
+        ensures { result ≡ plain_base kind }
     {
         Base { kind }
     }
 
     /// What it waits for.
     pub fn kind(&self) -> &BaseKind
-        ensures { base_of result.now ≡ self.now }
+        ensures { plain_base result.now ≡ self.now }
     {
         &self.kind
     }
 
     /// The same, taken out.
     pub fn into_kind(self) -> BaseKind
-        ensures { base_of result ≡ self }
+        ensures { plain_base result ≡ self }
     {
         self.kind
     }
@@ -367,21 +368,22 @@ impl Base {
     pub fn copy(&self) -> Result<Base, AllocError>
         ensures { IfOk result (λ b. b ≡ self.now) }
     {
-        match &self.kind {
-            BaseKind::Always(v) => Ok(Base::new(BaseKind::Always(v.copy()?))),
-            BaseKind::Send(c, v) => Ok(Base::new(BaseKind::Send(*c, v.copy()?))),
-            BaseKind::Recv(c) => Ok(Base::new(BaseKind::Recv(*c))),
-            BaseKind::IGet(i) => Ok(Base::new(BaseKind::IGet(*i))),
-            BaseKind::MTake(m) => Ok(Base::new(BaseKind::MTake(*m))),
-            BaseKind::MGet(m) => Ok(Base::new(BaseKind::MGet(*m))),
-            BaseKind::MSwap(m, v) => Ok(Base::new(BaseKind::MSwap(*m, v.copy()?))),
-            BaseKind::MailRecv(b) => Ok(Base::new(BaseKind::MailRecv(*b))),
-            BaseKind::PortRecv(p) => Ok(Base::new(BaseKind::PortRecv(*p))),
-            BaseKind::Join(t) => Ok(Base::new(BaseKind::Join(*t))),
-            BaseKind::At(tick) => Ok(Base::new(BaseKind::At(*tick))),
-            BaseKind::After(delay) => Ok(Base::new(BaseKind::After(*delay))),
-            BaseKind::Nack(k) => Ok(Base::new(BaseKind::Nack(*k))),
-        }
+        let kind = match &self.kind {
+            BaseKind::Always(v) => BaseKind::Always(v.copy()?),
+            BaseKind::Send(c, v) => BaseKind::Send(*c, v.copy()?),
+            BaseKind::Recv(c) => BaseKind::Recv(*c),
+            BaseKind::IGet(i) => BaseKind::IGet(*i),
+            BaseKind::MTake(m) => BaseKind::MTake(*m),
+            BaseKind::MGet(m) => BaseKind::MGet(*m),
+            BaseKind::MSwap(m, v) => BaseKind::MSwap(*m, v.copy()?),
+            BaseKind::MailRecv(b) => BaseKind::MailRecv(*b),
+            BaseKind::PortRecv(p) => BaseKind::PortRecv(*p),
+            BaseKind::Join(t) => BaseKind::Join(*t),
+            BaseKind::At(tick) => BaseKind::At(*tick),
+            BaseKind::After(delay) => BaseKind::After(*delay),
+            BaseKind::Nack(k) => BaseKind::Nack(*k),
+        };
+        Ok(Base { kind })
     }
 }
 
@@ -390,7 +392,7 @@ impl Event {
 
     /// The event of this kind.
     pub fn new(kind: EventKind) -> Event
-        ensures { result ≡ event_of kind }
+        ensures { result ≡ plain_event kind }
     {
         Event { kind }
     }
@@ -447,7 +449,7 @@ impl Event {
 
     /// What the event is.
     pub fn kind(&self) -> &EventKind
-        ensures { event_of result.now ≡ self.now }
+        ensures { plain_event result.now ≡ self.now }
     {
         &self.kind
     }
@@ -459,20 +461,21 @@ impl Event {
     pub fn copy(&self) -> Result<Event, AllocError>
         ensures { IfOk result (λ e. e ≡ self.now) }
     {
-        match &self.kind {
-            EventKind::Never => Ok(Event::new(EventKind::Never)),
-            EventKind::Leaf(b) => Ok(Event::new(EventKind::Leaf(b.copy()?))),
-            EventKind::Choose(es) => Ok(Event::new(EventKind::Choose(Arc::try_clone(es)?))),
+        let kind = match &self.kind {
+            EventKind::Never => EventKind::Never,
+            EventKind::Leaf(b) => EventKind::Leaf(b.copy()?),
+            EventKind::Choose(es) => EventKind::Choose(Arc::try_clone(es)?),
             EventKind::Wrap(e, f) => {
                 let shared = Arc::try_clone(e)?;
-                Ok(Event::new(EventKind::Wrap(shared, f.copy()?)))
+                EventKind::Wrap(shared, f.copy()?)
             }
-            EventKind::Guard(f) => Ok(Event::new(EventKind::Guard(f.copy()?))),
-            EventKind::WithNack(f) => Ok(Event::new(EventKind::WithNack(f.copy()?))),
+            EventKind::Guard(f) => EventKind::Guard(f.copy()?),
+            EventKind::WithNack(f) => EventKind::WithNack(f.copy()?),
             EventKind::Scope(k, e) => {
                 let shared = Arc::try_clone(e)?;
-                Ok(Event::new(EventKind::Scope(*k, shared)))
+                EventKind::Scope(*k, shared)
             }
-        }
+        };
+        Ok(Event { kind })
     }
 }

@@ -58,7 +58,8 @@ impl Group {
     // What is left of a budget of nodes, where it and the depth are enough.
     #[tactic(auto, using(std::proofs::lemmas::Bool::Decides::nat_tests))]
     fn spend(&self, depth: u32, budget: u32) -> Option<u32>
-        ensures enough { is_some result ≡ is_within depth budget (group_depth self.now) (group_nodes self.now) }
+        ensures enough { is_some result
+            ≡ is_within depth budget (group_depth self.now) (group_nodes self.now) }
         ensures left { IfSome result (λ left. left + group_nodes self.now ≡ budget) }
     {
         if let GroupKind::Leaf(b) = &self.kind {

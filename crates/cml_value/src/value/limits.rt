@@ -49,7 +49,8 @@ impl Value {
     #[cycle(spend_value)]
     #[tactic(auto, using(std::proofs::lemmas::Bool::Decides::nat_tests))]
     pub(crate) fn spend(&self, depth: u32, budget: u32) -> Option<u32>
-        ensures enough { is_some result ≡ is_within depth budget (value_depth self.now) (value_nodes self.now) }
+        ensures enough { is_some result
+            ≡ is_within depth budget (value_depth self.now) (value_nodes self.now) }
         ensures left { IfSome result (λ left. left + value_nodes self.now ≡ budget) }
     {
         match &self.kind {
@@ -106,7 +107,8 @@ impl FnRef {
     #[cycle(spend_value)]
     #[tactic(auto, using(std::proofs::lemmas::Bool::Decides::nat_tests))]
     pub(crate) fn spend(&self, depth: u32, budget: u32) -> Option<u32>
-        ensures enough { is_some result ≡ is_within depth budget (function_depth self.now) (function_nodes self.now) }
+        ensures enough { is_some result
+            ≡ is_within depth budget (function_depth self.now) (function_nodes self.now) }
         ensures left { IfSome result (λ left. left + function_nodes self.now ≡ budget) }
     {
         let mut left = budget;
@@ -124,9 +126,9 @@ impl Base {
         ensures { result ≡ min (base_depth self.now) u64.MAX }
     {
         match &self.kind {
-            BaseKind::Always(v) => v.depth().saturating_add(1),
-            BaseKind::Send(_, v) => v.depth().saturating_add(1),
-            BaseKind::MSwap(_, v) => v.depth().saturating_add(1),
+            BaseKind::Always(v) | BaseKind::Send(_, v) | BaseKind::MSwap(_, v) => {
+                v.depth().saturating_add(1)
+            }
             _ => 1,
         }
     }
@@ -137,9 +139,9 @@ impl Base {
         ensures { result ≡ min (base_nodes self.now) u64.MAX }
     {
         match &self.kind {
-            BaseKind::Always(v) => v.nodes().saturating_add(1),
-            BaseKind::Send(_, v) => v.nodes().saturating_add(1),
-            BaseKind::MSwap(_, v) => v.nodes().saturating_add(1),
+            BaseKind::Always(v) | BaseKind::Send(_, v) | BaseKind::MSwap(_, v) => {
+                v.nodes().saturating_add(1)
+            }
             _ => 1,
         }
     }
@@ -147,16 +149,17 @@ impl Base {
     #[cycle(spend_value)]
     #[tactic(auto, using(std::proofs::lemmas::Bool::Decides::nat_tests))]
     pub(crate) fn spend(&self, depth: u32, budget: u32) -> Option<u32>
-        ensures enough { is_some result ≡ is_within depth budget (base_depth self.now) (base_nodes self.now) }
+        ensures enough { is_some result
+            ≡ is_within depth budget (base_depth self.now) (base_nodes self.now) }
         ensures left { IfSome result (λ left. left + base_nodes self.now ≡ budget) }
     {
         if depth == 0 || budget == 0 {
             return None;
         }
         match &self.kind {
-            BaseKind::Always(v) => v.spend(depth - 1, budget - 1),
-            BaseKind::Send(_, v) => v.spend(depth - 1, budget - 1),
-            BaseKind::MSwap(_, v) => v.spend(depth - 1, budget - 1),
+            BaseKind::Always(v) | BaseKind::Send(_, v) | BaseKind::MSwap(_, v) => {
+                v.spend(depth - 1, budget - 1)
+            }
             _ => Some(budget - 1),
         }
     }
@@ -180,8 +183,7 @@ impl Event {
                 most.saturating_add(1)
             }
             EventKind::Wrap(e, f) => Event::depth(e).max(f.depth()).saturating_add(1),
-            EventKind::Guard(f) => f.depth().saturating_add(1),
-            EventKind::WithNack(f) => f.depth().saturating_add(1),
+            EventKind::Guard(f) | EventKind::WithNack(f) => f.depth().saturating_add(1),
             EventKind::Scope(_, e) => Event::depth(e).saturating_add(1),
         }
     }
@@ -202,8 +204,7 @@ impl Event {
                 count
             }
             EventKind::Wrap(e, f) => Event::nodes(e).saturating_add(f.nodes()).saturating_add(1),
-            EventKind::Guard(f) => f.nodes().saturating_add(1),
-            EventKind::WithNack(f) => f.nodes().saturating_add(1),
+            EventKind::Guard(f) | EventKind::WithNack(f) => f.nodes().saturating_add(1),
             EventKind::Scope(_, e) => Event::nodes(e).saturating_add(1),
         }
     }
@@ -219,7 +220,8 @@ impl Event {
     #[cycle(spend_value)]
     #[tactic(auto, using(std::proofs::lemmas::Bool::Decides::nat_tests))]
     pub(crate) fn spend(&self, depth: u32, budget: u32) -> Option<u32>
-        ensures enough { is_some result ≡ is_within depth budget (event_depth self.now) (event_nodes self.now) }
+        ensures enough { is_some result
+            ≡ is_within depth budget (event_depth self.now) (event_nodes self.now) }
         ensures left { IfSome result (λ left. left + event_nodes self.now ≡ budget) }
     {
         if let EventKind::Leaf(b) = &self.kind {
@@ -241,8 +243,7 @@ impl Event {
                 let left = Event::spend(e, depth - 1, budget - 1)?;
                 f.spend(depth - 1, left)
             }
-            EventKind::Guard(f) => f.spend(depth - 1, budget - 1),
-            EventKind::WithNack(f) => f.spend(depth - 1, budget - 1),
+            EventKind::Guard(f) | EventKind::WithNack(f) => f.spend(depth - 1, budget - 1),
             EventKind::Scope(_, e) => Event::spend(e, depth - 1, budget - 1),
         }
     }

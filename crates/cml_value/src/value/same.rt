@@ -7,25 +7,25 @@ use crate::value::{Base, BaseKind, Event, EventKind, FnRef, Value, ValueKind};
 impl Value {
     /// Whether the two are the same value, part for part.
     #[cycle(same_value)]
-    #[tactic(auto, using(crate::proofs::Counts::part_counts))]
     pub fn same(&self, other: &Value) -> bool
         ensures { IsTrue result ↔ (self.now ≡ other.now) }
     {
-        match (&self.kind, &other.kind) {
-            (ValueKind::Unit, ValueKind::Unit) => true,
-            (ValueKind::Int(x), ValueKind::Int(y)) => *x == *y,
-            (ValueKind::Bool(x), ValueKind::Bool(y)) => *x == *y,
-            (ValueKind::Text(x), ValueKind::Text(y)) => x.as_str() == y.as_str(),
-            (ValueKind::Pair(p), ValueKind::Pair(q)) => p.0.same(&q.0) && p.1.same(&q.1),
-            (ValueKind::Thread(x), ValueKind::Thread(y)) => x.0 == y.0,
-            (ValueKind::Chan(x), ValueKind::Chan(y)) => x.0 == y.0,
-            (ValueKind::IVar(x), ValueKind::IVar(y)) => x.0 == y.0,
-            (ValueKind::MVar(x), ValueKind::MVar(y)) => x.0 == y.0,
-            (ValueKind::Mailbox(x), ValueKind::Mailbox(y)) => x.0 == y.0,
-            (ValueKind::Mchan(x), ValueKind::Mchan(y)) => x.0 == y.0,
-            (ValueKind::Port(x), ValueKind::Port(y)) => x.0 == y.0,
-            (ValueKind::Event(e), ValueKind::Event(f)) => e.same(f),
-            _ => false,
+        match &self.kind {
+            ValueKind::Unit => matches!(&other.kind, ValueKind::Unit),
+            ValueKind::Int(x) => matches!(&other.kind, ValueKind::Int(y) if *x == *y),
+            ValueKind::Bool(x) => matches!(&other.kind, ValueKind::Bool(y) if *x == *y),
+            ValueKind::Text(x) =>
+                matches!(&other.kind, ValueKind::Text(y) if x.as_str() == y.as_str()),
+            ValueKind::Pair(p) =>
+                matches!(&other.kind, ValueKind::Pair(q) if p.0.same(&q.0) && p.1.same(&q.1)),
+            ValueKind::Thread(x) => matches!(&other.kind, ValueKind::Thread(y) if x.0 == y.0),
+            ValueKind::Chan(x) => matches!(&other.kind, ValueKind::Chan(y) if x.0 == y.0),
+            ValueKind::IVar(x) => matches!(&other.kind, ValueKind::IVar(y) if x.0 == y.0),
+            ValueKind::MVar(x) => matches!(&other.kind, ValueKind::MVar(y) if x.0 == y.0),
+            ValueKind::Mailbox(x) => matches!(&other.kind, ValueKind::Mailbox(y) if x.0 == y.0),
+            ValueKind::Mchan(x) => matches!(&other.kind, ValueKind::Mchan(y) if x.0 == y.0),
+            ValueKind::Port(x) => matches!(&other.kind, ValueKind::Port(y) if x.0 == y.0),
+            ValueKind::Event(e) => matches!(&other.kind, ValueKind::Event(f) if e.same(f)),
         }
     }
 }
@@ -55,25 +55,25 @@ impl FnRef {
 impl Base {
     /// Whether the two are the same base event.
     #[cycle(same_value)]
-    #[tactic(auto, using(crate::proofs::Counts::part_counts))]
     pub fn same(&self, other: &Base) -> bool
         ensures { IsTrue result ↔ (self.now ≡ other.now) }
     {
-        match (&self.kind, &other.kind) {
-            (BaseKind::Always(v), BaseKind::Always(w)) => v.same(w),
-            (BaseKind::Send(c, v), BaseKind::Send(d, w)) => c.0 == d.0 && v.same(w),
-            (BaseKind::Recv(c), BaseKind::Recv(d)) => c.0 == d.0,
-            (BaseKind::IGet(x), BaseKind::IGet(y)) => x.0 == y.0,
-            (BaseKind::MTake(x), BaseKind::MTake(y)) => x.0 == y.0,
-            (BaseKind::MGet(x), BaseKind::MGet(y)) => x.0 == y.0,
-            (BaseKind::MSwap(x, v), BaseKind::MSwap(y, w)) => x.0 == y.0 && v.same(w),
-            (BaseKind::MailRecv(x), BaseKind::MailRecv(y)) => x.0 == y.0,
-            (BaseKind::PortRecv(x), BaseKind::PortRecv(y)) => x.0 == y.0,
-            (BaseKind::Join(x), BaseKind::Join(y)) => x.0 == y.0,
-            (BaseKind::At(x), BaseKind::At(y)) => *x == *y,
-            (BaseKind::After(x), BaseKind::After(y)) => *x == *y,
-            (BaseKind::Nack(x), BaseKind::Nack(y)) => x.0 == y.0,
-            _ => false,
+        match &self.kind {
+            BaseKind::Always(v) => matches!(&other.kind, BaseKind::Always(w) if v.same(w)),
+            BaseKind::Send(c, v) =>
+                matches!(&other.kind, BaseKind::Send(d, w) if c.0 == d.0 && v.same(w)),
+            BaseKind::Recv(c) => matches!(&other.kind, BaseKind::Recv(d) if c.0 == d.0),
+            BaseKind::IGet(x) => matches!(&other.kind, BaseKind::IGet(y) if x.0 == y.0),
+            BaseKind::MTake(x) => matches!(&other.kind, BaseKind::MTake(y) if x.0 == y.0),
+            BaseKind::MGet(x) => matches!(&other.kind, BaseKind::MGet(y) if x.0 == y.0),
+            BaseKind::MSwap(x, v) =>
+                matches!(&other.kind, BaseKind::MSwap(y, w) if x.0 == y.0 && v.same(w)),
+            BaseKind::MailRecv(x) => matches!(&other.kind, BaseKind::MailRecv(y) if x.0 == y.0),
+            BaseKind::PortRecv(x) => matches!(&other.kind, BaseKind::PortRecv(y) if x.0 == y.0),
+            BaseKind::Join(x) => matches!(&other.kind, BaseKind::Join(y) if x.0 == y.0),
+            BaseKind::At(x) => matches!(&other.kind, BaseKind::At(y) if *x == *y),
+            BaseKind::After(x) => matches!(&other.kind, BaseKind::After(y) if *x == *y),
+            BaseKind::Nack(x) => matches!(&other.kind, BaseKind::Nack(y) if x.0 == y.0),
         }
     }
 }

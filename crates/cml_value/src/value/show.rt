@@ -51,7 +51,8 @@ impl Value {
 
 // A thread or an object.
 fn push_number(out: &mut String, kind: &str, number: u32) -> Result<(), AllocError>
-    ensures { OnOk result (string_bytes out.new ≡ string_bytes out.old ++ shown_number kind.now number) }
+    ensures { OnOk result
+        (string_bytes out.new ≡ string_bytes out.old ++ shown_number kind.now number) }
 {
     write!(out, "({kind} {number})")
 }

@@ -1,0 +1,5 @@
+use Rattle.cml_call_tests.proofs.values.+tree.Given as goal
+
+-- one level less at each call
+abbrev pub decreases-tree : goal.decreases-tree
+decreases-tree g l = l.height

@@ -1,0 +1,15 @@
+//! Tests of the libraries' own calls: what only a caller of a library can ask, and no text given to the program.
+#![tactic(auto)]
+
+#[cfg(test)]
+mod groups;
+#[cfg(test)]
+mod making;
+#[cfg(test)]
+mod scans;
+#[cfg(test)]
+mod texts;
+#[cfg(test)]
+mod values;
+#[cfg(test)]
+mod words;

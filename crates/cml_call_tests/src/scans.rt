@@ -1,0 +1,254 @@
+//! The rows, lights, leaves and offers of worlds.
+
+use crate::making::{MEMORY, group, make};
+use cml_scan::{
+    Light, Lights, Meet, NackState, Offer, Place, ThreadState, World, leaf_bases, light, offers,
+    push_offers, rows, scan,
+};
+use cml_value::{EventKind, IVarId, MVarId, MboxId, NackId, PortId, Tid, Value, ValueKind};
+use std::process::Abort;
+
+const FRESH: NackState = NackState::Fresh(Tid(0));
+
+// What the threads do, the value of M-variable 0, what has become of nack 0, the time, and the rows, each as `thread.leaf`, a pair
+// with a dash.
+const WORLDS: [(&str, Option<i64>, NackState, u64, &str); 16] = [
+    ("0 5 send / 0 recv", None, FRESH, 0, "0.0-1.0 "),
+    ("running / running", None, FRESH, 0, ""),
+    ("0 1 send 0 recv 2 choose", None, FRESH, 0, ""),
+    (
+        "0 1 send 0 recv 2 choose / 0 1 send 0 recv 2 choose",
+        None,
+        FRESH,
+        0,
+        "0.0-1.1 1.0-0.1 ",
+    ),
+    (
+        "0 mtake / 0 mtake / 0 mget",
+        Some(8),
+        FRESH,
+        0,
+        "0.0 1.0 2.0 ",
+    ),
+    ("running / 0 mtake / 0 mget", None, FRESH, 0, ""),
+    ("running / 0 mtake / 0 mget", Some(9), FRESH, 0, "1.0 2.0 "),
+    ("running / 0 mtake / running", Some(9), FRESH, 0, "1.0 "),
+    ("running / 0 nack / running", None, FRESH, 0, ""),
+    (
+        "running / 0 nack / 0 nack",
+        None,
+        NackState::Fired,
+        0,
+        "1.0 2.0 ",
+    ),
+    ("running / 0 nack", None, NackState::Held, 0, ""),
+    ("15 at / running", None, FRESH, 14, ""),
+    ("15 at / running", None, FRESH, 15, "0.0 "),
+    ("15 at / 15 at", None, FRESH, 15, "0.0 1.0 "),
+    ("ended / 0 join / 1 join", None, FRESH, 0, "1.0 "),
+    (
+        "0 always 0 recv 2 choose / 0 2 send",
+        None,
+        FRESH,
+        0,
+        "0.0 1.0-0.1 ",
+    ),
+];
+
+// Base events with their lights.
+const LIGHTS: [(&str, Option<Light>); 13] = [
+    ("1 always", None),
+    ("1 1 send", None),
+    ("2 recv", None),
+    ("11 after", None),
+    ("3 iget", Some(Light::IVar(IVarId(3)))),
+    ("4 mtake", Some(Light::MVar(MVarId(4)))),
+    ("5 mget", Some(Light::MVar(MVarId(5)))),
+    ("6 1 mswap", Some(Light::MVar(MVarId(6)))),
+    ("7 mail_recv", Some(Light::Mailbox(MboxId(7)))),
+    ("8 port_recv", Some(Light::Port(PortId(8)))),
+    ("9 join", Some(Light::Thread(Tid(9)))),
+    ("10 at", Some(Light::Tick(10))),
+    ("12 nack", Some(Light::Nack(NackId(12)))),
+];
+
+fn thread(rt: &(impl Abort + AllocGlobal), text: &str) -> ThreadState {
+    match text {
+        "running" => ThreadState::Running,
+        "ended" => ThreadState::Ended,
+        _ => ThreadState::Pending(group(rt, text)),
+    }
+}
+
+fn int(z: i64) -> Value {
+    Value::new(ValueKind::Int(z))
+}
+
+// Threads that do this, and one channel.
+fn world(rt: &(impl Abort + AllocGlobal), threads: &str) -> World {
+    let mut world = World::new(rt.alloc());
+    for text in threads.split(" / ") {
+        let thread = thread(rt, text);
+        world.threads.push(thread).expect(rt, MEMORY);
+    }
+    world.channels = 1;
+    world
+}
+
+fn push_row(rt: &impl Abort, text: &mut String, row: &Meet) {
+    let place = row.place();
+    write!(text, "{}.{}", place.tid.0, place.leaf).expect(rt, MEMORY);
+    if let Meet::Pair {
+        other,
+        other_leaf,
+        ..
+    } = row
+    {
+        write!(text, "-{}.{other_leaf}", other.0).expect(rt, MEMORY);
+    }
+    text.push_str(" ").expect(rt, MEMORY);
+}
+
+fn rows_are(rt: &(impl Abort + AllocGlobal), found: &[Meet], expected: &str) {
+    let mut text = String::new(rt.alloc());
+    for row in found {
+        push_row(rt, &mut text, row);
+    }
+    assert_eq!(rt; text.as_str(), expected);
+    drop(text);
+}
+
+#[test]
+fn rows_of_worlds(rt: HostRuntime) {
+    for (threads, mvar, nack, tick, expected) in WORLDS {
+        let mut world = world(&rt, threads);
+        world.mvars.push(mvar.map(int)).expect(&rt, MEMORY);
+        world.nacks.push(nack).expect(&rt, MEMORY);
+        world.tick = tick;
+        let found = scan(rt.alloc(), &world).expect(&rt, MEMORY);
+        drop(world);
+        rows_are(&rt, &found, expected);
+        drop(found);
+    }
+}
+
+#[test]
+fn lights_of_bases(rt: HostRuntime) {
+    for (text, expected) in LIGHTS {
+        let group = group(&rt, text);
+        let bases = leaf_bases(rt.alloc(), &group).expect(&rt, MEMORY);
+        drop(group);
+        for base in &bases {
+            assert_eq!(rt; light(base), expected, "{text}");
+        }
+        drop(bases);
+    }
+}
+
+fn items(rt: &(impl Abort + AllocGlobal)) -> Vec<Vec<Value>> {
+    let full = Vec::from_array(rt.alloc(), [int(1)]).expect(rt, MEMORY);
+    Vec::from_array(rt.alloc(), [full, Vec::new(rt.alloc())]).expect(rt, MEMORY)
+}
+
+fn values(rt: &(impl Abort + AllocGlobal)) -> Vec<Option<Value>> {
+    Vec::from_array(rt.alloc(), [Some(int(1)), None]).expect(rt, MEMORY)
+}
+
+// Of each kind the object 0 is lit, and the object 1 is not; of object 2 there is none.
+fn half_lit(rt: &(impl Abort + AllocGlobal)) -> World {
+    let mut world = world(rt, "ended / running");
+    world.ivars = values(rt);
+    world.mvars = values(rt);
+    world.mailboxes = items(rt);
+    world.ports = items(rt);
+    world.nacks.push(NackState::Fired).expect(rt, MEMORY);
+    world.nacks.push(NackState::Held).expect(rt, MEMORY);
+    world
+}
+
+fn lights(n: u32) -> [Light; 6] {
+    [
+        Light::IVar(IVarId(n)),
+        Light::MVar(MVarId(n)),
+        Light::Mailbox(MboxId(n)),
+        Light::Port(PortId(n)),
+        Light::Thread(Tid(n)),
+        Light::Nack(NackId(n)),
+    ]
+}
+
+#[test]
+fn lights_of_a_world(rt: HostRuntime) {
+    let world = half_lit(&rt);
+    for (n, expected) in [(0, true), (1, false), (2, false)] {
+        for light in lights(n) {
+            assert_eq!(rt; world.is_lit(light), expected, "{light:?}");
+        }
+    }
+    assert!(rt; world.is_lit(Light::Tick(0)));
+    assert!(rt; !world.is_lit(Light::Tick(1)));
+    drop(world);
+}
+
+// A leaf below a wrap, beside the branch of nack 0, which holds a receive on channel 3.
+const BRANCH: &str = "1 always 0 0 function wrap never 3 recv 2 choose 0 scope 2 choose";
+
+// The leaves of that group, offered by thread 4.
+fn offered(rt: &(impl Abort + AllocGlobal)) -> Vec<Offer> {
+    let group = group(rt, BRANCH);
+    let mut all = Vec::new(rt.alloc());
+    push_offers(rt.alloc(), &mut all, Tid(4), &group).expect(rt, MEMORY);
+    drop(group);
+    all
+}
+
+#[test]
+fn leaves_of_a_group(rt: HostRuntime) {
+    let all = offered(&rt);
+    assert_eq!(rt; all.len(), 2);
+    for (i, offer) in all.iter().enumerate() {
+        assert_eq!(rt; (offer.tid, offer.leaf as usize), (Tid(4), i));
+    }
+    drop(all);
+}
+
+#[test]
+fn rows_of_offers(rt: HostRuntime) {
+    let world = world(&rt, "3 2 send");
+    let mut all = offers(rt.alloc(), &world).expect(&rt, MEMORY);
+    let mut behind = offered(&rt);
+    all.append(&mut behind).expect(&rt, MEMORY);
+    drop(behind);
+    let found = rows(rt.alloc(), &all, &world).expect(&rt, MEMORY);
+    drop(all);
+    drop(world);
+    rows_are(&rt, &found, "4.0 0.0-4.1 ");
+    drop(found);
+}
+
+#[test]
+fn places_of_rows(rt: HostRuntime) {
+    let single = Meet::Single {
+        tid: Tid(1),
+        leaf: 2,
+    };
+    let pair = Meet::Pair {
+        head: Tid(1),
+        head_leaf: 2,
+        other: Tid(3),
+        other_leaf: 4,
+    };
+    let turned = Meet::Pair {
+        head: Tid(3),
+        head_leaf: 4,
+        other: Tid(1),
+        other_leaf: 2,
+    };
+    let place = Place {
+        tid: Tid(1),
+        leaf: 2,
+    };
+    assert!(rt; place.same(&single.place()) && place.same(&pair.place()));
+    assert!(rt; !place.same(&turned.place()));
+    assert!(rt; pair.same(&pair) && !pair.same(&turned) && !pair.same(&single));
+}

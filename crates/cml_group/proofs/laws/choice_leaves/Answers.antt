@@ -1,5 +1,0 @@
-use Rattle.cml_group.proofs.Fired.{leaves_choice}
-use Rattle.cml_group.proofs.laws.choice_leaves.Goals as goal
-
-pub returns : goal.returns
-returns c = leaves_choice

@@ -1,5 +1,0 @@
-use Rattle.cml_group.proofs.Fired.{nacks_choice}
-use Rattle.cml_group.proofs.laws.nacks_by_parts.Goals as goal
-
-pub returns-clause-choice : goal.returns-clause-choice
-returns-clause-choice c = nacks_choice

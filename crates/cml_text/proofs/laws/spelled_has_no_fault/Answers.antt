@@ -1,5 +1,0 @@
-use Rattle.cml_text.proofs.AnswerLemmas.{spelled_no_fault}
-use Rattle.cml_text.proofs.laws.spelled_has_no_fault.Goals as goal
-
-pub returns : goal.returns
-returns c = spelled_no_fault

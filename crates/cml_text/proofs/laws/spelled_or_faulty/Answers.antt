@@ -1,5 +1,0 @@
-use Rattle.cml_text.proofs.WholeLemmas.{spelled_or_faulty}
-use Rattle.cml_text.proofs.laws.spelled_or_faulty.Goals as goal
-
-pub returns : goal.returns
-returns c = spelled_or_faulty
