@@ -4,6 +4,7 @@ use Rattle.std.specs.Prelude.{slice_get}
 use Rattle.std.specs.List.{list_any}
 use Rattle.std.proofs.lemmas.Bool.Decides.{nat_tests}
 use Rattle.cml_value.specs.Group.{PlainGroup, leaf_count, bases, scopes, nacks_of, group_fits}
+use Rattle.cml_group.specs.LaidOut.{max_leaves}
 use Rattle.cml_scan.specs.World.{PlainThread, running, pending_on, ended, PlainWorld}
 use Rattle.cml_book.specs.declared.refusal.Refusal.{Refusal}
 use Rattle.cml_book.specs.declared.refusal.Refusal.TheVariants as refusal
@@ -14,7 +15,7 @@ use Rattle.cml_book.specs.Sync.{group_exists, can_enter, sync_refusal}
 pub record Accepted (w : PlainWorld) (t : ℕ) (g : PlainGroup) : Type 0 where
   pub thread_runs : slice_get w.threads t ≡ Some running
   pub exists : group_exists w g ≡ true
-  pub few : leaf_count g ≤ 256
+  pub few : leaf_count g ≤ max_leaves
   pub fits : group_fits g ≡ true
   pub near : list_any (is_far w.tick) (bases g) ≡ false
   pub enters : can_enter w t (nacks_of (scopes g)) ≡ true
@@ -35,7 +36,7 @@ pub runs_none : (thread : Option PlainThread) → thread_refusal thread ≡ None
 runs_none (Some running) e = refl
 runs_none _ e = cc
 
-few_none : (n : ℕ) → nat_lt 256 n ≡ false → n ≤ 256
+few_none : (n : ℕ) → nat_lt max_leaves n ≡ false → n ≤ max_leaves
 few_none n e = grind (arith, nat_tests)
 
 pub accepted : (w : PlainWorld) (t : ℕ) (g : PlainGroup) → sync_refusal w t g ≡ None → Accepted w t g

@@ -8,7 +8,7 @@ use Rattle.std.proofs.lemmas.Bool.Decides.{nat_tests}
 use Rattle.std.proofs.lemmas.List.{length-map}
 use Rattle.std.proofs.lemmas.List.Elements.{All-nil, All-cons, All-head, All-tail, All-map, All-weaker, Contains-append_left, Contains-append_right}
 use Rattle.cml_value.specs.Value.{PlainValue, unit, PlainBase, always, send, recv, PlainFunction}
-use Rattle.cml_value.specs.Group.{PlainGroup, PlainLeaf, PlainScope, leaves, leaf_count, scopes, nacks_of, lies_outside, fired as fired_nacks}
+use Rattle.cml_value.specs.Group.{PlainGroup, PlainLeaf, PlainScope, leaves, leaf_count, scopes, nacks_of, lies_outside, lost}
 use Rattle.cml_value.specs.declared.number.Tid.{Tid}
 use Rattle.cml_group.specs.Leaves.{pick}
 use Rattle.cml_scan.specs.World.{PlainThread, running, pending_on, ended, PlainWorld, PlainEntry, pending_from}
@@ -184,13 +184,13 @@ lost_there n (s ∷ ss) = at (lies_outside n s) (All-weaker (Contains (nacks_of 
 
 -- so a table whose changes are sure takes them
 pub sure_lights : (gone : List Tid) (ts : List PlainThread) (es : List PlainEntry) (t n : ℕ) (g : PlainGroup) → slice_get ts t ≡ Some (pending_on g) → es ≡ pending_from 0 ts → is_among gone t ≡ true
-    → All (IsNackOf (nacks_among gone es)) (map nack_light (fired_nacks g n))
+    → All (IsNackOf (nacks_among gone es)) (map nack_light (lost g n))
 sure_lights gone ts es t n g waits same goes =
-    All-map (IsNackOf (nacks_among gone es)) nack_light (fired_nacks g n)
-    (All-weaker (Contains (nacks_of (scopes g))) (λ k. IsNackOf (nacks_among gone es) (nack_light k)) (λ k h. rw same (nack_among gone 0 t ts g k waits (ap (is_among gone) (zero-add t) ∙ goes) h)) (fired_nacks g n) (lost_there n (scopes g)))
+    All-map (IsNackOf (nacks_among gone es)) nack_light (lost g n)
+    (All-weaker (Contains (nacks_of (scopes g))) (λ k. IsNackOf (nacks_among gone es) (nack_light k)) (λ k h. rw same (nack_among gone 0 t ts g k waits (ap (is_among gone) (zero-add t) ∙ goes) h)) (lost g n) (lost_there n (scopes g)))
 
 -- the lights that the table is told
-pub told_lights : (before pushed told : List Light) (flat g : PlainGroup) (n : ℕ) → before ≡ [] → flat ≡ g → pushed ≡ before ++ map nack_light (fired_nacks flat n) → told ≡ pushed → told ≡ map nack_light (fired_nacks g n)
+pub told_lights : (before pushed told : List Light) (flat g : PlainGroup) (n : ℕ) → before ≡ [] → flat ≡ g → pushed ≡ before ++ map nack_light (lost flat n) → told ≡ pushed → told ≡ map nack_light (lost g n)
 told_lights before pushed told flat g n none is e f = f ∙ e ∙ rw (none, is) refl
 
 -- the thread is among those that go
@@ -203,17 +203,17 @@ gone_one t = one t.0
 -- what a book keeps when one thread has gone on
 pub keeps_single : (w : PlainWorld) (es : List PlainEntry) (told : Light → Bool) (room : ℕ) (t : Tid) (n : ℕ) (g : PlainGroup) (es' : List PlainEntry) (told' : Light → Bool) (w1 : PlainWorld) (lit : List Light) (room' : ℕ)
     → Keeps w es told room → slice_get w.threads t.0 ≡ Some (pending_on g) → w1 ≡ released w t.0 n
-    → lit ≡ map nack_light (fired_nacks g n) → es' ≡ without (t ∷ []) es → ((l : Light) → told' l ≡ lit_after lit [] l (told l)) → room' ≡ room
+    → lit ≡ map nack_light (lost g n) → es' ≡ without (t ∷ []) es → ((l : Light) → told' l ≡ lit_after lit [] l (told l)) → room' ≡ room
     → Keeps w1 es' told' room'
 keeps_single w es told room t n g es' told' w1 lit room' k waits one lights gone tells size =
     rw (one, size)
-    (keeps_same (released w t.0 n) (without (t ∷ []) es) (λ l. lit_after (map nack_light (fired_nacks g n)) [] l (told l)) room es' told' gone
+    (keeps_same (released w t.0 n) (without (t ∷ []) es) (λ l. lit_after (map nack_light (lost g n)) [] l (told l)) room es' told' gone
     (λ l. tells l ∙ ap (λ x. lit_after x [] l (told l)) lights) (keeps_resume w es told room t n g k waits))
 
 -- what the call for a single answers
 pub single_returns : (w : PlainWorld) (t : Tid) (n : ℕ) (b : PlainBase) (ws : List PlainFunction) (v : PlainValue) (fs : List ℕ) (w1 : PlainWorld) (r : PlainResume)
     → has_row (scan w) (Single t n) ≡ true → pick (group_awaited w t.0) n ≡ Some (record { base = b; wraps = ws })
-    → w1 ≡ released w t.0 n → v ≡ given w1 b → w1 ≡ taken w1 b → fs ≡ fired_nacks (group_awaited w t.0) n
+    → w1 ≡ released w t.0 n → v ≡ given w1 b → w1 ≡ taken w1 b → fs ≡ lost (group_awaited w t.0) n
     → r ≡ record { thread = t.0; value = v; wraps = ws; fired = fs }
     → commit w (Single t n) ≡ Ok (w1, record { head = r; partner = None })
 single_returns w t n b ws v fs w1 r has picked one value same lost made =
@@ -238,23 +238,23 @@ second_waits w es told room h i o j a g w1 k first second differ within one =
 pub keeps_pair : (w : PlainWorld) (es : List PlainEntry) (told : Light → Bool) (room : ℕ) (h : Tid) (i : ℕ) (o : Tid) (j : ℕ) (a g : PlainGroup) (es' : List PlainEntry) (told' : Light → Bool) (w1 w2 : PlainWorld) (lit : List Light) (room' : ℕ)
     → Keeps w es told room → slice_get w.threads h.0 ≡ Some (pending_on a) → slice_get w.threads o.0 ≡ Some (pending_on g) → h.0 ≢ o.0
     → w1 ≡ released w h.0 i → w2 ≡ released w1 o.0 j
-    → lit ≡ map nack_light (fired_nacks a i) ++ map nack_light (fired_nacks g j) → es' ≡ without (h ∷ o ∷ []) es → ((l : Light) → told' l ≡ lit_after lit [] l (told l)) → room' ≡ room
+    → lit ≡ map nack_light (lost a i) ++ map nack_light (lost g j) → es' ≡ without (h ∷ o ∷ []) es → ((l : Light) → told' l ≡ lit_after lit [] l (told l)) → room' ≡ room
     → Keeps w2 es' told' room'
 keeps_pair w es told room h i o j a g es' told' w1 w2 lit room' k first second differ one two lights gone tells size =
     let both : w2 ≡ released (released w h.0 i) o.0 j = two ∙ ap (λ x. released x o.0 j) one in
     let waits : slice_get (released w h.0 i).threads o.0 ≡ Some (pending_on g) = get-set_other w.threads h.0 o.0 running differ ∙ second in
     let k1 = keeps_resume w es told room h i a k first in
-    let k2 = keeps_resume (released w h.0 i) (without (h ∷ []) es) (λ l. lit_after (map nack_light (fired_nacks a i)) [] l (told l)) room o j g k1 waits in
+    let k2 = keeps_resume (released w h.0 i) (without (h ∷ []) es) (λ l. lit_after (map nack_light (lost a i)) [] l (told l)) room o j g k1 waits in
     rw (both, size)
     (keeps_same (released (released w h.0 i) o.0 j) (without (o ∷ []) (without (h ∷ []) es))
-    (λ l. lit_after (map nack_light (fired_nacks g j)) [] l (lit_after (map nack_light (fired_nacks a i)) [] l (told l))) room es' told' (gone ∙ sym (without_two h o es))
-    (λ l. tells l ∙ ap (λ x. lit_after x [] l (told l)) lights ∙ lit_more (map nack_light (fired_nacks a i)) (map nack_light (fired_nacks g j)) l (told l)) k2)
+    (λ l. lit_after (map nack_light (lost g j)) [] l (lit_after (map nack_light (lost a i)) [] l (told l))) room es' told' (gone ∙ sym (without_two h o es))
+    (λ l. tells l ∙ ap (λ x. lit_after x [] l (told l)) lights ∙ lit_more (map nack_light (lost a i)) (map nack_light (lost g j)) l (told l)) k2)
 
 -- what the call for a pair answers
 pub pair_returns : (w : PlainWorld) (h : Tid) (i : ℕ) (o : Tid) (j : ℕ) (b d : PlainBase) (ws us : List PlainFunction) (v u : PlainValue) (fs es : List ℕ) (w1 w2 : PlainWorld) (r q : PlainResume)
     → has_row (scan w) (Pair h i o j) ≡ true → h.0 ≢ o.0 → w1 ≡ released w h.0 i → w2 ≡ released w1 o.0 j
-    → pick (group_awaited w h.0) i ≡ Some (record { base = b; wraps = ws }) → fs ≡ fired_nacks (group_awaited w h.0) i
-    → pick (group_awaited w1 o.0) j ≡ Some (record { base = d; wraps = us }) → es ≡ fired_nacks (group_awaited w1 o.0) j
+    → pick (group_awaited w h.0) i ≡ Some (record { base = b; wraps = ws }) → fs ≡ lost (group_awaited w h.0) i
+    → pick (group_awaited w1 o.0) j ≡ Some (record { base = d; wraps = us }) → es ≡ lost (group_awaited w1 o.0) j
     → u ≡ unit → v ≡ sent b
     → r ≡ record { thread = h.0; value = u; wraps = ws; fired = fs } → q ≡ record { thread = o.0; value = v; wraps = us; fired = es }
     → commit w (Pair h i o j) ≡ Ok (w2, record { head = r; partner = Some q })
@@ -269,8 +269,8 @@ pair_returns w h i o j b d ws us v u fs es w1 w2 r q has differ one two picked1 
     let partner : q ≡ resume w o.0 j (sent (base_awaited w h.0 i)) = made2 ∙ rw (value, base, wraps2, lost2, group2) refl in
     commit_is w (Pair h i o j) has ∙ rw (world, head, partner) refl
 
-pub told_two : (before pushed more told : List Light) (flat1 flat2 a g : PlainGroup) (i j : ℕ) → before ≡ [] → flat1 ≡ a → flat2 ≡ g → pushed ≡ before ++ map nack_light (fired_nacks flat1 i)
-    → more ≡ pushed ++ map nack_light (fired_nacks flat2 j) → told ≡ more → told ≡ map nack_light (fired_nacks a i) ++ map nack_light (fired_nacks g j)
+pub told_two : (before pushed more told : List Light) (flat1 flat2 a g : PlainGroup) (i j : ℕ) → before ≡ [] → flat1 ≡ a → flat2 ≡ g → pushed ≡ before ++ map nack_light (lost flat1 i)
+    → more ≡ pushed ++ map nack_light (lost flat2 j) → told ≡ more → told ≡ map nack_light (lost a i) ++ map nack_light (lost g j)
 told_two before pushed more told flat1 flat2 a g i j none is1 is2 e1 e2 f = f ∙ e2 ∙ rw (e1, none, is1, is2) refl
 
 pub gone_two : (h o : Tid) → (is_among (h ∷ o ∷ []) h.0 ≡ true) × (is_among (h ∷ o ∷ []) o.0 ≡ true)
@@ -295,12 +295,12 @@ few n (s ∷ ss) = at (lies_outside n s) (few n ss)
     at false ih = omega (arith, ih)
 
 -- so there is room for the lights of two groups
-pub room_for_two : (before pushed : List Light) (flat1 flat2 a g : PlainGroup) (i room : ℕ) → before ≡ [] → flat1 ≡ a → flat2 ≡ g → pushed ≡ before ++ map nack_light (fired_nacks flat1 i)
+pub room_for_two : (before pushed : List Light) (flat1 flat2 a g : PlainGroup) (i room : ℕ) → before ≡ [] → flat1 ≡ a → flat2 ≡ g → pushed ≡ before ++ map nack_light (lost flat1 i)
     → 2 * length (scopes a) ≤ room → 2 * length (scopes g) ≤ room → length pushed + length (scopes flat2) ≤ room
 room_for_two before pushed flat1 flat2 a g i room none is1 is2 e fits1 fits2 =
-    let first : pushed ≡ map nack_light (fired_nacks a i) = e ∙ ap (λ x. x ++ map nack_light (fired_nacks flat1 i)) none ∙ ap (λ x. map nack_light (fired_nacks x i)) is1 in
-    let size : length pushed ≡ length (fired_nacks a i) = ap length first ∙ length-map (fired_nacks a i) nack_light in
-    let few_lost : length (fired_nacks a i) ≤ length (scopes a) = few i (scopes a) in
+    let first : pushed ≡ map nack_light (lost a i) = e ∙ ap (λ x. x ++ map nack_light (lost flat1 i)) none ∙ ap (λ x. map nack_light (lost x i)) is1 in
+    let size : length pushed ≡ length (lost a i) = ap length first ∙ length-map (lost a i) nack_light in
+    let few_lost : length (lost a i) ≤ length (scopes a) = few i (scopes a) in
     rw (is2, size) (omega (arith, few_lost, fits1, fits2))
 
 -- a row that is not in the table is refused

@@ -5,7 +5,7 @@ use Rattle.std.proofs.lemmas.List.{length-map, map-append}
 use Rattle.std.proofs.lemmas.List.Folds.{list_any-append}
 use Rattle.std.proofs.lemmas.List.Elements.{All-map}
 use Rattle.cml_value.specs.Value.{PlainBase, always, send, recv, iget, mtake, mget, mswap, mail_recv, port_recv, join, at_tick, after_ticks, nack, PlainFunction}
-use Rattle.cml_value.specs.Limits.{base_depth, base_nodes, function_depth, function_nodes, is_within}
+use Rattle.cml_value.specs.Limits.{base_depth, base_nodes, function_depth, function_nodes, is_within, max_depth, max_nodes}
 use Rattle.cml_value.specs.Group.{PlainGroup, never, leaf, choose, wrap, scope, PlainGroups, no_groups, groups_and, groups, PlainLeaf, wrapped_by, leaves, leaves_of_all, leaf_count, bases, PlainScope, scopes, scopes_from, scopes_from_all, group_depth, groups_depth, group_nodes, groups_nodes, group_fits}
 use Rattle.cml_scan.specs.Light.{light}
 use Rattle.cml_scan.specs.declared.object.Light.TheVariants as of
@@ -107,27 +107,8 @@ mutual
 
 pub group_fits-entered : (tick : ℕ) (g : PlainGroup) → group_fits (entered tick g) ≡ group_fits g
 group_fits-entered tick g =
-    ap (λ (n : ℕ). is_within 64 65536 n (group_nodes (entered tick g))) (group_depth-entered tick g)
-    ∙ ap (λ (n : ℕ). is_within 64 65536 (group_depth g) n) (group_nodes-entered tick g)
-
--- no after is left, so each light that an entered base waits for is told
-pub entered_base-no_after : (tick : ℕ) (b : PlainBase) (d : ℕ) → entered_base tick b ≢ after_ticks d
-entered_base-no_after tick (after_ticks n) d e = cc
-entered_base-no_after tick _ d e = cc
-
--- in an entered group no leaf waits for an after
-pub bases-entered-no_after : (tick : ℕ) (g : PlainGroup) → All (λ b. (d : ℕ) → b ≢ after_ticks d) (bases (entered tick g))
-bases-entered-no_after tick g =
-    let P : List PlainBase → Type 0 = λ bs. All (λ b. (d : ℕ) → b ≢ after_ticks d) bs in
-    subst P (sym (bases-entered tick g)) (All-map (λ (b : PlainBase). (d : ℕ) → b ≢ after_ticks d) (entered_base tick) (bases g) (λ k d _. entered_base-no_after tick (get_or (bases g) k d)))
-
--- the light of an entered after is its tick, and any other base has the light that it had
-pub light-entered_after : (tick d : ℕ) → light (entered_base tick (after_ticks d)) ≡ Some (of.Alarm (tick + d))
-light-entered_after tick d = refl
-
-pub light-entered_base : (tick : ℕ) (b : PlainBase) → ((d : ℕ) → b ≢ after_ticks d) → light (entered_base tick b) ≡ light b
-light-entered_base tick (after_ticks d) h = absurd (h d refl)
-light-entered_base tick _ h = refl
+    ap (λ (n : ℕ). is_within max_depth max_nodes n (group_nodes (entered tick g))) (group_depth-entered tick g)
+    ∙ ap (λ (n : ℕ). is_within max_depth max_nodes (group_depth g) n) (group_nodes-entered tick g)
 
 -- the entered members of a choice, as one term
 pub groups-entered : (tick : ℕ) (gs : List PlainGroup) → groups (map (entered tick) gs) ≡ entered_all tick (groups gs)

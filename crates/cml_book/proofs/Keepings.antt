@@ -4,7 +4,7 @@ use Rattle.std.specs.Prelude.{All, slice_get, slice_set}
 use Rattle.std.specs.List.{filter, list_any}
 use Rattle.std.proofs.lemmas.Bool.Decides.{nat_tests}
 use Rattle.std.proofs.lemmas.List.Elements.{All-cons, All-append, All-filter, All-weaker}
-use Rattle.cml_value.specs.Group.{PlainGroup, scopes, nacks_of, fired as fired_nacks, bases}
+use Rattle.cml_value.specs.Group.{PlainGroup, scopes, nacks_of, lost, bases}
 use Rattle.cml_value.specs.declared.number.Tid.{Tid}
 use Rattle.cml_value.specs.declared.number.ChanId.{ChanId}
 use Rattle.cml_value.specs.declared.number.NackId.{NackId}
@@ -164,14 +164,14 @@ module _ (w : PlainWorld) (es : List PlainEntry) (told : Light → Bool) (room :
 
   -- a pending thread goes on from a leaf, and the nacks that the leaf loses are told to be lit
   pub keeps_resume : (t : Tid) (n : ℕ) (g : PlainGroup) → Keeps w es told room → slice_get w.threads t.0 ≡ Some (pending_on g)
-      → Keeps (released w t.0 n) (without (t ∷ []) es) (λ l. lit_after (map nack_light (fired_nacks g n)) [] l (told l)) room
+      → Keeps (released w t.0 n) (without (t ∷ []) es) (λ l. lit_after (map nack_light (lost g n)) [] l (told l)) room
   keeps_resume t n g k waits =
       let w' : PlainWorld = record w { threads = slice_set w.threads t.0 running; nacks = settled n g w.nacks } in
       let new : pending w' ≡ without (t ∷ []) (pending w) = pending-resume t 0 t.0 w.threads (omega arith) in
       rw waits
       (record {
         told_groups = ap (without (t ∷ [])) k.told_groups ∙ sym new;
-        told_lights = rw new (AgreeFor-without (t ∷ []) (pending w) _ (light_of w') (agree_still (pending w) told (λ l. lit_after (map nack_light (fired_nacks g n)) [] l (told l)) (light_of w) (light_of w') after k.told_lights));
+        told_lights = rw new (AgreeFor-without (t ∷ []) (pending w) _ (light_of w') (agree_still (pending w) told (λ l. lit_after (map nack_light (lost g n)) [] l (told l)) (light_of w) (light_of w') after k.told_lights));
         nacks_live = λ j.
             let a = nacks-resume j 0 t.0 w.threads g waits in
             let b = k.nacks_live j in
@@ -183,11 +183,11 @@ module _ (w : PlainWorld) (es : List PlainEntry) (told : Light → Bool) (room :
       alive : AreLive (nacks_of (scopes g)) w.nacks
       alive = record { each = λ j. let a = nacks-resume j 0 t.0 w.threads g waits in let b = k.nacks_live j in omega arith }
 
-      after : (l : Light) → told l ≡ light_of w l → lit_after (map nack_light (fired_nacks g n)) [] l (told l) ≡ light_of (record w { threads = slice_set w.threads t.0 running; nacks = settled n g w.nacks }) l
-      after (of.Joined u) e = rw (no_nack_light (fired_nacks g n) (of.Joined u) (λ j. refl)) (e ∙ sym (has_ended-set w.threads t.0 u.0 running (ap has_ended waits) refl))
-      after (of.Nack m) e = rw (has_nack_light (fired_nacks g n) m, fired-settled_group n g w.nacks m.0 alive, e) (same (list_any (λ j. nat_eq j m.0) (fired_nacks g n)) (has_fired (slice_get w.nacks m.0)))
+      after : (l : Light) → told l ≡ light_of w l → lit_after (map nack_light (lost g n)) [] l (told l) ≡ light_of (record w { threads = slice_set w.threads t.0 running; nacks = settled n g w.nacks }) l
+      after (of.Joined u) e = rw (no_nack_light (lost g n) (of.Joined u) (λ j. refl)) (e ∙ sym (has_ended-set w.threads t.0 u.0 running (ap has_ended waits) refl))
+      after (of.Nack m) e = rw (has_nack_light (lost g n) m, fired-settled_group n g w.nacks m.0 alive, e) (same (list_any (λ j. nat_eq j m.0) (lost g n)) (has_fired (slice_get w.nacks m.0)))
         where
           same : (a b : Bool) → cond a true b ≡ a || b
           same true b = refl
           same false b = refl
-      after l e = rw (no_nack_light (fired_nacks g n) l (λ j. refl)) e
+      after l e = rw (no_nack_light (lost g n) l (λ j. refl)) e

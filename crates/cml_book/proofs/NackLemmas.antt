@@ -360,12 +360,6 @@ can_enter_fresh t ks ns h = record {
     once k true e = let named : 1 ≤ times_named k ks = grind (arith, nat_tests) in let one = named_once t ks ns k h named in omega arith
     once k false e = grind (arith, nat_tests)
 
-pub first_fresh : (k : ℕ) (ks : List ℕ) (ns : List PlainNack) → AreFresh (k ∷ ks) ns → is_fresh (slice_get ns k) ≡ true
-first_fresh k ks ns h =
-    let one : nat_eq k k ≡ true = grind (arith, nat_tests) in
-    let two = times-named k k ks one in
-    h.each k (omega arith)
-
 -- the others are fresh still, once the first has entered
 pub rest_fresh : (k : ℕ) (ks : List ℕ) (ns : List PlainNack) (n : PlainNack) → AreFresh (k ∷ ks) ns → AreFresh ks (slice_set ns k n)
 rest_fresh k ks ns n h = record { once = λ j. once j (nat_eq k j) refl; each = λ j m. each j m (nat_eq k j) refl }

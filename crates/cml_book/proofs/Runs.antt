@@ -37,12 +37,6 @@ goes_on commands before left replies replies' old now now' c g e told stands = r
   stands = stands ∙ ap (λ w. (step w c).0) g.stands ∙ sym (world_push g.done c old);
 }
 
--- all are done
-pub all_done : (commands left : List Command) (replies : List Reply) (old now : PlainWorld) → Goes commands left replies old now → left ≡ [] → (replies ≡ replies_of commands old) × (now ≡ world_after commands old)
-all_done commands left replies old now g none =
-    let all : g.done ≡ commands = sym (g.split ∙ ap (λ cs. g.done ++ reverse cs) none ∙ append-nil g.done) in
-    (g.told ∙ ap (λ cs. replies_of cs old) all, g.stands ∙ ap (λ cs. world_after cs old) all)
-
 -- the run stops at a command, which comes back with those behind it
 pub stops : (commands before left final : List Command) (replies replies' : List Reply) (old now now' : PlainWorld) (c back : Command) → Goes commands before replies old now → before ≡ left ++ c ∷ []
     → back ≡ c → final ≡ reverse (left ++ back ∷ []) → replies' ≡ replies → now' ≡ now → HasStopped commands replies' final old now'

@@ -1,7 +1,7 @@
 -- A base event that is taken alone in a world without variables, mailboxes and ports.
 use Rattle.std.proofs.Common.{◌≡◌, ◌≢◌, ℕ, List, [], refl}
 use Rattle.cml_value.specs.Value.{PlainValue, unit, PlainBase, always}
-use Rattle.cml_value.specs.Views.{base_of}
+use Rattle.cml_value.specs.Views.{plain_base}
 use Rattle.cml_value.specs.declared.value.BaseKind.{BaseKind}
 use Rattle.cml_value.specs.declared.value.BaseKind.TheVariants as kind
 use Rattle.cml_scan.specs.World.{PlainThread, PlainNack, PlainWorld}
@@ -11,7 +11,7 @@ use Rattle.cml_book.specs.Commit.{given, taken}
 abbrev pub world_of : List PlainThread → ℕ → List PlainNack → ℕ → PlainWorld
 world_of ts c ns tick = record { threads = ts; channels = c; ivars = []; mvars = []; mailboxes = []; mchans = []; ports = []; nacks = ns; tick = tick }
 
-pub no_always : (k : BaseKind) → ((x : PlainValue) → k ≡ kind.Always x → ⊥) → (v : PlainValue) → base_of k ≢ always v
+pub no_always : (k : BaseKind) → ((x : PlainValue) → k ≡ kind.Always x → ⊥) → (v : PlainValue) → plain_base k ≢ always v
 no_always (kind.Always x) h v e = absurd (h x refl)
 no_always _ h v e = cc
 

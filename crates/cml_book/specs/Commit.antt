@@ -1,7 +1,7 @@
 -- The command that takes a row.
 use Rattle.std.specs.Prelude.{ℕ, Bool, true, false, not, List, [], ◌∷◌, Option, Some, None, Ok, slice_get, slice_set}
 use Rattle.cml_value.specs.Value.{PlainValue, PlainFunction, unit, PlainBase, always, send, iget, mtake, mget, mswap, mail_recv, port_recv}
-use Rattle.cml_value.specs.Group.{PlainGroup, never, PlainLeaf, leaves, scopes, nacks_of, fired as fired_nacks}
+use Rattle.cml_value.specs.Group.{PlainGroup, never, PlainLeaf, leaves, scopes, nacks_of, lost}
 use Rattle.cml_scan.specs.World.{PlainThread, running, pending_on, ended, PlainNack, fired, held, PlainWorld}
 use Rattle.cml_scan.specs.Scan.{scan, has_row}
 use Rattle.cml_scan.specs.declared.meet.Meet.{Meet}
@@ -93,7 +93,7 @@ resume w t n v = record {
   thread = t;
   value = v;
   wraps = wraps_or_none (slice_get (leaves (group_awaited w t)) n);
-  fired = fired_nacks (group_awaited w t) n;
+  fired = lost (group_awaited w t) n;
 }
 
 -- What the parties of a row get: the sender unit, the receiver the sent value (Reppy's sendEvt and recvEvt), and a single the value
@@ -105,7 +105,7 @@ hands w (Pair h i o j) = record { head = resume w h.0 i unit; partner = Some (re
 -- The nacks after the leaf of this number was chosen from the group: of its scopes' nacks those that the leaf fires have fired, and the
 -- others are held (Reppy's withNack).
 abbrev pub settled : ℕ → PlainGroup → List PlainNack → List PlainNack
-settled n g nacks = with_each (fired_nacks g n) fired (with_each (nacks_of (scopes g)) held nacks)
+settled n g nacks = with_each (lost g n) fired (with_each (nacks_of (scopes g)) held nacks)
 
 -- the thread goes on from this leaf: it runs, and the nacks of its group are settled
 abbrev pub released : PlainWorld → ℕ → ℕ → PlainWorld

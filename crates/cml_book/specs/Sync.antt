@@ -3,6 +3,7 @@ use Rattle.std.specs.Prelude.{ℕ, ◌==◌, Bool, true, false, not, ◌&&◌, n
 use Rattle.std.specs.List.{list_all, list_any}
 use Rattle.cml_value.specs.Value.{PlainBase, always, send, recv, iget, mtake, mget, mswap, mail_recv, port_recv, join, at_tick, after_ticks, nack}
 use Rattle.cml_value.specs.Group.{PlainGroup, bases, leaf_count, scopes, nacks_of, group_fits}
+use Rattle.cml_group.specs.LaidOut.{max_leaves}
 use Rattle.cml_scan.specs.World.{pending_on, PlainNack, live, PlainWorld}
 use Rattle.cml_signal.specs.NackCell.{is_fresh_of}
 use Rattle.cml_book.specs.declared.refusal.Refusal.{Refusal}
@@ -53,7 +54,7 @@ abbrev pub sync_refusal : PlainWorld → ℕ → PlainGroup → Option Refusal
 sync_refusal w t g =
     first_of_both (thread_refusal (slice_get w.threads t))
     (first_if (not (group_exists w g)) refusal.Object
-    (first_if (nat_lt 256 (leaf_count g)) refusal.Leaves
+    (first_if (nat_lt max_leaves (leaf_count g)) refusal.Leaves
     (first_if (not (group_fits g)) refusal.Deep
     (first_if (list_any (is_far w.tick) (bases g)) refusal.Far
     (first_if (not (can_enter w t (nacks_of (scopes g)))) refusal.Nack None)))))

@@ -2,6 +2,7 @@
 use Rattle.std.specs.Prelude.{ℕ, Bool, true, false, not, nat_lt, Option, Some, None, slice_get}
 use Rattle.std.specs.List.{list_any}
 use Rattle.cml_value.specs.Group.{PlainGroup, bases, leaf_count, group_fits}
+use Rattle.cml_group.specs.LaidOut.{max_leaves}
 use Rattle.cml_scan.specs.World.{PlainThread, running, pending_on, ended, PlainWorld}
 use Rattle.cml_book.specs.declared.refusal.Refusal.{Refusal}
 use Rattle.cml_book.specs.declared.refusal.Refusal.TheVariants as refusal
@@ -19,6 +20,6 @@ abbrev pub shape_refusal : PlainWorld → ℕ → PlainGroup → Option Refusal
 shape_refusal w t g =
     first_of_both (thread_refusal (slice_get w.threads t))
     (first_if (not (group_exists w g)) refusal.Object
-    (first_if (nat_lt 256 (leaf_count g)) refusal.Leaves
+    (first_if (nat_lt max_leaves (leaf_count g)) refusal.Leaves
     (first_if (not (group_fits g)) refusal.Deep
     (first_if (list_any (is_far w.tick) (bases g)) refusal.Far None))))

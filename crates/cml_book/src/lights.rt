@@ -3,6 +3,7 @@
 ghost use Rattle.std.specs.Prelude.{◌≡◌, ◌≤◌, ◌++◌, ◌∷◌, [], true, false, not, IfOk, OnOk};
 ghost use Rattle.std.specs.List.{list_any, filter};
 ghost use Rattle.cml_value.specs.Group.{bases, leaf_count, group_fits};
+ghost use Rattle.cml_group.specs.LaidOut.{max_leaves};
 ghost use Rattle.cml_scan.specs.Light.{light_of};
 ghost use Rattle.cml_book.specs.Entering.{is_far, entered};
 ghost use Rattle.cml_book.specs.Keeping.{lights_in, is_so};
@@ -17,7 +18,7 @@ use std::alloc::{AllocError, Global};
 // The group as it enters at this tick, laid flat.
 fn laid_flat(alloc: Global, group: &Group, tick: u64) -> Result<Flat, AllocError>
     requires near { list_any (is_far tick) (bases group.now) ≡ false }
-    requires few { leaf_count group.now ≤ 256 }
+    requires few { leaf_count group.now ≤ max_leaves }
     requires fits { group_fits group.now ≡ true }
     ensures { IfOk result (λ flat. flat ≡ entered tick group.now) }
 {
@@ -42,7 +43,7 @@ impl State {
     /// The group as it enters now.
     pub fn arrival(&self, alloc: Global, group: &Group) -> Result<Arrival, AllocError>
         requires near { list_any (is_far self.now.tick) (bases group.now) ≡ false }
-        requires few { leaf_count group.now ≤ 256 }
+        requires few { leaf_count group.now ≤ max_leaves }
         requires fits { group_fits group.now ≡ true }
         ensures flat { IfOk result (λ a. a.flat ≡ entered self.now.tick group.now) }
         ensures lit { IfOk result (λ a. a.lit.items ≡ filter (light_of self.now) (lights_in (bases a.flat))) }

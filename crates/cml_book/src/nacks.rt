@@ -2,7 +2,7 @@
 
 ghost use Rattle.std.specs.Prelude.{◌≡◌, ◌<◌, ◌≤◌, ◌+◌, ◌++◌, [], ◌∷◌, length, map, slice_get, slice_set, Some, true, if◌then◌else◌};
 ghost use Rattle.std.specs.Vec.{vec_capacity};
-ghost use Rattle.cml_value.specs.Group.{leaf_count, scopes, nacks_of, fired as fired_nacks};
+ghost use Rattle.cml_value.specs.Group.{leaf_count, scopes, nacks_of, lost};
 ghost use Rattle.cml_value.specs.Nack.{live, fired, held};
 ghost use Rattle.cml_group.specs.Leaves.{numbers};
 ghost use Rattle.cml_book.specs.Commit.{settled};
@@ -18,7 +18,7 @@ use cml_value::NackId;
 pub fn push_lights(lights: &mut Vec<Light>, flat: &Flat, leaf: usize)
     requires leaf { leaf < leaf_count flat.now }
     requires room { length lights.old.items + length (scopes flat.now) ≤ vec_capacity lights.old }
-    ensures lights { lights.new.items ≡ lights.old.items ++ map nack_light (fired_nacks flat.now leaf) }
+    ensures lights { lights.new.items ≡ lights.old.items ++ map nack_light (lost flat.now leaf) }
     ensures room { vec_capacity lights.new ≡ vec_capacity lights.old }
 {
     let nacks = flat.scopes();

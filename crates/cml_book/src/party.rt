@@ -2,7 +2,7 @@
 
 ghost use Rattle.std.specs.Prelude.{◌≡◌, Some, slice_get, slice_set};
 ghost use Rattle.std.specs.Option.{option_copied, option_and_then};
-ghost use Rattle.cml_value.specs.Group.{fired as fired_nacks};
+ghost use Rattle.cml_value.specs.Group.{lost};
 ghost use Rattle.cml_group.specs.Leaves.{pick, numbers};
 ghost use Rattle.cml_book.specs.Commit as spec;
 ghost use Rattle.cml_book.specs.Commit.{awaited, group_awaited, settled, released};
@@ -46,7 +46,7 @@ impl State {
         ensures world { self.new ≡ released self.old thread.0 leaf }
         ensures leaf { pick (group_awaited self.old thread.0) leaf
             ≡ Some (record { base = result.base; wraps = result.wraps.items }) }
-        ensures lost { numbers result.lost.items ≡ fired_nacks (group_awaited self.old thread.0) leaf }
+        ensures lost { numbers result.lost.items ≡ lost (group_awaited self.old thread.0) leaf }
     {
         release(&mut self.threads, &mut self.nacks, thread, leaf)
     }
@@ -73,7 +73,7 @@ fn release(threads: &mut Vec<Thread>, cells: &mut Vec<NackCell>, thread: Tid, le
     ensures nacks { cells.new.items ≡ settled leaf (awaited (slice_get threads.old.items thread.0)) cells.old.items }
     ensures leaf { pick (awaited (slice_get threads.old.items thread.0)) leaf
         ≡ Some (record { base = result.base; wraps = result.wraps.items }) }
-    ensures lost { numbers result.lost.items ≡ fired_nacks (awaited (slice_get threads.old.items thread.0)) leaf }
+    ensures lost { numbers result.lost.items ≡ lost (awaited (slice_get threads.old.items thread.0)) leaf }
 {
     let leaf = leaf as usize;
     let place = thread.0 as usize;

@@ -4,6 +4,7 @@ ghost use Rattle.std.specs.Prelude.{◌≡◌, ◌+◌, ℕ, Bool, not, nat_lt, 
 ghost use Rattle.std.specs.List.{list_all};
 ghost use Rattle.cml_value.specs.Value.{PlainBase};
 ghost use Rattle.cml_value.specs.Group.{bases, scopes, nacks_of, leaf_count};
+ghost use Rattle.cml_group.specs.LaidOut.{max_leaves};
 ghost use Rattle.cml_book.specs.Entering.{is_far};
 ghost use Rattle.cml_book.specs.Sync as spec;
 ghost use Rattle.cml_book.specs.Sync.{base_exists, is_fresh_for};
@@ -98,7 +99,7 @@ fn spend_leaves(group: &Group, budget: usize) -> Option<usize>
 
 /// Whether the group has at most 256 leaves. The walk stops at the first one above.
 pub(crate) fn has_few_leaves(group: &Group) -> bool
-    ensures { result ≡ not (nat_lt 256 (leaf_count group.now)) }
+    ensures { result ≡ not (nat_lt max_leaves (leaf_count group.now)) }
 {
     spend_leaves(group, MAX_LEAVES).is_some()
 }

@@ -1,4 +1,4 @@
 pub mod Leaves
 pub mod Heights
-pub mod Fired
+pub mod Lost
 pub mod Places

@@ -6,7 +6,7 @@ use Rattle.std.proofs.lemmas.List.Sums.{sum_by-cons}
 use Rattle.std.proofs.lemmas.Bool.Decides.{nat_tests}
 use Rattle.cml_value.specs.Group.{PlainGroup, PlainScope, scopes, nacks_of, lies_outside}
 use Rattle.cml_group.specs.Laws.{Holds, FiresAt}
-use Rattle.cml_group.proofs.Fired.{lies_in}
+use Rattle.cml_group.proofs.Lost.{lies_in}
 
 -- the places of the scopes that pass a test, where the first scope has this place
 abbrev places_from : ℕ → (PlainScope → Bool) → List PlainScope → List ℕ

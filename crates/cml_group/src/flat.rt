@@ -2,7 +2,7 @@
 
 ghost use Rattle.std.specs.Prelude.{◌≡◌, ◌≤◌, ◌<◌, length, map, filter, slice_get, IfOk, IfErr};
 ghost use Rattle.std.specs.Vec.{vec_capacity};
-ghost use Rattle.cml_value.specs.Group.{PlainGroup, leaf_count, scopes, nacks_of, lies_outside, fired};
+ghost use Rattle.cml_value.specs.Group.{PlainGroup, leaf_count, scopes, nacks_of, lies_outside, lost};
 ghost use Rattle.cml_group.specs.Leaves.{pick, leaf_base, leaf_wraps, numbers};
 ghost use Rattle.cml_group.specs.LaidOut.{IsWithinLimits};
 ghost use Rattle.cml_group.specs.Faults.{Refuses};
@@ -47,7 +47,7 @@ pub struct Chosen {
     /// The functions that its result goes through, in the order in which they run.
     pub wraps: Vec<FnRef>,
     /// The nacks that fire.
-    pub fired: Vec<NackId>,
+    pub lost: Vec<NackId>,
 }
 
 // Puts the nacks of those branches in which the leaf does not lie into the list, which has room for them.
@@ -150,7 +150,7 @@ impl Flat {
     }
 
     /// Whether the nack of the scope at this place fires where the leaf is chosen: the leaf lies outside the scope.
-    pub fn fires(&self, n: usize, scope: usize) -> bool
+    pub fn loses(&self, n: usize, scope: usize) -> bool
         requires leaf { n < leaf_count self.now }
         requires scope { scope < length (scopes self.now) }
         ensures { slice_get (map (lies_outside n) (scopes self.now)) scope ≡ Some result }
@@ -163,9 +163,9 @@ impl Flat {
     ///
     /// # Errors
     /// Want of memory.
-    pub fn fired(&self, alloc: Global, n: usize) -> Result<Vec<NackId>, AllocError>
+    pub fn lost(&self, alloc: Global, n: usize) -> Result<Vec<NackId>, AllocError>
         requires { n < leaf_count self.now }
-        ensures { IfOk result (λ ks. numbers ks.items ≡ fired self.now n) }
+        ensures { IfOk result (λ ks. numbers ks.items ≡ lost self.now n) }
     {
         let branches = self.branches.as_slice();
         let mut nacks = Vec::with_capacity(alloc, branches.len())?;
@@ -178,7 +178,7 @@ impl Flat {
         requires { n < leaf_count self }
         ensures leaf { pick self n
             ≡ Some (record { base = result.base; wraps = result.wraps.items }) }
-        ensures fired { numbers result.fired.items ≡ fired self n }
+        ensures lost { numbers result.lost.items ≡ lost self n }
     {
         let Flat {
             group: _,
@@ -191,7 +191,7 @@ impl Flat {
         Chosen {
             base,
             wraps,
-            fired: nacks,
+            lost: nacks,
         }
     }
 }

@@ -4,7 +4,7 @@ ghost use Rattle.std.specs.Prelude.{◌≡◌, ℕ, ◌-◌, ◌<◌, ◌≤◌,
 ghost use Rattle.std.specs.List.{flat_map};
 ghost use Rattle.std.specs.Option.{option_map};
 ghost use Rattle.cml_value.specs.Value.{PlainBase, PlainFunction};
-ghost use Rattle.cml_value.specs.Group.{PlainGroup, never, leaf, choose, wrap, scope, groups, leaves, leaf_count, scopes, nacks_of, fired};
+ghost use Rattle.cml_value.specs.Group.{PlainGroup, never, leaf, choose, wrap, scope, groups, leaves, leaf_count, scopes, nacks_of, lost};
 ghost use Rattle.cml_group.specs.Leaves.{pick, leaf_base, leaf_wraps};
 ghost use Rattle.cml_group.specs.Laws.{FiresAt};
 
@@ -35,17 +35,17 @@ pub fn other_scopes_fire()
 /// What choosing a leaf fires, by the parts of the group. In a scope, a leaf in it fires what it fires without the scope, and
 /// any other leaf fires the scope's nack and those of all scopes in it. In a choice, a leaf of the first member fires what it fires
 /// there and all nacks of the others, and a leaf of another member all nacks of the first and what it fires among the others.
-pub fn fired_by_parts()
-    ensures never { (n : ℕ) → fired never n ≡ [] }
-    ensures leaf { (b : PlainBase) (n : ℕ) → fired (leaf b) n ≡ [] }
-    ensures wrap { (g : PlainGroup) (f : PlainFunction) (n : ℕ) → fired (wrap g f) n ≡ fired g n }
-    ensures scope { (k : ℕ) (g : PlainGroup) (n : ℕ) → fired (scope k g) n
-        ≡ (if nat_lt n (leaf_count g) then fired g n else k ∷ nacks_of (scopes g)) }
-    ensures no_choice { (n : ℕ) → fired (choose (groups [])) n ≡ [] }
+pub fn lost_by_parts()
+    ensures never { (n : ℕ) → lost never n ≡ [] }
+    ensures leaf { (b : PlainBase) (n : ℕ) → lost (leaf b) n ≡ [] }
+    ensures wrap { (g : PlainGroup) (f : PlainFunction) (n : ℕ) → lost (wrap g f) n ≡ lost g n }
+    ensures scope { (k : ℕ) (g : PlainGroup) (n : ℕ) → lost (scope k g) n
+        ≡ (if nat_lt n (leaf_count g) then lost g n else k ∷ nacks_of (scopes g)) }
+    ensures no_choice { (n : ℕ) → lost (choose (groups [])) n ≡ [] }
     ensures choice { (g : PlainGroup) (gs : List PlainGroup) (n : ℕ) →
-        fired (choose (groups (g ∷ gs))) n
-        ≡ (if nat_lt n (leaf_count g) then fired g n ++ nacks_of (scopes (choose (groups gs)))
-        else nacks_of (scopes g) ++ fired (choose (groups gs)) (n - leaf_count g)) }
+        lost (choose (groups (g ∷ gs))) n
+        ≡ (if nat_lt n (leaf_count g) then lost g n ++ nacks_of (scopes (choose (groups gs)))
+        else nacks_of (scopes g) ++ lost (choose (groups gs)) (n - leaf_count g)) }
 {}
 
 /// The nacks of all scopes, by the parts of the group: none in never and in a leaf, under a wrap those without it, an outer one

@@ -94,9 +94,3 @@ same_light_self (of.Port a) = alike a.0
 same_light_self (of.Joined a) = alike a.0
 same_light_self (of.Alarm a) = alike a
 same_light_self (of.Nack a) = alike a.0
-
-pub Contains-has_light : (lights : List Light) (l : Light) → has_light lights l ≡ true → Contains lights l
-Contains-has_light lights l e = let any = Any-from_list_any (same_light l) lights e in let same : l ≡ any.1 = same_light_is l any.1 any.4 in rw same (any.0, any.2, any.3)
-
-pub has_light-Contains : (lights : List Light) (l : Light) → Contains lights l → has_light lights l ≡ true
-has_light-Contains lights l h = list_any-from_Any (same_light l) lights (h.0, l, h.1, h.2, same_light_self l)

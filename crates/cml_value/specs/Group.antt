@@ -85,8 +85,8 @@ abbrev pub lies_outside : ℕ → PlainScope → Bool
 lies_outside n s = nat_lt n s.first || nat_le s.past n
 
 -- the nacks that fire where the leaf of this number is chosen: those in whose branch it does not lie (Reppy's withNack)
-abbrev pub fired : PlainGroup → ℕ → List ℕ
-fired g n = nacks_of (filter (lies_outside n) (scopes g))
+abbrev pub lost : PlainGroup → ℕ → List ℕ
+lost g n = nacks_of (filter (lies_outside n) (scopes g))
 
 abbrev mutual
   -- the depth: 1 for never, a leaf as its base event, else one more than the deepest part

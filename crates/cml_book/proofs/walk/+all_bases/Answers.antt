@@ -1,6 +1,6 @@
 use Rattle.std.proofs.Common.{◌≡◌, ap, sym, ◌∙◌, arith}
 use Rattle.cml_value.specs.Group.{choose, groups}
-use Rattle.cml_value.specs.GroupViews.{group_of}
+use Rattle.cml_value.specs.GroupViews.{plain_group}
 use Rattle.cml_book.proofs.Heights.{member_falls}
 use Rattle.cml_book.proofs.Walks.{bases_go_on}
 use Rattle.cml_book.proofs.walk.+all_bases.Goals as goal
@@ -9,7 +9,7 @@ pub all_bases-requires : goal.all_bases-requires
 all_bases-requires g t c lives outlive =
     let gs = c.deref-g-items.result.now in
     let whole : choose (groups gs) ≡ c.args.group.now =
-    ap (λ v. choose (groups v)) (c.deref-g-items.ensures.value ∙ ap (λ v. v.items) c.deref.ensures) ∙ ap group_of (sym c.in-Choose.is) ∙ c.kind.ensures in
+    ap (λ v. choose (groups v)) (c.deref-g-items.ensures.value ∙ ap (λ v. v.items) c.deref.ensures) ∙ ap plain_group (sym c.in-Choose.is) ∙ c.kind.ensures in
     (omega (arith, member_falls gs c.loop-g.g-index c.g-item.result c.args.group.now (omega arith) c.g-item.is whole), outlive)
 
 pub loop-g-preserved : goal.loop-g-preserved

@@ -1,4 +1,4 @@
-use Rattle.cml_group.proofs.Fired.{leaves_choice}
+use Rattle.cml_group.proofs.Lost.{leaves_choice}
 use Rattle.cml_group.proofs.law.choice_leaves.Goals as goal
 
 pub returns : goal.returns

@@ -1,7 +1,7 @@
 use Rattle.std.proofs.Common.{◌≡◌, [], ◌∷◌, length, map, sym, ◌∙◌, ap, refl, arith, subst, All}
 use Rattle.std.specs.Vec.{vec_capacity}
 use Rattle.std.proofs.lemmas.List.Elements.{All-nil, All-cons, All-append}
-use Rattle.cml_value.specs.Group.{fired}
+use Rattle.cml_value.specs.Group.{lost}
 use Rattle.cml_scan.specs.Table.{IsThere, IsNackOf, nacks_among}
 use Rattle.cml_book.specs.Keeping.{nack_light}
 use Rattle.cml_book.proofs.Commits.{pair_parties, flat_is, found, is_there, waits_on, second_waits, sure_lights, told_two, gone_two, two_differ, room_for_two, keeps_pair, pair_returns}
@@ -86,7 +86,7 @@ returns-in_err-changed-clause-sure g c = λ sure wants.
     let es = g.T.Table.entries c.self.inside.table in
     let senders = sure_lights gone w.threads es c.args.head.0 c.args.head_leaf p.sender.group p.sender.waits c.self.invariant.0.told_groups (gone_two c.args.head c.args.other).0 in
     let receivers = sure_lights gone w.threads es c.args.other.0 c.args.other_leaf p.receiver.group p.receiver.waits c.self.invariant.0.told_groups (gone_two c.args.head c.args.other).1 in
-    let all = All-append (IsNackOf (nacks_among gone es)) (map nack_light (fired p.sender.group c.args.head_leaf)) (map nack_light (fired p.receiver.group c.args.other_leaf)) senders receivers in
+    let all = All-append (IsNackOf (nacks_among gone es)) (map nack_light (lost p.sender.group c.args.head_leaf)) (map nack_light (lost p.receiver.group c.args.other_leaf)) senders receivers in
     let ok = c.in_err-changed.ensures.sure sure refl (subst (All (IsNackOf (nacks_among gone es))) (sym lights) all) in
     cc
 

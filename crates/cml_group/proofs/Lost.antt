@@ -4,7 +4,7 @@ use Rattle.std.specs.List.{flat_map}
 use Rattle.std.proofs.lemmas.Bool.Decides.{nat_tests}
 use Rattle.std.proofs.lemmas.List.{map-append}
 use Rattle.std.proofs.lemmas.List.Elements.{filter-append}
-use Rattle.cml_value.specs.Group.{PlainGroup, never, leaf, choose, wrap, scope, PlainGroups, no_groups, groups_and, groups, PlainScope, leaves, leaf_count, scopes, scopes_from, scopes_from_all, nacks_of, lies_outside, fired}
+use Rattle.cml_value.specs.Group.{PlainGroup, never, leaf, choose, wrap, scope, PlainGroups, no_groups, groups_and, groups, PlainScope, leaves, leaf_count, scopes, scopes_from, scopes_from_all, nacks_of, lies_outside, lost}
 use Rattle.cml_group.proofs.Leaves.{leaf_count-wrap, leaf_count-append}
 
 -- how many leaves the groups of a list have
@@ -109,21 +109,21 @@ shift_to first n c r gs e f = rw (e, f) (outside_shifted_of c 0 r gs)
 by_side : {X : Type 0} (n c : ℕ) (r p q : X) → (n < c → r ≡ p) → (c ≤ n → r ≡ q) → r ≡ (if nat_lt n c then p else q)
 by_side n c r p q f g = grind (arith, nat_tests)
 
-pub fired_scope : (k : ℕ) (g : PlainGroup) (n : ℕ) → fired (scope k g) n ≡ (if nat_lt n (leaf_count g) then fired g n else k ∷ nacks_of (scopes g))
-fired_scope k g n =
+pub lost_scope : (k : ℕ) (g : PlainGroup) (n : ℕ) → lost (scope k g) n ≡ (if nat_lt n (leaf_count g) then lost g n else k ∷ nacks_of (scopes g))
+lost_scope k g n =
     let s : PlainScope = record { nack = k; first = 0; past = 0 + leaf_count g } in
     by_side n (leaf_count g) _ _ _
     (λ h. outside_no n s (scopes g) (lies_in n s (omega arith) (omega arith)))
     (λ h. outside_yes n s (scopes g) (lies_out n s (inr (omega arith))) ∙ ap (λ l. k ∷ l) (outside_all 0 n g (inr (omega arith))))
 
-pub fired_choice : (g : PlainGroup) (gs : PlainGroups) (n : ℕ) →
-    fired (choose (groups_and g gs)) n
-    ≡ (if nat_lt n (leaf_count g) then fired g n ++ nacks_of (scopes (choose gs)) else nacks_of (scopes g) ++ fired (choose gs) (n - leaf_count g))
-fired_choice g gs n =
+pub lost_choice : (g : PlainGroup) (gs : PlainGroups) (n : ℕ) →
+    lost (choose (groups_and g gs)) n
+    ≡ (if nat_lt n (leaf_count g) then lost g n ++ nacks_of (scopes (choose gs)) else nacks_of (scopes g) ++ lost (choose gs) (n - leaf_count g))
+lost_choice g gs n =
     let c = leaf_count g in
     outside-append (scopes g) (scopes_from_all (0 + c) gs) n
     ∙ by_side n c _ _ _
-    (λ (h : n < c). ap (λ l. fired g n ++ l) (outside_all_of (0 + c) n gs (inl (omega arith)) ∙ nacks_from_all (0 + c) 0 gs))
+    (λ (h : n < c). ap (λ l. lost g n ++ l) (outside_all_of (0 + c) n gs (inl (omega arith)) ∙ nacks_from_all (0 + c) 0 gs))
     (λ (h : c ≤ n).
     let a = outside_all 0 n g (inr (omega arith)) in
     let b : outside (scopes_from_all (0 + c) gs) n ≡ outside (scopes_from_all 0 gs) (n - c) = shift_to (0 + c) n c (n - c) gs (omega arith) (omega arith) in
