@@ -35,16 +35,9 @@ pub fn value_from(alloc: Global, form: &Sexpr) -> Result<Option<Value>, AllocErr
     match parts {
         [kind, number] => Ok(object_from(keyword_from(kind), number_from(number))),
         [kind, first, second] => {
-            if keyword_from(kind) != Some(Keyword::Pair) {
-                return Ok(None);
-            }
-            let Some(a) = value_from(alloc, first)? else {
-                return Ok(None);
-            };
-            let Some(b) = value_from(alloc, second)? else {
-                return Ok(None);
-            };
-            Ok(Some(Value::pair(alloc, a, b)?))
+            let first = value_from(alloc, first)?;
+            let second = value_from(alloc, second)?;
+            pair_from(alloc, keyword_from(kind), first, second)
         }
         _ => Ok(None),
     }
@@ -72,6 +65,27 @@ fn truth_of(keyword: Option<Keyword>) -> Option<Value>
         Some(Keyword::True) => Some(Value::new(ValueKind::Bool(true))),
         Some(Keyword::False) => Some(Value::new(ValueKind::Bool(false))),
         _ => None,
+    }
+}
+
+// The pair of two values, if they are there, behind the keyword for pairs.
+fn pair_from(
+    alloc: Global,
+    kind: Option<Keyword>,
+    first: Option<Value>,
+    second: Option<Value>,
+) -> Result<Option<Value>, AllocError>
+    ensures { IfOk result (λ value. value ≡ spec.pair_from kind first second) }
+{
+    if kind != Some(Keyword::Pair) {
+        return Ok(None);
+    }
+    let Some(first) = first else {
+        return Ok(None);
+    };
+    match second {
+        Some(second) => Ok(Some(Value::pair(alloc, first, second)?)),
+        None => Ok(None),
     }
 }
 
