@@ -55,7 +55,11 @@ fn input_that_cannot_be_read(rt: HostRuntime) -> Result<(), Fail> {
     assert_eq!(rt; status, 1);
     assert!(rt; out.is_empty());
     assert!(rt; err.as_slice() == b"cannot read input\n".as_slice());
-    drop((words, reader, out, err, store));
+    drop(words);
+    drop(reader);
+    drop(out);
+    drop(err);
+    drop(store);
     Ok(())
 }
 
@@ -76,6 +80,8 @@ fn output_that_cannot_be_written(rt: HostRuntime) -> Result<(), Fail> {
     );
     assert_eq!(rt; status, 1);
     assert!(rt; err.as_slice() == b"cannot write output\n".as_slice());
-    drop((words, err, store));
+    drop(words);
+    drop(err);
+    drop(store);
     Ok(())
 }

@@ -13,4 +13,6 @@ pub mod memory_store;
 #[cfg(test)]
 mod run;
 #[cfg(test)]
+mod stores;
+#[cfg(test)]
 mod words;

@@ -92,7 +92,12 @@ fn holds(rt: &impl Abort, alloc: Global, case: &Case) -> Result<(), Fail> {
         "errors of {name}"
     );
     assert_eq!(rt; status, case.status, "status of {name}");
-    drop((words, input, output, out, err, store));
+    drop(words);
+    drop(input);
+    drop(output);
+    drop(out);
+    drop(err);
+    drop(store);
     Ok(())
 }
 
