@@ -1,6 +1,8 @@
 //! The program: `cml` with the real input, output, errors and files.
 #![tactic(auto)]
 
+ghost use Rattle.cml_host.specs.Stores.{unknown};
+
 use cml_host::input_output::{ReadFault, read_all, write_out};
 use cml_host::{Store, StoreFault, run_command};
 use std::alloc::Global;
@@ -9,18 +11,20 @@ use std::process::ExitCode;
 use std::rt::{Env, Files};
 use std::{env, fs, io};
 
-/// The files of the system.
+/// The files of the system. What they hold is not known, since other programs write to them too.
 #[derive(Drop)]
 struct Disk<'a, R: Files> {
     rt: &'a R,
 }
 
 impl<'a, R: Files> Store for Disk<'a, R> {
+    ghost holds = { λ disk name. unknown };
+
     fn load(&mut self, alloc: Global, name: &str, limit: usize) -> Result<Vec<u8>, StoreFault> {
         let Ok(mut file) = fs::open(self.rt, name) else {
             return Err(StoreFault::Refused);
         };
-        match read_all(alloc, &mut file, limit, (limit as u64).saturating_mul(2)) {
+        match read_all(alloc, &mut file, limit) {
             Ok(mut bytes) => {
                 bytes.truncate(limit.saturating_add(1));
                 Ok(bytes)

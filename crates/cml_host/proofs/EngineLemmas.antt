@@ -16,10 +16,11 @@ use Rattle.cml_text.specs.Faults.{PlainFault}
 use Rattle.cml_text.specs.Texts.{Spells, fault_of}
 use Rattle.cml_text.specs.Laws.{SpelledOrFaulty}
 use Rattle.cml_host.specs.Orders.{Asks, IsBad, order_of}
-use Rattle.cml_host.specs.Answers.{answer_to, world_after, bad_line, lines, Answers, max_input}
+use Rattle.cml_host.specs.Answers.{answer_to, after_order, bad_line, lines, Answers, max_input}
 use Rattle.cml_host.specs.Replies.{line}
 use Rattle.cml_host.specs.Lines.{lines_behind}
-use Rattle.cml_host.specs.Runs.{AreAnswered, AreBegun, FirstBegun, LineAnswered, IsBegun, IsAnswered, IsBroken}
+use Rattle.cml_host.specs.Streams.{Stream, stream, Gives, IsSpent, Takes}
+use Rattle.cml_host.specs.Runs.{AreAnswered, AreBegun, FirstBegun, LineAnswered, IsBegun, IsBroken}
 
 -- Behind these lines, which this text answers, the trace goes on with that number in that world.
 pub record Leads (n : ℕ) (w : PlainWorld) (done : List (List ℕ)) (told : List ℕ) (m : ℕ) (v : PlainWorld) : Type 0 where
@@ -29,7 +30,7 @@ pub Leads-start : (n : ℕ) (w : PlainWorld) → Leads n w [] [] n w
 Leads-start n w = record { goes = λ behind rest end h. h }
 
 pub Leads-step : (n : ℕ) (w : PlainWorld) (done : List (List ℕ)) (told : List ℕ) (m : ℕ) (v : PlainWorld) (first : List ℕ) (what : Order) →
-    Leads n w done told m v → Asks first what → Leads n w (done ++ first ∷ []) (told ++ answer_to what v) (m + 1) (world_after what v)
+    Leads n w done told m v → Asks first what → Leads n w (done ++ first ∷ []) (told ++ answer_to what v) (m + 1) (after_order what v)
 Leads-step n w done told m v first what leads asks = record {
   goes = λ behind rest end h.
       let here : Answers m v (first ∷ behind) (answer_to what v ++ rest) end = inl (what, rest, asks, refl, h) in
@@ -52,9 +53,9 @@ Standing-start n w input held = record { done = []; told = []; split = refl; lea
 
 pub Standing-step : (n : ℕ) (w : PlainWorld) (all : List (List ℕ)) (here : Bor (List ℕ)) (rest : Option (Bor (List ℕ))) (first : List ℕ) (m : ℕ) (v v' : PlainWorld) (held mid holds : Option (List ℕ)) →
     Standing n w all (Some here) m v held mid → lines here.now ≡ first ∷ lines_behind rest →
-    LineAnswered m v v' first mid holds true → Standing n w all rest (m + 1) v' held holds
+    LineAnswered m v v' first (stream mid holds) true → Standing n w all rest (m + 1) v' held holds
 Standing-step n w all here rest first m v v' held mid holds s cut a =
-    let go : Leads n w (s.done ++ first ∷ []) (s.told ++ answer_to a.0 v) (m + 1) (world_after a.0 v) = Leads-step n w s.done s.told m v first a.0 s.leads a.1 in
+    let go : Leads n w (s.done ++ first ∷ []) (s.told ++ answer_to a.0 v) (m + 1) (after_order a.0 v) = Leads-step n w s.done s.told m v first a.0 s.leads a.1 in
     record {
       done = s.done ++ first ∷ [];
       told = s.told ++ answer_to a.0 v;
@@ -65,7 +66,7 @@ Standing-step n w all here rest first m v v' held mid holds s cut a =
 
 pub Standing-bad : (n : ℕ) (w : PlainWorld) (all : List (List ℕ)) (here : Bor (List ℕ)) (rest : Option (Bor (List ℕ))) (first : List ℕ) (m : ℕ) (v v' : PlainWorld) (held mid holds : Option (List ℕ)) →
     Standing n w all (Some here) m v held mid → lines here.now ≡ first ∷ lines_behind rest →
-    LineAnswered m v v' first mid holds false → AreAnswered n w all held holds (Bad m)
+    LineAnswered m v v' first (stream mid holds) false → AreAnswered n w all (stream held holds) (Bad m)
 Standing-bad n w all here rest first m v v' held mid holds s cut a =
     let last : Answers m v (first ∷ lines_behind rest) (bad_line m) (Bad m) = inr (a.0, refl, refl) in
     let whole : Answers n w (s.done ++ first ∷ lines_behind rest) (s.told ++ bad_line m) (Bad m) = s.leads.goes (first ∷ lines_behind rest) (bad_line m) (Bad m) last in
@@ -76,7 +77,7 @@ Standing-bad n w all here rest first m v v' held mid holds s cut a =
     }
 
 pub Standing-done : (n : ℕ) (w : PlainWorld) (all : List (List ℕ)) (m : ℕ) (v : PlainWorld) (held holds : Option (List ℕ)) →
-    Standing n w all None m v held holds → AreAnswered n w all held holds Done
+    Standing n w all None m v held holds → AreAnswered n w all (stream held holds) Done
 Standing-done n w all m v held holds s =
     let whole : Answers n w (s.done ++ []) (s.told ++ []) Done = s.leads.goes [] [] Done (refl, refl) in
     record {
@@ -103,7 +104,7 @@ pub record HasAnswer (n : ℕ) (w : PlainWorld) (all : List (List ℕ)) : Type 0
 has_answer_of : (n : ℕ) (w : PlainWorld) (first : List ℕ) (behind : List (List ℕ)) → ((m : ℕ) (v : PlainWorld) → HasAnswer m v behind) →
     ((what : Order) × Asks first what) ⊎ IsBad first → HasAnswer n w (first ∷ behind)
 has_answer_of n w first behind next (inl asked) =
-    let rest = next (n + 1) (world_after asked.0 w) in
+    let rest = next (n + 1) (after_order asked.0 w) in
     record { text = answer_to asked.0 w ++ rest.text; end = rest.end; answered = inl (asked.0, rest.text, asked.1, refl, rest.answered) }
 has_answer_of n w first behind next (inr bad) = record { text = bad_line n; end = Bad n; answered = inr (bad, refl, refl) }
 
@@ -122,7 +123,7 @@ goes_on law n w [] others text end a =
     let h = has_answer law n w others in
     record { rest = h.text; end = h.end; answered = subst (λ (t : List ℕ). Answers n w others (t ++ h.text) h.end) (sym a.0) h.answered }
 goes_on law n w (first ∷ done) others text end (inl a) =
-    let more = goes_on law (n + 1) (world_after a.0 w) done others a.1 end a.4 in
+    let more = goes_on law (n + 1) (after_order a.0 w) done others a.1 end a.4 in
     record {
       rest = more.rest;
       end = more.end;
@@ -132,7 +133,7 @@ goes_on law n w (first ∷ done) others text end (inr a) =
     record { rest = []; end = Bad n; answered = inr (a.0, append-nil text ∙ a.1, refl) }
 
 -- so a beginning of the one is a beginning of the other
-pub whole_begun : SpelledOrFaulty → (n : ℕ) (w : PlainWorld) (all : List (List ℕ)) (held holds : Option (List ℕ)) → FirstBegun n w all held holds → AreBegun n w all held holds
+pub whole_begun : SpelledOrFaulty → (n : ℕ) (w : PlainWorld) (all : List (List ℕ)) (held holds : Option (List ℕ)) → FirstBegun n w all (stream held holds) → AreBegun n w all (stream held holds)
 whole_begun law n w all held holds f =
     let b = f.begins.begins in
     let more = goes_on law n w f.begins.done f.begins.others b.text b.end b.answered in
@@ -150,7 +151,7 @@ whole_begun law n w all held holds f =
 
 pub Standing-begun : (n : ℕ) (w : PlainWorld) (all : List (List ℕ)) (here : Bor (List ℕ)) (rest : Option (Bor (List ℕ))) (first : List ℕ) (m : ℕ) (v : PlainWorld) (held mid holds : Option (List ℕ)) →
     Standing n w all (Some here) m v held mid → lines here.now ≡ first ∷ lines_behind rest →
-    FirstBegun m v (first ∷ []) mid holds → FirstBegun n w all held holds
+    FirstBegun m v (first ∷ []) (stream mid holds) → FirstBegun n w all (stream held holds)
 Standing-begun n w all here rest first m v held mid holds s cut a =
     let b = a.begins.begins in
     let whole : Answers n w (s.done ++ a.begins.done) (s.told ++ b.text) b.end = s.leads.goes a.begins.done b.text b.end b.answered in
@@ -174,7 +175,7 @@ Standing-begun n w all here rest first m v held mid holds s cut a =
     }
 
 -- nothing was written
-pub FirstBegun-nothing : (n : ℕ) (w : PlainWorld) (all : List (List ℕ)) (held : Option (List ℕ)) → FirstBegun n w all held held
+pub FirstBegun-nothing : (n : ℕ) (w : PlainWorld) (all : List (List ℕ)) (held : Option (List ℕ)) → FirstBegun n w all (stream held held)
 FirstBegun-nothing n w all held = record {
   part = [];
   begins = record { done = []; others = all; split = refl; begins = record { text = []; unwritten = []; end = Done; answered = (refl, refl); begun = refl } };
@@ -186,7 +187,7 @@ take_drop k text = sym (take-append-drop k text)
 
 -- a beginning of a bad line's answer was written
 pub FirstBegun-bad : (n : ℕ) (w : PlainWorld) (first : List ℕ) (held holds : Option (List ℕ)) (k : ℕ) →
-    IsBad first → Appends held holds (take k (bad_line n)) → FirstBegun n w (first ∷ []) held holds
+    IsBad first → Appends held holds (take k (bad_line n)) → FirstBegun n w (first ∷ []) (stream held holds)
 FirstBegun-bad n w first held holds k bad written = record {
   part = take k (bad_line n);
   begins = record {
@@ -206,7 +207,7 @@ FirstBegun-bad n w first held holds k bad written = record {
 
 -- a beginning of what answers a line was written
 pub FirstBegun-told : (n : ℕ) (w : PlainWorld) (first : List ℕ) (what : Order) (held holds : Option (List ℕ)) (k : ℕ) →
-    Asks first what → Appends held holds (take k (answer_to what w)) → FirstBegun n w (first ∷ []) held holds
+    Asks first what → Appends held holds (take k (answer_to what w)) → FirstBegun n w (first ∷ []) (stream held holds)
 FirstBegun-told n w first what held holds k asks written = record {
   part = take k (answer_to what w);
   begins = record {
@@ -229,12 +230,12 @@ on_err (Ok a) p = tt
 on_err (Err e) p = p
 
 -- a beginning of what a trace that is too long is answered was written
-pub IsBegun-too_long : (had left held holds : Option (List ℕ)) (trace : List ℕ) (k : ℕ) → Consumes had left trace → IsAtEnd left ⊎ (max_input < length trace) →
-    max_input < length trace → Appends held holds (take k (line (codes "too long"))) → IsBegun had left held holds
-IsBegun-too_long had left held holds trace k consumed whole long written = record {
+pub IsBegun-too_long : (input output : Stream) (trace : List ℕ) (k : ℕ) → Gives input trace → IsSpent input ⊎ (max_input < length trace) →
+    max_input < length trace → Takes output (take k (line (codes "too long"))) → IsBegun input output
+IsBegun-too_long input output trace k given whole long written = record {
   trace = trace;
   part = take k (line (codes "too long"));
-  came = record { consumed = consumed; whole = whole };
+  came = record { given = given; whole = whole };
   answered = record {
     text = line (codes "too long");
     unwritten = drop k (line (codes "too long"));
@@ -246,18 +247,7 @@ IsBegun-too_long had left held holds trace k consumed whole long written = recor
 }
 
 -- a write failed
-pub broken_write : (r : Result TraceEnd TraceFault) (had left held holds : Option (List ℕ)) → IsErrAnd r (λ fault. fault ≡ Write) → IsBegun had left held holds →
-    IfErr r (IsBroken had left held holds)
-broken_write (Ok a) had left held holds is begun = tt
-broken_write (Err fault) had left held holds is begun = subst (λ (f : TraceFault). IsBroken had left held holds f) (sym is) begun
-
--- a trace that is too long was answered so
-pub IsAnswered-too_long : (had left held holds : Option (List ℕ)) (trace : List ℕ) → Consumes had left trace → IsAtEnd left ⊎ (max_input < length trace) →
-    max_input < length trace → Appends held holds (line (codes "too long")) → IsAnswered had left held holds TooLong
-IsAnswered-too_long had left held holds trace consumed whole long written = record {
-  trace = trace;
-  text = line (codes "too long");
-  came = record { consumed = consumed; whole = whole };
-  answered = inr (long, refl, refl);
-  written = written;
-}
+pub broken_write : (r : Result TraceEnd TraceFault) (input output : Stream) → IsErrAnd r (λ fault. fault ≡ Write) → IsBegun input output →
+    IfErr r (IsBroken input output)
+broken_write (Ok a) input output is begun = tt
+broken_write (Err fault) input output is begun = subst (λ (f : TraceFault). IsBroken input output f) (sym is) begun

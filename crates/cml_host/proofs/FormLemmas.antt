@@ -3,66 +3,66 @@ use Rattle.std.proofs.Common.{◌≡◌, ℕ, ◌<◌, ◌≤◌, List, [], ◌�
 use Rattle.std.specs.Borrow.{Bor}
 use Rattle.cml_text.specs.Forms.{PlainSexpr, plain_list, plain_forms, forms_list, nesting, nesting_of}
 use Rattle.cml_text.specs.declared.sexpr.Span.{Span}
-use Rattle.cml_host.specs.declared.trace.word.Word.{Word}
-use Rattle.cml_host.specs.Words.{head_of, name_in}
-use Rattle.cml_host.specs.ValueForms.{value_in}
-use Rattle.cml_host.specs.GroupForms.{group_in, groups_in, group_by, listed}
+use Rattle.cml_host.specs.declared.trace.keyword.Keyword.{Keyword}
+use Rattle.cml_host.specs.Keywords.{head_of, keyword_from}
+use Rattle.cml_host.specs.ValueForms.{value_from}
+use Rattle.cml_host.specs.GroupForms.{group_from, groups_from, group_by, list_by}
 
 pub forms_list-plain : (forms : List PlainSexpr) → forms_list (plain_forms forms) ≡ forms
 forms_list-plain [] = refl
 forms_list-plain (form ∷ forms) = ap (λ fs. form ∷ fs) (forms_list-plain forms)
 
-pub groups_in-plain : (forms : List PlainSexpr) → groups_in (plain_forms forms) ≡ map group_in forms
-groups_in-plain [] = refl
-groups_in-plain (form ∷ forms) = ap (λ gs. group_in form ∷ gs) (groups_in-plain forms)
+pub groups_from-plain : (forms : List PlainSexpr) → groups_from (plain_forms forms) ≡ map group_from forms
+groups_from-plain [] = refl
+groups_from-plain (form ∷ forms) = ap (λ gs. group_from form ∷ gs) (groups_from-plain forms)
 
 -- a list of 1 form, or of more than 3, is no value
-pub value_in-one : (span : Span) (forms : List PlainSexpr) → length forms ≡ 1 → None ≡ value_in (plain_list span (plain_forms forms))
-value_in-one span [] n = absurd (omega arith)
-value_in-one span (a ∷ []) n = refl
-value_in-one span (a ∷ b ∷ forms) n = absurd (omega arith)
+pub value_from-one : (span : Span) (forms : List PlainSexpr) → length forms ≡ 1 → None ≡ value_from (plain_list span (plain_forms forms))
+value_from-one span [] n = absurd (omega arith)
+value_from-one span (a ∷ []) n = refl
+value_from-one span (a ∷ b ∷ forms) n = absurd (omega arith)
 
-pub value_in-long : (span : Span) (forms : List PlainSexpr) → 4 ≤ length forms → None ≡ value_in (plain_list span (plain_forms forms))
-value_in-long span [] n = absurd (omega arith)
-value_in-long span (a ∷ []) n = absurd (omega arith)
-value_in-long span (a ∷ b ∷ []) n = absurd (omega arith)
-value_in-long span (a ∷ b ∷ c ∷ []) n = absurd (omega arith)
-value_in-long span (a ∷ b ∷ c ∷ d ∷ forms) n = refl
+pub value_from-long : (span : Span) (forms : List PlainSexpr) → 4 ≤ length forms → None ≡ value_from (plain_list span (plain_forms forms))
+value_from-long span [] n = absurd (omega arith)
+value_from-long span (a ∷ []) n = absurd (omega arith)
+value_from-long span (a ∷ b ∷ []) n = absurd (omega arith)
+value_from-long span (a ∷ b ∷ c ∷ []) n = absurd (omega arith)
+value_from-long span (a ∷ b ∷ c ∷ d ∷ forms) n = refl
 
 -- the group of a list, by what stands at its head
-pub group_in-list : (span : Span) (forms : List PlainSexpr) → group_in (plain_list span (plain_forms forms)) ≡ listed (head_of forms) (map group_in forms)
-group_in-list span forms = ap (λ fs. listed (head_of fs) (groups_in (plain_forms forms))) (forms_list-plain forms) ∙ ap (λ gs. listed (head_of forms) gs) (groups_in-plain forms)
+pub group_from-list : (span : Span) (forms : List PlainSexpr) → group_from (plain_list span (plain_forms forms)) ≡ list_by (head_of forms) (map group_from forms)
+group_from-list span forms = ap (λ fs. list_by (head_of fs) (groups_from (plain_forms forms))) (forms_list-plain forms) ∙ ap (λ gs. list_by (head_of forms) gs) (groups_from-plain forms)
 
-tail_of : (first : PlainSexpr) (rest : List PlainSexpr) (o : Option Word) (word : Word) (behind : List PlainSexpr) →
-    option_map {U = Word × List PlainSexpr} (λ w. (w, rest)) o ≡ Some (word, behind) → rest ≡ behind
-tail_of first rest None word behind e = cc
-tail_of first rest (Some w) word behind e =
-    let same : (w, rest) ≡ (word, behind) = cc in
-    ap (λ (p : Word × List PlainSexpr). p.1) same
+tail_of : (first : PlainSexpr) (rest : List PlainSexpr) (o : Option Keyword) (keyword : Keyword) (behind : List PlainSexpr) →
+    option_map {U = Keyword × List PlainSexpr} (λ w. (w, rest)) o ≡ Some (keyword, behind) → rest ≡ behind
+tail_of first rest None keyword behind e = cc
+tail_of first rest (Some w) keyword behind e =
+    let same : (w, rest) ≡ (keyword, behind) = cc in
+    ap (λ (p : Keyword × List PlainSexpr). p.1) same
 
 -- the groups of the forms behind the head
-pub groups_behind : (forms : List PlainSexpr) (word : Word) (behind : List PlainSexpr) → head_of forms ≡ Some (word, behind) → drop 1 (map group_in forms) ≡ map group_in behind
-groups_behind [] word behind e = cc
-groups_behind (first ∷ rest) word behind e = ap (λ fs. map group_in fs) (tail_of first rest (name_in first) word behind e)
+pub groups_behind : (forms : List PlainSexpr) (keyword : Keyword) (behind : List PlainSexpr) → head_of forms ≡ Some (keyword, behind) → drop 1 (map group_from forms) ≡ map group_from behind
+groups_behind [] keyword behind e = cc
+groups_behind (first ∷ rest) keyword behind e = ap (λ fs. map group_from fs) (tail_of first rest (keyword_from first) keyword behind e)
 
 -- the forms behind the head are no deeper than all
-pub nesting_behind : (forms : List PlainSexpr) (word : Word) (behind : List PlainSexpr) → head_of forms ≡ Some (word, behind) → nesting_of (plain_forms behind) ≤ nesting_of (plain_forms forms)
-nesting_behind [] word behind e = cc
-nesting_behind (first ∷ rest) word behind e =
-    let same : nesting_of (plain_forms rest) ≡ nesting_of (plain_forms behind) = ap (λ fs. nesting_of (plain_forms fs)) (tail_of first rest (name_in first) word behind e) in
+pub nesting_behind : (forms : List PlainSexpr) (keyword : Keyword) (behind : List PlainSexpr) → head_of forms ≡ Some (keyword, behind) → nesting_of (plain_forms behind) ≤ nesting_of (plain_forms forms)
+nesting_behind [] keyword behind e = cc
+nesting_behind (first ∷ rest) keyword behind e =
+    let same : nesting_of (plain_forms rest) ≡ nesting_of (plain_forms behind) = ap (λ fs. nesting_of (plain_forms fs)) (tail_of first rest (keyword_from first) keyword behind e) in
     omega arith
 
--- the group of a list with a word at its head
-pub group_in-headed : (span : Span) (forms : List PlainSexpr) (o : Option (Word × Bor (List PlainSexpr))) →
+-- the group of a list with a keyword at its head
+pub group_from-headed : (span : Span) (forms : List PlainSexpr) (o : Option (Keyword × Bor (List PlainSexpr))) →
     option_map (λ head. (head.0, head.1.now)) o ≡ head_of forms →
-    IfSome o (λ head. group_in (plain_list span (plain_forms forms)) ≡ group_by head.0 head.1.now (map group_in head.1.now))
-group_in-headed span forms None e = tt
-group_in-headed span forms (Some head) e =
-    group_in-list span forms
-    ∙ ap (λ h. listed h (map group_in forms)) (sym e)
+    IfSome o (λ head. group_from (plain_list span (plain_forms forms)) ≡ group_by head.0 head.1.now (map group_from head.1.now))
+group_from-headed span forms None e = tt
+group_from-headed span forms (Some head) e =
+    group_from-list span forms
+    ∙ ap (λ h. list_by h (map group_from forms)) (sym e)
     ∙ ap (λ gs. group_by head.0 head.1.now gs) (groups_behind forms head.0 head.1.now (sym e))
 
-pub nesting-headed : (span : Span) (forms : List PlainSexpr) (o : Option (Word × Bor (List PlainSexpr))) →
+pub nesting-headed : (span : Span) (forms : List PlainSexpr) (o : Option (Keyword × Bor (List PlainSexpr))) →
     option_map (λ head. (head.0, head.1.now)) o ≡ head_of forms →
     IfSome o (λ head. nesting_of (plain_forms head.1.now) < nesting (plain_list span (plain_forms forms)))
 nesting-headed span forms None e = tt

@@ -5,4 +5,4 @@ mod FormLemmas
 mod LineLemmas
 mod SayLemmas
 mod OneAnswerLemmas
-mod WordLemmas
+mod KeywordLemmas

@@ -9,7 +9,7 @@ use Rattle.cml_host.specs.declared.trace.engine.TraceEnd.{TraceEnd}
 use Rattle.cml_host.specs.declared.trace.engine.TraceEnd.TheVariants.{TooLong}
 use Rattle.cml_host.specs.Orders.{Asks, IsBad, order_of}
 use Rattle.cml_host.specs.Replies.{line}
-use Rattle.cml_host.specs.Answers.{answer_to, world_after, lines, Answers, max_input, AnswersTrace}
+use Rattle.cml_host.specs.Answers.{answer_to, after_order, lines, Answers, max_input, AnswersTrace}
 use Rattle.cml_host.specs.Laws.{OneAnswer, HasOneAnswer}
 use Rattle.cml_host.proofs.EngineLemmas.{has_answer}
 
@@ -36,8 +36,8 @@ pub answers_one : SpellsOneAtMost → SpelledHasNoFault → (n : ℕ) (w : Plain
 answers_one once faultless n w [] text other end way x y = record { texts = y.0 ∙ sym x.0; ends = y.1 ∙ sym x.1 }
 answers_one once faultless n w (first ∷ behind) text other end way (inl x) (inl y) =
     let same : y.0 ≡ x.0 = asks_one once first y.0 x.0 y.2 x.2 in
-    let moved : Answers (n + 1) (world_after x.0 w) behind y.1 way = subst (λ (o : Order). Answers (n + 1) (world_after o w) behind y.1 way) same y.4 in
-    let next = answers_one once faultless (n + 1) (world_after x.0 w) behind x.1 y.1 end way x.4 moved in
+    let moved : Answers (n + 1) (after_order x.0 w) behind y.1 way = subst (λ (o : Order). Answers (n + 1) (after_order o w) behind y.1 way) same y.4 in
+    let next = answers_one once faultless (n + 1) (after_order x.0 w) behind x.1 y.1 end way x.4 moved in
     record {
       texts = y.3 ∙ ap (λ o. answer_to o w ++ y.1) same ∙ ap (λ t. answer_to x.0 w ++ t) next.texts ∙ sym x.3;
       ends = next.ends;

@@ -1,15 +1,14 @@
 -- What was written of a text.
-use Rattle.std.proofs.Common.{ℕ, List, [], Option, Result, Ok, Err, OnOk, OnErr, take, drop, sym, append-nil}
+use Rattle.std.proofs.Common.{ℕ, List, [], Result, Ok, Err, OnOk, OnErr, take, drop, sym, append-nil}
 use Rattle.std.proofs.lemmas.List.{take-append-drop}
-use Rattle.std.specs.Io.KnownBytes.{Appends}
-use Rattle.cml_host.specs.Statuses.{Says}
+use Rattle.cml_host.specs.Streams.{Stream, Takes, TakesStart}
 
 -- a first part of it was written
-pub says_part : (held holds : Option (List ℕ)) (text : List ℕ) (n : ℕ) → Appends held holds (take n text) → Says held holds text
-says_part held holds text n written = (take n text, drop n text, sym (take-append-drop n text), written)
+pub start_taken : (output : Stream) (text : List ℕ) (n : ℕ) → Takes output (take n text) → TakesStart output text
+start_taken output text n written = (take n text, drop n text, sym (take-append-drop n text), written)
 
 -- all of it was written, or a first part
-pub says_of : {A B : Type 0} (r : Result A B) (held holds : Option (List ℕ)) (text : List ℕ) →
-    OnOk r (Appends held holds text) → OnErr r ((n : ℕ) × Appends held holds (take n text)) → Says held holds text
-says_of (Ok a) held holds text whole part = (text, [], sym (append-nil text), whole)
-says_of (Err e) held holds text whole part = says_part held holds text part.0 part.1
+pub start_of : {A B : Type 0} (r : Result A B) (output : Stream) (text : List ℕ) →
+    OnOk r (Takes output text) → OnErr r ((n : ℕ) × Takes output (take n text)) → TakesStart output text
+start_of (Ok a) output text whole part = (text, [], sym (append-nil text), whole)
+start_of (Err e) output text whole part = start_taken output text part.0 part.1

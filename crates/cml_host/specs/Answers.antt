@@ -22,10 +22,10 @@ answer_to order.Rows w = rows_text (scan w)
 answer_to (order.Do c) w = reply_text (step w c).1
 
 -- the world after it
-abbrev pub world_after : Order → PlainWorld → PlainWorld
-world_after order.Skip w = w
-world_after order.Rows w = w
-world_after (order.Do c) w = (step w c).0
+abbrev pub after_order : Order → PlainWorld → PlainWorld
+after_order order.Skip w = w
+after_order order.Rows w = w
+after_order (order.Do c) w = (step w c).0
 
 -- what the bad line of this number is answered
 abbrev pub bad_line : ℕ → List ℕ
@@ -36,7 +36,8 @@ bad_line n = line (codes "bad" ++ spaced n)
 abbrev pub Answers : ℕ → PlainWorld → List (List ℕ) → List ℕ → TraceEnd → Type 0
 Answers n w [] text end = (text ≡ []) × (end ≡ Done)
 Answers n w (first ∷ behind) text end =
-    ((what : Order) × (rest : List ℕ) × Asks first what × (text ≡ answer_to what w ++ rest) × Answers (n + 1) (world_after what w) behind rest end)
+    ((what : Order) × (rest : List ℕ) × Asks first what × (text ≡ answer_to what w ++ rest)
+    × Answers (n + 1) (after_order what w) behind rest end)
     ⊎ (IsBad first × (text ≡ bad_line n) × (end ≡ Bad n))
 
 -- the most bytes of a trace

@@ -1,8 +1,8 @@
--- What holds of every word and of every trace.
+-- What holds of every keyword and of every trace.
 use Rattle.std.specs.Prelude.{◌≡◌, ℕ, List, Some}
 use Rattle.cml_host.specs.declared.trace.engine.TraceEnd.{TraceEnd}
-use Rattle.cml_host.specs.declared.trace.word.Word.{Word}
-use Rattle.cml_host.specs.Words.{spelling, word_of}
+use Rattle.cml_host.specs.declared.trace.keyword.Keyword.{Keyword}
+use Rattle.cml_host.specs.Keywords.{spelling, keyword_of}
 use Rattle.cml_host.specs.Answers.{AnswersTrace}
 
 -- a text and an end that answer the trace, and that are the only ones
@@ -17,6 +17,6 @@ pub record OneAnswer (trace : List ℕ) : Type 0 where
 abbrev pub HasOneAnswer : Type 0
 HasOneAnswer = (trace : List ℕ) → OneAnswer trace
 
--- every word is the one that its spelling names
-abbrev pub SpellingNamesWord : Type 0
-SpellingNamesWord = (word : Word) → word_of (spelling word) ≡ Some word
+-- every keyword is the one that its spelling names
+abbrev pub SpellingNamesKeyword : Type 0
+SpellingNamesKeyword = (keyword : Keyword) → keyword_of (spelling keyword) ≡ Some keyword

@@ -1,4 +1,4 @@
-pub mod Words
+pub mod Keywords
 pub mod Given
 pub mod ValueForms
 pub mod GroupForms
@@ -6,6 +6,8 @@ pub mod Orders
 pub mod Replies
 pub mod Answers
 pub mod Lines
+pub mod Streams
+pub mod Stores
 pub mod Runs
 pub mod Statuses
 pub mod Laws

@@ -7,14 +7,14 @@ use Rattle.cml_book.specs.declared.command.Command.TheVariants as command
 use Rattle.cml_text.specs.Faults.{PlainFault}
 use Rattle.cml_text.specs.Forms.{PlainSexpr}
 use Rattle.cml_text.specs.Texts.{Spells, fault_of}
-use Rattle.cml_host.specs.declared.trace.word.Word.{Word}
-use Rattle.cml_host.specs.declared.trace.word.Word.TheVariants as word
+use Rattle.cml_host.specs.declared.trace.keyword.Keyword.{Keyword}
+use Rattle.cml_host.specs.declared.trace.keyword.Keyword.TheVariants as keyword
 use Rattle.cml_host.specs.declared.trace.order.Order.{Order}
 use Rattle.cml_host.specs.declared.trace.order.Order.TheVariants as order
-use Rattle.cml_host.specs.Words.{head_of}
+use Rattle.cml_host.specs.Keywords.{head_of}
 use Rattle.cml_host.specs.Given.{both}
-use Rattle.cml_host.specs.ValueForms.{number_in}
-use Rattle.cml_host.specs.GroupForms.{group_in}
+use Rattle.cml_host.specs.ValueForms.{number_from}
+use Rattle.cml_host.specs.GroupForms.{group_from}
 
 -- a row of one leaf: its thread and its number
 abbrev pub single : ℕ → ℕ → Meet
@@ -26,28 +26,29 @@ pair head other = Pair (record { 0 = head.0 }) head.1 (record { 0 = other.0 }) o
 
 -- a thread and a leaf
 abbrev pub place : PlainSexpr → PlainSexpr → Option (ℕ × ℕ)
-place t n = both (λ thread leaf. (thread, leaf)) (number_in t) (number_in n)
+place t n = both (λ thread leaf. (thread, leaf)) (number_from t) (number_from n)
 
--- the command that these forms behind its word are
-abbrev pub command_by : Word → List PlainSexpr → Option Command
-command_by word.Spawn [] = Some command.Spawn
-command_by word.Chan [] = Some command.MakeChan
-command_by word.Nack (t ∷ []) = option_map (λ thread. command.Nack (record { 0 = thread })) (number_in t)
-command_by word.Sync (t ∷ g ∷ []) = both (λ thread group. command.Sync (record { 0 = thread }) group) (number_in t) (group_in g)
-command_by word.Commit (t ∷ n ∷ []) = both (λ thread leaf. command.Commit (single thread leaf)) (number_in t) (number_in n)
-command_by word.Commit (t ∷ n ∷ u ∷ m ∷ []) = both (λ head other. command.Commit (pair head other)) (place t n) (place u m)
-command_by word.End (t ∷ []) = option_map (λ thread. command.End (record { 0 = thread })) (number_in t)
+-- the command that these forms behind its keyword are
+abbrev pub command_by : Keyword → List PlainSexpr → Option Command
+command_by keyword.Spawn [] = Some command.Spawn
+command_by keyword.Chan [] = Some command.MakeChan
+command_by keyword.Nack (t ∷ []) = option_map (λ thread. command.Nack (record { 0 = thread })) (number_from t)
+command_by keyword.Sync (t ∷ g ∷ []) =
+    both (λ thread group. command.Sync (record { 0 = thread }) group) (number_from t) (group_from g)
+command_by keyword.Commit (t ∷ n ∷ []) = both (λ thread leaf. command.Commit (single thread leaf)) (number_from t) (number_from n)
+command_by keyword.Commit (t ∷ n ∷ u ∷ m ∷ []) = both (λ head other. command.Commit (pair head other)) (place t n) (place u m)
+command_by keyword.End (t ∷ []) = option_map (λ thread. command.End (record { 0 = thread })) (number_from t)
 command_by _ forms = None
 
--- the rows are asked for by their word alone, with no form behind it
+-- the rows are asked for by their keyword alone, with no form behind it
 abbrev pub rows_by : List PlainSexpr → Option Order
 rows_by [] = Some order.Rows
 rows_by (form ∷ forms) = None
 
--- what these forms behind their word ask for, if they ask for anything: the rows, or a command
-abbrev pub order_by : Word → List PlainSexpr → Option Order
-order_by word.Rows forms = rows_by forms
-order_by word forms = option_map order.Do (command_by word forms)
+-- what these forms behind their keyword ask for, if they ask for anything: the rows, or a command
+abbrev pub order_by : Keyword → List PlainSexpr → Option Order
+order_by keyword.Rows forms = rows_by forms
+order_by keyword forms = option_map order.Do (command_by keyword forms)
 
 -- what the forms of a line ask for, if they ask for anything: a line without forms asks for nothing to be done
 abbrev pub order_of : List PlainSexpr → Option Order
@@ -60,4 +61,6 @@ Asks line what = (forms : List PlainSexpr) × Spells line forms × (order_of for
 
 -- the line is at fault as a text, or its forms ask for nothing that there is
 abbrev pub IsBad : List ℕ → Type 0
-IsBad line = ((fault : PlainFault) × (fault_of line ≡ Some fault)) ⊎ ((forms : List PlainSexpr) × Spells line forms × (order_of forms ≡ None))
+IsBad line =
+    ((fault : PlainFault) × (fault_of line ≡ Some fault))
+    ⊎ ((forms : List PlainSexpr) × Spells line forms × (order_of forms ≡ None))

@@ -1,6 +1,5 @@
 -- What a run of the engine did: which bytes came, and which text was written.
-use Rattle.std.specs.Prelude.{◌≡◌, ◌⊎◌, ℕ, ◌<◌, Bool, true, false, List, ◌++◌, length, codes, Option}
-use Rattle.std.specs.Io.KnownBytes.{Appends, Consumes, IsAtEnd, Keeps}
+use Rattle.std.specs.Prelude.{◌≡◌, ◌⊎◌, ℕ, ◌<◌, Bool, true, false, List, ◌++◌, length}
 use Rattle.cml_scan.specs.World.{PlainWorld}
 use Rattle.cml_book.specs.Step.{empty_world}
 use Rattle.cml_host.specs.declared.input_output.ReadFault.{ReadFault}
@@ -10,8 +9,8 @@ use Rattle.cml_host.specs.declared.trace.engine.TraceEnd.{TraceEnd}
 use Rattle.cml_host.specs.declared.trace.engine.TraceFault.{TraceFault}
 use Rattle.cml_host.specs.declared.trace.engine.TraceFault.TheVariants.{Read, Turns, Write, Memory}
 use Rattle.cml_host.specs.Orders.{Asks, IsBad}
-use Rattle.cml_host.specs.Replies.{line}
-use Rattle.cml_host.specs.Answers.{answer_to, world_after, bad_line, lines, Answers, max_input, AnswersTrace}
+use Rattle.cml_host.specs.Streams.{Stream, Gives, IsSpent, Takes, IsUntouched}
+use Rattle.cml_host.specs.Answers.{answer_to, after_order, bad_line, lines, Answers, max_input, AnswersTrace}
 
 -- the text is a beginning of what answers these lines
 pub record BeginsAnswer (n : ℕ) (w : PlainWorld) (all : List (List ℕ)) (part : List ℕ) : Type 0 where
@@ -29,35 +28,34 @@ pub record BeginsFirst (n : ℕ) (w : PlainWorld) (all : List (List ℕ)) (part 
   pub begins : BeginsAnswer n w done part
 
 -- the lines were answered, and the text that answers them was written
-pub record AreAnswered (n : ℕ) (w : PlainWorld) (all : List (List ℕ)) (held holds : Option (List ℕ)) (end : TraceEnd) : Type 0 where
+pub record AreAnswered (n : ℕ) (w : PlainWorld) (all : List (List ℕ)) (output : Stream) (end : TraceEnd) : Type 0 where
   pub text : List ℕ
   pub answered : Answers n w all text end
-  pub written : Appends held holds text
+  pub written : Takes output text
 
 -- a beginning of what answers the lines was written
-pub record AreBegun (n : ℕ) (w : PlainWorld) (all : List (List ℕ)) (held holds : Option (List ℕ)) : Type 0 where
+pub record AreBegun (n : ℕ) (w : PlainWorld) (all : List (List ℕ)) (output : Stream) : Type 0 where
   pub part : List ℕ
   pub begins : BeginsAnswer n w all part
-  pub written : Appends held holds part
+  pub written : Takes output part
 
 -- a beginning of what answers the first of the lines was written
-pub record FirstBegun (n : ℕ) (w : PlainWorld) (all : List (List ℕ)) (held holds : Option (List ℕ)) : Type 0 where
+pub record FirstBegun (n : ℕ) (w : PlainWorld) (all : List (List ℕ)) (output : Stream) : Type 0 where
   pub part : List ℕ
   pub begins : BeginsFirst n w all part
-  pub written : Appends held holds part
+  pub written : Takes output part
 
 -- A line was answered, and the text of that written. The trace goes on in the world after it; or the line is bad.
-abbrev pub LineAnswered : ℕ → PlainWorld → PlainWorld → List ℕ → Option (List ℕ) → Option (List ℕ) → Bool → Type 0
-LineAnswered n old new first held holds true =
-    (what : Order) × Asks first what × (new ≡ world_after what old) × Appends held holds (answer_to what old)
-LineAnswered n old new first held holds false = IsBad first × Appends held holds (bad_line n)
+abbrev pub LineAnswered : ℕ → PlainWorld → PlainWorld → List ℕ → Stream → Bool → Type 0
+LineAnswered n old new first output true =
+    (what : Order) × Asks first what × (new ≡ after_order what old) × Takes output (answer_to what old)
+LineAnswered n old new first output false = IsBad first × Takes output (bad_line n)
 
 -- the fault is one of a write or of memory
 abbrev pub IsWriteOrMemory : TraceFault → Type 0
 IsWriteOrMemory Read = ⊥
 IsWriteOrMemory Turns = ⊥
-IsWriteOrMemory Write = Unit {0}
-IsWriteOrMemory Memory = Unit {0}
+IsWriteOrMemory _ = Unit {0}
 
 -- the fault of a trace whose input was not read
 abbrev pub read_fault : ReadFault → TraceFault
@@ -65,18 +63,18 @@ read_fault read.Read = Read
 read_fault read.Turns = Turns
 read_fault read.Memory = Memory
 
--- the bytes came from the reader, and they are all that it had, or more than a trace can have
-pub record Came (had left : Option (List ℕ)) (bytes : List ℕ) : Type 0 where
-  pub consumed : Consumes had left bytes
-  pub whole : IsAtEnd left ⊎ (max_input < length bytes)
+-- the bytes came from the input, and they are all that it had, or more than a trace can have
+pub record Came (input : Stream) (trace : List ℕ) : Type 0 where
+  pub given : Gives input trace
+  pub whole : IsSpent input ⊎ (max_input < length trace)
 
--- The trace that came from the reader was answered: the writer holds what it held, and behind it the text that answers the trace.
-pub record IsAnswered (had left held holds : Option (List ℕ)) (end : TraceEnd) : Type 0 where
+-- The trace that came from the input was answered: the output took the text that answers it.
+pub record IsAnswered (input output : Stream) (end : TraceEnd) : Type 0 where
   pub trace : List ℕ
   pub text : List ℕ
-  pub came : Came had left trace
+  pub came : Came input trace
   pub answered : AnswersTrace trace text end
-  pub written : Appends held holds text
+  pub written : Takes output text
 
 -- the text is a beginning of what answers the trace
 pub record BeginsTrace (trace part : List ℕ) : Type 0 where
@@ -86,18 +84,18 @@ pub record BeginsTrace (trace part : List ℕ) : Type 0 where
   pub answered : AnswersTrace trace text end
   pub begun : text ≡ part ++ unwritten
 
--- the trace came, and a beginning of what answers it was written
-pub record IsBegun (had left held holds : Option (List ℕ)) : Type 0 where
+-- the trace came from the input, and the output took a beginning of what answers it
+pub record IsBegun (input output : Stream) : Type 0 where
   pub trace : List ℕ
   pub part : List ℕ
-  pub came : Came had left trace
+  pub came : Came input trace
   pub answered : BeginsTrace trace part
-  pub written : Appends held holds part
+  pub written : Takes output part
 
 -- What was written where the trace was not answered to its end: nothing where it was not read whole, and else a beginning of the text
 -- that answers it.
-abbrev pub IsBroken : Option (List ℕ) → Option (List ℕ) → Option (List ℕ) → Option (List ℕ) → TraceFault → Type 0
-IsBroken had left held holds Read = Keeps held holds
-IsBroken had left held holds Turns = Keeps held holds
-IsBroken had left held holds Write = IsBegun had left held holds
-IsBroken had left held holds Memory = Keeps held holds ⊎ IsBegun had left held holds
+abbrev pub IsBroken : Stream → Stream → TraceFault → Type 0
+IsBroken input output Read = IsUntouched output
+IsBroken input output Turns = IsUntouched output
+IsBroken input output Write = IsBegun input output
+IsBroken input output Memory = IsUntouched output ⊎ IsBegun input output

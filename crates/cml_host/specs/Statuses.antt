@@ -1,6 +1,5 @@
 -- How the program ends: its status, and what it says of a fault.
-use Rattle.std.specs.Prelude.{◌≡◌, ◌⊎◌, ℕ, List, ◌++◌, codes, Option}
-use Rattle.std.specs.Io.KnownBytes.{Appends, Keeps}
+use Rattle.std.specs.Prelude.{◌≡◌, ◌⊎◌, ℕ, List, codes}
 use Rattle.std.specs.String.{string_bytes}
 use Rattle.cml_words.specs.declared.Task.TheVariants.{Trace}
 use Rattle.cml_words.specs.declared.Answer.{Answer}
@@ -11,11 +10,16 @@ use Rattle.cml_host.specs.declared.trace.engine.TraceEnd.TheVariants.{Done, Bad,
 use Rattle.cml_host.specs.declared.trace.engine.TraceFault.{TraceFault}
 use Rattle.cml_host.specs.declared.trace.engine.TraceFault.TheVariants.{Read, Turns, Write, Memory}
 use Rattle.cml_host.specs.Replies.{line}
+use Rattle.cml_host.specs.Streams.{Stream, Takes, TakesStart, IsUntouched}
+use Rattle.cml_host.specs.Stores.{Shelf, IsUnchanged}
 use Rattle.cml_host.specs.Runs.{IsAnswered, IsBroken}
 
--- a beginning of this text was written
-abbrev pub Says : Option (List ℕ) → Option (List ℕ) → List ℕ → Type 0
-Says held holds text = (part : List ℕ) × (unwritten : List ℕ) × (text ≡ part ++ unwritten) × Appends held holds part
+-- What stands round a run of the program, before and after: its input, its output, what it says its errors to, and its store.
+pub record Surroundings : Type 0 where
+  pub input : Stream
+  pub output : Stream
+  pub errors : Stream
+  pub store : Shelf
 
 -- 0 where all was done, 2 where the trace has a bad line or is too long
 abbrev pub status_of : TraceEnd → ℕ
@@ -37,28 +41,40 @@ fault_line Turns = line (codes "cannot read input")
 fault_line Write = line (codes "cannot write output")
 fault_line Memory = line (codes "memory")
 
--- The trace that came from the input was answered, or not to its end. `had` and `left` are what the input has before and after,
--- `held` and `holds` what the output holds, and `erred` and `errs` what the errors hold.
-abbrev pub TraceRan : Option (List ℕ) → Option (List ℕ) → Option (List ℕ) → Option (List ℕ) → Option (List ℕ) → Option (List ℕ) → ℕ → Type 0
-TraceRan had left held holds erred errs status =
-    ((end : TraceEnd) × IsAnswered had left held holds end × (status ≡ status_of end) × Keeps erred errs)
-    ⊎ ((fault : TraceFault) × IsBroken had left held holds fault × (status ≡ fault_status fault) × Says erred errs (fault_line fault))
+-- The trace on the input was answered; or not to its end, and the errors tell of the fault.
+abbrev pub TraceRan : Stream → Stream → Stream → ℕ → Type 0
+TraceRan input output errors status =
+    ((end : TraceEnd) × IsAnswered input output end × (status ≡ status_of end) × IsUntouched errors)
+    ⊎ ((fault : TraceFault) × IsBroken input output fault × (status ≡ fault_status fault) × TakesStart errors (fault_line fault))
 
--- a text that was asked for is written to the output
-abbrev pub HelpRan : List ℕ → Option (List ℕ) → Option (List ℕ) → Option (List ℕ) → Option (List ℕ) → ℕ → Type 0
-HelpRan text held holds erred errs status =
-    (Appends held holds text × (status ≡ 0) × Keeps erred errs)
-    ⊎ (Says held holds text × (status ≡ 1) × Says erred errs (line (codes "cannot write output")))
+-- The text that was asked for was written to the output; or not to its end, and the errors tell of the fault.
+abbrev pub HelpRan : List ℕ → Stream → Stream → ℕ → Type 0
+HelpRan text output errors status =
+    (Takes output text × (status ≡ 0) × IsUntouched errors)
+    ⊎ (TakesStart output text × (status ≡ 1) × TakesStart errors (line (codes "cannot write output")))
+
+-- nothing was saved in the store
+abbrev pub SavesNothing : Surroundings → Type 0
+SavesNothing around = IsUnchanged around.store.before around.store.after
 
 -- What was done about the words: their command; or the text that they ask for was written to the output; or what is wrong with them to
--- the errors.
-abbrev pub AnswerRan : Answer → Option (List ℕ) → Option (List ℕ) → Option (List ℕ) → Option (List ℕ) → Option (List ℕ) → Option (List ℕ) → ℕ → Type 0
-AnswerRan (answer.Task Trace) had left held holds erred errs status = TraceRan had left held holds erred errs status
-AnswerRan (answer.Help text) had left held holds erred errs status = HelpRan (string_bytes text) held holds erred errs status × Keeps had left
-AnswerRan (answer.Fault text) had left held holds erred errs status = Says erred errs (string_bytes text) × (status ≡ 1) × Keeps had left × Keeps held holds
+-- the errors. None of them saves anything.
+abbrev pub AnswerRan : Answer → Surroundings → ℕ → Type 0
+AnswerRan (answer.Task Trace) around status =
+    TraceRan around.input around.output around.errors status × SavesNothing around
+AnswerRan (answer.Help text) around status =
+    HelpRan (string_bytes text) around.output around.errors status × IsUntouched around.input × SavesNothing around
+AnswerRan (answer.Fault text) around status =
+    TakesStart around.errors (string_bytes text) × (status ≡ 1)
+    × IsUntouched around.input × IsUntouched around.output × SavesNothing around
+
+-- memory ran out before the words were read
+abbrev pub IsOutOfMemory : Surroundings → ℕ → Type 0
+IsOutOfMemory around status =
+    TakesStart around.errors (line (codes "memory")) × (status ≡ 5)
+    × IsUntouched around.input × IsUntouched around.output × SavesNothing around
 
 -- The words were answered and that was done, or memory ran out before.
-abbrev pub Ran : List (List ℕ) → Option (List ℕ) → Option (List ℕ) → Option (List ℕ) → Option (List ℕ) → Option (List ℕ) → Option (List ℕ) → ℕ → Type 0
-Ran words had left held holds erred errs status =
-    ((what : Answer) × IsAnswer words what × AnswerRan what had left held holds erred errs status)
-    ⊎ ((status ≡ 5) × Says erred errs (line (codes "memory")) × Keeps had left × Keeps held holds)
+abbrev pub Ran : List (List ℕ) → Surroundings → ℕ → Type 0
+Ran words around status =
+    ((what : Answer) × IsAnswer words what × AnswerRan what around status) ⊎ IsOutOfMemory around status

@@ -3,60 +3,60 @@
 use Rattle.std.specs.Prelude.{ℕ, ℤ, pos, negsuc, nat_lt, if◌then◌else◌, true, false, Option, Some, None}
 use Rattle.cml_value.specs.Value.{PlainValue, unit, int, truth, text, pair, thread, chan, ivar, mvar, mailbox, mchan, port}
 use Rattle.cml_text.specs.Forms.{PlainSexpr, plain_name, plain_int, plain_text, plain_list, no_forms, forms_and}
-use Rattle.cml_host.specs.declared.trace.word.Word.{Word}
-use Rattle.cml_host.specs.declared.trace.word.Word.TheVariants as word
-use Rattle.cml_host.specs.Words.{word_of, name_in}
+use Rattle.cml_host.specs.declared.trace.keyword.Keyword.{Keyword}
+use Rattle.cml_host.specs.declared.trace.keyword.Keyword.TheVariants as keyword
+use Rattle.cml_host.specs.Keywords.{keyword_of, keyword_from}
 use Rattle.cml_host.specs.Given.{both}
 
--- the number of a thread, an object, a nack, a leaf or a function: 0 to 4,294,967,295
-abbrev pub number_of : ℤ → Option ℕ
-number_of (pos n) = if nat_lt n 4294967296 then Some n else None
-number_of (negsuc n) = None
+-- every number of a thread, an object, a nack, a leaf or a function is below this
+abbrev pub number_limit : ℕ
+number_limit = 4294967296
 
--- such a number, if the form is one
-abbrev pub number_in : PlainSexpr → Option ℕ
-number_in (plain_name span name) = None
-number_in (plain_int span z) = number_of z
-number_in (plain_text span bytes) = None
-number_in (plain_list span parts) = None
+-- the number that an integer is, if it is one
+abbrev pub number_by : ℤ → Option ℕ
+number_by (pos n) = if nat_lt n number_limit then Some n else None
+number_by (negsuc n) = None
 
--- the truth value that a word is, if it is one
-abbrev pub truth_of : Option Word → Option PlainValue
-truth_of None = None
-truth_of (Some word.True) = Some (truth true)
-truth_of (Some word.False) = Some (truth false)
-truth_of (Some _) = None
+-- the number that the form is, if it is one
+abbrev pub number_from : PlainSexpr → Option ℕ
+number_from (plain_int span z) = number_by z
+number_from _ = None
+
+-- the truth value that a keyword is, if it is one
+abbrev pub truth_of : Option Keyword → Option PlainValue
+truth_of (Some keyword.True) = Some (truth true)
+truth_of (Some keyword.False) = Some (truth false)
+truth_of _ = None
 
 -- the thread or object of this kind and number
-abbrev pub numbered : Word → ℕ → Option PlainValue
-numbered word.Thread n = Some (thread n)
-numbered word.Chan n = Some (chan n)
-numbered word.IVar n = Some (ivar n)
-numbered word.MVar n = Some (mvar n)
-numbered word.Mailbox n = Some (mailbox n)
-numbered word.Mchan n = Some (mchan n)
-numbered word.Port n = Some (port n)
-numbered _ n = None
+abbrev pub object_by : Keyword → ℕ → Option PlainValue
+object_by keyword.Thread n = Some (thread n)
+object_by keyword.Chan n = Some (chan n)
+object_by keyword.IVar n = Some (ivar n)
+object_by keyword.MVar n = Some (mvar n)
+object_by keyword.Mailbox n = Some (mailbox n)
+object_by keyword.Mchan n = Some (mchan n)
+object_by keyword.Port n = Some (port n)
+object_by _ n = None
 
 -- the same, where the kind or the number may be missing
-abbrev pub numbered_in : Option Word → Option ℕ → Option PlainValue
-numbered_in (Some kind) (Some n) = numbered kind n
-numbered_in (Some kind) None = None
-numbered_in None n = None
+abbrev pub object_from : Option Keyword → Option ℕ → Option PlainValue
+object_from (Some kind) (Some n) = object_by kind n
+object_from _ _ = None
 
--- the pair of two values behind the word for pairs
-abbrev pub paired_in : Option Word → Option PlainValue → Option PlainValue → Option PlainValue
-paired_in (Some word.Pair) a b = both pair a b
-paired_in (Some _) a b = None
-paired_in None a b = None
+-- the pair of two values behind the keyword for pairs
+abbrev pub pair_from : Option Keyword → Option PlainValue → Option PlainValue → Option PlainValue
+pair_from (Some keyword.Pair) a b = both pair a b
+pair_from _ a b = None
 
 -- the value that the form is, if it is one
-abbrev pub value_in : PlainSexpr → Option PlainValue
-value_in (plain_name span name) = truth_of (word_of name)
-value_in (plain_int span z) = Some (int z)
-value_in (plain_text span bytes) = Some (text bytes)
-value_in (plain_list span no_forms) = Some unit
-value_in (plain_list span (forms_and kind no_forms)) = None
-value_in (plain_list span (forms_and kind (forms_and number no_forms))) = numbered_in (name_in kind) (number_in number)
-value_in (plain_list span (forms_and kind (forms_and a (forms_and b no_forms)))) = paired_in (name_in kind) (value_in a) (value_in b)
-value_in (plain_list span (forms_and kind (forms_and a (forms_and b (forms_and more forms))))) = None
+abbrev pub value_from : PlainSexpr → Option PlainValue
+value_from (plain_name span name) = truth_of (keyword_of name)
+value_from (plain_int span z) = Some (int z)
+value_from (plain_text span bytes) = Some (text bytes)
+value_from (plain_list span no_forms) = Some unit
+value_from (plain_list span (forms_and kind (forms_and number no_forms))) =
+    object_from (keyword_from kind) (number_from number)
+value_from (plain_list span (forms_and kind (forms_and a (forms_and b no_forms)))) =
+    pair_from (keyword_from kind) (value_from a) (value_from b)
+value_from (plain_list span _) = None

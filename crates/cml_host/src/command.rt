@@ -1,10 +1,10 @@
 //! The commands of the program.
 
 ghost use Rattle.std.specs.Prelude.{◌≡◌, map};
-ghost use Rattle.std.specs.Io.KnownBytes.{Keeps};
 ghost use Rattle.std.specs.String.{string_bytes};
 ghost use Rattle.cml_host.specs.Statuses as spec;
-ghost use Rattle.cml_host.specs.Statuses.{Says, HelpRan, TraceRan, Ran};
+ghost use Rattle.cml_host.specs.Statuses.{Surroundings, HelpRan, TraceRan, Ran};
+ghost use Rattle.cml_host.specs.Streams.{stream, TakesStart};
 
 use crate::input_output::write_out;
 use crate::store::Store;
@@ -23,9 +23,15 @@ pub fn run_command<R: Read, O: Write, E: Write, S: Store>(
     input: &mut R,
     out: &mut O,
     err: &mut E,
-    _store: &mut S,
+    store: &mut S,
 ) -> u8
-    ensures { Ran (map string_bytes words.now) (R.remaining input.old) (R.remaining input.new) (O.contents out.old) (O.contents out.new) (E.contents err.old) (E.contents err.new) result }
+    ensures { let around : Surroundings = record {
+      input = stream (R.remaining input.old) (R.remaining input.new);
+      output = stream (O.contents out.old) (O.contents out.new);
+      errors = stream (E.contents err.old) (E.contents err.new);
+      store = record { before = S.holds store.old; after = S.holds store.new };
+    } in
+        Ran (map string_bytes words.now) around result }
 {
     match read_words(alloc, words) {
         Ok(Answer::Task(Task::Trace)) => trace(alloc, input, out, err),
@@ -43,7 +49,9 @@ pub fn run_command<R: Read, O: Write, E: Write, S: Store>(
 
 // Writes the text that was asked for.
 fn help<O: Write, E: Write>(text: &[u8], out: &mut O, err: &mut E) -> u8
-    ensures { HelpRan text.now (O.contents out.old) (O.contents out.new) (E.contents err.old) (E.contents err.new) result }
+    ensures { let output = stream (O.contents out.old) (O.contents out.new) in
+        let errors = stream (E.contents err.old) (E.contents err.new) in
+        HelpRan text.now output errors result }
 {
     match write_out(out, text) {
         Ok(()) => 0,
@@ -56,7 +64,10 @@ fn help<O: Write, E: Write>(text: &[u8], out: &mut O, err: &mut E) -> u8
 
 // Answers the trace on the input.
 fn trace<R: Read, O: Write, E: Write>(alloc: Global, input: &mut R, out: &mut O, err: &mut E) -> u8
-    ensures { TraceRan (R.remaining input.old) (R.remaining input.new) (O.contents out.old) (O.contents out.new) (E.contents err.old) (E.contents err.new) result }
+    ensures { let given = stream (R.remaining input.old) (R.remaining input.new) in
+        let output = stream (O.contents out.old) (O.contents out.new) in
+        let errors = stream (E.contents err.old) (E.contents err.new) in
+        TraceRan given output errors result }
 {
     match run_trace(alloc, input, out) {
         Ok(end) => status_of(end),
@@ -101,7 +112,7 @@ fn fault_line(fault: TraceFault) -> &'static str
 
 // Says what went wrong, as far as it can be said.
 fn say<E: Write>(err: &mut E, line: &[u8])
-    ensures { Says (E.contents err.old) (E.contents err.new) line.now }
+    ensures { TakesStart (stream (E.contents err.old) (E.contents err.new)) line.now }
 {
     let _ = write_out(err, line);
 }

@@ -1,7 +1,7 @@
 //! Bounded reading and plain writing.
 
 ghost use Rattle.std.specs.Prelude.{◌≡◌, ◌⊎◌, ℕ, ◌+◌, ◌*◌, ◌<◌, ◌≤◌, length, take, IfOk, OnOk, OnErr};
-ghost use Rattle.std.specs.Io.KnownBytes.{Appends, Consumes, IsAtEnd};
+ghost use Rattle.cml_host.specs.Streams.{stream, Gives, IsSpent, Takes};
 
 use std::alloc::{AllocError, Global};
 use std::io::{ErrorKind, Read, Write};
@@ -13,7 +13,7 @@ pub enum ReadFault {
     /// A read failed.
     #[error("a read failed")]
     Read,
-    /// The input did not end in so many reads.
+    /// The input did not end in twice as many reads as the limit.
     #[error("the input does not end")]
     Turns,
     /// Out of memory.
@@ -32,19 +32,17 @@ impl From<AllocError> for ReadFault {
 #[error("a write failed")]
 pub struct WriteFault;
 
-/// Reads to the end, or until more bytes than this limit came, in at most this many calls. An interrupted read is asked again.
+/// Reads to the end, or until more bytes than this limit came, in at most twice as many calls. An interrupted read is asked again.
 ///
 /// # Errors
 /// A failed read, no end in so many calls, or want of memory.
-pub fn read_all<R: Read>(
-    alloc: Global,
-    reader: &mut R,
-    limit: usize,
-    calls: u64,
-) -> Result<Vec<u8>, ReadFault>
-    ensures bytes { IfOk result (λ v. Consumes (R.remaining reader.old) (R.remaining reader.new) v.items) }
-    ensures end { IfOk result (λ v. IsAtEnd (R.remaining reader.new) ⊎ (limit < length v.items)) }
+pub fn read_all<R: Read>(alloc: Global, reader: &mut R, limit: usize) -> Result<Vec<u8>, ReadFault>
+    ensures bytes { let input = stream (R.remaining reader.old) (R.remaining reader.new) in
+        IfOk result (λ all. Gives input all.items) }
+    ensures end { let input = stream (R.remaining reader.old) (R.remaining reader.new) in
+        IfOk result (λ all. IsSpent input ⊎ (limit < length all.items)) }
 {
+    let calls = (limit as u64).saturating_mul(2);
     let mut all = Vec::new(alloc);
     let mut buffer = [0u8; 4096];
     for _ in 0..calls {
@@ -69,8 +67,10 @@ pub fn read_all<R: Read>(
 /// # Errors
 /// A write that failed, an interrupted one included, or took nothing.
 pub fn write_out<W: Write>(out: &mut W, bytes: &[u8]) -> Result<(), WriteFault>
-    ensures ok { OnOk result (Appends (W.contents out.old) (W.contents out.new) bytes.now) }
-    ensures err { OnErr result ((n : ℕ) × Appends (W.contents out.old) (W.contents out.new) (take n bytes.now)) }
+    ensures ok { let output = stream (W.contents out.old) (W.contents out.new) in
+        OnOk result (Takes output bytes.now) }
+    ensures err { let output = stream (W.contents out.old) (W.contents out.new) in
+        OnErr result ((n : ℕ) × Takes output (take n bytes.now)) }
 {
     let mut sent = 0;
     while sent < bytes.len() {

@@ -1,6 +1,7 @@
 //! Where scripts and schedules lie.
 
-ghost use Rattle.std.specs.Prelude.{◌+◌, ◌≤◌, length, IfOk};
+ghost use Rattle.std.specs.Prelude.{ℕ, List, ◌+◌, ◌≤◌, length, IfOk, OnOk, OnErr};
+ghost use Rattle.cml_host.specs.Stores.{Content, IsLoaded, IsSaved, IsUnchanged};
 
 use std::alloc::Global;
 use thiserror::Error;
@@ -18,17 +19,24 @@ pub enum StoreFault {
 
 /// Where scripts and schedules lie, each under its name.
 pub trait Store {
+    // What lies under a name, where that is known.
+    ghost holds: { Self → List ℕ → Content };
+
     /// The bytes under the name: all of them, or where there are more than the limit, the first of them, one more than the limit. They
-    /// are read in at most twice as many reads as the limit.
+    /// are read in at most twice as many reads as the limit. What the store holds stays as it is.
     ///
     /// # Errors
     /// A refusal, also where they do not end in so many reads, or want of memory.
     fn load(&mut self, alloc: Global, name: &str, limit: usize) -> Result<Vec<u8>, StoreFault>
-        ensures { IfOk result (λ bytes. length bytes.items ≤ limit + 1) };
+        ensures bound { IfOk result (λ bs. length bs.items ≤ limit + 1) }
+        ensures found { IfOk result (λ bs. IsLoaded (holds self.old name.now) limit bs.items) }
+        ensures same { IsUnchanged (holds self.old) (holds self.new) };
 
-    /// Keeps the bytes under the name.
+    /// Keeps the bytes under the name, in place of what lay there, and touches no other name.
     ///
     /// # Errors
-    /// A refusal, or want of memory.
-    fn save(&mut self, name: &str, bytes: &[u8]) -> Result<(), StoreFault>;
+    /// A refusal, or want of memory. What the store holds then stays as it is.
+    fn save(&mut self, name: &str, bytes: &[u8]) -> Result<(), StoreFault>
+        ensures saved { OnOk result (IsSaved (holds self.old) (holds self.new) name.now bytes.now) }
+        ensures same { OnErr result (IsUnchanged (holds self.old) (holds self.new)) };
 }

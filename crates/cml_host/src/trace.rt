@@ -3,10 +3,10 @@
 mod engine;
 mod form;
 mod group;
-pub mod laws;
+mod keyword;
+pub mod law;
 mod line;
 mod order;
 mod reply;
-mod word;
 
 pub use engine::{TraceEnd, TraceFault, run_trace};

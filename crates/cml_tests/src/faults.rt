@@ -1,6 +1,6 @@
-//! Faults of words, of reading and of writing.
+//! Faults of reading and of writing.
 
-use crate::no_files::NoFiles;
+use crate::memory_store::MemoryStore;
 use crate::run::words;
 use cml_host::run_command;
 use std::io::{Error, ErrorKind, Read, Result as IoResult, Write};
@@ -38,80 +38,50 @@ impl Write for Full {
 
 #[test]
 fn input_that_cannot_be_read(rt: HostRuntime) -> Result<(), Fail> {
-    let words = words(rt.alloc(), "trace")?;
+    let alloc = rt.alloc();
+    let words = words(alloc, "trace")?;
     let mut reader = Broken { interrupted: false };
-    let mut out = Vec::new(rt.alloc());
-    let mut err = Vec::new(rt.alloc());
+    let mut out = Vec::new(alloc);
+    let mut err = Vec::new(alloc);
+    let mut store = MemoryStore::new(alloc);
     let status = run_command(
-        rt.alloc(),
+        alloc,
         words.as_slice(),
         &mut reader,
         &mut out,
         &mut err,
-        &mut NoFiles,
+        &mut store,
     );
     assert_eq!(rt; status, 1);
     assert!(rt; out.is_empty());
     assert!(rt; err.as_slice() == b"cannot read input\n".as_slice());
+    drop(words);
+    drop(reader);
+    drop(out);
+    drop(err);
+    drop(store);
     Ok(())
 }
 
 #[test]
 fn output_that_cannot_be_written(rt: HostRuntime) -> Result<(), Fail> {
-    let words = words(rt.alloc(), "trace")?;
+    let alloc = rt.alloc();
+    let words = words(alloc, "trace")?;
     let mut reader = b"spawn\n".as_slice();
-    let mut err = Vec::new(rt.alloc());
+    let mut err = Vec::new(alloc);
+    let mut store = MemoryStore::new(alloc);
     let status = run_command(
-        rt.alloc(),
+        alloc,
         words.as_slice(),
         &mut reader,
         &mut Full,
         &mut err,
-        &mut NoFiles,
+        &mut store,
     );
     assert_eq!(rt; status, 1);
     assert!(rt; err.as_slice() == b"cannot write output\n".as_slice());
-    Ok(())
-}
-
-#[test]
-fn words_that_name_nothing(rt: HostRuntime) -> Result<(), Fail> {
-    for line in ["walk", "trace --fast", "run x.cml"] {
-        let words = words(rt.alloc(), line)?;
-        let mut reader = b"spawn\n".as_slice();
-        let mut out = Vec::new(rt.alloc());
-        let mut err = Vec::new(rt.alloc());
-        let status = run_command(
-            rt.alloc(),
-            words.as_slice(),
-            &mut reader,
-            &mut out,
-            &mut err,
-            &mut NoFiles,
-        );
-        assert_eq!(rt; status, 1);
-        assert!(rt; out.is_empty());
-        assert!(rt; !err.is_empty());
-    }
-    Ok(())
-}
-
-#[test]
-fn help(rt: HostRuntime) -> Result<(), Fail> {
-    let words = words(rt.alloc(), "--help")?;
-    let mut reader = b"".as_slice();
-    let mut out = Vec::new(rt.alloc());
-    let mut err = Vec::new(rt.alloc());
-    let status = run_command(
-        rt.alloc(),
-        words.as_slice(),
-        &mut reader,
-        &mut out,
-        &mut err,
-        &mut NoFiles,
-    );
-    assert_eq!(rt; status, 0);
-    assert!(rt; !out.is_empty());
-    assert!(rt; err.is_empty());
+    drop(words);
+    drop(err);
+    drop(store);
     Ok(())
 }

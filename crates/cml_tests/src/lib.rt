@@ -9,6 +9,10 @@ mod examples;
 mod faults;
 #[cfg(test)]
 mod limits;
-pub mod no_files;
+pub mod memory_store;
 #[cfg(test)]
 mod run;
+#[cfg(test)]
+mod stores;
+#[cfg(test)]
+mod words;

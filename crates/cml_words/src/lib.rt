@@ -11,14 +11,14 @@ use clap::{Command, Error};
 use std::alloc::{AllocError, Global};
 
 /// A command of the program.
-#[derive(Clone, Copy, Debug, PartialEq, Eq)]
+#[derive(Clone, Copy, PartialEq, Eq)]
 pub enum Task {
     /// Answers a trace.
     Trace,
 }
 
 /// What the words come to.
-#[derive(Debug, Drop)]
+#[derive(Drop)]
 pub enum Answer {
     /// They name this command.
     Task(Task),

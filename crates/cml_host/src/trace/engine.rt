@@ -3,12 +3,13 @@
 ghost use Rattle.std.specs.Prelude.{◌≡◌, ◌≤◌, ℕ, [], ◌∷◌, length, IfOk, IfErr, OnErr, OnOk};
 ghost use Rattle.std.specs.String.{string_bytes};
 ghost use Rattle.cml_book.specs.Step.{step};
-ghost use Rattle.cml_host.specs.Answers.{answer_to, world_after, lines, max_input};
+ghost use Rattle.cml_host.specs.Answers.{answer_to, after_order, lines, max_input};
 ghost use Rattle.cml_host.specs.Replies.{reply_text};
+ghost use Rattle.cml_host.specs.Streams.{stream};
 ghost use Rattle.cml_host.specs.Runs.{LineAnswered, AreAnswered, AreBegun, FirstBegun, IsAnswered, IsBroken, IsWriteOrMemory};
 
 use crate::input_output::{ReadFault, WriteFault, read_all, write_out};
-use crate::trace::line::{cut, order_in};
+use crate::trace::line::{cut, order_from};
 use crate::trace::order::Order;
 use crate::trace::reply::{replies_text, rows_text};
 use cml_book::{Book, Command, KeptRows};
@@ -21,11 +22,8 @@ use thiserror::Error;
 /// The most bytes of a trace.
 pub const MAX_INPUT: usize = 1_048_576;
 
-/// The most reads of a trace.
-pub const MAX_READS: u64 = 2_097_152;
-
 /// How a trace ended.
-#[derive(Clone, Copy, Debug, PartialEq, Eq)]
+#[derive(Clone, Copy, PartialEq, Eq)]
 pub enum TraceEnd {
     /// Every line was answered.
     Done,
@@ -99,10 +97,14 @@ pub fn run_trace<R: Read, W: Write>(
     reader: &mut R,
     writer: &mut W,
 ) -> Result<TraceEnd, TraceFault>
-    ensures ok { IfOk result (IsAnswered (R.remaining reader.old) (R.remaining reader.new) (W.contents writer.old) (W.contents writer.new)) }
-    ensures err { IfErr result (IsBroken (R.remaining reader.old) (R.remaining reader.new) (W.contents writer.old) (W.contents writer.new)) }
+    ensures ok { let input = stream (R.remaining reader.old) (R.remaining reader.new) in
+        let output = stream (W.contents writer.old) (W.contents writer.new) in
+        IfOk result (IsAnswered input output) }
+    ensures err { let input = stream (R.remaining reader.old) (R.remaining reader.new) in
+        let output = stream (W.contents writer.old) (W.contents writer.new) in
+        IfErr result (IsBroken input output) }
 {
-    let input = read_all(alloc, reader, MAX_INPUT, MAX_READS)?;
+    let input = read_all(alloc, reader, MAX_INPUT)?;
     if input.len() > MAX_INPUT {
         write_out(writer, b"too long\n")?;
         return Ok(TraceEnd::TooLong);
@@ -119,8 +121,10 @@ fn answer_lines<T: Table, W: Write>(
     writer: &mut W,
 ) -> Result<TraceEnd, TraceFault>
     requires { length input.now ≤ max_input }
-    ensures ok { IfOk result (AreAnswered 1 book.old (lines input.now) (W.contents writer.old) (W.contents writer.new)) }
-    ensures err { OnErr result (AreBegun 1 book.old (lines input.now) (W.contents writer.old) (W.contents writer.new)) }
+    ensures ok { let output = stream (W.contents writer.old) (W.contents writer.new) in
+        IfOk result (AreAnswered 1 book.old (lines input.now) output) }
+    ensures err { let output = stream (W.contents writer.old) (W.contents writer.new) in
+        OnErr result (AreBegun 1 book.old (lines input.now) output) }
     ensures kind { IfErr result IsWriteOrMemory }
 {
     spelled_or_faulty();
@@ -146,11 +150,13 @@ fn answer_line<T: Table, W: Write>(
     line: &[u8],
     writer: &mut W,
 ) -> Result<bool, TraceFault>
-    ensures ok { IfOk result (λ goes_on. LineAnswered number book.old book.new line.now (W.contents writer.old) (W.contents writer.new) goes_on) }
-    ensures err { OnErr result (FirstBegun number book.old (line.now ∷ []) (W.contents writer.old) (W.contents writer.new)) }
+    ensures ok { let output = stream (W.contents writer.old) (W.contents writer.new) in
+        IfOk result (LineAnswered number book.old book.new line.now output) }
+    ensures err { let output = stream (W.contents writer.old) (W.contents writer.new) in
+        OnErr result (FirstBegun number book.old (line.now ∷ []) output) }
     ensures kind { IfErr result IsWriteOrMemory }
 {
-    let Some(order) = order_in(alloc, line)? else {
+    let Some(order) = order_from(alloc, line)? else {
         let text = format!(in alloc; "bad {number}\n")?;
         write_out(writer, text.as_bytes())?;
         return Ok(false);
@@ -163,7 +169,7 @@ fn answer_line<T: Table, W: Write>(
 // Does what a line asks for, and gives the text that answers it.
 fn do_order<T: Table>(alloc: Global, book: &mut Book<T>, order: Order) -> Result<String, TraceFault>
     ensures text { IfOk result (λ text. string_bytes text ≡ answer_to order book.old) }
-    ensures world { OnOk result (book.new ≡ world_after order book.old) }
+    ensures world { OnOk result (book.new ≡ after_order order book.old) }
     ensures kind { IfErr result (λ fault. fault ≡ TraceFault.Memory) }
 {
     match order {

@@ -4,14 +4,14 @@ ghost use Rattle.std.specs.Prelude.{◌≡◌, map, IfOk, option_map};
 ghost use Rattle.cml_host.specs.ValueForms as spec;
 ghost use Rattle.cml_host.specs.Given.{all_of};
 
-use crate::trace::word::{Word, name_in, word_of};
+use crate::trace::keyword::{Keyword, keyword_from, keyword_of};
 use cml_text::{Sexpr, Shape};
 use cml_value::{ChanId, IVarId, MVarId, MboxId, McastId, PortId, Tid, Value, ValueKind};
 use std::alloc::{AllocError, Global};
 
 /// The number of a thread, an object, a nack, a leaf or a function that the form is, if it is one.
-pub fn number_in(form: &Sexpr) -> Option<u32>
-    ensures { result ≡ spec.number_in form.now }
+pub fn number_from(form: &Sexpr) -> Option<u32>
+    ensures { result ≡ spec.number_from form.now }
 {
     match form.shape() {
         Shape::Int(z) => u32::try_from(z).ok(),
@@ -20,11 +20,11 @@ pub fn number_in(form: &Sexpr) -> Option<u32>
 }
 
 /// The value that the form is, if it is one.
-pub fn value_in(alloc: Global, form: &Sexpr) -> Result<Option<Value>, AllocError>
-    ensures { IfOk result (λ value. value ≡ spec.value_in form.now) }
+pub fn value_from(alloc: Global, form: &Sexpr) -> Result<Option<Value>, AllocError>
+    ensures { IfOk result (λ value. value ≡ spec.value_from form.now) }
 {
     let parts = match form.shape() {
-        Shape::Name(name) => return Ok(truth_of(word_of(name.as_str()))),
+        Shape::Name(name) => return Ok(truth_of(keyword_of(name.as_str()))),
         Shape::Int(z) => return Ok(Some(Value::new(ValueKind::Int(z)))),
         Shape::Text(text) => return Ok(Some(Value::text(alloc, text)?)),
         Shape::List(parts) => parts,
@@ -33,30 +33,24 @@ pub fn value_in(alloc: Global, form: &Sexpr) -> Result<Option<Value>, AllocError
         return Ok(Some(Value::new(ValueKind::Unit)));
     }
     match parts {
-        [kind, number] => Ok(numbered_in(name_in(kind), number_in(number))),
+        [kind, number] => Ok(object_from(keyword_from(kind), number_from(number))),
         [kind, first, second] => {
-            if name_in(kind) != Some(Word::Pair) {
-                return Ok(None);
-            }
-            let Some(a) = value_in(alloc, first)? else {
-                return Ok(None);
-            };
-            let Some(b) = value_in(alloc, second)? else {
-                return Ok(None);
-            };
-            Ok(Some(Value::pair(alloc, a, b)?))
+            let first = value_from(alloc, first)?;
+            let second = value_from(alloc, second)?;
+            pair_from(alloc, keyword_from(kind), first, second)
         }
         _ => Ok(None),
     }
 }
 
 /// The values that the forms are, if each is one.
-pub fn values_in(alloc: Global, forms: &[Sexpr]) -> Result<Option<Vec<Value>>, AllocError>
-    ensures { IfOk result (λ found. option_map (λ values. values.items) found ≡ all_of (map spec.value_in forms.now)) }
+pub fn values_from(alloc: Global, forms: &[Sexpr]) -> Result<Option<Vec<Value>>, AllocError>
+    ensures { let values = all_of (map spec.value_from forms.now) in
+        IfOk result (λ found. option_map (λ vs. vs.items) found ≡ values) }
 {
     let mut values = Vec::new(alloc);
     for form in forms {
-        let Some(value) = value_in(alloc, form)? else {
+        let Some(value) = value_from(alloc, form)? else {
             return Ok(None);
         };
         values.push(value)?;
@@ -64,29 +58,50 @@ pub fn values_in(alloc: Global, forms: &[Sexpr]) -> Result<Option<Vec<Value>>, A
     Ok(Some(values))
 }
 
-fn truth_of(word: Option<Word>) -> Option<Value>
-    ensures { result ≡ spec.truth_of word }
+fn truth_of(keyword: Option<Keyword>) -> Option<Value>
+    ensures { result ≡ spec.truth_of keyword }
 {
-    match word {
-        Some(Word::True) => Some(Value::new(ValueKind::Bool(true))),
-        Some(Word::False) => Some(Value::new(ValueKind::Bool(false))),
+    match keyword {
+        Some(Keyword::True) => Some(Value::new(ValueKind::Bool(true))),
+        Some(Keyword::False) => Some(Value::new(ValueKind::Bool(false))),
         _ => None,
     }
 }
 
+// The pair of two values, if they are there, behind the keyword for pairs.
+fn pair_from(
+    alloc: Global,
+    kind: Option<Keyword>,
+    first: Option<Value>,
+    second: Option<Value>,
+) -> Result<Option<Value>, AllocError>
+    ensures { IfOk result (λ value. value ≡ spec.pair_from kind first second) }
+{
+    if kind != Some(Keyword::Pair) {
+        return Ok(None);
+    }
+    let Some(first) = first else {
+        return Ok(None);
+    };
+    match second {
+        Some(second) => Ok(Some(Value::pair(alloc, first, second)?)),
+        None => Ok(None),
+    }
+}
+
 // The thread or object of this kind and number.
-fn numbered_in(kind: Option<Word>, number: Option<u32>) -> Option<Value>
-    ensures { result ≡ spec.numbered_in kind number }
+fn object_from(kind: Option<Keyword>, number: Option<u32>) -> Option<Value>
+    ensures { result ≡ spec.object_from kind number }
 {
     let n = number?;
     let kind = match kind? {
-        Word::Thread => ValueKind::Thread(Tid(n)),
-        Word::Chan => ValueKind::Chan(ChanId(n)),
-        Word::IVar => ValueKind::IVar(IVarId(n)),
-        Word::MVar => ValueKind::MVar(MVarId(n)),
-        Word::Mailbox => ValueKind::Mailbox(MboxId(n)),
-        Word::Mchan => ValueKind::Mchan(McastId(n)),
-        Word::Port => ValueKind::Port(PortId(n)),
+        Keyword::Thread => ValueKind::Thread(Tid(n)),
+        Keyword::Chan => ValueKind::Chan(ChanId(n)),
+        Keyword::IVar => ValueKind::IVar(IVarId(n)),
+        Keyword::MVar => ValueKind::MVar(MVarId(n)),
+        Keyword::Mailbox => ValueKind::Mailbox(MboxId(n)),
+        Keyword::Mchan => ValueKind::Mchan(McastId(n)),
+        Keyword::Port => ValueKind::Port(PortId(n)),
         _ => return None,
     };
     Some(Value::new(kind))

@@ -10,7 +10,7 @@ use cml_text::{TextFault, read};
 use std::alloc::{AllocError, Global};
 
 /// What the line asks for, or none where it is bad.
-pub fn order_in(alloc: Global, line: &[u8]) -> Result<Option<Order>, AllocError>
+pub fn order_from(alloc: Global, line: &[u8]) -> Result<Option<Order>, AllocError>
     ensures { IfOk result (λ order. MatchOption order (IsBad line.now) (Asks line.now)) }
 {
     match read(alloc, line) {

@@ -2,11 +2,11 @@
 
 ghost use Rattle.std.specs.Prelude.{◌≡◌, IfOk};
 ghost use Rattle.cml_host.specs.Orders as spec;
-ghost use Rattle.cml_host.specs.declared.trace.word.Word.TheVariants as word;
+ghost use Rattle.cml_host.specs.declared.trace.keyword.Keyword.TheVariants as keyword;
 
-use crate::trace::form::number_in;
-use crate::trace::group::group_in;
-use crate::trace::word::{Word, head_of};
+use crate::trace::form::number_from;
+use crate::trace::group::group_from;
+use crate::trace::keyword::{Keyword, head_of};
 use cml_book::Command;
 use cml_scan::Meet;
 use cml_text::Sexpr;
@@ -14,7 +14,7 @@ use cml_value::Tid;
 use std::alloc::{AllocError, Global};
 
 /// What a line asks for.
-#[derive(Debug, Drop)]
+#[derive(Drop)]
 pub enum Order {
     /// Nothing: it has no forms.
     Skip,
@@ -32,45 +32,49 @@ pub fn order_of(alloc: Global, forms: &[Sexpr]) -> Result<Option<Order>, AllocEr
         return Ok(Some(Order::Skip));
     }
     match head_of(forms) {
-        Some((word, behind)) => order_by(alloc, word, behind),
+        Some((keyword, behind)) => order_by(alloc, keyword, behind),
         None => Ok(None),
     }
 }
 
-// What the forms behind this word ask for.
-fn order_by(alloc: Global, word: Word, forms: &[Sexpr]) -> Result<Option<Order>, AllocError>
-    ensures { IfOk result (λ order. order ≡ spec.order_by word forms.now) }
+// What the forms behind this keyword ask for.
+fn order_by(alloc: Global, keyword: Keyword, forms: &[Sexpr]) -> Result<Option<Order>, AllocError>
+    ensures { IfOk result (λ order. order ≡ spec.order_by keyword forms.now) }
 {
-    if word == Word::Rows {
+    if keyword == Keyword::Rows {
         return Ok(if forms.is_empty() {
             Some(Order::Rows)
         } else {
             None
         });
     }
-    match command_by(alloc, word, forms)? {
+    match command_by(alloc, keyword, forms)? {
         Some(command) => Ok(Some(Order::Do(command))),
         None => Ok(None),
     }
 }
 
-// The command that these forms behind its word are.
-fn command_by(alloc: Global, word: Word, forms: &[Sexpr]) -> Result<Option<Command>, AllocError>
-    ensures { IfOk result (λ command. command ≡ spec.command_by word forms.now) }
+// The command that these forms behind its keyword are.
+fn command_by(
+    alloc: Global,
+    keyword: Keyword,
+    forms: &[Sexpr],
+) -> Result<Option<Command>, AllocError>
+    ensures { IfOk result (λ command. command ≡ spec.command_by keyword forms.now) }
 {
-    match word {
-        Word::Spawn => Ok(spawn_by(forms)),
-        Word::Chan => Ok(chan_by(forms)),
-        Word::Nack => Ok(nack_by(forms)),
-        Word::Sync => sync_by(alloc, forms),
-        Word::Commit => Ok(commit_by(forms)),
-        Word::End => Ok(end_by(forms)),
+    match keyword {
+        Keyword::Spawn => Ok(spawn_by(forms)),
+        Keyword::Chan => Ok(chan_by(forms)),
+        Keyword::Nack => Ok(nack_by(forms)),
+        Keyword::Sync => sync_by(alloc, forms),
+        Keyword::Commit => Ok(commit_by(forms)),
+        Keyword::End => Ok(end_by(forms)),
         _ => Ok(None),
     }
 }
 
 fn spawn_by(forms: &[Sexpr]) -> Option<Command>
-    ensures { result ≡ spec.command_by word.Spawn forms.now }
+    ensures { result ≡ spec.command_by keyword.Spawn forms.now }
 {
     match forms {
         [] => Some(Command::Spawn),
@@ -79,7 +83,7 @@ fn spawn_by(forms: &[Sexpr]) -> Option<Command>
 }
 
 fn chan_by(forms: &[Sexpr]) -> Option<Command>
-    ensures { result ≡ spec.command_by word.Chan forms.now }
+    ensures { result ≡ spec.command_by keyword.Chan forms.now }
 {
     match forms {
         [] => Some(Command::MakeChan),
@@ -88,51 +92,51 @@ fn chan_by(forms: &[Sexpr]) -> Option<Command>
 }
 
 fn nack_by(forms: &[Sexpr]) -> Option<Command>
-    ensures { result ≡ spec.command_by word.Nack forms.now }
+    ensures { result ≡ spec.command_by keyword.Nack forms.now }
 {
     match forms {
-        [thread] => Some(Command::Nack(Tid(number_in(thread)?))),
+        [thread] => Some(Command::Nack(Tid(number_from(thread)?))),
         _ => None,
     }
 }
 
 fn end_by(forms: &[Sexpr]) -> Option<Command>
-    ensures { result ≡ spec.command_by word.End forms.now }
+    ensures { result ≡ spec.command_by keyword.End forms.now }
 {
     match forms {
-        [thread] => Some(Command::End(Tid(number_in(thread)?))),
+        [thread] => Some(Command::End(Tid(number_from(thread)?))),
         _ => None,
     }
 }
 
 fn sync_by(alloc: Global, forms: &[Sexpr]) -> Result<Option<Command>, AllocError>
-    ensures { IfOk result (λ command. command ≡ spec.command_by word.Sync forms.now) }
+    ensures { IfOk result (λ command. command ≡ spec.command_by keyword.Sync forms.now) }
 {
     let [thread, group] = forms else {
         return Ok(None);
     };
-    let Some(thread) = number_in(thread) else {
+    let Some(thread) = number_from(thread) else {
         return Ok(None);
     };
-    match group_in(alloc, group)? {
+    match group_from(alloc, group)? {
         Some(group) => Ok(Some(Command::Sync(Tid(thread), group))),
         None => Ok(None),
     }
 }
 
 fn commit_by(forms: &[Sexpr]) -> Option<Command>
-    ensures { result ≡ spec.command_by word.Commit forms.now }
+    ensures { result ≡ spec.command_by keyword.Commit forms.now }
 {
     match forms {
         [thread, leaf] => Some(Command::Commit(Meet::Single {
-            tid: Tid(number_in(thread)?),
-            leaf: number_in(leaf)?,
+            tid: Tid(number_from(thread)?),
+            leaf: number_from(leaf)?,
         })),
         [head, head_leaf, other, other_leaf] => Some(Command::Commit(Meet::Pair {
-            head: Tid(number_in(head)?),
-            head_leaf: number_in(head_leaf)?,
-            other: Tid(number_in(other)?),
-            other_leaf: number_in(other_leaf)?,
+            head: Tid(number_from(head)?),
+            head_leaf: number_from(head_leaf)?,
+            other: Tid(number_from(other)?),
+            other_leaf: number_from(other_leaf)?,
         })),
         _ => None,
     }

@@ -24,7 +24,8 @@ pub fn replies_text(alloc: Global, replies: &[Reply]) -> Result<String, AllocErr
 
 // The lines that answer with this reply.
 fn push_reply(alloc: Global, text: &mut String, reply: &Reply) -> Result<(), AllocError>
-    ensures { OnOk result (string_bytes text.new ≡ string_bytes text.old ++ spec.reply_text reply.now) }
+    ensures { let lines = spec.reply_text reply.now in
+        OnOk result (string_bytes text.new ≡ string_bytes text.old ++ lines) }
 {
     match reply {
         Reply::Thread(thread) => writeln!(text, "thread {}", thread.0),
@@ -72,22 +73,24 @@ fn push_refusal(text: &mut String, why: Refusal) -> Result<(), AllocError>
 
 // Both parties, and the nacks that fired.
 fn push_committed(alloc: Global, text: &mut String, committed: &Committed) -> Result<(), AllocError>
-    ensures { OnOk result (string_bytes text.new ≡ string_bytes text.old ++ spec.committed_text committed.now) }
+    ensures { let lines = spec.committed_text committed.now in
+        OnOk result (string_bytes text.new ≡ string_bytes text.old ++ lines) }
 {
     push_resume(alloc, text, &committed.head)?;
     if let Some(partner) = &committed.partner {
         push_resume(alloc, text, partner)?;
     }
     text.push_str("fired")?;
-    push_nacks(text, committed.head.fired())?;
+    push_fired(text, &committed.head)?;
     if let Some(partner) = &committed.partner {
-        push_nacks(text, partner.fired())?;
+        push_fired(text, partner)?;
     }
     text.push_str("\n")
 }
 
 fn push_resume(alloc: Global, text: &mut String, resume: &Resume) -> Result<(), AllocError>
-    ensures { OnOk result (string_bytes text.new ≡ string_bytes text.old ++ spec.resume_line resume.now) }
+    ensures { let line = spec.resume_line resume.now in
+        OnOk result (string_bytes text.new ≡ string_bytes text.old ++ line) }
 {
     let thread = resume.tid().0;
     let value = resume.value().show(alloc)?;
@@ -99,8 +102,17 @@ fn push_resume(alloc: Global, text: &mut String, resume: &Resume) -> Result<(), 
     text.push_str("\n")
 }
 
+// The nacks that fired for this party.
+fn push_fired(text: &mut String, resume: &Resume) -> Result<(), AllocError>
+    ensures { let numbers = flat_map spec.spaced resume.now.fired in
+        OnOk result (string_bytes text.new ≡ string_bytes text.old ++ numbers) }
+{
+    push_nacks(text, resume.fired())
+}
+
 fn push_function(alloc: Global, text: &mut String, function: &FnRef) -> Result<(), AllocError>
-    ensures { OnOk result (string_bytes text.new ≡ string_bytes text.old ++ spec.shown_function function.now) }
+    ensures { let shown = spec.shown_function function.now in
+        OnOk result (string_bytes text.new ≡ string_bytes text.old ++ shown) }
 {
     let number = function.func();
     write!(text, " ({number}")?;
@@ -109,7 +121,8 @@ fn push_function(alloc: Global, text: &mut String, function: &FnRef) -> Result<(
 }
 
 fn push_values(alloc: Global, text: &mut String, captured: &[Value]) -> Result<(), AllocError>
-    ensures { OnOk result (string_bytes text.new ≡ string_bytes text.old ++ spec.shown_values (values captured.now)) }
+    ensures { let shown = spec.shown_values (values captured.now) in
+        OnOk result (string_bytes text.new ≡ string_bytes text.old ++ shown) }
 {
     for value in captured {
         let shown = value.show(alloc)?;
@@ -120,7 +133,8 @@ fn push_values(alloc: Global, text: &mut String, captured: &[Value]) -> Result<(
 }
 
 fn push_nacks(text: &mut String, nacks: &[NackId]) -> Result<(), AllocError>
-    ensures { OnOk result (string_bytes text.new ≡ string_bytes text.old ++ flat_map spec.spaced (map (λ k. k.0) nacks.now)) }
+    ensures { let numbers = flat_map spec.spaced (map (λ k. k.0) nacks.now) in
+        OnOk result (string_bytes text.new ≡ string_bytes text.old ++ numbers) }
 {
     for nack in nacks {
         write!(text, " {}", nack.0)?;

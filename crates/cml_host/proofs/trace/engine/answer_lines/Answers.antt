@@ -2,6 +2,7 @@ use Rattle.std.proofs.Common.{ℕ, ◌+◌, ◌≤◌, List, Option, Bool, lengt
 use Rattle.std.specs.Borrow.{Bor}
 use Rattle.cml_host.specs.Answers.{lines}
 use Rattle.cml_host.specs.Lines.{room_of}
+use Rattle.cml_host.specs.Streams.{stream}
 use Rattle.cml_host.specs.Runs.{LineAnswered}
 use Rattle.cml_host.proofs.EngineLemmas.{on_err, Standing, Standing-start, Standing-step, Standing-bad, Standing-done, Standing-begun, whole_begun}
 use Rattle.cml_host.proofs.trace.engine.answer_lines.Goals as goal
@@ -20,7 +21,7 @@ returns-then-not-goes_on-clause-ok g c =
     let stands = subst (λ (r : Option (Bor (List ℕ))). Standing 1 c.args.book.now (lines c.args.input.now) r c.loop-rest.number c.loop-rest.book
     (g.W.Write.contents c.args.writer.now) (g.W.Write.contents c.loop-rest.writer)) c.in-Some.is c.loop-rest.invariant.1 in
     let answered = subst (λ (b : Bool). LineAnswered c.loop-rest.number c.loop-rest.book c.answer_line.new.book c.cut.result.0.now
-    (g.W.Write.contents c.loop-rest.writer) (g.W.Write.contents c.answer_line.new.writer) b) c.if-not-goes_on.true c.in_ok-goes_on.ensures.ok in
+    (stream (g.W.Write.contents c.loop-rest.writer) (g.W.Write.contents c.answer_line.new.writer)) b) c.if-not-goes_on.true c.in_ok-goes_on.ensures.ok in
     Standing-bad _ _ _ c.in-Some.here c.cut.result.1 c.cut.result.0.now _ _ c.answer_line.new.book _ _ _ stands c.cut.ensures.cut answered
 
 pub loop-rest-preserved : goal.loop-rest-preserved
@@ -28,7 +29,7 @@ loop-rest-preserved g c =
     let stands = subst (λ (r : Option (Bor (List ℕ))). Standing 1 c.args.book.now (lines c.args.input.now) r c.loop-rest.number c.loop-rest.book
     (g.W.Write.contents c.args.writer.now) (g.W.Write.contents c.loop-rest.writer)) c.in-Some.is c.loop-rest.invariant.1 in
     let answered = subst (λ (b : Bool). LineAnswered c.loop-rest.number c.loop-rest.book c.answer_line.new.book c.cut.result.0.now
-    (g.W.Write.contents c.loop-rest.writer) (g.W.Write.contents c.answer_line.new.writer) b) c.if-not-goes_on.false c.in_ok-goes_on.ensures.ok in
+    (stream (g.W.Write.contents c.loop-rest.writer) (g.W.Write.contents c.answer_line.new.writer)) b) c.if-not-goes_on.false c.in_ok-goes_on.ensures.ok in
     let room = subst (λ (r : Option (Bor (List ℕ))). c.loop-rest.number + room_of r ≤ length c.args.input.now + 2) c.in-Some.is c.loop-rest.invariant.0 in (
       omega (arith, room, c.cut.ensures.shorter),
       Standing-step _ _ _ c.in-Some.here c.cut.result.1 c.cut.result.0.now _ _ _ _ _ _ stands c.cut.ensures.cut answered,

@@ -1,5 +1,6 @@
 use Rattle.std.proofs.Common.{◌<◌, length, arith}
 use Rattle.cml_host.specs.Answers.{max_input}
+use Rattle.cml_host.specs.Streams.{stream}
 use Rattle.cml_host.specs.Runs.{IsBegun}
 use Rattle.cml_host.proofs.EngineLemmas.{IsBegun-too_long, broken_write}
 use Rattle.cml_host.proofs.trace.engine.run_trace.Goals as goal
@@ -7,6 +8,8 @@ use Rattle.cml_host.proofs.trace.engine.run_trace.Goals as goal
 pub returns-in_err-write_out-clause-err : goal.returns-in_err-write_out-clause-err
 returns-in_err-write_out-clause-err g c =
     let long : max_input < length c.in_ok-input.input.items = omega (arith, c.len.ensures, c.if-len-gt-MAX_INPUT.true) in
-    let begun : IsBegun (g.R.Read.remaining c.args.reader.now) (g.R.Read.remaining c.read_all.new.reader) (g.W.Write.contents c.args.writer.now) (g.W.Write.contents c.write_out.new.out) =
-    IsBegun-too_long _ _ _ _ c.in_ok-input.input.items c.in_err-write_out.ensures.err.0 c.in_ok-input.ensures.bytes c.in_ok-input.ensures.end long c.in_err-write_out.ensures.err.1 in
-    broken_write c.from_residual-in_err-write_out.result _ _ _ _ c.from_residual-in_err-write_out.ensures.1 begun
+    let input = stream (g.R.Read.remaining c.args.reader.now) (g.R.Read.remaining c.read_all.new.reader) in
+    let output = stream (g.W.Write.contents c.args.writer.now) (g.W.Write.contents c.write_out.new.out) in
+    let begun : IsBegun input output =
+    IsBegun-too_long input output c.in_ok-input.input.items c.in_err-write_out.ensures.err.0 c.in_ok-input.ensures.bytes c.in_ok-input.ensures.end long c.in_err-write_out.ensures.err.1 in
+    broken_write c.from_residual-in_err-write_out.result input output c.from_residual-in_err-write_out.ensures.1 begun

@@ -1,0 +1,34 @@
+-- Stores: what is known of what lies in them.
+use Rattle.std.specs.Prelude.{◌≡◌, ◌≢◌, ℕ, ◌+◌, ◌≤◌, List, length, take}
+
+-- What is known of what lies under a name: not a thing, that nothing does, or these bytes.
+pub data Content : Type 0 where
+  unknown : Content
+  nothing : Content
+  bytes : List ℕ → Content
+
+-- These bytes are handed over for that: the first bytes of what lies there, one more than the limit at most. Nothing is handed over
+-- where nothing lies.
+abbrev pub IsLoaded : Content → ℕ → List ℕ → Type 0
+IsLoaded unknown limit found = length found ≤ limit + 1
+IsLoaded nothing limit found = ⊥
+IsLoaded (bytes all) limit found = found ≡ take (limit + 1) all
+
+-- it was this, and is now these bytes, where it was known
+abbrev pub Becomes : Content → Content → List ℕ → Type 0
+Becomes unknown new all = Unit {0}
+Becomes _ new all = new ≡ bytes all
+
+-- what lies under each name, before and after
+pub record Shelf : Type 0 where
+  pub before : List ℕ → Content
+  pub after : List ℕ → Content
+
+-- nothing was saved
+abbrev pub IsUnchanged : (List ℕ → Content) → (List ℕ → Content) → Type 0
+IsUnchanged old new = (name : List ℕ) → new name ≡ old name
+
+-- under this name these bytes were saved, and nothing under another one
+pub record IsSaved (old new : List ℕ → Content) (name all : List ℕ) : Type 0 where
+  pub saved : Becomes (old name) (new name) all
+  pub others : (other : List ℕ) → other ≢ name → new other ≡ old other
