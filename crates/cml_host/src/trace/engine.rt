@@ -14,7 +14,7 @@ use crate::trace::order::Order;
 use crate::trace::reply::{replies_text, rows_text};
 use cml_book::{Book, Command, KeptRows};
 use cml_scan::Table;
-use cml_text::laws::spelled_or_faulty;
+use cml_text::law::spelled_or_faulty;
 use std::alloc::{AllocError, Global};
 use std::io::{Read, Write};
 use thiserror::Error;
@@ -175,7 +175,7 @@ fn do_order<T: Table>(alloc: Global, book: &mut Book<T>, order: Order) -> Result
     match order {
         Order::Skip => Ok(String::new(alloc)),
         Order::Rows => {
-            let rows = book.rows(alloc)?;
+            let rows = book.table().rows(alloc)?;
             Ok(rows_text(alloc, rows.as_slice())?)
         }
         Order::Do(command) => do_command(alloc, book, command),

@@ -2,7 +2,7 @@
 
 ghost use Rattle.cml_host.specs.Laws.{HasOneAnswer, SpellingNamesKeyword};
 
-use cml_text::laws::{spelled_has_no_fault, spelled_or_faulty, spells_one_at_most};
+use cml_text::law::{spelled_has_no_fault, spelled_or_faulty, spells_one_at_most};
 
 /// Every trace has an answer, and no other one.
 pub fn has_one_answer()
