@@ -1,5 +1,6 @@
 //! What groups laid flat answer.
 
+use crate::choosing::chosen;
 use crate::making::{MEMORY, Made, group};
 use cml_group::{Flat, FlatFault, flatten};
 use cml_value::{Base, BaseKind, FnRef, Group, GroupKind, NackId};
@@ -116,10 +117,9 @@ fn laid(rt: &(impl Abort + AllocGlobal), group: &Group) -> Flat {
 fn push_chosen(rt: &(impl Abort + AllocGlobal), text: &mut String, group: &Group, leaves: usize) {
     for n in 0..leaves {
         let flat = laid(rt, group);
-        assert!(rt; n < flat.len());
-        let chosen = flat.choose(n);
-        push_line(rt, text, &chosen.base, &chosen.wraps, &chosen.fired);
-        drop(chosen);
+        let leaf = chosen(flat, n).expect(rt, "a leaf");
+        push_line(rt, text, &leaf.base, &leaf.wraps, &leaf.fired);
+        drop(leaf);
     }
 }
 
