@@ -1,5 +1,6 @@
 //! What groups laid flat answer.
 
+use crate::choosing::chosen;
 use crate::making::{MEMORY, Made, group};
 use cml_group::{Flat, FlatFault, flatten};
 use cml_value::{Base, BaseKind, FnRef, Group, GroupKind, NackId};
@@ -101,7 +102,7 @@ fn push_line(rt: &impl Abort, text: &mut String, base: &Base, wraps: &[FnRef], f
 // The lines of all leaves, as they lie there.
 fn push_leaves(rt: &(impl Abort + AllocGlobal), text: &mut String, flat: &Flat) {
     for n in 0..flat.len() {
-        let fired = flat.fired(rt.alloc(), n).expect(rt, MEMORY);
+        let fired = flat.lost(rt.alloc(), n).expect(rt, MEMORY);
         push_line(rt, text, flat.leaf(n), flat.wraps(n), &fired);
         drop(fired);
     }
@@ -116,10 +117,9 @@ fn laid(rt: &(impl Abort + AllocGlobal), group: &Group) -> Flat {
 fn push_chosen(rt: &(impl Abort + AllocGlobal), text: &mut String, group: &Group, leaves: usize) {
     for n in 0..leaves {
         let flat = laid(rt, group);
-        assert!(rt; n < flat.len());
-        let chosen = flat.choose(n);
-        push_line(rt, text, &chosen.base, &chosen.wraps, &chosen.fired);
-        drop(chosen);
+        let leaf = chosen(flat, n).expect(rt, "a leaf");
+        push_line(rt, text, &leaf.base, &leaf.wraps, &leaf.fired);
+        drop(leaf);
     }
 }
 
@@ -129,11 +129,11 @@ fn fires_so(rt: &(impl Abort + AllocGlobal), flat: &Flat) {
     for n in 0..flat.len() {
         let mut fired = Vec::new(rt.alloc());
         for scope in 0..scopes.len() {
-            if flat.fires(n, scope) {
+            if flat.loses(n, scope) {
                 fired.push(scopes[scope]).expect(rt, MEMORY);
             }
         }
-        let all = flat.fired(rt.alloc(), n).expect(rt, MEMORY);
+        let all = flat.lost(rt.alloc(), n).expect(rt, MEMORY);
         assert_eq!(rt; fired.as_slice(), all.as_slice());
         drop(fired);
         drop(all);

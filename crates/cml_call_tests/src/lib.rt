@@ -1,6 +1,7 @@
 //! Tests of the libraries' own calls: what only a caller of a library can ask, and no text given to the program.
 #![tactic(auto)]
 
+pub mod choosing;
 #[cfg(test)]
 mod groups;
 #[cfg(test)]

@@ -65,10 +65,10 @@ const LIGHTS: [(&str, Option<Light>); 13] = [
     ("4 mtake", Some(Light::MVar(MVarId(4)))),
     ("5 mget", Some(Light::MVar(MVarId(5)))),
     ("6 1 mswap", Some(Light::MVar(MVarId(6)))),
-    ("7 mail_recv", Some(Light::Mailbox(MboxId(7)))),
+    ("7 mail_recv", Some(Light::Mbox(MboxId(7)))),
     ("8 port_recv", Some(Light::Port(PortId(8)))),
-    ("9 join", Some(Light::Thread(Tid(9)))),
-    ("10 at", Some(Light::Tick(10))),
+    ("9 join", Some(Light::Joined(Tid(9)))),
+    ("10 at", Some(Light::Alarm(10))),
     ("12 nack", Some(Light::Nack(NackId(12)))),
 ];
 
@@ -170,9 +170,9 @@ fn lights(n: u32) -> [Light; 6] {
     [
         Light::IVar(IVarId(n)),
         Light::MVar(MVarId(n)),
-        Light::Mailbox(MboxId(n)),
+        Light::Mbox(MboxId(n)),
         Light::Port(PortId(n)),
-        Light::Thread(Tid(n)),
+        Light::Joined(Tid(n)),
         Light::Nack(NackId(n)),
     ]
 }
@@ -185,8 +185,8 @@ fn lights_of_a_world(rt: HostRuntime) {
             assert_eq!(rt; world.is_lit(light), expected, "{light:?}");
         }
     }
-    assert!(rt; world.is_lit(Light::Tick(0)));
-    assert!(rt; !world.is_lit(Light::Tick(1)));
+    assert!(rt; world.is_lit(Light::Alarm(0)));
+    assert!(rt; !world.is_lit(Light::Alarm(1)));
     drop(world);
 }
 

@@ -77,75 +77,25 @@ const EVENTS: [(&str, u64, u64); 14] = [
     ("never 0 1 send 2 choose 3 scope 0 0 function wrap", 5, 6),
 ];
 
-// Values of which no two are the same.
-const APART: [&str; 62] = [
-    "unit",
-    "0",
-    "-9223372036854775808",
-    "9223372036854775807",
-    "false",
-    "true",
-    "0 thread",
-    "0 chan",
-    "1 chan",
-    "0 ivar",
-    "0 mvar",
-    "0 mailbox",
-    "0 mchan",
-    "0 port",
-    "\"\"",
-    "\"a\"",
-    "\"A\"",
-    // an accented letter, and the same letter with an accent of its own
-    "\"\u{e9}\"",
-    "\"e\u{301}\"",
-    "1 2 pair",
-    "1 3 pair",
-    "2 1 pair",
-    // events, by their base events
-    "unit always event",
-    "0 always event",
-    "0 0 send event",
-    "0 1 send event",
-    "1 0 send event",
-    "0 recv event",
-    "1 recv event",
-    "0 iget event",
-    "0 mtake event",
-    "0 mget event",
-    "0 0 mswap event",
-    "0 unit mswap event",
-    "0 mail_recv event",
-    "0 port_recv event",
-    "0 join event",
-    "0 at event",
-    "4294967295 at event",
-    "0 after event",
-    "0 nack event",
-    "1 nack event",
-    // by their functions
-    "0 0 function guard event",
-    "0 1 function guard event",
-    "1 1 0 function guard event",
-    "2 1 0 function guard event",
-    "1 2 2 0 function guard event",
-    "2 1 2 0 function guard event",
-    "1 1 0 function with_nack event",
-    // and by their form
-    "never event",
-    "0 choose event",
-    "never 1 choose event",
-    "never 0 recv 2 choose event",
-    "0 recv never 2 choose event",
-    "never 0 0 function wrap event",
-    "never 1 1 0 function wrap event",
-    "never 2 1 0 function wrap event",
-    "0 recv 2 1 0 function wrap event",
-    "never 0 scope event",
-    "never 1 scope event",
-    "0 recv 0 scope event",
-    "never 0 scope 0 scope event",
-];
+// 62 values of which no two are the same, each by the words from the one before it on.
+const APART: &str = r#"
+    unit 0 -9223372036854775808 9223372036854775807 false true 0 thread 0 chan 1 chan 0 ivar 0 mvar 0 mailbox
+    0 mchan 0 port "" "a" "A"
+    ; an accented letter, and the same letter with an accent of its own
+    "é" "é" 1 2 pair 1 3 pair 2 1 pair
+    ; events, by their base events
+    unit always event 0 always event 0 0 send event 0 1 send event 1 0 send event 0 recv event 1 recv event
+    0 iget event 0 mtake event 0 mget event 0 0 mswap event 0 unit mswap event 0 mail_recv event
+    0 port_recv event 0 join event 0 at event 4294967295 at event 0 after event 0 nack event 1 nack event
+    ; by their functions
+    0 0 function guard event 0 1 function guard event 1 1 0 function guard event 2 1 0 function guard event
+    1 2 2 0 function guard event 2 1 2 0 function guard event 1 1 0 function with_nack event
+    ; and by their form
+    never event 0 choose event never 1 choose event never 0 recv 2 choose event 0 recv never 2 choose event
+    never 0 0 function wrap event never 1 1 0 function wrap event never 2 1 0 function wrap event
+    0 recv 2 1 0 function wrap event never 0 scope event never 1 scope event 0 recv 0 scope event
+    never 0 scope 0 scope event
+"#;
 
 // Groups of which no two are the same.
 const GROUPS_APART: &str = "never 0 recv 1 recv 0 choose never 0 recv 2 choose 0 recv never 2 choose
@@ -209,18 +159,16 @@ fn events_by_hand(rt: HostRuntime) {
 
 #[test]
 fn no_two_values(rt: HostRuntime) {
-    let mut all = Vec::new(rt.alloc());
-    for text in APART {
-        all.push(value(&rt, text)).expect(&rt, MEMORY);
-    }
-    for (i, one) in all.iter().enumerate() {
-        for (j, other) in all.iter().enumerate() {
+    let made = make(&rt, APART);
+    assert_eq!(rt; made.values.len(), 62);
+    for (i, one) in made.values.iter().enumerate() {
+        for (j, other) in made.values.iter().enumerate() {
             let copy = other.copy().expect(&rt, MEMORY);
             assert_eq!(rt; one.same(&copy), i == j, "{i} and {j}");
             drop(copy);
         }
     }
-    drop(all);
+    drop(made);
 }
 
 #[test]
@@ -412,22 +360,37 @@ fn parts_of_a_pair(rt: HostRuntime) {
     }
 }
 
+fn is_scope(event: &Event) -> bool {
+    matches!(event.kind(), EventKind::Scope(nack, _) if nack.0 == 6)
+}
+
+fn is_wrapped_scope(event: &Event) -> bool {
+    match event.kind() {
+        EventKind::Wrap(inside, function) => function.func() == 5 && is_scope(inside),
+        _ => false,
+    }
+}
+
+fn is_group_scope(group: &Group) -> bool {
+    matches!(group.kind(), GroupKind::Scope(nack, _) if nack.0 == 6)
+}
+
+fn is_wrapped_group_scope(group: &Group) -> bool {
+    match group.kind() {
+        GroupKind::Wrap(inside, function) => function.func() == 5 && is_group_scope(inside),
+        _ => false,
+    }
+}
+
 #[test]
 fn parts_of_an_event(rt: HostRuntime) {
-    let made = make(&rt, "3 8 mswap 6 scope 0 5 function wrap");
-    assert_eq!(rt; (made.events.len(), made.groups.len()), (1, 1));
-    for event in &made.events {
-        assert!(rt;
-            matches!(event.kind(), EventKind::Wrap(inside, function)
-            if function.func() == 5 && matches!(Event::kind(inside), EventKind::Scope(NackId(6), _)))
-        );
-    }
-    for group in &made.groups {
-        assert!(rt;
-            matches!(group.kind(), GroupKind::Wrap(inside, function)
-            if function.func() == 5 && matches!(Group::kind(inside), GroupKind::Scope(NackId(6), _)))
-        );
-    }
+    let mut made = make(&rt, "3 8 mswap 6 scope 0 5 function wrap");
+    let event = made.event(&rt);
+    assert!(rt; is_wrapped_scope(&event));
+    drop(event);
+    let group = made.group(&rt);
+    assert!(rt; is_wrapped_group_scope(&group));
+    drop(group);
     drop(made);
 }
 

@@ -1,10 +1,10 @@
 -- The nacks that choosing a leaf fires, by the parts of the group.
-use Rattle.std.proofs.Common.{◌≡◌, ℕ, ◌+◌, ◌-◌, ◌<◌, ◌≤◌, ◌⊎◌, inl, inr, Bool, true, false, nat_lt, ◌||◌, if◌then◌else◌, List, [], ◌∷◌, ◌++◌, filter, refl, ◌∙◌, ap, arith}
+use Rattle.std.proofs.Common.{◌≡◌, ℕ, ◌+◌, ◌-◌, ◌<◌, ◌≤◌, ◌⊎◌, inl, inr, true, false, nat_lt, if◌then◌else◌, List, [], ◌∷◌, ◌++◌, filter, refl, ◌∙◌, ap, arith}
 use Rattle.std.specs.List.{flat_map}
 use Rattle.std.proofs.lemmas.Bool.Decides.{nat_tests}
 use Rattle.std.proofs.lemmas.List.{map-append}
 use Rattle.std.proofs.lemmas.List.Elements.{filter-append}
-use Rattle.cml_value.specs.Group.{PlainGroup, never, leaf, choose, wrap, scope, PlainGroups, no_groups, groups_and, groups, PlainScope, leaves, leaf_count, scopes, scopes_from, scopes_from_all, nacks_of, lies_outside, lost}
+use Rattle.cml_value.specs.Group.{PlainGroup, choose, wrap, scope, PlainGroups, no_groups, groups_and, groups, PlainScope, leaves, leaf_count, scopes, scopes_from, scopes_from_all, nacks_of, lies_outside, lost}
 use Rattle.cml_group.proofs.Leaves.{leaf_count-wrap, leaf_count-append}
 
 -- how many leaves the groups of a list have
@@ -43,9 +43,6 @@ outside_yes n s ss h = rw h refl
 
 outside_no : (n : ℕ) (s : PlainScope) (ss : List PlainScope) → lies_outside n s ≡ false → outside (s ∷ ss) n ≡ outside ss n
 outside_no n s ss h = rw h refl
-
-either_true : (a b : Bool) → (a ≡ true) ⊎ (b ≡ true) → (a || b) ≡ true
-either_true a b h = grind arith
 
 pub lies_out : (n : ℕ) (s : PlainScope) → (n < s.first) ⊎ (s.past ≤ n) → lies_outside n s ≡ true
 lies_out n s h = grind (arith, nat_tests)
