@@ -152,6 +152,8 @@ impl<K: Source> Register<K> {
             option_map_or (λ s. K.given s want) (slice_get (map K.state self.old.objects) id) unit }
         ensures states { map K.state self.new.objects ≡
             given_at (λ s. K.after s want) (map K.state self.old.objects) id }
+
+        ensures len { length self.new.objects ≡ length self.old.objects }
         ensures others { KeepsOthers self.old.objects self.new.objects id }
         ensures waits { self.new.waits ≡ self.old.waits }
     {
@@ -244,6 +246,7 @@ fn give_of<K: Source>(objects: &mut Vec<K>, id: u32, want: K::Want, copy: Option
         option_map_or (λ s. K.given s want) (slice_get (map K.state objects.old.items) id) unit }
     ensures states { map K.state objects.new.items ≡
         given_at (λ s. K.after s want) (map K.state objects.old.items) id }
+    ensures len { length objects.new.items ≡ length objects.old.items }
     ensures others { KeepsOthers objects.old.items objects.new.items id }
 {
     let object = &mut objects[id as usize];

@@ -6,7 +6,7 @@ use Rattle.cml_value.specs.Value.{PlainValue}
 use Rattle.cml_value.specs.declared.number.PortId.{PortId}
 use Rattle.cml_base.specs.Feeds.{PlainRefusal, full}
 use Rattle.cml_queues.specs.PlainQueue.{PlainQueue}
-use Rattle.cml_queues.specs.Queues.{is_full}
+use Rattle.cml_queues.specs.Queues.{is_at_limit}
 
 -- the unread messages of each port
 abbrev pub unread : List PlainQueue → List (List PlainValue)
@@ -16,12 +16,12 @@ unread ports = map (λ port. port.items) ports
 abbrev pub port_has_room : PlainQueue → Bool
 port_has_room port = nat_lt 0 port.room
 
-abbrev pub is_full_at : List (List PlainValue) → PortId → Bool
-is_full_at queues port = option_map_or is_full (slice_get queues port.0) false
+abbrev pub port_is_full : List (List PlainValue) → PortId → Bool
+port_is_full queues port = option_map_or is_at_limit (slice_get queues port.0) false
 
 abbrev pub any_is_full : List PortId → List (List PlainValue) → Bool
 any_is_full [] queues = false
-any_is_full (port ∷ ports) queues = is_full_at queues port || any_is_full ports queues
+any_is_full (port ∷ ports) queues = port_is_full queues port || any_is_full ports queues
 
 -- this port has the message behind its others
 abbrev pub with_message : List (List PlainValue) → PortId → PlainValue → List (List PlainValue)

@@ -12,8 +12,8 @@ abbrev pub is_filled : List PlainValue → Bool
 is_filled [] = false
 is_filled (v ∷ vs) = true
 
-abbrev pub is_full : List PlainValue → Bool
-is_full items = not (nat_lt (length items) max_items)
+abbrev pub is_at_limit : List PlainValue → Bool
+is_at_limit items = not (nat_lt (length items) max_items)
 
 -- the first item; an empty queue gives nobody anything
 abbrev pub first_of : List PlainValue → PlainValue
@@ -22,4 +22,4 @@ first_of (v ∷ vs) = v
 
 -- a send puts its value behind the items, and is refused by a full queue
 abbrev pub queued : List PlainValue → PlainValue → Result (List PlainValue) PlainRefusal
-queued items v = if is_full items then Err full else Ok (items ++ v ∷ [])
+queued items v = if is_at_limit items then Err full else Ok (items ++ v ∷ [])

@@ -3,7 +3,7 @@
 ghost use Rattle.std.specs.Prelude.{◌≡◌, ◌≢◌, ◌<◌, false, length, replicate, IfOk, OnOk, All, AllPairs};
 ghost use Rattle.cml_base.specs.Feeds.{Feeds};
 ghost use Rattle.cml_base.specs.Registered.{HasRoomAt, KeepsOthers};
-ghost use Rattle.cml_queues.specs.Posts.{unread, port_has_room, is_full_at, any_is_full as spec_any_is_full, with_message, posted, post_outcome};
+ghost use Rattle.cml_queues.specs.Posts.{unread, port_has_room, port_is_full, any_is_full as spec_any_is_full, with_message, posted, post_outcome};
 
 use crate::multicast::Multicast;
 use crate::port::Port;
@@ -43,7 +43,7 @@ pub fn post(
 
 // Whether there is a port of this number that is full.
 fn is_full(ports: &Register<Port>, id: PortId) -> bool
-    ensures { result ≡ is_full_at (unread ports.now.objects) id }
+    ensures { result ≡ port_is_full (unread ports.now.objects) id }
 {
     match ports.get(id.0) {
         Some(port) => port.is_full(),
@@ -94,7 +94,7 @@ fn feed_all(ports: &mut Register<Port>, ids: &[PortId], message: &Value, mut cop
     requires there { All (λ id. id.0 < length ports.old.objects) ids.now }
     requires once { AllPairs (λ a b. a.0 < b.0) ids.now }
     requires room { All (λ id. HasRoomAt port_has_room ports.old.objects id.0) ids.now }
-    requires open { All (λ id. is_full_at (unread ports.old.objects) id ≡ false) ids.now }
+    requires open { All (λ id. port_is_full (unread ports.old.objects) id ≡ false) ids.now }
     requires copied { copies.items ≡ replicate (length ids.now) message.now }
     ensures unread { unread ports.new.objects ≡ posted message.now ids.now (unread ports.old.objects) }
     ensures len { length ports.new.objects ≡ length ports.old.objects }
@@ -112,7 +112,7 @@ fn feed_all(ports: &mut Register<Port>, ids: &[PortId], message: &Value, mut cop
 fn feed_one(ports: &mut Register<Port>, id: PortId, message: Value)
     requires there { id.0 < length ports.old.objects }
     requires room { HasRoomAt port_has_room ports.old.objects id.0 }
-    requires open { is_full_at (unread ports.old.objects) id ≡ false }
+    requires open { port_is_full (unread ports.old.objects) id ≡ false }
     ensures unread { unread ports.new.objects ≡ with_message (unread ports.old.objects) id message }
     ensures len { length ports.new.objects ≡ length ports.old.objects }
     ensures others { KeepsOthers ports.old.objects ports.new.objects id.0 }

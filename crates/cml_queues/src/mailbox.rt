@@ -1,7 +1,7 @@
 //! Mailboxes.
 
 ghost use Rattle.std.specs.Prelude.{◌≡◌, []};
-ghost use Rattle.cml_queues.specs.Queues.{is_full};
+ghost use Rattle.cml_queues.specs.Queues.{is_at_limit};
 
 use crate::queue::Queue;
 use cml_base::{FeedFault, Source};
@@ -37,7 +37,7 @@ impl Mailbox {
 
     /// Whether it takes no more items.
     pub fn is_full(&self) -> bool
-        ensures { result ≡ is_full self.now.items }
+        ensures { result ≡ is_at_limit self.now.items }
     {
         self.queue.is_full()
     }

@@ -1,7 +1,7 @@
 //! Ports of multicast channels.
 
 ghost use Rattle.std.specs.Prelude.{◌≡◌, [], IfOk};
-ghost use Rattle.cml_queues.specs.Queues.{is_full};
+ghost use Rattle.cml_queues.specs.Queues.{is_at_limit};
 
 use crate::queue::Queue;
 use cml_base::{FeedFault, Source};
@@ -37,7 +37,7 @@ impl Port {
 
     /// Whether it takes no more messages.
     pub fn is_full(&self) -> bool
-        ensures { result ≡ is_full self.now.items }
+        ensures { result ≡ is_at_limit self.now.items }
     {
         self.queue.is_full()
     }

@@ -2,7 +2,7 @@
 
 ghost use Rattle.std.specs.Prelude.{◌≡◌, ◌<◌, [], drop, replicate, IsTrue, IfOk, OnOk};
 ghost use Rattle.cml_base.specs.Feeds.{Feeds, WantsNoMemory};
-ghost use Rattle.cml_queues.specs.Queues.{is_filled, is_full, first_of, queued};
+ghost use Rattle.cml_queues.specs.Queues.{is_filled, is_at_limit, first_of, queued};
 
 use cml_base::FeedFault;
 use cml_value::Value;
@@ -57,7 +57,7 @@ impl Queue {
 
     // Whether no more items are taken.
     pub(crate) fn is_full(&self) -> bool
-        ensures { result ≡ is_full self.now.items }
+        ensures { result ≡ is_at_limit self.now.items }
     {
         self.items.len() >= MAX_ITEMS
     }

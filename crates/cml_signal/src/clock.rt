@@ -10,7 +10,7 @@ use std::ops::Bound;
 
 /// The time now, and for each tick that a leaf of a pending thread waits for, how many do.
 ///
-/// Each call but `lit_by` takes time by the number of digits of the number of waited ticks, however many leaves wait.
+/// Each call but `ticks_until` takes time by the number of digits of the number of waited ticks, however many leaves wait.
 #[derive(Drop)]
 pub struct Clock {
     tick: u64,
@@ -97,7 +97,7 @@ impl Clock {
     ///
     /// # Errors
     /// Want of memory.
-    pub fn lit_by(&self, alloc: Global, to: u64) -> Result<Vec<u64>, AllocError>
+    pub fn ticks_until(&self, alloc: Global, to: u64) -> Result<Vec<u64>, AllocError>
         requires { self.now.tick ≤ to }
         ensures exact { IfOk result (λ ticks. (t : ℕ) → Contains ticks.items t ↔ LightsTick self.now to t) }
         ensures order { IfOk result (λ ticks. AllPairs (λ a b. a < b) ticks.items) }

@@ -2,7 +2,7 @@ use Rattle.std.proofs.Common.{◌≡◌, sym, ◌∙◌, append-nil}
 use Rattle.std.specs.Map.{keys_of}
 use Rattle.std.specs.List.{filter}
 use Rattle.cml_signal.proofs.Ticks.{is_between, lights_exact, ticks_in_order}
-use Rattle.cml_signal.proofs.clock.Clock.lit_by.Goals as goal
+use Rattle.cml_signal.proofs.clock.Clock.ticks_until.Goals as goal
 
 pub returns-clause-exact : goal.returns-clause-exact
 returns-clause-exact c = λ t.
