@@ -118,7 +118,7 @@ fn push_chosen(rt: &(impl Abort + AllocGlobal), text: &mut String, group: &Group
     for n in 0..leaves {
         let flat = laid(rt, group);
         let leaf = chosen(flat, n).expect(rt, "a leaf");
-        push_line(rt, text, &leaf.base, &leaf.wraps, &leaf.fired);
+        push_line(rt, text, &leaf.base, &leaf.wraps, &leaf.lost);
         drop(leaf);
     }
 }

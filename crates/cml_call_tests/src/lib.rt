@@ -1,9 +1,14 @@
 //! Tests of the libraries' own calls: what only a caller of a library can ask, and no text given to the program.
 #![tactic(auto)]
 
+#[cfg(test)]
+mod books;
 pub mod choosing;
 #[cfg(test)]
 mod groups;
+#[cfg(test)]
+mod kinds;
+pub mod links;
 #[cfg(test)]
 mod making;
 #[cfg(test)]

@@ -1,6 +1,13 @@
-//! The signals of Concurrent ML that stand for something that happens once: today the nack of a branch.
+//! The signals of Concurrent ML, which stand for something that happens once: the end of a thread, a tick of the clock, and a choice
+//! that leaves a branch out.
 #![tactic(auto)]
 
+mod alarm;
+mod clock;
+mod joined;
 mod nack;
 
-pub use nack::{NackCell, Spent};
+pub use alarm::Alarm;
+pub use clock::Clock;
+pub use joined::Joined;
+pub use nack::{NackCell, NackFeed, Spent};

@@ -2,7 +2,9 @@
 
 ghost use Rattle.std.specs.Prelude.{◌≡◌};
 
-use cml_value::Tid;
+use cml_base::{FeedFault, Source};
+use cml_value::{Tid, Value, ValueKind};
+use std::alloc::AllocError;
 use std::marker::Model;
 use thiserror::Error;
 
@@ -117,30 +119,88 @@ impl NackCell {
     }
 }
 
-#[cfg(test)]
-mod tests {
-    use super::*;
-    use std::test::Fail;
+/// What befalls a nack.
+#[derive(Drop)]
+pub enum NackFeed {
+    /// A pending group has its branch from now on.
+    Enter,
+    /// An event outside its branch was chosen.
+    Fire,
+    /// An event inside its branch was chosen.
+    Hold,
+}
 
-    #[test]
-    fn goes_its_way_once(rt: HostRuntime) -> Result<(), Fail> {
-        let mut cell = NackCell::new(Tid(3));
-        assert!(rt; cell.is_fresh_of(Tid(3)));
-        assert!(rt; !cell.is_fresh_of(Tid(2)));
-        assert_eq!(rt; cell.fire(), Err(Spent));
-        assert_eq!(rt; cell.hold(), Err(Spent));
-        assert_eq!(rt; cell.enter(), Ok(()));
-        assert!(rt; !cell.is_fresh_of(Tid(3)));
-        assert_eq!(rt; cell.enter(), Err(Spent));
-        assert_eq!(rt; cell.fire(), Ok(()));
-        assert!(rt; cell.is_fired());
-        assert_eq!(rt; cell.fire(), Err(Spent));
-        assert_eq!(rt; cell.hold(), Err(Spent));
-        let mut other = NackCell::new(Tid(0));
-        assert_eq!(rt; other.enter(), Ok(()));
-        assert_eq!(rt; other.hold(), Ok(()));
-        assert!(rt; !other.is_fired());
-        assert_eq!(rt; other.fire(), Err(Spent));
+impl Source for NackCell {
+    ghost use Rattle.std.specs.Prelude.{true, None};
+    ghost use Rattle.std.proofs.Common.{rules};
+    ghost use Rattle.cml_value.specs.Value.{unit};
+    ghost use Rattle.cml_value.specs.Nack.{PlainNack};
+    ghost use Rattle.cml_signal.specs.NackCell as spec;
+    ghost use Rattle.cml_signal.specs.NackFeeds.{nack_fed, nack_stays_lit};
+
+    type Want = ();
+
+    type Feed = NackFeed;
+
+    ghost State = { PlainNack };
+
+    ghost state = { λ nack. nack };
+
+    ghost is_lit = { spec.is_fired };
+
+    ghost given = { λ _ _. unit };
+
+    ghost after = { λ nack _. nack };
+
+    ghost spared = { λ _ _. None };
+
+    ghost fed = { nack_fed };
+
+    ghost has_room = { λ _. true };
+
+    ghost STICKY = { true };
+
+    const STICKY: bool = true;
+
+    ghost ROOMY = { true };
+
+    const ROOMY: bool = true;
+
+    fn lit(&self) -> bool {
+        self.is_fired()
+    }
+
+    fn stays_lit_after(&self, _want: &()) -> bool {
+        true
+    }
+
+    fn spare(&self, _want: &()) -> Result<Option<Value>, AllocError> {
+        Ok(None)
+    }
+
+    fn give(&mut self, _want: (), _copy: Option<Value>) -> Value {
+        Value::new(ValueKind::Unit)
+    }
+
+    fn feed(&mut self, feed: NackFeed) -> Result<(), FeedFault<NackFeed>> {
+        let done = match &feed {
+            NackFeed::Enter => self.enter(),
+            NackFeed::Fire => self.fire(),
+            NackFeed::Hold => self.hold(),
+        };
+        match done {
+            Ok(()) => Ok(()),
+            Err(Spent) => Err(FeedFault::Spent(feed)),
+        }
+    }
+
+    fn room(&mut self) -> Result<(), AllocError> {
         Ok(())
     }
+
+    ghost stays_lit = { nack_stays_lit };
+
+    ghost sticky = { Prim.search rules };
+
+    ghost roomy = { Prim.search rules };
 }

@@ -1,0 +1,180 @@
+//! Books and the plain table, in what only a caller of the library can do.
+
+use crate::making::{MEMORY, group, value};
+use cml_book::{Book, Fault, KeptRows, Refusal, Resume};
+use cml_scan::{Light, Meet, Place, Table};
+use cml_value::{Base, BaseKind, ChanId, Group, GroupKind, MVarId, NackId, Tid};
+use std::process::Abort;
+
+const EXCHANGE: Meet = Meet::Pair {
+    head: Tid(1),
+    head_leaf: 0,
+    other: Tid(0),
+    other_leaf: 0,
+};
+
+const SENDER: Place = Place {
+    tid: Tid(1),
+    leaf: 0,
+};
+
+const FIRST: Meet = Meet::Single {
+    tid: Tid(0),
+    leaf: 0,
+};
+
+// What thread 0 can't wait on in a book of one thread and one channel, and why.
+const REFUSED: [(&str, Refusal); 4] = [
+    ("0 iget", Refusal::Object),
+    ("1 join", Refusal::Object),
+    ("1 recv", Refusal::Object),
+    ("0 nack", Refusal::Object),
+];
+
+// Ticks, and why thread 0 can't wait for them, if it can't.
+const TICKS: [(u64, Option<Refusal>); 3] = [
+    (u64::MAX, Some(Refusal::Far)),
+    (4_611_686_018_427_387_905, Some(Refusal::Far)),
+    (4_611_686_018_427_387_904, None),
+];
+
+// A book with so many threads, and one channel.
+fn book_of(rt: &(impl Abort + AllocGlobal), threads: u32) -> Book<KeptRows> {
+    let mut book = Book::new(rt.alloc(), KeptRows::new(rt.alloc()));
+    for number in 0..threads {
+        assert_eq!(rt; book.spawn(), Ok(Tid(number)));
+    }
+    assert_eq!(rt; book.make_chan(), Ok(ChanId(0)));
+    book
+}
+
+// The thread waits on the group that the words make.
+fn wait(
+    rt: &(impl Abort + AllocGlobal),
+    book: &mut Book<KeptRows>,
+    thread: u32,
+    text: &str,
+) -> Result<(), Fault> {
+    let group = group(rt, text);
+    let waits = book.sync(rt.alloc(), Tid(thread), &group);
+    drop(group);
+    waits
+}
+
+// The party is this thread, and goes on with the value that the words make, and nothing else.
+fn goes_on(rt: &(impl Abort + AllocGlobal), party: Resume, thread: u32, text: &str) {
+    let wanted = value(rt, text);
+    assert_eq!(rt; party.tid(), Tid(thread));
+    assert!(rt; party.value().same(&wanted));
+    assert_eq!(rt; party.wraps().len(), 0);
+    assert_eq!(rt; party.fired().len(), 0);
+    let (tid, given, wraps, fired) = party.into_parts();
+    assert_eq!(rt; tid, Tid(thread));
+    assert!(rt; given.same(&wanted));
+    drop(wraps);
+    drop(fired);
+    drop(given);
+    drop(wanted);
+}
+
+fn pending_count(rt: &(impl Abort + AllocGlobal), book: &Book<KeptRows>) -> usize {
+    let pending = book.pending(rt.alloc()).expect(rt, MEMORY);
+    let count = pending.len();
+    drop(pending);
+    count
+}
+
+// The table shows just the exchange, by each of its calls.
+fn shows_the_exchange(rt: &(impl Abort + AllocGlobal), table: &KeptRows) {
+    let rows = table.rows(rt.alloc()).expect(rt, MEMORY);
+    assert_eq!(rt; rows.len(), 1);
+    assert_eq!(rt; rows[0], EXCHANGE);
+    drop(rows);
+    assert!(rt; table.has(&EXCHANGE));
+    assert!(rt; !table.has(&FIRST));
+    assert_eq!(rt; table.head_count(), 1);
+    assert_eq!(rt; table.head(0), SENDER);
+    assert_eq!(rt; table.partner_count(SENDER), 1);
+    assert_eq!(rt; table.partner(SENDER, 0), EXCHANGE);
+}
+
+#[test]
+fn a_value_is_handed_over(rt: HostRuntime) {
+    let mut book = book_of(&rt, 2);
+    assert_eq!(rt; book.next_thread(), Tid(2));
+    assert_eq!(rt; wait(&rt, &mut book, 1, "0 5 send"), Ok(()));
+    assert_eq!(rt; book.table().head_count(), 0);
+    assert_eq!(rt; wait(&rt, &mut book, 0, "0 recv"), Ok(()));
+    assert_eq!(rt; pending_count(&rt, &book), 2);
+    shows_the_exchange(&rt, book.table());
+    let committed = book.commit(rt.alloc(), EXCHANGE).expect(&rt, MEMORY);
+    goes_on(&rt, committed.head, 1, "unit");
+    goes_on(&rt, committed.partner.expect(&rt, "a receiver"), 0, "5");
+    assert_eq!(rt; pending_count(&rt, &book), 0);
+    assert_eq!(rt; book.table().head_count(), 0);
+    drop(book);
+}
+
+#[test]
+fn a_join_is_lit_by_the_end(rt: HostRuntime) {
+    let mut book = book_of(&rt, 2);
+    assert_eq!(rt; book.nack(Tid(2)), Err(Fault::Refused(Refusal::Thread)));
+    assert_eq!(rt; book.nack(Tid(1)), Ok(NackId(0)));
+    assert_eq!(rt; book.next_nack(), NackId(1));
+    assert_eq!(rt; wait(&rt, &mut book, 0, "1 join"), Ok(()));
+    assert!(rt; !book.table().has(&FIRST));
+    assert_eq!(rt; book.end(rt.alloc(), Tid(1)), Ok(()));
+    let again = book.end(rt.alloc(), Tid(1));
+    assert_eq!(rt; again, Err(Fault::Refused(Refusal::State)));
+    let committed = book.commit(rt.alloc(), FIRST).expect(&rt, MEMORY);
+    assert!(rt; committed.partner.is_none());
+    goes_on(&rt, committed.head, 0, "unit");
+    assert_eq!(rt; wait(&rt, &mut book, 0, "0 after"), Ok(()));
+    assert!(rt; book.table().has(&FIRST));
+    drop(book);
+}
+
+fn waits_for_tick(
+    rt: &(impl Abort + AllocGlobal),
+    book: &mut Book<KeptRows>,
+    tick: u64,
+) -> Result<(), Fault> {
+    let group = Group::new(GroupKind::Leaf(Base::new(BaseKind::At(tick))));
+    let waits = book.sync(rt.alloc(), Tid(0), &group);
+    drop(group);
+    waits
+}
+
+#[test]
+fn a_wait_is_refused_by_what_it_names(rt: HostRuntime) {
+    let mut book = book_of(&rt, 1);
+    for (text, why) in &REFUSED {
+        assert_eq!(rt; wait(&rt, &mut book, 0, text), Err(Fault::Refused(*why)));
+    }
+    for (tick, why) in &TICKS {
+        let waits = match why {
+            Some(why) => Err(Fault::Refused(*why)),
+            None => Ok(()),
+        };
+        assert_eq!(rt; waits_for_tick(&rt, &mut book, *tick), waits);
+    }
+    let again = waits_for_tick(&rt, &mut book, 0);
+    assert_eq!(rt; again, Err(Fault::Refused(Refusal::State)));
+    drop(book);
+}
+
+#[test]
+fn a_light_is_lit_and_put_out(rt: HostRuntime) {
+    let mut table = KeptRows::new(rt.alloc());
+    let take = group(&rt, "3 mtake");
+    let light = Light::MVar(MVarId(3));
+    let came = Some((Tid(0), &take));
+    table.change(rt.alloc(), &[], came, &[], &[]).expect(&rt, MEMORY);
+    assert!(rt; !table.has(&FIRST));
+    table.change(rt.alloc(), &[], None, &[light], &[]).expect(&rt, MEMORY);
+    assert!(rt; table.has(&FIRST));
+    table.change(rt.alloc(), &[], None, &[], &[light]).expect(&rt, MEMORY);
+    assert!(rt; !table.has(&FIRST));
+    drop(table);
+    drop(take);
+}

@@ -1,0 +1,654 @@
+//! Objects of each kind in a register, the clock, multicast channels, and two ends that meet.
+
+ghost use Rattle.std.specs.Prelude.{◌≡◌, ◌<◌, [], length, All, IfOk, IsTrue};
+
+use crate::links::{End, Link};
+use cml_base::{FeedFault, Paired, Register, Source};
+use cml_queues::{MAX_ITEMS, Mailbox, Multicast, Port, copy_port, post};
+use cml_signal::{Alarm, Clock, Joined, NackCell, NackFeed, Spent};
+use cml_syncvar::{IVar, MVar, MVarWant};
+use cml_value::{Base, BaseKind, ChanId, IVarId, PortId, Tid, Value, ValueKind};
+use std::alloc::{AllocError, Global};
+use std::test::Fail;
+
+// What is done with the objects of a register.
+#[derive(Clone, Copy)]
+enum Step {
+    /// One more object, made by this number.
+    Make(u64),
+    /// A leaf waits for an object: the object, the thread and the leaf.
+    Wait(u32, u32, u32),
+    /// It does so no more.
+    Leave(u32, u32, u32),
+    /// Room in an object, and then it is fed what this number stands for.
+    Feed(u32, u64),
+    /// An object is asked for what this number stands for.
+    Ask(u32, u64),
+    /// Who waits for an object that is lit?
+    Lit,
+}
+
+use Step::{Ask, Feed, Leave, Lit, Make, Wait};
+
+// A kind whose objects, wants and feeds can be named by numbers.
+trait Numbered: Source {
+    fn made(alloc: Global, n: u64) -> Self;
+
+    fn want(n: u64) -> Self::Want;
+
+    fn fed_with(n: u64) -> Self::Feed;
+}
+
+fn int(n: u64) -> Value {
+    Value::new(ValueKind::Int((n % 1000) as i64))
+}
+
+impl Numbered for IVar {
+    fn made(_alloc: Global, _n: u64) -> IVar {
+        IVar::new()
+    }
+
+    fn want(_n: u64) {}
+
+    fn fed_with(n: u64) -> Value {
+        int(n)
+    }
+}
+
+impl Numbered for MVar {
+    fn made(_alloc: Global, n: u64) -> MVar {
+        MVar::new(if n == 0 { None } else { Some(int(n)) })
+    }
+
+    fn want(n: u64) -> MVarWant {
+        match n {
+            0 => MVarWant::Take,
+            1 => MVarWant::Get,
+            _ => MVarWant::Swap(int(n)),
+        }
+    }
+
+    fn fed_with(n: u64) -> Value {
+        int(n)
+    }
+}
+
+impl Numbered for Mailbox {
+    fn made(alloc: Global, _n: u64) -> Mailbox {
+        Mailbox::new(alloc)
+    }
+
+    fn want(_n: u64) {}
+
+    fn fed_with(n: u64) -> Value {
+        int(n)
+    }
+}
+
+impl Numbered for Port {
+    fn made(alloc: Global, _n: u64) -> Port {
+        Port::new(alloc)
+    }
+
+    fn want(_n: u64) {}
+
+    fn fed_with(n: u64) -> Value {
+        int(n)
+    }
+}
+
+impl Numbered for Joined {
+    fn made(_alloc: Global, _n: u64) -> Joined {
+        Joined::new()
+    }
+
+    fn want(_n: u64) {}
+
+    fn fed_with(_n: u64) {}
+}
+
+impl Numbered for Alarm {
+    fn made(_alloc: Global, n: u64) -> Alarm {
+        Alarm::new(n, 5)
+    }
+
+    fn want(_n: u64) {}
+
+    fn fed_with(n: u64) -> u64 {
+        n
+    }
+}
+
+impl Numbered for NackCell {
+    fn made(_alloc: Global, n: u64) -> NackCell {
+        NackCell::new(Tid((n % 100) as u32))
+    }
+
+    fn want(_n: u64) {}
+
+    fn fed_with(n: u64) -> NackFeed {
+        match n {
+            0 => NackFeed::Enter,
+            1 => NackFeed::Fire,
+            _ => NackFeed::Hold,
+        }
+    }
+}
+
+// What the object gives, and whether it stays lit; nothing where it is not there or not lit.
+fn ask<K: Numbered>(
+    register: &mut Register<K>,
+    id: u32,
+    n: u64,
+) -> Result<Option<(Value, bool)>, AllocError>
+where
+    K::Want: Drop,
+    ensures { length register.new.objects ≡ length register.old.objects }
+{
+    let Some(object) = register.get(id) else {
+        return Ok(None);
+    };
+    if !object.lit() {
+        return Ok(None);
+    }
+    let want = K::want(n);
+    let stays = object.stays_lit_after(&want);
+    let copy = object.spare(&want)?;
+    let value = register.give(id, want, copy);
+    Ok(Some((value, stays)))
+}
+
+// What becomes of the feed, in one word.
+fn feed<K: Numbered>(
+    register: &mut Register<K>,
+    id: u32,
+    n: u64,
+) -> Result<&'static str, AllocError>
+where
+    K::Feed: Drop,
+{
+    if id as usize >= register.len() {
+        return Ok("nowhere");
+    }
+    register.room(Some(id))?;
+    match register.feed(id, K::fed_with(n)) {
+        Ok(()) => Ok("fed"),
+        Err(FeedFault::Put(_)) => Ok("put"),
+        Err(FeedFault::Full(_)) => Ok("full"),
+        Err(FeedFault::Spent(_)) => Ok("spent"),
+        Err(FeedFault::Memory(_)) => Ok("memory"),
+    }
+}
+
+fn say_given(alloc: Global, text: &mut String, given: Option<(Value, bool)>) -> Result<(), Fail> {
+    match given {
+        None => text.push_str(" nothing")?,
+        Some((value, stays)) => {
+            let shown = value.show(alloc)?;
+            write!(text, " {shown} {}", if stays { "stays" } else { "leaves" })?;
+            drop(shown);
+            drop(value);
+        }
+    }
+    Ok(())
+}
+
+fn say_lit<K: Numbered>(
+    alloc: Global,
+    text: &mut String,
+    register: &Register<K>,
+) -> Result<(), Fail> {
+    text.push_str(" lit")?;
+    let leaves = register.lit_waiters(alloc)?;
+    for (thread, leaf) in &leaves {
+        write!(text, " {}.{leaf}", thread.0)?;
+    }
+    drop(leaves);
+    Ok(())
+}
+
+// What the steps answer.
+fn answers<K: Numbered>(alloc: Global, steps: &[Step]) -> Result<String, Fail>
+where
+    K::Want: Drop,
+    K::Feed: Drop,
+{
+    let mut register: Register<K> = Register::new(alloc);
+    let mut text = String::new(alloc);
+    for step in steps {
+        match *step {
+            Make(n) => {
+                if register.len() < 100 {
+                    register.room(None)?;
+                    let made = register.make(K::made(alloc, n)).is_ok();
+                    text.push_str(if made { " made" } else { " refused" })?;
+                }
+            }
+            Wait(id, thread, leaf) => register.wait(id, Tid(thread), leaf)?,
+            Leave(id, thread, leaf) => register.leave(id, Tid(thread), leaf),
+            Feed(id, n) => {
+                let word = feed(&mut register, id, n)?;
+                write!(text, " {word}")?;
+            }
+            Ask(id, n) => {
+                let given = ask(&mut register, id, n)?;
+                say_given(alloc, &mut text, given)?;
+            }
+            Lit => say_lit(alloc, &mut text, &register)?,
+        }
+    }
+    drop(register);
+    Ok(text)
+}
+
+const IVARS: [Step; 16] = [
+    Make(0),
+    Make(0),
+    Wait(1, 1, 0),
+    Wait(0, 2, 0),
+    Wait(1, 0, 1),
+    Wait(1, 0, 0),
+    Wait(0, 0, 0),
+    Lit,
+    Feed(1, 7),
+    Feed(1, 8),
+    Lit,
+    Leave(1, 0, 1),
+    Lit,
+    Ask(1, 0),
+    Ask(0, 0),
+    Feed(2, 7),
+];
+
+const MVARS: [Step; 13] = [
+    Make(8),
+    Wait(0, 0, 0),
+    Wait(0, 1, 0),
+    Lit,
+    Ask(0, 1),
+    Ask(0, 9),
+    Feed(0, 3),
+    Ask(0, 0),
+    Lit,
+    Ask(0, 0),
+    Feed(0, 3),
+    Lit,
+    Ask(0, 1),
+];
+
+const MAILBOXES: [Step; 8] = [
+    Make(0),
+    Wait(0, 3, 2),
+    Feed(0, 1),
+    Feed(0, 2),
+    Ask(0, 0),
+    Lit,
+    Ask(0, 0),
+    Lit,
+];
+
+const ENDS: [Step; 7] = [
+    Make(0),
+    Wait(0, 1, 0),
+    Lit,
+    Feed(0, 0),
+    Feed(0, 0),
+    Ask(0, 0),
+    Lit,
+];
+
+// The clock stands at 5 where they are made.
+const ALARMS: [Step; 11] = [
+    Make(5),
+    Make(6),
+    Wait(0, 0, 0),
+    Wait(1, 1, 0),
+    Lit,
+    Feed(0, 5),
+    Feed(1, 5),
+    Lit,
+    Feed(1, 6),
+    Lit,
+    Ask(1, 0),
+];
+
+const NACKS: [Step; 12] = [
+    Make(3),
+    Make(3),
+    Wait(0, 0, 0),
+    Feed(0, 1),
+    Feed(0, 2),
+    Feed(0, 0),
+    Feed(0, 0),
+    Feed(0, 1),
+    Lit,
+    Feed(0, 2),
+    Ask(0, 0),
+    Feed(1, 0),
+];
+
+#[test]
+fn objects_answer(rt: HostRuntime) -> Result<(), Fail> {
+    let alloc = rt.alloc();
+    let answers = [
+        (
+            answers::<IVar>(alloc, &IVARS)?,
+            " made made lit fed put lit 0.0 0.1 1.0 lit 0.0 1.0 7 stays nothing nowhere",
+        ),
+        (
+            answers::<MVar>(alloc, &MVARS)?,
+            " made lit 0.0 1.0 8 stays 8 stays put 9 leaves lit nothing fed lit 0.0 1.0 3 stays",
+        ),
+        (
+            answers::<Mailbox>(alloc, &MAILBOXES)?,
+            " made fed fed 1 stays lit 3.2 2 leaves lit",
+        ),
+        (
+            answers::<Joined>(alloc, &ENDS)?,
+            " made lit fed spent () stays lit 1.0",
+        ),
+        (
+            answers::<Alarm>(alloc, &ALARMS)?,
+            " made made lit 0.0 fed fed lit 0.0 fed lit 0.0 1.0 () stays",
+        ),
+        (
+            answers::<NackCell>(alloc, &NACKS)?,
+            " made made spent spent fed spent fed lit 0.0 spent () stays fed",
+        ),
+    ];
+    for (found, wanted) in &answers {
+        assert_eq!(rt; found.as_str(), *wanted);
+    }
+    drop(answers);
+    Ok(())
+}
+
+#[test]
+fn a_nack_goes_its_way_once(rt: HostRuntime) {
+    let mut fires = NackCell::new(Tid(3));
+    let mut holds = NackCell::new(Tid(3));
+    assert!(rt; fires.is_fresh_of(Tid(3)) && !fires.is_fresh_of(Tid(2)));
+    assert_eq!(rt; fires.fire(), Err(Spent));
+    assert_eq!(rt; fires.enter(), Ok(()));
+    assert_eq!(rt; holds.enter(), Ok(()));
+    assert!(rt; !fires.is_fresh_of(Tid(3)));
+    assert_eq!(rt; fires.fire(), Ok(()));
+    assert_eq!(rt; holds.hold(), Ok(()));
+    assert_eq!(rt; holds.fire(), Err(Spent));
+    assert!(rt; fires.is_fired() && !holds.is_fired());
+}
+
+// Items up to the limit, and one more.
+fn fills<K: Numbered>(object: &mut K) -> bool
+where
+    K::Feed: Drop,
+{
+    for n in 0..MAX_ITEMS as u64 {
+        if object.feed(K::fed_with(n)).is_err() {
+            return false;
+        }
+    }
+    matches!(object.feed(K::fed_with(0)), Err(FeedFault::Full(_)))
+}
+
+#[test]
+fn a_mailbox_has_a_limit(rt: HostRuntime) {
+    let mut mailbox = Mailbox::new(rt.alloc());
+    assert!(rt; !mailbox.is_full());
+    assert!(rt; fills(&mut mailbox));
+    assert!(rt; mailbox.is_full());
+    drop(mailbox);
+}
+
+// Two ports of one channel.
+fn two_ports(
+    alloc: Global,
+    ports: &mut Register<Port>,
+    channel: &mut Multicast,
+) -> Result<bool, Fail>
+    requires objects { ports.old.objects ≡ [] }
+    requires ports { channel.old.ports ≡ [] }
+    ensures some { IfOk result (λ made. IsTrue made → 0 < length ports.new.objects) }
+    ensures there { IfOk result (λ made.
+        IsTrue made → All (λ port. port.0 < length ports.new.objects) channel.new.ports) }
+{
+    let Ok(first) = ports.make(Port::new(alloc)) else {
+        return Ok(false);
+    };
+    let Ok(second) = ports.make(Port::new(alloc)) else {
+        return Ok(false);
+    };
+    channel.room()?;
+    channel.add(PortId(first))?;
+    channel.add(PortId(second))?;
+    Ok(true)
+}
+
+// What the port of this number gives.
+fn shown(alloc: Global, ports: &mut Register<Port>, id: u32) -> Result<String, Fail>
+    ensures { length ports.new.objects ≡ length ports.old.objects }
+{
+    let mut text = String::new(alloc);
+    let given = ask(ports, id, 0)?;
+    say_given(alloc, &mut text, given)?;
+    Ok(text)
+}
+
+// Whether a post reaches every port, or is refused by all.
+fn post_word(alloc: Global, channel: &Multicast, ports: &mut Register<Port>, n: u64) -> &'static str
+    requires { All (λ port. port.0 < length ports.old.objects) channel.now.ports }
+    ensures { length ports.new.objects ≡ length ports.old.objects }
+{
+    match post(alloc, channel, ports, int(n)) {
+        Ok(()) => "posted",
+        Err(FeedFault::Full(_)) => "full",
+        Err(FeedFault::Put(_) | FeedFault::Spent(_) | FeedFault::Memory(_)) => "refused",
+    }
+}
+
+// Messages up to the limit of items, for the port of number 0.
+fn fill_first(ports: &mut Register<Port>) -> bool
+    requires { 0 < length ports.old.objects }
+    ensures { length ports.new.objects ≡ length ports.old.objects }
+{
+    for n in 0..MAX_ITEMS as u64 {
+        if ports.feed(0, int(n)).is_err() {
+            return false;
+        }
+    }
+    true
+}
+
+// One message for two ports, then one is full and the next message is refused, then both have room.
+fn posts(
+    alloc: Global,
+    text: &mut String,
+    ports: &mut Register<Port>,
+    channel: &Multicast,
+) -> Result<(), Fail>
+    requires some { 0 < length ports.old.objects }
+    requires there { All (λ port. port.0 < length ports.old.objects) channel.now.ports }
+{
+    text.push_str(post_word(alloc, channel, ports, 7))?;
+    text.push_str(&shown(alloc, ports, 0)?)?;
+    text.push_str(if fill_first(ports) {
+        " filled "
+    } else {
+        " refused "
+    })?;
+    text.push_str(post_word(alloc, channel, ports, 8))?;
+    text.push_str(&shown(alloc, ports, 1)?)?;
+    text.push_str(&shown(alloc, ports, 0)?)?;
+    text.push_str(" ")?;
+    text.push_str(post_word(alloc, channel, ports, 9))?;
+    text.push_str(&shown(alloc, ports, 1)?)?;
+    Ok(())
+}
+
+#[test]
+fn a_post_reaches_every_port_or_none(rt: HostRuntime) -> Result<(), Fail> {
+    let alloc = rt.alloc();
+    let mut ports: Register<Port> = Register::new(alloc);
+    let mut channel = Multicast::new(alloc);
+    let mut text = String::new(alloc);
+    assert_eq!(rt; post_word(alloc, &channel, &mut ports, 6), "posted");
+    assert!(rt; two_ports(alloc, &mut ports, &mut channel)?);
+    assert_eq!(rt; channel.ports().len(), 2);
+    posts(alloc, &mut text, &mut ports, &channel)?;
+    assert_eq!(rt;
+        text.as_str(),
+        "posted 7 leaves filled full 7 leaves 0 stays posted 9 leaves"
+    );
+    drop(text);
+    drop(channel);
+    drop(ports);
+    Ok(())
+}
+
+#[test]
+fn a_copied_port_goes_its_own_way(rt: HostRuntime) -> Result<(), Fail> {
+    let alloc = rt.alloc();
+    let mut port = Port::new(alloc);
+    assert!(rt; port.feed(int(1)).is_ok() && port.feed(int(2)).is_ok());
+    let mut copy = copy_port(alloc, &port)?;
+    assert!(rt; port.feed(int(3)).is_ok());
+    let mut read = 0u32;
+    for _ in 0..9 {
+        if copy.lit() {
+            drop(copy.give((), None));
+            read = read.wrapping_add(1);
+        }
+    }
+    assert_eq!(rt; read, 2);
+    assert!(rt; port.lit() && !port.is_full());
+    drop(copy);
+    drop(port);
+    Ok(())
+}
+
+// What is done with a clock.
+#[derive(Clone, Copy)]
+enum Tick {
+    /// A leaf waits for a tick.
+    Awaits(u64),
+    /// It does so no more.
+    Leaves(u64),
+    /// The clock moves.
+    To(u64),
+}
+
+use Tick::{Awaits, Leaves, To};
+
+const TICKS: [Tick; 9] = [
+    Awaits(9),
+    Awaits(4),
+    Awaits(9),
+    Awaits(5),
+    To(5),
+    Leaves(9),
+    Awaits(2),
+    Leaves(9),
+    To(8),
+];
+
+fn move_clock(alloc: Global, text: &mut String, clock: &mut Clock, to: u64) -> Result<(), Fail> {
+    if to < clock.now() {
+        return Ok(());
+    }
+    let lit = clock.ticks_until(alloc, to)?;
+    text.push_str(" lit")?;
+    for tick in &lit {
+        write!(text, " {tick}")?;
+    }
+    drop(lit);
+    clock.advance(to);
+    Ok(())
+}
+
+#[test]
+fn a_clock_knows_its_next_alarm(rt: HostRuntime) -> Result<(), Fail> {
+    let alloc = rt.alloc();
+    let mut clock = Clock::new(alloc);
+    let mut text = String::new(alloc);
+    for tick in TICKS {
+        match tick {
+            Awaits(tick) => {
+                if clock.leaves(tick) < 100 {
+                    clock.wait(tick)?;
+                }
+            }
+            Leaves(tick) => clock.leave(tick),
+            To(tick) => move_clock(alloc, &mut text, &mut clock, tick)?,
+        }
+        match clock.next_alarm() {
+            Some(alarm) => write!(text, " {alarm}")?,
+            None => text.push_str(" none")?,
+        }
+    }
+    assert_eq!(rt; text.as_str(), " 9 4 4 4 lit 4 5 9 9 9 none lit none");
+    assert!(rt; clock.has_come(8) && !clock.has_come(9));
+    assert_eq!(rt; Alarm::new(9, 8).tick(), 9);
+    drop(text);
+    drop(clock);
+    Ok(())
+}
+
+// Whether the first and the second end meet, and which is the head.
+const MEETINGS: [(u32, bool, u32, bool, bool); 4] = [
+    (0, true, 0, false, true),
+    (1, false, 1, true, true),
+    (0, true, 1, false, false),
+    (2, true, 2, true, false),
+];
+
+fn end(link: u32, gives: bool) -> End {
+    if gives {
+        End::Gives(link, int(7))
+    } else {
+        End::Takes(link)
+    }
+}
+
+// What the two are given, if they meet.
+fn handed<P: Paired>(first: P::Side, second: P::Side) -> Option<(Value, Value)>
+where
+    P::Side: Drop,
+{
+    if P::meets(&first, &second) {
+        return Some(P::hands(first, second));
+    }
+    None
+}
+
+#[test]
+fn two_ends_meet(rt: HostRuntime) -> Result<(), Fail> {
+    for (link, gives, other, gives_too, meet) in MEETINGS {
+        assert_eq!(rt; Link::key(&end(link, gives)), link);
+        assert_eq!(rt; Link::heads(&end(link, gives)), gives);
+        match handed::<Link>(end(link, gives), end(other, gives_too)) {
+            Some((first, second)) => {
+                assert!(rt; meet);
+                let unit = Value::new(ValueKind::Unit);
+                assert_eq!(rt; first.same(&unit), gives);
+                assert_eq!(rt; second.same(&unit), gives_too);
+                drop(unit);
+                drop(first);
+                drop(second);
+            }
+            None => assert!(rt; !meet),
+        }
+    }
+    let bases = [
+        (
+            Base::new(BaseKind::Send(ChanId(4), int(7))),
+            Some((4, true)),
+        ),
+        (Base::new(BaseKind::Recv(ChanId(5))), Some((5, false))),
+        (Base::new(BaseKind::IGet(IVarId(4))), None),
+    ];
+    for (base, place) in &bases {
+        assert!(rt; Link::place(base) == *place);
+    }
+    drop(bases);
+    Ok(())
+}

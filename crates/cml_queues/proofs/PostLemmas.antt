@@ -1,0 +1,47 @@
+-- A message comes to each of some ports.
+use Rattle.std.proofs.Common.{◌≡◌, ◌<◌, ◌++◌, ℕ, zero, suc, List, [], ◌∷◌, Bool, true, false, length, get_or, Option, Some, None, Ok, Err, refl, arith, replicate, ap, sym, ◌∙◌, ◌-◌, add-one}
+use Rattle.std.proofs.lemmas.List.{length_push, replicate_more, same_from_push}
+use Rattle.std.proofs.lemmas.Option.{slice_get-map}
+use Rattle.std.specs.Prelude.{slice_get, slice_set, if◌then◌else◌, ◌||◌}
+use Rattle.std.specs.Option.{option_map_or}
+use Rattle.cml_value.specs.Value.{PlainValue}
+use Rattle.cml_value.specs.declared.number.PortId.{PortId}
+use Rattle.cml_base.specs.Feeds.{full}
+use Rattle.cml_base.specs.Registered.{put_back, fed_at}
+use Rattle.cml_queues.specs.PlainQueue.{PlainQueue}
+use Rattle.cml_queues.specs.Queues.{queued, is_at_limit}
+use Rattle.cml_queues.specs.Posts.{unread, port_is_full, any_is_full, with_message}
+
+queued_step : (queues : List (List PlainValue)) (id : ℕ) (s : List PlainValue) (b : Bool) → b ≡ false → put_back queues id (if b then Err full else Ok s) ≡ Ok (slice_set queues id s)
+queued_step queues id s true h = cc
+queued_step queues id s false h = refl
+
+queued_in : (queues : List (List PlainValue)) (id : ℕ) (v : PlainValue) (o : Option (List PlainValue)) → option_map_or is_at_limit o false ≡ false → option_map_or (λ s. put_back queues id (queued s v)) o (Ok queues) ≡ Ok (option_map_or (λ s. slice_set queues id (s ++ v ∷ [])) o queues)
+queued_in queues id v None h = refl
+queued_in queues id v (Some s) h = queued_step queues id (s ++ v ∷ []) (is_at_limit s) h
+
+-- a port that is not full takes the message
+pub queued_at : (queues : List (List PlainValue)) (port : PortId) (v : PlainValue) → port_is_full queues port ≡ false → fed_at queued queues port.0 v ≡ Ok (with_message queues port v)
+queued_at queues port v h = queued_in queues port.0 v (slice_get queues port.0) h
+
+or_false : (a b : Bool) → (a || b) ≡ false → (a ≡ false) × (b ≡ false)
+or_false true b h = cc
+or_false false b h = (refl, h)
+
+pub open_each : (ports : List PortId) (queues : List (List PlainValue)) → any_is_full ports queues ≡ false → (k : ℕ) (d : PortId) → k < length ports → port_is_full queues (get_or ports k d) ≡ false
+open_each [] queues h k d l = absurd (omega arith)
+open_each (port ∷ ports) queues h zero d l = (or_false (port_is_full queues port) (any_is_full ports queues) h).0
+open_each (port ∷ ports) queues h (suc k) d l = open_each ports queues (or_false (port_is_full queues port) (any_is_full ports queues) h).1 k d (omega arith)
+
+pub pop_replicate : (n : ℕ) (v : PlainValue) (xs : List PlainValue) (y : PlainValue) → replicate n v ≡ xs ++ y ∷ [] → (xs ≡ replicate (n - 1) v) × (y ≡ v)
+pop_replicate zero v xs y h = absurd (let e : length (replicate 0 v) ≡ length (xs ++ y ∷ []) = ap length h in omega (arith, length_push xs y))
+pop_replicate (suc m) v xs y h =
+    let e : replicate m v ++ v ∷ [] ≡ xs ++ y ∷ [] = replicate_more m v ∙ (rw add-one h) in
+    let p = same_from_push (replicate m v) xs v y e in
+    let q : suc m - 1 ≡ m = omega arith in
+    (rw q (sym p.0), sym p.1)
+
+pub full_same : (old new : List PlainQueue) (port : PortId) → slice_get new port.0 ≡ slice_get old port.0 → port_is_full (unread new) port ≡ port_is_full (unread old) port
+full_same old new port h =
+    let f : PlainQueue → List PlainValue = λ x. x.items in
+    rw (slice_get-map f new port.0, slice_get-map f old port.0, h) refl

@@ -1,0 +1,5 @@
+pub mod PlainQueue
+pub mod PlainMulticast
+pub mod Queues
+pub mod QueueLaws
+pub mod Posts

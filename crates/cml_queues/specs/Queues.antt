@@ -1,0 +1,25 @@
+-- Queues of values: Reppy's mailboxes, and the ports of his multicast channels. A recvEvt is enabled where there is an item, and
+-- takes the first. That a queue holds so many items at most is a rule of our own.
+use Rattle.std.specs.Prelude.{ℕ, ◌∷◌, ◌++◌, [], List, length, nat_lt, not, if◌then◌else◌, Bool, true, false, Result, Ok, Err}
+use Rattle.cml_value.specs.Value.{PlainValue, unit}
+use Rattle.cml_base.specs.Feeds.{PlainRefusal, full}
+
+-- the most items that a queue holds
+abbrev pub max_items : ℕ
+max_items = 65536
+
+abbrev pub is_filled : List PlainValue → Bool
+is_filled [] = false
+is_filled (v ∷ vs) = true
+
+abbrev pub is_at_limit : List PlainValue → Bool
+is_at_limit items = not (nat_lt (length items) max_items)
+
+-- the first item; an empty queue gives nobody anything
+abbrev pub first_of : List PlainValue → PlainValue
+first_of [] = unit
+first_of (v ∷ vs) = v
+
+-- a send puts its value behind the items, and is refused by a full queue
+abbrev pub queued : List PlainValue → PlainValue → Result (List PlainValue) PlainRefusal
+queued items v = if is_at_limit items then Err full else Ok (items ++ v ∷ [])

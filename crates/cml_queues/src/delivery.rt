@@ -1,0 +1,122 @@
+//! A message to every port of a multicast channel.
+
+ghost use Rattle.std.specs.Prelude.{◌≡◌, ◌≢◌, ◌<◌, false, length, replicate, IfOk, OnOk, All, AllPairs};
+ghost use Rattle.cml_base.specs.Feeds.{Feeds};
+ghost use Rattle.cml_base.specs.Registered.{HasRoomAt, KeepsOthers};
+ghost use Rattle.cml_queues.specs.Posts.{unread, port_has_room, port_is_full, any_is_full as spec_any_is_full, with_message, posted, post_outcome};
+
+use crate::multicast::Multicast;
+use crate::port::Port;
+use cml_base::{FeedFault, Register, Source};
+use cml_value::{PortId, Value};
+use std::alloc::{AllocError, Global};
+
+/// Puts the message behind the unread ones of every port of the channel, or of none. A channel without ports drops it.
+///
+/// # Errors
+/// `Full` where any of the ports is full, and want of memory: the message comes back, and nothing changes.
+pub fn post(
+    alloc: Global,
+    channel: &Multicast,
+    ports: &mut Register<Port>,
+    message: Value,
+) -> Result<(), FeedFault<Value>>
+    requires { All (λ port. port.0 < length ports.old.objects) channel.now.ports }
+    ensures states { let old = unread ports.old.objects in
+        Feeds result (post_outcome channel.now.ports message old) message old (unread ports.new.objects) }
+    ensures len { length ports.new.objects ≡ length ports.old.objects }
+    ensures waits { ports.new.waits ≡ ports.old.waits }
+{
+    let ids = channel.ports();
+    if any_is_full(ports, ids) {
+        return Err(FeedFault::Full(message));
+    }
+    let Ok(copies) = copies(alloc, &message, ids.len()) else {
+        return Err(FeedFault::Memory(message));
+    };
+    if make_room(ports, ids).is_err() {
+        return Err(FeedFault::Memory(message));
+    }
+    feed_all(ports, ids, &message, copies);
+    Ok(())
+}
+
+// Whether there is a port of this number that is full.
+fn is_full(ports: &Register<Port>, id: PortId) -> bool
+    ensures { result ≡ port_is_full (unread ports.now.objects) id }
+{
+    match ports.get(id.0) {
+        Some(port) => port.is_full(),
+        None => false,
+    }
+}
+
+// Whether one of these ports is full.
+fn any_is_full(ports: &Register<Port>, ids: &[PortId]) -> bool
+    ensures { result ≡ spec_any_is_full ids.now (unread ports.now.objects) }
+{
+    for id in ids {
+        if is_full(ports, *id) {
+            return true;
+        }
+    }
+    false
+}
+
+// So many copies of the message.
+fn copies(alloc: Global, message: &Value, count: usize) -> Result<Vec<Value>, AllocError>
+    ensures { IfOk result (λ list. list.items ≡ replicate count message.now) }
+{
+    let mut list = Vec::new(alloc);
+    for i in 0..count {
+        list.push(message.copy()?)?;
+    }
+    Ok(list)
+}
+
+// Makes room for one more message in each of these ports.
+fn make_room(ports: &mut Register<Port>, ids: &[PortId]) -> Result<(), AllocError>
+    requires there { All (λ id. id.0 < length ports.old.objects) ids.now }
+    requires once { AllPairs (λ a b. a.0 < b.0) ids.now }
+    ensures unread { unread ports.new.objects ≡ unread ports.old.objects }
+    ensures waits { ports.new.waits ≡ ports.old.waits }
+    ensures len { length ports.new.objects ≡ length ports.old.objects }
+    ensures ok { OnOk result (All (λ id. HasRoomAt port_has_room ports.new.objects id.0) ids.now) }
+{
+    for id in ids {
+        ports.room(Some(id.0))?;
+    }
+    Ok(())
+}
+
+// Gives each of these ports, none of which is full, a copy of the message. There is room, so it takes no memory.
+fn feed_all(ports: &mut Register<Port>, ids: &[PortId], message: &Value, mut copies: Vec<Value>)
+    requires there { All (λ id. id.0 < length ports.old.objects) ids.now }
+    requires once { AllPairs (λ a b. a.0 < b.0) ids.now }
+    requires room { All (λ id. HasRoomAt port_has_room ports.old.objects id.0) ids.now }
+    requires open { All (λ id. port_is_full (unread ports.old.objects) id ≡ false) ids.now }
+    requires copied { copies.items ≡ replicate (length ids.now) message.now }
+    ensures unread { unread ports.new.objects ≡ posted message.now ids.now (unread ports.old.objects) }
+    ensures len { length ports.new.objects ≡ length ports.old.objects }
+    ensures waits { ports.new.waits ≡ ports.old.waits }
+{
+    for id in ids {
+        let Some(copy) = copies.pop() else {
+            unreachable!()
+        };
+        feed_one(ports, *id, copy);
+    }
+}
+
+// Gives this port, which is not full, the message. There is room, so it takes no memory.
+fn feed_one(ports: &mut Register<Port>, id: PortId, message: Value)
+    requires there { id.0 < length ports.old.objects }
+    requires room { HasRoomAt port_has_room ports.old.objects id.0 }
+    requires open { port_is_full (unread ports.old.objects) id ≡ false }
+    ensures unread { unread ports.new.objects ≡ with_message (unread ports.old.objects) id message }
+    ensures len { length ports.new.objects ≡ length ports.old.objects }
+    ensures others { KeepsOthers ports.old.objects ports.new.objects id.0 }
+    ensures waits { ports.new.waits ≡ ports.old.waits }
+{
+    let _ = ports.feed(id.0, message);
+}

@@ -1,0 +1,3 @@
+pub mod Variables
+pub mod VariableLaws
+pub mod Wants
