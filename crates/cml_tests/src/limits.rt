@@ -1,100 +1,102 @@
-//! The limits on threads, nacks, channels and input, and the shape of lines.
+//! The limits on threads, nacks, channels, groups and input: traces of parts that repeat.
 
-use crate::run::{Case, Part, all_hold};
+use crate::run::{Long, Part, each_holds};
 use std::test::Fail;
 
-const CHANNELS: &[Case] = &[Case {
+const CHANNELS: &[Long] = &[Long {
     name: "channel-limit",
-    words: "trace",
-    input: &[Part::Times("chan\n", 65537)],
-    output: &[Part::Each("chan", 65536), Part::Once("refused 10 full\n")],
-    errors: "",
+    input: &[Part::Times("chan\n", 65_537)],
+    output: &[Part::Each("chan", 65_536), Part::Once("refused 10 full\n")],
     status: 0,
 }];
 
-const NACKS: &[Case] = &[Case {
+const NACKS: &[Long] = &[Long {
     name: "nack-limit",
-    words: "trace",
-    input: &[Part::Once("spawn\n"), Part::Times("nack 0\n", 65537)],
+    input: &[Part::Once("spawn\n"), Part::Times("nack 0\n", 65_537)],
     output: &[
         Part::Once("thread 0\n"),
-        Part::Each("nack", 65536),
+        Part::Each("nack", 65_536),
         Part::Once("refused 10 full\n"),
     ],
-    errors: "",
     status: 0,
 }];
 
-const LINES: &[Case] = &[
-    Case {
+const OTHERS: &[Long] = &[
+    Long {
+        name: "choose-nested-63",
+        input: &[
+            Part::Once("spawn\nsync 0 "),
+            Part::Times("(choose ", 63),
+            Part::Once("never"),
+            Part::Times(")", 63),
+            Part::Once("\n"),
+        ],
+        output: &[Part::Once("thread 0\nok\n")],
+        status: 0,
+    },
+    Long {
+        name: "choose-nested-64",
+        input: &[
+            Part::Once("spawn\nsync 0 "),
+            Part::Times("(choose ", 64),
+            Part::Once("never"),
+            Part::Times(")", 64),
+            Part::Once("\n"),
+        ],
+        output: &[Part::Once("thread 0\nrefused 8 deep\n")],
+        status: 0,
+    },
+    Long {
+        name: "leaves-256",
+        input: &[
+            Part::Once("spawn\nsync 0 (choose"),
+            Part::Times(" (always 1)", 256),
+            Part::Once(")\n"),
+        ],
+        output: &[Part::Once("thread 0\nok\n")],
+        status: 0,
+    },
+    Long {
+        name: "leaves-257",
+        input: &[
+            Part::Once("spawn\nsync 0 (choose"),
+            Part::Times(" (always 1)", 257),
+            Part::Once(")\n"),
+        ],
+        output: &[Part::Once("thread 0\nrefused 7 leaves\n")],
+        status: 0,
+    },
+    Long {
+        name: "thread-limit",
+        input: &[Part::Times("spawn\n", 4097)],
+        output: &[Part::Each("thread", 4096), Part::Once("refused 10 full\n")],
+        status: 0,
+    },
+    Long {
         name: "longest-input",
-        words: "trace",
         input: &[Part::Once("spawn\n"), Part::Times(" ", 1048570)],
         output: &[Part::Once("thread 0\n")],
-        errors: "",
         status: 0,
     },
-    Case {
+    Long {
         name: "too-long-input",
-        words: "trace",
         input: &[Part::Once("spawn\n"), Part::Times(" ", 1048571)],
         output: &[Part::Once("too long\n")],
-        errors: "",
         status: 2,
-    },
-    Case {
-        name: "greatest-thread-number",
-        words: "trace",
-        input: &[Part::Once("end 4294967295\nend 4294967296\n")],
-        output: &[Part::Once("refused 1 thread\nbad 2\n")],
-        errors: "",
-        status: 2,
-    },
-    Case {
-        name: "negative-number",
-        words: "trace",
-        input: &[Part::Once("spawn\n\nsync 0 (wrap never -1)\n")],
-        output: &[Part::Once("thread 0\nbad 3\n")],
-        errors: "",
-        status: 2,
-    },
-    Case {
-        name: "command-in-parentheses",
-        words: "trace",
-        input: &[Part::Once("(spawn)\n")],
-        output: &[Part::Once("bad 1\n")],
-        errors: "",
-        status: 2,
-    },
-    Case {
-        name: "two-commands-on-a-line",
-        words: "trace",
-        input: &[Part::Once("spawn spawn\n")],
-        output: &[Part::Once("bad 1\n")],
-        errors: "",
-        status: 2,
-    },
-    Case {
-        name: "comment-tab-and-carriage-return",
-        words: "trace",
-        input: &[Part::Once("; a comment\r\n\tspawn\r")],
-        output: &[Part::Once("thread 0\n")],
-        errors: "",
-        status: 0,
     },
 ];
 
 #[test]
 fn channels(rt: HostRuntime) -> Result<(), Fail> {
-    all_hold(&rt, rt.alloc(), CHANNELS)
+    each_holds(&rt, rt.alloc(), CHANNELS)
 }
 
 #[test]
 fn nacks(rt: HostRuntime) -> Result<(), Fail> {
-    all_hold(&rt, rt.alloc(), NACKS)
+    each_holds(&rt, rt.alloc(), NACKS)
 }
 
 #[test]
-fn lines(rt: HostRuntime) -> Result<(), Fail> {
-    all_hold(&rt, rt.alloc(), LINES)
+fn others(rt: HostRuntime) -> Result<(), Fail> {
+    each_holds(&rt, rt.alloc(), OTHERS)
 }

@@ -16,18 +16,41 @@ pub enum Part {
     Each(&'static str, u32),
 }
 
-/// A run of the program, and what it must write.
+/// A trace, and what answers it.
 pub struct Case {
     /// What the case is called.
     pub name: &'static str,
-    /// The words of the command line behind the program's name.
-    pub words: &'static str,
+    /// The input.
+    pub input: &'static str,
+    /// The output.
+    pub output: &'static str,
+    /// The status of the process.
+    pub status: u8,
+}
+
+/// A trace that is made of parts, and what answers it.
+pub struct Long {
+    /// What the case is called.
+    pub name: &'static str,
     /// The parts of the input.
     pub input: &'static [Part],
     /// The parts of the output.
     pub output: &'static [Part],
+    /// The status of the process.
+    pub status: u8,
+}
+
+/// What the program is run on, and what it must write.
+#[derive(Clone, Copy)]
+pub struct Run<'a> {
+    /// The words of the command line behind the program's name.
+    pub words: &'a str,
+    /// The input.
+    pub input: &'a str,
+    /// The output.
+    pub output: &'a str,
     /// What goes to the errors.
-    pub errors: &'static str,
+    pub errors: &'a str,
     /// The status of the process.
     pub status: u8,
 }
@@ -68,12 +91,10 @@ fn push_part(text: &mut String, part: &Part) -> Result<(), AllocError> {
     Ok(())
 }
 
-// The program writes on the case's words and input what the case says.
-fn holds(rt: &impl Abort, alloc: Global, case: &Case) -> Result<(), Fail> {
-    let words = words(alloc, case.words)?;
-    let input = whole(alloc, case.input)?;
-    let output = whole(alloc, case.output)?;
-    let mut reader = input.as_bytes();
+/// The program writes on these words and this input what the run says.
+pub fn gives(rt: &impl Abort, alloc: Global, name: &str, run: Run<'_>) -> Result<(), Fail> {
+    let words = words(alloc, run.words)?;
+    let mut reader = run.input.as_bytes();
     let mut out = Vec::new(alloc);
     let mut err = Vec::new(alloc);
     let mut store = MemoryStore::new(alloc);
@@ -85,26 +106,58 @@ fn holds(rt: &impl Abort, alloc: Global, case: &Case) -> Result<(), Fail> {
         &mut err,
         &mut store,
     );
-    let name = case.name;
-    assert!(rt; out.as_slice() == output.as_bytes(), "output of {name}");
-    assert!(rt;
-        err.as_slice() == case.errors.as_bytes(),
-        "errors of {name}"
-    );
-    assert_eq!(rt; status, case.status, "status of {name}");
+    assert!(rt; out.as_slice() == run.output.as_bytes(), "output of {name}");
+    assert!(rt; err.as_slice() == run.errors.as_bytes(), "errors of {name}");
+    assert_eq!(rt; status, run.status, "status of {name}");
     drop(words);
-    drop(input);
-    drop(output);
     drop(out);
     drop(err);
     drop(store);
     Ok(())
 }
 
-/// Each of the cases holds.
+/// Each of the traces is answered as its case says.
 pub fn all_hold(rt: &impl Abort, alloc: Global, cases: &[Case]) -> Result<(), Fail> {
     for case in cases {
-        holds(rt, alloc, case)?;
+        trace_gives(rt, alloc, case.name, case.input, case.output, case.status)?;
     }
     Ok(())
+}
+
+/// The same, of traces that are made of parts.
+pub fn each_holds(rt: &impl Abort, alloc: Global, cases: &[Long]) -> Result<(), Fail> {
+    for case in cases {
+        let input = whole(alloc, case.input)?;
+        let output = whole(alloc, case.output)?;
+        trace_gives(
+            rt,
+            alloc,
+            case.name,
+            input.as_str(),
+            output.as_str(),
+            case.status,
+        )?;
+        drop(input);
+        drop(output);
+    }
+    Ok(())
+}
+
+// The trace is answered by this text, with this status, and nothing goes to the errors.
+fn trace_gives(
+    rt: &impl Abort,
+    alloc: Global,
+    name: &str,
+    input: &str,
+    output: &str,
+    status: u8,
+) -> Result<(), Fail> {
+    let run = Run {
+        words: "trace",
+        input,
+        output,
+        errors: "",
+        status,
+    };
+    gives(rt, alloc, name, run)
 }

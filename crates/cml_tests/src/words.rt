@@ -1,51 +1,45 @@
 //! The words of the command line: help that is asked for, and words that name no command. The texts are those that clap's own rules
 //! give for these commands.
 
-use crate::run::{Case, Part, all_hold};
+use crate::run::{Run, gives};
 use std::test::Fail;
 
-const WORDS: &[Case] = &[
-    Case {
-        name: "help",
+// Words, what goes to the output and to the errors, and the status.
+struct Asked {
+    words: &'static str,
+    output: &'static str,
+    errors: &'static str,
+    status: u8,
+}
+
+const WORDS: &[Asked] = &[
+    Asked {
         words: "--help",
-        input: &[Part::Once("spawn\n")],
-        output: &[Part::Once(
-            "Events of Concurrent ML: answers traces of commands\n\nUsage: cml <COMMAND>\n\nCommands:\n  trace  Answers the commands on standard input\n  help   Print this message or the help of the given subcommand(s)\n\nOptions:\n  -h, --help  Print help\n",
-        )],
+        output: "Events of Concurrent ML: answers traces of commands\n\nUsage: cml <COMMAND>\n\nCommands:\n  trace  Answers the commands on standard input\n  help   Print this message or the help of the given subcommand(s)\n\nOptions:\n  -h, --help  Print help\n",
         errors: "",
         status: 0,
     },
-    Case {
-        name: "help-of-a-command",
+    Asked {
         words: "trace --help",
-        input: &[Part::Once("spawn\n")],
-        output: &[Part::Once(
-            "Answers the commands on standard input\n\nUsage: cml trace\n\nOptions:\n  -h, --help  Print help\n",
-        )],
+        output: "Answers the commands on standard input\n\nUsage: cml trace\n\nOptions:\n  -h, --help  Print help\n",
         errors: "",
         status: 0,
     },
-    Case {
-        name: "no-such-command",
+    Asked {
         words: "walk",
-        input: &[Part::Once("spawn\n")],
-        output: &[],
+        output: "",
         errors: "error: unrecognized subcommand 'walk'\n\nUsage: cml <COMMAND>\n\nFor more information, try '--help'.\n",
         status: 1,
     },
-    Case {
-        name: "a-word-too-many",
+    Asked {
         words: "run x.cml",
-        input: &[Part::Once("spawn\n")],
-        output: &[],
+        output: "",
         errors: "error: unrecognized subcommand 'run'\n\nUsage: cml <COMMAND>\n\nFor more information, try '--help'.\n",
         status: 1,
     },
-    Case {
-        name: "no-such-option",
+    Asked {
         words: "trace --fast",
-        input: &[Part::Once("spawn\n")],
-        output: &[],
+        output: "",
         errors: "error: unexpected argument '--fast' found\n\nUsage: cml trace\n\nFor more information, try '--help'.\n",
         status: 1,
     },
@@ -53,5 +47,15 @@ const WORDS: &[Case] = &[
 
 #[test]
 fn words(rt: HostRuntime) -> Result<(), Fail> {
-    all_hold(&rt, rt.alloc(), WORDS)
+    for asked in WORDS {
+        let run = Run {
+            words: asked.words,
+            input: "spawn\n",
+            output: asked.output,
+            errors: asked.errors,
+            status: asked.status,
+        };
+        gives(&rt, rt.alloc(), asked.words, run)?;
+    }
+    Ok(())
 }
