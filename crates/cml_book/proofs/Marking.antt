@@ -123,4 +123,3 @@ clear_again ks marks clear = record { each = λ k. at k (nat_lt 0 (times_named k
     at k false e =
         let none : times_named k ks ≡ 0 = grind (arith, nat_tests) in
         ap (is_that true) (with_each-other ks false (with_each ks true marks) k none ∙ with_each-other ks true marks k none) ∙ clear.each k
-

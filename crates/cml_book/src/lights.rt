@@ -57,7 +57,12 @@ impl State {
     }
 
     // Those of the lights that are so: lit, or not.
-    fn lights_that_are(&self, alloc: Global, lights: &[Light], so: bool) -> Result<Vec<Light>, AllocError>
+    fn lights_that_are(
+        &self,
+        alloc: Global,
+        lights: &[Light],
+        so: bool,
+    ) -> Result<Vec<Light>, AllocError>
         ensures { IfOk result (λ found. found.items ≡ filter (λ l. is_so so (light_of self.now l)) lights.now) }
     {
         let mut found = Vec::new(alloc);

@@ -169,11 +169,17 @@ fn a_light_is_lit_and_put_out(rt: HostRuntime) {
     let take = group(&rt, "3 mtake");
     let light = Light::MVar(MVarId(3));
     let came = Some((Tid(0), &take));
-    table.change(rt.alloc(), &[], came, &[], &[]).expect(&rt, MEMORY);
+    table
+        .change(rt.alloc(), &[], came, &[], &[])
+        .expect(&rt, MEMORY);
     assert!(rt; !table.has(&FIRST));
-    table.change(rt.alloc(), &[], None, &[light], &[]).expect(&rt, MEMORY);
+    table
+        .change(rt.alloc(), &[], None, &[light], &[])
+        .expect(&rt, MEMORY);
     assert!(rt; table.has(&FIRST));
-    table.change(rt.alloc(), &[], None, &[], &[light]).expect(&rt, MEMORY);
+    table
+        .change(rt.alloc(), &[], None, &[], &[light])
+        .expect(&rt, MEMORY);
     assert!(rt; !table.has(&FIRST));
     drop(table);
     drop(take);
