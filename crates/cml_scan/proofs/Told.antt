@@ -3,7 +3,7 @@ use Rattle.std.proofs.Common.{◌≡◌, Bool, ◌||◌, List, [], ◌∷◌, �
 use Rattle.std.specs.Prelude.{All}
 use Rattle.std.specs.List.{filter, flat_map}
 use Rattle.std.proofs.lemmas.List.Elements.{All-head, All-tail}
-use Rattle.cml_value.specs.Value.{PlainBase, always, send, recv, iget, mtake, mget, mswap, mail_recv, port_recv, join, at_tick, after_ticks, nack}
+use Rattle.cml_value.specs.Value.{PlainBase, always}
 use Rattle.cml_scan.specs.World.{PlainWorld, PlainEntry, pending}
 use Rattle.cml_scan.specs.Light.{lit, light, light_of, is_always, is_told, lit_by}
 use Rattle.cml_scan.specs.Scan.{PlainOffer, offers_of, single, pairs_with, rows_of, scan, scan_of}
