@@ -1,6 +1,6 @@
 -- The parties of a row that is in the table, and what taking it does.
 use Rattle.std.proofs.Common.{◌≡◌, ◌≢◌, ℕ, ◌+◌, ◌*◌, ◌<◌, ◌≤◌, Bool, true, false, ◌||◌, nat_eq, cond, List, [], ◌∷◌, ◌++◌, length, map, refl, ap, sym, subst, ◌∙◌, arith, zero, suc, Option, Some, None, Ok, Err, slice_index_or, zero-add}
-use Rattle.std.specs.Prelude.{All, AllPairs, Contains, slice_get, slice_set}
+use Rattle.std.specs.Prelude.{All, AllPairs, Contains, slice_get}
 use Rattle.std.specs.List.{filter, flat_map}
 use Rattle.std.specs.Option.{option_copied, option_and_then}
 use Rattle.std.specs.Borrow.{Bor}
@@ -25,7 +25,6 @@ use Rattle.cml_book.specs.Threads.{flat_of}
 use Rattle.cml_book.specs.Keeping.{Keeps, AreLive, nack_light}
 use Rattle.cml_book.specs.Parties.{WaitsOn}
 use Rattle.cml_book.specs.Resumes.{PlainResume}
-use Rattle.cml_book.specs.declared.command.Committed.{Committed}
 use Rattle.cml_book.specs.declared.refusal.Refusal.TheVariants as refusal
 use Rattle.cml_book.proofs.NackLemmas.{nacks-resume, get-set_other}
 use Rattle.cml_book.proofs.Pendings.{without_two}

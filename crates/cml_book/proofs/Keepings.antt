@@ -8,7 +8,7 @@ use Rattle.cml_value.specs.Group.{PlainGroup, scopes, nacks_of, lost, bases}
 use Rattle.cml_value.specs.declared.number.Tid.{Tid}
 use Rattle.cml_value.specs.declared.number.ChanId.{ChanId}
 use Rattle.cml_value.specs.declared.number.NackId.{NackId}
-use Rattle.cml_scan.specs.World.{PlainThread, running, pending_on, ended, fresh_of, live, PlainWorld, PlainEntry, pending}
+use Rattle.cml_scan.specs.World.{PlainThread, running, pending_on, ended, fresh_of, PlainWorld, PlainEntry, pending}
 use Rattle.cml_scan.specs.Light.{has_ended, has_fired, light, light_of, is_told}
 use Rattle.cml_scan.specs.Table.{without, with_entry, lit_after, AgreeFor}
 use Rattle.cml_scan.specs.declared.object.Light.{Light}
@@ -23,7 +23,7 @@ use Rattle.cml_book.specs.MakeChan.{make_chan}
 use Rattle.cml_book.specs.Nack.{nack}
 use Rattle.cml_book.specs.Sync.{times_named, waiting}
 use Rattle.cml_book.specs.Commit.{released, settled}
-use Rattle.cml_book.specs.Keeping.{AreLive, NacksLive, nack_light, lights_in, Keeps}
+use Rattle.cml_book.specs.Keeping.{AreLive, nack_light, lights_in, Keeps}
 use Rattle.cml_book.proofs.Pendings.{pending-push, pending-end, pending-wait, pending-resume, without_none}
 use Rattle.cml_book.proofs.LightLemmas.{agree_still, has_ended-push, has_ended-set, has_fired-push, light_of-same}
 use Rattle.cml_book.proofs.NackLemmas.{CanEnter, lives-push, nacks-wait, nacks-resume, lives-settled_group, fired-settled_group, lives-enter, fired-enter, get-set_other}

@@ -1,6 +1,6 @@
 -- A wait on a group that is not refused.
-use Rattle.std.proofs.Common.{◌≡◌, ℕ, ◌*◌, ◌≤◌, Bool, true, false, not, ◌&&◌, List, [], ◌∷◌, length, refl, ap, sym, subst, ◌∙◌, Option, Some, None, Ok, Err, cond}
-use Rattle.std.specs.Prelude.{All, slice_get}
+use Rattle.std.proofs.Common.{◌≡◌, ℕ, ◌*◌, ◌≤◌, Bool, true, false, not, ◌&&◌, List, [], ◌∷◌, length, refl, ap, sym, subst, ◌∙◌, Some, None, Ok, Err, cond}
+use Rattle.std.specs.Prelude.{All}
 use Rattle.std.specs.List.{filter}
 use Rattle.std.proofs.lemmas.List.Elements.{All-nil, All-cons}
 use Rattle.cml_value.specs.Group.{PlainGroup, bases, scopes, nacks_of}
@@ -10,9 +10,7 @@ use Rattle.cml_scan.specs.Table.{has_light, same_light, AreApart, with_entry, wi
 use Rattle.cml_scan.specs.declared.object.Light.{Light}
 use Rattle.cml_scan.proofs.Telling.{same_light_is}
 use Rattle.cml_book.specs.declared.refusal.Refusal.{Refusal}
-use Rattle.cml_book.specs.declared.refusal.Fault.TheVariants.{Memory}
 use Rattle.cml_book.specs.Entering.{entered}
-use Rattle.cml_book.specs.Outcomes.{Outcome, Does}
 use Rattle.cml_book.specs.Sync.{sync, sync_refusal, waiting}
 use Rattle.cml_book.specs.Keeping.{lights_in, Keeps}
 use Rattle.cml_book.proofs.Accepted.{Accepted}

@@ -1,10 +1,10 @@
 -- The base events and the scopes of a group, by its parts.
-use Rattle.std.proofs.Common.{◌≡◌, ℕ, ◌+◌, suc, ◌<◌, get_or, drop, drop-cons, add-one, sym, ◌&&◌, ◌||◌, Bool, true, false, not, List, [], ◌∷◌, ◌++◌, length, map, refl, ap, ◌∙◌, arith, length-append}
+use Rattle.std.proofs.Common.{◌≡◌, ℕ, ◌+◌, suc, ◌<◌, get_or, drop, drop-cons, add-one, sym, ◌&&◌, ◌||◌, Bool, true, false, not, List, [], ◌∷◌, ◌++◌, length, map, refl, ap, ◌∙◌, length-append}
 use Rattle.std.specs.List.{list_all, list_any}
 use Rattle.std.proofs.lemmas.List.{length-map, map-append}
 use Rattle.std.proofs.lemmas.List.Folds.{list_all-append}
 use Rattle.cml_value.specs.Value.{PlainBase, PlainFunction}
-use Rattle.cml_value.specs.Group.{PlainGroup, never, leaf, choose, wrap, scope, PlainGroups, no_groups, groups_and, groups, group_fits, PlainLeaf, wrapped_by, leaves, leaves_of_all, leaf_count, bases, PlainScope, scopes, scopes_from, scopes_from_all, nacks_of}
+use Rattle.cml_value.specs.Group.{PlainGroup, never, leaf, choose, wrap, scope, PlainGroups, no_groups, groups_and, groups, PlainLeaf, wrapped_by, leaves, leaves_of_all, leaf_count, bases, PlainScope, scopes, scopes_from, scopes_from_all, nacks_of}
 use Rattle.std.specs.Prelude.{slice_get, slice_set}
 use Rattle.cml_book.specs.Entering.{is_far}
 use Rattle.cml_book.specs.Sync.{with_each}

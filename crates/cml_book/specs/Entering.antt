@@ -1,6 +1,6 @@
 -- How a group enters: what comes after so many ticks comes at a tick from now on.
 use Rattle.std.specs.Prelude.{ℕ, ◌+◌, ◌^◌, Bool, false, nat_lt}
-use Rattle.cml_value.specs.Value.{PlainBase, always, send, recv, iget, mtake, mget, mswap, mail_recv, port_recv, join, at_tick, after_ticks, nack}
+use Rattle.cml_value.specs.Value.{PlainBase, at_tick, after_ticks}
 use Rattle.cml_value.specs.Group.{PlainGroup, never, leaf, choose, wrap, scope, PlainGroups, no_groups, groups_and}
 
 -- the base event as it enters at this tick (Reppy's timeOutEvt counts from the moment of the synchronization)

@@ -1,8 +1,8 @@
 -- What a book keeps at all times.
-use Rattle.std.specs.Prelude.{ℕ, ◌≡◌, ◌*◌, ◌≤◌, ◌==◌, Bool, true, false, not, List, [], length, All, Option, Some, None, slice_get, count_by}
+use Rattle.std.specs.Prelude.{ℕ, ◌≡◌, ◌*◌, ◌≤◌, ◌==◌, Bool, true, false, not, List, [], length, All, Option, Some, slice_get, count_by}
 use Rattle.std.specs.List.{flat_map, filter_map}
 use Rattle.cml_value.specs.Group.{scopes, nacks_of}
-use Rattle.cml_scan.specs.World.{PlainThread, PlainNack, fresh_of, live, fired, held, PlainWorld, PlainEntry, pending}
+use Rattle.cml_scan.specs.World.{PlainNack, fresh_of, live, PlainWorld, PlainEntry, pending}
 use Rattle.cml_scan.specs.Table.{TellsLights}
 use Rattle.cml_value.specs.Value.{PlainBase}
 use Rattle.cml_scan.specs.Light.{light as light_seen}

@@ -1,7 +1,6 @@
 -- What each command does, and a list of them.
 use Rattle.std.specs.Prelude.{◌≡◌, ◌≢◌, List, [], ◌∷◌, ◌++◌, Result, Ok, Err}
 use Rattle.cml_scan.specs.World.{PlainWorld}
-use Rattle.cml_book.specs.declared.refusal.Refusal.{Refusal}
 use Rattle.cml_book.specs.declared.refusal.Fault.{Fault}
 use Rattle.cml_book.specs.declared.refusal.Returned.{Returned}
 use Rattle.cml_book.specs.declared.refusal.Fault.TheVariants.{Refused, Memory}

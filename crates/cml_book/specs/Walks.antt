@@ -1,9 +1,9 @@
 -- What a thread and its group are asked before it waits.
-use Rattle.std.specs.Prelude.{ℕ, Bool, true, false, not, nat_lt, Option, Some, None, slice_get}
+use Rattle.std.specs.Prelude.{ℕ, Bool, true, false, not, nat_lt, Option, None, slice_get}
 use Rattle.std.specs.List.{list_any}
 use Rattle.cml_value.specs.Group.{PlainGroup, bases, leaf_count, group_fits}
 use Rattle.cml_group.specs.LaidOut.{max_leaves}
-use Rattle.cml_scan.specs.World.{PlainThread, running, pending_on, ended, PlainWorld}
+use Rattle.cml_scan.specs.World.{PlainThread, running, PlainWorld}
 use Rattle.cml_book.specs.declared.refusal.Refusal.{Refusal}
 use Rattle.cml_book.specs.declared.refusal.Refusal.TheVariants as refusal
 use Rattle.cml_book.specs.Entering.{is_far}

@@ -1,6 +1,4 @@
-use Rattle.std.proofs.Common.{◌≡◌, Some, sym, ◌∙◌}
-use Rattle.std.specs.Prelude.{slice_get}
-use Rattle.cml_scan.specs.World.{running}
+use Rattle.std.proofs.Common.{◌≡◌, sym, ◌∙◌}
 use Rattle.cml_book.proofs.Accepted.{runs_none}
 use Rattle.cml_book.proofs.Keepings.{keeps_end}
 use Rattle.cml_book.proofs.book.Book.end.Goals as goal

@@ -1,6 +1,6 @@
-use Rattle.std.proofs.Common.{rules, ◌≡◌, ℕ, Bool, List, length, Some, None, sym, ◌∙◌, ap, refl, arith, subst}
+use Rattle.std.proofs.Common.{◌≡◌, ℕ, Bool, List, Some, None, sym, ◌∙◌, ap, refl, arith, subst}
 use Rattle.std.specs.Vec.{vec_capacity}
-use Rattle.cml_value.specs.Group.{scopes, nacks_of, bases}
+use Rattle.cml_value.specs.Group.{scopes, bases}
 use Rattle.cml_scan.specs.World.{PlainWorld, PlainEntry}
 use Rattle.cml_scan.specs.Light.{light_of}
 use Rattle.cml_scan.specs.declared.object.Light.{Light}

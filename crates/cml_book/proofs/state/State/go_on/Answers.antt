@@ -1,4 +1,4 @@
-use Rattle.std.proofs.Common.{◌≡◌, ◌∙◌, ap, sym, refl, length, length-set}
+use Rattle.std.proofs.Common.{◌≡◌, ◌∙◌, ap, refl, length, length-set}
 use Rattle.cml_scan.specs.World.{running}
 use Rattle.std.specs.Prelude.{slice_get}
 use Rattle.cml_book.specs.Commit.{awaited}

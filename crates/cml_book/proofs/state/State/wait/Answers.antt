@@ -1,7 +1,6 @@
-use Rattle.std.proofs.Common.{◌≡◌, ◌∙◌, ap, sym, length}
+use Rattle.std.proofs.Common.{◌≡◌, ◌∙◌, ap, length}
 use Rattle.cml_group.specs.Leaves.{numbers}
 use Rattle.cml_value.specs.Nack.{live}
-use Rattle.cml_book.specs.Keeping.{AreFew}
 use Rattle.cml_book.proofs.NackLemmas.{length-with_each}
 use Rattle.cml_book.proofs.state.State.wait.Goals as goal
 
