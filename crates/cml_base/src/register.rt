@@ -34,7 +34,11 @@ impl<K: Source> Model for Register<K> {
 
     ghost Value = { Registered K };
 
-    ghost view = { λ r. record { objects = r.objects.items; waits = r.waits.keys; room = vec_capacity r.objects - vec_len r.objects } };
+    ghost view = { λ r. record {
+      objects = r.objects.items;
+      waits = r.waits.keys;
+      room = vec_capacity r.objects - vec_len r.objects;
+    } };
 }
 
 impl<K: Source> Register<K> {

@@ -99,7 +99,8 @@ impl Clock {
     /// Want of memory.
     pub fn ticks_until(&self, alloc: Global, to: u64) -> Result<Vec<u64>, AllocError>
         requires { self.now.tick ≤ to }
-        ensures exact { IfOk result (λ ticks. (t : ℕ) → Contains ticks.items t ↔ LightsTick self.now to t) }
+        ensures exact { IfOk result (λ ticks.
+            (t : ℕ) → Contains ticks.items t ↔ LightsTick self.now to t) }
         ensures order { IfOk result (λ ticks. AllPairs (λ a b. a < b) ticks.items) }
     {
         let mut ticks = Vec::new(alloc);
