@@ -61,4 +61,5 @@ removes_step w other true new old N O e h n o = ((λ k. absurd (false≢true (sy
 removes_step w other false new old N O e h n o = ((λ k. ((λ i. not_itself w other e (sym i)), o.0 (sym h ∙ n.1 k))), (λ k. n.0 (h ∙ o.1 k.1)))
 
 pub removes_wait : (w : PlainWait) (old new : BTreeSet PlainWait) → Updates wait_cmp old new w false → RemovesWait w old.keys new.keys
-removes_wait w old new h other = removes_step w other (is_at (wait_cmp w) other) (tree.contains wait_cmp new other) (tree.contains wait_cmp old other) (Contains new.keys other) (Contains old.keys other) refl (h.0 other) (member new other) (member old other)
+unfolding RemovesWait
+removes_wait w old new h = λ other. removes_step w other (is_at (wait_cmp w) other) (tree.contains wait_cmp new other) (tree.contains wait_cmp old other) (Contains new.keys other) (Contains old.keys other) refl (h.0 other) (member new other) (member old other)

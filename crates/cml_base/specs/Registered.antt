@@ -44,7 +44,7 @@ abbrev pub AddsWait : PlainWait → List PlainWait → List PlainWait → Type 0
 AddsWait wait old new = (other : PlainWait) → Contains new other ↔ ((other ≡ wait) ⊎ Contains old other)
 
 -- this wait goes, and no other
-abbrev pub RemovesWait : PlainWait → List PlainWait → List PlainWait → Type 0
+unfoldable pub RemovesWait : PlainWait → List PlainWait → List PlainWait → Type 0
 RemovesWait wait old new = (other : PlainWait) → Contains new other ↔ ((other ≢ wait) × Contains old other)
 
 -- the leaf waits for an object that is lit

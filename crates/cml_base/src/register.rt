@@ -105,7 +105,7 @@ impl<K: Source> Register<K> {
         ensures objects { self.new.objects ≡ self.old.objects }
         ensures room { self.new.room ≡ self.old.room }
     {
-        let _ = self.waits.remove(&((thread.0, leaf), id));
+        remove_wait(&mut self.waits, ((thread.0, leaf), id));
     }
 
     /// Makes room: the next `make`, or with a number the next `feed` of that object, takes no memory. No object changes.
@@ -186,6 +186,13 @@ fn is_lit_at<K: Source>(objects: &[K], id: u32) -> bool
         Some(object) => object.lit(),
         None => false,
     }
+}
+
+// That wait goes, and no other.
+fn remove_wait(waits: &mut BTreeSet<((u32, u32), u32)>, wait: ((u32, u32), u32))
+    ensures { RemovesWait wait waits.old.keys waits.new.keys }
+{
+    let _ = waits.remove(&wait);
 }
 
 // The leaves of the waits whose object is lit. The waits of one leaf stand beside each other, so a leaf is listed anew only
