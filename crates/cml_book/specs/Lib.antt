@@ -4,11 +4,6 @@ pub mod Resumes
 pub mod Outcomes
 pub mod Spawn
 pub mod MakeChan
-pub mod MakeObject
-pub mod Port
-pub mod Put
-pub mod Mail
-pub mod Multicast
 pub mod Nack
 pub mod Sync
 pub mod Commit

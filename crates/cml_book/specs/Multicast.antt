@@ -6,7 +6,7 @@ use Rattle.cml_queues.specs.Posts.{any_is_full, posted}
 use Rattle.cml_scan.specs.World.{PlainWorld}
 use Rattle.cml_book.specs.declared.refusal.Refusal.TheVariants.{Object, Deep, Full}
 use Rattle.cml_book.specs.Outcomes.{Outcome, refuse_if}
-use Rattle.cml_book.specs.Port.{ports_at}
+use Rattle.cml_book.specs.MakePort.{ports_at}
 
 -- The message comes to every port of the channel (Reppy's multicast); a channel without ports drops it. Where one of the ports is
 -- full, it comes to none: that is a rule of our own.
