@@ -4,10 +4,16 @@ pub mod Resumes
 pub mod Outcomes
 pub mod Spawn
 pub mod MakeChan
+pub mod MakeObjects
+pub mod MakePort
+pub mod Put
+pub mod Mail
+pub mod Multicast
 pub mod Nack
 pub mod Sync
 pub mod Commit
 pub mod End
+pub mod Clock
 pub mod Step
 pub mod Keeping
 pub mod Parties
