@@ -10,8 +10,10 @@ mod nacks;
 mod party;
 mod refusal;
 mod run;
+mod seen;
 mod state;
 mod thread;
+mod ticks;
 mod walk;
 
 pub use book::{Book, MAX_OBJECTS, MAX_THREADS};
