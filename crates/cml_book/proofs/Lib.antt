@@ -1,4 +1,5 @@
 pub mod Pendings
+pub mod Awaited
 pub mod LightLemmas
 pub mod NackLemmas
 pub mod Retold
