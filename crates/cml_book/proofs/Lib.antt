@@ -3,6 +3,7 @@ pub mod Awaited
 pub mod LightLemmas
 pub mod NackLemmas
 pub mod Retold
+pub mod Alarms
 pub mod Scopes
 pub mod Marking
 pub mod Keepings
