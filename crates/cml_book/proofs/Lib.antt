@@ -14,3 +14,4 @@ pub mod Entered
 pub mod Accepted
 pub mod Runs
 pub mod PendingThreads
+pub mod ObjectLemmas

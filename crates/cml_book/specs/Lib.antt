@@ -16,6 +16,7 @@ pub mod End
 pub mod Clock
 pub mod Step
 pub mod Keeping
+pub mod Telling
 pub mod Parties
 pub mod Marks
 pub mod Threads

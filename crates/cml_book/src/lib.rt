@@ -4,6 +4,7 @@
 mod book;
 mod command;
 mod entering;
+mod feeding;
 mod lights;
 mod marks;
 mod nacks;
