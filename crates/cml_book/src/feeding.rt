@@ -60,8 +60,11 @@ pub(crate) fn feed<K: Source<Feed = Value>, T: Table>(
     }
 }
 
-// Tells the table of a light that comes on, if it was not lit.
-fn tell_lit<T: Table>(
+/// Tells the table of a light that comes on, if it was not lit.
+///
+/// # Errors
+/// Want of memory: nothing was told.
+pub(crate) fn tell_lit<T: Table>(
     alloc: Global,
     table: &mut T,
     was_lit: bool,

@@ -8,11 +8,14 @@ mod feeding;
 mod lights;
 mod marks;
 mod nacks;
+mod objects;
 mod party;
 mod refusal;
 mod run;
+mod seen;
 mod state;
 mod thread;
+mod ticks;
 mod walk;
 
 pub use book::{Book, MAX_OBJECTS, MAX_THREADS};
