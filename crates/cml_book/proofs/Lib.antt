@@ -5,7 +5,6 @@ pub mod Retold
 pub mod Scopes
 pub mod Marking
 pub mod Keepings
-pub mod Taking
 pub mod Commits
 pub mod Syncs
 pub mod Heights

@@ -80,7 +80,7 @@ is_read _ = false
 -- the value in a variable, if it is there and full
 abbrev pub held_in : Option (Option PlainValue) → Option PlainValue
 held_in None = None
-held_in (Some held) = held
+held_in (Some value) = value
 
 -- the copy that is handed over
 abbrev pub copied : PlainWorld → PlainBase → Option PlainValue

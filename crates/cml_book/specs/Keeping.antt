@@ -1,7 +1,7 @@
 -- What a book keeps at all times.
-use Rattle.std.specs.Prelude.{ℕ, ◌≡◌, ◌*◌, ◌<◌, ◌≤◌, ◌==◌, Bool, true, false, not, List, [], length, All, Option, Some, slice_get, count_by}
+use Rattle.std.specs.Prelude.{ℕ, ◌≡◌, ◌+◌, ◌*◌, ◌<◌, ◌≤◌, ◌==◌, Bool, true, false, not, List, [], length, All, Option, Some, slice_get, count_by}
 use Rattle.std.specs.List.{flat_map, filter_map}
-use Rattle.cml_value.specs.Group.{scopes, nacks_of, leaf_count}
+use Rattle.cml_value.specs.Group.{PlainGroup, scopes, nacks_of, leaf_count}
 use Rattle.cml_group.specs.LaidOut.{max_leaves}
 use Rattle.cml_scan.specs.World.{PlainThread, PlainNack, fresh_of, live, PlainWorld, PlainEntry, pending, pending_from}
 use Rattle.cml_scan.specs.Table.{TellsLights}
@@ -84,10 +84,20 @@ pub record AreFresh (ks : List ℕ) (ns : List PlainNack) : Type 0 where
   pub once : (k : ℕ) → times_named k ks ≤ 1
   pub each : (k : ℕ) → 1 ≤ times_named k ks → is_fresh (slice_get ns k) ≡ true
 
+-- how many lights there is room for: of those that a commit lights, and of those that it puts out
+pub record Room : Type 0 where
+  pub lit : ℕ
+  pub unlit : ℕ
+
+-- There is room for what two such groups light and put out: each nack of their scopes, each tick that a leaf waits for, and one more.
+pub record Fits (g : PlainGroup) (room : Room) : Type 0 where
+  pub nacks : 2 * length (scopes g) ≤ room.lit
+  pub ticks : 2 * leaf_count g + 1 ≤ room.unlit
+
 -- The table was told the pending groups, and of each light that one of their leaves waits for whether it is lit. The nacks of the
--- pending groups are live. There is room for the lights of the nacks that a commit can fire.
-pub record Keeps (w : PlainWorld) (entries : List PlainEntry) (told : Light → Bool) (room : ℕ) : Type 0 where
+-- pending groups are live. There is room for the lights that a commit can light and put out.
+pub record Keeps (w : PlainWorld) (entries : List PlainEntry) (told : Light → Bool) (room : Room) : Type 0 where
   pub told_groups : entries ≡ pending w
   pub told_lights : TellsLights w told
   pub nacks_live : NacksLive w
-  pub roomy : All (λ e. 2 * length (scopes e.group) ≤ room) entries
+  pub roomy : All (λ e. Fits e.group room) entries

@@ -1,5 +1,5 @@
--- What goes out when the parties of a row leave.
-use Rattle.std.specs.Prelude.{◌+◌, ◌==◌, Bool, true, false, if◌then◌else◌, List, [], ◌∷◌, drop, Option, Some, None, slice_get}
+-- What goes out when the parties of a row leave, and what lights when the clock moves.
+use Rattle.std.specs.Prelude.{ℕ, ◌+◌, ◌==◌, ◌&&◌, nat_lt, nat_le, Bool, true, false, if◌then◌else◌, List, [], ◌∷◌, drop, Option, Some, None, slice_get}
 use Rattle.std.specs.Borrow.{Bor}
 use Rattle.cml_value.specs.Value.{PlainBase, mtake, mail_recv, port_recv, at_tick}
 use Rattle.cml_value.specs.Group.{PlainGroup, bases}
@@ -9,6 +9,11 @@ use Rattle.cml_scan.specs.declared.object.Light.{Light}
 use Rattle.cml_scan.specs.declared.object.Light.TheVariants as of
 use Rattle.cml_book.specs.Commit.{rest_of}
 use Rattle.cml_book.specs.Keeping.{times_awaited}
+
+-- the light is that of a tick that comes when the clock moves from the first tick to the second
+abbrev pub comes : ℕ → ℕ → Light → Bool
+comes from to (of.Alarm t) = nat_lt from t && nat_le t to
+comes from to _ = false
 
 -- the bases of a group, if there is one
 abbrev pub bases_of : Option (Bor PlainGroup) → List PlainBase

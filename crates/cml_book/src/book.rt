@@ -126,7 +126,11 @@ impl<T: Table> Book<T> {
         self.lit.reserve(2 * flat.scopes().len())?;
         self.unlit.reserve(2 * flat.len() + 1)?;
         self.state.wait(thread, flat)?;
-        if self.tell_arrival(alloc, thread, &lit, &unlit).is_err() {
+        let Some(flat) = self.state.waiting(thread) else {
+            unreachable!();
+        };
+        let came = Some((thread, flat.group()));
+        if self.table.change(alloc, &[], came, &lit, &unlit).is_err() {
             self.state.withdraw(thread);
             return Err(Fault::Memory);
         }
@@ -319,20 +323,5 @@ impl<T: Table> Book<T> {
                 fired: receiver.lost,
             }),
         })
-    }
-
-    // Tells the table that the thread waits on its group, and the lights of what it waits for.
-    fn tell_arrival(
-        &mut self,
-        alloc: Global,
-        thread: Tid,
-        lit: &[Light],
-        unlit: &[Light],
-    ) -> Result<(), AllocError>
-    {
-        let Some(flat) = self.state.waiting(thread) else {
-            unreachable!();
-        };
-        self.table.change(alloc, &[], Some((thread, flat.group())), lit, unlit)
     }
 }

@@ -1,21 +1,24 @@
 //! The ticks that the leaves of a group wait for, counted in the clock.
 
-ghost use Rattle.std.specs.Prelude.{◌≡◌, ◌≤◌, ◌<◌, ◌+◌, ◌^◌, ◌++◌, ℕ, [], ◌∷◌, length, take, OnOk, OnErr};
+ghost use Rattle.std.specs.Prelude.{◌≡◌, ◌≤◌, ◌<◌, ◌+◌, ◌^◌, ◌++◌, ℕ, [], ◌∷◌, true, length, map, take, IfOk, OnOk, OnErr};
 ghost use Rattle.std.specs.List.{filter};
 ghost use Rattle.std.specs.Vec.{vec_capacity};
 ghost use Rattle.cml_value.specs.Group.{bases, leaf_count};
 ghost use Rattle.cml_signal.specs.Clocks.{leaves_at};
 ghost use Rattle.cml_group.specs.LaidOut.{max_leaves};
 ghost use Rattle.cml_scan.specs.World.{pending};
+ghost use Rattle.cml_scan.specs.Table.{has_light};
+ghost use Rattle.cml_scan.specs.declared.object.Light.{Light};
+ghost use Rattle.cml_scan.specs.declared.object.Light.TheVariants as of;
 ghost use Rattle.cml_book.specs.Clock.{bases_awaited};
 ghost use Rattle.cml_book.specs.Keeping.{lights_in, awaits_tick, times_awaited};
-ghost use Rattle.cml_book.specs.Leaving.{is_left, bases_of};
+ghost use Rattle.cml_book.specs.Leaving.{comes, is_left, bases_of};
 
 use crate::state::State;use cml_group::Flat;
 use cml_scan::Light;
 use cml_signal::Clock;
 use cml_value::{Base, BaseKind};
-use std::alloc::AllocError;
+use std::alloc::{AllocError, Global};
 
 /// Counts the leaves of the group that wait for a tick, all or none.
 pub fn count_ticks(clock: &mut Clock, flat: &Flat) -> Result<(), AllocError>
@@ -106,6 +109,20 @@ fn leaves_for_other(flat: Option<&Flat>, tick: u64) -> u64
 }
 
 impl State {
+    /// The lights of the ticks that come when the clock moves to this one: those for which leaves of pending threads wait.
+    ///
+    /// # Errors
+    /// Want of memory.
+    pub fn ticks_until(&self, alloc: Global, to: u64) -> Result<Vec<Light>, AllocError>
+        requires { self.now.tick ≤ to }
+        ensures only { IfOk result (λ lights. (l : Light) → has_light lights.items l ≡ true → comes (self.now.tick) to l ≡ true) }
+        ensures all { IfOk result (λ lights. (t : ℕ) → 1 ≤ times_awaited t (bases_awaited (pending self.now)) →
+            self.now.tick < t → t ≤ to → has_light lights.items (of.Alarm t) ≡ true) }
+    {
+        let ticks = self.clock.ticks_until(alloc, to)?;
+        alarms_at(alloc, &ticks)
+    }
+
     /// Puts the ticks of the group for which only its own leaves and those of the other group wait behind the lights that stand
     /// there. There is room for them.
     pub fn push_left_ticks(&self, lights: &mut Vec<Light>, flat: &Flat, other: Option<&Flat>)
@@ -131,4 +148,15 @@ impl State {
             }
         }
     }
+}
+
+// The lights of these ticks.
+fn alarms_at(alloc: Global, ticks: &[u64]) -> Result<Vec<Light>, AllocError>
+    ensures { IfOk result (λ lights. lights.items ≡ map of.Alarm ticks.now) }
+{
+    let mut lights = Vec::new(alloc);
+    for tick in ticks {
+        lights.push(Light::Alarm(*tick))?;
+    }
+    Ok(lights)
 }
