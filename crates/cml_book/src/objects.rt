@@ -99,10 +99,10 @@ impl State {
         if !value.fits() {
             return Err(Returned::refused(value, Refusal::Deep));
         }
-        match feed(alloc, &mut self.ivars, ivar.0, value, table, Light::IVar(ivar)) {
-            Ok(()) => Ok(()),
-            Err(value) => Err(Returned::unserved(value)),
+        if let Err(value) = feed(alloc, &mut self.ivars, ivar.0, value, table, Light::IVar(ivar)) {
+            return Err(Returned::unserved(value));
         }
+        Ok(())
     }
 
     /// Puts the value into the M-variable, and tells the table.
@@ -126,10 +126,10 @@ impl State {
         if !value.fits() {
             return Err(Returned::refused(value, Refusal::Deep));
         }
-        match feed(alloc, &mut self.mvars, mvar.0, value, table, Light::MVar(mvar)) {
-            Ok(()) => Ok(()),
-            Err(value) => Err(Returned::unserved(value)),
+        if let Err(value) = feed(alloc, &mut self.mvars, mvar.0, value, table, Light::MVar(mvar)) {
+            return Err(Returned::unserved(value));
         }
+        Ok(())
     }
 
     /// Puts the value behind the items of the mailbox, and tells the table if it is the first.
@@ -153,10 +153,10 @@ impl State {
         if mailbox_is_full(&self.mailboxes, mailbox) {
             return Err(Returned::refused(value, Refusal::Full));
         }
-        match feed(alloc, &mut self.mailboxes, mailbox.0, value, table, Light::Mbox(mailbox)) {
-            Ok(()) => Ok(()),
-            Err(value) => Err(Returned::unserved(value)),
+        if let Err(value) = feed(alloc, &mut self.mailboxes, mailbox.0, value, table, Light::Mbox(mailbox)) {
+            return Err(Returned::unserved(value));
         }
+        Ok(())
     }
 }
 
