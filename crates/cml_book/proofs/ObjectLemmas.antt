@@ -1,8 +1,8 @@
 -- What commands on objects do to what a book keeps.
 use Rattle.std.proofs.Common.{◌≡◌, ◌≢◌, ℕ, ◌<◌, Bool, true, false, not, nat_eq, nat_lt, cond, ◌||◌, List, [], ◌∷◌, ◌++◌, length, map, refl, ap, sym, ◌∙◌, subst, arith, zero, suc, Option, Some, None, Result, Ok, Err, slice_set}
-use Rattle.std.specs.Prelude.{OnOk, OnErr, IsTrue, slice_get, is_some}
+use Rattle.std.specs.Prelude.{OnOk, OnErr, IsTrue, slice_get, is_some, is_none, unwrap_or}
 use Rattle.std.specs.Option.{option_map_or}
-use Rattle.std.proofs.lemmas.List.{map-id}
+use Rattle.std.proofs.lemmas.List.{map-id, length-map}
 use Rattle.std.proofs.lemmas.Bool.Decides.{nat_tests}
 use Rattle.cml_value.specs.Value.{PlainValue}
 use Rattle.cml_value.specs.declared.number.IVarId.{IVarId}
@@ -14,11 +14,16 @@ use Rattle.cml_scan.specs.Table.{without, lit_after, AgreeFor}
 use Rattle.cml_scan.specs.declared.object.Light.{Light}
 use Rattle.cml_scan.specs.declared.object.Light.TheVariants as of
 use Rattle.cml_base.specs.Feeds.{PlainRefusal, IsAccepted}
+use Rattle.cml_base.specs.Feeds as of_feed
+use Rattle.cml_queues.specs.PlainQueue.{PlainQueue}
+use Rattle.cml_queues.specs.Queues.{queued, is_at_limit, is_filled, is_full_at, added_at}
 use Rattle.cml_base.specs.Registered.{fed_at, lit_at, put_back}
 use Rattle.cml_syncvar.specs.Variables.{put_into}
 use Rattle.cml_value.specs.Limits.{value_fits}
 use Rattle.cml_book.specs.Keeping.{Keeps, Room}
 use Rattle.cml_book.specs.Put.{iput, mput}
+use Rattle.cml_book.specs.Mail.{mail}
+use Rattle.cml_book.specs.Views.{queues_of}
 use Rattle.cml_book.specs.Telling.{newly_lit, StaysTrue, StaysKept}
 use Rattle.cml_book.proofs.Pendings.{without_none}
 use Rattle.cml_book.proofs.LightLemmas.{agree_still}
@@ -97,7 +102,7 @@ pub fed_there : {S F : Type 0} (fed : S → F → Result S PlainRefusal) (xs : L
     → fed_at fed xs i x ≡ Ok (slice_set xs i t)
 fed_there fed xs i s t x e h = rw (e, h) refl
 
-accepted_ok : {S : Type 0} (r : Result S PlainRefusal) (s : S) → r ≡ Ok s → IsAccepted r
+pub accepted_ok : {S : Type 0} (r : Result S PlainRefusal) (s : S) → r ≡ Ok s → IsAccepted r
 accepted_ok (Ok s) t e = tt
 accepted_ok (Err why) t e = cc
 
@@ -156,3 +161,96 @@ iput_does w i v h e f = let there : nat_lt i (length w.ivars) ≡ true = grind (
 pub mput_does : (w : PlainWorld) (m : ℕ) (v : PlainValue) → m < length w.mvars → is_full (slice_get w.mvars m) ≡ false → value_fits v ≡ true
     → mput w m v ≡ Ok (record w { mvars = slice_set w.mvars m (Some v) }, tt)
 mput_does w m v h e f = let there : nat_lt m (length w.mvars) ≡ true = grind (arith, nat_tests) in rw (there, e, f) refl
+
+-- there are as many queues as mailboxes or ports
+pub long_enough : (qs : List PlainQueue) (i : ℕ) → i < length qs → i < length (queues_of qs)
+long_enough qs i h = let e = length-map qs (λ (q : PlainQueue). q.items) in omega (arith, e)
+
+pub queues_push : (qs : List PlainQueue) (q : PlainQueue) (s : List PlainValue) → q.items ≡ s → queues_of (qs ++ q ∷ []) ≡ queues_of qs ++ s ∷ []
+queues_push [] q s e = ap (λ (items : List PlainValue). items ∷ []) e
+queues_push (x ∷ qs) q s e = ap (λ (rest : List (List PlainValue)). x.items ∷ rest) (queues_push qs q s e)
+
+-- a value that is put behind the items of a queue which takes it
+pub mail_there : (qs : List (List PlainValue)) (b : ℕ) (v : PlainValue) → is_full_at qs b ≡ false → fed_at queued qs b v ≡ Ok (added_at qs b v)
+mail_there qs b v h = at (slice_get qs b) h
+  where
+    taken : (s : List PlainValue) (full : Bool) → full ≡ false → put_back qs b (cond full (Err of_feed.full) (Ok (s ++ v ∷ []))) ≡ Ok (slice_set qs b (s ++ v ∷ []))
+    taken s true e = cc
+    taken s false e = refl
+
+    at : (o : Option (List PlainValue)) → option_map_or is_at_limit o false ≡ false
+        → option_map_or (λ s. put_back qs b (queued s v)) o (Ok qs) ≡ Ok (option_map_or (λ s. slice_set qs b (s ++ v ∷ [])) o qs)
+    at None e = refl
+    at (Some s) e = taken s (is_at_limit s) e
+
+pub mail_done : (qs rs : List (List PlainValue)) (b : ℕ) (v : PlainValue) → is_full_at qs b ≡ false → fed_at queued qs b v ≡ Ok rs → rs ≡ added_at qs b v
+mail_done qs rs b v h fed = let e = mail_there qs b v h in cc
+
+pub mail_does : (w : PlainWorld) (b : ℕ) (v : PlainValue) → b < length w.mailboxes → is_full_at w.mailboxes b ≡ false → value_fits v ≡ true
+    → mail w b v ≡ Ok (record w { mailboxes = added_at w.mailboxes b v }, tt)
+mail_does w b v h e f = let there : nat_lt b (length w.mailboxes) ≡ true = grind (arith, nat_tests) in rw (there, e, f) refl
+
+lit_filled : (o : Option (List PlainValue)) → option_map_or is_filled o false ≡ has_item o
+lit_filled None = refl
+lit_filled (Some []) = refl
+lit_filled (Some (v ∷ vs)) = refl
+
+-- a queue with one more value has an item
+item_added : (items : List PlainValue) (v : PlainValue) → has_item (Some (items ++ v ∷ [])) ≡ true
+item_added [] v = refl
+item_added (x ∷ items) v = refl
+
+queue_there : (qs : List (List PlainValue)) (b : ℕ) → b < length qs → slice_get qs b ≡ Some (unwrap_or (slice_get qs b) [])
+queue_there [] b h = absurd (omega arith)
+queue_there (q ∷ qs) zero h = refl
+queue_there (q ∷ qs) (suc b) h = queue_there qs b (omega arith)
+
+added_is : (qs : List (List PlainValue)) (b : ℕ) (v : PlainValue) → b < length qs → added_at qs b v ≡ slice_set qs b (unwrap_or (slice_get qs b) [] ++ v ∷ [])
+added_is qs b v h = at (slice_get qs b) (queue_there qs b h)
+  where
+    at : (o : Option (List PlainValue)) → o ≡ Some (unwrap_or o []) → option_map_or (λ s. slice_set qs b (s ++ v ∷ [])) o qs ≡ slice_set qs b (unwrap_or o [] ++ v ∷ [])
+    at None e = cc
+    at (Some s) e = refl
+
+-- which queues have an item once a value was added to one
+pub added_fills : (qs : List (List PlainValue)) (b j : ℕ) (v : PlainValue) → b < length qs → has_item (slice_get (added_at qs b v) j) ≡ cond (nat_eq j b || false) true (has_item (slice_get qs j))
+added_fills qs b j v h = ap (λ (rs : List (List PlainValue)). has_item (slice_get rs j)) (added_is qs b v h) ∙ test_set has_item qs b j _ h (item_added (unwrap_or (slice_get qs b) []) v)
+
+pub added_same : (qs : List (List PlainValue)) (b j : ℕ) (v : PlainValue) → b < length qs → has_item (slice_get qs b) ≡ true → has_item (slice_get (added_at qs b v) j) ≡ has_item (slice_get qs j)
+added_same qs b j v h was = ap (λ (rs : List (List PlainValue)). has_item (slice_get rs j)) (added_is qs b v h) ∙ test_same has_item qs b j _ h (item_added (unwrap_or (slice_get qs b) []) v) was
+
+module _ (w : PlainWorld) (told told' : Light → Bool) where
+  pub mail_true : (b : MboxId) (v : PlainValue) → b.0 < length w.mailboxes
+      → ((l : Light) → told' l ≡ lit_after (newly_lit (lit_at is_filled w.mailboxes b.0) (of.Mbox b)) [] l (told l))
+      → StaysTrue w told (record w { mailboxes = added_at w.mailboxes b.0 v }) told'
+  mail_true b v h lit l t = lit l ∙ (rw (lit_filled (slice_get w.mailboxes b.0)) (at (has_item (slice_get w.mailboxes b.0)) refl l t))
+    where
+      at : (was : Bool) → has_item (slice_get w.mailboxes b.0) ≡ was → (l : Light) → told l ≡ light_of w l → lit_after (newly_lit was (of.Mbox b)) [] l (told l) ≡ light_of (record w { mailboxes = added_at w.mailboxes b.0 v }) l
+      at true e (of.Mbox j) t = t ∙ sym (added_same w.mailboxes b.0 j.0 v h e)
+      at true e l t = t
+      at false e (of.Mbox j) t = rw t (sym (added_fills w.mailboxes b.0 j.0 v h))
+      at false e l t = t
+
+  pub make_mvar_true : (held : Option PlainValue) (empty : Bool) (n : ℕ) → empty ≡ is_none held → n ≡ length w.mvars
+      → ((l : Light) → told' l ≡ lit_after (newly_lit empty (of.MVar (record { 0 = n }))) [] l (told l))
+      → StaysTrue w told (record w { mvars = w.mvars ++ held ∷ [] }) told'
+  make_mvar_true None empty n f e lit l t = lit l ∙ (rw f (at l t))
+    where
+      at : (l : Light) → told l ≡ light_of w l → told l ≡ light_of (record w { mvars = w.mvars ++ None ∷ [] }) l
+      at (of.MVar j) t = t ∙ sym (quiet_push is_full w.mvars j.0 None refl)
+      at l t = t
+  make_mvar_true (Some v) empty n f e lit l t = lit l ∙ (rw (f, e) (at l t))
+    where
+      at : (l : Light) → told l ≡ light_of w l → lit_after (of.MVar (record { 0 = length w.mvars }) ∷ []) [] l (told l) ≡ light_of (record w { mvars = w.mvars ++ Some v ∷ [] }) l
+      at (of.MVar j) t = rw t (sym (test_push is_full w.mvars j.0 (Some v) refl))
+      at l t = t
+
+module _ (w : PlainWorld) (told : Light → Bool) where
+  -- a new object that holds nothing lights nothing
+  pub make_ivar_true : StaysTrue w told (record w { ivars = w.ivars ++ None ∷ [] }) told
+  make_ivar_true (of.IVar j) t = t ∙ sym (quiet_push is_full w.ivars j.0 None refl)
+  make_ivar_true l t = t
+
+  pub make_mailbox_true : StaysTrue w told (record w { mailboxes = w.mailboxes ++ [] ∷ [] }) told
+  make_mailbox_true (of.Mbox j) t = t ∙ sym (quiet_push has_item w.mailboxes j.0 [] refl)
+  make_mailbox_true l t = t

@@ -1,6 +1,8 @@
 //! Variables and mailboxes: how they are made, and how values are put into them.
 
-ghost use Rattle.std.specs.Prelude.{◌≡◌};
+ghost use Rattle.std.specs.Prelude.{◌≡◌, Bool, List};
+ghost use Rattle.cml_scan.specs.World.{PlainEntry};
+ghost use Rattle.cml_scan.specs.declared.object.Light.{Light};
 ghost use Rattle.cml_queues.specs.Queues.{is_full_at};
 ghost use Rattle.cml_book.specs.Outcomes.{Does, DoesWith};
 ghost use Rattle.cml_book.specs.MakeObjects as make_spec;
@@ -24,15 +26,17 @@ use std::alloc::Global;
 impl State {
     /// Makes an empty I-variable.
     pub(crate) fn make_ivar(&mut self) -> Result<IVarId, Fault>
-        ensures { Does result (make_spec.make_ivar self.old) self.old self.new }
+        ensures step { Does result (make_spec.make_ivar self.old) self.old self.new }
+        ensures kept { (entries : List PlainEntry) (told : Light → Bool) →
+            StaysKept self.old entries told self.new entries told }
     {
         if self.ivars.len() >= MAX_OBJECTS {
             return Err(Fault::Refused(Refusal::Full));
         }
-        match self.ivars.make(IVar::new()) {
-            Ok(id) => Ok(IVarId(id)),
-            Err(_) => Err(Fault::Memory),
-        }
+        let Ok(id) = self.ivars.make(IVar::new()) else {
+            return Err(Fault::Memory);
+        };
+        Ok(IVarId(id))
     }
 
     /// Makes an M-variable that holds this, and tells the table if it is full.
@@ -59,23 +63,25 @@ impl State {
         let Ok(()) = tell_lit(alloc, table, held.is_none(), Light::MVar(mvar)) else {
             return Err(Returned::unserved(held));
         };
-        match self.mvars.make(MVar::new(held)) {
-            Ok(_) => Ok(mvar),
-            Err(_) => unreachable!(),
-        }
+        let Ok(_) = self.mvars.make(MVar::new(held)) else {
+            unreachable!();
+        };
+        Ok(mvar)
     }
 
     /// Makes a mailbox without items.
     pub(crate) fn make_mailbox(&mut self, alloc: Global) -> Result<MboxId, Fault>
-        ensures { Does result (make_spec.make_mailbox self.old) self.old self.new }
+        ensures step { Does result (make_spec.make_mailbox self.old) self.old self.new }
+        ensures kept { (entries : List PlainEntry) (told : Light → Bool) →
+            StaysKept self.old entries told self.new entries told }
     {
         if self.mailboxes.len() >= MAX_OBJECTS {
             return Err(Fault::Refused(Refusal::Full));
         }
-        match self.mailboxes.make(Mailbox::new(alloc)) {
-            Ok(id) => Ok(MboxId(id)),
-            Err(_) => Err(Fault::Memory),
-        }
+        let Ok(id) = self.mailboxes.make(Mailbox::new(alloc)) else {
+            return Err(Fault::Memory);
+        };
+        Ok(MboxId(id))
     }
 
     /// Puts the value into the I-variable, and tells the table.
