@@ -1,7 +1,9 @@
 pub mod Pendings
+pub mod Awaited
 pub mod LightLemmas
 pub mod NackLemmas
 pub mod Retold
+pub mod Alarms
 pub mod Scopes
 pub mod Marking
 pub mod Keepings

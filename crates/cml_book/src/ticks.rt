@@ -29,10 +29,10 @@ pub fn count_ticks(clock: &mut Clock, flat: &Flat) -> Result<(), AllocError>
     ensures now { clock.new.tick ≡ clock.old.tick }
 {
     for n in 0..flat.len() {
-        if count_tick(clock, flat.leaf(n)).is_err() {
+        let Ok(()) = count_tick(clock, flat.leaf(n)) else {
             uncount_ticks(clock, flat, n);
             return Err(AllocError);
-        }
+        };
     }
     Ok(())
 }
@@ -99,7 +99,7 @@ fn awaits(base: &Base, tick: u64) -> bool
 
 // How many leaves of the group wait for the tick, if there is a group.
 fn leaves_for_other(flat: Option<&Flat>, tick: u64) -> u64
-    ensures leaves { result ≡ times_awaited tick (bases_of flat) }
+    ensures leaves { result ≡ times_awaited tick (bases_of flat.entry) }
     ensures few { result ≤ max_leaves }
 {
     match flat {
@@ -128,7 +128,7 @@ impl State {
     pub fn push_left_ticks(&self, lights: &mut Vec<Light>, flat: &Flat, other: Option<&Flat>)
         requires { length lights.old.items + leaf_count flat.now ≤ vec_capacity lights.old }
         ensures lights { lights.new.items ≡ lights.old.items
-            ++ lights_in (filter (is_left (bases_awaited (pending self.now)) (bases flat.now) (bases_of other)) (bases flat.now)) }
+            ++ lights_in (filter (is_left (bases_awaited (pending self.now)) (bases flat.now) (bases_of other.entry)) (bases flat.now)) }
         ensures room { vec_capacity lights.new ≡ vec_capacity lights.old }
     {
         for n in 0..flat.len() {
@@ -139,7 +139,7 @@ impl State {
     fn push_left_tick(&self, lights: &mut Vec<Light>, flat: &Flat, other: Option<&Flat>, base: &Base)
         requires { length lights.old.items + 1 ≤ vec_capacity lights.old }
         ensures lights { lights.new.items ≡ lights.old.items
-            ++ lights_in (filter (is_left (bases_awaited (pending self.now)) (bases flat.now) (bases_of other)) (base.now ∷ [])) }
+            ++ lights_in (filter (is_left (bases_awaited (pending self.now)) (bases flat.now) (bases_of other.entry)) (base.now ∷ [])) }
         ensures room { vec_capacity lights.new ≡ vec_capacity lights.old }
     {
         if let BaseKind::At(tick) = base.kind() {
