@@ -17,6 +17,7 @@ pub mod Clock
 pub mod Step
 pub mod Keeping
 pub mod Telling
+pub mod Homes
 pub mod Leaving
 pub mod Parties
 pub mod Marks

@@ -10,6 +10,7 @@ mod marks;
 mod nacks;
 mod objects;
 mod party;
+mod ports;
 mod refusal;
 mod run;
 mod seen;
