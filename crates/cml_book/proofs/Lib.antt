@@ -16,3 +16,4 @@ pub mod Entered
 pub mod Accepted
 pub mod Runs
 pub mod PendingThreads
+pub mod ObjectLemmas

@@ -6,7 +6,6 @@ use Rattle.cml_group.specs.LaidOut.{max_leaves}
 use Rattle.cml_scan.specs.World.{PlainThread, PlainNack, fresh_of, live, PlainWorld, PlainEntry, pending, pending_from}
 use Rattle.cml_scan.specs.Table.{TellsLights}
 use Rattle.cml_value.specs.Value.{PlainBase, at_tick}
-use Rattle.cml_queues.specs.PlainMulticast.{PlainMulticast}
 use Rattle.cml_signal.specs.Clocks.{leaves_at}
 use Rattle.cml_scan.specs.Light.{light as light_seen}
 use Rattle.cml_scan.specs.declared.object.Light.{Light}
@@ -51,10 +50,6 @@ pub record AreFew (threads channels ivars mvars mailboxes mchans ports nacks : �
   pub few_mchans : mchans ≤ max_objects
   pub few_ports : ports ≤ max_objects
   pub few_nacks : nacks ≤ max_objects
-
--- the ports of the multicast channels exist
-abbrev pub ArePorts : List PlainMulticast → ℕ → Type 0
-ArePorts channels ports = All (λ c. All (λ p. p.0 < ports) c.ports) channels
 
 -- the base event waits for this tick
 abbrev pub awaits_tick : ℕ → PlainBase → Bool

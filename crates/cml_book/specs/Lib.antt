@@ -16,6 +16,8 @@ pub mod End
 pub mod Clock
 pub mod Step
 pub mod Keeping
+pub mod Telling
+pub mod Homes
 pub mod Leaving
 pub mod Parties
 pub mod Marks

@@ -1,6 +1,5 @@
 -- The commands that make variables, mailboxes and multicast channels.
-use Rattle.std.specs.Prelude.{not, ◌++◌, List, [], ◌∷◌, length, nat_le, Option, None, true, Ok}
-use Rattle.std.specs.Option.{option_map_or}
+use Rattle.std.specs.Prelude.{Bool, true, not, ◌++◌, [], ◌∷◌, length, nat_le, Option, Some, None, Ok}
 use Rattle.cml_value.specs.Value.{PlainValue}
 use Rattle.cml_value.specs.Limits.{value_fits}
 use Rattle.cml_value.specs.declared.number.IVarId.{IVarId}
@@ -17,10 +16,15 @@ make_ivar w =
     refuse_if (nat_le max_objects (length w.ivars)) Full
     (Ok (record w { ivars = w.ivars ++ None ∷ [] }, record { 0 = length w.ivars }))
 
+-- what a new variable is to hold is not too large
+abbrev pub held_fits : Option PlainValue → Bool
+held_fits None = true
+held_fits (Some v) = value_fits v
+
 -- A new M-variable, which is empty (Reppy's mVar) or holds this value (his mVarInit).
 abbrev pub make_mvar : PlainWorld → Option PlainValue → Outcome MVarId
 make_mvar w held =
-    refuse_if (not (option_map_or value_fits held true)) Deep
+    refuse_if (not (held_fits held)) Deep
     (refuse_if (nat_le max_objects (length w.mvars)) Full
     (Ok (record w { mvars = w.mvars ++ held ∷ [] }, record { 0 = length w.mvars })))
 

@@ -14,13 +14,17 @@ ports_at channels x = unwrap_or (slice_get channels x) []
 abbrev pub has_port : List ℕ → ℕ → Bool
 has_port ports p = list_any (λ q. q == p) ports
 
+-- the channel of this number has this port behind its others
+abbrev pub with_port : List (List ℕ) → ℕ → ℕ → List (List ℕ)
+with_port channels x port = slice_set channels x (ports_at channels x ++ port ∷ [])
+
 -- A new port of the channel, to which later messages come (Reppy's port).
 abbrev pub make_port : PlainWorld → ℕ → Outcome PortId
 make_port w x =
     refuse_if (not (nat_lt x (length w.mchans))) Object
     (refuse_if (nat_le max_objects (length w.ports)) Full
     (Ok (record w {
-      mchans = slice_set w.mchans x (ports_at w.mchans x ++ length w.ports ∷ []);
+      mchans = with_port w.mchans x (length w.ports);
       ports = w.ports ++ [] ∷ [];
     }, record { 0 = length w.ports })))
 

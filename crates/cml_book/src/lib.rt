@@ -4,10 +4,13 @@
 mod book;
 mod command;
 mod entering;
+mod feeding;
 mod lights;
 mod marks;
 mod nacks;
+mod objects;
 mod party;
+mod ports;
 mod refusal;
 mod run;
 mod seen;

@@ -20,7 +20,7 @@ use cml_queues::{Mailbox, Multicast, Port};
 use cml_scan::{Light, Lights};
 use cml_signal::{Clock, NackCell};
 use cml_syncvar::{IVar, MVar};
-use cml_value::{ChanId, NackId, Tid};
+use cml_value::{ChanId, McastId, NackId, Tid};
 use std::alloc::{AllocError, Global};
 use std::marker::Model;
 
@@ -34,6 +34,8 @@ pub struct State {
     pub(crate) mailboxes: Register<Mailbox>,
     pub(crate) mchans: Vec<Multicast>,
     pub(crate) ports: Register<Port>,
+    // the channel of each port
+    pub(crate) homes: Vec<McastId>,
     pub(crate) nacks: Register<NackCell>,
     // a mark for each nack
     pub(crate) marks: Marks,
@@ -46,7 +48,8 @@ impl Model for State {
     ghost use Rattle.cml_scan.specs.World.{PlainWorld};
     ghost use Rattle.cml_scan.specs.Codes.{world_code};
     ghost use Rattle.cml_book.specs.Views.{queues_of, ports_of};
-    ghost use Rattle.cml_book.specs.Keeping.{AreFew, ArePorts, Counts};
+    ghost use Rattle.cml_book.specs.Keeping.{AreFew, Counts};
+    ghost use Rattle.cml_book.specs.Homes.{ArePorts};
 
     ghost Value = { PlainWorld };
 
@@ -68,7 +71,7 @@ impl Model for State {
         AreFew (length s.threads.items) s.channels (length s.ivars.objects) (length s.mvars.objects)
             (length s.mailboxes.objects) (length s.mchans.items) (length s.ports.objects) (length s.nacks.objects)
         × (s.marks ≡ length s.nacks.objects)
-        × ArePorts s.mchans.items (length s.ports.objects)
+        × ArePorts s.mchans.items s.homes.items (length s.ports.objects)
         × Counts s.threads.items s.clock.waited };
 }
 
@@ -87,6 +90,7 @@ impl State {
             mailboxes: Register::new(alloc),
             mchans: Vec::new(alloc),
             ports: Register::new(alloc),
+            homes: Vec::new(alloc),
             nacks: Register::new(alloc),
             marks: Marks::new(alloc),
             clock: Clock::new(alloc),
