@@ -89,6 +89,10 @@ pub record Fits (g : PlainGroup) (room : Room) : Type 0 where
   pub nacks : 2 * length (scopes g) ≤ room.lit
   pub ticks : 2 * leaf_count g + 1 ≤ room.unlit
 
+-- what there was room for, there is room for
+abbrev pub Grows : Room → Room → Type 0
+Grows old new = (g : PlainGroup) → Fits g old → Fits g new
+
 -- The table was told the pending groups, and of each light that one of their leaves waits for whether it is lit. The nacks of the
 -- pending groups are live. There is room for the lights that a commit can light and put out.
 pub record Keeps (w : PlainWorld) (entries : List PlainEntry) (told : Light → Bool) (room : Room) : Type 0 where

@@ -17,7 +17,7 @@ ghost use Rattle.cml_book.specs.Clock.{IsAlarm};
 
 use crate::command::{Committed, Resume};
 use crate::lights::Arrival;
-use crate::nacks::push_lights;
+use crate::nacks::{make_room, push_lights};
 use crate::party::sent;
 use crate::refusal::{Fault, Refusal};
 use crate::state::State;
@@ -122,18 +122,27 @@ impl<T: Table> Book<T> {
         if let Some(why) = self.state.sync_refusal(thread, group) {
             return Err(Fault::Refused(why));
         }
-        let Arrival { flat, lit, unlit } = self.state.arrival(alloc, group)?;
-        self.lit.reserve(2 * flat.scopes().len())?;
-        self.unlit.reserve(2 * flat.len() + 1)?;
-        self.state.wait(thread, flat)?;
+        let arrival = self.state.arrival(alloc, group)?;
+        let Ok(()) = make_room(&mut self.lit, &mut self.unlit, &arrival.flat) else {
+            drop(arrival);
+            return Err(Fault::Memory);
+        };
+        let Arrival { flat, lit, unlit } = arrival;
+        let Ok(()) = self.state.wait(thread, flat) else {
+            drop(lit);
+            drop(unlit);
+            return Err(Fault::Memory);
+        };
         let Some(flat) = self.state.waiting(thread) else {
             unreachable!();
         };
         let came = Some((thread, flat.group()));
-        if self.table.change(alloc, &[], came, &lit, &unlit).is_err() {
+        let Ok(()) = self.table.change(alloc, &[], came, &lit, &unlit) else {
             self.state.withdraw(thread);
+            drop(lit);
+            drop(unlit);
             return Err(Fault::Memory);
-        }
+        };
         self.state.enter_nacks(thread);
         Ok(())
     }
