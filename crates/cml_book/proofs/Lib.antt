@@ -16,3 +16,4 @@ pub mod Accepted
 pub mod Runs
 pub mod PendingThreads
 pub mod ObjectLemmas
+pub mod PortLemmas

@@ -44,16 +44,16 @@ stays_kept w w' es es' told told' threads nacks same lights room k = record {
   roomy = rw same k.roomy;
 }
 
-there_set : {X : Type 0} (xs : List X) (i : ℕ) (x : X) → i < length xs → slice_get (slice_set xs i x) i ≡ Some x
+pub there_set : {X : Type 0} (xs : List X) (i : ℕ) (x : X) → i < length xs → slice_get (slice_set xs i x) i ≡ Some x
 there_set [] i x h = absurd (omega arith)
 there_set (y ∷ xs) zero x h = refl
 there_set (y ∷ xs) (suc i) x h = there_set xs i x (omega arith)
 
-there_push : {X : Type 0} (xs : List X) (x : X) → slice_get (xs ++ x ∷ []) (length xs) ≡ Some x
+pub there_push : {X : Type 0} (xs : List X) (x : X) → slice_get (xs ++ x ∷ []) (length xs) ≡ Some x
 there_push [] x = refl
 there_push (y ∷ xs) x = there_push xs x
 
-other_push : {X : Type 0} (xs : List X) (j : ℕ) (x : X) → j ≢ length xs → slice_get (xs ++ x ∷ []) j ≡ slice_get xs j
+pub other_push : {X : Type 0} (xs : List X) (j : ℕ) (x : X) → j ≢ length xs → slice_get (xs ++ x ∷ []) j ≡ slice_get xs j
 other_push [] zero x h = absurd (h refl)
 other_push [] (suc j) x h = refl
 other_push (y ∷ xs) zero x h = refl
