@@ -1,11 +1,12 @@
 -- How many leaves of pending threads wait for a tick.
-use Rattle.std.proofs.Common.{◌≡◌, ℕ, ◌+◌, ◌*◌, ◌<◌, ◌≤◌, Bool, true, false, nat_eq, cond, List, [], ◌∷◌, ◌++◌, length, map, refl, ap, sym, ◌∙◌, arith, zero, suc, Option, Some, None, take, zero-add, add-one}
+use Rattle.std.proofs.Common.{◌≡◌, ℕ, ◌+◌, ◌*◌, ◌<◌, ◌≤◌, Bool, true, false, nat_eq, cond, List, [], ◌∷◌, ◌++◌, length, map, refl, ap, sym, ◌∙◌, arith, zero, suc, Option, Some, None, take, zero-add, add-one, length-take, slice_index_or}
 use Rattle.std.specs.Option.{option_map}
 use Rattle.std.specs.Prelude.{slice_set, slice_get, All, Contains, IfSome, IfNone}
 use Rattle.std.proofs.lemmas.Bool.Decides.{nat_tests}
 use Rattle.std.proofs.lemmas.List.{length-map}
 use Rattle.std.proofs.lemmas.List.Elements.{All-head, All-tail, All-cons}
 use Rattle.std.proofs.lemmas.List.Sums.{sum_by-append, sum_by-cons, count_by-le-length}
+use Rattle.std.proofs.Math.Seq.{take-length}
 use Rattle.cml_value.specs.Value.{PlainBase, at_tick}
 use Rattle.cml_value.specs.Group.{PlainGroup, PlainLeaf, bases, leaves, leaf_count}
 use Rattle.cml_group.specs.LaidOut.{max_leaves}
@@ -14,6 +15,7 @@ use Rattle.cml_signal.specs.Clocks.{PlainClock, leaves_at, IsWaited}
 use Rattle.cml_scan.specs.World.{PlainThread, running, pending_on, ended, PlainEntry, pending_from}
 use Rattle.cml_book.specs.Clock.{bases_awaited}
 use Rattle.cml_book.specs.Keeping.{awaits_tick, times_awaited, Counts}
+use Rattle.cml_book.specs.Threads.{flat_of}
 use Rattle.cml_book.proofs.Pendings.{pending-push, pending-end}
 
 pub awaited-append : (t : ℕ) (xs ys : List PlainBase) → times_awaited t (xs ++ ys) ≡ times_awaited t xs + times_awaited t ys
@@ -38,6 +40,9 @@ leaf_take (l ∷ ls) (suc n) b h = ap (λ xs. l.base ∷ xs) (leaf_take ls n b h
 pub awaited-take : (t : ℕ) (g : PlainGroup) (n : ℕ) (b : PlainBase) → leaf_base g n ≡ Some b
     → times_awaited t (take (n + 1) (bases g)) ≡ times_awaited t (take n (bases g)) + times_awaited t (b ∷ [])
 awaited-take t g n b h = rw add-one (ap (times_awaited t) (leaf_take (leaves g) n b h) ∙ awaited-append t (take n (bases g)) (b ∷ []))
+
+pub awaited-few : (t : ℕ) (n : ℕ) (bs : List PlainBase) → times_awaited t (take n bs) ≤ n
+awaited-few t n bs = let a = count_by-le-length (awaits_tick t) (take n bs) in let b = length-take n bs in omega arith
 
 -- fewer leaves of a list
 pub awaited-le : (t : ℕ) (bs : List PlainBase) (m k : ℕ) → m ≤ k → times_awaited t (take m bs) ≤ times_awaited t (take k bs)
@@ -194,6 +199,17 @@ counts-resume ts i g waited waited' waits less c = record {
 pub counts_there : (t : ℕ) (ts : List PlainThread) (i : ℕ) (g : PlainGroup) (waited : List (ℕ × ℕ)) → slice_get ts i ≡ Some (pending_on g) → Counts ts waited → times_awaited t (bases g) ≤ leaves_at waited t
 counts_there t ts i g waited waits c = let a = awaited-resume t 0 i ts g waits in let d = c.counted t in omega arith
 
+take_all : (g : PlainGroup) (n : ℕ) → n ≡ leaf_count g → take n (bases g) ≡ bases g
+take_all g n e = let size = length-map (leaves g) (λ (l : PlainLeaf). l.base) in ap (λ k. take k (bases g)) (e ∙ sym size) ∙ take-length (bases g)
+
+pub all_there : (t : ℕ) (ts : List PlainThread) (i n : ℕ) (g : PlainGroup) (waited : List (ℕ × ℕ)) → slice_get ts i ≡ Some (pending_on g) → n ≡ leaf_count g → Counts ts waited
+    → times_awaited t (take n (bases g)) ≤ leaves_at waited t
+all_there t ts i n g waited waits e c = rw (take_all g n e) (counts_there t ts i g waited waits c)
+
+pub all_left : (g : PlainGroup) (n : ℕ) (waited waited' : List (ℕ × ℕ)) → n ≡ leaf_count g → ((t : ℕ) → leaves_at waited' t + times_awaited t (take n (bases g)) ≡ leaves_at waited t)
+    → (t : ℕ) → leaves_at waited' t + times_awaited t (bases g) ≡ leaves_at waited t
+all_left g n waited waited' e h t = ap (λ bs. leaves_at waited' t + times_awaited t bs) (sym (take_all g n e)) ∙ h t
+
 -- the counts of other ticks that are the same
 pub counts_same : (ts : List PlainThread) (waited waited' : List (ℕ × ℕ)) → ((t : ℕ) → leaves_at waited' t ≡ leaves_at waited t) → Counts ts waited → Counts ts waited'
 counts_same ts waited waited' same c = record { counted = λ t. same t ∙ c.counted t; narrow = c.narrow }
@@ -219,3 +235,14 @@ module _ (ts : List PlainThread) (clock : PlainClock) (c : Counts ts clock.waite
       → IfNone o ((t : ℕ) → (clock.tick < t) × Contains (bases_awaited (pending_from 0 ts)) (at_tick t) → ⊥)
   alarm_none None h = λ t p. (let below = h t (there_waited t p.1) in let above = p.0 in absurd (omega arith))
   alarm_none (Some a) h = tt
+
+flat_pending : (x : PlainThread) (g : PlainGroup) → flat_of x ≡ Some g → x ≡ pending_on g
+flat_pending running g h = cc
+flat_pending (pending_on f) g h = let same : f ≡ g = cc in ap pending_on same
+flat_pending ended g h = cc
+
+-- the thread at a place waits on a group
+pub waits_at : (ts : List PlainThread) (i : ℕ) (x d : PlainThread) (g : PlainGroup) → i < length ts → x ≡ slice_index_or ts i d → flat_of x ≡ Some g → slice_get ts i ≡ Some (pending_on g)
+waits_at [] i x d g h e f = absurd (omega arith)
+waits_at (t ∷ ts) zero x d g h e f = ap Some (sym e ∙ flat_pending x g f)
+waits_at (t ∷ ts) (suc i) x d g h e f = waits_at ts i x d g (omega arith) e f

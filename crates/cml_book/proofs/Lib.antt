@@ -4,6 +4,7 @@ pub mod LightLemmas
 pub mod NackLemmas
 pub mod Retold
 pub mod Alarms
+pub mod Given
 pub mod Scopes
 pub mod Marking
 pub mod Keepings

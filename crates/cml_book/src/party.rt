@@ -61,10 +61,7 @@ impl State {
         requires { AreFresh (nacks_of (scopes (group_awaited self.old thread.0))) self.old.nacks }
         ensures { self.new ≡ record self.old { nacks = with_each (nacks_of (scopes (group_awaited self.old thread.0))) live self.old.nacks } }
     {
-        match self.threads.get(thread.0 as usize) {
-            Some(found) => enter_all(&mut self.nacks, found),
-            None => (),
-        }
+        enter_all(&mut self.nacks, &self.threads, thread);
     }
 
     /// The group that the thread waits on, if it does.
@@ -195,13 +192,16 @@ fn release(threads: &mut Vec<Thread>, clock: &mut Clock, thread: Tid) -> Flat
 }
 
 // Makes the nacks of the group live that the thread waits on, if it does.
-fn enter_all(cells: &mut Register<NackCell>, thread: &Thread)
-    requires { AreFresh (nacks_of (scopes (awaited (Some thread.now)))) cells.old.objects }
-    ensures { cells.new.objects ≡ with_each (nacks_of (scopes (awaited (Some thread.now)))) live cells.old.objects }
+fn enter_all(cells: &mut Register<NackCell>, threads: &Vec<Thread>, thread: Tid)
+    requires { AreFresh (nacks_of (scopes (awaited (slice_get threads.now.items thread.0)))) cells.old.objects }
+    ensures { cells.new.objects
+        ≡ with_each (nacks_of (scopes (awaited (slice_get threads.now.items thread.0)))) live cells.old.objects }
 {
-    match thread.flat() {
-        Some(flat) => enter(cells, flat.scopes()),
-        None => (),
+    let Some(found) = threads.get(thread.0 as usize) else {
+        return;
+    };
+    if let Some(flat) = found.flat() {
+        enter(cells, flat.scopes());
     }
 }
 

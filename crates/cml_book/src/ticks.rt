@@ -22,11 +22,12 @@ use std::alloc::{AllocError, Global};
 
 /// Counts the leaves of the group that wait for a tick, all or none.
 pub fn count_ticks(clock: &mut Clock, flat: &Flat) -> Result<(), AllocError>
-    requires { (t : ℕ) → leaves_at clock.old.waited t + leaf_count flat.now < 2 ^ 64 }
+    requires { (t : ℕ) → leaves_at clock.old.waited t < 2 ^ 63 }
     ensures ok { OnOk result ((t : ℕ) →
         leaves_at clock.new.waited t ≡ leaves_at clock.old.waited t + times_awaited t (bases flat.now)) }
     ensures err { OnErr result ((t : ℕ) → leaves_at clock.new.waited t ≡ leaves_at clock.old.waited t) }
     ensures now { clock.new.tick ≡ clock.old.tick }
+    ensures few { leaf_count flat.now ≤ max_leaves }
 {
     for n in 0..flat.len() {
         let Ok(()) = count_tick(clock, flat.leaf(n)) else {
