@@ -18,3 +18,5 @@ pub mod Runs
 pub mod PendingThreads
 pub mod ObjectLemmas
 pub mod PortLemmas
+pub mod PortSteps
+pub mod PostedLights

@@ -147,3 +147,53 @@ ports_more cs ds hs x n h are e =
     length-push : (hs : List McastId) (x : McastId) → length (hs ++ x ∷ []) ≡ suc (length hs)
     length-push [] x = refl
     length-push (h ∷ hs) x = ap suc (length-push hs x)
+
+-- a new channel without ports
+pub channel_push : (cs : List PlainMulticast) (c : PlainMulticast) → c.ports ≡ [] → ports_of (cs ++ c ∷ []) ≡ ports_of cs ++ [] ∷ []
+channel_push [] c e = ap (λ (ps : List PortId). numbers ps ∷ []) e
+channel_push (d ∷ cs) c e = ap (λ (r : List (List ℕ)). numbers d.ports ∷ r) (channel_push cs c e)
+
+pub ports_stay : (cs ds : List PlainMulticast) (hs : List McastId) (n : ℕ) → ArePorts cs hs n → ports_of ds ≡ ports_of cs ++ [] ∷ [] → ArePorts ds hs n
+ports_stay cs ds hs n are e = record {
+  housed = λ x p. rw e (ap (λ (ps : List ℕ). has_port ps p) (quiet_push (λ (o : Option (List ℕ)). unwrap_or o []) (ports_of cs) x [] refl) ∙ are.housed x p);
+  each = are.each;
+}
+
+-- the channels in which the copy of a port stands: the home of the port
+map_unheard : (n p : ℕ) (cs : List (List ℕ)) → ((x : ℕ) → has_port (ports_at cs x) p ≡ false) → map (heard_by n p) cs ≡ cs
+map_unheard n p [] h = refl
+map_unheard n p (c ∷ cs) h = rw (h 0) (ap (λ (r : List (List ℕ)). c ∷ r) (map_unheard n p cs (λ x. h (suc x))))
+
+map_heard : (n p h : ℕ) (cs : List (List ℕ)) → ((x : ℕ) → has_port (ports_at cs x) p ≡ nat_eq h x) → map (heard_by n p) cs ≡ with_port cs h n
+map_heard n p h [] only = refl
+map_heard n p zero (c ∷ cs) only =
+    let here : has_port c p ≡ true = only 0 ∙ eq_self 0 in
+    let rest : (x : ℕ) → has_port (ports_at cs x) p ≡ false = λ x. only (suc x) ∙ zero_not x in
+    rw here (ap (λ (r : List (List ℕ)). (c ++ n ∷ []) ∷ r) (map_unheard n p cs rest))
+  where
+    zero_not : (x : ℕ) → nat_eq 0 (suc x) ≡ false
+    zero_not x = grind (arith, nat_tests)
+map_heard n p (suc h) (c ∷ cs) only =
+    let here : has_port c p ≡ false = only 0 ∙ not_zero h in
+    let rest : (x : ℕ) → has_port (ports_at cs x) p ≡ nat_eq h x = λ x. only (suc x) ∙ same_suc h x in
+    rw here (ap (λ (r : List (List ℕ)). c ∷ r) (map_heard n p h cs rest))
+  where
+    not_zero : (h : ℕ) → nat_eq (suc h) 0 ≡ false
+    not_zero h = grind (arith, nat_tests)
+    same_suc : (h x : ℕ) → nat_eq (suc h) (suc x) ≡ nat_eq h x
+    same_suc h x = grind (arith, nat_tests)
+
+pub copy_heard : (cs : List (List ℕ)) (hs : List ℕ) (n p home : ℕ) → HaveHomes cs hs → slice_get hs p ≡ Some home → map (heard_by n p) cs ≡ with_port cs home n
+copy_heard cs hs n p home housed e = map_heard n p home cs (λ x. housed x p ∙ ap (is_home x) e)
+
+-- the home of a port exists
+pub home_there : (cs : List (List ℕ)) (hs : List ℕ) (p home : ℕ) → HaveHomes cs hs → slice_get hs p ≡ Some home → home < length cs
+home_there cs hs p home housed e = within cs home (housed home p ∙ ap (is_home home) e ∙ eq_self home)
+  where
+    within : (cs : List (List ℕ)) (x : ℕ) → has_port (ports_at cs x) p ≡ true → x < length cs
+    within [] x k = cc
+    within (c ∷ cs) zero k = omega arith
+    within (c ∷ cs) (suc x) k = let i = within cs x k in omega (arith, i)
+
+pub ports_below : (cs : List PlainMulticast) (hs : List McastId) (n x : ℕ) → ArePorts cs hs n → AreBelow (ports_of cs) x n
+ports_below cs hs n x are = housed_below (ports_of cs) (numbers_of hs) x n are.housed (length-map hs (λ (m : McastId). m.0) ∙ are.each)

@@ -8,6 +8,7 @@ mod feeding;
 mod lights;
 mod marks;
 mod nacks;
+mod object_calls;
 mod objects;
 mod party;
 mod ports;

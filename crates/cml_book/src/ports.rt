@@ -134,12 +134,23 @@ impl State {
             return Err(Returned::refused(message, Refusal::Deep));
         }
         if let Err(fault) = send(alloc, table, &self.mchans[place], &mut self.ports, &message) {
-            return match fault {
-                PostFault::Full => Err(Returned::refused(message, Refusal::Full)),
-                PostFault::Memory => Err(Returned::unserved(message)),
-            };
+            return Err(Returned {
+                value: message,
+                fault: post_fault(fault),
+            });
         }
+        drop(message);
         Ok(())
+    }
+}
+
+// Why a call did nothing, as the post says it.
+fn post_fault(fault: PostFault) -> Fault
+    ensures { result ≡ multicast_spec.fault_of fault }
+{
+    match fault {
+        PostFault::Full => Fault::Refused(Refusal::Full),
+        PostFault::Memory => Fault::Memory,
     }
 }
 
