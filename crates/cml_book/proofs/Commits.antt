@@ -22,7 +22,7 @@ use Rattle.cml_scan.proofs.Told.{scan_of-told}
 use Rattle.cml_scan.proofs.Enabling.{scan-members, Contains-has_row}
 use Rattle.cml_book.specs.Commit.{awaited, group_awaited, base_awaited, base_or_unit, wraps_or_none, commit, after, hands, given, taken, released, resume, sent}
 use Rattle.cml_book.specs.Threads.{flat_of}
-use Rattle.cml_book.specs.Keeping.{Keeps, AreLive, nack_light}
+use Rattle.cml_book.specs.Keeping.{Room, Fits, Keeps, AreLive, nack_light}
 use Rattle.cml_book.specs.Parties.{WaitsOn}
 use Rattle.cml_book.specs.Resumes.{PlainResume}
 use Rattle.cml_book.specs.declared.refusal.Refusal.TheVariants as refusal
@@ -36,7 +36,7 @@ pub commit_is : (w : PlainWorld) (row : Meet) → has_row (scan w) row ≡ true 
 commit_is w row h = rw h refl
 
 -- what the table shows is the scan
-pub scan_is : (w : PlainWorld) (es : List PlainEntry) (told : Light → Bool) (room : ℕ) → Keeps w es told room → scan_of es told ≡ scan w
+pub scan_is : (w : PlainWorld) (es : List PlainEntry) (told : Light → Bool) (room : Room) → Keeps w es told room → scan_of es told ≡ scan w
 scan_is w es told room k = ap (λ xs. scan_of xs told) k.told_groups ∙ scan_of-told w told k.told_lights
 
 -- what holds of a pending thread's entry
@@ -65,20 +65,20 @@ thread_at n (suc i) (pending_on x ∷ ts) g h = let t = thread_at (n + 1) i ts g
 thread_at n (suc i) (ended ∷ ts) g h = let t = thread_at (n + 1) i ts g h in (t.0, t.1, t.2, t.3, t.4 ∙ omega arith)
 
 -- a party of an enabled row: it waits on a group that has the leaf
-pub record Party (w : PlainWorld) (room t n : ℕ) (b : PlainBase) : Type 0 where
+pub record Party (w : PlainWorld) (room : Room) (t n : ℕ) (b : PlainBase) : Type 0 where
   pub group : PlainGroup
   pub waits : slice_get w.threads t ≡ Some (pending_on group)
   pub base_is : base_or_unit (pick group n) ≡ b
   pub within : n < leaf_count group
   pub alive : AreLive (nacks_of (scopes group)) w.nacks
-  pub fits : 2 * length (scopes group) ≤ room
+  pub fits : Fits group room
 
 pick_at : (ls : List PlainLeaf) (n : ℕ) (b : PlainBase) → slice_get (map (λ l. l.base) ls) n ≡ Some b → (base_or_unit (slice_get ls n) ≡ b) × (n < length ls)
 pick_at [] n b h = cc
 pick_at (l ∷ ls) zero b h = (cc, omega arith)
 pick_at (l ∷ ls) (suc n) b h = let p = pick_at ls n b h in (p.0, omega (arith, p.1))
 
-pub party_of : (w : PlainWorld) (es : List PlainEntry) (told : Light → Bool) (room t n : ℕ) (b : PlainBase) → Keeps w es told room → leaf_of (slice_get w.threads t) n ≡ Some b → Party w room t n b
+pub party_of : (w : PlainWorld) (es : List PlainEntry) (told : Light → Bool) (room : Room) (t n : ℕ) (b : PlainBase) → Keeps w es told room → leaf_of (slice_get w.threads t) n ≡ Some b → Party w room t n b
 party_of w es told room t n b k h = at (slice_get w.threads t) refl h
   where
     at : (o : Option PlainThread) → slice_get w.threads t ≡ o → leaf_of o n ≡ Some b → Party w room t n b
@@ -90,24 +90,24 @@ party_of w es told room t n b k h = at (slice_get w.threads t) refl h
           base_is = p.0;
           within = p.1;
           alive = record { each = λ j. let a = nacks-resume j 0 t w.threads g e in let l = k.nacks_live j in omega arith };
-          fits = entry_at (λ x. 2 * length (scopes x.group) ≤ room) 0 t w.threads g e (rw (← k.told_groups) k.roomy);
+          fits = entry_at (λ x. Fits x.group room) 0 t w.threads g e (rw (← k.told_groups) k.roomy);
         }
     at _ e h = cc
 
-pub single_party : (w : PlainWorld) (es : List PlainEntry) (told : Light → Bool) (room : ℕ) (t : Tid) (n : ℕ) → Keeps w es told room → has_row (scan w) (Single t n) ≡ true → (b : PlainBase) × Party w room t.0 n b
+pub single_party : (w : PlainWorld) (es : List PlainEntry) (told : Light → Bool) (room : Room) (t : Tid) (n : ℕ) → Keeps w es told room → has_row (scan w) (Single t n) ≡ true → (b : PlainBase) × Party w room t.0 n b
 single_party w es told room t n k h =
     let e = (scan-members w (Single t n)).0 (Contains-has_row (scan w) (Single t n) h) in
     (e.0, party_of w es told room t.0 n e.0 k e.1)
 
 -- the two parties of a pair, which differ
-pub record Parties (w : PlainWorld) (room : ℕ) (h : Tid) (i : ℕ) (o : Tid) (j : ℕ) : Type 0 where
+pub record Parties (w : PlainWorld) (room : Room) (h : Tid) (i : ℕ) (o : Tid) (j : ℕ) : Type 0 where
   pub channel : ℕ
   pub value : PlainValue
   pub sender : Party w room h.0 i (send channel value)
   pub receiver : Party w room o.0 j (recv channel)
   pub differ : h.0 ≢ o.0
 
-pub pair_parties : (w : PlainWorld) (es : List PlainEntry) (told : Light → Bool) (room : ℕ) (h : Tid) (i : ℕ) (o : Tid) (j : ℕ) → Keeps w es told room → has_row (scan w) (Pair h i o j) ≡ true → Parties w room h i o j
+pub pair_parties : (w : PlainWorld) (es : List PlainEntry) (told : Light → Bool) (room : Room) (h : Tid) (i : ℕ) (o : Tid) (j : ℕ) → Keeps w es told room → has_row (scan w) (Pair h i o j) ≡ true → Parties w room h i o j
 pair_parties w es told room h i o j k has =
     let e = (scan-members w (Pair h i o j)).0 (Contains-has_row (scan w) (Pair h i o j) has) in
     record {
@@ -135,7 +135,7 @@ found r w t g e waits is =
 pub is_there : (w : PlainWorld) (es : List PlainEntry) (t : Tid) (g : PlainGroup) → slice_get w.threads t.0 ≡ Some (pending_on g) → es ≡ pending_from 0 w.threads → IsThere es t
 is_there w es t g waits same = let a = thread_at 0 t.0 w.threads g waits in rw same (a.0, a.1, a.2, a.3, a.4 ∙ zero-add t.0)
 
-pub waits_on : (w : PlainWorld) (room t n : ℕ) (b : PlainBase) → Party w room t n b → WaitsOn w.threads w.nacks t n (group_awaited w t)
+pub waits_on : (w : PlainWorld) (room : Room) (t n : ℕ) (b : PlainBase) → Party w room t n b → WaitsOn w.threads w.nacks t n (group_awaited w t)
 waits_on w room t n b p = rw p.waits (record { waits = p.waits; within = p.within; alive = p.alive })
 
 -- what is taken alone is the same before and after its thread goes on
@@ -200,7 +200,7 @@ gone_one t = one t.0
     one n = grind (arith, nat_tests)
 
 -- what a book keeps when one thread has gone on
-pub keeps_single : (w : PlainWorld) (es : List PlainEntry) (told : Light → Bool) (room : ℕ) (t : Tid) (n : ℕ) (g : PlainGroup) (es' : List PlainEntry) (told' : Light → Bool) (w1 : PlainWorld) (lit : List Light) (room' : ℕ)
+pub keeps_single : (w : PlainWorld) (es : List PlainEntry) (told : Light → Bool) (room : Room) (t : Tid) (n : ℕ) (g : PlainGroup) (es' : List PlainEntry) (told' : Light → Bool) (w1 : PlainWorld) (lit : List Light) (room' : Room)
     → Keeps w es told room → slice_get w.threads t.0 ≡ Some (pending_on g) → w1 ≡ released w t.0 n
     → lit ≡ map nack_light (lost g n) → es' ≡ without (t ∷ []) es → ((l : Light) → told' l ≡ lit_after lit [] l (told l)) → room' ≡ room
     → Keeps w1 es' told' room'
@@ -224,7 +224,7 @@ single_returns w t n b ws v fs w1 r has picked one value same lost made =
     commit_is w (Single t n) has ∙ rw (world, head) refl
 
 -- the receiver waits still, once the sender has gone on
-pub second_waits : (w : PlainWorld) (es : List PlainEntry) (told : Light → Bool) (room : ℕ) (h : Tid) (i : ℕ) (o : Tid) (j : ℕ) (a g : PlainGroup) (w1 : PlainWorld)
+pub second_waits : (w : PlainWorld) (es : List PlainEntry) (told : Light → Bool) (room : Room) (h : Tid) (i : ℕ) (o : Tid) (j : ℕ) (a g : PlainGroup) (w1 : PlainWorld)
     → Keeps w es told room → slice_get w.threads h.0 ≡ Some (pending_on a) → slice_get w.threads o.0 ≡ Some (pending_on g) → h.0 ≢ o.0 → j < leaf_count g
     → w1 ≡ released w h.0 i → WaitsOn w1.threads w1.nacks o.0 j (group_awaited w1 o.0)
 second_waits w es told room h i o j a g w1 k first second differ within one =
@@ -234,7 +234,7 @@ second_waits w es told room h i o j a g w1 k first second differ within one =
     rw (one, waits) (record { waits = waits; within = within; alive = alive })
 
 -- what a book keeps when a sender and a receiver have gone on
-pub keeps_pair : (w : PlainWorld) (es : List PlainEntry) (told : Light → Bool) (room : ℕ) (h : Tid) (i : ℕ) (o : Tid) (j : ℕ) (a g : PlainGroup) (es' : List PlainEntry) (told' : Light → Bool) (w1 w2 : PlainWorld) (lit : List Light) (room' : ℕ)
+pub keeps_pair : (w : PlainWorld) (es : List PlainEntry) (told : Light → Bool) (room : Room) (h : Tid) (i : ℕ) (o : Tid) (j : ℕ) (a g : PlainGroup) (es' : List PlainEntry) (told' : Light → Bool) (w1 w2 : PlainWorld) (lit : List Light) (room' : Room)
     → Keeps w es told room → slice_get w.threads h.0 ≡ Some (pending_on a) → slice_get w.threads o.0 ≡ Some (pending_on g) → h.0 ≢ o.0
     → w1 ≡ released w h.0 i → w2 ≡ released w1 o.0 j
     → lit ≡ map nack_light (lost a i) ++ map nack_light (lost g j) → es' ≡ without (h ∷ o ∷ []) es → ((l : Light) → told' l ≡ lit_after lit [] l (told l)) → room' ≡ room
@@ -303,12 +303,12 @@ room_for_two before pushed flat1 flat2 a g i room none is1 is2 e fits1 fits2 =
     rw (is2, size) (omega (arith, few_lost, fits1, fits2))
 
 -- a row that is not in the table is refused
-pub row_refused : (w : PlainWorld) (es : List PlainEntry) (told : Light → Bool) (room : ℕ) (row : Meet) (has : Bool) → Keeps w es told room → has ≡ has_row (scan_of es told) row → has ≡ false → commit w row ≡ Err refusal.Row
+pub row_refused : (w : PlainWorld) (es : List PlainEntry) (told : Light → Bool) (room : Room) (row : Meet) (has : Bool) → Keeps w es told room → has ≡ has_row (scan_of es told) row → has ≡ false → commit w row ≡ Err refusal.Row
 row_refused w es told room row has k is lacks =
     let none : has_row (scan w) row ≡ false = ap (λ rows. has_row rows row) (sym (scan_is w es told room k)) ∙ sym is ∙ lacks in
     rw none refl
 
 -- one that is there is in the scan
-pub row_there : (w : PlainWorld) (es : List PlainEntry) (told : Light → Bool) (room : ℕ) (row chosen : Meet) (has : Bool) → Keeps w es told room → has ≡ has_row (scan_of es told) row → has ≡ true → row ≡ chosen → has_row (scan w) chosen ≡ true
+pub row_there : (w : PlainWorld) (es : List PlainEntry) (told : Light → Bool) (room : Room) (row chosen : Meet) (has : Bool) → Keeps w es told room → has ≡ has_row (scan_of es told) row → has ≡ true → row ≡ chosen → has_row (scan w) chosen ≡ true
 row_there w es told room row chosen has k is holds same =
     ap (has_row (scan w)) (sym same) ∙ ap (λ rows. has_row rows row) (sym (scan_is w es told room k)) ∙ sym is ∙ holds

@@ -8,6 +8,7 @@ pub mod Given
 pub mod Scopes
 pub mod Marking
 pub mod Keepings
+pub mod Dimmed
 pub mod Commits
 pub mod Syncs
 pub mod Heights

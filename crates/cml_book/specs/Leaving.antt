@@ -1,10 +1,10 @@
 -- What goes out when the parties of a row leave, and what lights when the clock moves.
 use Rattle.std.specs.Prelude.{ℕ, ◌+◌, ◌==◌, ◌&&◌, nat_lt, nat_le, Bool, true, false, if◌then◌else◌, List, [], ◌∷◌, drop, Option, Some, None, slice_get}
 use Rattle.std.specs.Borrow.{Bor}
-use Rattle.cml_value.specs.Value.{PlainBase, mtake, mail_recv, port_recv, at_tick}
+use Rattle.cml_value.specs.Value.{PlainBase, iget, mtake, mget, mswap, mail_recv, port_recv, at_tick}
 use Rattle.cml_value.specs.Group.{PlainGroup, bases}
 use Rattle.cml_scan.specs.World.{PlainWorld}
-use Rattle.cml_scan.specs.Light.{has_item}
+use Rattle.cml_scan.specs.Light.{is_full, has_item}
 use Rattle.cml_scan.specs.declared.object.Light.{Light}
 use Rattle.cml_scan.specs.declared.object.Light.TheVariants as of
 use Rattle.cml_book.specs.Commit.{rest_of}
@@ -29,6 +29,16 @@ is_left all xs ys _ = false
 abbrev pub unless_item : Bool → Light → List Light
 unless_item true l = []
 unless_item false l = l ∷ []
+
+-- the object that the base takes something from, if there is one, has it
+abbrev pub can_give : PlainWorld → PlainBase → Bool
+can_give w (iget i) = is_full (slice_get w.ivars i)
+can_give w (mtake m) = is_full (slice_get w.mvars m)
+can_give w (mget m) = is_full (slice_get w.mvars m)
+can_give w (mswap m v) = is_full (slice_get w.mvars m)
+can_give w (mail_recv b) = has_item (slice_get w.mailboxes b)
+can_give w (port_recv p) = has_item (slice_get w.ports p)
+can_give w _ = true
 
 -- The light that goes out when the base is taken alone: a take leaves an M-variable empty, and a receive may leave a mailbox or a port so.
 abbrev pub put_out : PlainWorld → PlainBase → List Light

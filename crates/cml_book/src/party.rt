@@ -7,13 +7,12 @@ ghost use Rattle.cml_value.specs.Group.{scopes, nacks_of, lost};
 ghost use Rattle.cml_base.specs.Registered.{lit_at};
 ghost use Rattle.cml_group.specs.Leaves.{pick, numbers};
 ghost use Rattle.cml_scan.specs.World.{running, pending_on, live};
-ghost use Rattle.cml_scan.specs.Light.{lit};
 ghost use Rattle.cml_book.specs.Outcomes.{with_thread};
 ghost use Rattle.cml_book.specs.Sync.{with_each};
 ghost use Rattle.cml_book.specs.Commit as spec;
 ghost use Rattle.cml_book.specs.Commit.{awaited, group_awaited, released, copied, is_read};
 ghost use Rattle.cml_book.specs.Keeping.{AreFresh, Counts};
-ghost use Rattle.cml_book.specs.Leaving.{put_out};
+ghost use Rattle.cml_book.specs.Leaving.{can_give, put_out};
 ghost use Rattle.cml_book.specs.Parties.{WaitsOn};
 ghost use Rattle.cml_book.specs.Threads.{flat_of};
 
@@ -92,7 +91,7 @@ impl State {
     /// # Errors
     /// Want of memory, where the event reads a variable and leaves its value there.
     pub fn spare(&self, base: &Base) -> Result<Option<Value>, AllocError>
-        requires { lit self.now base.now ≡ true }
+        requires { can_give self.now base.now ≡ true }
         ensures copy { IfOk result (λ copy. copy ≡ copied self.now base.now) }
         ensures sure { is_read base.now ≡ false → IsOk result }
     {
@@ -105,7 +104,7 @@ impl State {
 
     /// The value of a base event that is taken alone, and what the taking changes. The copy is what was spared for it.
     pub fn given(&mut self, base: Base, copy: Option<Value>) -> Value
-        requires lit { lit self.old base ≡ true }
+        requires stock { can_give self.old base ≡ true }
         requires copy { copy ≡ copied self.old base }
         ensures value { result ≡ spec.given self.old base }
         ensures world { self.new ≡ spec.taken self.old base }
@@ -124,7 +123,7 @@ impl State {
 
     /// Puts the light that goes out when the base event is taken alone behind those that stand there, if one does. There is room.
     pub fn push_put_out(&self, lights: &mut Vec<Light>, base: &Base)
-        requires lit { lit self.now base.now ≡ true }
+        requires stock { can_give self.now base.now ≡ true }
         requires room { length lights.old.items + 1 ≤ vec_capacity lights.old }
         ensures lights { lights.new.items ≡ lights.old.items ++ put_out self.now base.now }
         ensures room { vec_capacity lights.new ≡ vec_capacity lights.old }
