@@ -180,6 +180,7 @@ map_heard n p (suc h) (c ∷ cs) only =
   where
     not_zero : (h : ℕ) → nat_eq (suc h) 0 ≡ false
     not_zero h = grind (arith, nat_tests)
+
     same_suc : (h x : ℕ) → nat_eq (suc h) (suc x) ≡ nat_eq h x
     same_suc h x = grind (arith, nat_tests)
 

@@ -49,7 +49,7 @@ first_has (p ∷ ps) queues q = at (has_item (slice_get queues p)) (nat_eq q.0 p
   where
     at : (full same : Bool) → has_item (slice_get queues p) ≡ full → nat_eq q.0 p ≡ same → has_light (first_lights ps queues) (of.Port q) ≡ has_port ps q.0 && not (has_item (slice_get queues q.0))
         → has_light (map port_light (cond (not full) (p ∷ filter (λ r. not (has_item (slice_get queues r))) ps) (filter (λ r. not (has_item (slice_get queues r))) ps))) (of.Port q)
-          ≡ (nat_eq p q.0 || has_port ps q.0) && not (has_item (slice_get queues q.0))
+        ≡ (nat_eq p q.0 || has_port ps q.0) && not (has_item (slice_get queues q.0))
     at true true e f ih =
         let same : q.0 ≡ p = grind (arith, nat_tests) in
         let full : has_item (slice_get queues q.0) ≡ true = ap (λ (n : ℕ). has_item (slice_get queues n)) same ∙ e in

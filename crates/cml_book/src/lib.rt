@@ -9,6 +9,7 @@ mod lights;
 mod marks;
 mod nacks;
 mod object_calls;
+mod object_commands;
 mod objects;
 mod party;
 mod ports;

@@ -105,7 +105,14 @@ impl State {
         if !value.fits() {
             return Err(Returned::refused(value, Refusal::Deep));
         }
-        if let Err(value) = feed(alloc, &mut self.ivars, ivar.0, value, table, Light::IVar(ivar)) {
+        if let Err(value) = feed(
+            alloc,
+            &mut self.ivars,
+            ivar.0,
+            value,
+            table,
+            Light::IVar(ivar),
+        ) {
             return Err(Returned::unserved(value));
         }
         Ok(())
@@ -132,7 +139,14 @@ impl State {
         if !value.fits() {
             return Err(Returned::refused(value, Refusal::Deep));
         }
-        if let Err(value) = feed(alloc, &mut self.mvars, mvar.0, value, table, Light::MVar(mvar)) {
+        if let Err(value) = feed(
+            alloc,
+            &mut self.mvars,
+            mvar.0,
+            value,
+            table,
+            Light::MVar(mvar),
+        ) {
             return Err(Returned::unserved(value));
         }
         Ok(())
@@ -159,7 +173,14 @@ impl State {
         if mailbox_is_full(&self.mailboxes, mailbox) {
             return Err(Returned::refused(value, Refusal::Full));
         }
-        if let Err(value) = feed(alloc, &mut self.mailboxes, mailbox.0, value, table, Light::Mbox(mailbox)) {
+        if let Err(value) = feed(
+            alloc,
+            &mut self.mailboxes,
+            mailbox.0,
+            value,
+            table,
+            Light::Mbox(mailbox),
+        ) {
             return Err(Returned::unserved(value));
         }
         Ok(())

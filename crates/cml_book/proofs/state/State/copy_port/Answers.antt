@@ -35,4 +35,4 @@ returns-clause-step g c =
 pub returns-clause-kept : goal.returns-clause-kept
 returns-clause-kept g c =
     rw (← c.self.view_is, c.in-Ok-add_port.ensures.ports) (stays_kept _ _ _ _ _ _ refl refl c.in-Ok-add_port.ensures.entries
-        (make_port_true (the_view c.self.inside) _ _ (ports_of c.add_port.new.channels.items) c.in-Ok.copy.items _ (sym (queue_count c.self.inside.ports.objects)) c.in-Ok-add_port.ensures.told))
+    (make_port_true (the_view c.self.inside) _ _ (ports_of c.add_port.new.channels.items) c.in-Ok.copy.items _ (sym (queue_count c.self.inside.ports.objects)) c.in-Ok-add_port.ensures.told))

@@ -49,6 +49,6 @@ returns-clause-kept g c =
     let ids = ports_found s.mchans.items c.args.channel.0 c.index.result.now (found_there s.mchans.items c.args.channel.0 c.index.result.now there c.index.ensures) in
     let count = queue_count s.ports.objects in
     let below : (p : ℕ) → has_port (numbers c.index.result.now.ports) p ≡ true → p < length (queues_of s.ports.objects)
-        = λ p k. (let b = ports_below s.mchans.items s.homes.items _ c.args.channel.0 c.self.invariant.2 p (rw ids k) in omega (arith, b, count)) in
+    = λ p k. (let b = ports_below s.mchans.items s.homes.items _ c.args.channel.0 c.self.invariant.2 p (rw ids k) in omega (arith, b, count)) in
     rw (← c.self.view_is, c.in_default.ensures.ok) (stays_kept _ _ _ _ _ _ refl refl c.in_default.ensures.entries
-        (multicast_true (the_view s) _ _ (numbers c.index.result.now.ports) c.args.message below c.in_default.ensures.ok_told))
+    (multicast_true (the_view s) _ _ (numbers c.index.result.now.ports) c.args.message below c.in_default.ensures.ok_told))
