@@ -161,7 +161,7 @@ put_out_right w (port_recv p) h l = at (has_item (Some (rest_of (slice_get w.por
     at false = refl
 put_out_right w _ h l = refl
 
-put_out_after : (w : PlainWorld) (t n : ℕ) (b : PlainBase) → put_out (released w t n) b ≡ put_out w b
+pub put_out_after : (w : PlainWorld) (t n : ℕ) (b : PlainBase) → put_out (released w t n) b ≡ put_out w b
 put_out_after w t n (always v) = refl
 put_out_after w t n _ = refl
 
@@ -179,11 +179,11 @@ lit_gives w (mail_recv b) h = h
 lit_gives w (port_recv p) h = h
 lit_gives w _ h = refl
 
-taken-threads : (w : PlainWorld) (b : PlainBase) → (taken w b).threads ≡ w.threads
+pub taken-threads : (w : PlainWorld) (b : PlainBase) → (taken w b).threads ≡ w.threads
 taken-threads w (always v) = refl
 taken-threads w _ = refl
 
-taken-nacks : (w : PlainWorld) (b : PlainBase) → (taken w b).nacks ≡ w.nacks
+pub taken-nacks : (w : PlainWorld) (b : PlainBase) → (taken w b).nacks ≡ w.nacks
 taken-nacks w (always v) = refl
 taken-nacks w _ = refl
 
