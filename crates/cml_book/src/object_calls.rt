@@ -113,7 +113,8 @@ impl<T: Table> Book<T> {
         mailbox: MboxId,
         value: Value,
     ) -> Result<(), Returned<Value>>
-        ensures { DoesWith result value (mail_spec.mail self.old mailbox.0 value) self.old self.new }
+        ensures { DoesWith result value
+            (mail_spec.mail self.old mailbox.0 value) self.old self.new }
     {
         self.state.mail(alloc, &mut self.table, mailbox, value)
     }
@@ -129,7 +130,8 @@ impl<T: Table> Book<T> {
         channel: McastId,
         message: Value,
     ) -> Result<(), Returned<Value>>
-        ensures { DoesWith result message (multicast_spec.multicast self.old channel.0 message) self.old self.new }
+        ensures { DoesWith result message
+            (multicast_spec.multicast self.old channel.0 message) self.old self.new }
     {
         self.state
             .multicast(alloc, &mut self.table, channel, message)

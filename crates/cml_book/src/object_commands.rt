@@ -15,7 +15,8 @@ use std::alloc::Global;
 
 impl<T: Table> Book<T> {
     pub(crate) fn perform_make_ivar(&mut self) -> Result<Reply, Returned<Command>>
-        ensures { DoesWith result command.MakeIVar (Ok (step self.old command.MakeIVar)) self.old self.new }
+        ensures { let asked = command.MakeIVar in
+            DoesWith result asked (Ok (step self.old asked)) self.old self.new }
     {
         match self.make_ivar() {
             Ok(ivar) => Ok(Reply::IVar(ivar)),
@@ -28,7 +29,8 @@ impl<T: Table> Book<T> {
         alloc: Global,
         held: Option<Value>,
     ) -> Result<Reply, Returned<Command>>
-        ensures { DoesWith result (command.MakeMVar held) (Ok (step self.old (command.MakeMVar held))) self.old self.new }
+        ensures { let asked = command.MakeMVar held in
+            DoesWith result asked (Ok (step self.old asked)) self.old self.new }
     {
         match self.make_mvar(alloc, held) {
             Ok(mvar) => Ok(Reply::MVar(mvar)),
@@ -37,7 +39,8 @@ impl<T: Table> Book<T> {
     }
 
     pub(crate) fn perform_make_mailbox(&mut self, alloc: Global) -> Result<Reply, Returned<Command>>
-        ensures { DoesWith result command.MakeMailbox (Ok (step self.old command.MakeMailbox)) self.old self.new }
+        ensures { let asked = command.MakeMailbox in
+            DoesWith result asked (Ok (step self.old asked)) self.old self.new }
     {
         match self.make_mailbox(alloc) {
             Ok(mailbox) => Ok(Reply::Mailbox(mailbox)),
@@ -46,7 +49,8 @@ impl<T: Table> Book<T> {
     }
 
     pub(crate) fn perform_make_mchan(&mut self, alloc: Global) -> Result<Reply, Returned<Command>>
-        ensures { DoesWith result command.MakeMChan (Ok (step self.old command.MakeMChan)) self.old self.new }
+        ensures { let asked = command.MakeMChan in
+            DoesWith result asked (Ok (step self.old asked)) self.old self.new }
     {
         match self.make_mchan(alloc) {
             Ok(channel) => Ok(Reply::MChan(channel)),
@@ -59,7 +63,8 @@ impl<T: Table> Book<T> {
         alloc: Global,
         channel: McastId,
     ) -> Result<Reply, Returned<Command>>
-        ensures { DoesWith result (command.MakePort channel) (Ok (step self.old (command.MakePort channel))) self.old self.new }
+        ensures { let asked = command.MakePort channel in
+            DoesWith result asked (Ok (step self.old asked)) self.old self.new }
     {
         match self.make_port(alloc, channel) {
             Ok(port) => Ok(Reply::Port(port)),
@@ -72,7 +77,8 @@ impl<T: Table> Book<T> {
         alloc: Global,
         port: PortId,
     ) -> Result<Reply, Returned<Command>>
-        ensures { DoesWith result (command.CopyPort port) (Ok (step self.old (command.CopyPort port))) self.old self.new }
+        ensures { let asked = command.CopyPort port in
+            DoesWith result asked (Ok (step self.old asked)) self.old self.new }
     {
         match self.copy_port(alloc, port) {
             Ok(copy) => Ok(Reply::Port(copy)),
@@ -86,7 +92,8 @@ impl<T: Table> Book<T> {
         ivar: IVarId,
         value: Value,
     ) -> Result<Reply, Returned<Command>>
-        ensures { DoesWith result (command.IPut ivar value) (Ok (step self.old (command.IPut ivar value))) self.old self.new }
+        ensures { let asked = command.IPut ivar value in
+            DoesWith result asked (Ok (step self.old asked)) self.old self.new }
     {
         match self.iput(alloc, ivar, value) {
             Ok(()) => Ok(Reply::Done),
@@ -100,7 +107,8 @@ impl<T: Table> Book<T> {
         mvar: MVarId,
         value: Value,
     ) -> Result<Reply, Returned<Command>>
-        ensures { DoesWith result (command.MPut mvar value) (Ok (step self.old (command.MPut mvar value))) self.old self.new }
+        ensures { let asked = command.MPut mvar value in
+            DoesWith result asked (Ok (step self.old asked)) self.old self.new }
     {
         match self.mput(alloc, mvar, value) {
             Ok(()) => Ok(Reply::Done),
@@ -114,7 +122,8 @@ impl<T: Table> Book<T> {
         mailbox: MboxId,
         value: Value,
     ) -> Result<Reply, Returned<Command>>
-        ensures { DoesWith result (command.Mail mailbox value) (Ok (step self.old (command.Mail mailbox value))) self.old self.new }
+        ensures { let asked = command.Mail mailbox value in
+            DoesWith result asked (Ok (step self.old asked)) self.old self.new }
     {
         match self.mail(alloc, mailbox, value) {
             Ok(()) => Ok(Reply::Done),
@@ -128,7 +137,8 @@ impl<T: Table> Book<T> {
         channel: McastId,
         message: Value,
     ) -> Result<Reply, Returned<Command>>
-        ensures { DoesWith result (command.Multicast channel message) (Ok (step self.old (command.Multicast channel message))) self.old self.new }
+        ensures { let asked = command.Multicast channel message in
+            DoesWith result asked (Ok (step self.old asked)) self.old self.new }
     {
         match self.multicast(alloc, channel, message) {
             Ok(()) => Ok(Reply::Done),

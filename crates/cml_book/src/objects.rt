@@ -92,7 +92,8 @@ impl State {
         ivar: IVarId,
         value: Value,
     ) -> Result<(), Returned<Value>>
-        ensures step { DoesWith result value (put_spec.iput self.old ivar.0 value) self.old self.new }
+        ensures step { DoesWith result value
+            (put_spec.iput self.old ivar.0 value) self.old self.new }
         ensures kept { StaysKept self.old (T.entries table.old) (T.is_lit table.old)
             self.new (T.entries table.new) (T.is_lit table.new) }
     {
@@ -126,7 +127,8 @@ impl State {
         mvar: MVarId,
         value: Value,
     ) -> Result<(), Returned<Value>>
-        ensures step { DoesWith result value (put_spec.mput self.old mvar.0 value) self.old self.new }
+        ensures step { DoesWith result value
+            (put_spec.mput self.old mvar.0 value) self.old self.new }
         ensures kept { StaysKept self.old (T.entries table.old) (T.is_lit table.old)
             self.new (T.entries table.new) (T.is_lit table.new) }
     {
@@ -160,7 +162,8 @@ impl State {
         mailbox: MboxId,
         value: Value,
     ) -> Result<(), Returned<Value>>
-        ensures step { DoesWith result value (mail_spec.mail self.old mailbox.0 value) self.old self.new }
+        ensures step { DoesWith result value
+            (mail_spec.mail self.old mailbox.0 value) self.old self.new }
         ensures kept { StaysKept self.old (T.entries table.old) (T.is_lit table.old)
             self.new (T.entries table.new) (T.is_lit table.new) }
     {
