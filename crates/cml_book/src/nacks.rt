@@ -1,18 +1,40 @@
 //! What becomes of the nacks of a group.
 
-ghost use Rattle.std.specs.Prelude.{◌≡◌, ◌<◌, ◌≤◌, ◌+◌, ◌++◌, [], ◌∷◌, length, map, slice_get, slice_set, Some, true, if◌then◌else◌};
+ghost use Rattle.std.specs.Prelude.{◌≡◌, ◌<◌, ◌≤◌, ◌+◌, ◌++◌, [], ◌∷◌, length, map, slice_get, slice_set, Some, true, if◌then◌else◌, OnOk};
 ghost use Rattle.std.specs.Vec.{vec_capacity};
 ghost use Rattle.cml_value.specs.Group.{leaf_count, scopes, nacks_of, lost};
 ghost use Rattle.cml_value.specs.Nack.{live, fired, held};
 ghost use Rattle.cml_group.specs.Leaves.{numbers};
 ghost use Rattle.cml_book.specs.Commit.{settled};
 ghost use Rattle.cml_book.specs.Sync.{with_each};
-ghost use Rattle.cml_book.specs.Keeping.{nack_light, AreLive, AreFresh, is_fresh};
+ghost use Rattle.cml_book.specs.Keeping.{nack_light, AreLive, AreFresh, is_fresh, Fits, Grows};
 
+use cml_base::Register;
 use cml_group::Flat;
 use cml_scan::Light;
-use cml_signal::NackCell;
+use cml_signal::{NackCell, NackFeed};
 use cml_value::NackId;
+use std::alloc::AllocError;
+
+/// Makes room for the lights that a commit of the group and another such group lights and puts out.
+///
+/// # Errors
+/// Want of memory. What there was room for before, there still is.
+pub fn make_room(
+    lit: &mut Vec<Light>,
+    unlit: &mut Vec<Light>,
+    flat: &Flat,
+) -> Result<(), AllocError>
+    ensures lit { lit.new.items ≡ lit.old.items }
+    ensures unlit { unlit.new.items ≡ unlit.old.items }
+    ensures fits { OnOk result (lit.old.items ≡ [] → unlit.old.items ≡ [] →
+        Fits flat.now (record { lit = vec_capacity lit.new; unlit = vec_capacity unlit.new })) }
+    ensures grows { Grows (record { lit = vec_capacity lit.old; unlit = vec_capacity unlit.old })
+        (record { lit = vec_capacity lit.new; unlit = vec_capacity unlit.new }) }
+{
+    lit.reserve(2 * flat.scopes().len())?;
+    unlit.reserve(2 * flat.len() + 1)
+}
 
 /// Puts the lights of the nacks that choosing the leaf fires behind those that stand there. There is room for them.
 pub fn push_lights(lights: &mut Vec<Light>, flat: &Flat, leaf: usize)
@@ -38,10 +60,10 @@ fn push_light(lights: &mut Vec<Light>, nack: NackId, is_lost: bool)
 }
 
 /// Fires the nacks in whose branches the leaf does not lie, and holds the others.
-pub fn settle(cells: &mut Vec<NackCell>, flat: &Flat, leaf: usize)
+pub fn settle(cells: &mut Register<NackCell>, flat: &Flat, leaf: usize)
     requires leaf { leaf < leaf_count flat.now }
-    requires alive { AreLive (nacks_of (scopes flat.now)) cells.old.items }
-    ensures { cells.new.items ≡ settled leaf flat.now cells.old.items }
+    requires alive { AreLive (nacks_of (scopes flat.now)) cells.old.objects }
+    ensures { cells.new.objects ≡ settled leaf flat.now cells.old.objects }
 {
     let nacks = flat.scopes();
     for i in 0..nacks.len() {
@@ -49,34 +71,35 @@ pub fn settle(cells: &mut Vec<NackCell>, flat: &Flat, leaf: usize)
     }
 }
 
-fn settle_one(cells: &mut Vec<NackCell>, nack: NackId, is_lost: bool)
-    requires { slice_get cells.old.items nack.0 ≡ Some live }
-    ensures { cells.new.items ≡ slice_set cells.old.items nack.0 (if is_lost then fired else held) }
+fn settle_one(cells: &mut Register<NackCell>, nack: NackId, is_lost: bool)
+    requires { slice_get cells.old.objects nack.0 ≡ Some live }
+    ensures { cells.new.objects ≡ slice_set cells.old.objects nack.0 (if is_lost then fired else held) }
 {
-    let place = nack.0 as usize;
-    if place < cells.len() {
-        let cell = &mut cells[place];
-        let _ = if is_lost { cell.fire() } else { cell.hold() };
+    if (nack.0 as usize) < cells.len() {
+        let befalls = if is_lost {
+            NackFeed::Fire
+        } else {
+            NackFeed::Hold
+        };
+        let _ = cells.feed(nack.0, befalls);
     }
 }
 
 /// Makes these nacks live.
-pub fn enter(cells: &mut Vec<NackCell>, nacks: &[NackId])
-    requires { AreFresh (numbers nacks.now) cells.old.items }
-    ensures { cells.new.items ≡ with_each (numbers nacks.now) live cells.old.items }
+pub fn enter(cells: &mut Register<NackCell>, nacks: &[NackId])
+    requires { AreFresh (numbers nacks.now) cells.old.objects }
+    ensures { cells.new.objects ≡ with_each (numbers nacks.now) live cells.old.objects }
 {
     for nack in nacks {
         enter_one(cells, *nack);
     }
 }
 
-fn enter_one(cells: &mut Vec<NackCell>, nack: NackId)
-    requires { is_fresh (slice_get cells.old.items nack.0) ≡ true }
-    ensures { cells.new.items ≡ slice_set cells.old.items nack.0 live }
+fn enter_one(cells: &mut Register<NackCell>, nack: NackId)
+    requires { is_fresh (slice_get cells.old.objects nack.0) ≡ true }
+    ensures { cells.new.objects ≡ slice_set cells.old.objects nack.0 live }
 {
-    let place = nack.0 as usize;
-    if place < cells.len() {
-        let cell = &mut cells[place];
-        let _ = cell.enter();
+    if (nack.0 as usize) < cells.len() {
+        let _ = cells.feed(nack.0, NackFeed::Enter);
     }
 }
