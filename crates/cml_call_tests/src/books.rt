@@ -64,16 +64,11 @@ fn wait(
 // The party is this thread, and goes on with the value that the words make, and nothing else.
 fn goes_on(rt: &(impl Abort + AllocGlobal), party: Resume, thread: u32, text: &str) {
     let wanted = value(rt, text);
-    assert_eq!(rt; party.tid(), Tid(thread));
-    assert!(rt; party.value().same(&wanted));
-    assert_eq!(rt; party.wraps().len(), 0);
-    assert_eq!(rt; party.fired().len(), 0);
-    let (tid, given, wraps, fired) = party.into_parts();
-    assert_eq!(rt; tid, Tid(thread));
-    assert!(rt; given.same(&wanted));
-    drop(wraps);
-    drop(fired);
-    drop(given);
+    assert_eq!(rt; party.tid, Tid(thread));
+    assert!(rt; party.value.same(&wanted));
+    assert_eq!(rt; party.wraps.len(), 0);
+    assert_eq!(rt; party.fired.len(), 0);
+    drop(party);
     drop(wanted);
 }
 
@@ -160,6 +155,22 @@ fn a_wait_is_refused_by_what_it_names(rt: HostRuntime) {
     }
     let again = waits_for_tick(&rt, &mut book, 0);
     assert_eq!(rt; again, Err(Fault::Refused(Refusal::State)));
+    drop(book);
+}
+
+#[test]
+fn a_book_knows_its_next_alarm(rt: HostRuntime) {
+    let mut book = book_of(&rt, 1);
+    assert_eq!(rt; book.clock(rt.alloc(), 5), Ok(()));
+    assert_eq!(rt; book.now(), 5);
+    assert_eq!(rt; book.next_alarm(), None);
+    assert_eq!(rt; waits_for_tick(&rt, &mut book, 7), Ok(()));
+    assert_eq!(rt; book.next_alarm(), Some(7));
+    let back = book.clock(rt.alloc(), 4);
+    assert_eq!(rt; back, Err(Fault::Refused(Refusal::Clock)));
+    assert_eq!(rt; book.clock(rt.alloc(), 7), Ok(()));
+    assert_eq!(rt; book.next_alarm(), None);
+    assert!(rt; book.table().has(&FIRST));
     drop(book);
 }
 
