@@ -1,6 +1,6 @@
 -- What commands on objects do to what a book keeps.
-use Rattle.std.proofs.Common.{◌≡◌, ◌≢◌, ℕ, ◌<◌, Bool, true, false, not, nat_eq, nat_lt, cond, ◌||◌, List, [], ◌∷◌, ◌++◌, length, length-set, map, refl, ap, sym, ◌∙◌, subst, arith, zero, suc, Option, Some, None, Result, Ok, Err, slice_set}
-use Rattle.std.specs.Prelude.{OnOk, OnErr, IsTrue, slice_get, is_some, is_none, unwrap_or}
+use Rattle.std.proofs.Common.{◌≡◌, ◌≢◌, ℕ, ◌<◌, Bool, true, false, nat_eq, nat_lt, cond, ◌||◌, List, [], ◌∷◌, ◌++◌, length, length-set, map, refl, ap, sym, ◌∙◌, subst, arith, zero, suc, Option, Some, None, Result, Ok, Err, slice_set}
+use Rattle.std.specs.Prelude.{OnOk, OnErr, slice_get, is_some, is_none, unwrap_or}
 use Rattle.std.specs.Option.{option_map_or}
 use Rattle.std.proofs.lemmas.List.{map-id, length-map}
 use Rattle.std.proofs.lemmas.Bool.Decides.{nat_tests}
@@ -20,7 +20,6 @@ use Rattle.cml_queues.specs.Queues.{queued, is_at_limit, is_filled, is_full_at, 
 use Rattle.cml_base.specs.Registered.{fed_at, lit_at, put_back}
 use Rattle.cml_syncvar.specs.Variables.{put_into}
 use Rattle.cml_value.specs.Limits.{value_fits}
-use Rattle.cml_book.specs.Keeping.{Keeps, Room}
 use Rattle.cml_book.specs.Put.{iput, mput}
 use Rattle.cml_book.specs.Mail.{mail}
 use Rattle.cml_book.specs.Views.{queues_of}

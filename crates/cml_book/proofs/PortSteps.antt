@@ -1,6 +1,6 @@
 -- What the commands on multicast channels do where they are accepted.
-use Rattle.std.proofs.Common.{◌≡◌, ℕ, ◌<◌, Bool, true, false, nat_lt, nat_le, List, [], ◌∷◌, ◌++◌, length, map, refl, ap, sym, ◌∙◌, arith, zero, suc, Option, Some, None, Result, Ok, Err}
-use Rattle.std.specs.Prelude.{slice_get, unwrap_or}
+use Rattle.std.proofs.Common.{◌≡◌, ℕ, ◌<◌, true, false, nat_lt, nat_le, List, [], ◌∷◌, ◌++◌, length, map, refl, sym, arith, zero, suc, Some, Ok, Err}
+use Rattle.std.specs.Prelude.{slice_get}
 use Rattle.std.proofs.lemmas.Bool.Decides.{nat_tests}
 use Rattle.std.proofs.lemmas.List.{length-map}
 use Rattle.cml_value.specs.Value.{PlainValue}
@@ -14,7 +14,7 @@ use Rattle.cml_queues.specs.Posts.{any_is_full, posted, says_full}
 use Rattle.cml_queues.specs.declared.delivery.PostFault.{PostFault}
 use Rattle.cml_queues.specs.declared.delivery.PostFault.TheVariants as post
 use Rattle.cml_book.specs.Outcomes.{Does, max_objects}
-use Rattle.cml_book.specs.MakePort.{ports_at, with_port, heard_by, copy_port}
+use Rattle.cml_book.specs.MakePort.{ports_at, with_port, copy_port}
 use Rattle.cml_book.specs.Multicast.{multicast, fault_of}
 use Rattle.cml_book.specs.Homes.{HaveHomes, numbers_of}
 use Rattle.cml_book.specs.Views.{queues_of, ports_of}

@@ -1,5 +1,4 @@
-use Rattle.std.proofs.Common.{◌≡◌, ◌∙◌, ◌<◌, ℕ, List, Some, length, refl, ap, sym, arith}
-use Rattle.std.specs.Prelude.{slice_get}
+use Rattle.std.proofs.Common.{◌∙◌, ◌<◌, ℕ, List, Some, length, refl, ap, sym, arith}
 use Rattle.cml_value.specs.declared.number.PortId.{PortId}
 use Rattle.cml_value.specs.Value.{PlainValue}
 use Rattle.cml_book.specs.Outcomes.{max_objects}

@@ -1,4 +1,4 @@
-use Rattle.std.proofs.Common.{◌≡◌, ◌∙◌, ◌++◌, ◌∷◌, [], length, refl, ap, rules, List, Option}
+use Rattle.std.proofs.Common.{◌∙◌, ◌++◌, ◌∷◌, [], refl, ap, rules, List, Option}
 use Rattle.cml_value.specs.Value.{PlainValue}
 use Rattle.cml_book.specs.contracts.state.State.{the_view}
 use Rattle.cml_book.proofs.ObjectLemmas.{stays_kept, make_mvar_true, same_variables}

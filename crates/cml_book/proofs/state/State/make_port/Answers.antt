@@ -1,4 +1,4 @@
-use Rattle.std.proofs.Common.{◌≡◌, ◌∙◌, refl, ap, sym}
+use Rattle.std.proofs.Common.{refl, sym}
 use Rattle.cml_book.specs.Views.{ports_of}
 use Rattle.cml_book.specs.contracts.state.State.{the_view}
 use Rattle.cml_book.proofs.ObjectLemmas.{stays_kept}
