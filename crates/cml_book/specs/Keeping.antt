@@ -1,5 +1,5 @@
 -- What a book keeps at all times.
-use Rattle.std.specs.Prelude.{ℕ, ◌≡◌, ◌+◌, ◌*◌, ◌<◌, ◌≤◌, ◌==◌, Bool, true, false, not, List, [], length, All, Option, Some, slice_get, count_by}
+use Rattle.std.specs.Prelude.{ℕ, ◌≡◌, ◌+◌, ◌*◌, ◌≤◌, ◌==◌, Bool, true, false, not, List, length, All, Option, Some, slice_get, count_by}
 use Rattle.std.specs.List.{flat_map, filter_map}
 use Rattle.cml_value.specs.Group.{PlainGroup, scopes, nacks_of, leaf_count}
 use Rattle.cml_group.specs.LaidOut.{max_leaves}

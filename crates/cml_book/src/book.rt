@@ -59,7 +59,7 @@ impl<T: Table> Model for Book<T> {
 
     ghost invariant = { λ b.
         (Keeps b.state (T.entries b.table) (T.is_lit b.table)
-            (record { lit = vec_capacity b.lit; unlit = vec_capacity b.unlit }))
+        (record { lit = vec_capacity b.lit; unlit = vec_capacity b.unlit }))
         × (b.lit.items ≡ []) × (b.unlit.items ≡ []) };
 }
 
@@ -269,7 +269,9 @@ impl<T: Table> Book<T> {
         push_lights(&mut self.lit, flat, leaf as usize);
         self.state.push_put_out(&mut self.unlit, base);
         self.state.push_left_ticks(&mut self.unlit, flat, None);
-        let changed = self.table.change(alloc, &[tid], None, &self.lit, &self.unlit);
+        let changed = self
+            .table
+            .change(alloc, &[tid], None, &self.lit, &self.unlit);
         self.lit.clear();
         self.unlit.clear();
         let Ok(()) = changed else {
@@ -309,10 +311,14 @@ impl<T: Table> Book<T> {
         };
         push_lights(&mut self.lit, sender, head_leaf as usize);
         push_lights(&mut self.lit, receiver, other_leaf as usize);
-        self.state.push_left_ticks(&mut self.unlit, sender, Some(receiver));
-        self.state.push_left_ticks(&mut self.unlit, receiver, Some(sender));
+        self.state
+            .push_left_ticks(&mut self.unlit, sender, Some(receiver));
+        self.state
+            .push_left_ticks(&mut self.unlit, receiver, Some(sender));
         let gone = [head, other];
-        let changed = self.table.change(alloc, &gone, None, &self.lit, &self.unlit);
+        let changed = self
+            .table
+            .change(alloc, &gone, None, &self.lit, &self.unlit);
         self.lit.clear();
         self.unlit.clear();
         changed?;

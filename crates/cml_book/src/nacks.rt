@@ -20,7 +20,11 @@ use std::alloc::AllocError;
 ///
 /// # Errors
 /// Want of memory. What there was room for before, there still is.
-pub fn make_room(lit: &mut Vec<Light>, unlit: &mut Vec<Light>, flat: &Flat) -> Result<(), AllocError>
+pub fn make_room(
+    lit: &mut Vec<Light>,
+    unlit: &mut Vec<Light>,
+    flat: &Flat,
+) -> Result<(), AllocError>
     ensures lit { lit.new.items ≡ lit.old.items }
     ensures unlit { unlit.new.items ≡ unlit.old.items }
     ensures fits { OnOk result (lit.old.items ≡ [] → unlit.old.items ≡ [] →
@@ -72,7 +76,11 @@ fn settle_one(cells: &mut Register<NackCell>, nack: NackId, is_lost: bool)
     ensures { cells.new.objects ≡ slice_set cells.old.objects nack.0 (if is_lost then fired else held) }
 {
     if (nack.0 as usize) < cells.len() {
-        let befalls = if is_lost { NackFeed::Fire } else { NackFeed::Hold };
+        let befalls = if is_lost {
+            NackFeed::Fire
+        } else {
+            NackFeed::Hold
+        };
         let _ = cells.feed(nack.0, befalls);
     }
 }

@@ -177,7 +177,7 @@ fn add_port<T: Table>(
     ensures told { let empty = not (has_item (Some port.items)) in
         let light = port_light (length ports.old.objects) in
         OnOk result ((l : Light) →
-            T.is_lit table.new l ≡ lit_after (newly_lit empty light) [] l (T.is_lit table.old l)) }
+        T.is_lit table.new l ≡ lit_after (newly_lit empty light) [] l (T.is_lit table.old l)) }
 
     ensures err_channels { OnErr result
         (ports_of channels.new.items ≡ ports_of channels.old.items) }
@@ -256,7 +256,7 @@ fn send<T: Table>(
     ensures ok_told { let ids = numbers channel.now.ports in
         let first = first_lights ids (unread ports.old.objects) in
         OnOk result ((l : Light) →
-            T.is_lit table.new l ≡ lit_after first [] l (T.is_lit table.old l)) }
+        T.is_lit table.new l ≡ lit_after first [] l (T.is_lit table.old l)) }
     ensures err { OnErr result (unread ports.new.objects ≡ unread ports.old.objects) }
     ensures err_told { OnErr result ((l : Light) → T.is_lit table.new l ≡ T.is_lit table.old l) }
     ensures entries { T.entries table.new ≡ T.entries table.old }
@@ -280,7 +280,7 @@ fn tell_first<T: Table>(
 ) -> Result<(), AllocError>
     ensures ok { let first = first_lights (numbers ids.now) (unread ports.now.objects) in
         OnOk result ((l : Light) →
-            T.is_lit table.new l ≡ lit_after first [] l (T.is_lit table.old l)) }
+        T.is_lit table.new l ≡ lit_after first [] l (T.is_lit table.old l)) }
     ensures err { OnErr result ((l : Light) → T.is_lit table.new l ≡ T.is_lit table.old l) }
     ensures entries { T.entries table.new ≡ T.entries table.old }
 {

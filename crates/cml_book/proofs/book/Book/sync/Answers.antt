@@ -1,6 +1,5 @@
-use Rattle.std.proofs.Common.{◌≡◌, ℕ, Bool, List, Some, None, sym, ◌∙◌, ap, refl, arith, subst}
-use Rattle.std.specs.Vec.{vec_capacity}
-use Rattle.cml_value.specs.Group.{scopes, bases}
+use Rattle.std.proofs.Common.{◌≡◌, Bool, List, None, sym, ◌∙◌, ap, refl, arith, subst}
+use Rattle.cml_value.specs.Group.{bases}
 use Rattle.cml_scan.specs.World.{PlainWorld, PlainEntry}
 use Rattle.cml_scan.specs.Light.{light_of}
 use Rattle.cml_scan.specs.declared.object.Light.{Light}
