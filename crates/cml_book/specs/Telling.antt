@@ -5,7 +5,7 @@ use Rattle.cml_scan.specs.Light.{light_of}
 use Rattle.cml_scan.specs.declared.object.Light.{Light}
 use Rattle.cml_book.specs.Keeping.{Keeps, Room}
 
--- an object that is fed lights, if it was not lit before
+-- what a table is told of a light that comes on: nothing, where it was on before
 abbrev pub newly_lit : Bool → Light → List Light
 newly_lit true light = []
 newly_lit false light = light ∷ []

@@ -60,22 +60,22 @@ pub(crate) fn feed<K: Source<Feed = Value>, T: Table>(
     }
 }
 
-/// Tells the table of a light that comes on, if it was not lit.
+/// Tells the table that the light is on, unless there is nothing to tell: it was on before, or stays off.
 ///
 /// # Errors
 /// Want of memory: nothing was told.
 pub(crate) fn tell_lit<T: Table>(
     alloc: Global,
     table: &mut T,
-    was_lit: bool,
+    is_known: bool,
     light: Light,
 ) -> Result<(), AllocError>
     ensures ok { OnOk result ((l : Light) →
-        T.is_lit table.new l ≡ lit_after (newly_lit was_lit light) [] l (T.is_lit table.old l)) }
+        T.is_lit table.new l ≡ lit_after (newly_lit is_known light) [] l (T.is_lit table.old l)) }
     ensures err { OnErr result ((l : Light) → T.is_lit table.new l ≡ T.is_lit table.old l) }
     ensures entries { T.entries table.new ≡ T.entries table.old }
 {
-    if was_lit {
+    if is_known {
         return Ok(());
     }
     table.change(alloc, &[], None, &[light], &[])

@@ -1,6 +1,5 @@
 //! The calls of a book that make and change objects.
 
-ghost use Rattle.std.specs.Prelude.{◌≡◌};
 ghost use Rattle.cml_book.specs.Outcomes.{Does, DoesWith};
 ghost use Rattle.cml_book.specs.MakeObjects as make_spec;
 ghost use Rattle.cml_book.specs.MakePort as port_spec;

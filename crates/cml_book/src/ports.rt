@@ -1,6 +1,6 @@
 //! Multicast channels and their ports.
 
-ghost use Rattle.std.specs.Prelude.{◌≡◌, ◌≤◌, ◌<◌, ◌++◌, ◌∷◌, [], Bool, List, not, All, Some, length, map, filter, slice_get, IfOk, OnOk, OnErr};
+ghost use Rattle.std.specs.Prelude.{◌≡◌, ◌≤◌, ◌<◌, ◌++◌, ◌∷◌, [], Bool, List, not, All, Some, length, IfOk, OnOk, OnErr};
 ghost use Rattle.cml_scan.specs.World.{PlainEntry};
 ghost use Rattle.cml_scan.specs.Light.{has_item};
 ghost use Rattle.cml_scan.specs.Table.{lit_after};
