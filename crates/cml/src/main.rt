@@ -3,7 +3,7 @@
 
 ghost use Rattle.cml_host.specs.Stores.{unknown};
 
-use cml_host::input_output::{ReadFault, read_all, write_out};
+use cml_trace::input_output::{ReadFault, read_all, write_out};
 use cml_host::{Store, StoreFault, run_command};
 use std::alloc::Global;
 use std::io::ErrorKind;

@@ -4,11 +4,11 @@ ghost use Rattle.std.specs.Prelude.{◌≡◌, map};
 ghost use Rattle.std.specs.String.{string_bytes};
 ghost use Rattle.cml_host.specs.Statuses as spec;
 ghost use Rattle.cml_host.specs.Statuses.{Surroundings, HelpRan, TraceRan, Ran};
-ghost use Rattle.cml_host.specs.Streams.{stream, TakesStart};
+ghost use Rattle.cml_trace.specs.Streams.{stream, TakesStart};
 
-use crate::input_output::write_out;
 use crate::store::Store;
-use crate::trace::{TraceEnd, TraceFault, run_trace};
+use cml_trace::input_output::write_out;
+use cml_trace::{TraceEnd, TraceFault, run_trace};
 use cml_words::{Answer, Task, read_words};
 use std::alloc::{AllocError, Global};
 use std::io::{Read, Write};

@@ -1,0 +1,7 @@
+mod GivenLemmas
+mod Sent
+mod EngineLemmas
+mod FormLemmas
+mod LineLemmas
+mod OneAnswerLemmas
+mod KeywordLemmas
