@@ -5,10 +5,10 @@ use Rattle.cml_words.specs.declared.Task.TheVariants.{Trace}
 use Rattle.cml_words.specs.declared.Answer.{Answer}
 use Rattle.cml_words.specs.declared.Answer.TheVariants as answer
 use Rattle.cml_words.specs.Words.{IsAnswer}
-use Rattle.cml_trace.specs.declared.engine.TraceEnd.{TraceEnd}
-use Rattle.cml_trace.specs.declared.engine.TraceEnd.TheVariants.{Done, Bad, TooLong}
-use Rattle.cml_trace.specs.declared.engine.TraceFault.{TraceFault}
-use Rattle.cml_trace.specs.declared.engine.TraceFault.TheVariants.{Read, Turns, Write, Memory}
+use Rattle.cml_trace.specs.declared.fault.TraceEnd.{TraceEnd}
+use Rattle.cml_trace.specs.declared.fault.TraceEnd.TheVariants.{Done, Bad, TooLong}
+use Rattle.cml_trace.specs.declared.fault.TraceFault.{TraceFault}
+use Rattle.cml_trace.specs.declared.fault.TraceFault.TheVariants.{Read, Turns, Write, Memory}
 use Rattle.cml_trace.specs.Replies.{line}
 use Rattle.cml_trace.specs.Streams.{Stream, Takes, TakesStart, IsUntouched}
 use Rattle.cml_host.specs.Stores.{Shelf, IsUnchanged}

@@ -1,5 +1,8 @@
 mod GivenLemmas
 mod Sent
+mod BatchLemmas
+mod PageLemmas
+mod AnswerLemmas
 mod EngineLemmas
 mod FormLemmas
 mod LineLemmas

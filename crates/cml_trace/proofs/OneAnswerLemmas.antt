@@ -5,13 +5,13 @@ use Rattle.cml_scan.specs.World.{PlainWorld}
 use Rattle.cml_book.specs.Step.{empty_world}
 use Rattle.cml_text.specs.Laws.{SpelledOrFaulty, SpelledHasNoFault, SpellsOneAtMost}
 use Rattle.cml_trace.specs.declared.order.Order.{Order}
-use Rattle.cml_trace.specs.declared.engine.TraceEnd.{TraceEnd}
-use Rattle.cml_trace.specs.declared.engine.TraceEnd.TheVariants.{TooLong}
+use Rattle.cml_trace.specs.declared.fault.TraceEnd.{TraceEnd}
+use Rattle.cml_trace.specs.declared.fault.TraceEnd.TheVariants.{TooLong}
 use Rattle.cml_trace.specs.Orders.{Asks, IsBad, order_of}
 use Rattle.cml_trace.specs.Replies.{line}
 use Rattle.cml_trace.specs.Answers.{answer_to, after_order, lines, Answers, max_input, AnswersTrace}
 use Rattle.cml_trace.specs.Laws.{OneAnswer, HasOneAnswer}
-use Rattle.cml_trace.proofs.EngineLemmas.{has_answer}
+use Rattle.cml_trace.proofs.AnswerLemmas.{has_answer}
 
 asks_one : SpellsOneAtMost → (first : List ℕ) (a b : Order) → Asks first a → Asks first b → a ≡ b
 asks_one once first a b x y =

@@ -6,8 +6,8 @@ use Rattle.cml_scan.specs.Scan.{scan}
 use Rattle.cml_book.specs.Step.{step, empty_world}
 use Rattle.cml_trace.specs.declared.order.Order.{Order}
 use Rattle.cml_trace.specs.declared.order.Order.TheVariants as order
-use Rattle.cml_trace.specs.declared.engine.TraceEnd.{TraceEnd}
-use Rattle.cml_trace.specs.declared.engine.TraceEnd.TheVariants.{Done, Bad, TooLong}
+use Rattle.cml_trace.specs.declared.fault.TraceEnd.{TraceEnd}
+use Rattle.cml_trace.specs.declared.fault.TraceEnd.TheVariants.{Done, Bad, TooLong}
 use Rattle.cml_trace.specs.Orders.{Asks, IsBad}
 use Rattle.cml_trace.specs.Replies.{line, spaced, rows_text, reply_text}
 

@@ -1,6 +1,6 @@
 -- What holds of every keyword and of every trace.
 use Rattle.std.specs.Prelude.{◌≡◌, ℕ, List, Some}
-use Rattle.cml_trace.specs.declared.engine.TraceEnd.{TraceEnd}
+use Rattle.cml_trace.specs.declared.fault.TraceEnd.{TraceEnd}
 use Rattle.cml_trace.specs.declared.keyword.Keyword.{Keyword}
 use Rattle.cml_trace.specs.Keywords.{spelling, keyword_of}
 use Rattle.cml_trace.specs.Answers.{AnswersTrace}

@@ -6,6 +6,10 @@ pub mod Orders
 pub mod Replies
 pub mod Answers
 pub mod Lines
+pub mod Batches
 pub mod Streams
+pub mod Counts
+pub mod Pages
 pub mod Runs
+pub mod Faults
 pub mod Laws

@@ -1,8 +1,10 @@
 //! Bounded reading and plain writing.
 
-ghost use Rattle.std.specs.Prelude.{◌≡◌, ◌⊎◌, ℕ, ◌+◌, ◌*◌, ◌<◌, ◌≤◌, length, take, IfOk, OnOk, OnErr};
+ghost use Rattle.std.specs.Prelude.{◌≡◌, ◌⊎◌, ℕ, ◌<◌, ◌≤◌, length, take, IfOk, OnOk, OnErr};
+ghost use Rattle.cml_trace.specs.Counts.{counted, most_reads, HasReadFaults};
 ghost use Rattle.cml_trace.specs.Streams.{stream, Gives, IsSpent, Takes};
 
+use crate::counts::Counting;
 use std::alloc::{AllocError, Global};
 use std::io::{ErrorKind, Read, Write};
 use thiserror::Error;
@@ -22,6 +24,11 @@ pub enum ReadFault {
 }
 
 impl From<AllocError> for ReadFault {
+    ghost use Rattle.std.specs.Prelude.{◌≡◌};
+    ghost use Rattle.cml_trace.specs.declared.input_output.ReadFault.TheVariants.{Memory};
+
+    ghost from_gives = { λ _ e. e ≡ Memory };
+
     fn from(_error: AllocError) -> ReadFault {
         ReadFault::Memory
     }
@@ -36,11 +43,20 @@ pub struct WriteFault;
 ///
 /// # Errors
 /// A failed read, no end in so many calls, or want of memory.
-pub fn read_all<R: Read>(alloc: Global, reader: &mut R, limit: usize) -> Result<Vec<u8>, ReadFault>
-    ensures bytes { let input = stream (R.remaining reader.old) (R.remaining reader.new) in
+pub fn read_all<R: Read>(
+    alloc: Global,
+    reader: &mut Counting<'_, R>,
+    limit: usize,
+) -> Result<Vec<u8>, ReadFault>
+    requires calls { reader.old.calls ≡ 0 }
+    requires failed { reader.old.failed ≡ 0 }
+    ensures bytes { let input = stream (R.remaining reader.old.stream.now) (R.remaining reader.new.stream.now) in
         IfOk result (λ all. Gives input all.items) }
-    ensures end { let input = stream (R.remaining reader.old) (R.remaining reader.new) in
+    ensures end { let input = stream (R.remaining reader.old.stream.now) (R.remaining reader.new.stream.now) in
         IfOk result (λ all. IsSpent input ⊎ (limit < length all.items)) }
+    ensures same_reference { reader.new.stream.ghost_name ≡ reader.old.stream.ghost_name }
+    ensures calls { reader.new.calls ≤ most_reads limit }
+    ensures faults { HasReadFaults result limit reader.new.calls reader.new.failed }
 {
     let calls = (limit as u64).saturating_mul(2);
     let mut all = Vec::new(alloc);
@@ -66,11 +82,14 @@ pub fn read_all<R: Read>(alloc: Global, reader: &mut R, limit: usize) -> Result<
 ///
 /// # Errors
 /// A write that failed, an interrupted one included, or took nothing.
-pub fn write_out<W: Write>(out: &mut W, bytes: &[u8]) -> Result<(), WriteFault>
-    ensures ok { let output = stream (W.contents out.old) (W.contents out.new) in
+pub fn write_out<W: Write>(out: &mut Counting<'_, W>, bytes: &[u8]) -> Result<(), WriteFault>
+    ensures ok { let output = stream (W.contents out.old.stream.now) (W.contents out.new.stream.now) in
         OnOk result (Takes output bytes.now) }
-    ensures err { let output = stream (W.contents out.old) (W.contents out.new) in
+    ensures err { let output = stream (W.contents out.old.stream.now) (W.contents out.new.stream.now) in
         OnErr result ((n : ℕ) × Takes output (take n bytes.now)) }
+    ensures same_reference { out.new.stream.ghost_name ≡ out.old.stream.ghost_name }
+    ensures fine { OnOk result (out.new.failed ≡ out.old.failed) }
+    ensures failed { OnErr result (out.new.failed ≡ counted out.old.failed) }
 {
     let mut sent = 0;
     while sent < bytes.len() {

@@ -1,25 +1,46 @@
 //! The lines that answer commands.
 
-ghost use Rattle.std.specs.Prelude.{◌≡◌, ◌++◌, map, OnOk, IfOk};
+ghost use Rattle.std.specs.Prelude.{◌≡◌, ◌++◌, map, OnOk, OnErr};
 ghost use Rattle.std.specs.List.{flat_map};
 ghost use Rattle.std.specs.String.{string_bytes};
 ghost use Rattle.cml_value.specs.Value.{values};
+ghost use Rattle.cml_trace.specs.Answers.{bad_line};
+ghost use Rattle.cml_trace.specs.Faults.{IsWriteFailure};
+ghost use Rattle.cml_trace.specs.Pages.{Tells, TellsStart};
 ghost use Rattle.cml_trace.specs.Replies as spec;
+ghost use Rattle.cml_trace.specs.Streams.{stream};
 
+use crate::counts::Counting;
+use crate::fault::TraceFault;
+use crate::page::Page;
 use cml_book::{Committed, Refusal, Reply, Resume};
 use cml_scan::Meet;
 use cml_value::{FnRef, NackId, Value};
 use std::alloc::{AllocError, Global};
+use std::io::Write;
 
-/// The lines that answer with these replies.
-pub fn replies_text(alloc: Global, replies: &[Reply]) -> Result<String, AllocError>
-    ensures { IfOk result (λ text. string_bytes text ≡ flat_map spec.reply_text replies.now) }
+/// Tells the lines that answer with these replies.
+pub fn tell_replies<W: Write>(
+    alloc: Global,
+    replies: &[Reply],
+    page: &mut Page,
+    writer: &mut Counting<'_, W>,
+) -> Result<(), TraceFault>
+    requires { writer.old.failed ≡ 0 }
+    ensures ok { let output = stream (W.contents writer.old.stream.now) (W.contents writer.new.stream.now) in
+        OnOk result (Tells page.old page.new output (flat_map spec.reply_text replies.now)) }
+    ensures err { let output = stream (W.contents writer.old.stream.now) (W.contents writer.new.stream.now) in
+        OnErr result (TellsStart page.old page.new output (flat_map spec.reply_text replies.now)) }
+    ensures same_reference { writer.new.stream.ghost_name ≡ writer.old.stream.ghost_name }
+    ensures failed { IsWriteFailure result writer.new.failed }
 {
-    let mut text = String::new(alloc);
+    let mut lines = String::new(alloc);
     for reply in replies {
-        push_reply(alloc, &mut text, reply)?;
+        lines.clear();
+        push_reply(alloc, &mut lines, reply)?;
+        page.add(lines.as_str(), writer)?;
     }
-    Ok(text)
+    Ok(())
 }
 
 // The lines that answer with this reply.
@@ -37,22 +58,56 @@ fn push_reply(alloc: Global, text: &mut String, reply: &Reply) -> Result<(), All
     }
 }
 
-/// The number of the rows, and each on a line.
-pub fn rows_text(alloc: Global, rows: &[Meet]) -> Result<String, AllocError>
-    ensures { IfOk result (λ text. string_bytes text ≡ spec.rows_text rows.now) }
+/// Tells the number of the rows, and each on a line.
+pub fn tell_rows<W: Write>(
+    alloc: Global,
+    rows: &[Meet],
+    page: &mut Page,
+    writer: &mut Counting<'_, W>,
+) -> Result<(), TraceFault>
+    requires { writer.old.failed ≡ 0 }
+    ensures ok { let output = stream (W.contents writer.old.stream.now) (W.contents writer.new.stream.now) in
+        OnOk result (Tells page.old page.new output (spec.rows_text rows.now)) }
+    ensures err { let output = stream (W.contents writer.old.stream.now) (W.contents writer.new.stream.now) in
+        OnErr result (TellsStart page.old page.new output (spec.rows_text rows.now)) }
+    ensures same_reference { writer.new.stream.ghost_name ≡ writer.old.stream.ghost_name }
+    ensures failed { IsWriteFailure result writer.new.failed }
 {
     let count = rows.len();
-    let mut text = format!(in alloc; "rows {count}\n")?;
+    let mut line = format!(in alloc; "rows {count}\n")?;
+    page.add(line.as_str(), writer)?;
     for row in rows {
-        push_row(&mut text, *row)?;
+        line.clear();
+        push_row(&mut line, row)?;
+        page.add(line.as_str(), writer)?;
     }
-    Ok(text)
+    Ok(())
 }
 
-fn push_row(text: &mut String, row: Meet) -> Result<(), AllocError>
-    ensures { OnOk result (string_bytes text.new ≡ string_bytes text.old ++ spec.row_line row) }
+/// Tells that the line of this number is bad.
+pub fn tell_bad<W: Write>(
+    alloc: Global,
+    number: u64,
+    page: &mut Page,
+    writer: &mut Counting<'_, W>,
+) -> Result<(), TraceFault>
+    requires { writer.old.failed ≡ 0 }
+    ensures ok { let output = stream (W.contents writer.old.stream.now) (W.contents writer.new.stream.now) in
+        OnOk result (Tells page.old page.new output (bad_line number)) }
+    ensures err { let output = stream (W.contents writer.old.stream.now) (W.contents writer.new.stream.now) in
+        OnErr result (TellsStart page.old page.new output (bad_line number)) }
+    ensures same_reference { writer.new.stream.ghost_name ≡ writer.old.stream.ghost_name }
+    ensures failed { IsWriteFailure result writer.new.failed }
 {
-    match row {
+    let line = format!(in alloc; "bad {number}\n")?;
+    page.add(line.as_str(), writer)
+}
+
+fn push_row(text: &mut String, row: &Meet) -> Result<(), AllocError>
+    ensures { let line = spec.row_line row.now in
+        OnOk result (string_bytes text.new ≡ string_bytes text.old ++ line) }
+{
+    match *row {
         Meet::Single { tid, leaf } => writeln!(text, "row {} {leaf}", tid.0),
         Meet::Pair {
             head,

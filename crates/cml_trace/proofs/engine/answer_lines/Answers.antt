@@ -1,41 +1,64 @@
-use Rattle.std.proofs.Common.{ℕ, ◌+◌, ◌≤◌, List, Option, Bool, length, subst, arith}
-use Rattle.std.specs.Borrow.{Bor}
-use Rattle.cml_trace.specs.Answers.{lines}
-use Rattle.cml_trace.specs.Lines.{room_of}
+use Rattle.std.proofs.Common.{◌∙◌}
+use Rattle.cml_scan.specs.Scan.{scan}
+use Rattle.cml_book.specs.Step.{world_after}
+use Rattle.cml_trace.specs.declared.batch.Stop.TheVariants as stop
+use Rattle.cml_trace.specs.Batches.{Gathers}
+use Rattle.cml_trace.specs.Pages.{Tells, TellsStart}
+use Rattle.cml_trace.specs.Replies.{rows_text}
 use Rattle.cml_trace.specs.Streams.{stream}
-use Rattle.cml_trace.specs.Runs.{LineAnswered}
-use Rattle.cml_trace.proofs.EngineLemmas.{on_err, Standing, Standing-start, Standing-step, Standing-bad, Standing-done, Standing-begun, whole_begun}
+use Rattle.cml_trace.proofs.EngineLemmas.{on_err, Standing-batch, Standing-rows, answered_bad, answered_end, begun_batch, begun_rows, begun_bad, begun_here}
 use Rattle.cml_trace.proofs.engine.answer_lines.Goals as goal
 
-pub loop-rest-init : goal.loop-rest-init
-loop-rest-init g c = (omega arith, Standing-start 1 c.args.book.now c.args.input (g.W.Write.contents c.args.writer.now))
+pub returns-in_err-do_commands-clause-err : goal.returns-in_err-do_commands-clause-err
+returns-in_err-do_commands-clause-err g c =
+    on_err c.from_residual.result
+    (begun_batch c.spelled_or_faulty.ensures _ _ _ _ _ _ _ _ _ _ _ _ _ c.loop-book.invariant.0 c.gather-commands.ensures c.in_err-do_commands.ensures.err)
 
-pub returns-in_err-goes_on-clause-err : goal.returns-in_err-goes_on-clause-err
-returns-in_err-goes_on-clause-err g c =
-    let stands = subst (λ (r : Option (Bor (List ℕ))). Standing 1 c.args.book.now (lines c.args.input.now) r c.loop-rest.number c.loop-rest.book
-    (g.W.Write.contents c.args.writer.now) (g.W.Write.contents c.loop-rest.writer)) c.in-Some.is c.loop-rest.invariant.1 in
-    on_err c.from_residual.result (whole_begun c.spelled_or_faulty.ensures _ _ _ _ _ (Standing-begun _ _ _ c.in-Some.here c.cut.result.1 c.cut.result.0.now _ _ _ _ _ stands c.cut.ensures.cut c.in_err-goes_on.ensures.err))
-
-pub returns-then-not-goes_on-clause-ok : goal.returns-then-not-goes_on-clause-ok
-returns-then-not-goes_on-clause-ok g c =
-    let stands = subst (λ (r : Option (Bor (List ℕ))). Standing 1 c.args.book.now (lines c.args.input.now) r c.loop-rest.number c.loop-rest.book
-    (g.W.Write.contents c.args.writer.now) (g.W.Write.contents c.loop-rest.writer)) c.in-Some.is c.loop-rest.invariant.1 in
-    let answered = subst (λ (b : Bool). LineAnswered c.loop-rest.number c.loop-rest.book c.answer_line.new.book c.cut.result.0.now
-    (stream (g.W.Write.contents c.loop-rest.writer) (g.W.Write.contents c.answer_line.new.writer)) b) c.if-not-goes_on.true c.in_ok-goes_on.ensures.ok in
-    Standing-bad _ _ _ c.in-Some.here c.cut.result.1 c.cut.result.0.now _ _ c.answer_line.new.book _ _ _ stands c.cut.ensures.cut answered
-
-pub loop-rest-preserved : goal.loop-rest-preserved
-loop-rest-preserved g c =
-    let stands = subst (λ (r : Option (Bor (List ℕ))). Standing 1 c.args.book.now (lines c.args.input.now) r c.loop-rest.number c.loop-rest.book
-    (g.W.Write.contents c.args.writer.now) (g.W.Write.contents c.loop-rest.writer)) c.in-Some.is c.loop-rest.invariant.1 in
-    let answered = subst (λ (b : Bool). LineAnswered c.loop-rest.number c.loop-rest.book c.answer_line.new.book c.cut.result.0.now
-    (stream (g.W.Write.contents c.loop-rest.writer) (g.W.Write.contents c.answer_line.new.writer)) b) c.if-not-goes_on.false c.in_ok-goes_on.ensures.ok in
-    let room = subst (λ (r : Option (Bor (List ℕ))). c.loop-rest.number + room_of r ≤ length c.args.input.now + 2) c.in-Some.is c.loop-rest.invariant.0 in (
-      omega (arith, room, c.cut.ensures.shorter),
-      Standing-step _ _ _ c.in-Some.here c.cut.result.1 c.cut.result.0.now _ _ _ _ _ _ stands c.cut.ensures.cut answered,
+pub loop-book-preserved : goal.loop-book-preserved
+loop-book-preserved g c =
+    let commands = c.gather-commands.result.commands.items in
+    let gathered : Gathers c.loop-book.lines c.gather-commands.new.lines commands stop.Rows = rw c.in-Rows.is at c.gather-commands.ensures in
+    let here = Standing-batch _ _ _ _ _ _ _ _ _ _ _ _ _ c.loop-book.invariant.0 gathered c.in_ok-do_commands.ensures.ok in
+    let output = stream (g.W.Write.contents c.do_commands.new.writer.stream.now) (g.W.Write.contents c.do_rows.new.writer.stream.now) in
+    let told : Tells c.do_commands.new.page c.do_rows.new.page output (rows_text (scan (world_after commands c.loop-book.book))) =
+    rw c.in_ok-do_commands.ensures.world at c.in_ok-do_rows-in-Rows.ensures.ok in (
+      rw c.in_ok-do_commands.ensures.world (Standing-rows _ _ _ _ _ _ _ _ _ _ _ here gathered.stops told),
+      c.do_rows.ensures.same_reference ∙ c.do_commands.ensures.same_reference ∙ c.loop-book.invariant.1,
+      c.in_ok-do_rows-in-Rows.ensures.failed,
     )
 
-pub returns-clause-ok : goal.returns-clause-ok
-returns-clause-ok g c =
-    Standing-done _ _ _ _ _ _ _ (subst (λ (r : Option (Bor (List ℕ))). Standing 1 c.args.book.now (lines c.args.input.now) r c.loop-rest.number c.loop-rest.book
-    (g.W.Write.contents c.args.writer.now) (g.W.Write.contents c.loop-rest.writer)) c.in_default.is c.loop-rest.invariant.1)
+pub returns-in_err-do_rows-in-Rows-clause-err : goal.returns-in_err-do_rows-in-Rows-clause-err
+returns-in_err-do_rows-in-Rows-clause-err g c =
+    let commands = c.gather-commands.result.commands.items in
+    let gathered : Gathers c.loop-book.lines c.gather-commands.new.lines commands stop.Rows = rw c.in-Rows.is at c.gather-commands.ensures in
+    let here = Standing-batch _ _ _ _ _ _ _ _ _ _ _ _ _ c.loop-book.invariant.0 gathered c.in_ok-do_commands.ensures.ok in
+    let output = stream (g.W.Write.contents c.do_commands.new.writer.stream.now) (g.W.Write.contents c.do_rows.new.writer.stream.now) in
+    let told : TellsStart c.do_commands.new.page c.do_rows.new.page output (rows_text (scan (world_after commands c.loop-book.book))) =
+    rw c.in_ok-do_commands.ensures.world at c.in_err-do_rows-in-Rows.ensures.err in
+    on_err c.from_residual-in_err-do_rows-in-Rows.result (begun_rows c.spelled_or_faulty.ensures _ _ _ _ _ _ _ _ _ _ _ here gathered.stops told)
+
+pub returns-in_err-tell_bad-in-Bad-clause-err : goal.returns-in_err-tell_bad-in-Bad-clause-err
+returns-in_err-tell_bad-in-Bad-clause-err g c =
+    let commands = c.gather-commands.result.commands.items in
+    let gathered : Gathers c.loop-book.lines c.gather-commands.new.lines commands (stop.Bad c.in-Bad.number) = rw c.in-Bad.is at c.gather-commands.ensures in
+    let here = Standing-batch _ _ _ _ _ _ _ _ _ _ _ _ _ c.loop-book.invariant.0 gathered c.in_ok-do_commands.ensures.ok in
+    on_err c.from_residual-in_err-tell_bad-in-Bad.result (begun_bad _ _ _ c.gather-commands.new.lines _ _ _ _ _ _ _ c.in-Bad.number here gathered.stops c.in_err-tell_bad-in-Bad.ensures.err)
+
+pub returns-in-Bad-clause-ok : goal.returns-in-Bad-clause-ok
+returns-in-Bad-clause-ok g c =
+    let commands = c.gather-commands.result.commands.items in
+    let gathered : Gathers c.loop-book.lines c.gather-commands.new.lines commands (stop.Bad c.in-Bad.number) = rw c.in-Bad.is at c.gather-commands.ensures in
+    let here = Standing-batch _ _ _ _ _ _ _ _ _ _ _ _ _ c.loop-book.invariant.0 gathered c.in_ok-do_commands.ensures.ok in
+    answered_bad _ _ _ c.gather-commands.new.lines _ _ _ _ _ _ _ c.in-Bad.number here gathered.stops c.in_ok-tell_bad-in-Bad.ensures.ok
+
+pub returns-in-End-clause-ok : goal.returns-in-End-clause-ok
+returns-in-End-clause-ok g c =
+    let commands = c.gather-commands.result.commands.items in
+    let gathered : Gathers c.loop-book.lines c.gather-commands.new.lines commands stop.End = rw c.in-End.is at c.gather-commands.ensures in
+    let here = Standing-batch _ _ _ _ _ _ _ _ _ _ _ _ _ c.loop-book.invariant.0 gathered c.in_ok-do_commands.ensures.ok in
+    answered_end _ _ _ c.gather-commands.new.lines _ _ _ _ _ here gathered.stops
+
+pub returns-in-Memory-clause-err : goal.returns-in-Memory-clause-err
+returns-in-Memory-clause-err g c =
+    let here = Standing-batch _ _ _ _ _ _ _ _ _ _ _ _ _ c.loop-book.invariant.0 c.gather-commands.ensures c.in_ok-do_commands.ensures.ok in
+    begun_here c.spelled_or_faulty.ensures _ _ _ _ _ _ _ _ here
