@@ -1,22 +1,63 @@
 -- The groups that forms of a trace are: never, (choose G*), (wrap G F V*), (scope N G), and the base events (always V), (send C V),
--- (recv C) and (nack N).
-use Rattle.std.specs.Prelude.{List, [], ◌∷◌, drop, map, Option, Some, None, option_map}
-use Rattle.cml_value.specs.Value.{values, PlainFunction, function, PlainBase, always, send, recv, nack}
+-- (recv C), (iget I), (mtake M), (mget M), (mswap M V), (mailrecv B), (portrecv P), (join T), (at K), (after K) and (nack N).
+use Rattle.std.specs.Prelude.{ℕ, List, [], ◌∷◌, drop, map, Option, Some, None, option_map, option_and_then}
+use Rattle.cml_value.specs.Value.{PlainValue, values, PlainFunction, function, PlainBase, always, send, recv, iget, mtake, mget, mswap, mail_recv, port_recv, join, at_tick, after_ticks, nack}
 use Rattle.cml_value.specs.Group.{PlainGroup, never, leaf, choose, wrap, scope, groups}
 use Rattle.cml_text.specs.Forms.{PlainSexpr, plain_name, plain_list, PlainForms, no_forms, forms_and, forms_list}
 use Rattle.cml_trace.specs.declared.keyword.Keyword.{Keyword}
 use Rattle.cml_trace.specs.declared.keyword.Keyword.TheVariants as keyword
 use Rattle.cml_trace.specs.Keywords.{keyword_of, head_of}
 use Rattle.cml_trace.specs.Given.{both, all_of}
-use Rattle.cml_trace.specs.ValueForms.{number_from, value_from}
+use Rattle.cml_trace.specs.ValueForms.{number_from, tick_from, value_from, number_and_value}
+
+-- the base events that name one channel, variable, queue, thread or nack, by their keywords
+abbrev pub naming : Keyword → Option (ℕ → PlainBase)
+naming keyword.Recv = Some recv
+naming keyword.IGet = Some iget
+naming keyword.MTake = Some mtake
+naming keyword.MGet = Some mget
+naming keyword.MailRecv = Some mail_recv
+naming keyword.PortRecv = Some port_recv
+naming keyword.Join = Some join
+naming keyword.Nack = Some nack
+naming _ = None
+
+-- those that name a channel or a variable and hand over a value
+abbrev pub giving : Keyword → Option (ℕ → PlainValue → PlainBase)
+giving keyword.Send = Some send
+giving keyword.MSwap = Some mswap
+giving _ = None
+
+-- those that wait for a tick
+abbrev pub timing : Keyword → Option (ℕ → PlainBase)
+timing keyword.At = Some at_tick
+timing keyword.After = Some after_ticks
+timing _ = None
+
+abbrev pub naming_by : Keyword → List PlainSexpr → Option PlainBase
+naming_by keyword (n ∷ []) = both (λ base number. base number) (naming keyword) (number_from n)
+naming_by keyword _ = None
+
+abbrev pub giving_by : Keyword → List PlainSexpr → Option PlainBase
+giving_by keyword forms = option_and_then (λ given. option_map (λ base. base given.0 given.1) (giving keyword)) (number_and_value forms)
+
+abbrev pub timing_by : Keyword → List PlainSexpr → Option PlainBase
+timing_by keyword (k ∷ []) = both (λ base tick. base tick) (timing keyword) (tick_from k)
+timing_by keyword _ = None
+
+-- the one that is always enabled, with its value
+abbrev pub always_by : List PlainSexpr → Option PlainBase
+always_by (v ∷ []) = option_map always (value_from v)
+always_by _ = None
 
 -- the base event that these forms behind its keyword are
 abbrev pub base_by : Keyword → List PlainSexpr → Option PlainBase
-base_by keyword.Always (v ∷ []) = option_map always (value_from v)
-base_by keyword.Send (c ∷ v ∷ []) = both send (number_from c) (value_from v)
-base_by keyword.Recv (c ∷ []) = option_map recv (number_from c)
-base_by keyword.Nack (k ∷ []) = option_map nack (number_from k)
-base_by _ forms = None
+base_by keyword.Always forms = always_by forms
+base_by keyword.Send forms = giving_by keyword.Send forms
+base_by keyword.MSwap forms = giving_by keyword.MSwap forms
+base_by keyword.At forms = timing_by keyword.At forms
+base_by keyword.After forms = timing_by keyword.After forms
+base_by keyword forms = naming_by keyword forms
 
 -- the same, as a group
 abbrev pub leaf_by : Keyword → List PlainSexpr → Option PlainGroup

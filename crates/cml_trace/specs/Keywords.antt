@@ -3,17 +3,28 @@ use Rattle.std.specs.Prelude.{ℕ, List, [], ◌∷◌, codes, find, Option, Non
 use Rattle.std.specs.Str.{bytes_eq}
 use Rattle.cml_text.specs.Forms.{PlainSexpr, plain_name}
 use Rattle.cml_trace.specs.declared.keyword.Keyword.{Keyword}
-use Rattle.cml_trace.specs.declared.keyword.Keyword.TheVariants.{Spawn, Chan, Nack, Sync, Rows, Commit, End, Never, Choose, Wrap, Scope, Always, Send, Recv, True, False, Pair, Thread, IVar, MVar, Mailbox, Mchan, Port}
+use Rattle.cml_trace.specs.declared.keyword.Keyword.TheVariants.{Spawn, Chan, IVar, MVar, Mailbox, Mchan, Port, Copy, IPut, MPut, Mail, Multicast, Nack, Sync, Rows, Commit, End, Clock, Never, Choose, Wrap, Scope, Always, Send, Recv, IGet, MTake, MGet, MSwap, MailRecv, PortRecv, Join, At, After, True, False, Pair, Thread}
 
 -- how each keyword is spelled
 abbrev pub spelling : Keyword → List ℕ
 spelling Spawn = codes "spawn"
 spelling Chan = codes "chan"
+spelling IVar = codes "ivar"
+spelling MVar = codes "mvar"
+spelling Mailbox = codes "mailbox"
+spelling Mchan = codes "mchan"
+spelling Port = codes "port"
+spelling Copy = codes "copy"
+spelling IPut = codes "iput"
+spelling MPut = codes "mput"
+spelling Mail = codes "mail"
+spelling Multicast = codes "multicast"
 spelling Nack = codes "nack"
 spelling Sync = codes "sync"
 spelling Rows = codes "rows"
 spelling Commit = codes "commit"
 spelling End = codes "end"
+spelling Clock = codes "clock"
 spelling Never = codes "never"
 spelling Choose = codes "choose"
 spelling Wrap = codes "wrap"
@@ -21,22 +32,29 @@ spelling Scope = codes "scope"
 spelling Always = codes "always"
 spelling Send = codes "send"
 spelling Recv = codes "recv"
+spelling IGet = codes "iget"
+spelling MTake = codes "mtake"
+spelling MGet = codes "mget"
+spelling MSwap = codes "mswap"
+spelling MailRecv = codes "mailrecv"
+spelling PortRecv = codes "portrecv"
+spelling Join = codes "join"
+spelling At = codes "at"
+spelling After = codes "after"
 spelling True = codes "true"
 spelling False = codes "false"
 spelling Pair = codes "pair"
 spelling Thread = codes "thread"
-spelling IVar = codes "ivar"
-spelling MVar = codes "mvar"
-spelling Mailbox = codes "mailbox"
-spelling Mchan = codes "mchan"
-spelling Port = codes "port"
 
 -- each keyword once
 abbrev pub all_keywords : List Keyword
 all_keywords =
-    Spawn ∷ Chan ∷ Nack ∷ Sync ∷ Rows ∷ Commit ∷ End ∷
+    Spawn ∷ Chan ∷ IVar ∷ MVar ∷ Mailbox ∷ Mchan ∷
+    Port ∷ Copy ∷ IPut ∷ MPut ∷ Mail ∷ Multicast ∷
+    Nack ∷ Sync ∷ Rows ∷ Commit ∷ End ∷ Clock ∷
     Never ∷ Choose ∷ Wrap ∷ Scope ∷ Always ∷ Send ∷ Recv ∷
-    True ∷ False ∷ Pair ∷ Thread ∷ IVar ∷ MVar ∷ Mailbox ∷ Mchan ∷ Port ∷ []
+    IGet ∷ MTake ∷ MGet ∷ MSwap ∷ MailRecv ∷ PortRecv ∷ Join ∷ At ∷ After ∷
+    True ∷ False ∷ Pair ∷ Thread ∷ []
 
 -- the keyword that is spelled so, if one is
 abbrev pub keyword_of : List ℕ → Option Keyword

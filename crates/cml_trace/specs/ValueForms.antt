@@ -1,6 +1,6 @@
 -- The values that forms of a trace are: a number, a text, true and false, (), and the lists that pairs, threads and objects are
 -- printed as.
-use Rattle.std.specs.Prelude.{ℕ, ℤ, pos, negsuc, nat_lt, if◌then◌else◌, true, false, Option, Some, None}
+use Rattle.std.specs.Prelude.{ℕ, ℤ, List, [], ◌∷◌, pos, negsuc, nat_lt, if◌then◌else◌, true, false, Option, Some, None}
 use Rattle.cml_value.specs.Value.{PlainValue, unit, int, truth, text, pair, thread, chan, ivar, mvar, mailbox, mchan, port}
 use Rattle.cml_text.specs.Forms.{PlainSexpr, plain_name, plain_int, plain_text, plain_list, no_forms, forms_and}
 use Rattle.cml_trace.specs.declared.keyword.Keyword.{Keyword}
@@ -21,6 +21,16 @@ number_by (negsuc n) = None
 abbrev pub number_from : PlainSexpr → Option ℕ
 number_from (plain_int span z) = number_by z
 number_from _ = None
+
+-- the tick or the delay that an integer is: it is not below 0
+abbrev pub tick_by : ℤ → Option ℕ
+tick_by (pos n) = Some n
+tick_by (negsuc n) = None
+
+-- the tick or the delay that the form is, if it is one
+abbrev pub tick_from : PlainSexpr → Option ℕ
+tick_from (plain_int span z) = tick_by z
+tick_from _ = None
 
 -- the truth value that a keyword is, if it is one
 abbrev pub truth_of : Option Keyword → Option PlainValue
@@ -60,3 +70,8 @@ value_from (plain_list span (forms_and kind (forms_and number no_forms))) =
 value_from (plain_list span (forms_and kind (forms_and a (forms_and b no_forms)))) =
     pair_from (keyword_from kind) (value_from a) (value_from b)
 value_from (plain_list span _) = None
+
+-- a number and a value
+abbrev pub number_and_value : List PlainSexpr → Option (ℕ × PlainValue)
+number_and_value (n ∷ v ∷ []) = both (λ number value. (number, value)) (number_from n) (value_from v)
+number_and_value _ = None

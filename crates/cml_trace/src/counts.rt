@@ -9,7 +9,7 @@ ghost use Rattle.cml_trace.specs.Counts.{counted};
 use std::io::{ErrorKind, Read, Result as IoResult, Write};
 
 /// A reader or a writer that is lent, and how often it was called since then, and how often that failed. An interrupted read has not
-/// failed; a write that took nothing has. A count that is the greatest there is stays there.
+/// failed; a write that took nothing has. A count that is the greatest there is stays there. The counts are there for contracts to read.
 #[derive(Drop)]
 pub struct Counting<'a, T> {
     stream: &'a mut T,
@@ -30,20 +30,6 @@ impl<'a, T> Counting<'a, T> {
             calls: 0,
             failed: 0,
         }
-    }
-
-    /// How often it was called.
-    pub fn calls(&self) -> u64
-        ensures { result ≡ self.now.calls }
-    {
-        self.calls
-    }
-
-    /// How often a call of it failed.
-    pub fn failed(&self) -> u64
-        ensures { result ≡ self.now.failed }
-    {
-        self.failed
     }
 }
 

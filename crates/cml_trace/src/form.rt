@@ -19,6 +19,16 @@ pub fn number_from(form: &Sexpr) -> Option<u32>
     }
 }
 
+/// The tick or the delay that the form is, if it is one.
+pub fn tick_from(form: &Sexpr) -> Option<u64>
+    ensures { result ≡ spec.tick_from form.now }
+{
+    match form.shape() {
+        Shape::Int(z) => u64::try_from(z).ok(),
+        _ => None,
+    }
+}
+
 /// The value that the form is, if it is one.
 pub fn value_from(alloc: Global, form: &Sexpr) -> Result<Option<Value>, AllocError>
     ensures { IfOk result (λ value. value ≡ spec.value_from form.now) }
@@ -40,6 +50,22 @@ pub fn value_from(alloc: Global, form: &Sexpr) -> Result<Option<Value>, AllocErr
             pair_from(alloc, keyword_from(kind), first, second)
         }
         _ => Ok(None),
+    }
+}
+
+/// The number and the value that these two forms are, if they are.
+pub fn number_and_value(alloc: Global, forms: &[Sexpr]) -> Result<Option<(u32, Value)>, AllocError>
+    ensures { IfOk result (λ given. given ≡ spec.number_and_value forms.now) }
+{
+    let [number, form] = forms else {
+        return Ok(None);
+    };
+    let Some(number) = number_from(number) else {
+        return Ok(None);
+    };
+    match value_from(alloc, form)? {
+        Some(value) => Ok(Some((number, value))),
+        None => Ok(None),
     }
 }
 

@@ -1,18 +1,20 @@
 //! The groups that forms of a trace are.
 
-ghost use Rattle.std.specs.Prelude.{◌≡◌, ◌<◌, map, IfOk, IfSome, IfNone};
+ghost use Rattle.std.specs.Prelude.{◌≡◌, ◌<◌, map, IfOk, IfSome, IfNone, option_map};
 ghost use Rattle.cml_value.specs.Group as plain;
 ghost use Rattle.cml_text.specs.Forms.{plain_forms, nesting, nesting_of};
 ghost use Rattle.cml_trace.specs.Keywords as keyword_spec;
 ghost use Rattle.cml_trace.specs.Given.{both};
 ghost use Rattle.cml_trace.specs.ValueForms as value_spec;
 ghost use Rattle.cml_trace.specs.GroupForms as spec;
-ghost use Rattle.cml_trace.specs.declared.keyword.Keyword.TheVariants as keyword;
 
-use crate::form::{number_from, value_from, values_from};
+use crate::form::{number_and_value, number_from, tick_from, value_from, values_from};
 use crate::keyword::{Keyword, head_of, keyword_from};
 use cml_text::{Sexpr, Shape};
-use cml_value::{Base, BaseKind, ChanId, FnRef, Group, GroupKind, NackId};
+use cml_value::{
+    Base, BaseKind, ChanId, FnRef, Group, GroupKind, IVarId, MVarId, MboxId, NackId, PortId, Tid,
+    Value,
+};
 use std::alloc::{AllocError, Global};
 
 /// The group that the form is, if it is one.
@@ -143,15 +145,14 @@ fn base_by(alloc: Global, keyword: Keyword, forms: &[Sexpr]) -> Result<Option<Ba
 {
     match keyword {
         Keyword::Always => always_by(alloc, forms),
-        Keyword::Send => send_by(alloc, forms),
-        Keyword::Recv => Ok(recv_by(forms)),
-        Keyword::Nack => Ok(nack_by(forms)),
-        _ => Ok(None),
+        Keyword::Send | Keyword::MSwap => giving_by(alloc, keyword, forms),
+        Keyword::At | Keyword::After => Ok(timing_by(keyword, forms)),
+        _ => Ok(naming_by(keyword, forms)),
     }
 }
 
 fn always_by(alloc: Global, forms: &[Sexpr]) -> Result<Option<Base>, AllocError>
-    ensures { IfOk result (λ base. base ≡ spec.base_by keyword.Always forms.now) }
+    ensures { IfOk result (λ base. base ≡ spec.always_by forms.now) }
 {
     let [form] = forms else {
         return Ok(None);
@@ -162,41 +163,59 @@ fn always_by(alloc: Global, forms: &[Sexpr]) -> Result<Option<Base>, AllocError>
     }
 }
 
-fn send_by(alloc: Global, forms: &[Sexpr]) -> Result<Option<Base>, AllocError>
-    ensures { IfOk result (λ base. base ≡ spec.base_by keyword.Send forms.now) }
+// The base event that names a channel or a variable and hands over a value.
+fn giving_by(alloc: Global, keyword: Keyword, forms: &[Sexpr]) -> Result<Option<Base>, AllocError>
+    ensures { IfOk result (λ base. base ≡ spec.giving_by keyword forms.now) }
 {
-    let [channel, form] = forms else {
-        return Ok(None);
-    };
-    let Some(channel) = number_from(channel) else {
-        return Ok(None);
-    };
-    match value_from(alloc, form)? {
-        Some(value) => Ok(Some(Base::new(BaseKind::Send(ChanId(channel), value)))),
+    match number_and_value(alloc, forms)? {
+        Some((number, value)) => Ok(giving(keyword, number, value)),
         None => Ok(None),
     }
 }
 
-fn recv_by(forms: &[Sexpr]) -> Option<Base>
-    ensures { result ≡ spec.base_by keyword.Recv forms.now }
+fn giving(keyword: Keyword, n: u32, value: Value) -> Option<Base>
+    ensures { result ≡ option_map (λ base. base n value) (spec.giving keyword) }
 {
-    let [channel] = forms else {
-        return None;
-    };
-    match number_from(channel) {
-        Some(channel) => Some(Base::new(BaseKind::Recv(ChanId(channel)))),
-        None => None,
+    match keyword {
+        Keyword::Send => Some(Base::new(BaseKind::Send(ChanId(n), value))),
+        Keyword::MSwap => Some(Base::new(BaseKind::MSwap(MVarId(n), value))),
+        _ => None,
     }
 }
 
-fn nack_by(forms: &[Sexpr]) -> Option<Base>
-    ensures { result ≡ spec.base_by keyword.Nack forms.now }
+// The base event that waits for a tick.
+fn timing_by(keyword: Keyword, forms: &[Sexpr]) -> Option<Base>
+    ensures { result ≡ spec.timing_by keyword forms.now }
 {
-    let [nack] = forms else {
+    let [form] = forms else {
         return None;
     };
-    match number_from(nack) {
-        Some(nack) => Some(Base::new(BaseKind::Nack(NackId(nack)))),
-        None => None,
+    let tick = tick_from(form)?;
+    match keyword {
+        Keyword::At => Some(Base::new(BaseKind::At(tick))),
+        Keyword::After => Some(Base::new(BaseKind::After(tick))),
+        _ => None,
     }
+}
+
+// The base event that names one channel, variable, queue, thread or nack.
+fn naming_by(keyword: Keyword, forms: &[Sexpr]) -> Option<Base>
+    ensures { result ≡ spec.naming_by keyword forms.now }
+{
+    let [form] = forms else {
+        return None;
+    };
+    let n = number_from(form)?;
+    let kind = match keyword {
+        Keyword::Recv => BaseKind::Recv(ChanId(n)),
+        Keyword::IGet => BaseKind::IGet(IVarId(n)),
+        Keyword::MTake => BaseKind::MTake(MVarId(n)),
+        Keyword::MGet => BaseKind::MGet(MVarId(n)),
+        Keyword::MailRecv => BaseKind::MailRecv(MboxId(n)),
+        Keyword::PortRecv => BaseKind::PortRecv(PortId(n)),
+        Keyword::Join => BaseKind::Join(Tid(n)),
+        Keyword::Nack => BaseKind::Nack(NackId(n)),
+        _ => return None,
+    };
+    Some(Base::new(kind))
 }
