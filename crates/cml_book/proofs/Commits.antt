@@ -1,33 +1,39 @@
 -- The parties of a row that is in the table, and what taking it does.
 use Rattle.std.proofs.Common.{◌≡◌, ◌≢◌, ℕ, ◌+◌, ◌*◌, ◌<◌, ◌≤◌, Bool, true, false, ◌||◌, nat_eq, cond, List, [], ◌∷◌, ◌++◌, length, map, refl, ap, sym, subst, ◌∙◌, arith, zero, suc, Option, Some, None, Ok, Err, slice_index_or, zero-add}
 use Rattle.std.specs.Prelude.{All, AllPairs, Contains, slice_get}
-use Rattle.std.specs.List.{filter, flat_map}
-use Rattle.std.specs.Option.{option_copied, option_and_then}
+use Rattle.std.specs.List.{filter, flat_map, cons_option}
+use Rattle.std.specs.Option.{option_copied, option_and_then, option_map}
 use Rattle.std.specs.Borrow.{Bor}
 use Rattle.std.proofs.lemmas.Bool.Decides.{nat_tests}
-use Rattle.std.proofs.lemmas.List.{length-map}
+use Rattle.std.proofs.lemmas.List.{length-map, map-append}
 use Rattle.std.proofs.lemmas.List.Elements.{All-nil, All-cons, All-head, All-tail, All-map, All-weaker, Contains-append_left, Contains-append_right}
-use Rattle.cml_value.specs.Value.{PlainValue, unit, PlainBase, always, send, recv, PlainFunction}
-use Rattle.cml_value.specs.Group.{PlainGroup, PlainLeaf, PlainScope, leaves, leaf_count, scopes, nacks_of, lies_outside, lost}
+use Rattle.cml_value.specs.Value.{PlainValue, unit, PlainBase, always, send, recv, mtake, mail_recv, port_recv, PlainFunction}
+use Rattle.cml_value.specs.Group.{PlainGroup, PlainLeaf, PlainScope, bases, leaves, leaf_count, scopes, nacks_of, lies_outside, lost}
 use Rattle.cml_value.specs.declared.number.Tid.{Tid}
-use Rattle.cml_group.specs.Leaves.{pick}
-use Rattle.cml_scan.specs.World.{PlainThread, running, pending_on, ended, PlainWorld, PlainEntry, pending_from}
+use Rattle.cml_group.specs.Leaves.{pick, leaf_base}
+use Rattle.cml_scan.specs.World.{PlainThread, running, pending_on, ended, PlainWorld, PlainEntry, pending, pending_from}
+use Rattle.cml_scan.specs.Light.{light, has_item, lit}
 use Rattle.cml_scan.specs.Scan.{scan, scan_of, has_row, is_among}
-use Rattle.cml_scan.specs.Table.{IsThere, without, lit_after, nacks_among, IsNackOf}
+use Rattle.cml_scan.specs.Table.{IsThere, without, has_light, lit_after, nacks_among, IsNackOf}
 use Rattle.cml_scan.specs.Enabled.{leaf_of}
 use Rattle.cml_scan.specs.declared.object.Light.{Light}
+use Rattle.cml_scan.specs.declared.object.Light.TheVariants as of
 use Rattle.cml_scan.specs.declared.meet.Meet.{Meet}
 use Rattle.cml_scan.specs.declared.meet.Meet.TheVariants.{Single, Pair}
 use Rattle.cml_scan.proofs.Told.{scan_of-told}
 use Rattle.cml_scan.proofs.Enabling.{scan-members, Contains-has_row}
-use Rattle.cml_book.specs.Commit.{awaited, group_awaited, base_awaited, base_or_unit, wraps_or_none, commit, after, hands, given, taken, released, resume, sent}
+use Rattle.cml_book.specs.Commit.{awaited, group_awaited, base_awaited, base_or_unit, wraps_or_none, commit, after, hands, given, taken, copied, rest_of, released, resume, sent}
 use Rattle.cml_book.specs.Threads.{flat_of}
-use Rattle.cml_book.specs.Keeping.{Keeps, AreLive, nack_light}
+use Rattle.cml_book.specs.Keeping.{Room, Fits, Keeps, AreLive, nack_light, lights_in, times_awaited}
+use Rattle.cml_book.specs.Clock.{bases_awaited}
+use Rattle.cml_book.specs.Leaving.{put_out, unless_item, can_give, is_left}
 use Rattle.cml_book.specs.Parties.{WaitsOn}
 use Rattle.cml_book.specs.Resumes.{PlainResume}
 use Rattle.cml_book.specs.declared.refusal.Refusal.TheVariants as refusal
 use Rattle.cml_book.proofs.NackLemmas.{nacks-resume, get-set_other}
 use Rattle.cml_book.proofs.Pendings.{without_two}
+use Rattle.cml_book.proofs.Awaited.{awaited-resume}
+use Rattle.cml_book.proofs.Dimmed.{left_lights, put_out_after, can_give_after, lit_gives, taken-threads, taken-nacks, single_apart, pair_apart, told_dimmed, keeps_dim, right_single, right_pair}
 use Rattle.cml_book.proofs.Retold.{lit_more}
 use Rattle.cml_book.proofs.Keepings.{keeps_same, keeps_resume}
 
@@ -36,7 +42,7 @@ pub commit_is : (w : PlainWorld) (row : Meet) → has_row (scan w) row ≡ true 
 commit_is w row h = rw h refl
 
 -- what the table shows is the scan
-pub scan_is : (w : PlainWorld) (es : List PlainEntry) (told : Light → Bool) (room : ℕ) → Keeps w es told room → scan_of es told ≡ scan w
+pub scan_is : (w : PlainWorld) (es : List PlainEntry) (told : Light → Bool) (room : Room) → Keeps w es told room → scan_of es told ≡ scan w
 scan_is w es told room k = ap (λ xs. scan_of xs told) k.told_groups ∙ scan_of-told w told k.told_lights
 
 -- what holds of a pending thread's entry
@@ -65,20 +71,20 @@ thread_at n (suc i) (pending_on x ∷ ts) g h = let t = thread_at (n + 1) i ts g
 thread_at n (suc i) (ended ∷ ts) g h = let t = thread_at (n + 1) i ts g h in (t.0, t.1, t.2, t.3, t.4 ∙ omega arith)
 
 -- a party of an enabled row: it waits on a group that has the leaf
-pub record Party (w : PlainWorld) (room t n : ℕ) (b : PlainBase) : Type 0 where
+pub record Party (w : PlainWorld) (room : Room) (t n : ℕ) (b : PlainBase) : Type 0 where
   pub group : PlainGroup
   pub waits : slice_get w.threads t ≡ Some (pending_on group)
   pub base_is : base_or_unit (pick group n) ≡ b
   pub within : n < leaf_count group
   pub alive : AreLive (nacks_of (scopes group)) w.nacks
-  pub fits : 2 * length (scopes group) ≤ room
+  pub fits : Fits group room
 
 pick_at : (ls : List PlainLeaf) (n : ℕ) (b : PlainBase) → slice_get (map (λ l. l.base) ls) n ≡ Some b → (base_or_unit (slice_get ls n) ≡ b) × (n < length ls)
 pick_at [] n b h = cc
 pick_at (l ∷ ls) zero b h = (cc, omega arith)
 pick_at (l ∷ ls) (suc n) b h = let p = pick_at ls n b h in (p.0, omega (arith, p.1))
 
-pub party_of : (w : PlainWorld) (es : List PlainEntry) (told : Light → Bool) (room t n : ℕ) (b : PlainBase) → Keeps w es told room → leaf_of (slice_get w.threads t) n ≡ Some b → Party w room t n b
+pub party_of : (w : PlainWorld) (es : List PlainEntry) (told : Light → Bool) (room : Room) (t n : ℕ) (b : PlainBase) → Keeps w es told room → leaf_of (slice_get w.threads t) n ≡ Some b → Party w room t n b
 party_of w es told room t n b k h = at (slice_get w.threads t) refl h
   where
     at : (o : Option PlainThread) → slice_get w.threads t ≡ o → leaf_of o n ≡ Some b → Party w room t n b
@@ -90,24 +96,25 @@ party_of w es told room t n b k h = at (slice_get w.threads t) refl h
           base_is = p.0;
           within = p.1;
           alive = record { each = λ j. let a = nacks-resume j 0 t w.threads g e in let l = k.nacks_live j in omega arith };
-          fits = entry_at (λ x. 2 * length (scopes x.group) ≤ room) 0 t w.threads g e (rw (← k.told_groups) k.roomy);
+          fits = entry_at (λ x. Fits x.group room) 0 t w.threads g e (rw (← k.told_groups) k.roomy);
         }
     at _ e h = cc
 
-pub single_party : (w : PlainWorld) (es : List PlainEntry) (told : Light → Bool) (room : ℕ) (t : Tid) (n : ℕ) → Keeps w es told room → has_row (scan w) (Single t n) ≡ true → (b : PlainBase) × Party w room t.0 n b
+pub single_party : (w : PlainWorld) (es : List PlainEntry) (told : Light → Bool) (room : Room) (t : Tid) (n : ℕ) → Keeps w es told room → has_row (scan w) (Single t n) ≡ true
+    → (b : PlainBase) × Party w room t.0 n b × (lit w b ≡ true)
 single_party w es told room t n k h =
     let e = (scan-members w (Single t n)).0 (Contains-has_row (scan w) (Single t n) h) in
-    (e.0, party_of w es told room t.0 n e.0 k e.1)
+    (e.0, party_of w es told room t.0 n e.0 k e.1, e.2)
 
 -- the two parties of a pair, which differ
-pub record Parties (w : PlainWorld) (room : ℕ) (h : Tid) (i : ℕ) (o : Tid) (j : ℕ) : Type 0 where
+pub record Parties (w : PlainWorld) (room : Room) (h : Tid) (i : ℕ) (o : Tid) (j : ℕ) : Type 0 where
   pub channel : ℕ
   pub value : PlainValue
   pub sender : Party w room h.0 i (send channel value)
   pub receiver : Party w room o.0 j (recv channel)
   pub differ : h.0 ≢ o.0
 
-pub pair_parties : (w : PlainWorld) (es : List PlainEntry) (told : Light → Bool) (room : ℕ) (h : Tid) (i : ℕ) (o : Tid) (j : ℕ) → Keeps w es told room → has_row (scan w) (Pair h i o j) ≡ true → Parties w room h i o j
+pub pair_parties : (w : PlainWorld) (es : List PlainEntry) (told : Light → Bool) (room : Room) (h : Tid) (i : ℕ) (o : Tid) (j : ℕ) → Keeps w es told room → has_row (scan w) (Pair h i o j) ≡ true → Parties w room h i o j
 pair_parties w es told room h i o j k has =
     let e = (scan-members w (Pair h i o j)).0 (Contains-has_row (scan w) (Pair h i o j) has) in
     record {
@@ -135,7 +142,7 @@ found r w t g e waits is =
 pub is_there : (w : PlainWorld) (es : List PlainEntry) (t : Tid) (g : PlainGroup) → slice_get w.threads t.0 ≡ Some (pending_on g) → es ≡ pending_from 0 w.threads → IsThere es t
 is_there w es t g waits same = let a = thread_at 0 t.0 w.threads g waits in rw same (a.0, a.1, a.2, a.3, a.4 ∙ zero-add t.0)
 
-pub waits_on : (w : PlainWorld) (room t n : ℕ) (b : PlainBase) → Party w room t n b → WaitsOn w.threads w.nacks t n (group_awaited w t)
+pub waits_on : (w : PlainWorld) (room : Room) (t n : ℕ) (b : PlainBase) → Party w room t n b → WaitsOn w.threads w.nacks t n (group_awaited w t)
 waits_on w room t n b p = rw p.waits (record { waits = p.waits; within = p.within; alive = p.alive })
 
 -- what is taken alone is the same before and after its thread goes on
@@ -199,32 +206,116 @@ gone_one t = one t.0
     one : (n : ℕ) → nat_eq n n || false ≡ true
     one n = grind (arith, nat_tests)
 
--- what a book keeps when one thread has gone on
-pub keeps_single : (w : PlainWorld) (es : List PlainEntry) (told : Light → Bool) (room : ℕ) (t : Tid) (n : ℕ) (g : PlainGroup) (es' : List PlainEntry) (told' : Light → Bool) (w1 : PlainWorld) (lit : List Light) (room' : ℕ)
-    → Keeps w es told room → slice_get w.threads t.0 ≡ Some (pending_on g) → w1 ≡ released w t.0 n
-    → lit ≡ map nack_light (lost g n) → es' ≡ without (t ∷ []) es → ((l : Light) → told' l ≡ lit_after lit [] l (told l)) → room' ≡ room
-    → Keeps w1 es' told' room'
-keeps_single w es told room t n g es' told' w1 lit room' k waits one lights gone tells size =
-    rw (one, size)
-    (keeps_same (released w t.0 n) (without (t ∷ []) es) (λ l. lit_after (map nack_light (lost g n)) [] l (told l)) room es' told' gone
-    (λ l. tells l ∙ ap (λ x. lit_after x [] l (told l)) lights) (keeps_resume w es told room t n g k waits))
+-- what a book keeps when one thread has gone on, and its base was taken
+pub keeps_single : (w : PlainWorld) (es : List PlainEntry) (told : Light → Bool) (room : Room) (t : Tid) (n : ℕ) (g : PlainGroup) (b : PlainBase) (es' : List PlainEntry) (told' : Light → Bool) (w1 w2 : PlainWorld) (lit unlit : List Light) (room' : Room)
+    → Keeps w es told room → slice_get w.threads t.0 ≡ Some (pending_on g) → can_give w b ≡ true → w1 ≡ released w t.0 n → w2 ≡ taken w1 b
+    → lit ≡ map nack_light (lost g n) → unlit ≡ put_out w b ++ left_lights (bases_awaited (pending w)) (bases g) [] → es' ≡ without (t ∷ []) es
+    → ((l : Light) → told' l ≡ lit_after lit unlit l (told l)) → room' ≡ room
+    → Keeps w2 es' told' room'
+keeps_single w es told room t n g b es' told' w1 w2 lit unlit room' k waits gives one two lights dark gone tells size =
+    let r : PlainWorld = released w t.0 n in
+    let world : w2 ≡ taken r b = two ∙ ap (λ x. taken x b) one in
+    let out : List Light = put_out r b ++ left_lights (bases_awaited (pending w)) (bases g) [] in
+    let is_out : unlit ≡ out = dark ∙ ap (λ x. x ++ left_lights (bases_awaited (pending w)) (bases g) []) (sym (put_out_after w t.0 n b)) in
+    let k1 = keeps_resume w es told room t n g k waits in
+    let counts : (u : ℕ) → times_awaited u (bases_awaited (pending w)) ≡ times_awaited u (bases_awaited (pending r)) + (times_awaited u (bases g) + times_awaited u []) =
+    λ u. let e = awaited-resume u 0 t.0 w.threads g waits in omega arith in
+    let k2 = keeps_dim r (taken r b) (without (t ∷ []) es) (λ l. lit_after (map nack_light (lost g n)) [] l (told l)) told' room out k1 (taken-threads r b) (taken-nacks r b)
+    (λ l. tells l ∙ ap (λ x. lit_after x unlit l (told l)) lights ∙ ap (λ x. lit_after (map nack_light (lost g n)) x l (told l)) is_out
+      ∙ told_dimmed (lost g n) out (single_apart r b (bases_awaited (pending w)) (bases g) []) l (told l))
+    (right_single r b (bases_awaited (pending w)) (bases g) [] (can_give_after w t.0 n b ∙ gives) counts) in
+    rw (world, size) (keeps_same (taken r b) (without (t ∷ []) es) told' room es' told' gone (λ l. refl) k2)
+
+pub room_same : (a b a' b' : ℕ) → a' ≡ a → b' ≡ b → (let r : Room = record { lit = a'; unlit = b' } in r) ≡ record { lit = a; unlit = b }
+room_same a b a' b' e f = rw (e, f) refl
+
+-- a row that is taken alone has what it gives
+base_found : (o : Option PlainLeaf) (x : PlainBase) → option_map (λ l. l.base) o ≡ Some x → base_or_unit o ≡ x
+base_found None x e = cc
+base_found (Some l) x e = cc
+
+pub single_gives : (w : PlainWorld) (room : Room) (t n : ℕ) (b : PlainBase) (p : Party w room t n b) (flat : PlainGroup) (x : PlainBase) → lit w b ≡ true → flat ≡ p.group → leaf_base flat n ≡ Some x → can_give w x ≡ true
+single_gives w room t n b p flat x on same at_leaf =
+    let base : x ≡ b = sym (base_found (pick flat n) x at_leaf) ∙ ap (λ g. base_or_unit (pick g n)) same ∙ p.base_is in
+    rw base (lit_gives w b on)
+
+-- what the table is told that goes out
+pub told_out : (w : PlainWorld) (b : PlainBase) (before pushed more told : List Light) (flat g : PlainGroup) → before ≡ [] → flat ≡ g → pushed ≡ before ++ put_out w b
+    → more ≡ pushed ++ left_lights (bases_awaited (pending w)) (bases flat) [] → told ≡ more → told ≡ put_out w b ++ left_lights (bases_awaited (pending w)) (bases g) []
+told_out w b before pushed more told flat g none is e1 e2 f = f ∙ e2 ∙ rw (e1, none, is) refl
+
+pub told_both_out : (w : PlainWorld) (before pushed more told : List Light) (flat1 flat2 a g : PlainGroup) → before ≡ [] → flat1 ≡ a → flat2 ≡ g
+    → pushed ≡ before ++ left_lights (bases_awaited (pending w)) (bases flat1) (bases flat2) → more ≡ pushed ++ left_lights (bases_awaited (pending w)) (bases flat2) (bases flat1) → told ≡ more
+    → told ≡ left_lights (bases_awaited (pending w)) (bases a) (bases g) ++ left_lights (bases_awaited (pending w)) (bases g) (bases a)
+told_both_out w before pushed more told flat1 flat2 a g none is1 is2 e1 e2 f = f ∙ e2 ∙ rw (e1, none, is1, is2) refl
+
+-- the base that the table was told of is the one that is taken
+pub base_at : (w : PlainWorld) (t n : ℕ) (g flat : PlainGroup) (x : PlainBase) → slice_get w.threads t ≡ Some (pending_on g) → flat ≡ g → leaf_base flat n ≡ Some x → x ≡ base_awaited w t n
+base_at w t n g flat x waits same found =
+    sym (base_found (pick flat n) x found) ∙ ap (λ f. base_or_unit (pick f n)) (same ∙ sym (ap awaited waits))
+
+pub chosen_at : (w : PlainWorld) (t n : ℕ) (b : PlainBase) (ws : List PlainFunction) → pick (group_awaited w t) n ≡ Some (record { base = b; wraps = ws }) → b ≡ base_awaited w t n
+chosen_at w t n b ws picked = sym (ap base_or_unit picked)
+
+pub copied_after : (w : PlainWorld) (t n : ℕ) (b : PlainBase) → copied (released w t n) b ≡ copied w b
+copied_after w t n (always v) = refl
+copied_after w t n _ = refl
+
+few_unless : (i : Bool) (l : Light) → length (unless_item i l) ≤ 1
+few_unless true l = omega arith
+few_unless false l = omega arith
+
+-- at most one light goes out for a base
+pub few_out : (w : PlainWorld) (b : PlainBase) → length (put_out w b) ≤ 1
+few_out w (mtake m) = omega arith
+few_out w (mail_recv b) = few_unless (has_item (Some (rest_of (slice_get w.mailboxes b)))) (of.Mbox (record { 0 = b }))
+few_out w (port_recv p) = few_unless (has_item (Some (rest_of (slice_get w.ports p)))) (of.Port (record { 0 = p }))
+few_out w _ = omega arith
+
+-- no more lights are left than there are leaves
+pub few_left : (p : PlainBase → Bool) (bs : List PlainBase) → length (lights_in (filter p bs)) ≤ length bs
+few_left p [] = omega arith
+few_left p (b ∷ bs) = at (p b) (light b) refl (few_left p bs)
+  where
+    one : (o : Option Light) → length (cons_option o (lights_in (filter p bs))) ≤ suc (length (lights_in (filter p bs)))
+    one None = omega arith
+    one (Some l) = omega arith
+    at : (s : Bool) (o : Option Light) → light b ≡ o → length (lights_in (filter p bs)) ≤ length bs → length (lights_in (cond s (b ∷ filter p bs) (filter p bs))) ≤ suc (length bs)
+    at true o e ih = let more = one (light b) in omega arith
+    at false o e ih = omega arith
+
+-- there is room for what goes out
+pub room_for_out : (w : PlainWorld) (b : PlainBase) (before pushed : List Light) (flat g : PlainGroup) (room : ℕ) → before ≡ [] → flat ≡ g → pushed ≡ before ++ put_out w b
+    → 2 * leaf_count g + 1 ≤ room → length pushed + leaf_count flat ≤ room
+room_for_out w b before pushed flat g room none is e fits =
+    let size : length pushed ≡ length (put_out w b) = ap length e ∙ ap (λ x. length (x ++ put_out w b)) none in
+    let one = few_out w b in
+    rw (is, size) (omega (arith, one, fits))
+
+pub room_for_both : (all : List PlainBase) (before pushed : List Light) (flat1 flat2 a g : PlainGroup) (room : ℕ) → before ≡ [] → flat1 ≡ a → flat2 ≡ g
+    → pushed ≡ before ++ left_lights all (bases flat1) (bases flat2) → 2 * leaf_count a + 1 ≤ room → 2 * leaf_count g + 1 ≤ room → length pushed + leaf_count flat2 ≤ room
+room_for_both all before pushed flat1 flat2 a g room none is1 is2 e fits1 fits2 =
+    let size : length pushed ≡ length (left_lights all (bases a) (bases g)) = ap length e ∙ ap (λ x. length (x ++ left_lights all (bases flat1) (bases flat2))) none ∙ rw (is1, is2) refl in
+    let most : length (left_lights all (bases a) (bases g)) ≤ length (bases a) = few_left (is_left all (bases a) (bases g)) (bases a) in
+    let leaves_are : length (bases a) ≡ leaf_count a = length-map (leaves a) (λ (l : PlainLeaf). l.base) in
+    rw (is2, size) (omega (arith, most, leaves_are, fits1, fits2))
 
 -- what the call for a single answers
-pub single_returns : (w : PlainWorld) (t : Tid) (n : ℕ) (b : PlainBase) (ws : List PlainFunction) (v : PlainValue) (fs : List ℕ) (w1 : PlainWorld) (r : PlainResume)
+pub single_returns : (w : PlainWorld) (t : Tid) (n : ℕ) (b : PlainBase) (ws : List PlainFunction) (v : PlainValue) (fs : List ℕ) (w1 w2 : PlainWorld) (r : PlainResume)
     → has_row (scan w) (Single t n) ≡ true → pick (group_awaited w t.0) n ≡ Some (record { base = b; wraps = ws })
-    → w1 ≡ released w t.0 n → v ≡ given w1 b → w1 ≡ taken w1 b → fs ≡ lost (group_awaited w t.0) n
+    → w1 ≡ released w t.0 n → v ≡ given w1 b → w2 ≡ taken w1 b → fs ≡ lost (group_awaited w t.0) n
     → r ≡ record { thread = t.0; value = v; wraps = ws; fired = fs }
-    → commit w (Single t n) ≡ Ok (w1, record { head = r; partner = None })
-single_returns w t n b ws v fs w1 r has picked one value same lost made =
+    → commit w (Single t n) ≡ Ok (w2, record { head = r; partner = None })
+single_returns w t n b ws v fs w1 w2 r has picked one value two lost made =
     let base : base_awaited w t.0 n ≡ b = ap base_or_unit picked in
-    let world : w1 ≡ after w (Single t n) = same ∙ ap (λ x. taken x b) one ∙ taken_after w t.0 n b ∙ ap (λ x. released (taken w x) t.0 n) (sym base) in
+    let world : w2 ≡ after w (Single t n) = two ∙ ap (λ x. taken x b) one ∙ taken_after w t.0 n b ∙ ap (λ x. released (taken w x) t.0 n) (sym base) in
     let own : v ≡ given w (base_awaited w t.0 n) = value ∙ ap (λ x. given x b) one ∙ given_after w t.0 n b ∙ ap (given w) (sym base) in
     let wraps : ws ≡ wraps_or_none (pick (group_awaited w t.0) n) = sym (ap wraps_or_none picked) in
     let head : r ≡ resume w t.0 n (given w (base_awaited w t.0 n)) = made ∙ rw (own, wraps, lost) refl in
     commit_is w (Single t n) has ∙ rw (world, head) refl
 
 -- the receiver waits still, once the sender has gone on
-pub second_waits : (w : PlainWorld) (es : List PlainEntry) (told : Light → Bool) (room : ℕ) (h : Tid) (i : ℕ) (o : Tid) (j : ℕ) (a g : PlainGroup) (w1 : PlainWorld)
+pub second_waits : (w : PlainWorld) (es : List PlainEntry) (told : Light → Bool) (room : Room) (h : Tid) (i : ℕ) (o : Tid) (j : ℕ) (a g : PlainGroup) (w1 : PlainWorld)
     → Keeps w es told room → slice_get w.threads h.0 ≡ Some (pending_on a) → slice_get w.threads o.0 ≡ Some (pending_on g) → h.0 ≢ o.0 → j < leaf_count g
     → w1 ≡ released w h.0 i → WaitsOn w1.threads w1.nacks o.0 j (group_awaited w1 o.0)
 second_waits w es told room h i o j a g w1 k first second differ within one =
@@ -234,20 +325,32 @@ second_waits w es told room h i o j a g w1 k first second differ within one =
     rw (one, waits) (record { waits = waits; within = within; alive = alive })
 
 -- what a book keeps when a sender and a receiver have gone on
-pub keeps_pair : (w : PlainWorld) (es : List PlainEntry) (told : Light → Bool) (room : ℕ) (h : Tid) (i : ℕ) (o : Tid) (j : ℕ) (a g : PlainGroup) (es' : List PlainEntry) (told' : Light → Bool) (w1 w2 : PlainWorld) (lit : List Light) (room' : ℕ)
+pub keeps_pair : (w : PlainWorld) (es : List PlainEntry) (told : Light → Bool) (room : Room) (h : Tid) (i : ℕ) (o : Tid) (j : ℕ) (a g : PlainGroup) (es' : List PlainEntry) (told' : Light → Bool) (w1 w2 : PlainWorld) (lit unlit : List Light) (room' : Room)
     → Keeps w es told room → slice_get w.threads h.0 ≡ Some (pending_on a) → slice_get w.threads o.0 ≡ Some (pending_on g) → h.0 ≢ o.0
     → w1 ≡ released w h.0 i → w2 ≡ released w1 o.0 j
-    → lit ≡ map nack_light (lost a i) ++ map nack_light (lost g j) → es' ≡ without (h ∷ o ∷ []) es → ((l : Light) → told' l ≡ lit_after lit [] l (told l)) → room' ≡ room
+    → lit ≡ map nack_light (lost a i) ++ map nack_light (lost g j)
+    → unlit ≡ left_lights (bases_awaited (pending w)) (bases a) (bases g) ++ left_lights (bases_awaited (pending w)) (bases g) (bases a)
+    → es' ≡ without (h ∷ o ∷ []) es → ((l : Light) → told' l ≡ lit_after lit unlit l (told l)) → room' ≡ room
     → Keeps w2 es' told' room'
-keeps_pair w es told room h i o j a g es' told' w1 w2 lit room' k first second differ one two lights gone tells size =
-    let both : w2 ≡ released (released w h.0 i) o.0 j = two ∙ ap (λ x. released x o.0 j) one in
-    let waits : slice_get (released w h.0 i).threads o.0 ≡ Some (pending_on g) = get-set_other w.threads h.0 o.0 running differ ∙ second in
+keeps_pair w es told room h i o j a g es' told' w1 w2 lit unlit room' k first second differ one two lights dark gone tells size =
+    let r1 : PlainWorld = released w h.0 i in
+    let r2 : PlainWorld = released r1 o.0 j in
+    let all : List PlainBase = bases_awaited (pending w) in
+    let out : List Light = left_lights all (bases a) (bases g) ++ left_lights all (bases g) (bases a) in
+    let both : w2 ≡ r2 = two ∙ ap (λ x. released x o.0 j) one in
+    let waits : slice_get r1.threads o.0 ≡ Some (pending_on g) = get-set_other w.threads h.0 o.0 running differ ∙ second in
     let k1 = keeps_resume w es told room h i a k first in
-    let k2 = keeps_resume (released w h.0 i) (without (h ∷ []) es) (λ l. lit_after (map nack_light (lost a i)) [] l (told l)) room o j g k1 waits in
-    rw (both, size)
-    (keeps_same (released (released w h.0 i) o.0 j) (without (o ∷ []) (without (h ∷ []) es))
-    (λ l. lit_after (map nack_light (lost g j)) [] l (lit_after (map nack_light (lost a i)) [] l (told l))) room es' told' (gone ∙ sym (without_two h o es))
-    (λ l. tells l ∙ ap (λ x. lit_after x [] l (told l)) lights ∙ lit_more (map nack_light (lost a i)) (map nack_light (lost g j)) l (told l)) k2)
+    let k2 = keeps_resume r1 (without (h ∷ []) es) (λ l. lit_after (map nack_light (lost a i)) [] l (told l)) room o j g k1 waits in
+    let counts : (u : ℕ) → times_awaited u all ≡ times_awaited u (bases_awaited (pending r2)) + (times_awaited u (bases a) + times_awaited u (bases g)) =
+    λ u. let e = awaited-resume u 0 h.0 w.threads a first in let f = awaited-resume u 0 o.0 r1.threads g waits in omega arith in
+    let nacks : lit ≡ map nack_light (lost a i ++ lost g j) = lights ∙ sym (map-append nack_light (lost a i) (lost g j)) in
+    let k3 = keeps_dim r2 r2 (without (o ∷ []) (without (h ∷ []) es)) (λ l. lit_after (map nack_light (lost g j)) [] l (lit_after (map nack_light (lost a i)) [] l (told l))) told' room out k2 refl refl
+    (λ l. tells l ∙ ap (λ x. lit_after x unlit l (told l)) nacks ∙ ap (λ x. lit_after (map nack_light (lost a i ++ lost g j)) x l (told l)) dark
+      ∙ told_dimmed (lost a i ++ lost g j) out (pair_apart all (bases a) (bases g) (bases g) (bases a)) l (told l)
+      ∙ ap (λ x. cond (has_light out l) false (lit_after x [] l (told l))) (map-append nack_light (lost a i) (lost g j))
+      ∙ ap (cond (has_light out l) false) (lit_more (map nack_light (lost a i)) (map nack_light (lost g j)) l (told l)))
+    (right_pair r2 all (bases a) (bases g) counts) in
+    rw (both, size) (keeps_same r2 (without (o ∷ []) (without (h ∷ []) es)) told' room es' told' (gone ∙ sym (without_two h o es)) (λ l. refl) k3)
 
 -- what the call for a pair answers
 pub pair_returns : (w : PlainWorld) (h : Tid) (i : ℕ) (o : Tid) (j : ℕ) (b d : PlainBase) (ws us : List PlainFunction) (v u : PlainValue) (fs es : List ℕ) (w1 w2 : PlainWorld) (r q : PlainResume)
@@ -303,12 +406,12 @@ room_for_two before pushed flat1 flat2 a g i room none is1 is2 e fits1 fits2 =
     rw (is2, size) (omega (arith, few_lost, fits1, fits2))
 
 -- a row that is not in the table is refused
-pub row_refused : (w : PlainWorld) (es : List PlainEntry) (told : Light → Bool) (room : ℕ) (row : Meet) (has : Bool) → Keeps w es told room → has ≡ has_row (scan_of es told) row → has ≡ false → commit w row ≡ Err refusal.Row
+pub row_refused : (w : PlainWorld) (es : List PlainEntry) (told : Light → Bool) (room : Room) (row : Meet) (has : Bool) → Keeps w es told room → has ≡ has_row (scan_of es told) row → has ≡ false → commit w row ≡ Err refusal.Row
 row_refused w es told room row has k is lacks =
     let none : has_row (scan w) row ≡ false = ap (λ rows. has_row rows row) (sym (scan_is w es told room k)) ∙ sym is ∙ lacks in
     rw none refl
 
 -- one that is there is in the scan
-pub row_there : (w : PlainWorld) (es : List PlainEntry) (told : Light → Bool) (room : ℕ) (row chosen : Meet) (has : Bool) → Keeps w es told room → has ≡ has_row (scan_of es told) row → has ≡ true → row ≡ chosen → has_row (scan w) chosen ≡ true
+pub row_there : (w : PlainWorld) (es : List PlainEntry) (told : Light → Bool) (room : Room) (row chosen : Meet) (has : Bool) → Keeps w es told room → has ≡ has_row (scan_of es told) row → has ≡ true → row ≡ chosen → has_row (scan w) chosen ≡ true
 row_there w es told room row chosen has k is holds same =
     ap (has_row (scan w)) (sym same) ∙ ap (λ rows. has_row rows row) (sym (scan_is w es told room k)) ∙ sym is ∙ holds

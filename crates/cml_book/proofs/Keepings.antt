@@ -23,7 +23,7 @@ use Rattle.cml_book.specs.MakeChan.{make_chan}
 use Rattle.cml_book.specs.Nack.{nack}
 use Rattle.cml_book.specs.Sync.{times_named, waiting}
 use Rattle.cml_book.specs.Commit.{released, settled}
-use Rattle.cml_book.specs.Keeping.{AreLive, nack_light, lights_in, Keeps}
+use Rattle.cml_book.specs.Keeping.{AreLive, nack_light, lights_in, Room, Fits, Keeps}
 use Rattle.cml_book.proofs.Pendings.{pending-push, pending-end, pending-wait, pending-resume, without_none}
 use Rattle.cml_book.proofs.LightLemmas.{agree_still, has_ended-push, has_ended-set, has_fired-push, light_of-same}
 use Rattle.cml_book.proofs.NackLemmas.{CanEnter, lives-push, nacks-wait, nacks-resume, lives-settled_group, fired-settled_group, lives-enter, fired-enter, get-set_other}
@@ -43,7 +43,7 @@ abbrev next_of : {R : Type 0} → PlainWorld → Outcome R → PlainWorld
 next_of w (Ok next) = next.0
 next_of w (Err why) = w
 
-module _ (w : PlainWorld) (es : List PlainEntry) (told : Light → Bool) (room : ℕ) where
+module _ (w : PlainWorld) (es : List PlainEntry) (told : Light → Bool) (room : Room) where
   -- the same is kept of what says the same
   pub keeps_same : (es' : List PlainEntry) (told' : Light → Bool) → es' ≡ es → ((l : Light) → told' l ≡ told l) → Keeps w es told room → Keeps w es' told' room
   keeps_same es' told' same lights k = record {
@@ -128,8 +128,8 @@ module _ (w : PlainWorld) (es : List PlainEntry) (told : Light → Bool) (room :
       after _ e = e
 
   -- a running thread waits on a group, whose lights are told as they are
-  pub keeps_wait : (t : ℕ) (g : PlainGroup) (room' : ℕ) (es' : List PlainEntry) (told' : Light → Bool) → Keeps w es told room → slice_get w.threads t ≡ Some running
-      → CanEnter t (nacks_of (scopes g)) w.nacks → 2 * length (scopes g) ≤ room' → room ≤ room'
+  pub keeps_wait : (t : ℕ) (g : PlainGroup) (room' : Room) (es' : List PlainEntry) (told' : Light → Bool) → Keeps w es told room → slice_get w.threads t ≡ Some running
+      → CanEnter t (nacks_of (scopes g)) w.nacks → Fits g room' → ((x : PlainGroup) → Fits x room → Fits x room')
       → es' ≡ with_entry (record { thread = t; group = g }) (without [] es)
       → ((l : Light) → told' l ≡ lit_after (filter (light_of w) (lights_in (bases g))) (filter (λ x. not (light_of w x)) (lights_in (bases g))) l (told l))
       → Keeps (waiting w t g) es' told' room'
@@ -149,18 +149,18 @@ module _ (w : PlainWorld) (es : List PlainEntry) (told : Light → Bool) (room :
         told_groups = now ∙ sym new;
         told_lights = rw new (AgreeFor-with_entry e (pending w) told' (light_of w') old_lights new_lights);
         nacks_live = λ j. nacks-wait j 0 t w.threads g runs ∙ ap (λ n. n + times_named j (nacks_of (scopes g))) (k.nacks_live j) ∙ sym (lives-enter t (nacks_of (scopes g)) w.nacks j enters);
-        roomy = rw now (All-append (λ (x : PlainEntry). 2 * length (scopes x.group) ≤ room') (filter (λ x. nat_lt x.thread t) (pending w)) (e ∷ filter (λ x. nat_lt t x.thread) (pending w))
-            (some_roomy (λ x. nat_lt x.thread t)) (All-cons (λ (x : PlainEntry). 2 * length (scopes x.group) ≤ room') e (filter (λ x. nat_lt t x.thread) (pending w)) own (some_roomy (λ x. nat_lt t x.thread))));
+        roomy = rw now (All-append (λ (x : PlainEntry). Fits x.group room') (filter (λ x. nat_lt x.thread t) (pending w)) (e ∷ filter (λ x. nat_lt t x.thread) (pending w))
+            (some_roomy (λ x. nat_lt x.thread t)) (All-cons (λ (x : PlainEntry). Fits x.group room') e (filter (λ x. nat_lt t x.thread) (pending w)) own (some_roomy (λ x. nat_lt t x.thread))));
       }
     where
       told_as : (a b : Light → Bool) → ((l : Light) → a l ≡ b l) → (o : Option Light) → is_told a o ≡ is_told b o
       told_as a b h None = refl
       told_as a b h (Some l) = h l
 
-      some_roomy : (test : PlainEntry → Bool) → All (λ x. 2 * length (scopes x.group) ≤ room') (filter test (pending w))
+      some_roomy : (test : PlainEntry → Bool) → All (λ x. Fits x.group room') (filter test (pending w))
       some_roomy test =
-          All-filter test (λ x. 2 * length (scopes x.group) ≤ room') (pending w)
-          (rw (← k.told_groups) (All-weaker (λ (x : PlainEntry). 2 * length (scopes x.group) ≤ room) (λ x. 2 * length (scopes x.group) ≤ room') (λ x h. omega arith) es k.roomy))
+          All-filter test (λ x. Fits x.group room') (pending w)
+          (rw (← k.told_groups) (All-weaker (λ (x : PlainEntry). Fits x.group room) (λ x. Fits x.group room') (λ x h. more x.group h) es k.roomy))
 
   -- a pending thread goes on from a leaf, and the nacks that the leaf loses are told to be lit
   pub keeps_resume : (t : Tid) (n : ℕ) (g : PlainGroup) → Keeps w es told room → slice_get w.threads t.0 ≡ Some (pending_on g)
@@ -177,7 +177,7 @@ module _ (w : PlainWorld) (es : List PlainEntry) (told : Light → Bool) (room :
             let b = k.nacks_live j in
             let d = lives-settled_group n g w.nacks j alive in
             omega arith;
-        roomy = All-filter _ (λ x. 2 * length (scopes x.group) ≤ room) es k.roomy;
+        roomy = All-filter _ (λ x. Fits x.group room) es k.roomy;
       })
     where
       alive : AreLive (nacks_of (scopes g)) w.nacks

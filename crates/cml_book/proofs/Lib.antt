@@ -1,11 +1,14 @@
 pub mod Pendings
+pub mod Awaited
 pub mod LightLemmas
 pub mod NackLemmas
 pub mod Retold
+pub mod Alarms
+pub mod Given
 pub mod Scopes
 pub mod Marking
 pub mod Keepings
-pub mod Taking
+pub mod Dimmed
 pub mod Commits
 pub mod Syncs
 pub mod Heights
@@ -14,3 +17,4 @@ pub mod Entered
 pub mod Accepted
 pub mod Runs
 pub mod PendingThreads
+pub mod ObjectLemmas

@@ -95,12 +95,12 @@ no_nack_light [] l h = refl
 no_nack_light (k ∷ ks) l h = rw (h k) (no_nack_light ks l h)
 
 -- the base at a place, of a list of leaves
-leaf_at : (ls : List PlainLeaf) (n : ℕ) (b : PlainBase) → option_map (λ l. l.base) (slice_get ls n) ≡ Some b → drop n (map (λ l. l.base) ls) ≡ b ∷ drop (suc n) (map (λ l. l.base) ls)
+pub leaf_at : (ls : List PlainLeaf) (n : ℕ) (b : PlainBase) → option_map (λ l. l.base) (slice_get ls n) ≡ Some b → drop n (map (λ l. l.base) ls) ≡ b ∷ drop (suc n) (map (λ l. l.base) ls)
 leaf_at [] n b h = cc
 leaf_at (l ∷ ls) zero b h = let same : l.base ≡ b = cc in rw same refl
 leaf_at (l ∷ ls) (suc n) b h = leaf_at ls n b h
 
-lights_in-cons : (b : PlainBase) (bs : List PlainBase) → lights_in (b ∷ bs) ≡ lights_in (b ∷ []) ++ lights_in bs
+pub lights_in-cons : (b : PlainBase) (bs : List PlainBase) → lights_in (b ∷ bs) ≡ lights_in (b ∷ []) ++ lights_in bs
 lights_in-cons b bs = at (light b)
   where
     at : (o : Option Light) → cons_option o (lights_in bs) ≡ cons_option o [] ++ lights_in bs

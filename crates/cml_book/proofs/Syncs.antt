@@ -12,7 +12,7 @@ use Rattle.cml_scan.proofs.Telling.{same_light_is}
 use Rattle.cml_book.specs.declared.refusal.Refusal.{Refusal}
 use Rattle.cml_book.specs.Entering.{entered}
 use Rattle.cml_book.specs.Sync.{sync, sync_refusal, waiting}
-use Rattle.cml_book.specs.Keeping.{lights_in, Keeps}
+use Rattle.cml_book.specs.Keeping.{lights_in, Room, Fits, Keeps}
 use Rattle.cml_book.proofs.Accepted.{Accepted}
 use Rattle.cml_book.proofs.Entered.{scopes-entered}
 use Rattle.cml_book.proofs.NackLemmas.{CanEnter, can_enter_is}
@@ -56,9 +56,9 @@ enters_flat w t g flat a is =
     subst (λ xs. CanEnter t xs w.nacks) (sym ks) (can_enter_is w t (nacks_of (scopes g)) a.enters)
 
 -- what a book keeps when a group has arrived
-pub keeps_arrives : (w : PlainWorld) (es : List PlainEntry) (told : Light → Bool) (room t : ℕ) (g flat : PlainGroup) (room' : ℕ) (es' : List PlainEntry) (told' : Light → Bool) (lit unlit : List Light) (shown : PlainGroup)
+pub keeps_arrives : (w : PlainWorld) (es : List PlainEntry) (told : Light → Bool) (room : Room) (t : ℕ) (g flat : PlainGroup) (room' : Room) (es' : List PlainEntry) (told' : Light → Bool) (lit unlit : List Light) (shown : PlainGroup)
     → Keeps w es told room → Accepted w t g → flat ≡ entered w.tick g
-    → 2 * length (scopes flat) ≤ room' → room ≤ room'
+    → Fits flat room' → ((x : PlainGroup) → Fits x room → Fits x room')
     → shown ≡ flat → es' ≡ with_entry (record { thread = t; group = shown }) (without [] es)
     → ((l : Light) → told' l ≡ lit_after lit unlit l (told l))
     → lit ≡ filter (light_of w) (lights_in (bases flat)) → unlit ≡ filter (λ l. not (light_of w l)) (lights_in (bases flat))

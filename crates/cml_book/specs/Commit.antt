@@ -77,6 +77,17 @@ is_read (iget i) = true
 is_read (mget m) = true
 is_read _ = false
 
+-- the value in a variable, if it is there and full
+abbrev pub held_in : Option (Option PlainValue) → Option PlainValue
+held_in None = None
+held_in (Some value) = value
+
+-- the copy that is handed over
+abbrev pub copied : PlainWorld → PlainBase → Option PlainValue
+copied w (iget i) = held_in (slice_get w.ivars i)
+copied w (mget m) = held_in (slice_get w.mvars m)
+copied w _ = None
+
 -- the row takes such a base event
 abbrev pub is_reading : PlainWorld → Meet → Bool
 is_reading w (Single t n) = is_read (base_awaited w t.0 n)

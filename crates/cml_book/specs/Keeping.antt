@@ -1,15 +1,18 @@
 -- What a book keeps at all times.
-use Rattle.std.specs.Prelude.{ℕ, ◌≡◌, ◌*◌, ◌≤◌, ◌==◌, Bool, true, false, not, List, [], length, All, Option, Some, slice_get, count_by}
+use Rattle.std.specs.Prelude.{ℕ, ◌≡◌, ◌+◌, ◌*◌, ◌<◌, ◌≤◌, ◌==◌, Bool, true, false, not, List, [], length, All, Option, Some, slice_get, count_by}
 use Rattle.std.specs.List.{flat_map, filter_map}
-use Rattle.cml_value.specs.Group.{scopes, nacks_of}
-use Rattle.cml_scan.specs.World.{PlainNack, fresh_of, live, PlainWorld, PlainEntry, pending}
+use Rattle.cml_value.specs.Group.{PlainGroup, scopes, nacks_of, leaf_count}
+use Rattle.cml_group.specs.LaidOut.{max_leaves}
+use Rattle.cml_scan.specs.World.{PlainThread, PlainNack, fresh_of, live, PlainWorld, PlainEntry, pending, pending_from}
 use Rattle.cml_scan.specs.Table.{TellsLights}
-use Rattle.cml_value.specs.Value.{PlainBase}
+use Rattle.cml_value.specs.Value.{PlainBase, at_tick}
+use Rattle.cml_signal.specs.Clocks.{leaves_at}
 use Rattle.cml_scan.specs.Light.{light as light_seen}
 use Rattle.cml_scan.specs.declared.object.Light.{Light}
 use Rattle.cml_scan.specs.declared.object.Light.TheVariants as light
 use Rattle.cml_book.specs.Outcomes.{max_threads, max_objects}
 use Rattle.cml_book.specs.Sync.{times_named}
+use Rattle.cml_book.specs.Clock.{bases_awaited}
 
 -- the nacks of the scopes of all these pending groups
 abbrev pub pending_nacks : List PlainEntry → List ℕ
@@ -37,11 +40,30 @@ abbrev pub is_so : Bool → Bool → Bool
 is_so true b = b
 is_so false b = not b
 
--- no more threads, channels and nacks exist than are allowed
-pub record AreFew (threads channels nacks : ℕ) : Type 0 where
+-- no more threads, objects and nacks exist than are allowed
+pub record AreFew (threads channels ivars mvars mailboxes mchans ports nacks : ℕ) : Type 0 where
   pub few_threads : threads ≤ max_threads
   pub few_channels : channels ≤ max_objects
+  pub few_ivars : ivars ≤ max_objects
+  pub few_mvars : mvars ≤ max_objects
+  pub few_mailboxes : mailboxes ≤ max_objects
+  pub few_mchans : mchans ≤ max_objects
+  pub few_ports : ports ≤ max_objects
   pub few_nacks : nacks ≤ max_objects
+
+-- the base event waits for this tick
+abbrev pub awaits_tick : ℕ → PlainBase → Bool
+awaits_tick t (at_tick u) = u == t
+awaits_tick t _ = false
+
+-- how many of these base events wait for the tick
+abbrev pub times_awaited : ℕ → List PlainBase → ℕ
+times_awaited t bs = count_by (awaits_tick t) bs
+
+-- The clock counts for each tick the leaves of pending threads that wait for it. No pending group has more leaves than are allowed.
+pub record Counts (threads : List PlainThread) (waited : List (ℕ × ℕ)) : Type 0 where
+  pub counted : (t : ℕ) → leaves_at waited t ≡ times_awaited t (bases_awaited (pending_from 0 threads))
+  pub narrow : All (λ e. leaf_count e.group ≤ max_leaves) (pending_from 0 threads)
 
 -- each of these nacks is live, and named once
 pub record AreLive (ks : List ℕ) (ns : List PlainNack) : Type 0 where
@@ -57,10 +79,20 @@ pub record AreFresh (ks : List ℕ) (ns : List PlainNack) : Type 0 where
   pub once : (k : ℕ) → times_named k ks ≤ 1
   pub each : (k : ℕ) → 1 ≤ times_named k ks → is_fresh (slice_get ns k) ≡ true
 
+-- how many lights there is room for: of those that a commit lights, and of those that it puts out
+pub record Room : Type 0 where
+  pub lit : ℕ
+  pub unlit : ℕ
+
+-- There is room for what two such groups light and put out: each nack of their scopes, each tick that a leaf waits for, and one more.
+pub record Fits (g : PlainGroup) (room : Room) : Type 0 where
+  pub nacks : 2 * length (scopes g) ≤ room.lit
+  pub ticks : 2 * leaf_count g + 1 ≤ room.unlit
+
 -- The table was told the pending groups, and of each light that one of their leaves waits for whether it is lit. The nacks of the
--- pending groups are live. There is room for the lights of the nacks that a commit can fire.
-pub record Keeps (w : PlainWorld) (entries : List PlainEntry) (told : Light → Bool) (room : ℕ) : Type 0 where
+-- pending groups are live. There is room for the lights that a commit can light and put out.
+pub record Keeps (w : PlainWorld) (entries : List PlainEntry) (told : Light → Bool) (room : Room) : Type 0 where
   pub told_groups : entries ≡ pending w
   pub told_lights : TellsLights w told
   pub nacks_live : NacksLive w
-  pub roomy : All (λ e. 2 * length (scopes e.group) ≤ room) entries
+  pub roomy : All (λ e. Fits e.group room) entries

@@ -11,10 +11,16 @@ use Rattle.cml_book.specs.declared.command.Reply.TheVariants as reply
 use Rattle.cml_book.specs.Outcomes.{Outcome}
 use Rattle.cml_book.specs.Spawn.{spawn}
 use Rattle.cml_book.specs.MakeChan.{make_chan}
+use Rattle.cml_book.specs.MakeObjects.{make_ivar, make_mvar, make_mailbox, make_mchan}
+use Rattle.cml_book.specs.MakePort.{make_port, copy_port}
+use Rattle.cml_book.specs.Put.{iput, mput}
+use Rattle.cml_book.specs.Mail.{mail}
+use Rattle.cml_book.specs.Multicast.{multicast}
 use Rattle.cml_book.specs.Nack.{nack}
 use Rattle.cml_book.specs.Sync.{sync}
 use Rattle.cml_book.specs.Commit.{commit}
 use Rattle.cml_book.specs.End.{end}
+use Rattle.cml_book.specs.Clock.{clock}
 
 -- the world and the reply of an outcome; a refusal leaves the world as it was
 abbrev pub answered : {R : Type 0} → (R → Reply) → PlainWorld → Outcome R → PlainWorld × Reply
@@ -25,10 +31,21 @@ answered reply_for w (Err why) = (w, reply.Refused why)
 abbrev pub step : PlainWorld → Command → PlainWorld × Reply
 step w command.Spawn = answered reply.Thread w (spawn w)
 step w command.MakeChan = answered reply.Chan w (make_chan w)
+step w command.MakeIVar = answered reply.IVar w (make_ivar w)
+step w (command.MakeMVar v) = answered reply.MVar w (make_mvar w v)
+step w command.MakeMailbox = answered reply.Mailbox w (make_mailbox w)
+step w command.MakeMChan = answered reply.MChan w (make_mchan w)
+step w (command.MakePort x) = answered reply.Port w (make_port w x.0)
+step w (command.CopyPort p) = answered reply.Port w (copy_port w p.0)
+step w (command.IPut i v) = answered (λ _. reply.Done) w (iput w i.0 v)
+step w (command.MPut m v) = answered (λ _. reply.Done) w (mput w m.0 v)
+step w (command.Mail b v) = answered (λ _. reply.Done) w (mail w b.0 v)
+step w (command.Multicast x v) = answered (λ _. reply.Done) w (multicast w x.0 v)
 step w (command.Nack t) = answered reply.Nack w (nack w t.0)
 step w (command.Sync t g) = answered (λ _. reply.Done) w (sync w t.0 g)
 step w (command.Commit row) = answered reply.Committed w (commit w row)
 step w (command.End t) = answered (λ _. reply.Done) w (end w t.0)
+step w (command.Clock k) = answered (λ _. reply.Done) w (clock w k)
 
 -- the replies to a list of commands, in order
 abbrev pub replies_of : List Command → PlainWorld → List Reply

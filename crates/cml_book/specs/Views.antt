@@ -1,4 +1,8 @@
--- What a thread of a book is seen as, from its one field.
+-- What a thread of a book is seen as, from its one field, and what registers and lists of objects are seen as.
+use Rattle.std.specs.Prelude.{ℕ, List, map}
+use Rattle.cml_value.specs.Value.{PlainValue}
+use Rattle.cml_queues.specs.PlainQueue.{PlainQueue}
+use Rattle.cml_queues.specs.PlainMulticast.{PlainMulticast}
 use Rattle.cml_scan.specs.World.{PlainThread, running, pending_on, ended}
 use Rattle.cml_book.specs.declared.thread.Doing.{Doing}
 use Rattle.cml_book.specs.declared.thread.Doing.TheVariants as doing
@@ -7,3 +11,11 @@ abbrev pub thread_of : Doing → PlainThread
 thread_of doing.Running = running
 thread_of (doing.Pending flat) = pending_on flat
 thread_of doing.Ended = ended
+
+-- the items of each mailbox, and the unread messages of each port
+abbrev pub queues_of : List PlainQueue → List (List PlainValue)
+queues_of queues = map (λ q. q.items) queues
+
+-- the numbers of the ports of each multicast channel
+abbrev pub ports_of : List PlainMulticast → List (List ℕ)
+ports_of channels = map (λ c. map (λ p. p.0) c.ports) channels

@@ -1,6 +1,6 @@
 //! The book.
 
-ghost use Rattle.std.specs.Prelude.{◌≡◌, ◌≢◌, IfOk, OnOk, OnErr, IsTrue, Err, true, false, map, length};
+ghost use Rattle.std.specs.Prelude.{◌≡◌, ◌≢◌, ◌≤◌, ℕ, IfOk, IfSome, IfNone, OnOk, OnErr, IsTrue, Err, true, false, map, length};
 ghost use Rattle.cml_scan.specs.World.{pending};
 ghost use Rattle.cml_scan.specs.Scan.{scan, scan_of, has_row};
 ghost use Rattle.cml_book.specs.Step.{empty_world};
@@ -12,6 +12,8 @@ ghost use Rattle.cml_book.specs.Sync as sync_spec;
 ghost use Rattle.cml_book.specs.End as end_spec;
 ghost use Rattle.cml_book.specs.Commit as commit_spec;
 ghost use Rattle.cml_book.specs.Commit.{is_reading};
+ghost use Rattle.cml_book.specs.Clock as clock_spec;
+ghost use Rattle.cml_book.specs.Clock.{IsAlarm};
 
 use crate::command::{Committed, Resume};
 use crate::lights::Arrival;
@@ -19,6 +21,7 @@ use crate::nacks::push_lights;
 use crate::party::sent;
 use crate::refusal::{Fault, Refusal};
 use crate::state::State;
+use crate::walk::MAX_TICK;
 use cml_scan::{Light, Meet, Table};
 use cml_value::{ChanId, Group, NackId, Tid, Value, ValueKind};
 use std::alloc::{AllocError, Global};
@@ -34,10 +37,11 @@ pub const MAX_OBJECTS: usize = 65_536;
 /// threads.
 #[derive(Drop)]
 pub struct Book<T: Table> {
-    state: State,
-    table: T,
-    // empty between the calls; its room is for the lights of the nacks that a commit fires
-    lights: Vec<Light>,
+    pub(crate) state: State,
+    pub(crate) table: T,
+    // empty between the calls; their room is for the lights that a commit lights, and those that it puts out
+    lit: Vec<Light>,
+    unlit: Vec<Light>,
 }
 
 impl<T: Table> Model for Book<T> {
@@ -54,7 +58,9 @@ impl<T: Table> Model for Book<T> {
     ghost view = { λ b. b.state };
 
     ghost invariant = { λ b.
-        (Keeps b.state (T.entries b.table) (T.is_lit b.table) (vec_capacity b.lights)) × (b.lights.items ≡ []) };
+        (Keeps b.state (T.entries b.table) (T.is_lit b.table)
+            (record { lit = vec_capacity b.lit; unlit = vec_capacity b.unlit }))
+        × (b.lit.items ≡ []) × (b.unlit.items ≡ []) };
 }
 
 impl<T: Table> Book<T> {
@@ -68,7 +74,8 @@ impl<T: Table> Book<T> {
         Book {
             state: State::new(alloc),
             table,
-            lights: Vec::new(alloc),
+            lit: Vec::new(alloc),
+            unlit: Vec::new(alloc),
         }
     }
 
@@ -115,19 +122,19 @@ impl<T: Table> Book<T> {
         if let Some(why) = self.state.sync_refusal(thread, group) {
             return Err(Fault::Refused(why));
         }
-        let arrival = self.state.arrival(alloc, group)?;
-        let lights = 2 * arrival.flat.scopes().len();
-        let Ok(()) = self.lights.reserve(lights) else {
-            drop(arrival);
-            return Err(Fault::Memory);
+        let Arrival { flat, lit, unlit } = self.state.arrival(alloc, group)?;
+        self.lit.reserve(2 * flat.scopes().len())?;
+        self.unlit.reserve(2 * flat.len() + 1)?;
+        self.state.wait(thread, flat)?;
+        let Some(flat) = self.state.waiting(thread) else {
+            unreachable!();
         };
-        let Arrival { flat, lit, unlit } = &arrival;
         let came = Some((thread, flat.group()));
-        let Ok(()) = self.table.change(alloc, &[], came, lit, unlit) else {
-            drop(arrival);
+        if self.table.change(alloc, &[], came, &lit, &unlit).is_err() {
+            self.state.withdraw(thread);
             return Err(Fault::Memory);
-        };
-        self.state.wait(thread, arrival.flat);
+        }
+        self.state.enter_nacks(thread);
         Ok(())
     }
 
@@ -144,6 +151,28 @@ impl<T: Table> Book<T> {
         self.table
             .change(alloc, &[], None, &[Light::Joined(thread)], &[])?;
         self.state.end(thread);
+        Ok(())
+    }
+
+    /// The clock moves to this tick.
+    ///
+    /// # Errors
+    /// Refused where the tick is before now, or above 2^62; want of memory.
+    pub fn clock(&mut self, alloc: Global, to: u64) -> Result<(), Fault>
+        ensures { Does result (clock_spec.clock self.old to) self.old self.new }
+    {
+        if to < self.state.now() {
+            return Err(Fault::Refused(Refusal::Clock));
+        }
+        if to > MAX_TICK {
+            return Err(Fault::Refused(Refusal::Far));
+        }
+        let ticks = self.state.ticks_until(alloc, to)?;
+        let Ok(()) = self.table.change(alloc, &[], None, &ticks, &[]) else {
+            drop(ticks);
+            return Err(Fault::Memory);
+        };
+        self.state.advance(to);
         Ok(())
     }
 
@@ -178,6 +207,22 @@ impl<T: Table> Book<T> {
         &self.table
     }
 
+    /// The time.
+    pub fn now(&self) -> u64
+        ensures { result ≡ self.now.tick }
+    {
+        self.state.now()
+    }
+
+    /// The next alarm: the least tick above now for which a leaf of a pending thread waits, if there is one.
+    pub fn next_alarm(&self) -> Option<u64>
+        ensures alarm { IfSome result (λ t. IsAlarm self.now t) }
+        ensures least { IfSome result (λ t. (u : ℕ) → IsAlarm self.now u → t ≤ u) }
+        ensures none { IfNone result ((u : ℕ) → IsAlarm self.now u → ⊥) }
+    {
+        self.state.next_alarm()
+    }
+
     /// The number that the next thread will have, if there is room for one.
     pub fn next_thread(&self) -> Tid
         ensures { result.0 ≡ length self.now.threads }
@@ -210,14 +255,27 @@ impl<T: Table> Book<T> {
         let Some(flat) = self.state.waiting(tid) else {
             unreachable!();
         };
-        push_lights(&mut self.lights, flat, leaf as usize);
-        let changed = self.table.change(alloc, &[tid], None, &self.lights, &[]);
-        self.lights.clear();
-        changed?;
+        let base = flat.leaf(leaf as usize);
+        let copy = self.state.spare(base)?;
+        push_lights(&mut self.lit, flat, leaf as usize);
+        self.state.push_put_out(&mut self.unlit, base);
+        self.state.push_left_ticks(&mut self.unlit, flat, None);
+        let changed = self.table.change(alloc, &[tid], None, &self.lit, &self.unlit);
+        self.lit.clear();
+        self.unlit.clear();
+        let Ok(()) = changed else {
+            drop(copy);
+            return Err(Fault::Memory);
+        };
         let chosen = self.state.go_on(tid, leaf);
-        let value = self.state.given(chosen.base);
+        let value = self.state.given(chosen.base, copy);
         Ok(Committed {
-            head: Resume::new(tid, value, chosen.wraps, chosen.lost),
+            head: Resume {
+                tid,
+                value,
+                wraps: chosen.wraps,
+                fired: chosen.lost,
+            },
             partner: None,
         })
     }
@@ -237,21 +295,33 @@ impl<T: Table> Book<T> {
         let Some(sender) = self.state.waiting(head) else {
             unreachable!();
         };
-        push_lights(&mut self.lights, sender, head_leaf as usize);
         let Some(receiver) = self.state.waiting(other) else {
             unreachable!();
         };
-        push_lights(&mut self.lights, receiver, other_leaf as usize);
-        let changed = self
-            .table
-            .change(alloc, &[head, other], None, &self.lights, &[]);
-        self.lights.clear();
+        push_lights(&mut self.lit, sender, head_leaf as usize);
+        push_lights(&mut self.lit, receiver, other_leaf as usize);
+        self.state.push_left_ticks(&mut self.unlit, sender, Some(receiver));
+        self.state.push_left_ticks(&mut self.unlit, receiver, Some(sender));
+        let gone = [head, other];
+        let changed = self.table.change(alloc, &gone, None, &self.lit, &self.unlit);
+        self.lit.clear();
+        self.unlit.clear();
         changed?;
         let sender = self.state.go_on(head, head_leaf);
         let receiver = self.state.go_on(other, other_leaf);
         Ok(Committed {
-            head: Resume::new(head, Value::new(ValueKind::Unit), sender.wraps, sender.lost),
-            partner: Some(Resume::new(other, sent(sender.base), receiver.wraps, receiver.lost)),
+            head: Resume {
+                tid: head,
+                value: Value::new(ValueKind::Unit),
+                wraps: sender.wraps,
+                fired: sender.lost,
+            },
+            partner: Some(Resume {
+                tid: other,
+                value: sent(sender.base),
+                wraps: receiver.wraps,
+                fired: receiver.lost,
+            }),
         })
     }
 }

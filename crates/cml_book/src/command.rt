@@ -2,16 +2,22 @@
 
 use crate::refusal::Refusal;
 use cml_scan::Meet;
-use cml_value::{ChanId, FnRef, Group, NackId, Tid, Value};
+use cml_value::{
+    ChanId, FnRef, Group, IVarId, MVarId, MboxId, McastId, NackId, PortId, Tid, Value,
+};
 use std::marker::Model;
 
 /// A party of a committed row, which goes on.
 #[derive(Drop)]
 pub struct Resume {
-    tid: Tid,
-    value: Value,
-    wraps: Vec<FnRef>,
-    fired: Vec<NackId>,
+    /// The thread that goes on.
+    pub tid: Tid,
+    /// The value of its event.
+    pub value: Value,
+    /// The functions that the value then goes through, innermost first.
+    pub wraps: Vec<FnRef>,
+    /// The nacks that fired since their branches lack the chosen leaf, from the left, an outer one before those in it.
+    pub fired: Vec<NackId>,
 }
 
 impl Model for Resume {
@@ -24,59 +30,6 @@ impl Model for Resume {
     ghost coded = { resume_code };
 
     ghost view = { λ r. record { thread = r.tid.0; value = r.value; wraps = r.wraps.items; fired = map (λ k. k.0) r.fired.items } };
-}
-
-impl Resume {
-    ghost use Rattle.std.specs.Prelude.{◌≡◌, map};
-
-    pub(crate) fn new(tid: Tid, value: Value, wraps: Vec<FnRef>, fired: Vec<NackId>) -> Resume
-        ensures { result ≡ record { thread = tid.0; value = value; wraps = wraps.items; fired = map (λ k. k.0) fired.items } }
-    {
-        Resume {
-            tid,
-            value,
-            wraps,
-            fired,
-        }
-    }
-
-    /// The thread that goes on.
-    pub fn tid(&self) -> Tid
-        ensures { result.0 ≡ self.now.thread }
-    {
-        self.tid
-    }
-
-    /// The value of its event.
-    pub fn value(&self) -> &Value
-        ensures { result.now ≡ self.now.value }
-    {
-        &self.value
-    }
-
-    /// The functions that the value then goes through, innermost first.
-    pub fn wraps(&self) -> &[FnRef]
-        ensures { result.now ≡ self.now.wraps }
-    {
-        &self.wraps
-    }
-
-    /// The nacks that fired since their branches lack the chosen leaf, from the left, an outer one before those in it.
-    pub fn fired(&self) -> &[NackId]
-        ensures { map (λ k. k.0) result.now ≡ self.now.fired }
-    {
-        &self.fired
-    }
-
-    /// The thread, the value, the functions and the nacks, for one who keeps them.
-    pub fn into_parts(self) -> (Tid, Value, Vec<FnRef>, Vec<NackId>)
-        ensures tid { result.0.0 ≡ self.thread }
-        ensures value { result.1 ≡ self.value }
-        ensures wraps { result.2.items ≡ self.wraps }
-        ensures fired { map (λ k. k.0) result.3.items ≡ self.fired }
-    {
-        (self.tid, self.value, self.wraps, self.fired)
-    }
 }
 
 /// What the parties of a committed row get, the head first: of a pair, the sender.
@@ -95,6 +48,26 @@ pub enum Command {
     Spawn,
     /// Makes a channel.
     MakeChan,
+    /// Makes an empty I-variable.
+    MakeIVar,
+    /// Makes an M-variable that holds this value, or an empty one.
+    MakeMVar(Option<Value>),
+    /// Makes an empty mailbox.
+    MakeMailbox,
+    /// Makes a multicast channel without ports.
+    MakeMChan,
+    /// Makes a port of the channel, which sees the messages from now on.
+    MakePort(McastId),
+    /// Makes a port with the same unread messages.
+    CopyPort(PortId),
+    /// Writes the value into the empty I-variable.
+    IPut(IVarId, Value),
+    /// Writes the value into the empty M-variable.
+    MPut(MVarId, Value),
+    /// Puts the value behind the items of the mailbox.
+    Mail(MboxId, Value),
+    /// Puts the value behind the unread messages of every port of the channel.
+    Multicast(McastId, Value),
     /// Makes a fresh nack for the thread.
     Nack(Tid),
     /// The thread waits on the group.
@@ -103,6 +76,8 @@ pub enum Command {
     Commit(Meet),
     /// The thread ends.
     End(Tid),
+    /// The clock moves to this tick.
+    Clock(u64),
 }
 
 /// What a command answers.
@@ -112,6 +87,16 @@ pub enum Reply {
     Thread(Tid),
     /// A channel was made.
     Chan(ChanId),
+    /// An I-variable was made.
+    IVar(IVarId),
+    /// An M-variable was made.
+    MVar(MVarId),
+    /// A mailbox was made.
+    Mailbox(MboxId),
+    /// A multicast channel was made.
+    MChan(McastId),
+    /// A port was made.
+    Port(PortId),
     /// A nack was made.
     Nack(NackId),
     /// It is done.

@@ -4,14 +4,19 @@
 mod book;
 mod command;
 mod entering;
+mod feeding;
 mod lights;
 mod marks;
 mod nacks;
+mod objects;
 mod party;
+mod ports;
 mod refusal;
 mod run;
+mod seen;
 mod state;
 mod thread;
+mod ticks;
 mod walk;
 
 pub use book::{Book, MAX_OBJECTS, MAX_THREADS};

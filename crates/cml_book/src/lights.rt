@@ -49,7 +49,7 @@ impl State {
         ensures lit { IfOk result (λ a. a.lit.items ≡ filter (light_of self.now) (lights_in (bases a.flat))) }
         ensures unlit { IfOk result (λ a. a.unlit.items ≡ filter (λ l. not (light_of self.now l)) (lights_in (bases a.flat))) }
     {
-        let flat = laid_flat(alloc, group, self.tick)?;
+        let flat = laid_flat(alloc, group, self.now())?;
         let awaited = awaited_lights(alloc, &flat)?;
         let lit = self.lights_that_are(alloc, &awaited, true)?;
         let unlit = self.lights_that_are(alloc, &awaited, false)?;

@@ -9,9 +9,10 @@ ghost use Rattle.cml_book.specs.Commit.{settled};
 ghost use Rattle.cml_book.specs.Sync.{with_each};
 ghost use Rattle.cml_book.specs.Keeping.{nack_light, AreLive, AreFresh, is_fresh};
 
+use cml_base::Register;
 use cml_group::Flat;
 use cml_scan::Light;
-use cml_signal::NackCell;
+use cml_signal::{NackCell, NackFeed};
 use cml_value::NackId;
 
 /// Puts the lights of the nacks that choosing the leaf fires behind those that stand there. There is room for them.
@@ -38,10 +39,10 @@ fn push_light(lights: &mut Vec<Light>, nack: NackId, is_lost: bool)
 }
 
 /// Fires the nacks in whose branches the leaf does not lie, and holds the others.
-pub fn settle(cells: &mut Vec<NackCell>, flat: &Flat, leaf: usize)
+pub fn settle(cells: &mut Register<NackCell>, flat: &Flat, leaf: usize)
     requires leaf { leaf < leaf_count flat.now }
-    requires alive { AreLive (nacks_of (scopes flat.now)) cells.old.items }
-    ensures { cells.new.items ≡ settled leaf flat.now cells.old.items }
+    requires alive { AreLive (nacks_of (scopes flat.now)) cells.old.objects }
+    ensures { cells.new.objects ≡ settled leaf flat.now cells.old.objects }
 {
     let nacks = flat.scopes();
     for i in 0..nacks.len() {
@@ -49,34 +50,31 @@ pub fn settle(cells: &mut Vec<NackCell>, flat: &Flat, leaf: usize)
     }
 }
 
-fn settle_one(cells: &mut Vec<NackCell>, nack: NackId, is_lost: bool)
-    requires { slice_get cells.old.items nack.0 ≡ Some live }
-    ensures { cells.new.items ≡ slice_set cells.old.items nack.0 (if is_lost then fired else held) }
+fn settle_one(cells: &mut Register<NackCell>, nack: NackId, is_lost: bool)
+    requires { slice_get cells.old.objects nack.0 ≡ Some live }
+    ensures { cells.new.objects ≡ slice_set cells.old.objects nack.0 (if is_lost then fired else held) }
 {
-    let place = nack.0 as usize;
-    if place < cells.len() {
-        let cell = &mut cells[place];
-        let _ = if is_lost { cell.fire() } else { cell.hold() };
+    if (nack.0 as usize) < cells.len() {
+        let befalls = if is_lost { NackFeed::Fire } else { NackFeed::Hold };
+        let _ = cells.feed(nack.0, befalls);
     }
 }
 
 /// Makes these nacks live.
-pub fn enter(cells: &mut Vec<NackCell>, nacks: &[NackId])
-    requires { AreFresh (numbers nacks.now) cells.old.items }
-    ensures { cells.new.items ≡ with_each (numbers nacks.now) live cells.old.items }
+pub fn enter(cells: &mut Register<NackCell>, nacks: &[NackId])
+    requires { AreFresh (numbers nacks.now) cells.old.objects }
+    ensures { cells.new.objects ≡ with_each (numbers nacks.now) live cells.old.objects }
 {
     for nack in nacks {
         enter_one(cells, *nack);
     }
 }
 
-fn enter_one(cells: &mut Vec<NackCell>, nack: NackId)
-    requires { is_fresh (slice_get cells.old.items nack.0) ≡ true }
-    ensures { cells.new.items ≡ slice_set cells.old.items nack.0 live }
+fn enter_one(cells: &mut Register<NackCell>, nack: NackId)
+    requires { is_fresh (slice_get cells.old.objects nack.0) ≡ true }
+    ensures { cells.new.objects ≡ slice_set cells.old.objects nack.0 live }
 {
-    let place = nack.0 as usize;
-    if place < cells.len() {
-        let cell = &mut cells[place];
-        let _ = cell.enter();
+    if (nack.0 as usize) < cells.len() {
+        let _ = cells.feed(nack.0, NackFeed::Enter);
     }
 }

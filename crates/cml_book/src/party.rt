@@ -1,33 +1,66 @@
 //! The parties of a row that is taken.
 
-ghost use Rattle.std.specs.Prelude.{◌≡◌, Some, slice_get, slice_set};
-ghost use Rattle.std.specs.Option.{option_copied, option_and_then};
-ghost use Rattle.cml_value.specs.Group.{lost};
+ghost use Rattle.std.specs.Prelude.{◌≡◌, ◌≤◌, ◌+◌, ◌++◌, true, false, Some, None, IsTrue, IsOk, IsSome, IfOk, OnOk, OnErr, length, map, slice_get, slice_set};
+ghost use Rattle.std.specs.Option.{option_copied, option_and_then, option_map_or};
+ghost use Rattle.std.specs.Vec.{vec_capacity};
+ghost use Rattle.cml_value.specs.Group.{scopes, nacks_of, lost};
+ghost use Rattle.cml_base.specs.Registered.{lit_at};
 ghost use Rattle.cml_group.specs.Leaves.{pick, numbers};
+ghost use Rattle.cml_scan.specs.World.{running, pending_on, live};
+ghost use Rattle.cml_book.specs.Outcomes.{with_thread};
+ghost use Rattle.cml_book.specs.Sync.{with_each};
 ghost use Rattle.cml_book.specs.Commit as spec;
-ghost use Rattle.cml_book.specs.Commit.{awaited, group_awaited, settled, released};
-ghost use Rattle.cml_scan.specs.World.{running};
-ghost use Rattle.cml_book.specs.Keeping.{AreFresh};
+ghost use Rattle.cml_book.specs.Commit.{awaited, group_awaited, released, copied, is_read};
+ghost use Rattle.cml_book.specs.Keeping.{AreFresh, Counts};
+ghost use Rattle.cml_book.specs.Leaving.{can_give, put_out};
 ghost use Rattle.cml_book.specs.Parties.{WaitsOn};
-ghost use Rattle.cml_book.specs.Sync.{waiting};
-ghost use Rattle.cml_value.specs.Group.{scopes, nacks_of};
 ghost use Rattle.cml_book.specs.Threads.{flat_of};
 
 use crate::nacks::{enter, settle};
-use crate::state::State;
+use crate::state::{State, put};
 use crate::thread::Thread;
+use crate::ticks::{count_ticks, uncount_ticks};
+use cml_base::{Register, Source};
 use cml_group::{Chosen, Flat};
-use cml_signal::NackCell;
+use cml_scan::Light;
+use cml_signal::{Clock, NackCell};
+use cml_syncvar::MVarWant;
 use cml_value::{Base, BaseKind, Tid, Value, ValueKind};
+use std::alloc::AllocError;
 
 impl State {
-    /// The thread waits on the group from now on, whose nacks become live.
-    pub fn wait(&mut self, thread: Tid, flat: Flat)
-        requires { AreFresh (nacks_of (scopes flat)) self.old.nacks }
-        ensures { self.new ≡ waiting self.old thread.0 flat }
+    /// The thread, which runs, waits on the group from now on. The nacks of its scopes are as they were.
+    ///
+    /// # Errors
+    /// Want of memory: nothing changes.
+    pub fn wait(&mut self, thread: Tid, flat: Flat) -> Result<(), AllocError>
+        requires { slice_get self.old.threads thread.0 ≡ Some running }
+        ensures ok { OnOk result (self.new ≡ with_thread self.old thread.0 (pending_on flat)) }
+        ensures err { OnErr result (self.new ≡ self.old) }
     {
-        enter(&mut self.nacks, flat.scopes());
-        self.put(thread, Thread::pending(flat));
+        let Ok(()) = count_ticks(&mut self.clock, &flat) else {
+            drop(flat);
+            return Err(AllocError);
+        };
+        put(&mut self.threads, thread, Thread::pending(flat));
+        Ok(())
+    }
+
+    /// The thread, which waits, runs from now on. The nacks of its scopes are as they were.
+    pub fn withdraw(&mut self, thread: Tid)
+        requires { IsSome (option_and_then flat_of (slice_get self.old.threads thread.0)) }
+        ensures { self.new ≡ with_thread self.old thread.0 running }
+    {
+        let flat = release(&mut self.threads, &mut self.clock, thread);
+        drop(flat);
+    }
+
+    /// The nacks of the scopes of the group that the thread waits on become live.
+    pub fn enter_nacks(&mut self, thread: Tid)
+        requires { AreFresh (nacks_of (scopes (group_awaited self.old thread.0))) self.old.nacks }
+        ensures { self.new ≡ record self.old { nacks = with_each (nacks_of (scopes (group_awaited self.old thread.0))) live self.old.nacks } }
+    {
+        enter_all(&mut self.nacks, &self.threads, thread);
     }
 
     /// The group that the thread waits on, if it does.
@@ -48,34 +81,103 @@ impl State {
             ≡ Some (record { base = result.base; wraps = result.wraps.items }) }
         ensures lost { numbers result.lost.items ≡ lost (group_awaited self.old thread.0) leaf }
     {
-        release(&mut self.threads, &mut self.nacks, thread, leaf)
+        let flat = release(&mut self.threads, &mut self.clock, thread);
+        settle(&mut self.nacks, &flat, leaf as usize);
+        flat.choose(leaf as usize)
     }
 
-    /// The value of a base event that is taken alone. There are no variables, mailboxes and ports, so nothing changes.
-    pub fn given(&self, base: Base) -> Value
-        ensures value { result ≡ spec.given self.now base }
-        ensures world { self.now ≡ spec.taken self.now base }
+    /// The copy that `given` needs for the base event, which can be taken alone.
+    ///
+    /// # Errors
+    /// Want of memory, where the event reads a variable and leaves its value there.
+    pub fn spare(&self, base: &Base) -> Result<Option<Value>, AllocError>
+        requires { can_give self.now base.now ≡ true }
+        ensures copy { IfOk result (λ copy. copy ≡ copied self.now base.now) }
+        ensures sure { is_read base.now ≡ false → IsOk result }
     {
-        // the proof reads off the fields that there are no variables, mailboxes and ports
-        let _now = self.tick;
+        match base.kind() {
+            BaseKind::IGet(i) => spare_of(&self.ivars, i.0, &()),
+            BaseKind::MGet(m) => spare_of(&self.mvars, m.0, &MVarWant::Get),
+            _ => Ok(None),
+        }
+    }
+
+    /// The value of a base event that is taken alone, and what the taking changes. The copy is what was spared for it.
+    pub fn given(&mut self, base: Base, copy: Option<Value>) -> Value
+        requires stock { can_give self.old base ≡ true }
+        requires copy { copy ≡ copied self.old base }
+        ensures value { result ≡ spec.given self.old base }
+        ensures world { self.new ≡ spec.taken self.old base }
+    {
         match base.into_kind() {
             BaseKind::Always(value) => value,
+            BaseKind::IGet(i) => self.ivars.give(i.0, (), copy),
+            BaseKind::MTake(m) => self.mvars.give(m.0, MVarWant::Take, copy),
+            BaseKind::MGet(m) => self.mvars.give(m.0, MVarWant::Get, copy),
+            BaseKind::MSwap(m, value) => self.mvars.give(m.0, MVarWant::Swap(value), copy),
+            BaseKind::MailRecv(b) => self.mailboxes.give(b.0, (), copy),
+            BaseKind::PortRecv(p) => self.ports.give(p.0, (), copy),
             _ => Value::new(ValueKind::Unit),
+        }
+    }
+
+    /// Puts the light that goes out when the base event is taken alone behind those that stand there, if one does. There is room.
+    pub fn push_put_out(&self, lights: &mut Vec<Light>, base: &Base)
+        requires stock { can_give self.now base.now ≡ true }
+        requires room { length lights.old.items + 1 ≤ vec_capacity lights.old }
+        ensures lights { lights.new.items ≡ lights.old.items ++ put_out self.now base.now }
+        ensures room { vec_capacity lights.new ≡ vec_capacity lights.old }
+    {
+        match base.kind() {
+            BaseKind::MTake(m) => lights.push_reserved(Light::MVar(*m)),
+            BaseKind::MailRecv(b) => {
+                if !stays_lit(&self.mailboxes, b.0, &()) {
+                    lights.push_reserved(Light::Mbox(*b));
+                }
+            }
+            BaseKind::PortRecv(p) => {
+                if !stays_lit(&self.ports, p.0, &()) {
+                    lights.push_reserved(Light::Port(*p));
+                }
+            }
+            _ => (),
         }
     }
 }
 
-// The thread goes on from this leaf of its group, whose nacks are settled.
-fn release(threads: &mut Vec<Thread>, cells: &mut Vec<NackCell>, thread: Tid, leaf: u32) -> Chosen
-    requires { let g = awaited (slice_get threads.old.items thread.0) in
-        WaitsOn threads.old.items cells.old.items thread.0 leaf g }
-    ensures threads { threads.new.items ≡ slice_set threads.old.items thread.0 running }
-    ensures nacks { cells.new.items ≡ settled leaf (awaited (slice_get threads.old.items thread.0)) cells.old.items }
-    ensures leaf { pick (awaited (slice_get threads.old.items thread.0)) leaf
-        ≡ Some (record { base = result.base; wraps = result.wraps.items }) }
-    ensures lost { numbers result.lost.items ≡ lost (awaited (slice_get threads.old.items thread.0)) leaf }
+// The copy that the object of this number, which is lit, needs for the want.
+fn spare_of<K: Source>(objects: &Register<K>, id: u32, want: &K::Want) -> Result<Option<Value>, AllocError>
+    requires { IsTrue (lit_at K.is_lit (map K.state objects.now.objects) id) }
+    ensures { IfOk result (λ copy. copy ≡
+        option_map_or (λ s. K.spared s want.now) (slice_get (map K.state objects.now.objects) id) None) }
 {
-    let leaf = leaf as usize;
+    match objects.get(id) {
+        Some(object) => object.spare(want),
+        None => Ok(None),
+    }
+}
+
+// Whether the object of this number, which is lit, is still lit once the want was given its value.
+fn stays_lit<K: Source>(objects: &Register<K>, id: u32, want: &K::Want) -> bool
+    requires { IsTrue (lit_at K.is_lit (map K.state objects.now.objects) id) }
+    ensures { result ≡
+        option_map_or (λ s. K.is_lit (K.after s want.now)) (slice_get (map K.state objects.now.objects) id) false }
+{
+    match objects.get(id) {
+        Some(object) => object.stays_lit_after(want),
+        None => false,
+    }
+}
+
+// The thread runs from now on; the group that it waited on comes out, and its leaves are counted no more.
+fn release(threads: &mut Vec<Thread>, clock: &mut Clock, thread: Tid) -> Flat
+    requires waits { IsSome (option_and_then flat_of (slice_get threads.old.items thread.0)) }
+    requires counts { Counts threads.old.items clock.old.waited }
+    ensures group { option_and_then flat_of (slice_get threads.old.items thread.0) ≡ Some result }
+    ensures threads { threads.new.items ≡ slice_set threads.old.items thread.0 running }
+    ensures counts { Counts threads.new.items clock.new.waited }
+    ensures now { clock.new.tick ≡ clock.old.tick }
+{
     let place = thread.0 as usize;
     if place >= threads.len() {
         unreachable!();
@@ -84,8 +186,22 @@ fn release(threads: &mut Vec<Thread>, cells: &mut Vec<NackCell>, thread: Tid, le
     let Some(flat) = waiting.release() else {
         unreachable!();
     };
-    settle(cells, &flat, leaf);
-    flat.choose(leaf)
+    uncount_ticks(clock, &flat, flat.len());
+    flat
+}
+
+// Makes the nacks of the group live that the thread waits on, if it does.
+fn enter_all(cells: &mut Register<NackCell>, threads: &Vec<Thread>, thread: Tid)
+    requires { AreFresh (nacks_of (scopes (awaited (slice_get threads.now.items thread.0)))) cells.old.objects }
+    ensures { cells.new.objects
+        ≡ with_each (nacks_of (scopes (awaited (slice_get threads.now.items thread.0)))) live cells.old.objects }
+{
+    let Some(found) = threads.get(thread.0 as usize) else {
+        return;
+    };
+    if let Some(flat) = found.flat() {
+        enter(cells, flat.scopes());
+    }
 }
 
 /// The value that a send hands over.

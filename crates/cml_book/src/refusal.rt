@@ -93,6 +93,31 @@ pub struct Returned<V> {
     pub fault: Fault,
 }
 
+impl<V> Returned<V> {
+    ghost use Rattle.std.specs.Prelude.{◌≡◌};
+    ghost use Rattle.cml_book.specs.declared.refusal.Fault.TheVariants.{Refused, Memory};
+
+    // The rules refuse it.
+    pub(crate) fn refused(value: V, why: Refusal) -> Returned<V>
+        ensures { result ≡ record { value = value; fault = Refused why } }
+    {
+        Returned {
+            value,
+            fault: Fault::Refused(why),
+        }
+    }
+
+    // A growth was refused.
+    pub(crate) fn unserved(value: V) -> Returned<V>
+        ensures { result ≡ record { value = value; fault = Memory } }
+    {
+        Returned {
+            value,
+            fault: Fault::Memory,
+        }
+    }
+}
+
 impl From<AllocError> for Fault {
     ghost use Rattle.std.specs.Prelude.{◌≡◌};
     ghost use Rattle.cml_book.specs.declared.refusal.Fault.TheVariants.{Memory};

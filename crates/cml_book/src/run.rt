@@ -40,6 +40,11 @@ impl<T: Table> Book<T> {
                 Ok(()) => Ok(Reply::Done),
                 Err(fault) => refused(fault, Command::End(thread)),
             },
+            Command::Clock(to) => match self.clock(alloc, to) {
+                Ok(()) => Ok(Reply::Done),
+                Err(fault) => refused(fault, Command::Clock(to)),
+            },
+            _ => unreachable!(),
         }
     }
 

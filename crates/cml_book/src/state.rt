@@ -1,6 +1,6 @@
-//! What a book holds beside its table: threads, channels, nacks and the time.
+//! What a book holds beside its table: threads, objects, nacks and the time.
 
-ghost use Rattle.std.specs.Prelude.{◌≡◌, ◌≢◌, Err, IfOk, length, map, slice_get};
+ghost use Rattle.std.specs.Prelude.{◌≡◌, ◌≢◌, ◌≤◌, Some, Err, IfOk, IfSome, IfNone, ℕ, length, map, slice_get, slice_set};
 ghost use Rattle.cml_scan.specs.World.{running, ended, pending};
 ghost use Rattle.cml_scan.specs.Light.{light_of};
 ghost use Rattle.cml_book.specs.Outcomes as spec;
@@ -8,16 +8,19 @@ ghost use Rattle.cml_book.specs.Outcomes.{Does, with_thread};
 ghost use Rattle.cml_book.specs.Spawn.{spawn as spawned};
 ghost use Rattle.cml_book.specs.MakeChan.{make_chan as made};
 ghost use Rattle.cml_book.specs.Nack.{nack as nack_made};
-ghost use Rattle.cml_book.specs.Sync.{waiting};
-ghost use Rattle.cml_book.specs.Keeping.{AreFresh};
+ghost use Rattle.cml_book.specs.Clock.{IsAlarm};
 
 use crate::book::{MAX_OBJECTS, MAX_THREADS};
 use crate::marks::Marks;
 use crate::refusal::{Fault, Refusal};
+use crate::seen::{has_fired, ivar_is_full, mailbox_has_item, mvar_is_full, port_has_item};
 use crate::thread::{Thread, pending_threads};
+use cml_base::Register;
+use cml_queues::{Mailbox, Multicast, Port};
 use cml_scan::{Light, Lights};
-use cml_signal::NackCell;
-use cml_value::{ChanId, NackId, Tid};
+use cml_signal::{Clock, NackCell};
+use cml_syncvar::{IVar, MVar};
+use cml_value::{ChanId, McastId, NackId, Tid};
 use std::alloc::{AllocError, Global};
 use std::marker::Model;
 
@@ -26,17 +29,27 @@ use std::marker::Model;
 pub struct State {
     pub(crate) threads: Vec<Thread>,
     pub(crate) channels: u32,
-    pub(crate) nacks: Vec<NackCell>,
+    pub(crate) ivars: Register<IVar>,
+    pub(crate) mvars: Register<MVar>,
+    pub(crate) mailboxes: Register<Mailbox>,
+    pub(crate) mchans: Vec<Multicast>,
+    pub(crate) ports: Register<Port>,
+    // the channel of each port
+    pub(crate) homes: Vec<McastId>,
+    pub(crate) nacks: Register<NackCell>,
     // a mark for each nack
     pub(crate) marks: Marks,
-    pub(crate) tick: u64,
+    // the time, and how many leaves of pending threads wait for each tick
+    pub(crate) clock: Clock,
 }
 
 impl Model for State {
-    ghost use Rattle.std.specs.Prelude.{◌≡◌, [], length};
+    ghost use Rattle.std.specs.Prelude.{◌≡◌, length};
     ghost use Rattle.cml_scan.specs.World.{PlainWorld};
     ghost use Rattle.cml_scan.specs.Codes.{world_code};
-    ghost use Rattle.cml_book.specs.Keeping.{AreFew};
+    ghost use Rattle.cml_book.specs.Views.{queues_of, ports_of};
+    ghost use Rattle.cml_book.specs.Keeping.{AreFew, Counts};
+    ghost use Rattle.cml_book.specs.Homes.{ArePorts};
 
     ghost Value = { PlainWorld };
 
@@ -45,16 +58,21 @@ impl Model for State {
     ghost view = { λ s. record {
       threads = s.threads.items;
       channels = s.channels;
-      ivars = [];
-      mvars = [];
-      mailboxes = [];
-      mchans = [];
-      ports = [];
-      nacks = s.nacks.items;
-      tick = s.tick;
+      ivars = s.ivars.objects;
+      mvars = s.mvars.objects;
+      mailboxes = queues_of s.mailboxes.objects;
+      mchans = ports_of s.mchans.items;
+      ports = queues_of s.ports.objects;
+      nacks = s.nacks.objects;
+      tick = s.clock.tick;
     } };
 
-    ghost invariant = { λ s. AreFew (length s.threads.items) s.channels (length s.nacks.items) × (s.marks ≡ length s.nacks.items) };
+    ghost invariant = { λ s.
+        AreFew (length s.threads.items) s.channels (length s.ivars.objects) (length s.mvars.objects)
+            (length s.mailboxes.objects) (length s.mchans.items) (length s.ports.objects) (length s.nacks.objects)
+        × (s.marks ≡ length s.nacks.objects)
+        × ArePorts s.mchans.items s.homes.items (length s.ports.objects)
+        × Counts s.threads.items s.clock.waited };
 }
 
 impl State {
@@ -67,10 +85,32 @@ impl State {
         State {
             threads: Vec::new(alloc),
             channels: 0,
-            nacks: Vec::new(alloc),
+            ivars: Register::new(alloc),
+            mvars: Register::new(alloc),
+            mailboxes: Register::new(alloc),
+            mchans: Vec::new(alloc),
+            ports: Register::new(alloc),
+            homes: Vec::new(alloc),
+            nacks: Register::new(alloc),
             marks: Marks::new(alloc),
-            tick: 0,
+            clock: Clock::new(alloc),
         }
+    }
+
+    /// The time.
+    pub fn now(&self) -> u64
+        ensures { result ≡ self.now.tick }
+    {
+        self.clock.now()
+    }
+
+    /// The least tick above now for which a leaf of a pending thread waits, if there is one.
+    pub fn next_alarm(&self) -> Option<u64>
+        ensures alarm { IfSome result (λ t. IsAlarm self.now t) }
+        ensures least { IfSome result (λ t. (u : ℕ) → IsAlarm self.now u → t ≤ u) }
+        ensures none { IfNone result ((u : ℕ) → IsAlarm self.now u → ⊥) }
+    {
+        self.clock.next_alarm()
     }
 
     /// The number of the next thread.
@@ -132,11 +172,12 @@ impl State {
         if self.nacks.len() >= MAX_OBJECTS {
             return Err(Fault::Refused(Refusal::Full));
         }
-        let nack = NackId(self.nacks.len() as u32);
-        self.nacks.reserve(1)?;
+        self.nacks.room(None)?;
         self.marks.grow()?;
-        self.nacks.push_reserved(NackCell::new(owner));
-        Ok(nack)
+        match self.nacks.make(NackCell::new(owner)) {
+            Ok(id) => Ok(NackId(id)),
+            Err(_) => unreachable!(),
+        }
     }
 
     /// Why the thread can't do a command, if it can't.
@@ -150,21 +191,30 @@ impl State {
         }
     }
 
-    /// The thread ends, if it is there.
+    /// The thread, which runs, ends.
     pub fn end(&mut self, thread: Tid)
+        requires { slice_get self.old.threads thread.0 ≡ Some running }
         ensures { self.new ≡ with_thread self.old thread.0 ended }
     {
-        self.put(thread, Thread::ended());
+        put(&mut self.threads, thread, Thread::ended());
     }
 
-    // The thread is so from now on, if it is there.
-    pub(crate) fn put(&mut self, thread: Tid, so: Thread)
-        ensures { self.new ≡ with_thread self.old thread.0 so }
+    /// The clock comes to this tick.
+    pub fn advance(&mut self, to: u64)
+        requires { self.old.tick ≤ to }
+        ensures { self.new ≡ record self.old { tick = to } }
     {
-        let place = thread.0 as usize;
-        if place < self.threads.len() {
-            self.threads[place] = so;
-        }
+        self.clock.advance(to);
+    }
+}
+
+// The thread is so from now on, if it is there.
+pub(crate) fn put(threads: &mut Vec<Thread>, thread: Tid, so: Thread)
+    ensures { threads.new.items ≡ slice_set threads.old.items thread.0 so }
+{
+    let place = thread.0 as usize;
+    if place < threads.len() {
+        threads[place] = so;
     }
 }
 
@@ -173,16 +223,16 @@ impl Lights for State {
 
     fn is_lit(&self, light: Light) -> bool {
         match light {
+            Light::IVar(i) => ivar_is_full(&self.ivars, i),
+            Light::MVar(m) => mvar_is_full(&self.mvars, m),
+            Light::Mbox(b) => mailbox_has_item(&self.mailboxes, b),
+            Light::Port(p) => port_has_item(&self.ports, p),
             Light::Joined(t) => match self.threads.get(t.0 as usize) {
                 Some(thread) => thread.has_ended(),
                 None => false,
             },
-            Light::Alarm(t) => t <= self.tick,
-            Light::Nack(k) => match self.nacks.get(k.0 as usize) {
-                Some(cell) => cell.is_fired(),
-                None => false,
-            },
-            Light::IVar(_) | Light::MVar(_) | Light::Mbox(_) | Light::Port(_) => false,
+            Light::Alarm(t) => t <= self.clock.now(),
+            Light::Nack(k) => has_fired(&self.nacks, k),
         }
     }
 }

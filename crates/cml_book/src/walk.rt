@@ -12,12 +12,13 @@ ghost use Rattle.cml_book.specs.Walks.{shape_refusal};
 
 use crate::refusal::Refusal;
 use crate::state::State;
+use cml_base::Register;
 use cml_group::MAX_LEAVES;
 use cml_signal::NackCell;
 use cml_value::{Base, BaseKind, Group, GroupKind, NackId, Tid};
 
-// The greatest tick.
-const MAX_TICK: u64 = 4_611_686_018_427_387_904;
+/// The greatest tick.
+pub(crate) const MAX_TICK: u64 = 4_611_686_018_427_387_904;
 
 // What each base event of a group is asked.
 pub(crate) trait BaseTest {
@@ -112,12 +113,12 @@ impl BaseTest for State {
             BaseKind::Always(_) | BaseKind::At(_) | BaseKind::After(_) => true,
             BaseKind::Send(c, _) => c.0 < self.channels,
             BaseKind::Recv(c) => c.0 < self.channels,
-            BaseKind::IGet(_)
-            | BaseKind::MTake(_)
-            | BaseKind::MGet(_)
-            | BaseKind::MSwap(_, _)
-            | BaseKind::MailRecv(_)
-            | BaseKind::PortRecv(_) => false,
+            BaseKind::IGet(i) => (i.0 as usize) < self.ivars.len(),
+            BaseKind::MTake(m) => (m.0 as usize) < self.mvars.len(),
+            BaseKind::MGet(m) => (m.0 as usize) < self.mvars.len(),
+            BaseKind::MSwap(m, _) => (m.0 as usize) < self.mvars.len(),
+            BaseKind::MailRecv(b) => (b.0 as usize) < self.mailboxes.len(),
+            BaseKind::PortRecv(p) => (p.0 as usize) < self.ports.len(),
             BaseKind::Join(t) => (t.0 as usize) < self.threads.len(),
             BaseKind::Nack(k) => (k.0 as usize) < self.nacks.len(),
         }
@@ -157,14 +158,14 @@ impl BaseTest for Near {
 #[derive(Drop)]
 struct FreshFor<'a> {
     thread: Tid,
-    nacks: &'a [NackCell],
+    nacks: &'a Register<NackCell>,
 }
 
 impl<'a> NackTest for FreshFor<'a> {
-    ghost passes = { λ s k. is_fresh_for s.thread.0 (slice_get s.nacks.now k) };
+    ghost passes = { λ s k. is_fresh_for s.thread.0 (slice_get s.nacks.now.objects k) };
 
     fn passes(&self, nack: NackId) -> bool {
-        match self.nacks.get(nack.0 as usize) {
+        match self.nacks.get(nack.0) {
             Some(cell) => cell.is_fresh_of(self.thread),
             None => false,
         }
@@ -210,7 +211,7 @@ impl State {
         if !group.fits() {
             return Some(Refusal::Deep);
         }
-        if !all_bases(&Near { tick: self.tick }, group) {
+        if !all_bases(&Near { tick: self.now() }, group) {
             return Some(Refusal::Far);
         }
         None

@@ -1,9 +1,10 @@
 //! A message to every port of a multicast channel.
 
-ghost use Rattle.std.specs.Prelude.{◌≡◌, ◌≢◌, ◌<◌, false, length, replicate, IfOk, OnOk, All, AllPairs};
+ghost use Rattle.std.specs.Prelude.{◌≡◌, ◌<◌, false, length, replicate, IfOk, OnOk, All, AllPairs};
 ghost use Rattle.cml_base.specs.Feeds.{Feeds};
 ghost use Rattle.cml_base.specs.Registered.{HasRoomAt, KeepsOthers};
-ghost use Rattle.cml_queues.specs.Posts.{unread, port_has_room, port_is_full, any_is_full as spec_any_is_full, with_message, posted, post_outcome};
+ghost use Rattle.cml_queues.specs.Queues.{is_full_at, added_at};
+ghost use Rattle.cml_queues.specs.Posts.{numbers, unread, port_has_room, any_is_full as spec_any_is_full, posted, post_outcome, says_full};
 
 use crate::multicast::Multicast;
 use crate::port::Port;
@@ -23,27 +24,84 @@ pub fn post(
 ) -> Result<(), FeedFault<Value>>
     requires { All (λ port. port.0 < length ports.old.objects) channel.now.ports }
     ensures states { let old = unread ports.old.objects in
-        Feeds result (post_outcome channel.now.ports message old) message old (unread ports.new.objects) }
+        Feeds result (post_outcome (numbers channel.now.ports) message old) message old (unread ports.new.objects) }
+    ensures len { length ports.new.objects ≡ length ports.old.objects }
+    ensures waits { ports.new.waits ≡ ports.old.waits }
+{
+    match prepare(alloc, channel, ports, &message) {
+        Ok(copies) => {
+            deliver(channel, ports, &message, copies);
+            Ok(())
+        }
+        Err(PostFault::Full) => Err(FeedFault::Full(message)),
+        Err(PostFault::Memory) => Err(FeedFault::Memory(message)),
+    }
+}
+
+/// Why a message can't be posted. Nothing has changed.
+#[derive(Clone, Copy, Debug, PartialEq, Eq)]
+pub enum PostFault {
+    /// One of the ports is full.
+    Full,
+    /// A growth was refused, where none of the ports is full.
+    Memory,
+}
+
+/// Makes ready what a post of the message takes: a copy of it for every port of the channel, and room in each of them. After it
+/// `deliver` takes no memory, so that between the two a table can be told which ports get their first message.
+///
+/// # Errors
+/// `Full` exactly where any of the ports is full, and want of memory.
+pub fn prepare(
+    alloc: Global,
+    channel: &Multicast,
+    ports: &mut Register<Port>,
+    message: &Value,
+) -> Result<Vec<Value>, PostFault>
+    requires { All (λ port. port.0 < length ports.old.objects) channel.now.ports }
+    ensures copies { IfOk result (λ copies. copies.items ≡ replicate (length channel.now.ports) message.now) }
+    ensures room { OnOk result (All (λ port. HasRoomAt port_has_room ports.new.objects port.0) channel.now.ports) }
+    ensures full { let full = spec_any_is_full (numbers channel.now.ports) (unread ports.old.objects) in
+        says_full result ≡ full }
+    ensures unread { unread ports.new.objects ≡ unread ports.old.objects }
     ensures len { length ports.new.objects ≡ length ports.old.objects }
     ensures waits { ports.new.waits ≡ ports.old.waits }
 {
     let ids = channel.ports();
     if any_is_full(ports, ids) {
-        return Err(FeedFault::Full(message));
+        return Err(PostFault::Full);
     }
-    let Ok(copies) = copies(alloc, &message, ids.len()) else {
-        return Err(FeedFault::Memory(message));
+    let Ok(copies) = copies(alloc, message, ids.len()) else {
+        return Err(PostFault::Memory);
     };
     if make_room(ports, ids).is_err() {
-        return Err(FeedFault::Memory(message));
+        return Err(PostFault::Memory);
     }
-    feed_all(ports, ids, &message, copies);
-    Ok(())
+    Ok(copies)
+}
+
+/// Puts a copy of the message behind the unread ones of every port of the channel, as `prepare` made ready. It takes no memory.
+pub fn deliver(
+    channel: &Multicast,
+    ports: &mut Register<Port>,
+    message: &Value,
+    copies: Vec<Value>,
+)
+    requires there { All (λ port. port.0 < length ports.old.objects) channel.now.ports }
+    requires room { All (λ port. HasRoomAt port_has_room ports.old.objects port.0) channel.now.ports }
+    requires open { spec_any_is_full (numbers channel.now.ports) (unread ports.old.objects) ≡ false }
+    requires copied { copies.items ≡ replicate (length channel.now.ports) message.now }
+    ensures unread { unread ports.new.objects
+        ≡ posted message.now (numbers channel.now.ports) (unread ports.old.objects) }
+    ensures len { length ports.new.objects ≡ length ports.old.objects }
+    ensures waits { ports.new.waits ≡ ports.old.waits }
+{
+    feed_all(ports, channel.ports(), message, copies);
 }
 
 // Whether there is a port of this number that is full.
 fn is_full(ports: &Register<Port>, id: PortId) -> bool
-    ensures { result ≡ port_is_full (unread ports.now.objects) id }
+    ensures { result ≡ is_full_at (unread ports.now.objects) id.0 }
 {
     match ports.get(id.0) {
         Some(port) => port.is_full(),
@@ -53,7 +111,7 @@ fn is_full(ports: &Register<Port>, id: PortId) -> bool
 
 // Whether one of these ports is full.
 fn any_is_full(ports: &Register<Port>, ids: &[PortId]) -> bool
-    ensures { result ≡ spec_any_is_full ids.now (unread ports.now.objects) }
+    ensures { result ≡ spec_any_is_full (numbers ids.now) (unread ports.now.objects) }
 {
     for id in ids {
         if is_full(ports, *id) {
@@ -94,9 +152,10 @@ fn feed_all(ports: &mut Register<Port>, ids: &[PortId], message: &Value, mut cop
     requires there { All (λ id. id.0 < length ports.old.objects) ids.now }
     requires once { AllPairs (λ a b. a.0 < b.0) ids.now }
     requires room { All (λ id. HasRoomAt port_has_room ports.old.objects id.0) ids.now }
-    requires open { All (λ id. port_is_full (unread ports.old.objects) id ≡ false) ids.now }
+    requires open { All (λ id. is_full_at (unread ports.old.objects) id.0 ≡ false) ids.now }
     requires copied { copies.items ≡ replicate (length ids.now) message.now }
-    ensures unread { unread ports.new.objects ≡ posted message.now ids.now (unread ports.old.objects) }
+    ensures unread { unread ports.new.objects
+        ≡ posted message.now (numbers ids.now) (unread ports.old.objects) }
     ensures len { length ports.new.objects ≡ length ports.old.objects }
     ensures waits { ports.new.waits ≡ ports.old.waits }
 {
@@ -112,8 +171,8 @@ fn feed_all(ports: &mut Register<Port>, ids: &[PortId], message: &Value, mut cop
 fn feed_one(ports: &mut Register<Port>, id: PortId, message: Value)
     requires there { id.0 < length ports.old.objects }
     requires room { HasRoomAt port_has_room ports.old.objects id.0 }
-    requires open { port_is_full (unread ports.old.objects) id ≡ false }
-    ensures unread { unread ports.new.objects ≡ with_message (unread ports.old.objects) id message }
+    requires open { is_full_at (unread ports.old.objects) id.0 ≡ false }
+    ensures unread { unread ports.new.objects ≡ added_at (unread ports.old.objects) id.0 message }
     ensures len { length ports.new.objects ≡ length ports.old.objects }
     ensures others { KeepsOthers ports.old.objects ports.new.objects id.0 }
     ensures waits { ports.new.waits ≡ ports.old.waits }

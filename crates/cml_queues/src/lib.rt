@@ -7,7 +7,7 @@ mod multicast;
 mod port;
 mod queue;
 
-pub use delivery::post;
+pub use delivery::{PostFault, deliver, post, prepare};
 pub use mailbox::Mailbox;
 pub use multicast::Multicast;
 pub use port::{Port, copy_port};

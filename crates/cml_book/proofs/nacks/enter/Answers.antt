@@ -13,7 +13,7 @@ loop-nack-preserved c =
     let i = c.loop-nack.nack-index in
     let found = drop-cons ks i (record { 0 = 0 }) c.loop-nack-test.true in
     let k = slice_index_or ks i (record { 0 = 0 }) in
-    let fresh = subst (λ xs. AreFresh (numbers xs) c.loop-nack.cells.items) found c.loop-nack.invariant.fresh in
-    let leads = ap (λ xs. with_each (numbers xs) live c.loop-nack.cells.items) (sym found) ∙ c.loop-nack.invariant.leads in
+    let fresh = subst (λ xs. AreFresh (numbers xs) c.loop-nack.cells.objects) found c.loop-nack.invariant.fresh in
+    let leads = ap (λ xs. with_each (numbers xs) live c.loop-nack.cells.objects) (sym found) ∙ c.loop-nack.invariant.leads in
     rw (add-one, c.enter_one.ensures)
-    (record { leads = leads; fresh = rest_fresh k.0 (numbers (drop (suc i) ks)) c.loop-nack.cells.items live fresh })
+    (record { leads = leads; fresh = rest_fresh k.0 (numbers (drop (suc i) ks)) c.loop-nack.cells.objects live fresh })

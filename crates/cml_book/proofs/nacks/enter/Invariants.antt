@@ -8,6 +8,6 @@ use Rattle.cml_book.proofs.nacks.enter.Given as goal
 -- what is left to enter leads where all lead, and is fresh
 abbrev pub invariant-loop-nack : goal.invariant-loop-nack
 invariant-loop-nack l = record {
-  leads : with_each (numbers (drop l.nack-index l.nacks)) live l.cells.items ≡ with_each (numbers l.nacks) live l.fn.cells.items;
-  fresh : AreFresh (numbers (drop l.nack-index l.nacks)) l.cells.items;
+  leads : with_each (numbers (drop l.nack-index l.nacks)) live l.cells.objects ≡ with_each (numbers l.nacks) live l.fn.cells.objects;
+  fresh : AreFresh (numbers (drop l.nack-index l.nacks)) l.cells.objects;
 }

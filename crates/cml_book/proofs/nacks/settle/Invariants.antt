@@ -8,6 +8,6 @@ use Rattle.cml_book.proofs.nacks.settle.Given as goal
 -- what is left to settle leads where all lead, and is live
 abbrev pub invariant-loop-i : goal.invariant-loop-i
 invariant-loop-i l = record {
-  leads : settled_in_turn l.leaf (drop l.i (scopes l.flat)) l.cells.items ≡ settled l.leaf l.flat l.fn.cells.items;
-  alive : AreLive (nacks_of (drop l.i (scopes l.flat))) l.cells.items;
+  leads : settled_in_turn l.leaf (drop l.i (scopes l.flat)) l.cells.objects ≡ settled l.leaf l.flat l.fn.cells.objects;
+  alive : AreLive (nacks_of (drop l.i (scopes l.flat))) l.cells.objects;
 }

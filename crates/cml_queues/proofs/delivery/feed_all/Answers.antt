@@ -17,5 +17,5 @@ loop-id-preserved c =
       waits = search rules;
       len = search rules;
       room = λ k a b. rw (c.feed_one.ensures.others (get_or ids k none).0 (apart k a b)) (c.loop-id.invariant.room k (omega arith) b);
-      open_left = λ k a b. full_same c.loop-id.ports.objects c.feed_one.new.ports.objects (get_or ids k none) (c.feed_one.ensures.others (get_or ids k none).0 (apart k a b)) ∙ c.loop-id.invariant.open_left k (omega arith) b;
+      open_left = λ k a b. full_same c.loop-id.ports.objects c.feed_one.new.ports.objects (get_or ids k none).0 (c.feed_one.ensures.others (get_or ids k none).0 (apart k a b)) ∙ c.loop-id.invariant.open_left k (omega arith) b;
     }

@@ -1,16 +1,17 @@
 use Rattle.std.proofs.Common.{◌≡◌, ◌<◌, ◌≤◌, ◌-◌, ℕ, false, get_or, length, drop, replicate}
 use Rattle.cml_value.specs.declared.number.PortId.{PortId}
 use Rattle.cml_base.specs.Registered.{HasRoomAt}
-use Rattle.cml_queues.specs.Posts.{unread, port_has_room, posted, port_is_full}
+use Rattle.cml_queues.specs.Queues.{is_full_at}
+use Rattle.cml_queues.specs.Posts.{numbers, unread, port_has_room, posted}
 use Rattle.cml_queues.proofs.delivery.feed_all.Given as goal
 
 abbrev pub invariant-loop-id : goal.invariant-loop-id
 invariant-loop-id l =
     let none : PortId = record { 0 = 0 } in record {
-      left : posted l.message (drop l.id-index l.ids) (unread l.ports.objects) ≡ posted l.message l.ids (unread l.initial.ports.objects);
+      left : posted l.message (numbers (drop l.id-index l.ids)) (unread l.ports.objects) ≡ posted l.message (numbers l.ids) (unread l.initial.ports.objects);
       copied : l.copies.items ≡ replicate (length l.ids - l.id-index) l.message;
       waits : l.ports.waits ≡ l.initial.ports.waits;
       len : length l.ports.objects ≡ length l.initial.ports.objects;
       room : (k : ℕ) → l.id-index ≤ k → k < length l.ids → HasRoomAt port_has_room l.ports.objects (get_or l.ids k none).0;
-      open_left : (k : ℕ) → l.id-index ≤ k → k < length l.ids → port_is_full (unread l.ports.objects) (get_or l.ids k none) ≡ false;
+      open_left : (k : ℕ) → l.id-index ≤ k → k < length l.ids → is_full_at (unread l.ports.objects) (get_or l.ids k none).0 ≡ false;
     }

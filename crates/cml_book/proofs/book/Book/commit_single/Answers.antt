@@ -1,22 +1,49 @@
-use Rattle.std.proofs.Common.{◌≡◌, [], ◌∷◌, length, sym, ◌∙◌, ap, refl, arith, subst, All}
+use Rattle.std.proofs.Common.{◌≡◌, [], ◌∷◌, ◌++◌, length, sym, ◌∙◌, ap, refl, arith, subst, All}
 use Rattle.std.specs.Vec.{vec_capacity}
 use Rattle.std.proofs.lemmas.List.Elements.{All-nil, All-cons}
-use Rattle.cml_scan.specs.Table.{IsThere, IsNackOf, nacks_among}
-use Rattle.cml_book.proofs.Commits.{single_party, flat_is, found, is_there, waits_on, sure_lights, told_lights, gone_one, keeps_single, single_returns}
+use Rattle.cml_value.specs.Group.{bases, lost}
+use Rattle.cml_scan.specs.World.{pending}
+use Rattle.cml_scan.specs.Table.{IsThere, IsNackOf, nacks_among, has_light}
+use Rattle.cml_book.specs.Clock.{bases_awaited}
+use Rattle.cml_book.specs.Keeping.{nack_light}
+use Rattle.cml_book.proofs.Dimmed.{left_lights, apart_from, single_apart, can_give_after}
+use Rattle.cml_book.specs.Leaving.{put_out, can_give}
+use Rattle.cml_book.proofs.Commits.{single_party, single_gives, flat_is, found, is_there, waits_on, sure_lights, told_lights, told_out, room_for_out, gone_one, base_at, chosen_at, copied_after, room_same, keeps_single, single_returns}
 use Rattle.cml_book.proofs.book.Book.commit_single.Goals as goal
 
 pub unreachable-requires : goal.unreachable-requires
 unreachable-requires g c =
     let w = c.self.inside.state in
     let has = rw (← c.self.view_is) at c.requires in
-    let p = (single_party w _ _ _ c.args.tid c.args.leaf c.self.invariant.0 has).1 in
+    let e = single_party w _ _ _ c.args.tid c.args.leaf c.self.invariant.0 has in
+    let p = e.1 in
     found c.waiting.result w c.args.tid.0 p.group c.waiting.ensures p.waits c.in_default.is
+
+pub leaf-base-requires : goal.leaf-base-requires
+leaf-base-requires g c =
+    let w = c.self.inside.state in
+    let has = rw (← c.self.view_is) at c.requires in
+    let e = single_party w _ _ _ c.args.tid c.args.leaf c.self.invariant.0 has in
+    let p = e.1 in
+    let is = flat_is c.waiting.result c.in-Some.flat w c.args.tid.0 p.group c.waiting.ensures p.waits c.in-Some.is in
+    rw is p.within
+
+pub spare-requires : goal.spare-requires
+spare-requires g c =
+    let w = c.self.inside.state in
+    let has = rw (← c.self.view_is) at c.requires in
+    let e = single_party w _ _ _ c.args.tid c.args.leaf c.self.invariant.0 has in
+    let p = e.1 in
+    let is = flat_is c.waiting.result c.in-Some.flat w c.args.tid.0 p.group c.waiting.ensures p.waits c.in-Some.is in
+    let gives = single_gives w _ c.args.tid.0 c.args.leaf e.0 p c.in-Some.flat.now c.leaf-base.result.now e.2 is c.leaf-base.ensures in
+    gives
 
 pub push_lights-requires-clause-leaf : goal.push_lights-requires-clause-leaf
 push_lights-requires-clause-leaf g c =
     let w = c.self.inside.state in
     let has = rw (← c.self.view_is) at c.requires in
-    let p = (single_party w _ _ _ c.args.tid c.args.leaf c.self.invariant.0 has).1 in
+    let e = single_party w _ _ _ c.args.tid c.args.leaf c.self.invariant.0 has in
+    let p = e.1 in
     let is = flat_is c.waiting.result c.in-Some.flat w c.args.tid.0 p.group c.waiting.ensures p.waits c.in-Some.is in
     rw is p.within
 
@@ -24,57 +51,125 @@ pub push_lights-requires-clause-room : goal.push_lights-requires-clause-room
 push_lights-requires-clause-room g c =
     let w = c.self.inside.state in
     let has = rw (← c.self.view_is) at c.requires in
-    let p = (single_party w _ _ _ c.args.tid c.args.leaf c.self.invariant.0 has).1 in
+    let e = single_party w _ _ _ c.args.tid c.args.leaf c.self.invariant.0 has in
+    let p = e.1 in
     let is = flat_is c.waiting.result c.in-Some.flat w c.args.tid.0 p.group c.waiting.ensures p.waits c.in-Some.is in
-    let none_yet : length c.self.inside.lights.items ≡ 0 = ap length c.self.invariant.1 in
-    let fits = p.fits in
+    let none_yet : length c.self.inside.lit.items ≡ 0 = ap length c.self.invariant.1 in
+    let fits = p.fits.nacks in
     rw is (omega arith)
+
+pub push_put_out-requires-clause-stock : goal.push_put_out-requires-clause-stock
+push_put_out-requires-clause-stock g c =
+    let w = c.self.inside.state in
+    let has = rw (← c.self.view_is) at c.requires in
+    let e = single_party w _ _ _ c.args.tid c.args.leaf c.self.invariant.0 has in
+    let p = e.1 in
+    let is = flat_is c.waiting.result c.in-Some.flat w c.args.tid.0 p.group c.waiting.ensures p.waits c.in-Some.is in
+    let gives = single_gives w _ c.args.tid.0 c.args.leaf e.0 p c.in-Some.flat.now c.leaf-base.result.now e.2 is c.leaf-base.ensures in
+    gives
+
+pub push_put_out-requires-clause-room : goal.push_put_out-requires-clause-room
+push_put_out-requires-clause-room g c =
+    let w = c.self.inside.state in
+    let has = rw (← c.self.view_is) at c.requires in
+    let e = single_party w _ _ _ c.args.tid c.args.leaf c.self.invariant.0 has in
+    let p = e.1 in
+    let none_yet : length c.self.inside.unlit.items ≡ 0 = ap length c.self.invariant.2 in
+    let fits = p.fits.ticks in
+    omega arith
+
+pub push_left_ticks-requires : goal.push_left_ticks-requires
+push_left_ticks-requires g c =
+    let w = c.self.inside.state in
+    let has = rw (← c.self.view_is) at c.requires in
+    let e = single_party w _ _ _ c.args.tid c.args.leaf c.self.invariant.0 has in
+    let p = e.1 in
+    let is = flat_is c.waiting.result c.in-Some.flat w c.args.tid.0 p.group c.waiting.ensures p.waits c.in-Some.is in
+    rw c.push_put_out.ensures.room (room_for_out w c.leaf-base.result.now c.self.inside.unlit.items c.push_put_out.new.lights.items c.in-Some.flat.now p.group (vec_capacity c.self.inside.unlit) c.self.invariant.2 is c.push_put_out.ensures.lights p.fits.ticks)
 
 pub change-changed-requires-clause-there : goal.change-changed-requires-clause-there
 change-changed-requires-clause-there g c =
     let w = c.self.inside.state in
     let has = rw (← c.self.view_is) at c.requires in
-    let p = (single_party w _ _ _ c.args.tid c.args.leaf c.self.invariant.0 has).1 in
+    let e = single_party w _ _ _ c.args.tid c.args.leaf c.self.invariant.0 has in
+    let p = e.1 in
     let there = IsThere (g.T.Table.entries c.self.inside.table) in
     All-cons there c.args.tid [] (is_there w (g.T.Table.entries c.self.inside.table) c.args.tid p.group p.waits c.self.invariant.0.told_groups) (All-nil there)
 
-pub returns-in_err-changed-clause-sure : goal.returns-in_err-changed-clause-sure
-returns-in_err-changed-clause-sure g c = λ sure no_copy wants.
+pub change-changed-requires-clause-apart : goal.change-changed-requires-clause-apart
+change-changed-requires-clause-apart g c =
     let w = c.self.inside.state in
     let has = rw (← c.self.view_is) at c.requires in
-    let p = (single_party w _ _ _ c.args.tid c.args.leaf c.self.invariant.0 has).1 in
+    let e = single_party w _ _ _ c.args.tid c.args.leaf c.self.invariant.0 has in
+    let p = e.1 in
     let is = flat_is c.waiting.result c.in-Some.flat w c.args.tid.0 p.group c.waiting.ensures p.waits c.in-Some.is in
-    let lights = told_lights c.self.inside.lights.items c.push_lights.new.lights.items c.deref.result.now c.in-Some.flat.now p.group c.args.leaf c.self.invariant.1 is c.push_lights.ensures.lights c.deref.ensures.value in
+    let lights = told_lights c.self.inside.lit.items c.push_lights.new.lights.items c.deref.result.now c.in-Some.flat.now p.group c.args.leaf c.self.invariant.1 is c.push_lights.ensures.lights c.deref.ensures.value in
+    let dark = told_out w c.leaf-base.result.now c.self.inside.unlit.items c.push_put_out.new.lights.items c.push_left_ticks.new.lights.items c.deref-2.result.now c.in-Some.flat.now p.group c.self.invariant.2 is c.push_put_out.ensures.lights c.push_left_ticks.ensures.lights c.deref-2.ensures.value in
+    apart_from (lost p.group c.args.leaf) _ _ lights (λ k. ap (λ x. has_light x (nack_light k)) dark ∙ single_apart w c.leaf-base.result.now (bases_awaited (pending w)) (bases p.group) [] k)
+
+pub returns-in_default-changed-clause-sure : goal.returns-in_default-changed-clause-sure
+returns-in_default-changed-clause-sure g c = λ sure no_copy wants.
+    let w = c.self.inside.state in
+    let has = rw (← c.self.view_is) at c.requires in
+    let e = single_party w _ _ _ c.args.tid c.args.leaf c.self.invariant.0 has in
+    let p = e.1 in
+    let is = flat_is c.waiting.result c.in-Some.flat w c.args.tid.0 p.group c.waiting.ensures p.waits c.in-Some.is in
+    let lights = told_lights c.self.inside.lit.items c.push_lights.new.lights.items c.deref.result.now c.in-Some.flat.now p.group c.args.leaf c.self.invariant.1 is c.push_lights.ensures.lights c.deref.ensures.value in
     let all = sure_lights (c.args.tid ∷ []) w.threads (g.T.Table.entries c.self.inside.table) c.args.tid.0 c.args.leaf p.group p.waits c.self.invariant.0.told_groups (gone_one c.args.tid) in
-    let ok = c.in_err-changed.ensures.sure sure refl (subst (All (IsNackOf (nacks_among (c.args.tid ∷ []) (g.T.Table.entries c.self.inside.table)))) (sym lights) all) in
+    let ok = c.in_default-changed.ensures.sure sure refl (subst (All (IsNackOf (nacks_among (c.args.tid ∷ []) (g.T.Table.entries c.self.inside.table)))) (sym lights) all) in
     cc
 
 pub go_on-chosen-requires : goal.go_on-chosen-requires
 go_on-chosen-requires g c =
     let w = c.self.inside.state in
     let has = rw (← c.self.view_is) at c.requires in
-    let p = (single_party w _ _ _ c.args.tid c.args.leaf c.self.invariant.0 has).1 in
+    let e = single_party w _ _ _ c.args.tid c.args.leaf c.self.invariant.0 has in
+    let p = e.1 in
     waits_on w _ c.args.tid.0 c.args.leaf _ p
+
+pub given-value-requires-clause-stock : goal.given-value-requires-clause-stock
+given-value-requires-clause-stock g c =
+    let w = c.self.inside.state in
+    let has = rw (← c.self.view_is) at c.requires in
+    let e = single_party w _ _ _ c.args.tid c.args.leaf c.self.invariant.0 has in
+    let p = e.1 in
+    let is = flat_is c.waiting.result c.in-Some.flat w c.args.tid.0 p.group c.waiting.ensures p.waits c.in-Some.is in
+    let gives = single_gives w _ c.args.tid.0 c.args.leaf e.0 p c.in-Some.flat.now c.leaf-base.result.now e.2 is c.leaf-base.ensures in
+    let base = chosen_at w c.args.tid.0 c.args.leaf c.go_on-chosen.result.base _ c.go_on-chosen.ensures.leaf ∙ sym (base_at w c.args.tid.0 c.args.leaf p.group c.in-Some.flat.now c.leaf-base.result.now p.waits is c.leaf-base.ensures) in
+    rw (c.go_on-chosen.ensures.world, base) (can_give_after w c.args.tid.0 c.args.leaf c.leaf-base.result.now ∙ gives)
+
+pub given-value-requires-clause-copy : goal.given-value-requires-clause-copy
+given-value-requires-clause-copy g c =
+    let w = c.self.inside.state in
+    let has = rw (← c.self.view_is) at c.requires in
+    let e = single_party w _ _ _ c.args.tid c.args.leaf c.self.invariant.0 has in
+    let p = e.1 in
+    let is = flat_is c.waiting.result c.in-Some.flat w c.args.tid.0 p.group c.waiting.ensures p.waits c.in-Some.is in
+    let base = chosen_at w c.args.tid.0 c.args.leaf c.go_on-chosen.result.base _ c.go_on-chosen.ensures.leaf ∙ sym (base_at w c.args.tid.0 c.args.leaf p.group c.in-Some.flat.now c.leaf-base.result.now p.waits is c.leaf-base.ensures) in
+    rw (c.go_on-chosen.ensures.world, base) (c.in_ok-copy.ensures.copy ∙ sym (copied_after w c.args.tid.0 c.args.leaf c.leaf-base.result.now))
 
 pub invariant_of-self-2 : goal.invariant_of-self-2
 invariant_of-self-2 g c =
     let w = c.self.inside.state in
     let has = rw (← c.self.view_is) at c.requires in
-    let p = (single_party w _ _ _ c.args.tid c.args.leaf c.self.invariant.0 has).1 in
+    let e = single_party w _ _ _ c.args.tid c.args.leaf c.self.invariant.0 has in
+    let p = e.1 in
     let is = flat_is c.waiting.result c.in-Some.flat w c.args.tid.0 p.group c.waiting.ensures p.waits c.in-Some.is in
-    let lights = told_lights c.self.inside.lights.items c.push_lights.new.lights.items c.deref.result.now c.in-Some.flat.now p.group c.args.leaf c.self.invariant.1 is c.push_lights.ensures.lights c.deref.ensures.value in
-    let k = keeps_single w _ _ _ c.args.tid c.args.leaf p.group (g.T.Table.entries c.change-changed.new.self) (g.T.Table.is_lit c.change-changed.new.self)
-    c.go_on-chosen.new.self c.deref.result.now (vec_capacity c.clear.new.self) c.self.invariant.0 p.waits c.go_on-chosen.ensures.world lights
-    c.in_ok-changed.ensures.ok c.in_ok-changed.ensures.ok_lit (c.clear.ensures.capacity ∙ c.push_lights.ensures.room) in
-    (k, c.clear.ensures.items)
+    let gives = single_gives w _ c.args.tid.0 c.args.leaf e.0 p c.in-Some.flat.now c.leaf-base.result.now e.2 is c.leaf-base.ensures in
+    let lights = told_lights c.self.inside.lit.items c.push_lights.new.lights.items c.deref.result.now c.in-Some.flat.now p.group c.args.leaf c.self.invariant.1 is c.push_lights.ensures.lights c.deref.ensures.value in
+    let dark = told_out w c.leaf-base.result.now c.self.inside.unlit.items c.push_put_out.new.lights.items c.push_left_ticks.new.lights.items c.deref-2.result.now c.in-Some.flat.now p.group c.self.invariant.2 is c.push_put_out.ensures.lights c.push_left_ticks.ensures.lights c.deref-2.ensures.value in
+    let base = chosen_at w c.args.tid.0 c.args.leaf c.go_on-chosen.result.base _ c.go_on-chosen.ensures.leaf ∙ sym (base_at w c.args.tid.0 c.args.leaf p.group c.in-Some.flat.now c.leaf-base.result.now p.waits is c.leaf-base.ensures) in
+    let size = room_same (vec_capacity c.self.inside.lit) (vec_capacity c.self.inside.unlit) _ _ (c.clear.ensures.capacity ∙ c.push_lights.ensures.room) (c.clear-2.ensures.capacity ∙ c.push_left_ticks.ensures.room ∙ c.push_put_out.ensures.room) in
+    let out = dark ∙ ap (λ x. put_out w x ++ left_lights (bases_awaited (pending w)) (bases p.group) []) (sym base) in
+    let k = keeps_single w (g.T.Table.entries c.self.inside.table) (g.T.Table.is_lit c.self.inside.table) _ c.args.tid c.args.leaf p.group c.go_on-chosen.result.base (g.T.Table.entries c.change-changed.new.self) (g.T.Table.is_lit c.change-changed.new.self)
+    c.go_on-chosen.new.self c.given-value.new.self c.deref.result.now c.deref-2.result.now _ c.self.invariant.0 p.waits (ap (can_give w) base ∙ gives) c.go_on-chosen.ensures.world c.given-value.ensures.world
+    lights out c.in-Ok.ensures.ok c.in-Ok.ensures.ok_lit size in
+    (k, c.clear.ensures.items, c.clear-2.ensures.items)
 
-pub returns : goal.returns
-returns g c =
+pub returns-clause-step : goal.returns-clause-step
+returns-clause-step g c =
     let w = c.self.inside.state in
     let has = rw (← c.self.view_is) at c.requires in
-    record {
-      step = rw (← c.self.view_is)
-          (single_returns w c.args.tid c.args.leaf _ _ _ _ c.go_on-chosen.new.self c.new.result
-          has c.go_on-chosen.ensures.leaf c.go_on-chosen.ensures.world c.given-value.ensures.value c.given-value.ensures.world c.go_on-chosen.ensures.lost c.new.ensures);
-      sure = λ s n e. cc;
-    }
+    rw (← c.self.view_is)
+    (single_returns w c.args.tid c.args.leaf _ _ _ _ c.go_on-chosen.new.self c.given-value.new.self _
+    has c.go_on-chosen.ensures.leaf c.go_on-chosen.ensures.world c.given-value.ensures.value c.given-value.ensures.world c.go_on-chosen.ensures.lost refl)

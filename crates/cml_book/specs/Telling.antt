@@ -1,0 +1,19 @@
+-- How the table is told when an object lights.
+use Rattle.std.specs.Prelude.{◌≡◌, Bool, true, false, List, [], ◌∷◌}
+use Rattle.cml_scan.specs.World.{PlainWorld, PlainEntry}
+use Rattle.cml_scan.specs.Light.{light_of}
+use Rattle.cml_scan.specs.declared.object.Light.{Light}
+use Rattle.cml_book.specs.Keeping.{Keeps, Room}
+
+-- an object that is fed lights, if it was not lit before
+abbrev pub newly_lit : Bool → Light → List Light
+newly_lit true light = []
+newly_lit false light = light ∷ []
+
+-- what was told truly of a light in the one world, is told truly of it in the other
+abbrev pub StaysTrue : PlainWorld → (Light → Bool) → PlainWorld → (Light → Bool) → Type 0
+StaysTrue w told w' told' = (l : Light) → told l ≡ light_of w l → told' l ≡ light_of w' l
+
+-- what a book keeps of its world and its table, it keeps of these too
+abbrev pub StaysKept : PlainWorld → List PlainEntry → (Light → Bool) → PlainWorld → List PlainEntry → (Light → Bool) → Type 0
+StaysKept w entries told w' entries' told' = (room : Room) → Keeps w entries told room → Keeps w' entries' told' room

@@ -1,0 +1,82 @@
+//! Objects that light when they are fed.
+
+ghost use Rattle.std.specs.Prelude.{◌≡◌, ◌<◌, Ok, [], length, map, OnOk, OnErr, IfErr};
+ghost use Rattle.cml_scan.specs.Table.{lit_after};
+ghost use Rattle.cml_scan.specs.declared.object.Light.{Light};
+ghost use Rattle.cml_base.specs.Feeds.{IsAccepted};
+ghost use Rattle.cml_base.specs.Registered.{lit_at, fed_at};
+ghost use Rattle.cml_book.specs.Telling.{newly_lit};
+
+use cml_base::{FeedFault, Register, Source};
+use cml_scan::{Light, Table};
+use cml_value::Value;
+use std::alloc::{AllocError, Global};
+
+/// Whether there is an object of this number that is lit.
+pub(crate) fn is_lit_at<K: Source>(objects: &Register<K>, id: u32) -> bool
+    ensures { result ≡ lit_at K.is_lit (map K.state objects.now.objects) id }
+{
+    match objects.get(id) {
+        Some(object) => object.lit(),
+        None => false,
+    }
+}
+
+/// Feeds the object of this number a value that it takes and that lights it. The table is told so before, if the object was not
+/// lit; room was made for the value first, so nothing can fail any more once the table is told.
+///
+/// # Errors
+/// Want of memory: the value comes back, and neither the objects nor what the table was told has changed.
+pub(crate) fn feed<K: Source<Feed = Value>, T: Table>(
+    alloc: Global,
+    objects: &mut Register<K>,
+    id: u32,
+    value: Value,
+    table: &mut T,
+    light: Light,
+) -> Result<(), Value>
+    requires there { id < length objects.old.objects }
+    requires accepted { IsAccepted (fed_at K.fed (map K.state objects.old.objects) id value) }
+    ensures ok { OnOk result
+        (fed_at K.fed (map K.state objects.old.objects) id value ≡ Ok (map K.state objects.new.objects)) }
+    ensures ok_told { let was_lit = lit_at K.is_lit (map K.state objects.old.objects) id in
+        OnOk result ((l : Light) →
+            T.is_lit table.new l ≡ lit_after (newly_lit was_lit light) [] l (T.is_lit table.old l)) }
+    ensures err { OnErr result (map K.state objects.new.objects ≡ map K.state objects.old.objects) }
+    ensures err_told { OnErr result ((l : Light) → T.is_lit table.new l ≡ T.is_lit table.old l) }
+    ensures back { IfErr result (λ back. back ≡ value) }
+    ensures entries { T.entries table.new ≡ T.entries table.old }
+    ensures len { length objects.new.objects ≡ length objects.old.objects }
+{
+    let Ok(()) = objects.room(Some(id)) else {
+        return Err(value);
+    };
+    let Ok(()) = tell_lit(alloc, table, is_lit_at(objects, id), light) else {
+        return Err(value);
+    };
+    match objects.feed(id, value) {
+        Ok(()) => Ok(()),
+        Err(_) => unreachable!(),
+    }
+}
+
+/// Tells the table of a light that comes on, if it was not lit.
+///
+/// # Errors
+/// Want of memory: nothing was told.
+pub(crate) fn tell_lit<T: Table>(
+    alloc: Global,
+    table: &mut T,
+    was_lit: bool,
+    light: Light,
+) -> Result<(), AllocError>
+    ensures ok { OnOk result ((l : Light) →
+        T.is_lit table.new l ≡ lit_after (newly_lit was_lit light) [] l (T.is_lit table.old l)) }
+    ensures err { OnErr result ((l : Light) → T.is_lit table.new l ≡ T.is_lit table.old l) }
+    ensures entries { T.entries table.new ≡ T.entries table.old }
+{
+    if was_lit {
+        return Ok(());
+    }
+    table.change(alloc, &[], None, &[light], &[])
+}
