@@ -66,6 +66,11 @@ refused_line why = line (codes "refused" ++ spaced (number_of why) ++ codes " " 
 abbrev pub reply_text : Reply → List ℕ
 reply_text (reply.Thread t) = line (codes "thread" ++ spaced t.0)
 reply_text (reply.Chan c) = line (codes "chan" ++ spaced c.0)
+reply_text (reply.IVar i) = line (codes "ivar" ++ spaced i.0)
+reply_text (reply.MVar m) = line (codes "mvar" ++ spaced m.0)
+reply_text (reply.Mailbox b) = line (codes "mailbox" ++ spaced b.0)
+reply_text (reply.MChan x) = line (codes "mchan" ++ spaced x.0)
+reply_text (reply.Port p) = line (codes "port" ++ spaced p.0)
 reply_text (reply.Nack k) = line (codes "nack" ++ spaced k.0)
 reply_text reply.Done = line (codes "ok")
 reply_text (reply.Committed c) = committed_text c

@@ -51,6 +51,11 @@ fn push_reply(alloc: Global, text: &mut String, reply: &Reply) -> Result<(), All
     match reply {
         Reply::Thread(thread) => writeln!(text, "thread {}", thread.0),
         Reply::Chan(channel) => writeln!(text, "chan {}", channel.0),
+        Reply::IVar(variable) => writeln!(text, "ivar {}", variable.0),
+        Reply::MVar(variable) => writeln!(text, "mvar {}", variable.0),
+        Reply::Mailbox(mailbox) => writeln!(text, "mailbox {}", mailbox.0),
+        Reply::MChan(channel) => writeln!(text, "mchan {}", channel.0),
+        Reply::Port(port) => writeln!(text, "port {}", port.0),
         Reply::Nack(nack) => writeln!(text, "nack {}", nack.0),
         Reply::Done => text.push_str("ok\n"),
         Reply::Committed(committed) => push_committed(alloc, text, committed),
@@ -147,11 +152,11 @@ fn push_resume(alloc: Global, text: &mut String, resume: &Resume) -> Result<(), 
     ensures { let line = spec.resume_line resume.now in
         OnOk result (string_bytes text.new ≡ string_bytes text.old ++ line) }
 {
-    let thread = resume.tid().0;
-    let value = resume.value().show(alloc)?;
+    let thread = resume.tid.0;
+    let value = resume.value.show(alloc)?;
     write!(text, "resume {thread} ")?;
     text.push_str(value.as_str())?;
-    for function in resume.wraps() {
+    for function in &resume.wraps {
         push_function(alloc, text, function)?;
     }
     text.push_str("\n")
@@ -162,7 +167,7 @@ fn push_fired(text: &mut String, resume: &Resume) -> Result<(), AllocError>
     ensures { let numbers = flat_map spec.spaced resume.now.fired in
         OnOk result (string_bytes text.new ≡ string_bytes text.old ++ numbers) }
 {
-    push_nacks(text, resume.fired())
+    push_nacks(text, &resume.fired)
 }
 
 fn push_function(alloc: Global, text: &mut String, function: &FnRef) -> Result<(), AllocError>
