@@ -1,11 +1,10 @@
 -- The ticks that light, and those that nobody waits for any more.
-use Rattle.std.proofs.Common.{◌≡◌, ℕ, ◌+◌, ◌-◌, ◌<◌, ◌≤◌, Bool, true, false, ◌&&◌, ◌||◌, nat_eq, nat_lt, nat_le, cond, List, [], ◌∷◌, ◌++◌, length, map, refl, ap, sym, ◌∙◌, arith, zero, suc, Option, Some, None, Result, Ok, Err, IfOk, append_assoc, drop, add-one, length-append}
-use Rattle.std.specs.Prelude.{slice_get, Contains, ◌↔◌}
-use Rattle.std.specs.Option.{option_map}
-use Rattle.std.specs.List.{filter, list_any, cons_option}
+use Rattle.std.proofs.Common.{◌≡◌, ℕ, ◌+◌, ◌<◌, ◌≤◌, Bool, true, false, ◌&&◌, ◌||◌, nat_eq, nat_lt, nat_le, cond, List, [], ◌∷◌, ◌++◌, length, map, refl, ap, sym, ◌∙◌, arith, zero, suc, Option, Some, None, Result, Ok, Err, IfOk, append_assoc, drop, add-one, length-append}
+use Rattle.std.specs.Prelude.{Contains, ◌↔◌}
+use Rattle.std.specs.List.{filter, cons_option}
 use Rattle.std.proofs.lemmas.Bool.Decides.{nat_tests}
 use Rattle.cml_value.specs.Value.{PlainBase}
-use Rattle.cml_value.specs.Group.{PlainGroup, PlainLeaf, bases, leaves}
+use Rattle.cml_value.specs.Group.{PlainGroup, bases, leaves}
 use Rattle.cml_group.specs.Leaves.{leaf_base}
 use Rattle.cml_scan.specs.Light.{light}
 use Rattle.cml_scan.specs.Table.{has_light}
@@ -59,6 +58,7 @@ module _ (p : PlainBase → Bool) where
       one : (o : Option Light) → length (cons_option o []) ≤ 1
       one None = omega arith
       one (Some l) = omega arith
+
       at : (s : Bool) (o : Option Light) → length (lights_in (cond s (b ∷ []) [])) ≤ 1
       at true o = one (light b)
       at false o = omega arith
@@ -84,7 +84,7 @@ module _ (p : PlainBase → Bool) where
 
 -- what is said of the ticks that come when the clock moves
 module _ (clock : PlainClock) (ts : List PlainThread) (counts : Counts ts clock.waited) (to : ℕ) (ticks : List ℕ) (lights : List Light)
-  (exact : (t : ℕ) → Contains ticks t ↔ LightsTick clock to t) (is : lights ≡ map of.Alarm ticks) where
+    (exact : (t : ℕ) → Contains ticks t ↔ LightsTick clock to t) (is : lights ≡ map of.Alarm ticks) where
   pub ticks_only : (l : Light) → has_light lights l ≡ true → comes clock.tick to l ≡ true
   ticks_only = rw is (alarms_only clock.tick to ticks (λ t c. (let e = (exact t).0 c in (e.1, e.2))))
 

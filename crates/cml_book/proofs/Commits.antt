@@ -222,7 +222,7 @@ keeps_single w es told room t n g b es' told' w1 w2 lit unlit room' k waits give
     λ u. let e = awaited-resume u 0 t.0 w.threads g waits in omega arith in
     let k2 = keeps_dim r (taken r b) (without (t ∷ []) es) (λ l. lit_after (map nack_light (lost g n)) [] l (told l)) told' room out k1 (taken-threads r b) (taken-nacks r b)
     (λ l. tells l ∙ ap (λ x. lit_after x unlit l (told l)) lights ∙ ap (λ x. lit_after (map nack_light (lost g n)) x l (told l)) is_out
-      ∙ told_dimmed (lost g n) out (single_apart r b (bases_awaited (pending w)) (bases g) []) l (told l))
+    ∙ told_dimmed (lost g n) out (single_apart r b (bases_awaited (pending w)) (bases g) []) l (told l))
     (right_single r b (bases_awaited (pending w)) (bases g) [] (can_give_after w t.0 n b ∙ gives) counts) in
     rw (world, size) (keeps_same (taken r b) (without (t ∷ []) es) told' room es' told' gone (λ l. refl) k2)
 
@@ -280,6 +280,7 @@ few_left p (b ∷ bs) = at (p b) (light b) refl (few_left p bs)
     one : (o : Option Light) → length (cons_option o (lights_in (filter p bs))) ≤ suc (length (lights_in (filter p bs)))
     one None = omega arith
     one (Some l) = omega arith
+
     at : (s : Bool) (o : Option Light) → light b ≡ o → length (lights_in (filter p bs)) ≤ length bs → length (lights_in (cond s (b ∷ filter p bs) (filter p bs))) ≤ suc (length bs)
     at true o e ih = let more = one (light b) in omega arith
     at false o e ih = omega arith
@@ -346,9 +347,9 @@ keeps_pair w es told room h i o j a g es' told' w1 w2 lit unlit room' k first se
     let nacks : lit ≡ map nack_light (lost a i ++ lost g j) = lights ∙ sym (map-append nack_light (lost a i) (lost g j)) in
     let k3 = keeps_dim r2 r2 (without (o ∷ []) (without (h ∷ []) es)) (λ l. lit_after (map nack_light (lost g j)) [] l (lit_after (map nack_light (lost a i)) [] l (told l))) told' room out k2 refl refl
     (λ l. tells l ∙ ap (λ x. lit_after x unlit l (told l)) nacks ∙ ap (λ x. lit_after (map nack_light (lost a i ++ lost g j)) x l (told l)) dark
-      ∙ told_dimmed (lost a i ++ lost g j) out (pair_apart all (bases a) (bases g) (bases g) (bases a)) l (told l)
-      ∙ ap (λ x. cond (has_light out l) false (lit_after x [] l (told l))) (map-append nack_light (lost a i) (lost g j))
-      ∙ ap (cond (has_light out l) false) (lit_more (map nack_light (lost a i)) (map nack_light (lost g j)) l (told l)))
+    ∙ told_dimmed (lost a i ++ lost g j) out (pair_apart all (bases a) (bases g) (bases g) (bases a)) l (told l)
+    ∙ ap (λ x. cond (has_light out l) false (lit_after x [] l (told l))) (map-append nack_light (lost a i) (lost g j))
+    ∙ ap (cond (has_light out l) false) (lit_more (map nack_light (lost a i)) (map nack_light (lost g j)) l (told l)))
     (right_pair r2 all (bases a) (bases g) counts) in
     rw (both, size) (keeps_same r2 (without (o ∷ []) (without (h ∷ []) es)) told' room es' told' (gone ∙ sym (without_two h o es)) (λ l. refl) k3)
 

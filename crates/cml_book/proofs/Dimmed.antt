@@ -1,15 +1,14 @@
 -- What a table that was told which lights went out still knows.
-use Rattle.std.proofs.Common.{◌≡◌, ◌≢◌, ℕ, ◌+◌, ◌<◌, ◌≤◌, Bool, true, false, ◌&&◌, ◌||◌, nat_eq, nat_lt, nat_le, cond, List, [], ◌∷◌, ◌++◌, length, map, refl, ap, sym, ◌∙◌, arith, zero, suc, Option, Some, None, slice_index_or, subst}
+use Rattle.std.proofs.Common.{◌≡◌, ◌≢◌, ℕ, ◌+◌, ◌<◌, ◌≤◌, Bool, true, false, ◌&&◌, ◌||◌, nat_eq, nat_lt, nat_le, cond, List, [], ◌∷◌, ◌++◌, map, refl, ap, sym, ◌∙◌, arith, Option, Some, None, slice_index_or, subst}
 use Rattle.std.specs.Prelude.{All, Contains, slice_get, slice_set}
-use Rattle.std.specs.List.{filter, list_any, flat_map}
+use Rattle.std.specs.List.{filter}
 use Rattle.std.proofs.lemmas.Bool.Decides.{nat_tests}
 use Rattle.std.proofs.lemmas.List.{map-append}
 use Rattle.std.proofs.lemmas.List.Folds.{list_any-append}
 use Rattle.std.proofs.lemmas.List.Elements.{All-nil, All-cons, All-head, All-tail, All-contains_itself, All-map}
 use Rattle.cml_value.specs.Value.{PlainValue, PlainBase, always, iget, mtake, mget, mswap, mail_recv, port_recv, at_tick}
-use Rattle.cml_value.specs.Group.{PlainGroup, bases, leaf_count}
-use Rattle.cml_value.specs.declared.number.Tid.{Tid}
-use Rattle.cml_scan.specs.World.{PlainThread, running, pending_on, PlainWorld, PlainEntry, pending, pending_from}
+use Rattle.cml_value.specs.Group.{bases}
+use Rattle.cml_scan.specs.World.{PlainWorld, PlainEntry, pending, pending_from}
 use Rattle.cml_scan.specs.Light.{is_full, has_item, lit, light, light_of, is_told}
 use Rattle.cml_scan.specs.Scan.{PlainOffer, leaves_from, offers_of}
 use Rattle.cml_scan.specs.Table.{same_light, has_light, lit_after, AgreeFor, AreApart}

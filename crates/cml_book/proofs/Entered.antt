@@ -1,9 +1,9 @@
 -- What a group keeps as it enters: its leaves in number, its scopes, its depth and its nodes. Only an after changes, and none is left.
-use Rattle.std.proofs.Common.{◌≡◌, ◌≢◌, ℕ, zero, suc, ◌+◌, ◌<◌, Bool, true, false, ◌||◌, max, List, [], ◌∷◌, ◌++◌, length, get_or, map, refl, ap, sym, ◌∙◌, arith}
+use Rattle.std.proofs.Common.{◌≡◌, ℕ, zero, suc, ◌+◌, ◌<◌, Bool, true, false, ◌||◌, max, List, [], ◌∷◌, ◌++◌, length, get_or, map, refl, ap, sym, ◌∙◌, arith}
 use Rattle.std.specs.List.{list_any}
 use Rattle.std.proofs.lemmas.List.{length-map, map-append}
 use Rattle.std.proofs.lemmas.List.Folds.{list_any-append}
-use Rattle.cml_value.specs.Value.{PlainBase, after_ticks, nack, PlainFunction}
+use Rattle.cml_value.specs.Value.{PlainBase, after_ticks, PlainFunction}
 use Rattle.cml_value.specs.Limits.{base_depth, base_nodes, function_depth, function_nodes, is_within, max_depth, max_nodes}
 use Rattle.cml_value.specs.Group.{PlainGroup, never, leaf, choose, wrap, scope, PlainGroups, no_groups, groups_and, groups, PlainLeaf, wrapped_by, leaves, leaves_of_all, leaf_count, bases, PlainScope, scopes, scopes_from, scopes_from_all, group_depth, groups_depth, group_nodes, groups_nodes, group_fits}
 use Rattle.cml_book.specs.Entering.{entered_base, entered, entered_all}

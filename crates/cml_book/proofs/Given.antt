@@ -1,5 +1,5 @@
 -- An object that gave and is as it was.
-use Rattle.std.proofs.Common.{◌≡◌, ℕ, List, [], ◌∷◌, map, refl, ap, zero, suc, Option, Some, None, slice_index_or}
+use Rattle.std.proofs.Common.{◌≡◌, ℕ, List, [], ◌∷◌, map, refl, ap, zero, suc, Option, Some, None}
 use Rattle.std.specs.Prelude.{slice_get, slice_set}
 use Rattle.std.specs.Option.{option_map_or}
 use Rattle.cml_value.specs.Value.{PlainValue}
@@ -27,3 +27,8 @@ set_ivars w vs e = rw e refl
 
 pub set_mvars : (w : PlainWorld) (vs : List (Option PlainValue)) → vs ≡ w.mvars → record w { mvars = vs } ≡ w
 set_mvars w vs e = rw e refl
+
+pub set_back : {X : Type 0} (xs : List X) (i : ℕ) (x y : X) → slice_get xs i ≡ Some y → slice_set (slice_set xs i x) i y ≡ xs
+set_back [] i x y h = refl
+set_back (z ∷ xs) zero x y h = let same : z ≡ y = cc in rw same refl
+set_back (z ∷ xs) (suc i) x y h = ap (λ ys. z ∷ ys) (set_back xs i x y h)

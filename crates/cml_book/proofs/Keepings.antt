@@ -1,5 +1,5 @@
 -- What a book keeps after each kind of change.
-use Rattle.std.proofs.Common.{◌≡◌, ◌≢◌, ℕ, ◌+◌, ◌*◌, ◌≤◌, Bool, true, false, not, ◌||◌, nat_eq, nat_lt, cond, List, [], ◌∷◌, ◌++◌, length, map, nat_le, refl, ap, sym, ◌∙◌, arith, zero, suc, Option, Some, None, Result, Ok, Err, slice_index_or}
+use Rattle.std.proofs.Common.{◌≡◌, ◌≢◌, ℕ, ◌+◌, Bool, true, false, not, ◌||◌, nat_eq, nat_lt, cond, List, [], ◌∷◌, ◌++◌, length, map, nat_le, refl, ap, sym, ◌∙◌, arith, zero, suc, Option, Some, None, Result, Ok, Err, slice_index_or}
 use Rattle.std.specs.Prelude.{All, slice_get, slice_set}
 use Rattle.std.specs.List.{filter, list_any}
 use Rattle.std.proofs.lemmas.Bool.Decides.{nat_tests}
@@ -23,7 +23,7 @@ use Rattle.cml_book.specs.MakeChan.{make_chan}
 use Rattle.cml_book.specs.Nack.{nack}
 use Rattle.cml_book.specs.Sync.{times_named, waiting}
 use Rattle.cml_book.specs.Commit.{released, settled}
-use Rattle.cml_book.specs.Keeping.{AreLive, nack_light, lights_in, Room, Fits, Keeps}
+use Rattle.cml_book.specs.Keeping.{AreLive, nack_light, lights_in, Room, Fits, Grows, Keeps}
 use Rattle.cml_book.proofs.Pendings.{pending-push, pending-end, pending-wait, pending-resume, without_none}
 use Rattle.cml_book.proofs.LightLemmas.{agree_still, has_ended-push, has_ended-set, has_fired-push, light_of-same}
 use Rattle.cml_book.proofs.NackLemmas.{CanEnter, lives-push, nacks-wait, nacks-resume, lives-settled_group, fired-settled_group, lives-enter, fired-enter, get-set_other}
@@ -51,6 +51,15 @@ module _ (w : PlainWorld) (es : List PlainEntry) (told : Light → Bool) (room :
     told_lights = agree_still (pending w) told told' (light_of w) (light_of w) (λ l e. lights l ∙ e) k.told_lights;
     nacks_live = k.nacks_live;
     roomy = rw same k.roomy;
+  }
+
+  -- and with more room
+  pub keeps_roomier : (room' : Room) → Grows room room' → Keeps w es told room → Keeps w es told room'
+  keeps_roomier room' more k = record {
+    told_groups = k.told_groups;
+    told_lights = k.told_lights;
+    nacks_live = k.nacks_live;
+    roomy = All-weaker (λ (x : PlainEntry). Fits x.group room) (λ x. Fits x.group room') (λ x h. more x.group h) es k.roomy;
   }
 
   -- a new thread

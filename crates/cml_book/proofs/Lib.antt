@@ -18,3 +18,6 @@ pub mod Accepted
 pub mod Runs
 pub mod PendingThreads
 pub mod ObjectLemmas
+pub mod PortLemmas
+pub mod PortSteps
+pub mod PostedLights

@@ -1,6 +1,6 @@
 -- What commands on objects do to what a book keeps.
-use Rattle.std.proofs.Common.{◌≡◌, ◌≢◌, ℕ, ◌<◌, Bool, true, false, not, nat_eq, nat_lt, cond, ◌||◌, List, [], ◌∷◌, ◌++◌, length, map, refl, ap, sym, ◌∙◌, subst, arith, zero, suc, Option, Some, None, Result, Ok, Err, slice_set}
-use Rattle.std.specs.Prelude.{OnOk, OnErr, IsTrue, slice_get, is_some, is_none, unwrap_or}
+use Rattle.std.proofs.Common.{◌≡◌, ◌≢◌, ℕ, ◌<◌, Bool, true, false, nat_eq, nat_lt, cond, ◌||◌, List, [], ◌∷◌, ◌++◌, length, length-set, map, refl, ap, sym, ◌∙◌, subst, arith, zero, suc, Option, Some, None, Result, Ok, Err, slice_set}
+use Rattle.std.specs.Prelude.{OnOk, OnErr, slice_get, is_some, is_none, unwrap_or}
 use Rattle.std.specs.Option.{option_map_or}
 use Rattle.std.proofs.lemmas.List.{map-id, length-map}
 use Rattle.std.proofs.lemmas.Bool.Decides.{nat_tests}
@@ -20,7 +20,6 @@ use Rattle.cml_queues.specs.Queues.{queued, is_at_limit, is_filled, is_full_at, 
 use Rattle.cml_base.specs.Registered.{fed_at, lit_at, put_back}
 use Rattle.cml_syncvar.specs.Variables.{put_into}
 use Rattle.cml_value.specs.Limits.{value_fits}
-use Rattle.cml_book.specs.Keeping.{Keeps, Room}
 use Rattle.cml_book.specs.Put.{iput, mput}
 use Rattle.cml_book.specs.Mail.{mail}
 use Rattle.cml_book.specs.Views.{queues_of}
@@ -44,16 +43,16 @@ stays_kept w w' es es' told told' threads nacks same lights room k = record {
   roomy = rw same k.roomy;
 }
 
-there_set : {X : Type 0} (xs : List X) (i : ℕ) (x : X) → i < length xs → slice_get (slice_set xs i x) i ≡ Some x
+pub there_set : {X : Type 0} (xs : List X) (i : ℕ) (x : X) → i < length xs → slice_get (slice_set xs i x) i ≡ Some x
 there_set [] i x h = absurd (omega arith)
 there_set (y ∷ xs) zero x h = refl
 there_set (y ∷ xs) (suc i) x h = there_set xs i x (omega arith)
 
-there_push : {X : Type 0} (xs : List X) (x : X) → slice_get (xs ++ x ∷ []) (length xs) ≡ Some x
+pub there_push : {X : Type 0} (xs : List X) (x : X) → slice_get (xs ++ x ∷ []) (length xs) ≡ Some x
 there_push [] x = refl
 there_push (y ∷ xs) x = there_push xs x
 
-other_push : {X : Type 0} (xs : List X) (j : ℕ) (x : X) → j ≢ length xs → slice_get (xs ++ x ∷ []) j ≡ slice_get xs j
+pub other_push : {X : Type 0} (xs : List X) (j : ℕ) (x : X) → j ≢ length xs → slice_get (xs ++ x ∷ []) j ≡ slice_get xs j
 other_push [] zero x h = absurd (h refl)
 other_push [] (suc j) x h = refl
 other_push (y ∷ xs) zero x h = refl
@@ -77,7 +76,7 @@ test_same f (y ∷ xs) (suc i) zero x h p q = refl
 test_same f (y ∷ xs) (suc i) (suc j) x h p q = test_same f xs i j x (omega arith) p q
 
 -- the same, after something was put behind all
-test_push : {X : Type 0} (f : Option X → Bool) (xs : List X) (j : ℕ) (x : X) → f (Some x) ≡ true
+pub test_push : {X : Type 0} (f : Option X → Bool) (xs : List X) (j : ℕ) (x : X) → f (Some x) ≡ true
     → f (slice_get (xs ++ x ∷ []) j) ≡ cond (nat_eq j (length xs) || false) true (f (slice_get xs j))
 test_push f xs j x p = at (nat_eq j (length xs)) refl
   where
@@ -85,7 +84,7 @@ test_push f xs j x p = at (nat_eq j (length xs)) refl
     at true e = let same : j ≡ length xs = grind (arith, nat_tests) in rw same (ap f (there_push xs x) ∙ p)
     at false e = let differ : j ≢ length xs = grind (arith, nat_tests) in ap f (other_push xs j x differ)
 
-pub quiet_push : {X : Type 0} (f : Option X → Bool) (xs : List X) (j : ℕ) (x : X) → f (Some x) ≡ f None → f (slice_get (xs ++ x ∷ []) j) ≡ f (slice_get xs j)
+pub quiet_push : {X B : Type 0} (f : Option X → B) (xs : List X) (j : ℕ) (x : X) → f (Some x) ≡ f None → f (slice_get (xs ++ x ∷ []) j) ≡ f (slice_get xs j)
 quiet_push f [] zero x p = p
 quiet_push f [] (suc j) x p = refl
 quiet_push f (y ∷ xs) zero x p = refl
@@ -218,6 +217,13 @@ added_fills qs b j v h = ap (λ (rs : List (List PlainValue)). has_item (slice_g
 
 pub added_same : (qs : List (List PlainValue)) (b j : ℕ) (v : PlainValue) → b < length qs → has_item (slice_get qs b) ≡ true → has_item (slice_get (added_at qs b v) j) ≡ has_item (slice_get qs j)
 added_same qs b j v h was = ap (λ (rs : List (List PlainValue)). has_item (slice_get rs j)) (added_is qs b v h) ∙ test_same has_item qs b j _ h (item_added (unwrap_or (slice_get qs b) []) v) was
+
+pub length_added : (qs : List (List PlainValue)) (b : ℕ) (v : PlainValue) → length (added_at qs b v) ≡ length qs
+length_added qs b v = at (slice_get qs b)
+  where
+    at : (o : Option (List PlainValue)) → length (option_map_or (λ s. slice_set qs b (s ++ v ∷ [])) o qs) ≡ length qs
+    at None = refl
+    at (Some s) = length-set qs b (s ++ v ∷ [])
 
 module _ (w : PlainWorld) (told told' : Light → Bool) where
   pub mail_true : (b : MboxId) (v : PlainValue) → b.0 < length w.mailboxes

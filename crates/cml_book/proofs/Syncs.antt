@@ -1,21 +1,24 @@
 -- A wait on a group that is not refused.
-use Rattle.std.proofs.Common.{◌≡◌, ℕ, ◌*◌, ◌≤◌, Bool, true, false, not, ◌&&◌, List, [], ◌∷◌, length, refl, ap, sym, subst, ◌∙◌, Some, None, Ok, Err, cond}
-use Rattle.std.specs.Prelude.{All}
+use Rattle.std.proofs.Common.{◌≡◌, ℕ, Bool, true, false, not, List, [], ◌∷◌, refl, ap, sym, subst, ◌∙◌, Some, None, Ok, Err, cond}
+use Rattle.std.specs.Prelude.{All, slice_get}
 use Rattle.std.specs.List.{filter}
 use Rattle.std.proofs.lemmas.List.Elements.{All-nil, All-cons}
 use Rattle.cml_value.specs.Group.{PlainGroup, bases, scopes, nacks_of}
-use Rattle.cml_scan.specs.World.{PlainWorld, PlainEntry}
+use Rattle.cml_scan.specs.World.{PlainWorld, PlainEntry, running, pending_on, live}
 use Rattle.cml_scan.specs.Light.{light_of}
 use Rattle.cml_scan.specs.Table.{has_light, same_light, AreApart, with_entry, without, lit_after}
 use Rattle.cml_scan.specs.declared.object.Light.{Light}
 use Rattle.cml_scan.proofs.Telling.{same_light_is}
 use Rattle.cml_book.specs.declared.refusal.Refusal.{Refusal}
 use Rattle.cml_book.specs.Entering.{entered}
-use Rattle.cml_book.specs.Sync.{sync, sync_refusal, waiting}
-use Rattle.cml_book.specs.Keeping.{lights_in, Room, Fits, Keeps}
+use Rattle.cml_book.specs.Sync.{sync, sync_refusal, waiting, with_each}
+use Rattle.cml_book.specs.Outcomes.{with_thread}
+use Rattle.cml_book.specs.Commit.{awaited, group_awaited}
+use Rattle.cml_book.specs.Keeping.{lights_in, AreFresh, Room, Fits, Keeps}
+use Rattle.cml_book.proofs.Given.{set_back}
 use Rattle.cml_book.proofs.Accepted.{Accepted}
 use Rattle.cml_book.proofs.Entered.{scopes-entered}
-use Rattle.cml_book.proofs.NackLemmas.{CanEnter, can_enter_is}
+use Rattle.cml_book.proofs.NackLemmas.{CanEnter, can_enter_is, can_enter_fresh, get-set_same}
 use Rattle.cml_book.proofs.Keepings.{keeps_wait}
 
 pub sync_refused : (w : PlainWorld) (t : ℕ) (g : PlainGroup) (why : Refusal) → sync_refusal w t g ≡ Some why → sync w t g ≡ Err why
@@ -67,3 +70,25 @@ keeps_arrives w es told room t g flat room' es' told' lit unlit shown k a is own
     keeps_wait w es told room t flat room' es' told' k a.thread_runs (enters_flat w t g flat a is)
     own more (came ∙ ap (λ x. with_entry (record { thread = t; group = x }) (without [] es)) same)
     (λ l. tells l ∙ ap (λ x. lit_after x unlit l (told l)) on ∙ ap (λ x. lit_after (filter (light_of w) (lights_in (bases flat))) x l (told l)) off)
+
+-- the thread waits, and its nacks are as they were
+pub waits_now : (w w' : PlainWorld) (t : ℕ) (flat : PlainGroup) → slice_get w.threads t ≡ Some running → w' ≡ with_thread w t (pending_on flat) → slice_get w'.threads t ≡ Some (pending_on flat)
+waits_now w w' t flat runs is = ap (λ (x : PlainWorld). slice_get x.threads t) is ∙ get-set_same w.threads t (pending_on flat) running runs
+
+pub fresh_now : (w w' : PlainWorld) (t : ℕ) (flat : PlainGroup) → slice_get w.threads t ≡ Some running → w' ≡ with_thread w t (pending_on flat) → CanEnter t (nacks_of (scopes flat)) w.nacks
+    → AreFresh (nacks_of (scopes (group_awaited w' t))) w'.nacks
+fresh_now w w' t flat runs is can =
+    let group : group_awaited w' t ≡ flat = ap awaited (waits_now w w' t flat runs is) in
+    let nacks : w'.nacks ≡ w.nacks = ap (λ (x : PlainWorld). x.nacks) is in
+    rw (group, nacks) (can_enter_fresh t _ w.nacks can)
+
+-- the thread waits, and its nacks are live
+pub entered_now : (w w' w'' : PlainWorld) (t : ℕ) (flat : PlainGroup) → slice_get w.threads t ≡ Some running → w' ≡ with_thread w t (pending_on flat)
+    → w'' ≡ record w' { nacks = with_each (nacks_of (scopes (group_awaited w' t))) live w'.nacks } → w'' ≡ waiting w t flat
+entered_now w w' w'' t flat runs is then_is =
+    let group : group_awaited w' t ≡ flat = ap awaited (waits_now w w' t flat runs is) in
+    then_is ∙ ap (λ f. record w' { nacks = with_each (nacks_of (scopes f)) live w'.nacks }) group ∙ ap (λ (x : PlainWorld). record x { nacks = with_each (nacks_of (scopes flat)) live x.nacks }) is
+
+-- the thread runs again
+pub back_now : (w w' w'' : PlainWorld) (t : ℕ) (flat : PlainGroup) → slice_get w.threads t ≡ Some running → w' ≡ with_thread w t (pending_on flat) → w'' ≡ with_thread w' t running → w'' ≡ w
+back_now w w' w'' t flat runs is again = again ∙ ap (λ (x : PlainWorld). with_thread x t running) is ∙ ap (λ ts. record w { threads = ts }) (set_back w.threads t (pending_on flat) running runs)

@@ -1,5 +1,5 @@
 -- The command that moves the clock, and the ticks that threads wait for.
-use Rattle.std.specs.Prelude.{ℕ, ◌<◌, ◌==◌, Bool, false, nat_lt, List, Contains, Ok}
+use Rattle.std.specs.Prelude.{ℕ, ◌<◌, nat_lt, List, Contains, Ok}
 use Rattle.std.specs.List.{flat_map}
 use Rattle.cml_value.specs.Value.{PlainBase, at_tick}
 use Rattle.cml_value.specs.Group.{bases}

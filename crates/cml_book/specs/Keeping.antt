@@ -1,5 +1,5 @@
 -- What a book keeps at all times.
-use Rattle.std.specs.Prelude.{ℕ, ◌≡◌, ◌+◌, ◌*◌, ◌<◌, ◌≤◌, ◌==◌, Bool, true, false, not, List, [], length, All, Option, Some, slice_get, count_by}
+use Rattle.std.specs.Prelude.{ℕ, ◌≡◌, ◌+◌, ◌*◌, ◌≤◌, ◌==◌, Bool, true, false, not, List, length, All, Option, Some, slice_get, count_by}
 use Rattle.std.specs.List.{flat_map, filter_map}
 use Rattle.cml_value.specs.Group.{PlainGroup, scopes, nacks_of, leaf_count}
 use Rattle.cml_group.specs.LaidOut.{max_leaves}
@@ -88,6 +88,10 @@ pub record Room : Type 0 where
 pub record Fits (g : PlainGroup) (room : Room) : Type 0 where
   pub nacks : 2 * length (scopes g) ≤ room.lit
   pub ticks : 2 * leaf_count g + 1 ≤ room.unlit
+
+-- what there was room for, there is room for
+abbrev pub Grows : Room → Room → Type 0
+Grows old new = (g : PlainGroup) → Fits g old → Fits g new
 
 -- The table was told the pending groups, and of each light that one of their leaves waits for whether it is lit. The nacks of the
 -- pending groups are live. There is room for the lights that a commit can light and put out.

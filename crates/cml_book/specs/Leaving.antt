@@ -1,5 +1,5 @@
 -- What goes out when the parties of a row leave, and what lights when the clock moves.
-use Rattle.std.specs.Prelude.{ℕ, ◌+◌, ◌==◌, ◌&&◌, nat_lt, nat_le, Bool, true, false, if◌then◌else◌, List, [], ◌∷◌, drop, Option, Some, None, slice_get}
+use Rattle.std.specs.Prelude.{ℕ, ◌+◌, ◌==◌, ◌&&◌, nat_lt, nat_le, Bool, true, false, List, [], ◌∷◌, Option, Some, None, slice_get}
 use Rattle.std.specs.Borrow.{Bor}
 use Rattle.cml_value.specs.Value.{PlainBase, iget, mtake, mget, mswap, mail_recv, port_recv, at_tick}
 use Rattle.cml_value.specs.Group.{PlainGroup, bases}

@@ -23,10 +23,13 @@ abbrev pub make_port : PlainWorld → ℕ → Outcome PortId
 make_port w x =
     refuse_if (not (nat_lt x (length w.mchans))) Object
     (refuse_if (nat_le max_objects (length w.ports)) Full
-    (Ok (record w {
-      mchans = with_port w.mchans x (length w.ports);
-      ports = w.ports ++ [] ∷ [];
-    }, record { 0 = length w.ports })))
+    (Ok (
+      record w {
+        mchans = with_port w.mchans x (length w.ports);
+        ports = w.ports ++ [] ∷ [];
+      },
+      record { 0 = length w.ports },
+    )))
 
 -- the ports of a channel once the port `copy` hears what the port `p` hears
 abbrev pub heard_by : ℕ → ℕ → List ℕ → List ℕ
@@ -37,7 +40,10 @@ abbrev pub copy_port : PlainWorld → ℕ → Outcome PortId
 copy_port w p =
     refuse_if (not (nat_lt p (length w.ports))) Object
     (refuse_if (nat_le max_objects (length w.ports)) Full
-    (Ok (record w {
-      mchans = map (heard_by (length w.ports) p) w.mchans;
-      ports = w.ports ++ unwrap_or (slice_get w.ports p) [] ∷ [];
-    }, record { 0 = length w.ports })))
+    (Ok (
+      record w {
+        mchans = map (heard_by (length w.ports) p) w.mchans;
+        ports = w.ports ++ unwrap_or (slice_get w.ports p) [] ∷ [];
+      },
+      record { 0 = length w.ports },
+    )))

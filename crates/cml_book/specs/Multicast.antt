@@ -3,6 +3,10 @@ use Rattle.std.specs.Prelude.{ℕ, not, length, nat_lt, Ok}
 use Rattle.cml_value.specs.Value.{PlainValue}
 use Rattle.cml_value.specs.Limits.{value_fits}
 use Rattle.cml_queues.specs.Posts.{any_is_full, posted}
+use Rattle.cml_queues.specs.declared.delivery.PostFault.{PostFault}
+use Rattle.cml_queues.specs.declared.delivery.PostFault.TheVariants as post
+use Rattle.cml_book.specs.declared.refusal.Fault.{Fault}
+use Rattle.cml_book.specs.declared.refusal.Fault.TheVariants.{Refused, Memory}
 use Rattle.cml_scan.specs.World.{PlainWorld}
 use Rattle.cml_book.specs.declared.refusal.Refusal.TheVariants.{Object, Deep, Full}
 use Rattle.cml_book.specs.Outcomes.{Outcome, refuse_if}
@@ -16,3 +20,8 @@ multicast w x v =
     (refuse_if (not (value_fits v)) Deep
     (refuse_if (any_is_full (ports_at w.mchans x) w.ports) Full
     (Ok (record w { ports = posted v (ports_at w.mchans x) w.ports }, tt))))
+
+-- why a post was not made
+abbrev pub fault_of : PostFault → Fault
+fault_of post.Full = Refused Full
+fault_of post.Memory = Memory

@@ -17,7 +17,7 @@ ghost use Rattle.cml_book.specs.Clock.{IsAlarm};
 
 use crate::command::{Committed, Resume};
 use crate::lights::Arrival;
-use crate::nacks::push_lights;
+use crate::nacks::{make_room, push_lights};
 use crate::party::sent;
 use crate::refusal::{Fault, Refusal};
 use crate::state::State;
@@ -59,7 +59,7 @@ impl<T: Table> Model for Book<T> {
 
     ghost invariant = { λ b.
         (Keeps b.state (T.entries b.table) (T.is_lit b.table)
-            (record { lit = vec_capacity b.lit; unlit = vec_capacity b.unlit }))
+        (record { lit = vec_capacity b.lit; unlit = vec_capacity b.unlit }))
         × (b.lit.items ≡ []) × (b.unlit.items ≡ []) };
 }
 
@@ -122,18 +122,27 @@ impl<T: Table> Book<T> {
         if let Some(why) = self.state.sync_refusal(thread, group) {
             return Err(Fault::Refused(why));
         }
-        let Arrival { flat, lit, unlit } = self.state.arrival(alloc, group)?;
-        self.lit.reserve(2 * flat.scopes().len())?;
-        self.unlit.reserve(2 * flat.len() + 1)?;
-        self.state.wait(thread, flat)?;
+        let arrival = self.state.arrival(alloc, group)?;
+        let Ok(()) = make_room(&mut self.lit, &mut self.unlit, &arrival.flat) else {
+            drop(arrival);
+            return Err(Fault::Memory);
+        };
+        let Arrival { flat, lit, unlit } = arrival;
+        let Ok(()) = self.state.wait(thread, flat) else {
+            drop(lit);
+            drop(unlit);
+            return Err(Fault::Memory);
+        };
         let Some(flat) = self.state.waiting(thread) else {
             unreachable!();
         };
         let came = Some((thread, flat.group()));
-        if self.table.change(alloc, &[], came, &lit, &unlit).is_err() {
+        let Ok(()) = self.table.change(alloc, &[], came, &lit, &unlit) else {
             self.state.withdraw(thread);
+            drop(lit);
+            drop(unlit);
             return Err(Fault::Memory);
-        }
+        };
         self.state.enter_nacks(thread);
         Ok(())
     }
@@ -260,7 +269,9 @@ impl<T: Table> Book<T> {
         push_lights(&mut self.lit, flat, leaf as usize);
         self.state.push_put_out(&mut self.unlit, base);
         self.state.push_left_ticks(&mut self.unlit, flat, None);
-        let changed = self.table.change(alloc, &[tid], None, &self.lit, &self.unlit);
+        let changed = self
+            .table
+            .change(alloc, &[tid], None, &self.lit, &self.unlit);
         self.lit.clear();
         self.unlit.clear();
         let Ok(()) = changed else {
@@ -300,10 +311,14 @@ impl<T: Table> Book<T> {
         };
         push_lights(&mut self.lit, sender, head_leaf as usize);
         push_lights(&mut self.lit, receiver, other_leaf as usize);
-        self.state.push_left_ticks(&mut self.unlit, sender, Some(receiver));
-        self.state.push_left_ticks(&mut self.unlit, receiver, Some(sender));
+        self.state
+            .push_left_ticks(&mut self.unlit, sender, Some(receiver));
+        self.state
+            .push_left_ticks(&mut self.unlit, receiver, Some(sender));
         let gone = [head, other];
-        let changed = self.table.change(alloc, &gone, None, &self.lit, &self.unlit);
+        let changed = self
+            .table
+            .change(alloc, &gone, None, &self.lit, &self.unlit);
         self.lit.clear();
         self.unlit.clear();
         changed?;

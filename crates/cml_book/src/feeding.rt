@@ -37,11 +37,11 @@ pub(crate) fn feed<K: Source<Feed = Value>, T: Table>(
 ) -> Result<(), Value>
     requires there { id < length objects.old.objects }
     requires accepted { IsAccepted (fed_at K.fed (map K.state objects.old.objects) id value) }
-    ensures ok { OnOk result
-        (fed_at K.fed (map K.state objects.old.objects) id value ≡ Ok (map K.state objects.new.objects)) }
+    ensures ok { let old = map K.state objects.old.objects in
+        OnOk result (fed_at K.fed old id value ≡ Ok (map K.state objects.new.objects)) }
     ensures ok_told { let was_lit = lit_at K.is_lit (map K.state objects.old.objects) id in
         OnOk result ((l : Light) →
-            T.is_lit table.new l ≡ lit_after (newly_lit was_lit light) [] l (T.is_lit table.old l)) }
+        T.is_lit table.new l ≡ lit_after (newly_lit was_lit light) [] l (T.is_lit table.old l)) }
     ensures err { OnErr result (map K.state objects.new.objects ≡ map K.state objects.old.objects) }
     ensures err_told { OnErr result ((l : Light) → T.is_lit table.new l ≡ T.is_lit table.old l) }
     ensures back { IfErr result (λ back. back ≡ value) }

@@ -8,6 +8,8 @@ mod feeding;
 mod lights;
 mod marks;
 mod nacks;
+mod object_calls;
+mod object_commands;
 mod objects;
 mod party;
 mod ports;

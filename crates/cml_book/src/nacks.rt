@@ -1,19 +1,40 @@
 //! What becomes of the nacks of a group.
 
-ghost use Rattle.std.specs.Prelude.{◌≡◌, ◌<◌, ◌≤◌, ◌+◌, ◌++◌, [], ◌∷◌, length, map, slice_get, slice_set, Some, true, if◌then◌else◌};
+ghost use Rattle.std.specs.Prelude.{◌≡◌, ◌<◌, ◌≤◌, ◌+◌, ◌++◌, [], ◌∷◌, length, map, slice_get, slice_set, Some, true, if◌then◌else◌, OnOk};
 ghost use Rattle.std.specs.Vec.{vec_capacity};
 ghost use Rattle.cml_value.specs.Group.{leaf_count, scopes, nacks_of, lost};
 ghost use Rattle.cml_value.specs.Nack.{live, fired, held};
 ghost use Rattle.cml_group.specs.Leaves.{numbers};
 ghost use Rattle.cml_book.specs.Commit.{settled};
 ghost use Rattle.cml_book.specs.Sync.{with_each};
-ghost use Rattle.cml_book.specs.Keeping.{nack_light, AreLive, AreFresh, is_fresh};
+ghost use Rattle.cml_book.specs.Keeping.{nack_light, AreLive, AreFresh, is_fresh, Fits, Grows};
 
 use cml_base::Register;
 use cml_group::Flat;
 use cml_scan::Light;
 use cml_signal::{NackCell, NackFeed};
 use cml_value::NackId;
+use std::alloc::AllocError;
+
+/// Makes room for the lights that a commit of the group and another such group lights and puts out.
+///
+/// # Errors
+/// Want of memory. What there was room for before, there still is.
+pub fn make_room(
+    lit: &mut Vec<Light>,
+    unlit: &mut Vec<Light>,
+    flat: &Flat,
+) -> Result<(), AllocError>
+    ensures lit { lit.new.items ≡ lit.old.items }
+    ensures unlit { unlit.new.items ≡ unlit.old.items }
+    ensures fits { OnOk result (lit.old.items ≡ [] → unlit.old.items ≡ [] →
+        Fits flat.now (record { lit = vec_capacity lit.new; unlit = vec_capacity unlit.new })) }
+    ensures grows { Grows (record { lit = vec_capacity lit.old; unlit = vec_capacity unlit.old })
+        (record { lit = vec_capacity lit.new; unlit = vec_capacity unlit.new }) }
+{
+    lit.reserve(2 * flat.scopes().len())?;
+    unlit.reserve(2 * flat.len() + 1)
+}
 
 /// Puts the lights of the nacks that choosing the leaf fires behind those that stand there. There is room for them.
 pub fn push_lights(lights: &mut Vec<Light>, flat: &Flat, leaf: usize)
@@ -55,7 +76,11 @@ fn settle_one(cells: &mut Register<NackCell>, nack: NackId, is_lost: bool)
     ensures { cells.new.objects ≡ slice_set cells.old.objects nack.0 (if is_lost then fired else held) }
 {
     if (nack.0 as usize) < cells.len() {
-        let befalls = if is_lost { NackFeed::Fire } else { NackFeed::Hold };
+        let befalls = if is_lost {
+            NackFeed::Fire
+        } else {
+            NackFeed::Hold
+        };
         let _ = cells.feed(nack.0, befalls);
     }
 }

@@ -92,7 +92,8 @@ impl State {
         ivar: IVarId,
         value: Value,
     ) -> Result<(), Returned<Value>>
-        ensures step { DoesWith result value (put_spec.iput self.old ivar.0 value) self.old self.new }
+        ensures step { DoesWith result value
+            (put_spec.iput self.old ivar.0 value) self.old self.new }
         ensures kept { StaysKept self.old (T.entries table.old) (T.is_lit table.old)
             self.new (T.entries table.new) (T.is_lit table.new) }
     {
@@ -105,7 +106,14 @@ impl State {
         if !value.fits() {
             return Err(Returned::refused(value, Refusal::Deep));
         }
-        if let Err(value) = feed(alloc, &mut self.ivars, ivar.0, value, table, Light::IVar(ivar)) {
+        if let Err(value) = feed(
+            alloc,
+            &mut self.ivars,
+            ivar.0,
+            value,
+            table,
+            Light::IVar(ivar),
+        ) {
             return Err(Returned::unserved(value));
         }
         Ok(())
@@ -119,7 +127,8 @@ impl State {
         mvar: MVarId,
         value: Value,
     ) -> Result<(), Returned<Value>>
-        ensures step { DoesWith result value (put_spec.mput self.old mvar.0 value) self.old self.new }
+        ensures step { DoesWith result value
+            (put_spec.mput self.old mvar.0 value) self.old self.new }
         ensures kept { StaysKept self.old (T.entries table.old) (T.is_lit table.old)
             self.new (T.entries table.new) (T.is_lit table.new) }
     {
@@ -132,7 +141,14 @@ impl State {
         if !value.fits() {
             return Err(Returned::refused(value, Refusal::Deep));
         }
-        if let Err(value) = feed(alloc, &mut self.mvars, mvar.0, value, table, Light::MVar(mvar)) {
+        if let Err(value) = feed(
+            alloc,
+            &mut self.mvars,
+            mvar.0,
+            value,
+            table,
+            Light::MVar(mvar),
+        ) {
             return Err(Returned::unserved(value));
         }
         Ok(())
@@ -146,7 +162,8 @@ impl State {
         mailbox: MboxId,
         value: Value,
     ) -> Result<(), Returned<Value>>
-        ensures step { DoesWith result value (mail_spec.mail self.old mailbox.0 value) self.old self.new }
+        ensures step { DoesWith result value
+            (mail_spec.mail self.old mailbox.0 value) self.old self.new }
         ensures kept { StaysKept self.old (T.entries table.old) (T.is_lit table.old)
             self.new (T.entries table.new) (T.is_lit table.new) }
     {
@@ -159,7 +176,14 @@ impl State {
         if mailbox_is_full(&self.mailboxes, mailbox) {
             return Err(Returned::refused(value, Refusal::Full));
         }
-        if let Err(value) = feed(alloc, &mut self.mailboxes, mailbox.0, value, table, Light::Mbox(mailbox)) {
+        if let Err(value) = feed(
+            alloc,
+            &mut self.mailboxes,
+            mailbox.0,
+            value,
+            table,
+            Light::Mbox(mailbox),
+        ) {
             return Err(Returned::unserved(value));
         }
         Ok(())

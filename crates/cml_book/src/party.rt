@@ -146,7 +146,11 @@ impl State {
 }
 
 // The copy that the object of this number, which is lit, needs for the want.
-fn spare_of<K: Source>(objects: &Register<K>, id: u32, want: &K::Want) -> Result<Option<Value>, AllocError>
+fn spare_of<K: Source>(
+    objects: &Register<K>,
+    id: u32,
+    want: &K::Want,
+) -> Result<Option<Value>, AllocError>
     requires { IsTrue (lit_at K.is_lit (map K.state objects.now.objects) id) }
     ensures { IfOk result (λ copy. copy ≡
         option_map_or (λ s. K.spared s want.now) (slice_get (map K.state objects.now.objects) id) None) }

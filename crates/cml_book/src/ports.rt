@@ -122,7 +122,8 @@ impl State {
         channel: McastId,
         message: Value,
     ) -> Result<(), Returned<Value>>
-        ensures step { DoesWith result message (multicast_spec.multicast self.old channel.0 message) self.old self.new }
+        ensures step { DoesWith result message
+            (multicast_spec.multicast self.old channel.0 message) self.old self.new }
         ensures kept { StaysKept self.old (T.entries table.old) (T.is_lit table.old)
             self.new (T.entries table.new) (T.is_lit table.new) }
     {
@@ -134,12 +135,23 @@ impl State {
             return Err(Returned::refused(message, Refusal::Deep));
         }
         if let Err(fault) = send(alloc, table, &self.mchans[place], &mut self.ports, &message) {
-            return match fault {
-                PostFault::Full => Err(Returned::refused(message, Refusal::Full)),
-                PostFault::Memory => Err(Returned::unserved(message)),
-            };
+            return Err(Returned {
+                value: message,
+                fault: post_fault(fault),
+            });
         }
+        drop(message);
         Ok(())
+    }
+}
+
+// Why a call did nothing, as the post says it.
+fn post_fault(fault: PostFault) -> Fault
+    ensures { result ≡ multicast_spec.fault_of fault }
+{
+    match fault {
+        PostFault::Full => Fault::Refused(Refusal::Full),
+        PostFault::Memory => Fault::Memory,
     }
 }
 
@@ -160,11 +172,15 @@ fn add_port<T: Table>(
     ensures id { IfOk result (λ id. id.0 ≡ length ports.old.objects) }
     ensures channels { OnOk result (ports_of channels.new.items
         ≡ with_port (ports_of channels.old.items) channel.0 (length ports.old.objects)) }
-    ensures ports { OnOk result (queues_of ports.new.objects ≡ queues_of ports.old.objects ++ port.items ∷ []) }
-    ensures told { let empty = not (has_item (Some port.items)) in OnOk result ((l : Light) → T.is_lit table.new l
-        ≡ lit_after (newly_lit empty (port_light (length ports.old.objects))) [] l (T.is_lit table.old l)) }
+    ensures ports { OnOk result
+        (queues_of ports.new.objects ≡ queues_of ports.old.objects ++ port.items ∷ []) }
+    ensures told { let empty = not (has_item (Some port.items)) in
+        let light = port_light (length ports.old.objects) in
+        OnOk result ((l : Light) →
+        T.is_lit table.new l ≡ lit_after (newly_lit empty light) [] l (T.is_lit table.old l)) }
 
-    ensures err_channels { OnErr result (ports_of channels.new.items ≡ ports_of channels.old.items) }
+    ensures err_channels { OnErr result
+        (ports_of channels.new.items ≡ ports_of channels.old.items) }
     ensures err_ports { OnErr result (queues_of ports.new.objects ≡ queues_of ports.old.objects) }
     ensures err_told { OnErr result ((l : Light) → T.is_lit table.new l ≡ T.is_lit table.old l) }
 
@@ -214,7 +230,8 @@ fn add_at(channels: &mut Vec<Multicast>, channel: McastId, port: PortId)
     requires there { channel.0 < length channels.old.items }
     requires room { HasRoomAt has_room channels.old.items channel.0 }
     requires below { AreBelow (ports_of channels.old.items) channel.0 port.0 }
-    ensures ports { ports_of channels.new.items ≡ with_port (ports_of channels.old.items) channel.0 port.0 }
+    ensures ports { ports_of channels.new.items
+        ≡ with_port (ports_of channels.old.items) channel.0 port.0 }
     ensures len { length channels.new.items ≡ length channels.old.items }
 {
     let found = &mut channels[channel.0 as usize];
@@ -232,11 +249,14 @@ fn send<T: Table>(
     message: &Value,
 ) -> Result<(), PostFault>
     requires there { All (λ port. port.0 < length ports.old.objects) channel.now.ports }
-    ensures full { says_full result ≡ any_is_full (numbers channel.now.ports) (unread ports.old.objects) }
-    ensures ok { OnOk result
-        (unread ports.new.objects ≡ posted message.now (numbers channel.now.ports) (unread ports.old.objects)) }
-    ensures ok_told { OnOk result ((l : Light) → T.is_lit table.new l
-        ≡ lit_after (first_lights (numbers channel.now.ports) (unread ports.old.objects)) [] l (T.is_lit table.old l)) }
+    ensures full { let old = unread ports.old.objects in
+        says_full result ≡ any_is_full (numbers channel.now.ports) old }
+    ensures ok { let new = posted message.now (numbers channel.now.ports) (unread ports.old.objects) in
+        OnOk result (unread ports.new.objects ≡ new) }
+    ensures ok_told { let ids = numbers channel.now.ports in
+        let first = first_lights ids (unread ports.old.objects) in
+        OnOk result ((l : Light) →
+        T.is_lit table.new l ≡ lit_after first [] l (T.is_lit table.old l)) }
     ensures err { OnErr result (unread ports.new.objects ≡ unread ports.old.objects) }
     ensures err_told { OnErr result ((l : Light) → T.is_lit table.new l ≡ T.is_lit table.old l) }
     ensures entries { T.entries table.new ≡ T.entries table.old }
@@ -258,8 +278,9 @@ fn tell_first<T: Table>(
     ports: &Register<Port>,
     ids: &[PortId],
 ) -> Result<(), AllocError>
-    ensures ok { OnOk result ((l : Light) → T.is_lit table.new l
-        ≡ lit_after (first_lights (numbers ids.now) (unread ports.now.objects)) [] l (T.is_lit table.old l)) }
+    ensures ok { let first = first_lights (numbers ids.now) (unread ports.now.objects) in
+        OnOk result ((l : Light) →
+        T.is_lit table.new l ≡ lit_after first [] l (T.is_lit table.old l)) }
     ensures err { OnErr result ((l : Light) → T.is_lit table.new l ≡ T.is_lit table.old l) }
     ensures entries { T.entries table.new ≡ T.entries table.old }
 {

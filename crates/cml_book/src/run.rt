@@ -44,7 +44,16 @@ impl<T: Table> Book<T> {
                 Ok(()) => Ok(Reply::Done),
                 Err(fault) => refused(fault, Command::Clock(to)),
             },
-            _ => unreachable!(),
+            Command::MakeIVar => self.perform_make_ivar(),
+            Command::MakeMVar(held) => self.perform_make_mvar(alloc, held),
+            Command::MakeMailbox => self.perform_make_mailbox(alloc),
+            Command::MakeMChan => self.perform_make_mchan(alloc),
+            Command::MakePort(channel) => self.perform_make_port(alloc, channel),
+            Command::CopyPort(port) => self.perform_copy_port(alloc, port),
+            Command::IPut(ivar, value) => self.perform_iput(alloc, ivar, value),
+            Command::MPut(mvar, value) => self.perform_mput(alloc, mvar, value),
+            Command::Mail(mailbox, value) => self.perform_mail(alloc, mailbox, value),
+            Command::Multicast(channel, message) => self.perform_multicast(alloc, channel, message),
         }
     }
 
@@ -101,7 +110,7 @@ impl<T: Table> Book<T> {
 }
 
 // The reply to a command that was refused; for want of memory it comes back.
-fn refused(fault: Fault, command: Command) -> Result<Reply, Returned<Command>>
+pub(crate) fn refused(fault: Fault, command: Command) -> Result<Reply, Returned<Command>>
     ensures { result ≡ spec.refused_reply fault command }
 {
     match fault {

@@ -69,7 +69,7 @@ impl Model for State {
 
     ghost invariant = { λ s.
         AreFew (length s.threads.items) s.channels (length s.ivars.objects) (length s.mvars.objects)
-            (length s.mailboxes.objects) (length s.mchans.items) (length s.ports.objects) (length s.nacks.objects)
+        (length s.mailboxes.objects) (length s.mchans.items) (length s.ports.objects) (length s.nacks.objects)
         × (s.marks ≡ length s.nacks.objects)
         × ArePorts s.mchans.items s.homes.items (length s.ports.objects)
         × Counts s.threads.items s.clock.waited };

@@ -14,7 +14,8 @@ ghost use Rattle.cml_book.specs.Clock.{bases_awaited};
 ghost use Rattle.cml_book.specs.Keeping.{lights_in, awaits_tick, times_awaited};
 ghost use Rattle.cml_book.specs.Leaving.{comes, is_left, bases_of};
 
-use crate::state::State;use cml_group::Flat;
+use crate::state::State;
+use cml_group::Flat;
 use cml_scan::Light;
 use cml_signal::Clock;
 use cml_value::{Base, BaseKind};
@@ -137,14 +138,22 @@ impl State {
         }
     }
 
-    fn push_left_tick(&self, lights: &mut Vec<Light>, flat: &Flat, other: Option<&Flat>, base: &Base)
+    fn push_left_tick(
+        &self,
+        lights: &mut Vec<Light>,
+        flat: &Flat,
+        other: Option<&Flat>,
+        base: &Base,
+    )
         requires { length lights.old.items + 1 ≤ vec_capacity lights.old }
         ensures lights { lights.new.items ≡ lights.old.items
             ++ lights_in (filter (is_left (bases_awaited (pending self.now)) (bases flat.now) (bases_of other.entry)) (base.now ∷ [])) }
         ensures room { vec_capacity lights.new ≡ vec_capacity lights.old }
     {
         if let BaseKind::At(tick) = base.kind() {
-            if self.clock.leaves(*tick) == leaves_for(flat, *tick) + leaves_for_other(other, *tick) {
+            if self.clock.leaves(*tick)
+                == leaves_for(flat, *tick) + leaves_for_other(other, *tick)
+            {
                 lights.push_reserved(Light::Alarm(*tick));
             }
         }

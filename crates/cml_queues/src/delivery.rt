@@ -24,7 +24,8 @@ pub fn post(
 ) -> Result<(), FeedFault<Value>>
     requires { All (λ port. port.0 < length ports.old.objects) channel.now.ports }
     ensures states { let old = unread ports.old.objects in
-        Feeds result (post_outcome (numbers channel.now.ports) message old) message old (unread ports.new.objects) }
+        let outcome = post_outcome (numbers channel.now.ports) message old in
+        Feeds result outcome message old (unread ports.new.objects) }
     ensures len { length ports.new.objects ≡ length ports.old.objects }
     ensures waits { ports.new.waits ≡ ports.old.waits }
 {
@@ -59,10 +60,12 @@ pub fn prepare(
     message: &Value,
 ) -> Result<Vec<Value>, PostFault>
     requires { All (λ port. port.0 < length ports.old.objects) channel.now.ports }
-    ensures copies { IfOk result (λ copies. copies.items ≡ replicate (length channel.now.ports) message.now) }
-    ensures room { OnOk result (All (λ port. HasRoomAt port_has_room ports.new.objects port.0) channel.now.ports) }
-    ensures full { let full = spec_any_is_full (numbers channel.now.ports) (unread ports.old.objects) in
-        says_full result ≡ full }
+    ensures copies { IfOk result
+        (λ copies. copies.items ≡ replicate (length channel.now.ports) message.now) }
+    ensures room { OnOk result
+        (All (λ port. HasRoomAt port_has_room ports.new.objects port.0) channel.now.ports) }
+    ensures full { let old = unread ports.old.objects in
+        says_full result ≡ spec_any_is_full (numbers channel.now.ports) old }
     ensures unread { unread ports.new.objects ≡ unread ports.old.objects }
     ensures len { length ports.new.objects ≡ length ports.old.objects }
     ensures waits { ports.new.waits ≡ ports.old.waits }
@@ -81,15 +84,11 @@ pub fn prepare(
 }
 
 /// Puts a copy of the message behind the unread ones of every port of the channel, as `prepare` made ready. It takes no memory.
-pub fn deliver(
-    channel: &Multicast,
-    ports: &mut Register<Port>,
-    message: &Value,
-    copies: Vec<Value>,
-)
+pub fn deliver(channel: &Multicast, ports: &mut Register<Port>, message: &Value, copies: Vec<Value>)
     requires there { All (λ port. port.0 < length ports.old.objects) channel.now.ports }
     requires room { All (λ port. HasRoomAt port_has_room ports.old.objects port.0) channel.now.ports }
-    requires open { spec_any_is_full (numbers channel.now.ports) (unread ports.old.objects) ≡ false }
+    requires open { let old = unread ports.old.objects in
+        spec_any_is_full (numbers channel.now.ports) old ≡ false }
     requires copied { copies.items ≡ replicate (length channel.now.ports) message.now }
     ensures unread { unread ports.new.objects
         ≡ posted message.now (numbers channel.now.ports) (unread ports.old.objects) }

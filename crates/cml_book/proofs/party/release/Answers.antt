@@ -1,8 +1,5 @@
-use Rattle.std.proofs.Common.{◌≡◌, ◌<◌, ◌∙◌, sym, ap, arith, length}
-use Rattle.std.specs.Prelude.{slice_get}
+use Rattle.std.proofs.Common.{◌<◌, ◌∙◌, sym, ap, arith, length}
 use Rattle.std.specs.Option.{option_and_then}
-use Rattle.cml_value.specs.Group.{bases}
-use Rattle.cml_scan.specs.World.{pending_on}
 use Rattle.cml_book.specs.Threads.{flat_of}
 use Rattle.cml_book.proofs.Awaited.{waits_at, all_there, all_left, counts-resume}
 use Rattle.cml_book.proofs.party.release.Goals as goal

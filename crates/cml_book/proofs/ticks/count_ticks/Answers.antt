@@ -1,4 +1,4 @@
-use Rattle.std.proofs.Common.{◌≡◌, ◌∙◌, ℕ, arith}
+use Rattle.std.proofs.Common.{◌∙◌, arith}
 use Rattle.cml_book.proofs.Awaited.{awaited-take}
 use Rattle.cml_book.proofs.ticks.count_ticks.Goals as goal
 

@@ -1,4 +1,4 @@
-use Rattle.std.proofs.Common.{◌≡◌, ◌+◌, ◌∙◌, ℕ, arith}
+use Rattle.std.proofs.Common.{◌+◌, ◌∙◌, arith}
 use Rattle.cml_value.specs.Group.{bases}
 use Rattle.cml_book.proofs.Awaited.{awaited-take, awaited-le}
 use Rattle.cml_book.proofs.ticks.uncount_ticks.Goals as goal

@@ -1,4 +1,4 @@
-use Rattle.std.proofs.Common.{◌≡◌, ◌∙◌, ◌≤◌, sym, ap, arith}
+use Rattle.std.proofs.Common.{◌∙◌, ◌≤◌, arith}
 use Rattle.cml_book.proofs.Dimmed.{keeps_clock}
 use Rattle.cml_book.proofs.Pendings.{without_none}
 use Rattle.cml_book.proofs.book.Book.clock.Goals as goal

@@ -1,4 +1,4 @@
-use Rattle.std.proofs.Common.{◌≡◌, sym, ◌∙◌}
+use Rattle.std.proofs.Common.{sym, ◌∙◌}
 use Rattle.cml_book.proofs.Accepted.{runs_none}
 use Rattle.cml_book.proofs.Keepings.{keeps_end}
 use Rattle.cml_book.proofs.book.Book.end.Goals as goal

@@ -1,55 +1,89 @@
-use Rattle.std.proofs.Common.{◌≡◌, ℕ, Bool, List, Some, None, sym, ◌∙◌, ap, refl, arith, subst}
-use Rattle.std.specs.Vec.{vec_capacity}
-use Rattle.cml_value.specs.Group.{scopes, bases}
+use Rattle.std.proofs.Common.{◌≡◌, Bool, List, None, sym, ◌∙◌, ap, refl, arith, subst}
+use Rattle.cml_value.specs.Group.{bases}
 use Rattle.cml_scan.specs.World.{PlainWorld, PlainEntry}
 use Rattle.cml_scan.specs.Light.{light_of}
 use Rattle.cml_scan.specs.declared.object.Light.{Light}
 use Rattle.cml_book.specs.Sync.{sync_refusal, waiting}
-use Rattle.cml_book.specs.Keeping.{lights_in, Keeps}
-use Rattle.cml_book.proofs.NackLemmas.{can_enter_fresh}
-use Rattle.cml_book.proofs.Scopes.{length_nacks}
+use Rattle.cml_book.specs.Keeping.{lights_in, Room, Keeps}
 use Rattle.cml_book.proofs.Pendings.{running_is_new}
 use Rattle.cml_book.proofs.Accepted.{accepted}
-use Rattle.cml_book.proofs.Syncs.{sync_refused, sync_accepted, apart_of, enters_flat, keeps_arrives}
+use Rattle.cml_book.proofs.Commits.{flat_is, found}
+use Rattle.cml_book.proofs.Keepings.{keeps_same, keeps_roomier}
+use Rattle.cml_book.proofs.Syncs.{sync_refused, sync_accepted, apart_of, enters_flat, keeps_arrives, waits_now, fresh_now, entered_now, back_now}
 use Rattle.cml_book.proofs.book.Book.sync.Goals as goal
 
-keeps_again : {v w : PlainWorld} {es : List PlainEntry} {told : Light → Bool} {room : ℕ} → w ≡ v → Keeps v es told room → Keeps w es told room
+keeps_again : {v w : PlainWorld} {es : List PlainEntry} {told : Light → Bool} {room : Room} → w ≡ v → Keeps v es told room → Keeps w es told room
 keeps_again {es = es} {told = told} {room = room} same k = subst (λ (x : PlainWorld). Keeps x es told room) (sym same) k
 
 pub returns-in-Some : goal.returns-in-Some
 returns-in-Some g c =
     (rw (← c.self.view_is) (sync_refused c.self.inside.state c.args.thread.0 c.args.group.now c.in-Some.why (sym c.sync_refusal.ensures.why ∙ c.in-Some.is)), c.sync_refusal.ensures.same ∙ c.self.view_is)
 
-pub returns-in_default-reserve : goal.returns-in_default-reserve
-returns-in_default-reserve g c =
+pub returns-in_default-make_room : goal.returns-in_default-make_room
+returns-in_default-make_room g c =
     let none : sync_refusal c.self.inside.state c.args.thread.0 c.args.group.now ≡ None = sym c.sync_refusal.ensures.why ∙ c.in_default.is in
     (rw (← c.self.view_is) (rw (sync_accepted c.self.inside.state c.args.thread.0 c.args.group.now none) refl), c.sync_refusal.ensures.same ∙ c.self.view_is)
 
-pub returns-in_default-change : goal.returns-in_default-change
-returns-in_default-change g c =
+pub returns-in_default-wait : goal.returns-in_default-wait
+returns-in_default-wait g c =
     let none : sync_refusal c.self.inside.state c.args.thread.0 c.args.group.now ≡ None = sym c.sync_refusal.ensures.why ∙ c.in_default.is in
-    (rw (← c.self.view_is) (rw (sync_accepted c.self.inside.state c.args.thread.0 c.args.group.now none) refl), c.sync_refusal.ensures.same ∙ c.self.view_is)
+    (rw (← c.self.view_is) (rw (sync_accepted c.self.inside.state c.args.thread.0 c.args.group.now none) refl), c.in_default-wait.ensures.err ∙ c.sync_refusal.ensures.same ∙ c.self.view_is)
+
+pub unreachable-requires : goal.unreachable-requires
+unreachable-requires g c =
+    let w = c.sync_refusal.new.self in
+    let same = c.sync_refusal.ensures.same in
+    let none : sync_refusal w c.args.thread.0 c.args.group.now ≡ None = ap (λ (x : PlainWorld). sync_refusal x c.args.thread.0 c.args.group.now) same ∙ sym c.sync_refusal.ensures.why ∙ c.in_default.is in
+    let a = accepted w c.args.thread.0 c.args.group.now none in
+    let flat = c.in_ok-arrival.arrival.flat in
+    let waits = waits_now w c.wait.new.self c.args.thread.0 flat a.thread_runs c.in-Ok-wait.ensures.ok in
+    found c.waiting.result c.wait.new.self c.args.thread.0 flat c.waiting.ensures waits c.in_default-waiting.is
 
 pub change-requires-clause-new : goal.change-requires-clause-new
 change-requires-clause-new g c =
     let w = c.sync_refusal.new.self in
     let same = c.sync_refusal.ensures.same in
     let none : sync_refusal w c.args.thread.0 c.args.group.now ≡ None = ap (λ (x : PlainWorld). sync_refusal x c.args.thread.0 c.args.group.now) same ∙ sym c.sync_refusal.ensures.why ∙ c.in_default.is in
-    let k = keeps_again same c.self.invariant.0 in
     let a = accepted w c.args.thread.0 c.args.group.now none in
+    let k = keeps_again same c.self.invariant.0 in
     rw (k.told_groups) (running_is_new c.args.thread.0 0 c.args.thread.0 w.threads (omega arith) a.thread_runs)
 
 pub change-requires-clause-apart : goal.change-requires-clause-apart
 change-requires-clause-apart g c =
-    apart_of (light_of c.sync_refusal.new.self) (lights_in (bases c.in_ok-arrival.arrival.flat)) _ _ (c.deref.ensures.value ∙ c.in_ok-arrival.ensures.lit) (c.deref-2.ensures.value ∙ c.in_ok-arrival.ensures.unlit)
+    let w = c.sync_refusal.new.self in
+    let flat = c.in_ok-arrival.arrival.flat in
+    apart_of (light_of w) (lights_in (bases flat)) _ _ (c.deref.ensures.value ∙ c.in_ok-arrival.ensures.lit) (c.deref-2.ensures.value ∙ c.in_ok-arrival.ensures.unlit)
 
-pub wait-requires : goal.wait-requires
-wait-requires g c =
+pub invariant_of-self-in_default-change : goal.invariant_of-self-in_default-change
+invariant_of-self-in_default-change g c =
     let w = c.sync_refusal.new.self in
     let same = c.sync_refusal.ensures.same in
     let none : sync_refusal w c.args.thread.0 c.args.group.now ≡ None = ap (λ (x : PlainWorld). sync_refusal x c.args.thread.0 c.args.group.now) same ∙ sym c.sync_refusal.ensures.why ∙ c.in_default.is in
     let a = accepted w c.args.thread.0 c.args.group.now none in
-    can_enter_fresh c.args.thread.0 _ w.nacks (enters_flat w c.args.thread.0 c.args.group.now c.in_ok-arrival.arrival.flat a c.in_ok-arrival.ensures.flat)
+    let k = keeps_again same c.self.invariant.0 in
+    let flat = c.in_ok-arrival.arrival.flat in
+    let world = back_now w c.wait.new.self c.withdraw.new.self c.args.thread.0 flat a.thread_runs c.in-Ok-wait.ensures.ok c.withdraw.ensures in
+    let again = keeps_same w (g.T.Table.entries c.self.inside.table) (g.T.Table.is_lit c.self.inside.table) _ (g.T.Table.entries c.change.new.self) (g.T.Table.is_lit c.change.new.self) c.in_default-change.ensures.err c.in_default-change.ensures.err_lit k in
+    (rw world (keeps_roomier w (g.T.Table.entries c.change.new.self) (g.T.Table.is_lit c.change.new.self) _ _ c.make_room.ensures.grows again), c.make_room.ensures.lit ∙ c.self.invariant.1, c.make_room.ensures.unlit ∙ c.self.invariant.2)
+
+pub returns-in_default-change : goal.returns-in_default-change
+returns-in_default-change g c =
+    let w = c.sync_refusal.new.self in
+    let same = c.sync_refusal.ensures.same in
+    let none : sync_refusal w c.args.thread.0 c.args.group.now ≡ None = ap (λ (x : PlainWorld). sync_refusal x c.args.thread.0 c.args.group.now) same ∙ sym c.sync_refusal.ensures.why ∙ c.in_default.is in
+    let a = accepted w c.args.thread.0 c.args.group.now none in
+    let flat = c.in_ok-arrival.arrival.flat in
+    let world = back_now w c.wait.new.self c.withdraw.new.self c.args.thread.0 flat a.thread_runs c.in-Ok-wait.ensures.ok c.withdraw.ensures in
+    (rw (← c.self.view_is, ← same) (rw (sync_accepted w c.args.thread.0 c.args.group.now none) refl), world ∙ same ∙ c.self.view_is)
+
+pub enter_nacks-requires : goal.enter_nacks-requires
+enter_nacks-requires g c =
+    let w = c.sync_refusal.new.self in
+    let same = c.sync_refusal.ensures.same in
+    let none : sync_refusal w c.args.thread.0 c.args.group.now ≡ None = ap (λ (x : PlainWorld). sync_refusal x c.args.thread.0 c.args.group.now) same ∙ sym c.sync_refusal.ensures.why ∙ c.in_default.is in
+    let a = accepted w c.args.thread.0 c.args.group.now none in
+    let flat = c.in_ok-arrival.arrival.flat in
+    fresh_now w c.wait.new.self c.args.thread.0 flat a.thread_runs c.in-Ok-wait.ensures.ok (enters_flat w c.args.thread.0 c.args.group.now flat a c.in_ok-arrival.ensures.flat)
 
 pub invariant_of-self-2 : goal.invariant_of-self-2
 invariant_of-self-2 g c =
@@ -57,20 +91,24 @@ invariant_of-self-2 g c =
     let same = c.sync_refusal.ensures.same in
     let none : sync_refusal w c.args.thread.0 c.args.group.now ≡ None = ap (λ (x : PlainWorld). sync_refusal x c.args.thread.0 c.args.group.now) same ∙ sym c.sync_refusal.ensures.why ∙ c.in_default.is in
     let a = accepted w c.args.thread.0 c.args.group.now none in
+    let k = keeps_again same c.self.invariant.0 in
     let flat = c.in_ok-arrival.arrival.flat in
-    let all = length_nacks (scopes flat) c.scopes.result.now c.scopes.ensures.nacks in
-    let room = c.in-Ok.ensures.ok in
-    let grows = c.in-Ok.ensures.capacity in
-    let k = keeps_arrives w (g.T.Table.entries c.self.inside.table) (g.T.Table.is_lit c.self.inside.table) (vec_capacity c.self.inside.lights) c.args.thread.0 c.args.group.now flat (vec_capacity c.reserve.new.self)
+    let waits = waits_now w c.wait.new.self c.args.thread.0 flat a.thread_runs c.in-Ok-wait.ensures.ok in
+    let is = flat_is c.waiting.result c.in-Some-waiting.flat c.wait.new.self c.args.thread.0 flat c.waiting.ensures waits c.in-Some-waiting.is in
+    let world = entered_now w c.wait.new.self c.enter_nacks.new.self c.args.thread.0 flat a.thread_runs c.in-Ok-wait.ensures.ok c.enter_nacks.ensures in
+    let kept = keeps_arrives w (g.T.Table.entries c.self.inside.table) (g.T.Table.is_lit c.self.inside.table) _ c.args.thread.0 c.args.group.now flat _
     (g.T.Table.entries c.change.new.self) (g.T.Table.is_lit c.change.new.self) c.deref.result.now c.deref-2.result.now c.group.result.now
-    (keeps_again same c.self.invariant.0) a c.in_ok-arrival.ensures.flat (omega arith) grows
-    c.group.ensures c.in-Ok-change.ensures.ok c.in-Ok-change.ensures.ok_lit (c.deref.ensures.value ∙ c.in_ok-arrival.ensures.lit) (c.deref-2.ensures.value ∙ c.in_ok-arrival.ensures.unlit) in
-    (rw c.wait.ensures k, c.in-Ok.ensures.items ∙ c.self.invariant.1)
+    k a c.in_ok-arrival.ensures.flat (c.in-Ok.ensures.fits c.self.invariant.1 c.self.invariant.2) c.make_room.ensures.grows
+    (c.group.ensures ∙ is) c.in-Ok-change.ensures.ok c.in-Ok-change.ensures.ok_lit (c.deref.ensures.value ∙ c.in_ok-arrival.ensures.lit) (c.deref-2.ensures.value ∙ c.in_ok-arrival.ensures.unlit) in
+    (rw world kept, c.make_room.ensures.lit ∙ c.self.invariant.1, c.make_room.ensures.unlit ∙ c.self.invariant.2)
 
 pub returns : goal.returns
 returns g c =
     let w = c.sync_refusal.new.self in
     let same = c.sync_refusal.ensures.same in
     let none : sync_refusal w c.args.thread.0 c.args.group.now ≡ None = ap (λ (x : PlainWorld). sync_refusal x c.args.thread.0 c.args.group.now) same ∙ sym c.sync_refusal.ensures.why ∙ c.in_default.is in
-    let new : c.wait.new.self ≡ _ = c.wait.ensures ∙ ap (waiting w c.args.thread.0) c.in_ok-arrival.ensures.flat in
+    let a = accepted w c.args.thread.0 c.args.group.now none in
+    let flat = c.in_ok-arrival.arrival.flat in
+    let world = entered_now w c.wait.new.self c.enter_nacks.new.self c.args.thread.0 flat a.thread_runs c.in-Ok-wait.ensures.ok c.enter_nacks.ensures in
+    let new = world ∙ ap (waiting w c.args.thread.0) c.in_ok-arrival.ensures.flat in
     rw (← c.self.view_is, ← same, new) (sync_accepted w c.args.thread.0 c.args.group.now none)

@@ -1,4 +1,4 @@
-use Rattle.std.proofs.Common.{◌≡◌, true, false, length, List, Bool, ap, sym, ◌∙◌, subst}
+use Rattle.std.proofs.Common.{true, false, length, List, Bool, ap, sym, ◌∙◌, subst}
 use Rattle.cml_value.specs.Group.{scopes, nacks_of}
 use Rattle.cml_book.specs.Sync.{with_each}
 use Rattle.cml_book.specs.Marks.{AreClear}

@@ -1,4 +1,4 @@
-use Rattle.std.proofs.Common.{◌≡◌, ap, ◌∙◌, not}
+use Rattle.std.proofs.Common.{ap, ◌∙◌, not}
 use Rattle.std.specs.List.{filter}
 use Rattle.cml_scan.specs.Light.{light_of}
 use Rattle.cml_book.proofs.state.State.arrival.Goals as goal

@@ -1,4 +1,4 @@
-use Rattle.std.proofs.Common.{◌≡◌, ap, length, ◌∙◌}
+use Rattle.std.proofs.Common.{ap, length, ◌∙◌}
 use Rattle.std.specs.Prelude.{slice_get}
 use Rattle.cml_value.specs.Group.{nacks_of, scopes}
 use Rattle.cml_value.specs.Nack.{live}

@@ -1,4 +1,4 @@
-use Rattle.std.proofs.Common.{◌≡◌, ◌∙◌, ap, length, length-set}
+use Rattle.std.proofs.Common.{◌∙◌, ap, length, length-set}
 use Rattle.cml_scan.specs.World.{running}
 use Rattle.cml_book.proofs.NackLemmas.{length-settled_group}
 use Rattle.cml_book.proofs.state.State.go_on.Goals as goal

@@ -1,4 +1,4 @@
-use Rattle.std.proofs.Common.{◌≡◌, ◌∙◌, [], refl, ap}
+use Rattle.std.proofs.Common.{refl}
 use Rattle.cml_book.specs.contracts.state.State.{the_view}
 use Rattle.cml_book.proofs.ObjectLemmas.{stays_kept, make_ivar_true}
 use Rattle.cml_book.proofs.state.State.make_ivar.Goals as goal

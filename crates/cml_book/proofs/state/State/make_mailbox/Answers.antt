@@ -1,4 +1,4 @@
-use Rattle.std.proofs.Common.{◌≡◌, ◌∙◌, [], refl, ap}
+use Rattle.std.proofs.Common.{◌∙◌, [], refl, ap}
 use Rattle.cml_book.specs.contracts.state.State.{the_view}
 use Rattle.cml_book.specs.Views.{queues_of}
 use Rattle.cml_book.proofs.ObjectLemmas.{stays_kept, make_mailbox_true, queues_push}

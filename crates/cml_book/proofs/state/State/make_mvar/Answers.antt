@@ -1,4 +1,4 @@
-use Rattle.std.proofs.Common.{◌≡◌, ◌∙◌, ◌++◌, ◌∷◌, [], length, refl, ap, rules, List, Option}
+use Rattle.std.proofs.Common.{◌∙◌, ◌++◌, ◌∷◌, [], refl, ap, rules, List, Option}
 use Rattle.cml_value.specs.Value.{PlainValue}
 use Rattle.cml_book.specs.contracts.state.State.{the_view}
 use Rattle.cml_book.proofs.ObjectLemmas.{stays_kept, make_mvar_true, same_variables}
@@ -11,4 +11,4 @@ returns-clause-kept g c =
     let pushed = c.in-Ok-make.ensures.objects ∙ ap (λ (xs : List (Option PlainValue)). xs ++ c.new.result ∷ []) same ∙ ap (λ (v : Option PlainValue). s.mvars.objects ++ v ∷ []) c.new.ensures in
     let next = c.len-2.ensures ∙ c.in-Ok.ensures.len in
     rw (← c.self.view_is, pushed) (stays_kept _ _ _ _ _ _ refl refl c.in-Ok-tell_lit.ensures.entries
-        (make_mvar_true (the_view s) _ _ c.args.held c.is_none.result c.len-2.result (search rules) next c.in-Ok-tell_lit.ensures.ok))
+    (make_mvar_true (the_view s) _ _ c.args.held c.is_none.result c.len-2.result (search rules) next c.in-Ok-tell_lit.ensures.ok))

@@ -1,4 +1,4 @@
-use Rattle.std.proofs.Common.{◌≡◌, ◌∙◌, ◌<◌, length, true, refl, sym, ap, arith}
+use Rattle.std.proofs.Common.{◌≡◌, ◌∙◌, ◌<◌, length, true, refl, sym, arith}
 use Rattle.cml_value.specs.Limits.{value_fits}
 use Rattle.cml_book.proofs.ObjectLemmas.{stays_kept, same_variables, put_done, mput_true, mput_does}
 use Rattle.cml_book.specs.contracts.state.State.{the_view}

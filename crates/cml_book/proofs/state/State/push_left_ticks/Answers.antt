@@ -1,5 +1,5 @@
-use Rattle.std.proofs.Common.{◌∙◌, ◌<◌, arith}
-use Rattle.cml_value.specs.Group.{bases, leaf_count}
+use Rattle.std.proofs.Common.{◌∙◌, arith}
+use Rattle.cml_value.specs.Group.{bases}
 use Rattle.cml_scan.specs.World.{pending}
 use Rattle.cml_book.specs.Clock.{bases_awaited}
 use Rattle.cml_book.specs.Leaving.{is_left, bases_of}

@@ -3,7 +3,6 @@ use Rattle.std.specs.Prelude.{slice_get}
 use Rattle.std.specs.List.{list_any}
 use Rattle.cml_value.specs.Group.{bases, leaf_count, group_fits}
 use Rattle.cml_group.specs.LaidOut.{max_leaves}
-use Rattle.cml_scan.specs.World.{PlainWorld}
 use Rattle.cml_book.specs.Entering.{is_far}
 use Rattle.cml_book.specs.Outcomes.{thread_refusal}
 use Rattle.cml_book.specs.Sync.{group_exists}

@@ -1,4 +1,4 @@
-use Rattle.std.proofs.Common.{◌≡◌, ◌∙◌, ap, map}
+use Rattle.std.proofs.Common.{◌∙◌, ap, map}
 use Rattle.cml_scan.specs.declared.object.Light.TheVariants as of
 use Rattle.cml_book.proofs.Alarms.{ticks_only, ticks_all, if_ok}
 use Rattle.cml_book.proofs.state.State.ticks_until.Goals as goal

@@ -1,5 +1,4 @@
-use Rattle.std.proofs.Common.{◌≡◌, ℕ, ap, length, length-set, ◌∙◌, arith}
-use Rattle.cml_scan.specs.World.{pending_on}
+use Rattle.std.proofs.Common.{ap, length, length-set, ◌∙◌, arith}
 use Rattle.cml_book.proofs.Awaited.{counts_few, counts-wait}
 use Rattle.cml_book.proofs.state.State.wait.Goals as goal
 
@@ -8,6 +7,9 @@ count_ticks-requires c = λ t. (let few = counts_few t _ _ c.self.invariant.3 c.
 
 pub invariant_of-self-2 : goal.invariant_of-self-2
 invariant_of-self-2 c =
-    let threads = ap length c.put.ensures ∙ length-set c.self.inside.threads.items c.args.thread.0 c.pending.result in
-    (rw threads c.self.invariant.0, c.self.invariant.1, c.self.invariant.2,
-      rw (c.put.ensures, c.pending.ensures) (counts-wait c.self.inside.threads.items c.args.thread.0 c.args.flat c.self.inside.clock.waited c.count_ticks.new.clock.waited (rw (← c.self.view_is) at c.requires) c.count_ticks.ensures.few c.in-Ok.ensures.ok c.self.invariant.3))
+    let threads = ap length c.put.ensures ∙ length-set c.self.inside.threads.items c.args.thread.0 c.pending.result in (
+      rw threads c.self.invariant.0,
+      c.self.invariant.1,
+      c.self.invariant.2,
+      rw (c.put.ensures, c.pending.ensures) (counts-wait c.self.inside.threads.items c.args.thread.0 c.args.flat c.self.inside.clock.waited c.count_ticks.new.clock.waited (rw (← c.self.view_is) at c.requires) c.count_ticks.ensures.few c.in-Ok.ensures.ok c.self.invariant.3),
+    )

@@ -1,0 +1,4 @@
+use Rattle.cml_book.proofs.book.Book.copy_port.Goals as goal
+
+pub invariant_of-self : goal.invariant_of-self
+invariant_of-self g c = (c.copy_port.ensures.kept _ c.self.invariant.0, c.self.invariant.1, c.self.invariant.2)
