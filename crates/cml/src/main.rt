@@ -3,7 +3,8 @@
 
 ghost use Rattle.cml_host.specs.Stores.{unknown};
 
-use cml_host::input_output::{ReadFault, read_all, write_out};
+use cml_trace::Counting;
+use cml_trace::input_output::{ReadFault, read_all, write_out};
 use cml_host::{Store, StoreFault, run_command};
 use std::alloc::Global;
 use std::io::ErrorKind;
@@ -24,7 +25,7 @@ impl<'a, R: Files> Store for Disk<'a, R> {
         let Ok(mut file) = fs::open(self.rt, name) else {
             return Err(StoreFault::Refused);
         };
-        match read_all(alloc, &mut file, limit) {
+        match read_all(alloc, &mut Counting::new(&mut file), limit) {
             Ok(mut bytes) => {
                 bytes.truncate(limit.saturating_add(1));
                 Ok(bytes)
@@ -52,7 +53,7 @@ fn main(rt: HostRuntime) -> io::Result<ExitCode> {
     let words = match words(&rt) {
         Ok(words) => words,
         Err(error) if error.kind() == ErrorKind::OutOfMemory => {
-            let _ = write_out(&mut rt.stderr(), b"memory\n");
+            let _ = write_out(&mut Counting::new(&mut rt.stderr()), b"memory\n");
             return Ok(ExitCode::from(5));
         }
         Err(error) => return Err(error),

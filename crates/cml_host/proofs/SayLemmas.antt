@@ -1,7 +1,7 @@
 -- What was written of a text.
 use Rattle.std.proofs.Common.{ℕ, List, [], Result, Ok, Err, OnOk, OnErr, take, drop, sym, append-nil}
 use Rattle.std.proofs.lemmas.List.{take-append-drop}
-use Rattle.cml_host.specs.Streams.{Stream, Takes, TakesStart}
+use Rattle.cml_trace.specs.Streams.{Stream, Takes, TakesStart}
 
 -- a first part of it was written
 pub start_taken : (output : Stream) (text : List ℕ) (n : ℕ) → Takes output (take n text) → TakesStart output text

@@ -1,13 +1,2 @@
-pub mod Keywords
-pub mod Given
-pub mod ValueForms
-pub mod GroupForms
-pub mod Orders
-pub mod Replies
-pub mod Answers
-pub mod Lines
-pub mod Streams
 pub mod Stores
-pub mod Runs
 pub mod Statuses
-pub mod Laws

@@ -5,14 +5,14 @@ use Rattle.cml_words.specs.declared.Task.TheVariants.{Trace}
 use Rattle.cml_words.specs.declared.Answer.{Answer}
 use Rattle.cml_words.specs.declared.Answer.TheVariants as answer
 use Rattle.cml_words.specs.Words.{IsAnswer}
-use Rattle.cml_host.specs.declared.trace.engine.TraceEnd.{TraceEnd}
-use Rattle.cml_host.specs.declared.trace.engine.TraceEnd.TheVariants.{Done, Bad, TooLong}
-use Rattle.cml_host.specs.declared.trace.engine.TraceFault.{TraceFault}
-use Rattle.cml_host.specs.declared.trace.engine.TraceFault.TheVariants.{Read, Turns, Write, Memory}
-use Rattle.cml_host.specs.Replies.{line}
-use Rattle.cml_host.specs.Streams.{Stream, Takes, TakesStart, IsUntouched}
+use Rattle.cml_trace.specs.declared.fault.TraceEnd.{TraceEnd}
+use Rattle.cml_trace.specs.declared.fault.TraceEnd.TheVariants.{Done, Bad, TooLong}
+use Rattle.cml_trace.specs.declared.fault.TraceFault.{TraceFault}
+use Rattle.cml_trace.specs.declared.fault.TraceFault.TheVariants.{Read, Turns, Write, Memory}
+use Rattle.cml_trace.specs.Replies.{line}
+use Rattle.cml_trace.specs.Streams.{Stream, Takes, TakesStart, IsUntouched}
 use Rattle.cml_host.specs.Stores.{Shelf, IsUnchanged}
-use Rattle.cml_host.specs.Runs.{IsAnswered, IsBroken}
+use Rattle.cml_trace.specs.Runs.{IsAnswered, IsBroken}
 
 -- What stands round a run of the program, before and after: its input, its output, what it says its errors to, and its store.
 pub record Surroundings : Type 0 where

@@ -1,14 +1,14 @@
 //! The commands of the program.
 
-ghost use Rattle.std.specs.Prelude.{◌≡◌, map};
+ghost use Rattle.std.specs.Prelude.{◌≡◌, ℕ, map, take, OnOk, OnErr};
 ghost use Rattle.std.specs.String.{string_bytes};
 ghost use Rattle.cml_host.specs.Statuses as spec;
 ghost use Rattle.cml_host.specs.Statuses.{Surroundings, HelpRan, TraceRan, Ran};
-ghost use Rattle.cml_host.specs.Streams.{stream, TakesStart};
+ghost use Rattle.cml_trace.specs.Streams.{stream, Takes, TakesStart};
 
-use crate::input_output::write_out;
 use crate::store::Store;
-use crate::trace::{TraceEnd, TraceFault, run_trace};
+use cml_trace::input_output::{WriteFault, write_out};
+use cml_trace::{Counting, TraceEnd, TraceFault, run_trace};
 use cml_words::{Answer, Task, read_words};
 use std::alloc::{AllocError, Global};
 use std::io::{Read, Write};
@@ -53,7 +53,7 @@ fn help<O: Write, E: Write>(text: &[u8], out: &mut O, err: &mut E) -> u8
         let errors = stream (E.contents err.old) (E.contents err.new) in
         HelpRan text.now output errors result }
 {
-    match write_out(out, text) {
+    match send(out, text) {
         Ok(()) => 0,
         Err(_) => {
             say(err, b"cannot write output\n");
@@ -69,7 +69,9 @@ fn trace<R: Read, O: Write, E: Write>(alloc: Global, input: &mut R, out: &mut O,
         let errors = stream (E.contents err.old) (E.contents err.new) in
         TraceRan given output errors result }
 {
-    match run_trace(alloc, input, out) {
+    let mut reader = Counting::new(input);
+    let mut writer = Counting::new(out);
+    match run_trace(alloc, &mut reader, &mut writer) {
         Ok(end) => status_of(end),
         Err(fault) => {
             say(err, fault_line(fault).as_bytes());
@@ -114,5 +116,16 @@ fn fault_line(fault: TraceFault) -> &'static str
 fn say<E: Write>(err: &mut E, line: &[u8])
     ensures { TakesStart (stream (E.contents err.old) (E.contents err.new)) line.now }
 {
-    let _ = write_out(err, line);
+    let _ = send(err, line);
+}
+
+// Writes the bytes, as far as they can be written.
+fn send<W: Write>(out: &mut W, bytes: &[u8]) -> Result<(), WriteFault>
+    ensures ok { let output = stream (W.contents out.old) (W.contents out.new) in
+        OnOk result (Takes output bytes.now) }
+    ensures err { let output = stream (W.contents out.old) (W.contents out.new) in
+        OnErr result ((n : ℕ) × Takes output (take n bytes.now)) }
+{
+    let mut writer = Counting::new(out);
+    write_out(&mut writer, bytes)
 }

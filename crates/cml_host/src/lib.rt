@@ -2,9 +2,7 @@
 #![tactic(auto)]
 
 mod command;
-pub mod input_output;
 mod store;
-pub mod trace;
 
 pub use command::run_command;
 pub use store::{Store, StoreFault};

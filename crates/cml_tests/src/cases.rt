@@ -118,6 +118,90 @@ const CASES: &[Case] = &[
         output: "thread 0\n",
         status: 0,
     },
+    Case {
+        name: "far-ticks",
+        input: "spawn\nclock 4611686018427387905\nclock 4611686018427387904\nsync 0 (after 1)\nsync 0 (after 0)\nrows\n",
+        output: "thread 0\nrefused 9 far\nok\nrefused 9 far\nok\nrows 1\nrow 0 0\n",
+        status: 0,
+    },
+    Case {
+        name: "ivar-put-twice",
+        input: "spawn\nivar\nsync 0 (iget 0)\nrows\niput 0 7\niput 0 8\ncommit 0 0\n",
+        output: "thread 0\nivar 0\nok\nrows 0\nok\nrefused 4 put\nresume 0 7\nfired\n",
+        status: 0,
+    },
+    Case {
+        name: "join-ended-thread",
+        input: "spawn\nspawn\nend 0\nsync 1 (choose (join 0) (join 1))\nrows\n",
+        output: "thread 0\nthread 1\nok\nok\nrows 1\nrow 1 0\n",
+        status: 0,
+    },
+    Case {
+        name: "mailbox-order",
+        input: "spawn\nmailbox\nsync 0 (mailrecv 0)\nrows\nmail 0 1\nmail 0 2\ncommit 0 0\nsync 0 (mailrecv 0)\nrows\ncommit 0 0\nsync 0 (mailrecv 0)\nrows\n",
+        output: "thread 0\nmailbox 0\nok\nrows 0\nok\nok\nresume 0 1\nfired\nok\nrows 1\nrow 0 0\nresume 0 2\nfired\nok\nrows 0\n",
+        status: 0,
+    },
+    Case {
+        name: "multicast-ports-and-copy",
+        input: "spawn\nmchan\nport 0\nmulticast 0 1\nmulticast 0 2\ncopy 0\nport 0\nsync 0 (portrecv 0)\ncommit 0 0\nsync 0 (portrecv 1)\ncommit 0 0\nsync 0 (portrecv 0)\ncommit 0 0\nsync 0 (portrecv 1)\ncommit 0 0\nsync 0 (portrecv 2)\nrows\n",
+        output: "thread 0\nmchan 0\nport 0\nok\nok\nport 1\nport 2\nok\nresume 0 1\nfired\nok\nresume 0 1\nfired\nok\nresume 0 2\nfired\nok\nresume 0 2\nfired\nok\nrows 0\n",
+        status: 0,
+    },
+    Case {
+        name: "mvar-pair-text",
+        input: "spawn\nmvar (pair \"q\\n\" (thread 9))\nsync 0 (mget 0)\ncommit 0 0\nrows\n",
+        output: "thread 0\nmvar 0\nok\nresume 0 (pair \"q\\n\" (thread 9))\nfired\nrows 0\n",
+        status: 0,
+    },
+    Case {
+        name: "mvar-swap",
+        input: "spawn\nspawn\nmvar \"a\"\nsync 0 (mswap 0 \"b\")\nsync 1 (mtake 0)\ncommit 0 0\nrows\ncommit 1 0\n",
+        output: "thread 0\nthread 1\nmvar 0\nok\nok\nresume 0 \"a\"\nfired\nrows 1\nrow 1 0\nresume 1 \"b\"\nfired\n",
+        status: 0,
+    },
+    Case {
+        name: "mvar-takers-and-reader",
+        input: "spawn\nspawn\nspawn\nmvar 8\nsync 0 (mtake 0)\nsync 1 (mtake 0)\nsync 2 (mget 0)\nrows\ncommit 0 0\nrows\nmput 0 9\nrows\ncommit 2 0\nrows\n",
+        output: "thread 0\nthread 1\nthread 2\nmvar 0\nok\nok\nok\nrows 3\nrow 0 0\nrow 1 0\nrow 2 0\nresume 0 8\nfired\nrows 0\nok\nrows 2\nrow 1 0\nrow 2 0\nresume 2 9\nfired\nrows 1\nrow 1 0\n",
+        status: 0,
+    },
+    Case {
+        name: "timeouts-and-clock",
+        input: "spawn\nspawn\nclock 5\nsync 0 (after 10)\nclock 14\nrows\nclock 15\nrows\nsync 1 (after 0)\nrows\nclock 3\n",
+        output: "thread 0\nthread 1\nok\nok\nok\nrows 0\nok\nrows 1\nrow 0 0\nok\nrows 2\nrow 0 0\nrow 1 0\nrefused 6 clock\n",
+        status: 0,
+    },
+    Case {
+        name: "commands-of-wrong-shape",
+        input: "mvar 1 2\n",
+        output: "bad 1\n",
+        status: 2,
+    },
+    Case {
+        name: "negative-tick",
+        input: "spawn\nclock -1\n",
+        output: "thread 0\nbad 2\n",
+        status: 2,
+    },
+    Case {
+        name: "greatest-tick-that-is-read",
+        input: "spawn\nclock 9223372036854775807\nsync 0 (at 9223372036854775807)\nclock 9223372036854775808\n",
+        output: "thread 0\nrefused 9 far\nrefused 9 far\nbad 4\n",
+        status: 2,
+    },
+    Case {
+        name: "missing-objects",
+        input: "port 0\ncopy 0\niput 0 1\nmput 0 1\nmail 0 1\nmulticast 0 1\nspawn\nsync 0 (iget 0)\nsync 0 (mtake 0)\nsync 0 (mget 0)\nsync 0 (mswap 0 1)\nsync 0 (mailrecv 0)\nsync 0 (portrecv 0)\nsync 0 (join 1)\n",
+        output: "refused 3 object\nrefused 3 object\nrefused 3 object\nrefused 3 object\nrefused 3 object\nrefused 3 object\nthread 0\nrefused 3 object\nrefused 3 object\nrefused 3 object\nrefused 3 object\nrefused 3 object\nrefused 3 object\nrefused 3 object\n",
+        status: 0,
+    },
+    Case {
+        name: "multicast-without-ports",
+        input: "mchan\nmulticast 0 1\nport 0\nspawn\nsync 0 (portrecv 0)\nrows\n",
+        output: "mchan 0\nok\nport 0\nthread 0\nok\nrows 0\n",
+        status: 0,
+    },
 ];
 
 #[test]

@@ -34,6 +34,36 @@ const EXAMPLES: &[Case] = &[
         output: "thread 0\nthread 1\nthread 2\nchan 0\nok\nok\nok\nrows 2\nrow 1 0 0 0\nrow 2 0 0 0\nresume 1 ()\nresume 0 1\nfired\nrefused 5 row\nrows 0\nok\nresume 2 ()\nresume 0 2\nfired\n",
         status: 0,
     },
+    Case {
+        name: "join",
+        input: "; Thread 0 waits for the end of thread 1.\nspawn\nspawn\nsync 0 (join 1)\nrows\nend 1\nrows\ncommit 0 0\n; It has ended for good: who waits for it later need not wait.\nsync 0 (join 1)\nrows\n",
+        output: "thread 0\nthread 1\nok\nrows 0\nok\nrows 1\nrow 0 0\nresume 0 ()\nfired\nok\nrows 1\nrow 0 0\n",
+        status: 0,
+    },
+    Case {
+        name: "late-port",
+        input: "; A port sees the messages that are sent after it was made: the late port 1 misses the first.\nspawn\nspawn\nmchan\nport 0\nmulticast 0 \"early\"\nport 0\nmulticast 0 \"late\"\nsync 0 (portrecv 0)\nsync 1 (portrecv 1)\nrows\ncommit 0 0\ncommit 1 0\n",
+        output: "thread 0\nthread 1\nmchan 0\nport 0\nok\nport 1\nok\nok\nok\nrows 2\nrow 0 0\nrow 1 0\nresume 0 \"early\"\nfired\nresume 1 \"late\"\nfired\n",
+        status: 0,
+    },
+    Case {
+        name: "lock",
+        input: "; An M-variable as a lock: full while the lock is free. Threads 0 and 1 want it.\nspawn\nspawn\nmvar ()\nsync 0 (mtake 0)\nsync 1 (mtake 0)\nrows\n; Thread 0 gets it, so thread 1 has to wait.\ncommit 0 0\nrows\n; Thread 0 gives it back, and thread 1 can go on.\nmput 0 ()\nrows\ncommit 1 0\n",
+        output: "thread 0\nthread 1\nmvar 0\nok\nok\nrows 2\nrow 0 0\nrow 1 0\nresume 0 ()\nfired\nrows 0\nok\nrows 1\nrow 1 0\nresume 1 ()\nfired\n",
+        status: 0,
+    },
+    Case {
+        name: "mailbox",
+        input: "; Who sends to a mailbox never waits: thread 0 is not there yet, and the messages queue up.\nmailbox\nmail 0 \"first\"\nmail 0 \"second\"\nspawn\nsync 0 (mailrecv 0)\nrows\n; They come out in order.\ncommit 0 0\nsync 0 (mailrecv 0)\ncommit 0 0\nsync 0 (mailrecv 0)\nrows\n",
+        output: "mailbox 0\nok\nok\nthread 0\nok\nrows 1\nrow 0 0\nresume 0 \"first\"\nfired\nok\nresume 0 \"second\"\nfired\nok\nrows 0\n",
+        status: 0,
+    },
+    Case {
+        name: "time-out",
+        input: "; One choice: a message on channel 0, or 10 ticks from now on.\nspawn\nchan\nclock 100\nsync 0 (choose (recv 0) (wrap (after 10) 1 \"timed out\"))\nclock 109\nrows\n; Nobody sent, and the time is up.\nclock 110\nrows\ncommit 0 1\n",
+        output: "thread 0\nchan 0\nok\nok\nok\nrows 0\nok\nrows 1\nrow 0 1\nresume 0 () (1 \"timed out\")\nfired\n",
+        status: 0,
+    },
 ];
 
 #[test]

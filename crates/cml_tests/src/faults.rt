@@ -1,34 +1,76 @@
-//! Faults of reading and of writing.
+//! Streams that fail: the first failing read or write ends the program, and what was written before it stands.
 
 use crate::memory_store::MemoryStore;
 use crate::run::words;
 use cml_host::run_command;
+use std::alloc::Global;
 use std::io::{Error, ErrorKind, Read, Result as IoResult, Write};
+use std::process::Abort;
 use std::test::Fail;
 
-/// A reader that fails, after it was interrupted once.
+// Traces with the text that answers them.
+const TRACES: &[(&str, &str)] = &[
+    (
+        "spawn\nspawn\nchan\nsync 0 (send 0 5)\nsync 1 (recv 0)\nrows\ncommit 0 0 1 0\nrows\n",
+        "thread 0\nthread 1\nchan 0\nok\nok\nrows 1\nrow 0 0 1 0\nresume 0 ()\nresume 1 5\nfired\nrows 0\n",
+    ),
+    (
+        "spawn\nmchan\nport 0\nmulticast 0 1\nmulticast 0 2\ncopy 0\nport 0\nsync 0 (portrecv 0)\ncommit 0 0\nsync 0 (portrecv 1)\ncommit 0 0\nsync 0 (portrecv 0)\ncommit 0 0\nsync 0 (portrecv 1)\ncommit 0 0\nsync 0 (portrecv 2)\nrows\n",
+        "thread 0\nmchan 0\nport 0\nok\nok\nport 1\nport 2\nok\nresume 0 1\nfired\nok\nresume 0 1\nfired\nok\nresume 0 2\nfired\nok\nresume 0 2\nfired\nok\nrows 0\n",
+    ),
+];
+
+/// A reader that gives a byte at a time, and is interrupted before each. One read fails, after so many good ones; those behind it don't.
 #[derive(Drop)]
-struct Broken {
+struct Dripping<'a> {
+    rest: &'a [u8],
     interrupted: bool,
+    good: usize,
 }
 
-impl Read for Broken {
-    fn read(&mut self, _buf: &mut [u8]) -> IoResult<usize> {
+impl<'a> Read for Dripping<'a> {
+    fn read(&mut self, buf: &mut [u8]) -> IoResult<usize> {
+        self.interrupted = !self.interrupted;
         if self.interrupted {
-            return Err(Error::from(ErrorKind::Other));
+            return Err(Error::from(ErrorKind::Interrupted));
         }
-        self.interrupted = true;
-        Err(Error::from(ErrorKind::Interrupted))
+        let Some(good) = self.good.checked_sub(1) else {
+            self.good = usize::MAX;
+            return Err(Error::from(ErrorKind::Other));
+        };
+        self.good = good;
+        if buf.is_empty() || self.rest.is_empty() {
+            return Ok(0);
+        }
+        buf[0] = self.rest[0];
+        self.rest = &self.rest[1..];
+        Ok(1)
     }
 }
 
-/// A writer that takes nothing.
+/// A writer that takes a byte at a time. One write fails, after so many good ones, or takes nothing; those behind it don't.
 #[derive(Drop)]
-struct Full;
+struct Narrow {
+    taken: Vec<u8>,
+    good: usize,
+    takes_nothing: bool,
+}
 
-impl Write for Full {
-    fn write(&mut self, _buf: &[u8]) -> IoResult<usize> {
-        Ok(0)
+impl Write for Narrow {
+    fn write(&mut self, buf: &[u8]) -> IoResult<usize> {
+        let Some(good) = self.good.checked_sub(1) else {
+            self.good = usize::MAX;
+            if self.takes_nothing {
+                return Ok(0);
+            }
+            return Err(Error::from(ErrorKind::Other));
+        };
+        self.good = good;
+        if buf.is_empty() {
+            return Ok(0);
+        }
+        self.taken.push(buf[0])?;
+        Ok(1)
     }
 
     fn flush(&mut self) -> IoResult<()> {
@@ -36,12 +78,21 @@ impl Write for Full {
     }
 }
 
-#[test]
-fn input_that_cannot_be_read(rt: HostRuntime) -> Result<(), Fail> {
-    let alloc = rt.alloc();
+// What comes of the trace, with the streams that fail after so many good calls: what was taken, what goes to the errors, the status.
+fn ends(
+    rt: &impl Abort,
+    alloc: Global,
+    input: &str,
+    reads: usize,
+    mut out: Narrow,
+    expected: (&[u8], &str, u8),
+) -> Result<(), Fail> {
     let words = words(alloc, "trace")?;
-    let mut reader = Broken { interrupted: false };
-    let mut out = Vec::new(alloc);
+    let mut reader = Dripping {
+        rest: input.as_bytes(),
+        interrupted: false,
+        good: reads,
+    };
     let mut err = Vec::new(alloc);
     let mut store = MemoryStore::new(alloc);
     let status = run_command(
@@ -52,36 +103,76 @@ fn input_that_cannot_be_read(rt: HostRuntime) -> Result<(), Fail> {
         &mut err,
         &mut store,
     );
-    assert_eq!(rt; status, 1);
-    assert!(rt; out.is_empty());
-    assert!(rt; err.as_slice() == b"cannot read input\n".as_slice());
+    assert!(rt;
+        out.taken.as_slice() == expected.0,
+        "output after {reads} reads"
+    );
+    assert!(rt;
+        err.as_slice() == expected.1.as_bytes(),
+        "errors after {reads} reads"
+    );
+    assert_eq!(rt; status, expected.2, "status after {reads} reads");
     drop(words);
-    drop(reader);
     drop(out);
     drop(err);
     drop(store);
     Ok(())
 }
 
+// A writer that takes so many bytes before it fails.
+fn taking(alloc: Global, good: usize, takes_nothing: bool) -> Narrow {
+    Narrow {
+        taken: Vec::new(alloc),
+        good,
+        takes_nothing,
+    }
+}
+
 #[test]
-fn output_that_cannot_be_written(rt: HostRuntime) -> Result<(), Fail> {
+fn each_read_fails(rt: HostRuntime) -> Result<(), Fail> {
     let alloc = rt.alloc();
-    let words = words(alloc, "trace")?;
-    let mut reader = b"spawn\n".as_slice();
-    let mut err = Vec::new(alloc);
-    let mut store = MemoryStore::new(alloc);
-    let status = run_command(
-        alloc,
-        words.as_slice(),
-        &mut reader,
-        &mut Full,
-        &mut err,
-        &mut store,
-    );
-    assert_eq!(rt; status, 1);
-    assert!(rt; err.as_slice() == b"cannot write output\n".as_slice());
-    drop(words);
-    drop(err);
-    drop(store);
+    for (input, output) in TRACES {
+        let all = input.len();
+        for reads in 0..all {
+            let out = taking(alloc, usize::MAX, false);
+            ends(
+                &rt,
+                alloc,
+                input,
+                reads,
+                out,
+                (b"", "cannot read input\n", 1),
+            )?;
+        }
+        let out = taking(alloc, usize::MAX, false);
+        ends(&rt, alloc, input, all, out, (b"", "cannot read input\n", 1))?;
+        let out = taking(alloc, usize::MAX, false);
+        ends(
+            &rt,
+            alloc,
+            input,
+            usize::MAX,
+            out,
+            (output.as_bytes(), "", 0),
+        )?;
+    }
+    Ok(())
+}
+
+#[test]
+fn each_write_fails(rt: HostRuntime) -> Result<(), Fail> {
+    let alloc = rt.alloc();
+    for (input, output) in TRACES {
+        let text = output.as_bytes();
+        for writes in 0..text.len() {
+            for takes_nothing in [false, true] {
+                let out = taking(alloc, writes, takes_nothing);
+                let expected = (&text[..writes], "cannot write output\n", 1);
+                ends(&rt, alloc, input, usize::MAX, out, expected)?;
+            }
+        }
+        let out = taking(alloc, text.len(), false);
+        ends(&rt, alloc, input, usize::MAX, out, (text, "", 0))?;
+    }
     Ok(())
 }

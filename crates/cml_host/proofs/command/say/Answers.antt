@@ -2,4 +2,4 @@ use Rattle.cml_host.proofs.SayLemmas.{start_of}
 use Rattle.cml_host.proofs.command.say.Goals as goal
 
 pub returns : goal.returns
-returns g c = start_of c.write_out.result _ c.args.line.now c.write_out.ensures.ok c.write_out.ensures.err
+returns g c = start_of c.send.result _ c.args.line.now c.send.ensures.ok c.send.ensures.err

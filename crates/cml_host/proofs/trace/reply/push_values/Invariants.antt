@@ -1,8 +1,0 @@
-use Rattle.std.proofs.Common.{◌≡◌, ◌++◌, drop}
-use Rattle.std.specs.String.{string_bytes}
-use Rattle.cml_value.specs.Value.{values}
-use Rattle.cml_host.specs.Replies.{shown_values}
-use Rattle.cml_host.proofs.trace.reply.push_values.Given as goal
-
-abbrev pub invariant-loop-value : goal.invariant-loop-value
-invariant-loop-value l = string_bytes l.text ++ shown_values (values (drop l.value-index l.captured)) ≡ string_bytes l.fn.text ++ shown_values (values l.captured)

@@ -1,0 +1,264 @@
+-- Where the engine stands between two lines.
+use Rattle.std.proofs.Common.{◌≡◌, ℕ, ◌+◌, ◌<◌, ◌≤◌, Result, Ok, Err, OnOk, OnErr, IfOk, IfErr, codes, List, [], ◌∷◌, ◌++◌, Option, length, take, drop, refl, ap, sym, ◌∙◌, subst, inl, inr, append_assoc, append-nil}
+use Rattle.std.proofs.lemmas.List.{take-append-drop}
+use Rattle.std.specs.Result.{IsErrAnd}
+use Rattle.std.specs.Io.KnownBytes.{Appends}
+use Rattle.std.proofs.KnownBytes.{Appends-trans}
+use Rattle.cml_scan.specs.World.{PlainWorld}
+use Rattle.cml_scan.specs.Scan.{scan}
+use Rattle.cml_book.specs.declared.command.Command.{Command}
+use Rattle.std.specs.List.{flat_map}
+use Rattle.cml_book.specs.declared.command.Reply.{Reply}
+use Rattle.cml_book.specs.Step.{step, replies_of, world_after, empty_world, HasStopped}
+use Rattle.cml_text.specs.Laws.{SpelledOrFaulty}
+use Rattle.cml_trace.specs.declared.order.Order.TheVariants as order
+use Rattle.cml_trace.specs.declared.batch.Stop.{Stop}
+use Rattle.cml_trace.specs.declared.batch.Stop.TheVariants as stop
+use Rattle.cml_trace.specs.declared.fault.TraceEnd.{TraceEnd}
+use Rattle.cml_trace.specs.declared.fault.TraceEnd.TheVariants.{Done, Bad, TooLong}
+use Rattle.cml_trace.specs.declared.fault.TraceFault.{TraceFault}
+use Rattle.cml_trace.specs.declared.fault.TraceFault.TheVariants.{Read, Turns, Write, Memory}
+use Rattle.cml_trace.specs.Faults.{IsWriteFailure}
+use Rattle.cml_trace.specs.Answers.{bad_line, lines, max_input, Answers}
+use Rattle.cml_trace.specs.Replies.{line, reply_text, rows_text}
+use Rattle.cml_trace.specs.Lines.{PlainLines}
+use Rattle.cml_trace.specs.Batches.{StopsAt, Gathers}
+use Rattle.cml_trace.specs.Streams.{Stream, stream, Takes, TakesStart}
+use Rattle.cml_trace.specs.Pages.{Tells, TellsStart}
+use Rattle.cml_trace.specs.Runs.{AreAnswered, AreBegun, AreWritten, AreWrittenTo, Came, IsAnswered, IsBegun, IsBroken}
+use Rattle.cml_trace.proofs.PageLemmas.{Tells-nothing, Tells-both, TellsStart-nothing, TellsStart-all, TellsStart-more, TellsStart-behind}
+use Rattle.cml_trace.proofs.AnswerLemmas.{replies_text, answers_batch, has_answer}
+
+-- The lines before these were answered, and the text of that was told: what answers the lines here then answers all behind that text.
+pub record Standing (w : PlainWorld) (all : List (List ℕ)) (here : PlainLines) (v : PlainWorld) (waited waits : List ℕ) (held holds : Option (List ℕ)) : Type 0 where
+  pub told : List ℕ
+  pub leads : (rest : List ℕ) (end : TraceEnd) → Answers here.number v here.left rest end → Answers 1 w all (told ++ rest) end
+  pub tells : Tells waited waits (stream held holds) told
+
+pub Standing-start : (w : PlainWorld) (all : List (List ℕ)) (waits : List ℕ) (held : Option (List ℕ)) →
+    Standing w all (record { number = 1; left = all }) w waits waits held held
+Standing-start w all waits held = record { told = []; leads = λ rest end h. h; tells = Tells-nothing waits held }
+
+-- the lines behind a batch
+abbrev pub behind : (old new : PlainLines) (cs : List Command) (why : Stop) → Gathers old new cs why → PlainLines
+behind old new cs why g = record { number = old.number + length g.done; left = g.others }
+
+-- the lines of a batch are answered by its replies
+batch_leads : (old new : PlainLines) (v : PlainWorld) (cs : List Command) (why : Stop) (g : Gathers old new cs why) (rest : List ℕ) (end : TraceEnd) →
+    Answers (old.number + length g.done) (world_after cs v) g.others rest end → Answers old.number v old.left (replies_text cs v ++ rest) end
+batch_leads old new v cs why g rest end h =
+    subst (λ (ls : List (List ℕ)). Answers old.number v ls (replies_text cs v ++ rest) end) (sym g.split)
+    (answers_batch old.number v g.done cs g.asked g.others rest end h)
+
+-- one more text was told
+Standing-on : (w : PlainWorld) (all : List (List ℕ)) (here there : PlainLines) (v u : PlainWorld) (a b c : List ℕ) (held mid holds : Option (List ℕ)) (text : List ℕ) →
+    Standing w all here v a b held mid → Tells b c (stream mid holds) text →
+    ((rest : List ℕ) (end : TraceEnd) → Answers there.number u there.left rest end → Answers here.number v here.left (text ++ rest) end) →
+    Standing w all there u a c held holds
+Standing-on w all here there v u a b c held mid holds text s t on = record {
+  told = s.told ++ text;
+  leads = λ rest end h.
+      subst (λ (ts : List ℕ). Answers 1 w all ts end) (sym (append_assoc s.told text rest)) (s.leads (text ++ rest) end (on rest end h));
+  tells = Tells-both a b c held mid holds s.told text s.tells t;
+}
+
+pub Standing-batch : (w : PlainWorld) (all : List (List ℕ)) (old new : PlainLines) (v : PlainWorld) (a b c : List ℕ) (held mid holds : Option (List ℕ)) (cs : List Command) (why : Stop) →
+    Standing w all old v a b held mid → (g : Gathers old new cs why) → Tells b c (stream mid holds) (replies_text cs v) →
+    Standing w all (behind old new cs why g) (world_after cs v) a c held holds
+Standing-batch w all old new v a b c held mid holds cs why s g t =
+    Standing-on w all old (behind old new cs why g) v (world_after cs v) a b c held mid holds (replies_text cs v) s t (batch_leads old new v cs why g)
+
+-- the line that asks for the rows is answered by them
+rows_lead : (here new : PlainLines) (v : PlainWorld) → StopsAt stop.Rows here new → (rest : List ℕ) (end : TraceEnd) →
+    Answers new.number v new.left rest end → Answers here.number v here.left (rows_text (scan v) ++ rest) end
+rows_lead here new v at rest end h =
+    let next : Answers (here.number + 1) v new.left rest end = subst (λ (k : ℕ). Answers k v new.left rest end) at.3 h in
+    let first : Answers here.number v (at.0 ∷ new.left) (rows_text (scan v) ++ rest) end = inl (order.Rows, rest, at.1, refl, next) in
+    subst (λ (ls : List (List ℕ)). Answers here.number v ls (rows_text (scan v) ++ rest) end) (sym at.2) first
+
+pub Standing-rows : (w : PlainWorld) (all : List (List ℕ)) (here new : PlainLines) (v : PlainWorld) (a b c : List ℕ) (held mid holds : Option (List ℕ)) →
+    Standing w all here v a b held mid → StopsAt stop.Rows here new → Tells b c (stream mid holds) (rows_text (scan v)) →
+    Standing w all new v a c held holds
+Standing-rows w all here new v a b c held mid holds s at t =
+    Standing-on w all here new v v a b c held mid holds (rows_text (scan v)) s t (rows_lead here new v at)
+
+-- a bad line is answered by its number
+bad_answered : (here new : PlainLines) (v : PlainWorld) (n : ℕ) → StopsAt (stop.Bad n) here new → Answers here.number v here.left (bad_line n) (Bad n)
+bad_answered here new v n at =
+    let first : Answers n v (at.0 ∷ at.1) (bad_line n) (Bad n) = inr (at.2, refl, refl) in
+    let there : Answers n v here.left (bad_line n) (Bad n) = subst (λ (ls : List (List ℕ)). Answers n v ls (bad_line n) (Bad n)) (sym at.3) first in
+    subst (λ (k : ℕ). Answers k v here.left (bad_line n) (Bad n)) at.4 there
+
+pub answered_bad : (w : PlainWorld) (all : List (List ℕ)) (here new : PlainLines) (v : PlainWorld) (a b c : List ℕ) (held mid holds : Option (List ℕ)) (n : ℕ) →
+    Standing w all here v a b held mid → StopsAt (stop.Bad n) here new → Tells b c (stream mid holds) (bad_line n) → AreAnswered w all a c (stream held holds) (Bad n)
+answered_bad w all here new v a b c held mid holds n s at t = record {
+  text = s.told ++ bad_line n;
+  answered = s.leads (bad_line n) (Bad n) (bad_answered here new v n at);
+  told = Tells-both a b c held mid holds s.told (bad_line n) s.tells t;
+}
+
+pub answered_end : (w : PlainWorld) (all : List (List ℕ)) (here new : PlainLines) (v : PlainWorld) (a b : List ℕ) (held holds : Option (List ℕ)) →
+    Standing w all here v a b held holds → StopsAt stop.End here new → AreAnswered w all a b (stream held holds) Done
+answered_end w all here new v a b held holds s at =
+    let none : Answers here.number v here.left [] Done = subst (λ (ls : List (List ℕ)). Answers here.number v ls [] Done) (sym at) (refl, refl) in
+    record {
+      text = s.told;
+      answered = subst (λ (ts : List ℕ). Answers 1 w all ts Done) (append-nil s.told) (s.leads [] Done none);
+      told = s.tells;
+    }
+
+-- a beginning of what answers the lines here was told
+begun_by : (w : PlainWorld) (all : List (List ℕ)) (here : PlainLines) (v : PlainWorld) (a b c : List ℕ) (held mid holds : Option (List ℕ)) (rest : List ℕ) (end : TraceEnd) →
+    Standing w all here v a b held mid → Answers here.number v here.left rest end → TellsStart b c (stream mid holds) rest → AreBegun w all a c (stream held holds)
+begun_by w all here v a b c held mid holds rest end s answered t = record {
+  text = s.told ++ rest;
+  end = end;
+  answered = s.leads rest end answered;
+  told = TellsStart-behind a b c held mid holds s.told rest s.tells t;
+}
+
+pub begun_batch : SpelledOrFaulty → (w : PlainWorld) (all : List (List ℕ)) (old new : PlainLines) (v : PlainWorld) (a b c : List ℕ) (held mid holds : Option (List ℕ)) (cs : List Command) (why : Stop) →
+    Standing w all old v a b held mid → Gathers old new cs why → TellsStart b c (stream mid holds) (replies_text cs v) → AreBegun w all a c (stream held holds)
+begun_batch law w all old new v a b c held mid holds cs why s g t =
+    let more = has_answer law (old.number + length g.done) (world_after cs v) g.others in
+    begun_by w all old v a b c held mid holds (replies_text cs v ++ more.text) more.end s (batch_leads old new v cs why g more.text more.end more.answered)
+    (TellsStart-more b c mid holds (replies_text cs v) more.text t)
+
+pub begun_rows : SpelledOrFaulty → (w : PlainWorld) (all : List (List ℕ)) (here new : PlainLines) (v : PlainWorld) (a b c : List ℕ) (held mid holds : Option (List ℕ)) →
+    Standing w all here v a b held mid → StopsAt stop.Rows here new → TellsStart b c (stream mid holds) (rows_text (scan v)) → AreBegun w all a c (stream held holds)
+begun_rows law w all here new v a b c held mid holds s at t =
+    let more = has_answer law new.number v new.left in
+    begun_by w all here v a b c held mid holds (rows_text (scan v) ++ more.text) more.end s (rows_lead here new v at more.text more.end more.answered)
+    (TellsStart-more b c mid holds (rows_text (scan v)) more.text t)
+
+pub begun_bad : (w : PlainWorld) (all : List (List ℕ)) (here new : PlainLines) (v : PlainWorld) (a b c : List ℕ) (held mid holds : Option (List ℕ)) (n : ℕ) →
+    Standing w all here v a b held mid → StopsAt (stop.Bad n) here new → TellsStart b c (stream mid holds) (bad_line n) → AreBegun w all a c (stream held holds)
+begun_bad w all here new v a b c held mid holds n s at t =
+    begun_by w all here v a b c held mid holds (bad_line n) (Bad n) s (bad_answered here new v n at) t
+
+-- nothing more was told
+pub begun_here : SpelledOrFaulty → (w : PlainWorld) (all : List (List ℕ)) (here : PlainLines) (v : PlainWorld) (a b : List ℕ) (held holds : Option (List ℕ)) →
+    Standing w all here v a b held holds → AreBegun w all a b (stream held holds)
+begun_here law w all here v a b held holds s =
+    let more = has_answer law here.number v here.left in
+    begun_by w all here v a b b held holds holds more.text more.end s more.answered (TellsStart-nothing b more.text holds)
+
+-- what waited was written too
+pub written_whole : (all : List (List ℕ)) (waits : List ℕ) (held mid holds : Option (List ℕ)) (end : TraceEnd) →
+    AreAnswered empty_world all [] waits (stream held mid) end → Takes (stream mid holds) waits → AreWritten all (stream held holds) end
+written_whole all waits held mid holds end a sent = record {
+  text = a.text;
+  answered = a.answered;
+  written = subst (λ (ts : List ℕ). Appends held holds ts) (sym a.told.whole) (Appends-trans held mid holds a.told.part waits a.told.written sent);
+}
+
+-- a beginning of what waited was written too
+pub written_begun : (all : List (List ℕ)) (waits : List ℕ) (held mid holds : Option (List ℕ)) →
+    AreBegun empty_world all [] waits (stream held mid) → TakesStart (stream mid holds) waits → AreWrittenTo all (stream held holds)
+written_begun all waits held mid holds a sent = record {
+  text = a.text;
+  end = a.end;
+  answered = a.answered;
+  written = (
+    a.told.part ++ sent.0,
+    sent.1 ++ a.told.untold,
+    a.told.whole ∙ ap (λ ts. a.told.part ++ (ts ++ a.told.untold)) sent.2 ∙ ap (λ ts. a.told.part ++ ts) (append_assoc sent.0 sent.1 a.told.untold)
+        ∙ sym (append_assoc a.told.part sent.0 (sent.1 ++ a.told.untold)),
+    Appends-trans held mid holds a.told.part sent.0 a.told.written sent.3,
+  );
+}
+
+-- all was told, and a beginning of what waited was written
+pub written_partly : (all : List (List ℕ)) (waits : List ℕ) (held mid holds : Option (List ℕ)) (end : TraceEnd) →
+    AreAnswered empty_world all [] waits (stream held mid) end → TakesStart (stream mid holds) waits → AreWrittenTo all (stream held holds)
+written_partly all waits held mid holds end a sent =
+    written_begun all waits held mid holds
+    (record { text = a.text; end = end; answered = a.answered; told = TellsStart-all [] waits held mid a.text a.told }) sent
+
+-- the answer was told, and then what waited was written, all or a beginning of it
+pub finish_ok : (all : List (List ℕ)) (waits : List ℕ) (held mid holds : Option (List ℕ)) (end result : Result TraceEnd TraceFault) →
+    IfOk end (AreAnswered empty_world all [] waits (stream held mid)) → OnOk result (Takes (stream mid holds) waits) → IfOk result (λ e. end ≡ Ok e) →
+    IfOk result (AreWritten all (stream held holds))
+finish_ok all waits held mid holds end (Ok e) answered sent same =
+    written_whole all waits held mid holds e
+    (subst (λ (r : Result TraceEnd TraceFault). IfOk r (AreAnswered empty_world all [] waits (stream held mid))) same answered) sent
+finish_ok all waits held mid holds end (Err fault) answered sent same = tt
+
+pub finish_err : (all : List (List ℕ)) (waits : List ℕ) (held mid holds : Option (List ℕ)) (end result : Result TraceEnd TraceFault) →
+    IfOk end (AreAnswered empty_world all [] waits (stream held mid)) → OnErr end (AreBegun empty_world all [] waits (stream held mid)) →
+    OnErr result (TakesStart (stream mid holds) waits) → OnErr result (AreWrittenTo all (stream held holds))
+finish_err all waits held mid holds end (Ok e) answered begun sent = tt
+finish_err all waits held mid holds (Ok e) (Err fault) answered begun sent = written_partly all waits held mid holds e answered sent
+finish_err all waits held mid holds (Err first) (Err fault) answered begun sent = written_begun all waits held mid holds begun sent
+
+-- what was written, all of it
+pub all_written : (output : Stream) (text : List ℕ) → Takes output text → TakesStart output text
+all_written output text written = (text, [], sym (append-nil text), written)
+
+-- a first part
+pub part_written : (output : Stream) (text : List ℕ) (k : ℕ) → Takes output (take k text) → TakesStart output text
+part_written output text k written = (take k text, drop k text, sym (take-append-drop k text), written)
+
+-- the answer to the lines is the answer to the trace
+pub answered_trace : (input output : Stream) (trace : List ℕ) (end : TraceEnd) → Came input trace → length trace ≤ max_input →
+    AreWritten (lines trace) output end → IsAnswered input output end
+answered_trace input output trace end came short a = record { trace = trace; text = a.text; came = came; answered = inl (short, a.answered); written = a.written }
+
+pub begun_trace : (input output : Stream) (trace : List ℕ) → Came input trace → length trace ≤ max_input → AreWrittenTo (lines trace) output → IsBegun input output
+begun_trace input output trace came short a =
+    record { trace = trace; text = a.text; end = a.end; came = came; answered = inl (short, a.answered); written = a.written }
+
+-- a beginning of what a trace that is too long is answered was written
+pub begun_long : (input output : Stream) (trace : List ℕ) (k : ℕ) → Came input trace → max_input < length trace →
+    Takes output (take k (line (codes "too long"))) → IsBegun input output
+begun_long input output trace k came long written = record {
+  trace = trace;
+  text = line (codes "too long");
+  end = TooLong;
+  came = came;
+  answered = inr (long, refl, refl);
+  written = part_written output (line (codes "too long")) k written;
+}
+
+-- nothing of a trace was written to its end
+pub broken : (r : Result TraceEnd TraceFault) (input output : Stream) (failed : ℕ) → IsWriteFailure r failed → OnErr r (IsBegun input output) →
+    IfErr r (IsBroken input output)
+broken (Ok a) input output failed is begun = tt
+broken (Err Read) input output failed is begun = absurd is
+broken (Err Turns) input output failed is begun = absurd is
+broken (Err Write) input output failed is begun = begun
+broken (Err Memory) input output failed is begun = inr begun
+
+-- a write failed
+pub broken_write : (r : Result TraceEnd TraceFault) (input output : Stream) → IsErrAnd r (λ fault. fault ≡ Write) → IsBegun input output →
+    IfErr r (IsBroken input output)
+broken_write (Ok a) input output is begun = tt
+broken_write (Err fault) input output is begun = subst (λ (f : TraceFault). IsBroken input output f) (sym is) begun
+
+-- what more commands are answered comes behind what the first are
+pub record GoesOn (all first : List ℕ) : Type 0 where
+  pub more : List ℕ
+  pub whole : all ≡ first ++ more
+
+replies_go_on : (done left : List Command) (w : PlainWorld) → GoesOn (replies_text (done ++ left) w) (replies_text done w)
+replies_go_on [] left w = record { more = replies_text left w; whole = refl }
+replies_go_on (c ∷ done) left w =
+    let on = replies_go_on done left (step w c).0 in
+    record {
+      more = on.more;
+      whole = ap (λ ts. reply_text (step w c).1 ++ ts) on.whole ∙ sym (append_assoc (reply_text (step w c).1) (replies_text done (step w c).0) on.more);
+    }
+
+-- of a run that stopped a beginning was told
+pub begun_stopped : (commands left : List Command) (replies : List Reply) (old new : PlainWorld) (a b : List ℕ) (held holds : Option (List ℕ)) →
+    HasStopped commands replies left old new → TellsStart a b (stream held holds) (flat_map reply_text replies) →
+    TellsStart a b (stream held holds) (replies_text commands old)
+begun_stopped commands left replies old new a b held holds s t =
+    let on = replies_go_on s.done left old in
+    let whole : replies_text commands old ≡ flat_map reply_text replies ++ on.more =
+    ap (λ cs. replies_text cs old) s.split ∙ on.whole ∙ ap (λ rs. flat_map reply_text rs ++ on.more) (sym s.told_so_far) in
+    subst (λ (ts : List ℕ). TellsStart a b (stream held holds) ts) (sym whole) (TellsStart-more a b held holds (flat_map reply_text replies) on.more t)
+
+pub on_err : {A B P : Type 0} (r : Result A B) → P → OnErr r P
+on_err (Ok a) p = tt
+on_err (Err e) p = p

@@ -1,0 +1,10 @@
+mod GivenLemmas
+mod Sent
+mod BatchLemmas
+mod PageLemmas
+mod AnswerLemmas
+mod EngineLemmas
+mod FormLemmas
+mod LineLemmas
+mod OneAnswerLemmas
+mod KeywordLemmas

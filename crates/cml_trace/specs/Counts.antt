@@ -1,0 +1,19 @@
+-- How often a stream is called, and how often that fails.
+use Rattle.std.specs.Prelude.{◌≡◌, ℕ, ◌+◌, ◌*◌, ◌-◌, ◌^◌, min, Result, Ok, Err}
+use Rattle.cml_trace.specs.declared.input_output.ReadFault.{ReadFault}
+use Rattle.cml_trace.specs.declared.input_output.ReadFault.TheVariants as read
+
+-- one more, where that is a u64; the greatest u64 stays
+abbrev pub counted : ℕ → ℕ
+counted count = min (count + 1) (2 ^ 64 - 1)
+
+-- the most calls of a reader, of which no more than so many bytes are wanted
+abbrev pub most_reads : ℕ → ℕ
+most_reads limit = min (limit * 2) (2 ^ 64 - 1)
+
+-- when each fault of reading comes: the one of a read where one failed, and that was the only one; that the input does not end where the
+-- reader was called as often as it may be
+abbrev pub HasReadFaults : {A : Type 0} → Result A ReadFault → ℕ → ℕ → ℕ → Type 0
+HasReadFaults (Err read.Read) limit calls failed = failed ≡ 1
+HasReadFaults (Err read.Turns) limit calls failed = (calls ≡ most_reads limit) × (failed ≡ 0)
+HasReadFaults _ limit calls failed = failed ≡ 0

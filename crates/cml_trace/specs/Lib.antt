@@ -1,0 +1,15 @@
+pub mod Keywords
+pub mod Given
+pub mod ValueForms
+pub mod GroupForms
+pub mod Orders
+pub mod Replies
+pub mod Answers
+pub mod Lines
+pub mod Batches
+pub mod Streams
+pub mod Counts
+pub mod Pages
+pub mod Runs
+pub mod Faults
+pub mod Laws

@@ -1,0 +1,127 @@
+-- What a line of a trace asks for: rows, or one of the commands spawn, chan, ivar, mvar, mvar V, mailbox, mchan, port X, copy P, iput I V,
+-- mput M V, mail B V, multicast X V, nack T, sync T G, commit T L, commit T L U M, end T, clock K.
+use Rattle.std.specs.Prelude.{◌≡◌, ◌⊎◌, ℕ, List, [], ◌∷◌, Option, Some, None, option_map, option_and_then}
+use Rattle.cml_scan.specs.declared.meet.Meet.{Meet}
+use Rattle.cml_scan.specs.declared.meet.Meet.TheVariants.{Single, Pair}
+use Rattle.cml_book.specs.declared.command.Command.{Command}
+use Rattle.cml_book.specs.declared.command.Command.TheVariants as command
+use Rattle.cml_text.specs.Faults.{PlainFault}
+use Rattle.cml_text.specs.Forms.{PlainSexpr}
+use Rattle.cml_text.specs.Texts.{Spells, fault_of}
+use Rattle.cml_trace.specs.declared.keyword.Keyword.{Keyword}
+use Rattle.cml_trace.specs.declared.keyword.Keyword.TheVariants as keyword
+use Rattle.cml_trace.specs.declared.order.Order.{Order}
+use Rattle.cml_trace.specs.declared.order.Order.TheVariants as order
+use Rattle.cml_trace.specs.Keywords.{head_of}
+use Rattle.cml_trace.specs.Given.{both}
+use Rattle.cml_value.specs.Value.{PlainValue}
+use Rattle.cml_trace.specs.ValueForms.{number_from, tick_from, value_from, number_and_value}
+use Rattle.cml_trace.specs.GroupForms.{group_from}
+
+-- a row of one leaf: its thread and its number
+abbrev pub single : ℕ → ℕ → Meet
+single t n = Single (record { 0 = t }) n
+
+-- a row of two leaves, each with its thread: the head's, then the other's
+abbrev pub pair : (ℕ × ℕ) → (ℕ × ℕ) → Meet
+pair head other = Pair (record { 0 = head.0 }) head.1 (record { 0 = other.0 }) other.1
+
+-- a thread and a leaf
+abbrev pub place : PlainSexpr → PlainSexpr → Option (ℕ × ℕ)
+place t n = both (λ thread leaf. (thread, leaf)) (number_from t) (number_from n)
+
+-- the commands of one word, by their keywords
+abbrev pub making : Keyword → Option Command
+making keyword.Spawn = Some command.Spawn
+making keyword.Chan = Some command.MakeChan
+making keyword.IVar = Some command.MakeIVar
+making keyword.Mailbox = Some command.MakeMailbox
+making keyword.Mchan = Some command.MakeMChan
+making _ = None
+
+-- those that name a multicast channel, a port or a thread
+abbrev pub naming : Keyword → ℕ → Option Command
+naming keyword.Port n = Some (command.MakePort (record { 0 = n }))
+naming keyword.Copy n = Some (command.CopyPort (record { 0 = n }))
+naming keyword.Nack n = Some (command.Nack (record { 0 = n }))
+naming keyword.End n = Some (command.End (record { 0 = n }))
+naming _ n = None
+
+-- those that name a variable, a mailbox or a multicast channel, and hand a value over to it
+abbrev pub giving : Keyword → ℕ → PlainValue → Option Command
+giving keyword.IPut n v = Some (command.IPut (record { 0 = n }) v)
+giving keyword.MPut n v = Some (command.MPut (record { 0 = n }) v)
+giving keyword.Mail n v = Some (command.Mail (record { 0 = n }) v)
+giving keyword.Multicast n v = Some (command.Multicast (record { 0 = n }) v)
+giving _ n v = None
+
+abbrev pub making_by : Keyword → List PlainSexpr → Option Command
+making_by keyword [] = making keyword
+making_by keyword _ = None
+
+abbrev pub naming_by : Keyword → List PlainSexpr → Option Command
+naming_by keyword (n ∷ []) = option_and_then (naming keyword) (number_from n)
+naming_by keyword _ = None
+
+abbrev pub giving_by : Keyword → List PlainSexpr → Option Command
+giving_by keyword forms = option_and_then (λ given. giving keyword given.0 given.1) (number_and_value forms)
+
+-- an M-variable is made empty, or holds a value
+abbrev pub mvar_by : List PlainSexpr → Option Command
+mvar_by [] = Some (command.MakeMVar None)
+mvar_by (v ∷ []) = option_map (λ value. command.MakeMVar (Some value)) (value_from v)
+mvar_by _ = None
+
+abbrev pub sync_by : List PlainSexpr → Option Command
+sync_by (t ∷ g ∷ []) = both (λ thread group. command.Sync (record { 0 = thread }) group) (number_from t) (group_from g)
+sync_by _ = None
+
+abbrev pub commit_by : List PlainSexpr → Option Command
+commit_by (t ∷ n ∷ []) = both (λ thread leaf. command.Commit (single thread leaf)) (number_from t) (number_from n)
+commit_by (t ∷ n ∷ u ∷ m ∷ []) = both (λ head other. command.Commit (pair head other)) (place t n) (place u m)
+commit_by _ = None
+
+abbrev pub clock_by : List PlainSexpr → Option Command
+clock_by (k ∷ []) = option_map command.Clock (tick_from k)
+clock_by _ = None
+
+-- the command that these forms behind its keyword are
+abbrev pub command_by : Keyword → List PlainSexpr → Option Command
+command_by keyword.MVar forms = mvar_by forms
+command_by keyword.Sync forms = sync_by forms
+command_by keyword.Commit forms = commit_by forms
+command_by keyword.Clock forms = clock_by forms
+command_by keyword.Port forms = naming_by keyword.Port forms
+command_by keyword.Copy forms = naming_by keyword.Copy forms
+command_by keyword.Nack forms = naming_by keyword.Nack forms
+command_by keyword.End forms = naming_by keyword.End forms
+command_by keyword.IPut forms = giving_by keyword.IPut forms
+command_by keyword.MPut forms = giving_by keyword.MPut forms
+command_by keyword.Mail forms = giving_by keyword.Mail forms
+command_by keyword.Multicast forms = giving_by keyword.Multicast forms
+command_by keyword forms = making_by keyword forms
+
+-- the rows are asked for by their keyword alone, with no form behind it
+abbrev pub rows_by : List PlainSexpr → Option Order
+rows_by [] = Some order.Rows
+rows_by (form ∷ forms) = None
+
+-- what these forms behind their keyword ask for, if they ask for anything: the rows, or a command
+abbrev pub order_by : Keyword → List PlainSexpr → Option Order
+order_by keyword.Rows forms = rows_by forms
+order_by keyword forms = option_map order.Do (command_by keyword forms)
+
+-- what the forms of a line ask for, if they ask for anything: a line without forms asks for nothing to be done
+abbrev pub order_of : List PlainSexpr → Option Order
+order_of [] = Some order.Skip
+order_of (form ∷ forms) = option_and_then (λ head. order_by head.0 head.1) (head_of (form ∷ forms))
+
+-- the line spells forms that ask for this
+abbrev pub Asks : List ℕ → Order → Type 0
+Asks line what = (forms : List PlainSexpr) × Spells line forms × (order_of forms ≡ Some what)
+
+-- the line is at fault as a text, or its forms ask for nothing that there is
+abbrev pub IsBad : List ℕ → Type 0
+IsBad line =
+    ((fault : PlainFault) × (fault_of line ≡ Some fault))
+    ⊎ ((forms : List PlainSexpr) × Spells line forms × (order_of forms ≡ None))

@@ -1,0 +1,66 @@
+-- What a run of the engine did: which bytes came, and which text was written.
+use Rattle.std.specs.Prelude.{◌≡◌, ◌⊎◌, ℕ, ◌<◌, List, length}
+use Rattle.cml_scan.specs.World.{PlainWorld}
+use Rattle.cml_trace.specs.declared.fault.TraceEnd.{TraceEnd}
+use Rattle.cml_trace.specs.declared.fault.TraceFault.{TraceFault}
+use Rattle.cml_trace.specs.declared.fault.TraceFault.TheVariants.{Read, Turns, Write, Memory}
+use Rattle.cml_trace.specs.Streams.{Stream, Gives, IsSpent, Takes, TakesStart, IsUntouched}
+use Rattle.cml_book.specs.Step.{empty_world}
+use Rattle.cml_trace.specs.Pages.{Tells, TellsStart}
+use Rattle.cml_trace.specs.Answers.{Answers, max_input, AnswersTrace}
+
+-- the lines were answered in this world, and the text that answers them was told behind what waited
+pub record AreAnswered (w : PlainWorld) (all : List (List ℕ)) (waited waits : List ℕ) (output : Stream) (end : TraceEnd) : Type 0 where
+  pub text : List ℕ
+  pub answered : Answers 1 w all text end
+  pub told : Tells waited waits output text
+
+-- a beginning of the text that answers the lines was told
+pub record AreBegun (w : PlainWorld) (all : List (List ℕ)) (waited waits : List ℕ) (output : Stream) : Type 0 where
+  pub text : List ℕ
+  pub end : TraceEnd
+  pub answered : Answers 1 w all text end
+  pub told : TellsStart waited waits output text
+
+-- the lines were answered, from the empty world on, and the text that answers them was written
+pub record AreWritten (all : List (List ℕ)) (output : Stream) (end : TraceEnd) : Type 0 where
+  pub text : List ℕ
+  pub answered : Answers 1 empty_world all text end
+  pub written : Takes output text
+
+-- a beginning of the text that answers the lines was written
+pub record AreWrittenTo (all : List (List ℕ)) (output : Stream) : Type 0 where
+  pub text : List ℕ
+  pub end : TraceEnd
+  pub answered : Answers 1 empty_world all text end
+  pub written : TakesStart output text
+
+-- the bytes came from the input, and they are all that it had, or more than a trace can have
+pub record Came (input : Stream) (trace : List ℕ) : Type 0 where
+  pub given : Gives input trace
+  pub whole : IsSpent input ⊎ (max_input < length trace)
+
+-- The trace that came from the input was answered: the output took the text that answers it.
+pub record IsAnswered (input output : Stream) (end : TraceEnd) : Type 0 where
+  pub trace : List ℕ
+  pub text : List ℕ
+  pub came : Came input trace
+  pub answered : AnswersTrace trace text end
+  pub written : Takes output text
+
+-- The trace came from the input, and the output took a beginning of the text that answers it.
+pub record IsBegun (input output : Stream) : Type 0 where
+  pub trace : List ℕ
+  pub text : List ℕ
+  pub end : TraceEnd
+  pub came : Came input trace
+  pub answered : AnswersTrace trace text end
+  pub written : TakesStart output text
+
+-- What was written where the trace was not answered to its end: nothing where it was not read whole, and else a beginning of the text
+-- that answers it.
+abbrev pub IsBroken : Stream → Stream → TraceFault → Type 0
+IsBroken input output Read = IsUntouched output
+IsBroken input output Turns = IsUntouched output
+IsBroken input output Write = IsBegun input output
+IsBroken input output Memory = IsUntouched output ⊎ IsBegun input output

@@ -1,0 +1,189 @@
+//! The engine that answers a trace.
+
+ghost use Rattle.std.specs.Prelude.{◌≡◌, ◌≤◌, [], length, Ok, IfOk, IfErr, OnErr, OnOk};
+ghost use Rattle.std.specs.List.{flat_map};
+ghost use Rattle.cml_scan.specs.Scan.{scan};
+ghost use Rattle.cml_book.specs.Step.{replies_of, world_after};
+ghost use Rattle.cml_trace.specs.Answers.{lines, max_input};
+ghost use Rattle.cml_trace.specs.Counts.{most_reads};
+ghost use Rattle.cml_trace.specs.Faults.{Calls, HasCause, IsWriteFailure};
+ghost use Rattle.cml_trace.specs.Pages.{Tells, TellsStart};
+ghost use Rattle.cml_trace.specs.Replies.{reply_text, rows_text};
+ghost use Rattle.cml_trace.specs.Streams.{stream, Takes, TakesStart};
+ghost use Rattle.cml_trace.specs.Runs.{AreAnswered, AreBegun, AreWritten, AreWrittenTo, IsAnswered, IsBroken};
+
+use crate::batch::{Batch, Stop, gather};
+use crate::counts::Counting;
+use crate::fault::{TraceEnd, TraceFault};
+use crate::input_output::{WriteFault, read_all, write_out};
+use crate::line::Lines;
+use crate::page::Page;
+use crate::reply::{tell_bad, tell_replies, tell_rows};
+use cml_book::{Book, Command, KeptRows};
+use cml_scan::Table;
+use cml_text::law::spelled_or_faulty;
+use std::alloc::Global;
+use std::io::{Read, Write};
+
+/// The most bytes of a trace.
+pub const MAX_INPUT: usize = 1_048_576;
+
+/// Answers a trace. The whole input is read before the first line is answered.
+///
+/// # Errors
+/// A failed read, no end in 2,097,152 reads, a failed write, or want of memory. What was written is nothing, or a beginning of the
+/// answer.
+pub fn run_trace<R: Read, W: Write>(
+    alloc: Global,
+    reader: &mut Counting<'_, R>,
+    writer: &mut Counting<'_, W>,
+) -> Result<TraceEnd, TraceFault>
+    requires reads { (reader.old.calls ≡ 0) × (reader.old.failed ≡ 0) }
+    requires writes { (writer.old.calls ≡ 0) × (writer.old.failed ≡ 0) }
+    ensures ok { let input = stream (R.remaining reader.old.stream.now) (R.remaining reader.new.stream.now) in
+        let output = stream (W.contents writer.old.stream.now) (W.contents writer.new.stream.now) in
+        IfOk result (IsAnswered input output) }
+    ensures err { let input = stream (R.remaining reader.old.stream.now) (R.remaining reader.new.stream.now) in
+        let output = stream (W.contents writer.old.stream.now) (W.contents writer.new.stream.now) in
+        IfErr result (IsBroken input output) }
+    ensures cause { let reads : Calls = record { calls = reader.new.calls; failed = reader.new.failed } in
+        let writes : Calls = record { calls = writer.new.calls; failed = writer.new.failed } in
+        HasCause result reads writes }
+    ensures reads { reader.new.calls ≤ most_reads max_input }
+    ensures same_reader { reader.new.stream.ghost_name ≡ reader.old.stream.ghost_name }
+    ensures same_writer { writer.new.stream.ghost_name ≡ writer.old.stream.ghost_name }
+{
+    let input = read_all(alloc, reader, MAX_INPUT)?;
+    if input.len() > MAX_INPUT {
+        write_out(writer, b"too long\n")?;
+        return Ok(TraceEnd::TooLong);
+    }
+    answer(alloc, input.as_slice(), writer)
+}
+
+// Answers a trace that is not too long.
+fn answer<W: Write>(
+    alloc: Global,
+    input: &[u8],
+    writer: &mut Counting<'_, W>,
+) -> Result<TraceEnd, TraceFault>
+    requires short { length input.now ≤ max_input }
+    requires fresh { writer.old.failed ≡ 0 }
+    ensures ok { let output = stream (W.contents writer.old.stream.now) (W.contents writer.new.stream.now) in
+        IfOk result (AreWritten (lines input.now) output) }
+    ensures err { let output = stream (W.contents writer.old.stream.now) (W.contents writer.new.stream.now) in
+        OnErr result (AreWrittenTo (lines input.now) output) }
+    ensures same_reference { writer.new.stream.ghost_name ≡ writer.old.stream.ghost_name }
+    ensures failed { IsWriteFailure result writer.new.failed }
+{
+    let mut book = Book::new(alloc, KeptRows::new(alloc));
+    let mut page = Page::new(alloc);
+    let end = answer_lines(alloc, &mut book, input, &mut page, writer);
+    drop(book);
+    finish(end, page, writer)
+}
+
+// Writes what still waits, but for where a write failed before.
+fn finish<W: Write>(
+    end: Result<TraceEnd, TraceFault>,
+    mut page: Page,
+    writer: &mut Counting<'_, W>,
+) -> Result<TraceEnd, TraceFault>
+    requires { IsWriteFailure end writer.old.failed }
+    ensures ok { let output = stream (W.contents writer.old.stream.now) (W.contents writer.new.stream.now) in
+        OnOk result (Takes output page) }
+    ensures end { IfOk result (λ e. end ≡ Ok e) }
+    ensures err { let output = stream (W.contents writer.old.stream.now) (W.contents writer.new.stream.now) in
+        OnErr result (TakesStart output page) }
+    ensures same_reference { writer.new.stream.ghost_name ≡ writer.old.stream.ghost_name }
+    ensures failed { IsWriteFailure result writer.new.failed }
+{
+    if let Err(TraceFault::Write) = end {
+        return end;
+    }
+    match page.send(writer) {
+        Ok(()) => end,
+        Err(WriteFault) => Err(TraceFault::Write),
+    }
+}
+
+// Answers all lines, of which none was answered before.
+fn answer_lines<T: Table, W: Write>(
+    alloc: Global,
+    book: &mut Book<T>,
+    input: &[u8],
+    page: &mut Page,
+    writer: &mut Counting<'_, W>,
+) -> Result<TraceEnd, TraceFault>
+    requires short { length input.now ≤ max_input }
+    requires fresh { writer.old.failed ≡ 0 }
+    ensures ok { let output = stream (W.contents writer.old.stream.now) (W.contents writer.new.stream.now) in
+        IfOk result (AreAnswered book.old (lines input.now) page.old page.new output) }
+    ensures err { let output = stream (W.contents writer.old.stream.now) (W.contents writer.new.stream.now) in
+        OnErr result (AreBegun book.old (lines input.now) page.old page.new output) }
+    ensures same_reference { writer.new.stream.ghost_name ≡ writer.old.stream.ghost_name }
+    ensures failed { IsWriteFailure result writer.new.failed }
+{
+    spelled_or_faulty();
+    let mut lines = Lines::new(input);
+    loop {
+        let Batch { commands, stop } = gather(alloc, &mut lines);
+        do_commands(alloc, book, commands, page, writer)?;
+        match stop {
+            Stop::Rows => do_rows(alloc, book, page, writer)?,
+            Stop::Bad(number) => {
+                tell_bad(alloc, number, page, writer)?;
+                return Ok(TraceEnd::Bad(number));
+            }
+            Stop::End => return Ok(TraceEnd::Done),
+            Stop::Memory => return Err(TraceFault::Memory),
+        }
+    }
+}
+
+// Does the commands in one go, and tells their replies.
+fn do_commands<T: Table, W: Write>(
+    alloc: Global,
+    book: &mut Book<T>,
+    commands: Vec<Command>,
+    page: &mut Page,
+    writer: &mut Counting<'_, W>,
+) -> Result<(), TraceFault>
+    requires { writer.old.failed ≡ 0 }
+    ensures world { OnOk result (book.new ≡ world_after commands.items book.old) }
+    ensures ok { let output = stream (W.contents writer.old.stream.now) (W.contents writer.new.stream.now) in
+        let text = flat_map reply_text (replies_of commands.items book.old) in
+        OnOk result (Tells page.old page.new output text) }
+    ensures err { let output = stream (W.contents writer.old.stream.now) (W.contents writer.new.stream.now) in
+        let text = flat_map reply_text (replies_of commands.items book.old) in
+        OnErr result (TellsStart page.old page.new output text) }
+    ensures same_reference { writer.new.stream.ghost_name ≡ writer.old.stream.ghost_name }
+    ensures failed { IsWriteFailure result writer.new.failed }
+{
+    match book.run(alloc, commands) {
+        Ok(replies) => tell_replies(alloc, replies.as_slice(), page, writer),
+        Err(stopped) => {
+            tell_replies(alloc, stopped.replies.as_slice(), page, writer)?;
+            Err(TraceFault::Memory)
+        }
+    }
+}
+
+// Tells the rows that are enabled now.
+fn do_rows<T: Table, W: Write>(
+    alloc: Global,
+    book: &Book<T>,
+    page: &mut Page,
+    writer: &mut Counting<'_, W>,
+) -> Result<(), TraceFault>
+    requires { writer.old.failed ≡ 0 }
+    ensures ok { let output = stream (W.contents writer.old.stream.now) (W.contents writer.new.stream.now) in
+        OnOk result (Tells page.old page.new output (rows_text (scan book.now))) }
+    ensures err { let output = stream (W.contents writer.old.stream.now) (W.contents writer.new.stream.now) in
+        OnErr result (TellsStart page.old page.new output (rows_text (scan book.now))) }
+    ensures same_reference { writer.new.stream.ghost_name ≡ writer.old.stream.ghost_name }
+    ensures failed { IsWriteFailure result writer.new.failed }
+{
+    let rows = book.table().rows(alloc)?;
+    tell_rows(alloc, rows.as_slice(), page, writer)
+}

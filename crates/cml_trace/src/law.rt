@@ -1,0 +1,19 @@
+//! What holds of every keyword and of every trace. Each function does nothing, and its contract is the law.
+
+ghost use Rattle.cml_trace.specs.Laws.{HasOneAnswer, SpellingNamesKeyword};
+
+use cml_text::law::{spelled_has_no_fault, spelled_or_faulty, spells_one_at_most};
+
+/// Every trace has an answer, and no other one.
+pub fn has_one_answer()
+    ensures { HasOneAnswer }
+{
+    spelled_or_faulty();
+    spelled_has_no_fault();
+    spells_one_at_most();
+}
+
+/// Every keyword is the one that its spelling names.
+pub fn spelling_names_keyword()
+    ensures { SpellingNamesKeyword }
+{}

@@ -1,0 +1,20 @@
+//! Traces: lines of commands, and the lines that answer them.
+#![tactic(auto)]
+
+mod batch;
+mod counts;
+mod engine;
+mod fault;
+mod form;
+mod group;
+pub mod input_output;
+mod keyword;
+pub mod law;
+mod line;
+mod order;
+mod page;
+mod reply;
+
+pub use counts::Counting;
+pub use engine::run_trace;
+pub use fault::{TraceEnd, TraceFault};

@@ -1,0 +1,82 @@
+//! The lines of a trace, and what each asks for.
+
+ghost use Rattle.std.specs.Prelude.{◌≡◌, ◌∷◌, [], ◌+◌, ◌≤◌, length, MatchOption, IfOk, IfSome, IfNone};
+ghost use Rattle.cml_trace.specs.Answers.{lines, max_input};
+ghost use Rattle.cml_trace.specs.Lines.{lines_behind, room_of};
+ghost use Rattle.cml_trace.specs.Orders.{Asks, IsBad};
+
+use crate::order::{Order, order_of};
+use cml_text::{TextFault, read};
+use std::alloc::{AllocError, Global};
+use std::marker::Model;
+
+/// The lines of a trace that are left, the first of which has this number.
+#[derive(Drop)]
+pub struct Lines<'a> {
+    number: u64,
+    rest: Option<&'a [u8]>,
+}
+
+impl<'a> Model for Lines<'a> {
+    ghost use Rattle.std.specs.Prelude.{◌+◌, ◌≤◌};
+    ghost use Rattle.cml_trace.specs.Answers.{max_input};
+    ghost use Rattle.cml_trace.specs.Lines.{PlainLines, lines_behind, room_of};
+
+    ghost Value = { PlainLines };
+
+    ghost view = { λ l. record { number = l.number; left = lines_behind l.rest } };
+
+    ghost invariant = { λ l. l.number + room_of l.rest ≤ max_input + 2 };
+}
+
+impl<'a> Lines<'a> {
+    /// All lines of the input, from number 1.
+    pub fn new(input: &'a [u8]) -> Lines<'a>
+        requires { length input.now ≤ max_input }
+        ensures { result ≡ record { number = 1; left = lines input.now } }
+    {
+        Lines {
+            number: 1,
+            rest: Some(input),
+        }
+    }
+
+    /// The next line with its number, where one is left.
+    pub fn next(&mut self) -> Option<(u64, &'a [u8])>
+        ensures number { IfSome result (λ found. found.0 ≡ self.old.number) }
+        ensures line { IfSome result (λ found. self.old.left ≡ found.1.now ∷ self.new.left) }
+        ensures next { IfSome result (λ found. self.new.number ≡ self.old.number + 1) }
+        ensures none { IfNone result (self.old.left ≡ []) }
+        ensures same { IfNone result (self.new ≡ self.old) }
+    {
+        let (line, behind) = cut(self.rest?);
+        let number = self.number;
+        self.number += 1;
+        self.rest = behind;
+        Some((number, line))
+    }
+}
+
+/// What the line asks for, or none where it is bad.
+pub fn order_from(alloc: Global, line: &[u8]) -> Result<Option<Order>, AllocError>
+    ensures { IfOk result (λ order. MatchOption order (IsBad line.now) (Asks line.now)) }
+{
+    match read(alloc, line) {
+        Ok(forms) => order_of(alloc, forms.as_slice()),
+        Err(TextFault::At { .. }) => Ok(None),
+        Err(TextFault::Memory) => Err(AllocError),
+    }
+}
+
+// The first line, and what stands behind its line feed, if it has one.
+fn cut(input: &[u8]) -> (&[u8], Option<&[u8]>)
+    ensures cut { lines input.now ≡ result.0.now ∷ lines_behind result.1 }
+    ensures shorter { room_of result.1 ≤ length input.now }
+{
+    for (end, byte) in input.iter().enumerate() {
+        if *byte == b'\n' {
+            return (&input[..end], Some(&input[end + 1..]));
+        }
+    }
+    (input, None)
+}

@@ -1,0 +1,203 @@
+//! The lines that answer commands.
+
+ghost use Rattle.std.specs.Prelude.{◌≡◌, ◌++◌, map, OnOk, OnErr};
+ghost use Rattle.std.specs.List.{flat_map};
+ghost use Rattle.std.specs.String.{string_bytes};
+ghost use Rattle.cml_value.specs.Value.{values};
+ghost use Rattle.cml_trace.specs.Answers.{bad_line};
+ghost use Rattle.cml_trace.specs.Faults.{IsWriteFailure};
+ghost use Rattle.cml_trace.specs.Pages.{Tells, TellsStart};
+ghost use Rattle.cml_trace.specs.Replies as spec;
+ghost use Rattle.cml_trace.specs.Streams.{stream};
+
+use crate::counts::Counting;
+use crate::fault::TraceFault;
+use crate::page::Page;
+use cml_book::{Committed, Refusal, Reply, Resume};
+use cml_scan::Meet;
+use cml_value::{FnRef, NackId, Value};
+use std::alloc::{AllocError, Global};
+use std::io::Write;
+
+/// Tells the lines that answer with these replies.
+pub fn tell_replies<W: Write>(
+    alloc: Global,
+    replies: &[Reply],
+    page: &mut Page,
+    writer: &mut Counting<'_, W>,
+) -> Result<(), TraceFault>
+    requires { writer.old.failed ≡ 0 }
+    ensures ok { let output = stream (W.contents writer.old.stream.now) (W.contents writer.new.stream.now) in
+        OnOk result (Tells page.old page.new output (flat_map spec.reply_text replies.now)) }
+    ensures err { let output = stream (W.contents writer.old.stream.now) (W.contents writer.new.stream.now) in
+        OnErr result (TellsStart page.old page.new output (flat_map spec.reply_text replies.now)) }
+    ensures same_reference { writer.new.stream.ghost_name ≡ writer.old.stream.ghost_name }
+    ensures failed { IsWriteFailure result writer.new.failed }
+{
+    let mut lines = String::new(alloc);
+    for reply in replies {
+        lines.clear();
+        push_reply(alloc, &mut lines, reply)?;
+        page.add(lines.as_str(), writer)?;
+    }
+    Ok(())
+}
+
+// The lines that answer with this reply.
+fn push_reply(alloc: Global, text: &mut String, reply: &Reply) -> Result<(), AllocError>
+    ensures { let lines = spec.reply_text reply.now in
+        OnOk result (string_bytes text.new ≡ string_bytes text.old ++ lines) }
+{
+    match reply {
+        Reply::Thread(thread) => writeln!(text, "thread {}", thread.0),
+        Reply::Chan(channel) => writeln!(text, "chan {}", channel.0),
+        Reply::IVar(variable) => writeln!(text, "ivar {}", variable.0),
+        Reply::MVar(variable) => writeln!(text, "mvar {}", variable.0),
+        Reply::Mailbox(mailbox) => writeln!(text, "mailbox {}", mailbox.0),
+        Reply::MChan(channel) => writeln!(text, "mchan {}", channel.0),
+        Reply::Port(port) => writeln!(text, "port {}", port.0),
+        Reply::Nack(nack) => writeln!(text, "nack {}", nack.0),
+        Reply::Done => text.push_str("ok\n"),
+        Reply::Committed(committed) => push_committed(alloc, text, committed),
+        Reply::Refused(why) => push_refusal(text, *why),
+    }
+}
+
+/// Tells the number of the rows, and each on a line.
+pub fn tell_rows<W: Write>(
+    alloc: Global,
+    rows: &[Meet],
+    page: &mut Page,
+    writer: &mut Counting<'_, W>,
+) -> Result<(), TraceFault>
+    requires { writer.old.failed ≡ 0 }
+    ensures ok { let output = stream (W.contents writer.old.stream.now) (W.contents writer.new.stream.now) in
+        OnOk result (Tells page.old page.new output (spec.rows_text rows.now)) }
+    ensures err { let output = stream (W.contents writer.old.stream.now) (W.contents writer.new.stream.now) in
+        OnErr result (TellsStart page.old page.new output (spec.rows_text rows.now)) }
+    ensures same_reference { writer.new.stream.ghost_name ≡ writer.old.stream.ghost_name }
+    ensures failed { IsWriteFailure result writer.new.failed }
+{
+    let count = rows.len();
+    let mut line = format!(in alloc; "rows {count}\n")?;
+    page.add(line.as_str(), writer)?;
+    for row in rows {
+        line.clear();
+        push_row(&mut line, row)?;
+        page.add(line.as_str(), writer)?;
+    }
+    Ok(())
+}
+
+/// Tells that the line of this number is bad.
+pub fn tell_bad<W: Write>(
+    alloc: Global,
+    number: u64,
+    page: &mut Page,
+    writer: &mut Counting<'_, W>,
+) -> Result<(), TraceFault>
+    requires { writer.old.failed ≡ 0 }
+    ensures ok { let output = stream (W.contents writer.old.stream.now) (W.contents writer.new.stream.now) in
+        OnOk result (Tells page.old page.new output (bad_line number)) }
+    ensures err { let output = stream (W.contents writer.old.stream.now) (W.contents writer.new.stream.now) in
+        OnErr result (TellsStart page.old page.new output (bad_line number)) }
+    ensures same_reference { writer.new.stream.ghost_name ≡ writer.old.stream.ghost_name }
+    ensures failed { IsWriteFailure result writer.new.failed }
+{
+    let line = format!(in alloc; "bad {number}\n")?;
+    page.add(line.as_str(), writer)
+}
+
+fn push_row(text: &mut String, row: &Meet) -> Result<(), AllocError>
+    ensures { let line = spec.row_line row.now in
+        OnOk result (string_bytes text.new ≡ string_bytes text.old ++ line) }
+{
+    match *row {
+        Meet::Single { tid, leaf } => writeln!(text, "row {} {leaf}", tid.0),
+        Meet::Pair {
+            head,
+            head_leaf,
+            other,
+            other_leaf,
+        } => writeln!(text, "row {} {head_leaf} {} {other_leaf}", head.0, other.0),
+    }
+}
+
+fn push_refusal(text: &mut String, why: Refusal) -> Result<(), AllocError>
+    ensures { OnOk result (string_bytes text.new ≡ string_bytes text.old ++ spec.refused_line why) }
+{
+    let number = why.number();
+    let name = why.name();
+    writeln!(text, "refused {number} {name}")
+}
+
+// Both parties, and the nacks that fired.
+fn push_committed(alloc: Global, text: &mut String, committed: &Committed) -> Result<(), AllocError>
+    ensures { let lines = spec.committed_text committed.now in
+        OnOk result (string_bytes text.new ≡ string_bytes text.old ++ lines) }
+{
+    push_resume(alloc, text, &committed.head)?;
+    if let Some(partner) = &committed.partner {
+        push_resume(alloc, text, partner)?;
+    }
+    text.push_str("fired")?;
+    push_fired(text, &committed.head)?;
+    if let Some(partner) = &committed.partner {
+        push_fired(text, partner)?;
+    }
+    text.push_str("\n")
+}
+
+fn push_resume(alloc: Global, text: &mut String, resume: &Resume) -> Result<(), AllocError>
+    ensures { let line = spec.resume_line resume.now in
+        OnOk result (string_bytes text.new ≡ string_bytes text.old ++ line) }
+{
+    let thread = resume.tid.0;
+    let value = resume.value.show(alloc)?;
+    write!(text, "resume {thread} ")?;
+    text.push_str(value.as_str())?;
+    for function in &resume.wraps {
+        push_function(alloc, text, function)?;
+    }
+    text.push_str("\n")
+}
+
+// The nacks that fired for this party.
+fn push_fired(text: &mut String, resume: &Resume) -> Result<(), AllocError>
+    ensures { let numbers = flat_map spec.spaced resume.now.fired in
+        OnOk result (string_bytes text.new ≡ string_bytes text.old ++ numbers) }
+{
+    push_nacks(text, &resume.fired)
+}
+
+fn push_function(alloc: Global, text: &mut String, function: &FnRef) -> Result<(), AllocError>
+    ensures { let shown = spec.shown_function function.now in
+        OnOk result (string_bytes text.new ≡ string_bytes text.old ++ shown) }
+{
+    let number = function.func();
+    write!(text, " ({number}")?;
+    push_values(alloc, text, function.args())?;
+    text.push_str(")")
+}
+
+fn push_values(alloc: Global, text: &mut String, captured: &[Value]) -> Result<(), AllocError>
+    ensures { let shown = spec.shown_values (values captured.now) in
+        OnOk result (string_bytes text.new ≡ string_bytes text.old ++ shown) }
+{
+    for value in captured {
+        let shown = value.show(alloc)?;
+        text.push_str(" ")?;
+        text.push_str(shown.as_str())?;
+    }
+    Ok(())
+}
+
+fn push_nacks(text: &mut String, nacks: &[NackId]) -> Result<(), AllocError>
+    ensures { let numbers = flat_map spec.spaced (map (λ k. k.0) nacks.now) in
+        OnOk result (string_bytes text.new ≡ string_bytes text.old ++ numbers) }
+{
+    for nack in nacks {
+        write!(text, " {}", nack.0)?;
+    }
+    Ok(())
+}
