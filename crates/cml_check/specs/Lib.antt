@@ -1,0 +1,9 @@
+pub mod Syntax
+pub mod SyntaxCodes
+pub mod ExprViews
+pub mod ExprFalls
+pub mod StmtViews
+pub mod StmtFalls
+pub mod Faults
+pub mod Checked
+pub mod Words

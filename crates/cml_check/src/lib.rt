@@ -1,0 +1,12 @@
+//! The checker of scripts: a program, in which each function and each variable stands by its position, or the first fault.
+#![tactic(auto)]
+
+mod fault;
+mod syntax;
+mod word;
+
+pub use fault::{CheckFault, CheckKind};
+pub use syntax::{
+    Act, ActOnOne, ActOnTwo, Binary, Block, Constant, Effect, Expr, ExprKind, Exprs, Source, Stmt,
+    StmtKind, Unary,
+};
