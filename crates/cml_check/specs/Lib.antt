@@ -7,3 +7,9 @@ pub mod StmtFalls
 pub mod Faults
 pub mod Checked
 pub mod Words
+pub mod Names
+pub mod Heads
+pub mod Expressions
+pub mod Statements
+pub mod Shape
+pub mod InOrder

@@ -2,6 +2,7 @@
 #![tactic(auto)]
 
 mod fault;
+mod names;
 mod syntax;
 mod word;
 
