@@ -1,5 +1,5 @@
 -- What the heads of a script's items say: which functions there are.
-use Rattle.std.specs.Prelude.{ℕ, Bool, true, false, nat_le, nat_eq, if◌then◌else◌, List, [], ◌∷◌, ◌++◌, codes, find, length, map, position, slice_get, Option, Some, None, Ok, Err}
+use Rattle.std.specs.Prelude.{ℕ, Bool, true, false, nat_lt, nat_eq, if◌then◌else◌, List, [], ◌∷◌, ◌++◌, codes, get_or, length, map, position, slice_get, Option, Some, None, Ok, Err}
 use Rattle.std.specs.Str.{bytes_eq}
 use Rattle.cml_text.specs.declared.sexpr.Span.{Span}
 use Rattle.cml_text.specs.Forms.{PlainSexpr, plain_list, PlainForms, no_forms, forms_and, span_of}
@@ -78,20 +78,27 @@ abbrev pub added : List PlainHead → PlainHead → Checked (List PlainHead)
 added found head =
     if is_among (map (λ head. head.name) found) head.name then Err (record { kind = Double; at = head.at }) else Ok (found ++ head ∷ [])
 
+-- there may be one more head than those found
+abbrev pub has_room : List PlainHead → PlainSexpr → Checked (Unit {0})
+has_room found form = if nat_lt (length found) function_limit then Ok tt else fault_at Limit (span_of form)
+
 -- the heads of these items, behind those found
 unfoldable pub heads_from : List PlainHead → List PlainSexpr → Checked (List PlainHead)
 heads_from found [] = Ok found
-heads_from found (form ∷ forms) =
-    if nat_le function_limit (length found) then fault_at Limit (span_of form)
-    else do
-      head ← head_in form
-      heads ← added found head
-      heads_from heads forms
+heads_from found (form ∷ forms) = do
+  _ ← has_room found form
+  head ← head_in form
+  heads ← added found head
+  heads_from heads forms
+
+-- where the name of the function of this number stands
+abbrev pub place_of : List PlainHead → ℕ → ℕ
+place_of heads number = get_or (map (λ head. head.at) heads) number 0
 
 -- `main` is there, and has no parameter
-abbrev pub main_by : Option PlainHead → Checked (Unit {0})
-main_by None = Err (record { kind = Main; at = 0 })
-main_by (Some head) = if nat_eq (length head.parameters) 0 then Ok tt else Err (record { kind = Arity; at = head.at })
+abbrev pub main_by : List PlainHead → Option ℕ → Checked (Unit {0})
+main_by heads None = Err (record { kind = Main; at = 0 })
+main_by heads (Some number) = if takes (arities_of heads) number 0 then Ok tt else Err (record { kind = Arity; at = place_of heads number })
 
 unfoldable pub main_in : List PlainHead → Checked (Unit {0})
-main_in heads = main_by (find (λ head. bytes_eq head.name (codes "main")) heads)
+main_in heads = main_by heads (number_of heads (codes "main"))

@@ -13,3 +13,5 @@ pub mod Expressions
 pub mod Statements
 pub mod Shape
 pub mod InOrder
+pub mod HeadViews
+pub mod Parts

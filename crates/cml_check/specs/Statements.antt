@@ -1,5 +1,5 @@
 -- Which form is which statement, by the cases of the notation.
-use Rattle.std.specs.Prelude.{ℕ, ◌+◌, Bool, true, false, nat_le, if◌then◌else◌, List, [], ◌∷◌, Option, Some, None, Ok}
+use Rattle.std.specs.Prelude.{ℕ, ◌+◌, Bool, true, false, nat_lt, if◌then◌else◌, List, [], ◌∷◌, Option, Some, None, Ok}
 use Rattle.cml_text.specs.declared.sexpr.Span.{Span}
 use Rattle.cml_text.specs.Forms.{PlainSexpr, plain_list, PlainForms, no_forms, forms_and, span_of}
 use Rattle.cml_check.specs.declared.fault.CheckKind.TheVariants.{Form, Limit}
@@ -79,7 +79,7 @@ source_in heads names form = do
 
 -- one statement more, unless the script has as many as it may
 abbrev pub counted : PlainScope → Span → Checked PlainScope
-counted scope span = if nat_le statement_limit scope.statements then fault_at Limit span else Ok (record scope { statements = scope.statements + 1 })
+counted scope span = if nat_lt scope.statements statement_limit then Ok (record scope { statements = scope.statements + 1 }) else fault_at Limit span
 
 -- what stands behind the word for a branch
 abbrev pub behind_do : {A : Type 0} → Span → Option Word → Checked A → Checked A

@@ -2,7 +2,9 @@
 #![tactic(auto)]
 
 mod fault;
+mod head;
 mod names;
+mod parts;
 mod syntax;
 mod word;
 

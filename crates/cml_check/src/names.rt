@@ -52,9 +52,17 @@ impl<'a> Names<'a> {
 
     /// The position of a name, if it was declared.
     pub fn position(&self, name: &str) -> Option<usize>
-        ensures { result ≡ position (bytes_eq name.now) self.now }
+        ensures first { result ≡ position (bytes_eq name.now) self.now }
+        ensures below { IfSome result (λ at. at < length self.now) }
     {
         self.set.get_index_of(name)
+    }
+
+    /// Whether the name was declared.
+    pub fn has(&self, name: &str) -> bool
+        ensures { result ≡ is_among self.now name.now }
+    {
+        self.set.contains(name)
     }
 
     /// The position of a name, which is declared if it was not.

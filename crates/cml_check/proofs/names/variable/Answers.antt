@@ -6,11 +6,11 @@ use Rattle.cml_check.proofs.names.variable.Goals as goal
 pub returns-in-Some-clause-gives : goal.returns-in-Some-clause-gives
 unfolding variable_in
 returns-in-Some-clause-gives c =
-    let at = positioned c.args.names.now c.in_ok-name.name.now c.in-Some.slot (sym c.in-Some.ensures) in
+    let at = positioned c.args.names.now c.in_ok-name.name.now c.in-Some.slot (sym c.in-Some.ensures.first) in
     rw (c.in_ok-name.ensures, at.2, at.1) refl
 
 pub returns-in-None-clause-gives : goal.returns-in-None-clause-gives
 unfolding variable_in
 returns-in-None-clause-gives c =
-    let none = unpositioned c.args.names.now c.in_ok-name.name.now (sym c.in-None.ensures) in
+    let none = unpositioned c.args.names.now c.in_ok-name.name.now (sym c.in-None.ensures.first) in
     rw (c.in_ok-name.ensures, none, c.fault_at.ensures) refl
