@@ -1,3 +1,4 @@
 pub mod NameLemmas
 pub mod CheckedLemmas
 pub mod HeadLemmas
+pub mod ExpressionLemmas

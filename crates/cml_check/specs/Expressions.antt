@@ -1,11 +1,11 @@
 -- Which form is which expression, by the cases of the notation. A form that fits no case is at fault itself, before its parts.
-use Rattle.std.specs.Prelude.{ℕ, ◌+◌, if◌then◌else◌, List, [], ◌∷◌, Option, Some, None, Ok}
+use Rattle.std.specs.Prelude.{ℕ, ◌+◌, if◌then◌else◌, List, Option, Some, None, Ok}
 use Rattle.cml_text.specs.declared.sexpr.Span.{Span}
 use Rattle.cml_text.specs.Forms.{PlainSexpr, plain_name, plain_int, plain_text, plain_list, PlainForms, no_forms, forms_and}
 use Rattle.cml_check.specs.declared.fault.CheckKind.TheVariants.{Form, Unbound}
 use Rattle.cml_check.specs.declared.word.Word.{Word}
 use Rattle.cml_check.specs.declared.word.Word.TheVariants as word
-use Rattle.cml_check.specs.Syntax.{Name, PlainExpr, constant, number, text, variable, unary, binary, choose, wrap, guard, with_nack, no_exprs, exprs_and, exprs}
+use Rattle.cml_check.specs.Syntax.{Name, PlainExpr, constant, number, text, variable, unary, binary, choose, wrap, guard, with_nack, PlainExprs, no_exprs, exprs_and}
 use Rattle.cml_check.specs.Checked.{Checked, ◌>>=◌, fault_at}
 use Rattle.cml_check.specs.Words.{word_of, word_from}
 use Rattle.cml_check.specs.Names.{is_among}
@@ -44,26 +44,34 @@ unfoldable mutual
   list_in heads names span (Some word.Choose) (forms_and p forms) = do
     e ← expr_in heads names p
     es ← exprs_in heads names forms
-    Ok (choose (exprs_and e (exprs es)))
+    Ok (choose (exprs_and e es))
   list_in heads names span (Some word.Wrap) (forms_and p (forms_and f forms)) = do
     e ← expr_in heads names p
     n ← function_in heads (count forms + 1) f
     es ← exprs_in heads names forms
-    Ok (wrap e n (exprs es))
+    Ok (wrap e n es)
   list_in heads names span (Some word.Guard) (forms_and f forms) = do
     n ← function_in heads (count forms) f
     es ← exprs_in heads names forms
-    Ok (guard n (exprs es))
+    Ok (guard n es)
   list_in heads names span (Some word.WithNack) (forms_and f forms) = do
     n ← function_in heads (count forms + 1) f
     es ← exprs_in heads names forms
-    Ok (with_nack n (exprs es))
+    Ok (with_nack n es)
   list_in heads names span first forms = fault_at Form span
 
   -- the expressions that these forms are
-  pub exprs_in : List PlainHead → List Name → PlainForms → Checked (List (PlainExpr Name))
-  exprs_in heads names no_forms = Ok []
+  pub exprs_in : List PlainHead → List Name → PlainForms → Checked (PlainExprs Name)
+  exprs_in heads names no_forms = Ok no_exprs
   exprs_in heads names (forms_and form forms) = do
     e ← expr_in heads names form
     es ← exprs_in heads names forms
-    Ok (e ∷ es)
+    Ok (exprs_and e es)
+
+-- a function by its name and what it is given: these values, and that many more, which it gets later
+unfoldable pub called_in : List PlainHead → List Name → Span → ℕ → PlainForms → Checked (ℕ × PlainExprs Name)
+called_in heads names span more no_forms = fault_at Form span
+called_in heads names span more (forms_and f forms) = do
+  n ← function_in heads (count forms + more) f
+  es ← exprs_in heads names forms
+  Ok (n, es)

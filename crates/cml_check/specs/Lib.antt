@@ -15,3 +15,4 @@ pub mod Shape
 pub mod InOrder
 pub mod HeadViews
 pub mod Parts
+pub mod ExpressionParts

@@ -3,16 +3,16 @@
 use Rattle.std.specs.Prelude.{◌≡◌, ℕ, List, [], ◌∷◌, length, map, Result, Ok}
 use Rattle.cml_text.specs.Forms.{PlainSexpr}
 use Rattle.cml_check.specs.declared.fault.CheckFault.{CheckFault}
-use Rattle.cml_check.specs.Syntax.{Name, PlainFunction, stmts, written}
+use Rattle.cml_check.specs.Syntax.{Name, PlainFunction}
 use Rattle.cml_check.specs.Checked.{Checked, ◌>>=◌, Gives}
 use Rattle.cml_check.specs.Heads.{PlainHead, heads_from, main_in}
-use Rattle.cml_check.specs.Statements.{PlainScope, stmts_in}
+use Rattle.cml_check.specs.Statements.{stmts_in}
 
 -- the function of a head, and how many statements the script has up to its end
 unfoldable pub function_by : List PlainHead → ℕ → PlainHead → Checked (PlainFunction Name × ℕ)
 function_by heads statements head = do
   body ← stmts_in heads (record { names = head.parameters; statements = statements }) head.body
-  Ok (record { names = body.1.names; arity = length head.parameters; body = stmts body.0 }, body.1.statements)
+  Ok (record { names = body.1.names; arity = length head.parameters; body = body.0 }, body.1.statements)
 
 -- the functions of the heads that are left, where the script had that many statements so far
 unfoldable pub functions_in : List PlainHead → ℕ → List PlainHead → Checked (List (PlainFunction Name))

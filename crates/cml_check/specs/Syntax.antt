@@ -76,6 +76,10 @@ abbrev mutual
   exprs_map f no_exprs = no_exprs
   exprs_map f (exprs_and e es) = exprs_and (expr_map f e) (exprs_map f es)
 
+-- a function by its number, with what it is given
+abbrev pub call_map : {V W : Type 0} → (V → W) → ℕ × PlainExprs V → ℕ × PlainExprs W
+call_map f c = (c.0, exprs_map f c.1)
+
 abbrev pub effect_map : {V W : Type 0} → (V → W) → PlainEffect V → PlainEffect W
 effect_map f (act a) = act a
 effect_map f (act_on_one a e) = act_on_one a (expr_map f e)

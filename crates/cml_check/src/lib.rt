@@ -1,10 +1,12 @@
 //! The checker of scripts: a program, in which each function and each variable stands by its position, or the first fault.
 #![tactic(auto)]
 
+mod expression;
 mod fault;
 mod head;
 mod names;
 mod parts;
+mod statement;
 mod syntax;
 mod word;
 
