@@ -2,3 +2,6 @@ pub mod NameLemmas
 pub mod CheckedLemmas
 pub mod HeadLemmas
 pub mod ExpressionLemmas
+pub mod StatementLemmas
+pub mod GrowthLemmas
+pub mod StatementWalk

@@ -16,3 +16,4 @@ pub mod InOrder
 pub mod HeadViews
 pub mod Parts
 pub mod ExpressionParts
+pub mod StatementParts

@@ -26,7 +26,8 @@ statement_limit = 4096
 -- the effect of a list, by the word at its head and the forms behind it
 unfoldable pub effect_in : List PlainHead → List Name → Span → Option Word → PlainForms → Checked (PlainEffect Name)
 effect_in heads names span (Some (word.Act a)) no_forms = Ok (act a)
-effect_in heads names span (Some (word.Act act_of.MVar)) (forms_and p no_forms) = do
+effect_in heads names span (Some word.MVar) no_forms = Ok (act act_of.MVar)
+effect_in heads names span (Some word.MVar) (forms_and p no_forms) = do
   e ← expr_in heads names p
   Ok (act_on_one one_of.MVar e)
 effect_in heads names span (Some (word.ActOnOne a)) (forms_and p no_forms) = do
@@ -49,6 +50,7 @@ abbrev pub is_effect : Option Word → Bool
 is_effect (Some (word.Act a)) = true
 is_effect (Some (word.ActOnOne a)) = true
 is_effect (Some (word.ActOnTwo a)) = true
+is_effect (Some word.MVar) = true
 is_effect (Some word.Call) = true
 is_effect (Some word.Spawn) = true
 is_effect _ = false
@@ -68,11 +70,14 @@ unfoldable pub source_by : List PlainHead → List Name → Span → Option Word
 source_by heads names span first forms =
     if is_effect first then effect_source heads names span first forms else value_source heads names span first forms
 
-unfoldable pub source_in : List PlainHead → List Name → PlainSexpr → Checked (PlainSource Name)
-source_in heads names (plain_list span (forms_and first behind)) = source_by heads names span (word_from first) behind
-source_in heads names form = do
+abbrev pub form_source : List PlainHead → List Name → PlainSexpr → Checked (PlainSource Name)
+form_source heads names form = do
   e ← expr_in heads names form
   Ok (value e)
+
+unfoldable pub source_in : List PlainHead → List Name → PlainSexpr → Checked (PlainSource Name)
+source_in heads names (plain_list span (forms_and first behind)) = source_by heads names span (word_from first) behind
+source_in heads names form = form_source heads names form
 
 -- one statement more, unless the script has as many as it may
 abbrev pub counted : Scope → Span → Checked Scope

@@ -1,6 +1,7 @@
 //! The checker of scripts: a program, in which each function and each variable stands by its position, or the first fault.
 #![tactic(auto)]
 
+mod effect;
 mod expression;
 mod fault;
 mod head;
