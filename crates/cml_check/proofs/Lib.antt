@@ -5,3 +5,4 @@ pub mod ExpressionLemmas
 pub mod StatementLemmas
 pub mod GrowthLemmas
 pub mod StatementWalk
+pub mod FunctionLemmas

@@ -5,7 +5,7 @@ ghost use Rattle.cml_text.specs.Forms.{plain_forms, span_of};
 ghost use Rattle.cml_check.specs.Checked.{Gives};
 ghost use Rattle.cml_check.specs.Heads as spec;
 ghost use Rattle.cml_check.specs.Heads.{arities_of, number_of, takes, place_of, heads_from};
-ghost use Rattle.cml_check.specs.HeadViews.{plain_head};
+ghost use Rattle.cml_check.specs.HeadViews.{plain_head, plain_heads};
 ghost use Rattle.cml_check.specs.declared.word.Word.TheVariants as words;
 
 use crate::fault::{CheckFault, CheckKind, fault_at};
@@ -67,6 +67,13 @@ impl<'a> Heads<'a> {
             Some(head) => head.parameters.len() == count,
             None => false,
         }
+    }
+
+    /// The heads, in the order of the items.
+    pub fn as_slice(&self) -> &[Head<'a>]
+        ensures { plain_heads result.now ≡ self.now }
+    {
+        self.items.as_slice()
     }
 
     // Where the name of the function of this number stands.

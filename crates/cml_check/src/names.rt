@@ -1,6 +1,7 @@
 //! The names that a script declares, each at its position.
 
-ghost use Rattle.std.specs.Prelude.{◌≡◌, ◌<◌, false, List, [], length, IfSome, IfNone, IfOk, OnOk, OnErr, true, position};
+ghost use Rattle.std.specs.Prelude.{◌≡◌, ◌<◌, false, List, [], length, IfSome, IfNone, IfOk, OnOk, OnErr, true, position, map};
+ghost use Rattle.std.specs.String.{string_bytes};
 ghost use Rattle.std.specs.Str.{bytes_eq};
 ghost use Rattle.cml_check.specs.Checked.{Gives};
 ghost use Rattle.cml_check.specs.Names as spec;
@@ -75,6 +76,14 @@ impl<'a> Names<'a> {
         Ok(slot)
     }
 
+    /// The names as texts of their own.
+    pub fn to_strings(&self, alloc: Global) -> Result<Vec<String>, AllocError>
+        ensures names { IfOk result (λ names. map string_bytes names.items ≡ self.now) }
+        ensures distinct { AreDistinct self.now }
+    {
+        strings(alloc, self.set.as_slice())
+    }
+
     /// The same names.
     pub fn copy(&self) -> Result<Names<'a>, AllocError>
         ensures { IfOk result (λ names. names ≡ self.now) }
@@ -82,6 +91,18 @@ impl<'a> Names<'a> {
         let set = self.set.clone()?;
         Ok(Names { set })
     }
+}
+
+// These texts as texts of their own.
+fn strings(alloc: Global, texts: &[&str]) -> Result<Vec<String>, AllocError>
+    ensures { IfOk result (λ strings.
+        map string_bytes strings.items ≡ map (λ text. text.now) texts.now) }
+{
+    let mut strings = Vec::new(alloc);
+    for text in texts {
+        strings.push(String::from_str(alloc, text)?)?;
+    }
+    Ok(strings)
 }
 
 /// The name of a function or a variable that the form is.

@@ -5,8 +5,8 @@ ghost use Rattle.cml_text.specs.Forms.{plain_forms, span_of};
 ghost use Rattle.cml_check.specs.Syntax.{stmt_map, stmts_map, name_at};
 ghost use Rattle.cml_check.specs.Checked.{Gives};
 ghost use Rattle.cml_check.specs.Heads.{arities_of};
-ghost use Rattle.cml_check.specs.Statements.{counted, stmt_in, stmt_by, block_in, stmts_in};
-ghost use Rattle.cml_check.specs.StatementParts.{Grows, let_in, set_in, if_in, while_in, return_in, do_in};
+ghost use Rattle.cml_check.specs.Statements.{counted, stmt_in, stmt_by, block_in, behind_do, stmts_in};
+ghost use Rattle.cml_check.specs.StatementParts.{Grows, let_of, let_in, set_in, if_of, if_in, while_of, while_in, return_in, do_in};
 ghost use Rattle.cml_check.specs.InOrder.{stmt_fits, stmts_fit};
 
 use crate::effect::{effect, source};
@@ -98,6 +98,24 @@ fn let_statement<'a>(
     let [name, given] = behind else {
         return Err(fault_at(CheckKind::Form, form));
     };
+    declare(alloc, heads, scope, name, given)
+}
+
+// A `let` of this name, which is given this.
+#[tactic(auto, unfolding(crate::specs::StatementParts::let_of))]
+fn declare<'a>(
+    alloc: Global,
+    heads: &Heads<'_>,
+    scope: &mut Scope<'a>,
+    name: &'a Sexpr,
+    given: &'a Sexpr,
+) -> Result<Stmt, CheckFault>
+    ensures gives { let found = let_of heads.now scope.old name.now given.now in
+        Gives (λ s. (stmt_map (name_at scope.new.names) s, scope.new)) result found }
+    ensures fits { let slots = length scope.new.names in
+        IfOk result (λ s. stmt_fits (arities_of heads.now) slots s ≡ true) }
+    ensures grows { OnOk result (Grows scope.old.names scope.new.names) }
+{
     let name = free_name(name)?;
     let given = source(alloc, heads, &scope.names, given)?;
     let slot = scope.names.declare(name)?;
@@ -146,6 +164,26 @@ fn if_statement<'a>(
     let [condition, then, other] = behind else {
         return Err(fault_at(CheckKind::Form, form));
     };
+    branch(alloc, heads, scope, condition, then, other)
+}
+
+// The branches of a condition.
+#[cycle(statement)]
+#[tactic(auto, unfolding(crate::specs::StatementParts::if_of))]
+fn branch<'a>(
+    alloc: Global,
+    heads: &Heads<'_>,
+    scope: &mut Scope<'a>,
+    condition: &'a Sexpr,
+    then: &'a Sexpr,
+    other: &'a Sexpr,
+) -> Result<Stmt, CheckFault>
+    ensures gives { let found = if_of heads.now scope.old condition.now then.now other.now in
+        Gives (λ s. (stmt_map (name_at scope.new.names) s, scope.new)) result found }
+    ensures fits { let slots = length scope.new.names in
+        IfOk result (λ s. stmt_fits (arities_of heads.now) slots s ≡ true) }
+    ensures grows { OnOk result (Grows scope.old.names scope.new.names) }
+{
     let condition = expression(alloc, heads, &scope.names, condition)?;
     let then = block(alloc, heads, scope, then)?;
     let other = block(alloc, heads, scope, other)?;
@@ -171,6 +209,25 @@ fn while_statement<'a>(
     let [condition, body @ ..] = behind else {
         return Err(fault_at(CheckKind::Form, form));
     };
+    repeat(alloc, heads, scope, condition, body)
+}
+
+// The loop of a condition.
+#[cycle(statement)]
+#[tactic(auto, unfolding(crate::specs::StatementParts::while_of))]
+fn repeat<'a>(
+    alloc: Global,
+    heads: &Heads<'_>,
+    scope: &mut Scope<'a>,
+    condition: &'a Sexpr,
+    body: &'a [Sexpr],
+) -> Result<Stmt, CheckFault>
+    ensures gives { let found = while_of heads.now scope.old condition.now (plain_forms body.now) in
+        Gives (λ s. (stmt_map (name_at scope.new.names) s, scope.new)) result found }
+    ensures fits { let slots = length scope.new.names in
+        IfOk result (λ s. stmt_fits (arities_of heads.now) slots s ≡ true) }
+    ensures grows { OnOk result (Grows scope.old.names scope.new.names) }
+{
     let condition = expression(alloc, heads, &scope.names, condition)?;
     let body = statements(alloc, heads, scope, body)?;
     Ok(Stmt { kind: StmtKind::While(condition, body) })
@@ -234,13 +291,31 @@ fn block<'a>(
     ensures grows { OnOk result (Grows scope.old.names scope.new.names) }
 {
     match headed(form) {
-        Some((first, behind)) => {
-            if word_from(first) != Some(Word::Do) {
-                return Err(fault_at(CheckKind::Form, form));
-            }
-            statements(alloc, heads, scope, behind)
-        }
+        Some((first, behind)) => do_block(alloc, heads, scope, form, word_from(first), behind),
         None => Err(fault_at(CheckKind::Form, form)),
+    }
+}
+
+// The statements behind the word for a branch.
+#[cycle(statement)]
+fn do_block<'a>(
+    alloc: Global,
+    heads: &Heads<'_>,
+    scope: &mut Scope<'a>,
+    form: &'a Sexpr,
+    word: Option<Word>,
+    behind: &'a [Sexpr],
+) -> Result<Block, CheckFault>
+    ensures gives { let found = stmts_in heads.now scope.old (plain_forms behind.now) in
+        Gives (λ ss. (stmts_map (name_at scope.new.names) ss, scope.new)) result
+            (behind_do (span_of form.now) word found) }
+    ensures fits { let slots = length scope.new.names in
+        IfOk result (λ ss. stmts_fit (arities_of heads.now) slots ss ≡ true) }
+    ensures grows { OnOk result (Grows scope.old.names scope.new.names) }
+{
+    match word {
+        Some(Word::Do) => statements(alloc, heads, scope, behind),
+        _ => Err(fault_at(CheckKind::Form, form)),
     }
 }
 

@@ -1,4 +1,4 @@
-use Rattle.std.proofs.Common.{◌≡◌, ◌+◌, ◌*◌, drop, map, length, true}
+use Rattle.std.proofs.Common.{◌≡◌, ◌+◌, ◌*◌, drop, map, length, true, max}
 use Rattle.cml_text.specs.Forms.{plain_forms, nesting, nesting_of}
 use Rattle.cml_check.specs.Syntax.{stmt_map, name_at, stmts}
 use Rattle.cml_check.specs.Heads.{arities_of}
@@ -33,3 +33,12 @@ decreases-block l = 5 * nesting l.form.now
 
 abbrev pub decreases-statements : goal.decreases-statements
 decreases-statements l = 5 * nesting_of (plain_forms l.forms.now) + 1
+
+abbrev pub decreases-branch : goal.decreases-branch
+decreases-branch l = 5 * max (nesting l.then.now) (nesting l.other.now) + 2
+
+abbrev pub decreases-repeat : goal.decreases-repeat
+decreases-repeat l = 5 * nesting_of (plain_forms l.body.now) + 2
+
+abbrev pub decreases-do_block : goal.decreases-do_block
+decreases-do_block l = 5 * nesting_of (plain_forms l.behind.now) + 3
