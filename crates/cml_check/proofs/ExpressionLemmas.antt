@@ -1,7 +1,6 @@
 -- The expressions of forms.
-use Rattle.std.proofs.Common.{◌≡◌, ℕ, zero, suc, ℤ, ◌+◌, ◌<◌, ◌≤◌, ◌≢◌, Bool, true, false, ◌&&◌, List, [], ◌∷◌, ◌++◌, length, get_or, map, drop, Option, Some, None, Ok, Err, refl, sym, ap, ◌∙◌, arith}
+use Rattle.std.proofs.Common.{◌≡◌, ℕ, zero, suc, ℤ, ◌+◌, ◌<◌, ◌≤◌, ◌≢◌, Bool, true, false, ◌&&◌, List, [], ◌∷◌, ◌++◌, length, get_or, map, drop, Some, Ok, Err, refl, sym, ap, ◌∙◌, arith}
 use Rattle.std.proofs.Math.ListN.{drop_of_length-le}
-use Rattle.std.proofs.lemmas.List.{map_push}
 use mathlib.Core.Bool.{true≢false}
 use Rattle.cml_text.specs.declared.sexpr.Span.{Span}
 use Rattle.cml_text.specs.Forms.{PlainSexpr, plain_name, plain_int, plain_text, plain_list, PlainForms, no_forms, forms_and, plain_forms, span_of, nesting, nesting_of}
@@ -10,7 +9,7 @@ use Rattle.cml_check.specs.declared.fault.CheckKind.TheVariants.{Form}
 use Rattle.cml_check.specs.declared.syntax.Unary.{Unary}
 use Rattle.cml_check.specs.declared.syntax.Binary.{Binary}
 use Rattle.cml_check.specs.declared.word.Word.TheVariants as word
-use Rattle.cml_check.specs.Syntax.{Name, PlainExpr, number, text, choose, guard, with_nack, PlainExprs, no_exprs, exprs_and, exprs, expr_map, exprs_map, name_at}
+use Rattle.cml_check.specs.Syntax.{Name, PlainExpr, number, text, choose, guard, with_nack, PlainExprs, no_exprs, exprs_and, exprs, expr_map, exprs_map}
 use Rattle.cml_check.specs.Checked.{Checked, ◌>>=◌, Fails, fault_at}
 use Rattle.cml_check.specs.Words.{word_of, word_from}
 use Rattle.cml_check.specs.Heads.{PlainHead, function_in}
@@ -130,7 +129,7 @@ making make c = Ok (make c.0 c.1)
 
 called_after : (heads : List PlainHead) (names : List Name) (n m : ℕ) (f : PlainSexpr) (forms : PlainForms) (make : ℕ → PlainExprs Name → PlainExpr Name) → n ≡ m →
     (function_in heads n f >>= λ k. exprs_in heads names forms >>= λ es. Ok (make k es))
-      ≡ ((function_in heads m f >>= λ k. exprs_in heads names forms >>= paired k) >>= making make)
+    ≡ ((function_in heads m f >>= λ k. exprs_in heads names forms >>= paired k) >>= making make)
 called_after heads names n m f forms make same =
     ap (λ n. function_in heads n f >>= λ k. exprs_in heads names forms >>= λ es. Ok (make k es)) same
     ∙ sym (after (function_in heads m f) (λ k. exprs_in heads names forms >>= paired k) (making make)

@@ -1,6 +1,5 @@
 -- The functions of heads.
-use Rattle.std.proofs.Common.{◌≡◌, ℕ, ◌+◌, ◌<◌, ◌≤◌, List, [], ◌∷◌, ◌++◌, length, get_or, map, drop, Ok, Err, refl, sym, ap, ◌∙◌, append_assoc, append-nil}
-use Rattle.std.specs.Prelude.{All}
+use Rattle.std.proofs.Common.{◌≡◌, ℕ, ◌+◌, ◌<◌, ◌≤◌, List, [], ◌∷◌, ◌++◌, length, get_or, drop, Ok, Err, refl, sym, ap, ◌∙◌, append_assoc, append-nil}
 use Rattle.std.proofs.Math.ListN.{drop_of_length-le}
 use Rattle.std.proofs.lemmas.List.{map_push}
 use Rattle.cml_check.specs.declared.fault.CheckFault.{CheckFault}
@@ -9,7 +8,7 @@ use Rattle.cml_check.specs.Syntax.{Name, PlainFunction}
 use Rattle.cml_check.specs.Checked.{Checked, ◌>>=◌, Fails}
 use Rattle.cml_check.specs.Heads.{PlainHead, arities_of}
 use Rattle.cml_check.specs.HeadViews.{plain_head, plain_heads}
-use Rattle.cml_check.specs.InOrder.{InOrder, FunctionFits, arities}
+use Rattle.cml_check.specs.InOrder.{arities}
 use Rattle.cml_check.specs.Shape.{function_by, functions_in}
 use Rattle.cml_check.proofs.CheckedLemmas.{fails-as, drop-at}
 

@@ -1,11 +1,10 @@
 -- The statements of forms.
-use Rattle.std.proofs.Common.{◌≡◌, ◌≢◌, ◌≤◌, ◌<◌, arith, ℕ, Bool, true, false, List, [], ◌∷◌, length, Option, Some, None, Ok, refl, sym, ap, ◌∙◌, ◌&&◌, nat_lt}
+use Rattle.std.proofs.Common.{◌≡◌, ◌≢◌, ◌<◌, ℕ, true, false, List, [], ◌∷◌, length, Some, Ok, refl, ap, ◌&&◌, nat_lt}
 use mathlib.Core.Bool.{true≢false}
 use Rattle.cml_text.specs.declared.sexpr.Span.{Span}
 use Rattle.cml_text.specs.Forms.{PlainSexpr, plain_name, plain_int, plain_text, plain_list, PlainForms, no_forms, forms_and, plain_forms, span_of}
 use Rattle.cml_check.specs.declared.fault.CheckKind.TheVariants.{Form}
 use Rattle.cml_check.specs.declared.statement.Scope.{Scope}
-use Rattle.cml_check.specs.declared.word.Word.{Word}
 use Rattle.cml_check.specs.declared.word.Word.TheVariants as word
 use Rattle.std.proofs.lemmas.Bool.{lt-ltb}
 use Rattle.cml_check.specs.Syntax.{Name, PlainExpr, PlainSource, PlainStmts, let_be, if_so, while_so, expr_map, source_map, stmts_map, name_at}
@@ -19,7 +18,7 @@ use Rattle.cml_check.specs.Words.{word_from}
 use Rattle.cml_check.specs.Parts.{is_headed}
 use Rattle.cml_check.specs.Heads.{PlainHead}
 use Rattle.cml_check.specs.Statements.{stmt_in, stmt_by, block_in, behind_do, stmts_in, effect_in, source_in}
-use Rattle.cml_check.specs.StatementParts.{let_of, let_in, set_in, if_of, if_in, while_of, while_in, return_in, do_in, Grows}
+use Rattle.cml_check.specs.StatementParts.{let_of, let_in, set_in, if_of, if_in, while_of, while_in, return_in, Grows}
 
 pub headed_stmt : (heads : List PlainHead) (scope : Scope) (form first : PlainSexpr) (behind : PlainForms) → form ≡ plain_list (span_of form) (forms_and first behind) →
     stmt_in heads scope form ≡ stmt_by heads scope (span_of form) (word_from first) behind

@@ -1,5 +1,5 @@
 -- The cases of expressions one by one, for the functions of `src/` that take them.
-use Rattle.std.specs.Prelude.{ℕ, ◌+◌, List, Ok}
+use Rattle.std.specs.Prelude.{◌+◌, List, Ok}
 use Rattle.cml_text.specs.declared.sexpr.Span.{Span}
 use Rattle.cml_text.specs.Forms.{PlainForms, no_forms, forms_and}
 use Rattle.cml_check.specs.declared.fault.CheckKind.TheVariants.{Form}

@@ -1,10 +1,9 @@
 -- What the forms of a script are: the program, with names, or the first fault in the order in which a script is checked. First come
 -- the heads of all items, then `main`, then the statements of all functions, each from the left.
-use Rattle.std.specs.Prelude.{◌≡◌, ℕ, List, [], ◌∷◌, length, map, Result, Ok}
+use Rattle.std.specs.Prelude.{ℕ, List, [], ◌∷◌, length, Ok}
 use Rattle.cml_text.specs.Forms.{PlainSexpr}
-use Rattle.cml_check.specs.declared.fault.CheckFault.{CheckFault}
 use Rattle.cml_check.specs.Syntax.{Name, PlainFunction}
-use Rattle.cml_check.specs.Checked.{Checked, ◌>>=◌, Gives}
+use Rattle.cml_check.specs.Checked.{Checked, ◌>>=◌}
 use Rattle.cml_check.specs.Heads.{PlainHead, heads_from, main_in}
 use Rattle.cml_check.specs.Statements.{stmts_in}
 

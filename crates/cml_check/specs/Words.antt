@@ -1,5 +1,5 @@
 -- The words that mean something in a script. No function, parameter or variable has one of them as its name.
-use Rattle.std.specs.Prelude.{ℕ, Bool, List, [], ◌∷◌, codes, find, Option, None, is_some}
+use Rattle.std.specs.Prelude.{ℕ, List, [], ◌∷◌, codes, find, Option, None}
 use Rattle.std.specs.Str.{bytes_eq}
 use Rattle.cml_text.specs.Forms.{PlainSexpr, plain_name}
 use Rattle.cml_check.specs.declared.word.Word.{Word}

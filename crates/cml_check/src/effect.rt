@@ -33,7 +33,7 @@ pub fn effect(
 ) -> Result<Effect, CheckFault>
     ensures gives { let behind = plain_forms behind.now in
         Gives (λ e. effect_map (name_at names.now) (plain_effect e)) result
-            (effect_in heads.now names.now (span_of form.now) word behind) }
+        (effect_in heads.now names.now (span_of form.now) word behind) }
     ensures fits { let arities = arities_of heads.now in
         IfOk result (λ e. effect_fits arities (length names.now) (plain_effect e) ≡ true) }
 {
@@ -49,8 +49,7 @@ pub fn effect(
 }
 
 // An effect that takes no value.
-#[tactic(auto, unfolding(crate::specs::Statements::effect_in),
-    using(crate::proofs::StatementLemmas::no_act))]
+#[tactic(auto, unfolding(crate::specs::Statements::effect_in), using(crate::proofs::StatementLemmas::no_act))]
 fn simple(
     heads: &Heads<'_>,
     names: &Names<'_>,
@@ -60,7 +59,7 @@ fn simple(
 ) -> Result<Effect, CheckFault>
     ensures gives { let behind = plain_forms behind.now in
         Gives (λ e. effect_map (name_at names.now) (plain_effect e)) result
-            (effect_in heads.now names.now (span_of form.now) (Some (words.Act act)) behind) }
+        (effect_in heads.now names.now (span_of form.now) (Some (words.Act act)) behind) }
     ensures fits { let arities = arities_of heads.now in
         IfOk result (λ e. effect_fits arities (length names.now) (plain_effect e) ≡ true) }
 {
@@ -71,8 +70,7 @@ fn simple(
 }
 
 // An M-variable that is empty, or holds a value.
-#[tactic(auto, unfolding(crate::specs::Statements::effect_in),
-    using(crate::proofs::StatementLemmas::no_mvar))]
+#[tactic(auto, unfolding(crate::specs::Statements::effect_in), using(crate::proofs::StatementLemmas::no_mvar))]
 fn mvar(
     alloc: Global,
     heads: &Heads<'_>,
@@ -82,7 +80,7 @@ fn mvar(
 ) -> Result<Effect, CheckFault>
     ensures gives { let behind = plain_forms behind.now in
         Gives (λ e. effect_map (name_at names.now) (plain_effect e)) result
-            (effect_in heads.now names.now (span_of form.now) (Some words.MVar) behind) }
+        (effect_in heads.now names.now (span_of form.now) (Some words.MVar) behind) }
     ensures fits { let arities = arities_of heads.now in
         IfOk result (λ e. effect_fits arities (length names.now) (plain_effect e) ≡ true) }
 {
@@ -97,8 +95,7 @@ fn mvar(
 }
 
 // An effect that takes one value.
-#[tactic(auto, unfolding(crate::specs::Statements::effect_in),
-    using(crate::proofs::StatementLemmas::no_act_on_one))]
+#[tactic(auto, unfolding(crate::specs::Statements::effect_in), using(crate::proofs::StatementLemmas::no_act_on_one))]
 fn on_one(
     alloc: Global,
     heads: &Heads<'_>,
@@ -109,7 +106,7 @@ fn on_one(
 ) -> Result<Effect, CheckFault>
     ensures gives { let behind = plain_forms behind.now in
         Gives (λ e. effect_map (name_at names.now) (plain_effect e)) result
-            (effect_in heads.now names.now (span_of form.now) (Some (words.ActOnOne act)) behind) }
+        (effect_in heads.now names.now (span_of form.now) (Some (words.ActOnOne act)) behind) }
     ensures fits { let arities = arities_of heads.now in
         IfOk result (λ e. effect_fits arities (length names.now) (plain_effect e) ≡ true) }
 {
@@ -121,8 +118,7 @@ fn on_one(
 }
 
 // An effect that takes two values.
-#[tactic(auto, unfolding(crate::specs::Statements::effect_in),
-    using(crate::proofs::StatementLemmas::no_act_on_two))]
+#[tactic(auto, unfolding(crate::specs::Statements::effect_in), using(crate::proofs::StatementLemmas::no_act_on_two))]
 fn on_two(
     alloc: Global,
     heads: &Heads<'_>,
@@ -133,7 +129,7 @@ fn on_two(
 ) -> Result<Effect, CheckFault>
     ensures gives { let behind = plain_forms behind.now in
         Gives (λ e. effect_map (name_at names.now) (plain_effect e)) result
-            (effect_in heads.now names.now (span_of form.now) (Some (words.ActOnTwo act)) behind) }
+        (effect_in heads.now names.now (span_of form.now) (Some (words.ActOnTwo act)) behind) }
     ensures fits { let arities = arities_of heads.now in
         IfOk result (λ e. effect_fits arities (length names.now) (plain_effect e) ≡ true) }
 {
@@ -156,7 +152,7 @@ fn call(
 ) -> Result<Effect, CheckFault>
     ensures gives { let behind = plain_forms behind.now in
         Gives (λ e. effect_map (name_at names.now) (plain_effect e)) result
-            (effect_in heads.now names.now (span_of form.now) (Some words.Call) behind) }
+        (effect_in heads.now names.now (span_of form.now) (Some words.Call) behind) }
     ensures fits { let arities = arities_of heads.now in
         IfOk result (λ e. effect_fits arities (length names.now) (plain_effect e) ≡ true) }
 {
@@ -175,7 +171,7 @@ fn spawn(
 ) -> Result<Effect, CheckFault>
     ensures gives { let behind = plain_forms behind.now in
         Gives (λ e. effect_map (name_at names.now) (plain_effect e)) result
-            (effect_in heads.now names.now (span_of form.now) (Some words.Spawn) behind) }
+        (effect_in heads.now names.now (span_of form.now) (Some words.Spawn) behind) }
     ensures fits { let arities = arities_of heads.now in
         IfOk result (λ e. effect_fits arities (length names.now) (plain_effect e) ≡ true) }
 {
@@ -199,8 +195,7 @@ fn is_effect(word: Option<Word>) -> bool
 }
 
 /// What a `let` gives its variable, by its form.
-#[tactic(auto, using(crate::proofs::StatementLemmas::headed_source,
-    crate::proofs::StatementLemmas::plain_form_source))]
+#[tactic(auto, using(crate::proofs::StatementLemmas::headed_source, crate::proofs::StatementLemmas::plain_form_source))]
 pub fn source(
     alloc: Global,
     heads: &Heads<'_>,
@@ -246,7 +241,7 @@ fn list_source(
 ) -> Result<Source, CheckFault>
     ensures gives { let behind = plain_forms behind.now in
         Gives (λ s. source_map (name_at names.now) (plain_source s)) result
-            (source_by heads.now names.now (span_of form.now) word behind) }
+        (source_by heads.now names.now (span_of form.now) word behind) }
     ensures fits { let arities = arities_of heads.now in
         IfOk result (λ s. source_fits arities (length names.now) (plain_source s) ≡ true) }
 {

@@ -11,7 +11,6 @@ ghost use Rattle.cml_check.specs.InOrder.{expr_fits, exprs_fit, exprs_count};
 ghost use Rattle.cml_check.specs.Words.{word_of as word_spelled};
 ghost use Rattle.cml_check.specs.declared.word.Word.TheVariants as words;
 
-
 use crate::fault::{CheckFault, CheckKind, fault_at};
 use crate::head::{Heads, function};
 use crate::names::Names;
@@ -24,9 +23,7 @@ use std::sync::ArcStr;
 
 /// The expression that the form is, among these functions and where these names are declared.
 #[cycle(expression)]
-#[tactic(auto, using(crate::proofs::ExpressionLemmas::number_form,
-    crate::proofs::ExpressionLemmas::text_form, crate::proofs::ExpressionLemmas::name_form,
-    crate::proofs::ExpressionLemmas::empty_form, crate::proofs::ExpressionLemmas::list_form))]
+#[tactic(auto, using(crate::proofs::ExpressionLemmas::number_form, crate::proofs::ExpressionLemmas::text_form, crate::proofs::ExpressionLemmas::name_form, crate::proofs::ExpressionLemmas::empty_form, crate::proofs::ExpressionLemmas::list_form))]
 pub fn expression(
     alloc: Global,
     heads: &Heads<'_>,
@@ -42,10 +39,14 @@ pub fn expression(
         return list_expression(alloc, heads, names, form, word_from(first), behind);
     }
     match form.shape() {
-        Shape::Int(z) => Ok(Expr { kind: ExprKind::Number(z) }),
+        Shape::Int(z) => Ok(Expr {
+            kind: ExprKind::Number(z),
+        }),
         Shape::Text(text) => {
             let text = ArcStr::from_str(alloc, text)?;
-            Ok(Expr { kind: ExprKind::Text(text) })
+            Ok(Expr {
+                kind: ExprKind::Text(text),
+            })
         }
         Shape::Name(name) => named(names, form, name.as_str()),
         Shape::List(_) => Err(fault_at(CheckKind::Form, form)),
@@ -53,20 +54,23 @@ pub fn expression(
 }
 
 // The constant or the variable that a name is.
-#[tactic(auto, using(crate::proofs::NameLemmas::positioned,
-    crate::proofs::NameLemmas::unpositioned))]
+#[tactic(auto, using(crate::proofs::NameLemmas::positioned, crate::proofs::NameLemmas::unpositioned))]
 fn named(names: &Names<'_>, form: &Sexpr, name: &str) -> Result<Expr, CheckFault>
     ensures gives { let word = word_spelled name.now in
         Gives (expr_map (name_at names.now)) result
-            (name_in names.now (span_of form.now) name.now word) }
+        (name_in names.now (span_of form.now) name.now word) }
     ensures fits { (arities : List ℕ) →
         IfOk result (λ e. expr_fits arities (length names.now) e ≡ true) }
 {
     match word_of(name) {
-        Some(Word::Constant(constant)) => Ok(Expr { kind: ExprKind::Constant(constant) }),
+        Some(Word::Constant(constant)) => Ok(Expr {
+            kind: ExprKind::Constant(constant),
+        }),
         Some(_) => Err(fault_at(CheckKind::Form, form)),
         None => match names.position(name) {
-            Some(slot) => Ok(Expr { kind: ExprKind::Variable(slot) }),
+            Some(slot) => Ok(Expr {
+                kind: ExprKind::Variable(slot),
+            }),
             None => Err(fault_at(CheckKind::Unbound, form)),
         },
     }
@@ -74,10 +78,7 @@ fn named(names: &Names<'_>, form: &Sexpr, name: &str) -> Result<Expr, CheckFault
 
 /// The expression of a list, by the word at its head and the forms behind it.
 #[cycle(expression)]
-#[tactic(auto, using(crate::proofs::ExpressionLemmas::list_unary,
-    crate::proofs::ExpressionLemmas::list_binary, crate::proofs::ExpressionLemmas::list_choose,
-    crate::proofs::ExpressionLemmas::list_wrap, crate::proofs::ExpressionLemmas::list_guard,
-    crate::proofs::ExpressionLemmas::list_nack))]
+#[tactic(auto, using(crate::proofs::ExpressionLemmas::list_unary, crate::proofs::ExpressionLemmas::list_binary, crate::proofs::ExpressionLemmas::list_choose, crate::proofs::ExpressionLemmas::list_wrap, crate::proofs::ExpressionLemmas::list_guard, crate::proofs::ExpressionLemmas::list_nack))]
 pub fn list_expression(
     alloc: Global,
     heads: &Heads<'_>,
@@ -88,7 +89,7 @@ pub fn list_expression(
 ) -> Result<Expr, CheckFault>
     ensures gives { let behind = plain_forms behind.now in
         Gives (expr_map (name_at names.now)) result
-            (list_in heads.now names.now (span_of form.now) word behind) }
+        (list_in heads.now names.now (span_of form.now) word behind) }
     ensures fits { let arities = arities_of heads.now in
         IfOk result (λ e. expr_fits arities (length names.now) e ≡ true) }
 {
@@ -105,8 +106,7 @@ pub fn list_expression(
 
 // An operation on one value.
 #[cycle(expression)]
-#[tactic(auto, unfolding(crate::specs::ExpressionParts::unary_in),
-    using(crate::proofs::ExpressionLemmas::no_unary))]
+#[tactic(auto, unfolding(crate::specs::ExpressionParts::unary_in), using(crate::proofs::ExpressionLemmas::no_unary))]
 fn unary(
     alloc: Global,
     heads: &Heads<'_>,
@@ -117,7 +117,7 @@ fn unary(
 ) -> Result<Expr, CheckFault>
     ensures gives { let behind = plain_forms behind.now in
         Gives (expr_map (name_at names.now)) result
-            (unary_in heads.now names.now (span_of form.now) operator behind) }
+        (unary_in heads.now names.now (span_of form.now) operator behind) }
     ensures fits { let arities = arities_of heads.now in
         IfOk result (λ e. expr_fits arities (length names.now) e ≡ true) }
 {
@@ -126,13 +126,14 @@ fn unary(
     };
     let value = expression(alloc, heads, names, p)?;
     let value = Box::new(alloc, value)?;
-    Ok(Expr { kind: ExprKind::Unary(operator, value) })
+    Ok(Expr {
+        kind: ExprKind::Unary(operator, value),
+    })
 }
 
 // An operation on two values.
 #[cycle(expression)]
-#[tactic(auto, unfolding(crate::specs::ExpressionParts::binary_in),
-    using(crate::proofs::ExpressionLemmas::no_binary, crate::proofs::ExpressionLemmas::and_true))]
+#[tactic(auto, unfolding(crate::specs::ExpressionParts::binary_in), using(crate::proofs::ExpressionLemmas::no_binary, crate::proofs::ExpressionLemmas::and_true))]
 fn binary(
     alloc: Global,
     heads: &Heads<'_>,
@@ -143,7 +144,7 @@ fn binary(
 ) -> Result<Expr, CheckFault>
     ensures gives { let behind = plain_forms behind.now in
         Gives (expr_map (name_at names.now)) result
-            (binary_in heads.now names.now (span_of form.now) operator behind) }
+        (binary_in heads.now names.now (span_of form.now) operator behind) }
     ensures fits { let arities = arities_of heads.now in
         IfOk result (λ e. expr_fits arities (length names.now) e ≡ true) }
 {
@@ -154,7 +155,9 @@ fn binary(
     let second = expression(alloc, heads, names, q)?;
     let first = Box::new(alloc, first)?;
     let second = Box::new(alloc, second)?;
-    Ok(Expr { kind: ExprKind::Binary(operator, first, second) })
+    Ok(Expr {
+        kind: ExprKind::Binary(operator, first, second),
+    })
 }
 
 // A choice of events.
@@ -168,18 +171,19 @@ fn choose(
 ) -> Result<Expr, CheckFault>
     ensures gives { let behind = plain_forms behind.now in
         Gives (expr_map (name_at names.now)) result
-            (choose_in heads.now names.now behind) }
+        (choose_in heads.now names.now behind) }
     ensures fits { let arities = arities_of heads.now in
         IfOk result (λ e. expr_fits arities (length names.now) e ≡ true) }
 {
     let members = expressions(alloc, heads, names, behind)?;
-    Ok(Expr { kind: ExprKind::Choose(members) })
+    Ok(Expr {
+        kind: ExprKind::Choose(members),
+    })
 }
 
 // An event that is wrapped by a function.
 #[cycle(expression)]
-#[tactic(auto, unfolding(crate::specs::ExpressionParts::wrap_in),
-    using(crate::proofs::ExpressionLemmas::no_wrap, crate::proofs::ExpressionLemmas::and_true))]
+#[tactic(auto, unfolding(crate::specs::ExpressionParts::wrap_in), using(crate::proofs::ExpressionLemmas::no_wrap, crate::proofs::ExpressionLemmas::and_true))]
 fn wrap(
     alloc: Global,
     heads: &Heads<'_>,
@@ -189,7 +193,7 @@ fn wrap(
 ) -> Result<Expr, CheckFault>
     ensures gives { let behind = plain_forms behind.now in
         Gives (expr_map (name_at names.now)) result
-            (wrap_in heads.now names.now (span_of form.now) behind) }
+        (wrap_in heads.now names.now (span_of form.now) behind) }
     ensures fits { let arities = arities_of heads.now in
         IfOk result (λ e. expr_fits arities (length names.now) e ≡ true) }
 {
@@ -200,7 +204,9 @@ fn wrap(
     let number = function_for(heads, name, captured, 1)?;
     let captured = expressions(alloc, heads, names, captured)?;
     let event = Box::new(alloc, event)?;
-    Ok(Expr { kind: ExprKind::Wrap(event, number, captured) })
+    Ok(Expr {
+        kind: ExprKind::Wrap(event, number, captured),
+    })
 }
 
 // An event that a function makes.
@@ -215,12 +221,14 @@ fn guard(
 ) -> Result<Expr, CheckFault>
     ensures gives { let behind = plain_forms behind.now in
         Gives (expr_map (name_at names.now)) result
-            (guard_in heads.now names.now (span_of form.now) behind) }
+        (guard_in heads.now names.now (span_of form.now) behind) }
     ensures fits { let arities = arities_of heads.now in
         IfOk result (λ e. expr_fits arities (length names.now) e ≡ true) }
 {
     let (number, values) = called(alloc, heads, names, form, 0, behind)?;
-    Ok(Expr { kind: ExprKind::Guard(number, values) })
+    Ok(Expr {
+        kind: ExprKind::Guard(number, values),
+    })
 }
 
 // An event that a function makes from a nack.
@@ -235,12 +243,14 @@ fn with_nack(
 ) -> Result<Expr, CheckFault>
     ensures gives { let behind = plain_forms behind.now in
         Gives (expr_map (name_at names.now)) result
-            (nack_in heads.now names.now (span_of form.now) behind) }
+        (nack_in heads.now names.now (span_of form.now) behind) }
     ensures fits { let arities = arities_of heads.now in
         IfOk result (λ e. expr_fits arities (length names.now) e ≡ true) }
 {
     let (number, values) = called(alloc, heads, names, form, 1, behind)?;
-    Ok(Expr { kind: ExprKind::WithNack(number, values) })
+    Ok(Expr {
+        kind: ExprKind::WithNack(number, values),
+    })
 }
 
 /// A function by its name and what it is given: these values, and that many more, which it gets later.
@@ -257,7 +267,7 @@ pub fn called(
     requires few { more ≤ 1 }
     ensures gives { let behind = plain_forms behind.now in
         Gives (call_map (name_at names.now)) result
-            (called_in heads.now names.now (span_of form.now) more behind) }
+        (called_in heads.now names.now (span_of form.now) more behind) }
     ensures fits { let arities = arities_of heads.now in
         IfOk result (λ call. exprs_fit arities (length names.now) call.1 ≡ true) }
     ensures takes { let arities = arities_of heads.now in

@@ -104,8 +104,7 @@ pub fn function(heads: &Heads<'_>, form: &Sexpr, count: usize) -> Result<u32, Ch
 }
 
 // The parameters of a list of names.
-#[tactic(auto, unfolding(crate::specs::Heads::parameters_in),
-    using(crate::proofs::HeadLemmas::no_parameters, crate::proofs::HeadLemmas::list_parameters))]
+#[tactic(auto, unfolding(crate::specs::Heads::parameters_in), using(crate::proofs::HeadLemmas::no_parameters, crate::proofs::HeadLemmas::list_parameters))]
 fn parameters(alloc: Global, form: &Sexpr) -> Result<Names<'_>, CheckFault>
     ensures { Gives (λ names. names) result (spec.parameters_in form.now) }
 {
@@ -159,13 +158,8 @@ fn head_by<'a>(
 }
 
 // The head of an item whose parts behind the word `fn` are these.
-#[tactic(auto, unfolding(crate::specs::Heads::head_by),
-    using(crate::proofs::HeadLemmas::short_head))]
-fn fn_head<'a>(
-    alloc: Global,
-    form: &Sexpr,
-    behind: &'a [Sexpr],
-) -> Result<Head<'a>, CheckFault>
+#[tactic(auto, unfolding(crate::specs::Heads::head_by), using(crate::proofs::HeadLemmas::short_head))]
+fn fn_head<'a>(alloc: Global, form: &Sexpr, behind: &'a [Sexpr]) -> Result<Head<'a>, CheckFault>
     ensures { Gives plain_head result
         (spec.head_by (span_of form.now) (Some words.Fn) (plain_forms behind.now)) }
 {

@@ -28,9 +28,9 @@ impl Model for Function {
     ghost coded = { function_code };
 
     ghost view = { λ a. record {
-        names = map string_bytes a.names.items;
-        arity = a.arity;
-        body = a.body;
+      names = map string_bytes a.names.items;
+      arity = a.arity;
+      body = a.body;
     } };
 }
 

@@ -47,8 +47,14 @@ fn statement<'a>(
     ensures grows { OnOk result (Grows scope.old.names scope.new.names) }
 {
     match headed(form) {
-        Some((first, behind)) =>
-            list_statement(alloc, heads, scope, form, word_from(first), behind),
+        Some((first, behind)) => list_statement(
+            alloc,
+            heads,
+            scope,
+            form,
+            word_from(first),
+            behind,
+        ),
         None => Err(fault_at(CheckKind::Form, form)),
     }
 }
@@ -119,7 +125,9 @@ fn declare<'a>(
     let name = free_name(name)?;
     let given = source(alloc, heads, &scope.names, given)?;
     let slot = scope.names.declare(name)?;
-    Ok(Stmt { kind: StmtKind::Let(slot, given) })
+    Ok(Stmt {
+        kind: StmtKind::Let(slot, given),
+    })
 }
 
 // A new value for a variable.
@@ -142,7 +150,9 @@ fn set_statement<'a>(
     };
     let slot = variable(&scope.names, name)?;
     let value = expression(alloc, heads, &scope.names, value)?;
-    Ok(Stmt { kind: StmtKind::Set(slot, value) })
+    Ok(Stmt {
+        kind: StmtKind::Set(slot, value),
+    })
 }
 
 // One of two branches.
@@ -187,7 +197,9 @@ fn branch<'a>(
     let condition = expression(alloc, heads, &scope.names, condition)?;
     let then = block(alloc, heads, scope, then)?;
     let other = block(alloc, heads, scope, other)?;
-    Ok(Stmt { kind: StmtKind::If(condition, then, other) })
+    Ok(Stmt {
+        kind: StmtKind::If(condition, then, other),
+    })
 }
 
 // A loop.
@@ -230,7 +242,9 @@ fn repeat<'a>(
 {
     let condition = expression(alloc, heads, &scope.names, condition)?;
     let body = statements(alloc, heads, scope, body)?;
-    Ok(Stmt { kind: StmtKind::While(condition, body) })
+    Ok(Stmt {
+        kind: StmtKind::While(condition, body),
+    })
 }
 
 // The end of a function.
@@ -252,7 +266,9 @@ fn return_statement<'a>(
         return Err(fault_at(CheckKind::Form, form));
     };
     let value = expression(alloc, heads, &scope.names, value)?;
-    Ok(Stmt { kind: StmtKind::Return(value) })
+    Ok(Stmt {
+        kind: StmtKind::Return(value),
+    })
 }
 
 // An effect alone.
@@ -272,7 +288,9 @@ fn effect_statement<'a>(
     ensures grows { OnOk result (Grows scope.old.names scope.new.names) }
 {
     let done = effect(alloc, heads, &scope.names, form, word, behind)?;
-    Ok(Stmt { kind: StmtKind::Do(done) })
+    Ok(Stmt {
+        kind: StmtKind::Do(done),
+    })
 }
 
 // The statements of a branch.
@@ -308,7 +326,7 @@ fn do_block<'a>(
 ) -> Result<Block, CheckFault>
     ensures gives { let found = stmts_in heads.now scope.old (plain_forms behind.now) in
         Gives (λ ss. (stmts_map (name_at scope.new.names) ss, scope.new)) result
-            (behind_do (span_of form.now) word found) }
+        (behind_do (span_of form.now) word found) }
     ensures fits { let slots = length scope.new.names in
         IfOk result (λ ss. stmts_fit (arities_of heads.now) slots ss ≡ true) }
     ensures grows { OnOk result (Grows scope.old.names scope.new.names) }

@@ -1,11 +1,10 @@
-use Rattle.std.proofs.Common.{rules, ◌≡◌, ◌∙◌, ◌<◌, ◌≤◌, sym, ap, arith, length, map, refl, Ok, subst, []}
+use Rattle.std.proofs.Common.{◌≡◌, sym, arith, map, refl, subst}
 use Rattle.std.specs.Prelude.{All, List}
 use Rattle.std.proofs.lemmas.Result.{err_from_is_err_and}
 use Rattle.std.proofs.lemmas.List.{map_push}
 use Rattle.std.proofs.lemmas.List.Elements.{All-push}
 use Rattle.cml_check.specs.Syntax.{written}
 use Rattle.cml_check.specs.Heads.{arities_of}
-use Rattle.cml_check.specs.HeadViews.{plain_heads}
 use Rattle.cml_check.specs.InOrder.{FunctionFits, arities}
 use Rattle.cml_check.specs.Shape.{functions_in}
 use Rattle.cml_check.proofs.FunctionLemmas.{front_nil, function-fails, function-next, function-end, arities-next, arities-end}
@@ -34,7 +33,7 @@ loop-head-preserved c =
       left = rw (c.in_ok-push.ensures.items, map_push written c.loop-head.items.items c.in_ok-function.field-0) next;
       fits = rw c.in_ok-push.ensures.items (All-push (FunctionFits (arities_of c.args.heads.now)) c.loop-head.items.items c.in_ok-function.field-0 c.loop-head.invariant.fits c.in_ok-function.ensures.fits);
       same = rw c.in_ok-push.ensures.items (arities-next c.as_slice-head-items.result.now c.loop-head.head-index c.head-item.result c.loop-head.items.items c.in_ok-function.field-0 _
-      c.loop-head-test.true c.head-item.is c.loop-head.invariant.same c.in_ok-function.ensures.arity);
+          c.loop-head-test.true c.head-item.is c.loop-head.invariant.same c.in_ok-function.ensures.arity);
     }
 
 pub returns-clause-gives : goal.returns-clause-gives

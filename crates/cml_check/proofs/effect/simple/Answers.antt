@@ -1,4 +1,3 @@
-use Rattle.std.proofs.Common.{◌≡◌, sym, ◌∙◌, refl}
 use Rattle.cml_check.proofs.StatementLemmas.{no_act}
 use Rattle.cml_check.proofs.effect.simple.Goals as goal
 

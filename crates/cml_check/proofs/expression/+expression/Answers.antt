@@ -1,10 +1,9 @@
-use Rattle.std.proofs.Common.{rules, ◌≡◌, ◌∙◌, ◌<◌, ◌≤◌, sym, ap, arith, length, map, refl, Ok}
+use Rattle.std.proofs.Common.{rules, ◌∙◌, ◌≤◌, sym, ap, arith, map, Ok}
 use Rattle.std.proofs.lemmas.Result.{err_from_is_err_and}
 use Rattle.std.proofs.lemmas.List.{map_push, length-append}
 use Rattle.cml_text.specs.Forms.{nesting, nesting_of, plain_forms}
-use Rattle.cml_check.specs.Syntax.{expr_map, name_at, exprs}
-use Rattle.cml_check.specs.InOrder.{exprs_count}
-use Rattle.cml_check.specs.Expressions.{count, list_in}
+use Rattle.cml_check.specs.Syntax.{expr_map, name_at}
+use Rattle.cml_check.specs.Expressions.{list_in}
 use Rattle.cml_check.proofs.ExpressionLemmas.{expr-fails, expr-next, expr-end, exprs-map, exprs-count, exprs-fit_push, count_forms, member-below}
 use Rattle.cml_check.proofs.expression.+expression.Goals as goal
 

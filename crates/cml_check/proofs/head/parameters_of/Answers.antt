@@ -1,4 +1,4 @@
-use Rattle.std.proofs.Common.{◌≡◌, ◌∙◌, sym, ap, refl, arith, cond, true, false}
+use Rattle.std.proofs.Common.{◌≡◌, ◌∙◌, sym, arith, true, false}
 use Rattle.std.proofs.lemmas.Result.{err_from_is_err_and}
 use Rattle.cml_check.specs.Names.{is_among}
 use Rattle.cml_check.proofs.HeadLemmas.{parameter-fails, parameter-next, parameter-end}

@@ -1,4 +1,4 @@
-use Rattle.std.proofs.Common.{◌≡◌, ◌∙◌, ap, sym, refl}
+use Rattle.std.proofs.Common.{sym, refl}
 use Rattle.cml_check.specs.Names.{variable_in}
 use Rattle.cml_check.proofs.NameLemmas.{positioned, unpositioned}
 use Rattle.cml_check.proofs.names.variable.Goals as goal

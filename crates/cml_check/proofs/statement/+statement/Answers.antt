@@ -1,13 +1,13 @@
-use Rattle.std.proofs.Common.{rules, ◌≡◌, ◌∙◌, ◌<◌, ◌≤◌, sym, ap, arith, length, map, refl, Ok}
+use Rattle.std.proofs.Common.{rules, ◌∙◌, ◌≤◌, sym, ap, arith, map, Ok}
 use Rattle.std.proofs.lemmas.Result.{err_from_is_err_and}
 use Rattle.std.proofs.lemmas.List.{map_push}
 use Rattle.cml_text.specs.Forms.{nesting, nesting_of, plain_forms}
-use Rattle.cml_check.specs.Syntax.{stmt_map, name_at, stmts}
+use Rattle.cml_check.specs.Syntax.{stmt_map, name_at}
 use Rattle.cml_check.specs.Heads.{arities_of}
-use Rattle.cml_check.specs.Statements.{stmt_by, stmts_in}
+use Rattle.cml_check.specs.Statements.{stmt_by}
 use Rattle.cml_check.specs.StatementParts.{do_in, Grows}
 use Rattle.cml_check.proofs.ExpressionLemmas.{member-below}
-use Rattle.cml_check.proofs.GrowthLemmas.{front, count-fails, stmt-fails, stmt-next, stmt-end, stmts-map, items-grown, stmts-fit_push, grows-on}
+use Rattle.cml_check.proofs.GrowthLemmas.{count-fails, stmt-fails, stmt-next, stmt-end, stmts-map, items-grown, stmts-fit_push, grows-on}
 use Rattle.cml_check.proofs.StatementWalk.{if_gives, if_fits, while_gives, while_fits}
 use Rattle.cml_check.proofs.statement.+statement.Goals as goal
 

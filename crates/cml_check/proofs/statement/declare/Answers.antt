@@ -1,4 +1,3 @@
-use Rattle.cml_check.specs.StatementParts.{let_of}
 use Rattle.cml_check.specs.Heads.{arities_of}
 use Rattle.cml_check.specs.StmtViews.{plain_source}
 use Rattle.cml_check.proofs.StatementWalk.{let_gives, let_fits}

@@ -1,4 +1,4 @@
-use Rattle.std.proofs.Common.{◌≡◌, sym}
+use Rattle.std.proofs.Common.{sym}
 use Rattle.cml_check.proofs.HeadLemmas.{place-some}
 use Rattle.cml_check.proofs.head.Heads.place.Goals as goal
 

@@ -1,6 +1,4 @@
-use Rattle.std.proofs.Common.{◌≡◌, ◌∙◌, sym, refl, ap, length, arith}
-use Rattle.cml_check.specs.Heads.{takes, arities_of}
-use Rattle.cml_check.specs.HeadViews.{plain_heads}
+use Rattle.std.proofs.Common.{sym}
 use Rattle.cml_check.proofs.HeadLemmas.{takes-some, takes-none}
 use Rattle.cml_check.proofs.head.Heads.takes.Goals as goal
 

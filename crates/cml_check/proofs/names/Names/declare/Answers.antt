@@ -1,6 +1,6 @@
-use Rattle.std.proofs.Common.{◌≡◌, ◌∙◌, ap, sym}
+use Rattle.std.proofs.Common.{◌∙◌, ap, sym}
 use Rattle.std.proofs.lemmas.Slice.Eq.{bytes_eq-Decides}
-use Rattle.cml_check.specs.Names.{with_name, AreDistinct}
+use Rattle.cml_check.specs.Names.{with_name}
 use Rattle.cml_check.proofs.NameLemmas.{kept-insert_key, distinct-with_name, name_at-kept, kept}
 use Rattle.cml_check.proofs.names.Names.declare.Goals as goal
 

@@ -1,4 +1,4 @@
-use Rattle.std.proofs.Common.{◌≡◌, ◌∙◌, ap}
+use Rattle.std.proofs.Common.{◌∙◌, ap}
 use Rattle.cml_check.specs.Names.{is_among}
 use Rattle.cml_check.proofs.NameLemmas.{among-kept}
 use Rattle.cml_check.proofs.names.Names.has.Goals as goal

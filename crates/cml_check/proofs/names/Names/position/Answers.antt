@@ -1,4 +1,4 @@
-use Rattle.std.proofs.Common.{◌≡◌, ◌∙◌, ap, position}
+use Rattle.std.proofs.Common.{◌∙◌, ap, position}
 use Rattle.std.specs.Str.{bytes_eq}
 use Rattle.cml_check.proofs.NameLemmas.{position-kept}
 use Rattle.cml_check.proofs.names.Names.position.Goals as goal
