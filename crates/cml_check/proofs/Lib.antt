@@ -6,3 +6,4 @@ pub mod StatementLemmas
 pub mod GrowthLemmas
 pub mod StatementWalk
 pub mod FunctionLemmas
+pub mod SameLemmas

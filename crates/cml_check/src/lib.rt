@@ -9,6 +9,7 @@ mod head;
 mod names;
 mod parts;
 mod program;
+mod same;
 mod statement;
 mod syntax;
 mod word;

@@ -94,6 +94,13 @@ impl Prog {
         &self.shared[func as usize]
     }
 
+    // All functions.
+    pub(crate) fn as_slice(&self) -> &[Function]
+        ensures { result.now ≡ self.now }
+    {
+        self.shared.as_slice()
+    }
+
     /// The same program, which both share from now on.
     pub fn copy(&self) -> Result<Prog, AllocError>
         ensures { IfOk result (λ program. program ≡ self.now) }
