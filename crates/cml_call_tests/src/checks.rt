@@ -23,8 +23,14 @@ const PROGRAMS: [(&str, &[u32]); 12] = [
     ("(fn main () (if true (do (let x 1)) (do)) (print x))", &[0]),
     ("(fn main () (let x 1) (let x (+ x 1)))", &[0]),
     ("(fn main () (while true (yield)) (exit))", &[0]),
-    ("(fn f (main) (print main)) (fn main () (call f 1))", &[1, 0]),
-    ("(fn thread (nack scope) (return (pair nack scope))) (fn main ())", &[2, 0]),
+    (
+        "(fn f (main) (print main)) (fn main () (call f 1))",
+        &[1, 0],
+    ),
+    (
+        "(fn thread (nack scope) (return (pair nack scope))) (fn main ())",
+        &[2, 0],
+    ),
     (
         "(fn main () (let a (mchan)) (let b (port a)) (let c (copy b)) (multicast a 1) (mail a 1) (iput a 1) (mput a 1) (let d (self)) (let e (now)) (let f (mailbox)) (let g (ivar)) (mvar))",
         &[0],
@@ -33,7 +39,10 @@ const PROGRAMS: [(&str, &[u32]); 12] = [
         "(fn main () (sync (choose never (iget 1) (mtake 1) (mget 1) (mswap 1 2) (mailrecv 1) (portrecv 1) (join 1) (at 1) (after 1) (guard g))) (print (not (< 1 (- 2 (* 3 4))))) (print (= (fst unit) (snd false)))) (fn g () (return (choose)))",
         &[0, 0],
     ),
-    ("(fn swap (swapchan) (print swapchan)) (fn main ())", &[1, 0]),
+    (
+        "(fn swap (swapchan) (print swapchan)) (fn main ())",
+        &[1, 0],
+    ),
 ];
 
 // Scripts with the first fault of each, and where it stands.
@@ -83,9 +92,21 @@ const FAULTS: [(&str, CheckKind, usize); 48] = [
     ("(fn main () (set x y))", CheckKind::Unbound, 17),
     ("(fn main () (print main))", CheckKind::Unbound, 19),
     ("(fn main () (call f x y))", CheckKind::Function, 18),
-    ("(fn f ()) (fn main () (sync (wrap never f)))", CheckKind::Arity, 40),
-    ("(fn f ()) (fn main () (sync (withnack f)))", CheckKind::Arity, 38),
-    ("(fn f ()) (fn main () (sync (wrap x f)))", CheckKind::Unbound, 34),
+    (
+        "(fn f ()) (fn main () (sync (wrap never f)))",
+        CheckKind::Arity,
+        40,
+    ),
+    (
+        "(fn f ()) (fn main () (sync (withnack f)))",
+        CheckKind::Arity,
+        38,
+    ),
+    (
+        "(fn f ()) (fn main () (sync (wrap x f)))",
+        CheckKind::Unbound,
+        34,
+    ),
     ("(fn main () (let x (let y 1)))", CheckKind::Form, 19),
     ("(fn main () (do))", CheckKind::Form, 12),
     ("(fn main (a) (foo))", CheckKind::Arity, 4),
@@ -129,18 +150,46 @@ fn fault(rt: &(impl Abort + AllocGlobal), script: &str) -> Option<CheckFault> {
 #[test]
 fn answers_the_first_fault_of_a_script(rt: HostRuntime) {
     for (script, kind, at) in FAULTS {
-        assert_eq!(rt; fault(&rt, script), Some(CheckFault::At { kind, at }), "{script}");
+        assert_eq!(rt;
+            fault(&rt, script),
+            Some(CheckFault::At { kind, at }),
+            "{script}"
+        );
     }
 }
 
 // A text so many times between two others, with the first fault of the whole.
 const MANY: [(&str, &str, usize, &str, Option<(CheckKind, usize)>); 7] = [
     ("(fn main ()", "(exit)", 4096, ")", None),
-    ("(fn main ()", "(exit)", 4097, ")", Some((CheckKind::Limit, 24587))),
-    ("(fn main ()", "(exit)", 4096, "5)", Some((CheckKind::Limit, 24587))),
-    ("(fn main ()", "(exit)", 4095, "(while true (exit)))", Some((CheckKind::Limit, 24593))),
+    (
+        "(fn main ()",
+        "(exit)",
+        4097,
+        ")",
+        Some((CheckKind::Limit, 24587)),
+    ),
+    (
+        "(fn main ()",
+        "(exit)",
+        4096,
+        "5)",
+        Some((CheckKind::Limit, 24587)),
+    ),
+    (
+        "(fn main ()",
+        "(exit)",
+        4095,
+        "(while true (exit)))",
+        Some((CheckKind::Limit, 24593)),
+    ),
     ("(fn main ())", "5", 1, "", Some((CheckKind::Form, 12))),
-    ("(fn main (", "a ", 1, "))(fn f ()(call main))", Some((CheckKind::Arity, 4))),
+    (
+        "(fn main (",
+        "a ",
+        1,
+        "))(fn f ()(call main))",
+        Some((CheckKind::Arity, 4)),
+    ),
     ("", "(fn)", 1025, "", Some((CheckKind::Form, 0))),
 ];
 
@@ -162,7 +211,16 @@ fn keeps_to_the_limit_of_statements(rt: HostRuntime) {
 
 #[test]
 fn keeps_to_the_limit_of_functions(rt: HostRuntime) {
-    for (count, expected) in [(1023, None), (1024, Some(CheckFault::At { kind: CheckKind::Limit, at: 12201 }))] {
+    for (count, expected) in [
+        (1023, None),
+        (
+            1024,
+            Some(CheckFault::At {
+                kind: CheckKind::Limit,
+                at: 12201,
+            }),
+        ),
+    ] {
         let mut script = String::from_str(rt.alloc(), "(fn main ())").expect(&rt, MEMORY);
         for i in 0..count {
             let item = format!(in rt.alloc(); "(fn f{i} ())").expect(&rt, MEMORY);
