@@ -3,6 +3,8 @@
 
 #[cfg(test)]
 mod books;
+#[cfg(test)]
+mod checks;
 pub mod choosing;
 #[cfg(test)]
 mod groups;

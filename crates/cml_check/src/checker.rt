@@ -1,0 +1,71 @@
+//! From the forms of a script to its program.
+
+ghost use Rattle.std.specs.Prelude.{◌≡◌, IfOk, length, map};
+ghost use Rattle.cml_check.specs.Syntax.{written};
+ghost use Rattle.cml_check.specs.Checked.{Gives};
+ghost use Rattle.cml_check.specs.Heads.{arities_of};
+ghost use Rattle.cml_check.specs.HeadViews.{plain_head};
+ghost use Rattle.cml_check.specs.InOrder.{InOrder, FunctionFits};
+ghost use Rattle.cml_check.specs.Shape.{shape, function_by, functions_in};
+
+use crate::fault::CheckFault;
+use crate::head::{Head, Heads, heads_of, main_function};
+use crate::program::{Function, Prog};
+use crate::statement::{Scope, statements};
+use cml_text::Sexpr;
+use std::alloc::Global;
+
+/// The program that the forms of a script are.
+///
+/// Where they are no program the answer is their first fault: first in the heads of all items, then of `main`, then in the statements
+/// of all functions. `CheckFault::Memory` comes only where memory ran out.
+#[tactic(auto, unfolding(crate::specs::Shape::shape))]
+pub fn check(alloc: Global, forms: &[Sexpr]) -> Result<Prog, CheckFault>
+    ensures { Gives (λ program. map written program) result (shape forms.now) }
+{
+    let heads = heads_of(alloc, forms)?;
+    main_function(&heads)?;
+    let functions = functions(alloc, &heads)?;
+    Ok(Prog::new(alloc, functions)?)
+}
+
+// The functions of these heads.
+fn functions(alloc: Global, heads: &Heads<'_>) -> Result<Vec<Function>, CheckFault>
+    ensures gives { let found = functions_in heads.now 0 heads.now in
+        Gives (λ functions. map written functions.items) result found }
+    ensures order { IfOk result (λ functions. InOrder functions.items) }
+{
+    let mut items = Vec::new(alloc);
+    let mut statements = 0;
+    for head in heads.as_slice() {
+        items.push(function(alloc, heads, head, &mut statements)?)?;
+    }
+    Ok(items)
+}
+
+// The function of a head, where the script had that many statements so far.
+#[tactic(auto, unfolding(crate::specs::Shape::function_by))]
+fn function(
+    alloc: Global,
+    heads: &Heads<'_>,
+    head: &Head<'_>,
+    count: &mut usize,
+) -> Result<Function, CheckFault>
+    ensures gives { let found = function_by heads.now count.old (plain_head head.now) in
+        Gives (λ function. (written function, count.new)) result found }
+    ensures fits { IfOk result (λ function. FunctionFits (arities_of heads.now) function) }
+    ensures arity { IfOk result (λ function. function.arity ≡ length head.now.parameters) }
+{
+    // A function has fewer parameters than a text has bytes, so this never comes.
+    let Ok(arity) = u32::try_from(head.parameters.len()) else {
+        return Err(CheckFault::Memory);
+    };
+    let mut scope = Scope {
+        names: head.parameters.copy()?,
+        statements: *count,
+    };
+    let body = statements(alloc, heads, &mut scope, head.body)?;
+    *count = scope.statements;
+    let names = scope.names.to_strings(alloc)?;
+    Ok(Function { names, arity, body })
+}

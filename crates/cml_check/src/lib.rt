@@ -1,0 +1,23 @@
+//! The checker of scripts: a program, in which each function and each variable stands by its position, or the first fault.
+#![tactic(auto)]
+
+mod checker;
+mod effect;
+mod expression;
+mod fault;
+mod head;
+mod names;
+mod parts;
+mod program;
+mod same;
+mod statement;
+mod syntax;
+mod word;
+
+pub use checker::check;
+pub use fault::{CheckFault, CheckKind};
+pub use program::{Function, Prog};
+pub use syntax::{
+    Act, ActOnOne, ActOnTwo, Binary, Block, Constant, Effect, Expr, ExprKind, Exprs, Source, Stmt,
+    StmtKind, Unary,
+};

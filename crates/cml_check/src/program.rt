@@ -1,0 +1,111 @@
+//! Programs that were checked.
+
+ghost use Rattle.std.specs.Prelude.{◌≡◌, ◌<◌, ◌≤◌, IfOk, length, map, slice_get, slice_index_or};
+ghost use Rattle.std.specs.String.{string_bytes};
+ghost use Rattle.cml_check.specs.InOrder.{InOrder, FunctionFits, arities};
+
+use crate::syntax::Block;
+use std::alloc::{AllocError, Global};
+use std::marker::Model;
+use std::sync::Arc;
+
+/// A function: the names of its slots, its parameters first, how many of them are parameters, and its statements.
+#[derive(Drop)]
+pub struct Function {
+    pub names: Vec<String>,
+    pub arity: u32,
+    pub body: Block,
+}
+
+impl Model for Function {
+    ghost use Rattle.std.specs.Prelude.{ℕ, map};
+    ghost use Rattle.std.specs.String.{string_bytes};
+    ghost use Rattle.cml_check.specs.Syntax.{PlainFunction};
+    ghost use Rattle.cml_check.specs.SyntaxCodes.{function_code};
+
+    ghost Value = { PlainFunction ℕ };
+
+    ghost coded = { function_code };
+
+    ghost view = { λ a. record {
+      names = map string_bytes a.names.items;
+      arity = a.arity;
+      body = a.body;
+    } };
+}
+
+/// A program in which each function, each slot and each number of values is in order. Its copies share it.
+#[derive(Drop)]
+pub struct Prog {
+    shared: Arc<Vec<Function>>,
+}
+
+impl Model for Prog {
+    ghost use Rattle.std.specs.Prelude.{ℕ, List};
+    ghost use Rattle.std.specs.Coded.{coded_list};
+    ghost use Rattle.cml_check.specs.Syntax.{PlainFunction};
+    ghost use Rattle.cml_check.specs.SyntaxCodes.{function_code};
+
+    ghost Value = { List (PlainFunction ℕ) };
+
+    ghost coded = { coded_list function_code };
+
+    ghost use Rattle.cml_check.specs.InOrder.{InOrder};
+
+    ghost view = { λ a. a.shared.value.items };
+
+    ghost invariant = { λ a. InOrder a.shared.value.items };
+}
+
+impl Prog {
+    /// A program of these functions.
+    pub(crate) fn new(alloc: Global, functions: Vec<Function>) -> Result<Prog, AllocError>
+        requires { InOrder functions.items }
+        ensures { IfOk result (λ program. program ≡ functions.items) }
+    {
+        let shared = Arc::new(alloc, functions)?;
+        Ok(Prog { shared })
+    }
+
+    /// How many functions there are.
+    pub fn functions(&self) -> usize
+        ensures count { result ≡ length self.now }
+        ensures order { InOrder self.now }
+    {
+        self.shared.len()
+    }
+
+    /// How many parameters the function of this number has, if it is there.
+    pub fn arity(&self, func: u32) -> Option<u32>
+        ensures { result ≡ slice_get (arities self.now) func }
+    {
+        match self.shared.get(func as usize) {
+            Some(function) => Some(function.arity),
+            None => None,
+        }
+    }
+
+    /// The function of this number.
+    pub fn function(&self, func: u32) -> &Function
+        requires { func < length self.now }
+        ensures found { result.now ≡ slice_index_or self.now func result.now }
+        ensures fits { FunctionFits (arities self.now) result.now }
+    {
+        &self.shared[func as usize]
+    }
+
+    // All functions.
+    pub(crate) fn as_slice(&self) -> &[Function]
+        ensures { result.now ≡ self.now }
+    {
+        self.shared.as_slice()
+    }
+
+    /// The same program, which both share from now on.
+    pub fn copy(&self) -> Result<Prog, AllocError>
+        ensures { IfOk result (λ program. program ≡ self.now) }
+    {
+        let shared = Arc::try_clone(&self.shared)?;
+        Ok(Prog { shared })
+    }
+}

@@ -1,0 +1,373 @@
+//! The statements that forms are.
+
+ghost use Rattle.std.specs.Prelude.{◌≡◌, IfOk, OnOk, Some, length, true};
+ghost use Rattle.cml_text.specs.Forms.{plain_forms, span_of};
+ghost use Rattle.cml_check.specs.Syntax.{stmt_map, stmts_map, name_at};
+ghost use Rattle.cml_check.specs.Checked.{Gives};
+ghost use Rattle.cml_check.specs.Heads.{arities_of};
+ghost use Rattle.cml_check.specs.Statements.{counted, stmt_in, stmt_by, block_in, behind_do, stmts_in};
+ghost use Rattle.cml_check.specs.StatementParts.{Grows, let_of, let_in, set_in, if_of, if_in, while_of, while_in, return_in, do_in};
+ghost use Rattle.cml_check.specs.InOrder.{stmt_fits, stmts_fit};
+
+use crate::effect::{effect, source};
+use crate::expression::expression;
+use crate::fault::{CheckFault, CheckKind, fault_at};
+use crate::head::Heads;
+use crate::names::{Names, free_name, variable};
+use crate::parts::headed;
+use crate::syntax::{Block, Stmt, StmtKind};
+use crate::word::{Word, word_from};
+use cml_text::Sexpr;
+use std::alloc::Global;
+
+// The most statements of a script.
+const STATEMENT_LIMIT: usize = 4096;
+
+/// Where a walk through the statements has come: the names that the function has declared so far, and how many statements the script
+/// had.
+#[derive(Drop)]
+pub struct Scope<'a> {
+    pub names: Names<'a>,
+    pub statements: usize,
+}
+
+// The statement that the form is.
+#[cycle(statement)]
+#[tactic(auto, using(crate::proofs::StatementWalk::headed_stmt, crate::proofs::StatementWalk::no_stmt))]
+fn statement<'a>(
+    alloc: Global,
+    heads: &Heads<'_>,
+    scope: &mut Scope<'a>,
+    form: &'a Sexpr,
+) -> Result<Stmt, CheckFault>
+    ensures gives { let found = stmt_in heads.now scope.old form.now in
+        Gives (λ s. (stmt_map (name_at scope.new.names) s, scope.new)) result found }
+    ensures fits { let slots = length scope.new.names in
+        IfOk result (λ s. stmt_fits (arities_of heads.now) slots s ≡ true) }
+    ensures grows { OnOk result (Grows scope.old.names scope.new.names) }
+{
+    match headed(form) {
+        Some((first, behind)) => list_statement(
+            alloc,
+            heads,
+            scope,
+            form,
+            word_from(first),
+            behind,
+        ),
+        None => Err(fault_at(CheckKind::Form, form)),
+    }
+}
+
+// The statement of a list, by the word at its head and the forms behind it.
+#[cycle(statement)]
+#[tactic(auto, using(crate::proofs::StatementWalk::list_let, crate::proofs::StatementWalk::list_set, crate::proofs::StatementWalk::list_if, crate::proofs::StatementWalk::list_while, crate::proofs::StatementWalk::list_return))]
+fn list_statement<'a>(
+    alloc: Global,
+    heads: &Heads<'_>,
+    scope: &mut Scope<'a>,
+    form: &'a Sexpr,
+    word: Option<Word>,
+    behind: &'a [Sexpr],
+) -> Result<Stmt, CheckFault>
+    ensures gives { let found = stmt_by heads.now scope.old (span_of form.now) word (plain_forms behind.now) in
+        Gives (λ s. (stmt_map (name_at scope.new.names) s, scope.new)) result found }
+    ensures fits { let slots = length scope.new.names in
+        IfOk result (λ s. stmt_fits (arities_of heads.now) slots s ≡ true) }
+    ensures grows { OnOk result (Grows scope.old.names scope.new.names) }
+{
+    match word {
+        Some(Word::Let) => let_statement(alloc, heads, scope, form, behind),
+        Some(Word::Set) => set_statement(alloc, heads, scope, form, behind),
+        Some(Word::If) => if_statement(alloc, heads, scope, form, behind),
+        Some(Word::While) => while_statement(alloc, heads, scope, form, behind),
+        Some(Word::Return) => return_statement(alloc, heads, scope, form, behind),
+        _ => effect_statement(alloc, heads, scope, form, word, behind),
+    }
+}
+
+// A `let`, which declares its name behind what it gives that name.
+#[tactic(auto, unfolding(crate::specs::StatementParts::let_in), using(crate::proofs::StatementWalk::no_let))]
+fn let_statement<'a>(
+    alloc: Global,
+    heads: &Heads<'_>,
+    scope: &mut Scope<'a>,
+    form: &'a Sexpr,
+    behind: &'a [Sexpr],
+) -> Result<Stmt, CheckFault>
+    ensures gives { let found = let_in heads.now scope.old (span_of form.now) (plain_forms behind.now) in
+        Gives (λ s. (stmt_map (name_at scope.new.names) s, scope.new)) result found }
+    ensures fits { let slots = length scope.new.names in
+        IfOk result (λ s. stmt_fits (arities_of heads.now) slots s ≡ true) }
+    ensures grows { OnOk result (Grows scope.old.names scope.new.names) }
+{
+    let [name, given] = behind else {
+        return Err(fault_at(CheckKind::Form, form));
+    };
+    declare(alloc, heads, scope, name, given)
+}
+
+// A `let` of this name, which is given this.
+#[tactic(auto, unfolding(crate::specs::StatementParts::let_of))]
+fn declare<'a>(
+    alloc: Global,
+    heads: &Heads<'_>,
+    scope: &mut Scope<'a>,
+    name: &'a Sexpr,
+    given: &'a Sexpr,
+) -> Result<Stmt, CheckFault>
+    ensures gives { let found = let_of heads.now scope.old name.now given.now in
+        Gives (λ s. (stmt_map (name_at scope.new.names) s, scope.new)) result found }
+    ensures fits { let slots = length scope.new.names in
+        IfOk result (λ s. stmt_fits (arities_of heads.now) slots s ≡ true) }
+    ensures grows { OnOk result (Grows scope.old.names scope.new.names) }
+{
+    let name = free_name(name)?;
+    let given = source(alloc, heads, &scope.names, given)?;
+    let slot = scope.names.declare(name)?;
+    Ok(Stmt {
+        kind: StmtKind::Let(slot, given),
+    })
+}
+
+// A new value for a variable.
+#[tactic(auto, unfolding(crate::specs::StatementParts::set_in), using(crate::proofs::StatementWalk::no_set, crate::proofs::ExpressionLemmas::and_true, crate::proofs::GrowthLemmas::grows_same))]
+fn set_statement<'a>(
+    alloc: Global,
+    heads: &Heads<'_>,
+    scope: &mut Scope<'a>,
+    form: &'a Sexpr,
+    behind: &'a [Sexpr],
+) -> Result<Stmt, CheckFault>
+    ensures gives { let found = set_in heads.now scope.old (span_of form.now) (plain_forms behind.now) in
+        Gives (λ s. (stmt_map (name_at scope.new.names) s, scope.new)) result found }
+    ensures fits { let slots = length scope.new.names in
+        IfOk result (λ s. stmt_fits (arities_of heads.now) slots s ≡ true) }
+    ensures grows { OnOk result (Grows scope.old.names scope.new.names) }
+{
+    let [name, value] = behind else {
+        return Err(fault_at(CheckKind::Form, form));
+    };
+    let slot = variable(&scope.names, name)?;
+    let value = expression(alloc, heads, &scope.names, value)?;
+    Ok(Stmt {
+        kind: StmtKind::Set(slot, value),
+    })
+}
+
+// One of two branches.
+#[cycle(statement)]
+#[tactic(auto, unfolding(crate::specs::StatementParts::if_in), using(crate::proofs::StatementWalk::no_if))]
+fn if_statement<'a>(
+    alloc: Global,
+    heads: &Heads<'_>,
+    scope: &mut Scope<'a>,
+    form: &'a Sexpr,
+    behind: &'a [Sexpr],
+) -> Result<Stmt, CheckFault>
+    ensures gives { let found = if_in heads.now scope.old (span_of form.now) (plain_forms behind.now) in
+        Gives (λ s. (stmt_map (name_at scope.new.names) s, scope.new)) result found }
+    ensures fits { let slots = length scope.new.names in
+        IfOk result (λ s. stmt_fits (arities_of heads.now) slots s ≡ true) }
+    ensures grows { OnOk result (Grows scope.old.names scope.new.names) }
+{
+    let [condition, then, other] = behind else {
+        return Err(fault_at(CheckKind::Form, form));
+    };
+    branch(alloc, heads, scope, condition, then, other)
+}
+
+// The branches of a condition.
+#[cycle(statement)]
+#[tactic(auto, unfolding(crate::specs::StatementParts::if_of))]
+fn branch<'a>(
+    alloc: Global,
+    heads: &Heads<'_>,
+    scope: &mut Scope<'a>,
+    condition: &'a Sexpr,
+    then: &'a Sexpr,
+    other: &'a Sexpr,
+) -> Result<Stmt, CheckFault>
+    ensures gives { let found = if_of heads.now scope.old condition.now then.now other.now in
+        Gives (λ s. (stmt_map (name_at scope.new.names) s, scope.new)) result found }
+    ensures fits { let slots = length scope.new.names in
+        IfOk result (λ s. stmt_fits (arities_of heads.now) slots s ≡ true) }
+    ensures grows { OnOk result (Grows scope.old.names scope.new.names) }
+{
+    let condition = expression(alloc, heads, &scope.names, condition)?;
+    let then = block(alloc, heads, scope, then)?;
+    let other = block(alloc, heads, scope, other)?;
+    Ok(Stmt {
+        kind: StmtKind::If(condition, then, other),
+    })
+}
+
+// A loop.
+#[cycle(statement)]
+#[tactic(auto, unfolding(crate::specs::StatementParts::while_in))]
+fn while_statement<'a>(
+    alloc: Global,
+    heads: &Heads<'_>,
+    scope: &mut Scope<'a>,
+    form: &'a Sexpr,
+    behind: &'a [Sexpr],
+) -> Result<Stmt, CheckFault>
+    ensures gives { let found = while_in heads.now scope.old (span_of form.now) (plain_forms behind.now) in
+        Gives (λ s. (stmt_map (name_at scope.new.names) s, scope.new)) result found }
+    ensures fits { let slots = length scope.new.names in
+        IfOk result (λ s. stmt_fits (arities_of heads.now) slots s ≡ true) }
+    ensures grows { OnOk result (Grows scope.old.names scope.new.names) }
+{
+    let [condition, body @ ..] = behind else {
+        return Err(fault_at(CheckKind::Form, form));
+    };
+    repeat(alloc, heads, scope, condition, body)
+}
+
+// The loop of a condition.
+#[cycle(statement)]
+#[tactic(auto, unfolding(crate::specs::StatementParts::while_of))]
+fn repeat<'a>(
+    alloc: Global,
+    heads: &Heads<'_>,
+    scope: &mut Scope<'a>,
+    condition: &'a Sexpr,
+    body: &'a [Sexpr],
+) -> Result<Stmt, CheckFault>
+    ensures gives { let found = while_of heads.now scope.old condition.now (plain_forms body.now) in
+        Gives (λ s. (stmt_map (name_at scope.new.names) s, scope.new)) result found }
+    ensures fits { let slots = length scope.new.names in
+        IfOk result (λ s. stmt_fits (arities_of heads.now) slots s ≡ true) }
+    ensures grows { OnOk result (Grows scope.old.names scope.new.names) }
+{
+    let condition = expression(alloc, heads, &scope.names, condition)?;
+    let body = statements(alloc, heads, scope, body)?;
+    Ok(Stmt {
+        kind: StmtKind::While(condition, body),
+    })
+}
+
+// The end of a function.
+#[tactic(auto, unfolding(crate::specs::StatementParts::return_in), using(crate::proofs::StatementWalk::no_return, crate::proofs::GrowthLemmas::grows_same))]
+fn return_statement<'a>(
+    alloc: Global,
+    heads: &Heads<'_>,
+    scope: &mut Scope<'a>,
+    form: &'a Sexpr,
+    behind: &'a [Sexpr],
+) -> Result<Stmt, CheckFault>
+    ensures gives { let found = return_in heads.now scope.old (span_of form.now) (plain_forms behind.now) in
+        Gives (λ s. (stmt_map (name_at scope.new.names) s, scope.new)) result found }
+    ensures fits { let slots = length scope.new.names in
+        IfOk result (λ s. stmt_fits (arities_of heads.now) slots s ≡ true) }
+    ensures grows { OnOk result (Grows scope.old.names scope.new.names) }
+{
+    let [value] = behind else {
+        return Err(fault_at(CheckKind::Form, form));
+    };
+    let value = expression(alloc, heads, &scope.names, value)?;
+    Ok(Stmt {
+        kind: StmtKind::Return(value),
+    })
+}
+
+// An effect alone.
+#[tactic(auto, unfolding(crate::specs::StatementParts::do_in), using(crate::proofs::GrowthLemmas::grows_same))]
+fn effect_statement<'a>(
+    alloc: Global,
+    heads: &Heads<'_>,
+    scope: &mut Scope<'a>,
+    form: &'a Sexpr,
+    word: Option<Word>,
+    behind: &'a [Sexpr],
+) -> Result<Stmt, CheckFault>
+    ensures gives { let found = do_in heads.now scope.old (span_of form.now) word (plain_forms behind.now) in
+        Gives (λ s. (stmt_map (name_at scope.new.names) s, scope.new)) result found }
+    ensures fits { let slots = length scope.new.names in
+        IfOk result (λ s. stmt_fits (arities_of heads.now) slots s ≡ true) }
+    ensures grows { OnOk result (Grows scope.old.names scope.new.names) }
+{
+    let done = effect(alloc, heads, &scope.names, form, word, behind)?;
+    Ok(Stmt {
+        kind: StmtKind::Do(done),
+    })
+}
+
+// The statements of a branch.
+#[cycle(statement)]
+#[tactic(auto, using(crate::proofs::StatementWalk::headed_block, crate::proofs::StatementWalk::no_block))]
+fn block<'a>(
+    alloc: Global,
+    heads: &Heads<'_>,
+    scope: &mut Scope<'a>,
+    form: &'a Sexpr,
+) -> Result<Block, CheckFault>
+    ensures gives { let found = block_in heads.now scope.old form.now in
+        Gives (λ ss. (stmts_map (name_at scope.new.names) ss, scope.new)) result found }
+    ensures fits { let slots = length scope.new.names in
+        IfOk result (λ ss. stmts_fit (arities_of heads.now) slots ss ≡ true) }
+    ensures grows { OnOk result (Grows scope.old.names scope.new.names) }
+{
+    match headed(form) {
+        Some((first, behind)) => do_block(alloc, heads, scope, form, word_from(first), behind),
+        None => Err(fault_at(CheckKind::Form, form)),
+    }
+}
+
+// The statements behind the word for a branch.
+#[cycle(statement)]
+fn do_block<'a>(
+    alloc: Global,
+    heads: &Heads<'_>,
+    scope: &mut Scope<'a>,
+    form: &'a Sexpr,
+    word: Option<Word>,
+    behind: &'a [Sexpr],
+) -> Result<Block, CheckFault>
+    ensures gives { let found = stmts_in heads.now scope.old (plain_forms behind.now) in
+        Gives (λ ss. (stmts_map (name_at scope.new.names) ss, scope.new)) result
+        (behind_do (span_of form.now) word found) }
+    ensures fits { let slots = length scope.new.names in
+        IfOk result (λ ss. stmts_fit (arities_of heads.now) slots ss ≡ true) }
+    ensures grows { OnOk result (Grows scope.old.names scope.new.names) }
+{
+    match word {
+        Some(Word::Do) => statements(alloc, heads, scope, behind),
+        _ => Err(fault_at(CheckKind::Form, form)),
+    }
+}
+
+/// The statements that the forms are. Each is counted before it is looked at.
+#[cycle(statement)]
+pub fn statements<'a>(
+    alloc: Global,
+    heads: &Heads<'_>,
+    scope: &mut Scope<'a>,
+    forms: &'a [Sexpr],
+) -> Result<Block, CheckFault>
+    ensures gives { let found = stmts_in heads.now scope.old (plain_forms forms.now) in
+        Gives (λ ss. (stmts_map (name_at scope.new.names) ss, scope.new)) result found }
+    ensures fits { let slots = length scope.new.names in
+        IfOk result (λ ss. stmts_fit (arities_of heads.now) slots ss ≡ true) }
+    ensures grows { OnOk result (Grows scope.old.names scope.new.names) }
+{
+    let mut items = Vec::new(alloc);
+    for form in forms {
+        count_statement(scope, form)?;
+        items.push(statement(alloc, heads, scope, form)?)?;
+    }
+    Ok(Block { items })
+}
+
+// Counts the statement at the form.
+fn count_statement(scope: &mut Scope<'_>, form: &Sexpr) -> Result<(), CheckFault>
+    ensures gives { let found = counted scope.old (span_of form.now) in
+        Gives (λ _. scope.new) result found }
+    ensures names { scope.new.names ≡ scope.old.names }
+{
+    if scope.statements >= STATEMENT_LIMIT {
+        return Err(fault_at(CheckKind::Limit, form));
+    }
+    scope.statements += 1;
+    Ok(())
+}
