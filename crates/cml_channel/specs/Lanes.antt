@@ -1,0 +1,36 @@
+-- The offers that wait on one side, by thread and leaf.
+use Rattle.std.specs.Prelude.{ℕ, ◌==◌, Bool, not, nat_lt, nat_le, List, ◌++◌, map, filter}
+use Rattle.cml_value.specs.declared.number.Tid.{Tid}
+use Rattle.cml_scan.specs.declared.meet.Place.{Place}
+use Rattle.cml_channel.specs.declared.lane.Bound.{Bound}
+use Rattle.cml_channel.specs.declared.lane.Bound.TheVariants.{Below, UpTo}
+
+-- a lane: the offers, in order, and how many more can come without taking memory
+pub record PlainLane : Type 0 where
+  pub places : List Place
+  pub room : ℕ
+
+-- the offer is this thread's
+abbrev pub is_own : Tid → Place → Bool
+is_own tid q = tid.0 == q.tid.0
+
+-- the offer is another thread's
+abbrev pub is_others : Tid → Place → Bool
+is_others tid q = not (is_own tid q)
+
+-- the offers of the other threads, in order
+abbrev pub others : Tid → List Place → List Place
+others tid ps = filter (is_others tid) ps
+
+-- these leaves of the thread, as offers
+abbrev pub run : Tid → List ℕ → List Place
+run tid leaves = map (λ leaf. record { tid = tid; leaf = leaf }) leaves
+
+-- with the offers of one more thread: behind those of the threads below it, and before those of the threads above it
+abbrev pub with_run : Tid → List ℕ → List Place → List Place
+with_run tid leaves ps = filter (λ q. nat_lt q.tid.0 tid.0) ps ++ (run tid leaves ++ filter (λ q. nat_lt tid.0 q.tid.0) ps)
+
+-- the offer stands below where a search in a lane ends
+abbrev pub under : Bound → Place → Bool
+under (Below tid) q = nat_lt q.tid.0 tid.0
+under (UpTo tid) q = nat_le q.tid.0 tid.0

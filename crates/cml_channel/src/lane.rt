@@ -1,0 +1,221 @@
+//! The offers that wait on one side of one object.
+
+ghost use Rattle.std.specs.Prelude.{◌≡◌, ◌≤◌, ◌<◌, ◌+◌, ◌-◌, ◌*◌, ◌^◌, ℕ, List, [], nat_lt, ◌++◌, length, filter, take, drop, OnOk, slice_index_or, vec_len};
+ghost use Rattle.std.specs.List.{list_any};
+ghost use Rattle.std.specs.Vec.{vec_capacity};
+ghost use Rattle.cml_scan.specs.declared.meet.Place.{Place};
+ghost use Rattle.cml_scan.specs.Order.{Every, Ascends, before};
+ghost use Rattle.cml_channel.specs.Lanes as spec;
+
+use crate::tally::Tally;
+use cml_scan::Place;
+use cml_value::Tid;
+use std::alloc::{AllocError, Global};
+use std::marker::Model;
+
+// Where a search in a lane ends.
+#[derive(Clone, Copy)]
+enum Bound {
+    // Behind the offers of the threads below this one.
+    Below(Tid),
+    // Behind the offers of this thread and of those below it.
+    UpTo(Tid),
+}
+
+/// Offers of leaves by thread and leaf, as those of one side of one channel. The offers of one thread
+/// come and go at once. One can be read by [`Lane::look`] alone, which counts the look.
+#[derive(Drop)]
+pub struct Lane {
+    places: Vec<Place>,
+}
+
+impl Model for Lane {
+    ghost use Rattle.std.specs.Prelude.{◌-◌, vec_len};
+    ghost use Rattle.std.specs.Vec.{vec_capacity};
+    ghost use Rattle.cml_scan.specs.Order.{Ascends, before};
+    ghost use Rattle.cml_channel.specs.Lanes.{PlainLane};
+
+    ghost Value = { PlainLane };
+
+    ghost view = { λ l. record { places = l.places.items; room = vec_capacity l.places - vec_len l.places } };
+
+    ghost invariant = { λ l. Ascends before l.places.items };
+}
+
+impl Lane {
+    /// A lane without offers.
+    pub fn new(alloc: Global) -> Lane
+        ensures { result.places ≡ [] }
+    {
+        Lane {
+            places: Vec::new(alloc),
+        }
+    }
+
+    /// How many offers there are.
+    pub fn len(&self) -> usize
+        ensures { result ≡ length self.now.places }
+    {
+        self.places.len()
+    }
+
+    /// The offer at this place in the order.
+    pub fn look(&self, k: usize, tally: &mut Tally) -> Place
+        requires { k < length self.now.places }
+        ensures value { result ≡ slice_index_or self.now.places k result }
+        ensures more { tally.old < u64.MAX → tally.new ≡ tally.old + 1 }
+        ensures stays { tally.old ≡ u64.MAX → tally.new ≡ tally.old }
+        ensures most { tally.new ≤ tally.old + 1 }
+    {
+        tally.add();
+        self.places[k]
+    }
+
+    // How many offers stand below the bound.
+    fn count_under(&self, bound: Bound, tally: &mut Tally) -> usize
+        ensures count { result ≡ length (filter (spec.under bound) self.now.places) }
+        ensures cost { (digits : ℕ) → length self.now.places < 2 ^ digits → tally.new ≤ tally.old + digits }
+    {
+        let mut low = 0;
+        let mut high = self.places.len();
+        while low < high {
+            let middle = low + (high - low) / 2;
+            let seen = self.look(middle, tally);
+            if is_under(bound, seen) {
+                low = middle + 1;
+            } else {
+                high = middle;
+            }
+        }
+        low
+    }
+
+    /// How many offers are of other threads than this one.
+    pub fn others_count(&self, tid: Tid, tally: &mut Tally) -> usize
+        ensures count { result ≡ length (spec.others tid self.now.places) }
+        ensures cost { (digits : ℕ) → length self.now.places < 2 ^ digits →
+            tally.new ≤ tally.old + 2 * digits }
+    {
+        let _ = &self.places;
+        let low = self.count_under(Bound::Below(tid), tally);
+        let high = self.count_under(Bound::UpTo(tid), tally);
+        low + (self.len() - high)
+    }
+
+    /// The offer at this place among those of other threads than this one.
+    pub fn other(&self, tid: Tid, j: usize, tally: &mut Tally) -> Place
+        requires { j < length (spec.others tid self.now.places) }
+        ensures value { result ≡ slice_index_or (spec.others tid self.now.places) j result }
+        ensures cost { (digits : ℕ) → length self.now.places < 2 ^ digits →
+            tally.new ≤ tally.old + (2 * digits + 1) }
+    {
+        let _ = &self.places;
+        let _len = self.len();
+        let low = self.count_under(Bound::Below(tid), tally);
+        let high = self.count_under(Bound::UpTo(tid), tally);
+        let k = if j < low { j } else { high + (j - low) };
+        self.look(k, tally)
+    }
+
+    /// Whether a thread other than this one has an offer.
+    pub fn has_other(&self, tid: Tid, tally: &mut Tally) -> bool
+        ensures value { result ≡ list_any (spec.is_others tid) self.now.places }
+        ensures cost { tally.new ≤ tally.old + 2 }
+    {
+        let _ = &self.places;
+        let len = self.len();
+        if len == 0 {
+            return false;
+        }
+        let first = self.look(0, tally);
+        if first.tid.0 != tid.0 {
+            return true;
+        }
+        let last = self.look(len - 1, tally);
+        last.tid.0 != tid.0
+    }
+
+    /// Makes room for this many more offers.
+    ///
+    /// # Errors
+    /// Want of memory. The offers are as they were.
+    pub fn reserve(&mut self, additional: usize) -> Result<(), AllocError>
+        ensures same { self.new.places ≡ self.old.places }
+        ensures ok { OnOk result (additional ≤ self.new.room) }
+        ensures kept { self.old.room ≤ self.new.room }
+    {
+        self.places.reserve(additional)
+    }
+
+    /// The offers of these leaves of the thread come, for which there is room. It takes no memory.
+    pub fn come(&mut self, tid: Tid, leaves: &[u32], tally: &mut Tally)
+        requires room { length leaves.now ≤ self.old.room }
+        requires new { Every (spec.is_others tid) self.old.places }
+        requires ascend { Ascends nat_lt leaves.now }
+        ensures places { self.new.places ≡ spec.with_run tid leaves.now self.old.places }
+        ensures sorted { Ascends before self.new.places }
+        ensures room { self.old.room ≤ self.new.room + length leaves.now }
+        ensures cost { (digits : ℕ) → length self.old.places < 2 ^ digits → tally.new ≤ tally.old + digits }
+    {
+        let at = self.count_under(Bound::Below(tid), tally);
+        let tail = self.len();
+        push_run(&mut self.places, tid, leaves);
+        move_tail_to(&mut self.places, tail, at);
+    }
+
+    /// All offers of the thread go, of which there are this many. It takes no memory.
+    pub fn go(&mut self, tid: Tid, count: usize, tally: &mut Tally)
+        requires { count ≡ length (filter (spec.is_own tid) self.old.places) }
+        ensures places { self.new.places ≡ spec.others tid self.old.places }
+        ensures sorted { Ascends before self.new.places }
+        ensures room { self.old.room ≤ self.new.room }
+        ensures cost { (digits : ℕ) → length self.old.places < 2 ^ digits → tally.new ≤ tally.old + digits }
+    {
+        let at = self.count_under(Bound::Below(tid), tally);
+        remove_run(&mut self.places, at, count);
+    }
+}
+
+fn is_under(bound: Bound, place: Place) -> bool
+    ensures { result ≡ spec.under bound place }
+{
+    match bound {
+        Bound::Below(tid) => place.tid.0 < tid.0,
+        Bound::UpTo(tid) => place.tid.0 <= tid.0,
+    }
+}
+
+// Puts the offers behind those that stand there. It takes no memory.
+fn push_run(places: &mut Vec<Place>, tid: Tid, leaves: &[u32])
+    requires { length leaves.now ≤ vec_capacity places.old - vec_len places.old }
+    ensures items { places.new.items ≡ places.old.items ++ spec.run tid leaves.now }
+    ensures len { vec_len places.new ≡ vec_len places.old + length leaves.now }
+    ensures capacity { vec_capacity places.new ≡ vec_capacity places.old }
+{
+    for leaf in leaves {
+        places.push_reserved(Place { tid, leaf: *leaf });
+    }
+}
+
+// Moves the last offers, so many that `tail` stand before them, to the place `at`.
+fn move_tail_to(places: &mut [Place], tail: usize, at: usize)
+    requires before { at ≤ tail }
+    requires within { tail ≤ length places.old }
+    ensures len { length places.new ≡ length places.old }
+    ensures after { (front back : List Place) → places.old ≡ front ++ back → length front ≡ tail →
+        places.new ≡ take at front ++ (back ++ drop at front) }
+{
+    places[at..].rotate_left(tail - at);
+}
+
+// Takes this many offers away from the place `at` on.
+fn remove_run(places: &mut Vec<Place>, at: usize, count: usize)
+    requires { at + count ≤ length places.old.items }
+    ensures items { places.new.items ≡ take at places.old.items ++ drop (at + count) places.old.items }
+    ensures len { vec_len places.new + count ≡ vec_len places.old }
+    ensures capacity { vec_capacity places.new ≡ vec_capacity places.old }
+{
+    let len = places.len();
+    places[at..].rotate_left(count);
+    places.truncate(len - count);
+}
