@@ -5,3 +5,4 @@ pub mod Places
 pub mod Spending
 pub mod Plugs
 pub mod Members
+pub mod Asked

@@ -1,10 +1,11 @@
 -- An event in its frames: what is unforced in it, what replacing that gives, how deep it is and of how many nodes.
-use Rattle.std.proofs.Common.{◌≡◌, ℕ, ◌+◌, max, Option, Some, None, List, [], ◌∷◌, ◌++◌, map, length, refl, ap, sym, ◌∙◌, arith}
-use Rattle.cml_value.specs.Value.{PlainEvent, choose, wrap, scope, PlainEvents, no_events, events_and, events, PlainValue, values, no_values, values_and}
+use Rattle.std.proofs.Common.{◌≡◌, ℕ, ◌+◌, max, Option, Some, None, List, [], ◌∷◌, ◌++◌, map, length, drop, ◌≤◌, append-nil, refl, ap, sym, ◌∙◌, arith}
+use Rattle.std.proofs.lemmas.List.{drop_all}
+use Rattle.cml_value.specs.Value.{PlainFunction, function, func_of, args_of, event, nack, leaf, PlainEvent, choose, wrap, scope, PlainEvents, no_events, events_and, events, PlainValue, values, no_values, values_and}
 use Rattle.cml_value.specs.Group.{PlainGroup, PlainGroups, no_groups, groups_and, groups, group_depth, groups_depth, group_nodes, groups_nodes}
 use Rattle.cml_value.specs.Group.{never as never_group, leaf as leaf_group, choose as choose_group, wrap as wrap_group, scope as scope_group}
 use Rattle.cml_value.specs.Limits.{event_depth, events_depth, event_nodes, events_nodes}
-use Rattle.cml_group.specs.Force.{PlainAsk, or_else, unforced, unforced_of_all, where_found, replaced, replaced_in_all, with_last, event_of, events_of}
+use Rattle.cml_group.specs.Force.{PlainAsk, or_else, unforced, unforced_of_all, where_found, replaced, replaced_in_all, with_last, given_nack, event_of, events_of}
 use Rattle.cml_group.specs.Frames.{PlainFrame, in_choice, in_wrap, in_scope, choice, framed, plug, side_depth, side_nodes, sides_depth, sides_nodes}
 
 -- nothing is unforced in a forced event
@@ -137,3 +138,14 @@ values_push (w ∷ ws) v = ap (λ t. values_and w t) (values_push ws v)
 pub ruleset pushed = (choice_push, choice_whole, plug_push)
 
 pub ruleset measured = (depth_plug, nodes_plug)
+
+-- a function given a nack's event, from its parts
+pub given_by : (k n : ℕ) (f : PlainFunction) (vs ws : List PlainValue) (v : PlainValue) → v ≡ event (leaf (nack k)) → n ≡ func_of f → values vs ≡ args_of f → ws ≡ vs ++ v ∷ [] →
+    function n (values ws) ≡ given_nack k f
+given_by k n (function m us) vs ws v a b c d =
+    let last = event (leaf (nack k)) in
+    ap (function n) (ap values d ∙ values_push vs v ∙ ap (λ x. with_last x (values vs)) a ∙ ap (with_last last) c) ∙ ap (λ x. function x (with_last last us)) b
+
+-- all of a list was taken over
+pub all_taken : {A : Type 0} (xs ys : List A) (i : ℕ) → length ys ≤ i → xs ++ drop i ys ≡ ys → xs ≡ ys
+all_taken xs ys i h w = sym (append-nil xs) ∙ ap (λ l. xs ++ l) (sym (drop_all i ys h)) ∙ w

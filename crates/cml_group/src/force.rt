@@ -1,6 +1,6 @@
 //! The forcing of an event.
 
-ghost use Rattle.std.specs.Prelude.{◌≡◌, ◌∷◌, ◌+◌, true, Some, IfOk, IfErr, OnOk, OnErr};
+ghost use Rattle.std.specs.Prelude.{◌≡◌, ◌∷◌, ◌+◌, true, Some, IfOk, IfErr, IfSome, OnOk, OnErr, is_some};
 ghost use Rattle.cml_value.specs.Value.{PlainFunction, PlainEvent, guard, scope};
 ghost use Rattle.cml_value.specs.Limits.{event_nodes, event_fits, max_nodes};
 ghost use Rattle.cml_group.specs.Force.{calls, needs_nack, unforced, replaced, given_nack, event_of, AwaitsEvent, AwaitsNack};
@@ -113,6 +113,61 @@ fn round_scope(alloc: Global, nack: NackId, frames: &[Frame]) -> Result<Vec<Fram
     Ok(all)
 }
 
+// The steps, each to a forcing of its own: copies share what is large, so what was there stays as it is where memory runs out.
+impl Forcing {
+    // How many nodes may still be added to the event with this answer in its place, where all of it is within the limits.
+    fn spend(&self, answer: &Event) -> Option<u32>
+        requires { AwaitsEvent self.now }
+        ensures enough { is_some result ≡ event_fits (replaced answer.now self.now) }
+        ensures left { IfSome result (λ left.
+            left + event_nodes (replaced answer.now self.now) ≡ max_nodes) }
+    {
+        let Part::Open(frames, _) = &self.part else {
+            return None;
+        };
+        spend_within(self.room, frames, answer)
+    }
+
+    // The forcing with the answer in its place, to which so many nodes may still be added.
+    fn with_answer(&self, alloc: Global, answer: &Event, left: u32) -> Result<Forcing, AllocError>
+        requires awaits { AwaitsEvent self.now }
+        requires fits { event_fits (replaced answer.now self.now) ≡ true }
+        requires left { left + event_nodes (replaced answer.now self.now) ≡ max_nodes }
+        ensures { IfOk result (λ next. next ≡ replaced answer.now self.now) }
+    {
+        let Part::Open(frames, _) = &self.part else {
+            return Err(AllocError);
+        };
+        let part = put_in(alloc, frames, answer)?;
+        let room = next_room(&part, left);
+        Ok(Forcing { part, room })
+    }
+
+    // The function, given the nack, and the forcing with a guard of it in the withNack's place, in the scope of the nack.
+    fn with_nack(&self, alloc: Global, nack: NackId) -> Result<(FnRef, Forcing), AllocError>
+        requires { AwaitsNack self.now }
+        ensures function { IfOk result (λ both. (f : PlainFunction) →
+            unforced self.now ≡ Some (needs_nack f) → both.0 ≡ given_nack nack.0 f) }
+        ensures next { IfOk result (λ both.
+            both.1 ≡ replaced (scope nack.0 (guard both.0)) self.now) }
+        ensures asks { IfOk result (λ both. unforced both.1 ≡ Some (calls both.0)) }
+        ensures branch { IfOk result (λ both. (answer : PlainEvent) →
+            replaced answer both.1 ≡ replaced (scope nack.0 answer) self.now) }
+    {
+        let Part::Open(frames, hole) = &self.part else {
+            return Err(AllocError);
+        };
+        let Hole::WithNack(f) = hole else {
+            return Err(AllocError);
+        };
+        let given = with_nack_event(alloc, f, nack)?;
+        let kept = given.copy()?;
+        let room = room_in_scope(self.room, frames, nack);
+        let part = Part::Open(round_scope(alloc, nack, frames)?, Hole::Guard(kept));
+        Ok((given, Forcing { part, room }))
+    }
+}
+
 impl Forcing {
     /// The forcing of this event, up to its first guard or withNack.
     ///
@@ -140,8 +195,10 @@ impl Forcing {
     {
         match &self.part {
             Part::Whole(_) => Ok(Next::Ready),
-            Part::Open(_, Hole::Guard(f)) => Ok(Next::Call(f.copy()?)),
-            Part::Open(_, Hole::WithNack(_)) => Ok(Next::NeedNack),
+            Part::Open(_, hole) => match hole {
+                Hole::Guard(f) => Ok(Next::Call(f.copy()?)),
+                Hole::WithNack(_) => Ok(Next::NeedNack),
+            },
         }
     }
 
@@ -160,15 +217,8 @@ impl Forcing {
             replaced answer self.new ≡ replaced (scope nack.0 answer) self.old) }
         ensures err { OnErr result (self.new ≡ self.old) }
     {
-        let Part::Open(frames, Hole::WithNack(f)) = &self.part else {
-            return Err(AllocError);
-        };
-        let given = with_nack_event(alloc, f, nack)?;
-        let kept = given.copy()?;
-        let room = room_in_scope(self.room, frames, nack);
-        let frames = round_scope(alloc, nack, frames)?;
-        self.room = room;
-        self.part = Part::Open(frames, Hole::Guard(kept));
+        let (given, next) = self.with_nack(alloc, nack)?;
+        *self = next;
         Ok(given)
     }
 
@@ -184,20 +234,15 @@ impl Forcing {
         ensures err { IfErr result (λ fault. RefusesAnswer fault answer (replaced answer self.old)) }
         ensures unchanged { OnErr result (self.new ≡ self.old) }
     {
-        let Part::Open(frames, _) = &self.part else {
-            return Err(ForceFault::Memory(answer));
-        };
-        let Some(left) = spend_within(self.room, frames, &answer) else {
+        let Some(left) = self.spend(&answer) else {
             return Err(ForceFault::Deep(answer));
         };
-        match put_in(alloc, frames, &answer) {
-            Ok(part) => {
-                self.room = next_room(&part, left);
-                self.part = part;
-                Ok(())
-            }
-            Err(_) => Err(ForceFault::Memory(answer)),
-        }
+        let Ok(next) = self.with_answer(alloc, &answer, left) else {
+            return Err(ForceFault::Memory(answer));
+        };
+        drop(answer);
+        *self = next;
+        Ok(())
     }
 
     /// The group that the event was forced to, where nothing is asked for.
