@@ -1,6 +1,6 @@
 -- What a forcing asks for and how an answer is put in, by how it keeps the event.
-use Rattle.std.proofs.Common.{◌≡◌, ℕ, Option, Some, None, List, [], ◌∷◌, refl, ap, sym, ◌∙◌}
-use Rattle.cml_value.specs.Value.{PlainEvent, guard, with_nack, scope, PlainFunction}
+use Rattle.std.proofs.Common.{◌≡◌, ℕ, Option, Some, None, List, refl, ap, sym, ◌∙◌}
+use Rattle.cml_value.specs.Value.{PlainEvent, guard, scope, PlainFunction}
 use Rattle.cml_group.specs.Force.{PlainAsk, calls, needs_nack, unforced, replaced, event_of}
 use Rattle.cml_group.specs.Frames.{PlainFrame, plug}
 use Rattle.cml_group.specs.FrameViews.{plain_hole, plain_part}

@@ -1,7 +1,7 @@
 -- An event in its frames: what is unforced in it, what replacing that gives, how deep it is and of how many nodes.
-use Rattle.std.proofs.Common.{◌≡◌, ℕ, ◌+◌, max, Option, Some, None, List, [], ◌∷◌, ◌++◌, map, length, drop, ◌≤◌, append-nil, refl, ap, sym, ◌∙◌, arith}
+use Rattle.std.proofs.Common.{◌≡◌, ℕ, ◌+◌, max, Some, None, List, [], ◌∷◌, ◌++◌, map, length, drop, ◌≤◌, append-nil, refl, ap, sym, ◌∙◌, arith}
 use Rattle.std.proofs.lemmas.List.{drop_all}
-use Rattle.cml_value.specs.Value.{PlainFunction, function, func_of, args_of, event, nack, leaf, PlainEvent, choose, wrap, scope, PlainEvents, no_events, events_and, events, PlainValue, values, no_values, values_and}
+use Rattle.cml_value.specs.Value.{PlainFunction, function, func_of, args_of, event, nack, leaf, PlainEvent, choose, events_and, events, PlainValue, values, values_and}
 use Rattle.cml_value.specs.Group.{PlainGroup, PlainGroups, no_groups, groups_and, groups, group_depth, groups_depth, group_nodes, groups_nodes}
 use Rattle.cml_value.specs.Group.{never as never_group, leaf as leaf_group, choose as choose_group, wrap as wrap_group, scope as scope_group}
 use Rattle.cml_value.specs.Limits.{event_depth, events_depth, event_nodes, events_nodes}

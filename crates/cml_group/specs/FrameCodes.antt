@@ -1,7 +1,7 @@
 -- A code of each frame: a tree of numbers from which it can be read back. The toolchain asks for one; no rule speaks of it.
-use Rattle.std.specs.Prelude.{◌≡◌, ℕ, List, refl}
+use Rattle.std.specs.Prelude.{◌≡◌}
 use Rattle.std.specs.Coded.{Coded, coded_list}
-use base.Stored.{Gv, gnil, gnum, gcons}
+use base.Stored.{Gv, gnum, gcons}
 use Rattle.cml_value.specs.Codes.{event_code, function_code}
 use Rattle.cml_value.specs.GroupCodes.{group_code}
 use Rattle.cml_group.specs.Frames.{PlainFrame, in_choice, in_wrap, in_scope}

@@ -1,5 +1,5 @@
 -- What the parts of a forcing are seen as, from their fields.
-use Rattle.std.specs.Prelude.{◌≡◌, ℕ, List, drop, Option}
+use Rattle.std.specs.Prelude.{ℕ, drop, Option}
 use Rattle.cml_value.specs.Value.{PlainEvent, guard, with_nack}
 use Rattle.cml_group.specs.Force.{event_of}
 use Rattle.cml_group.specs.Frames.{PlainFrame, in_choice, in_wrap, in_scope, plug, IsRoom}

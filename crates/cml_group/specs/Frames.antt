@@ -1,7 +1,7 @@
 -- How a forcing keeps the event: what stands round the place where it goes on, frame by frame, the innermost first. No rule
 -- speaks of it.
-use Rattle.std.specs.Prelude.{◌≡◌, ℕ, ◌+◌, ◌≤◌, max, List, [], ◌∷◌, ◌++◌, map, length, drop, Option, Some, None, true, false}
-use Rattle.cml_value.specs.Value.{PlainFunction, PlainEvent, choose, wrap, guard, with_nack, scope, events}
+use Rattle.std.specs.Prelude.{◌≡◌, ℕ, ◌+◌, ◌≤◌, max, List, [], ◌∷◌, ◌++◌, map, length, Option, Some, None, false}
+use Rattle.cml_value.specs.Value.{PlainFunction, PlainEvent, choose, wrap, scope, events}
 use Rattle.cml_value.specs.Group.{PlainGroup, groups, groups_depth, groups_nodes}
 use Rattle.cml_value.specs.Limits.{events_depth, events_nodes, function_depth, function_nodes, event_fits, max_depth, max_nodes}
 use Rattle.cml_group.specs.Force.{event_of}

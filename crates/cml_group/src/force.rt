@@ -15,7 +15,9 @@ mod part;
 use crate::fault::ForceFault;
 use crate::force::frame::{Frame, FrameKind, room_in_scope, room_of, spend_within};
 use crate::force::part::{Hole, Part, climb, force};
-use cml_value::{Base, BaseKind, Event, EventKind, FnRef, Group, GroupKind, MAX_DEPTH, MAX_NODES, NackId, Value};
+use cml_value::{
+    Base, BaseKind, Event, EventKind, FnRef, Group, GroupKind, MAX_DEPTH, MAX_NODES, NackId, Value,
+};
 use std::alloc::{AllocError, AllocFailed, Global};
 use std::marker::Model;
 

@@ -56,7 +56,11 @@ fn spend_all(members: &[Group], depth: u32, budget: u32) -> Option<u32>
 }
 
 // Puts the groups behind those of the pieces, in one piece with the last pieces that are no longer.
-fn add_piece(pieces: &mut Vec<Arc<Vec<Group>>>, alloc: Global, last: Vec<Group>) -> Result<(), AllocError>
+fn add_piece(
+    pieces: &mut Vec<Arc<Vec<Group>>>,
+    alloc: Global,
+    last: Vec<Group>,
+) -> Result<(), AllocError>
     ensures { OnOk result (flat_map (λ p. p.value.items) pieces.new.items
         ≡ flat_map (λ p. p.value.items) pieces.old.items ++ last.items) }
 {

@@ -1,4 +1,4 @@
-use Rattle.std.proofs.Common.{◌≡◌, None, ap, sym, ◌∙◌}
+use Rattle.std.proofs.Common.{ap, ◌∙◌}
 use Rattle.cml_group.proofs.Asked.{part_ask, asked}
 use Rattle.cml_group.proofs.force.Forcing.finish.Goals as goal
 

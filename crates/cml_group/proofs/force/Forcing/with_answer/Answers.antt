@@ -1,4 +1,4 @@
-use Rattle.std.proofs.Common.{◌≡◌, ap, sym, ◌∙◌}
+use Rattle.std.proofs.Common.{ap, sym, ◌∙◌}
 use Rattle.cml_value.specs.Limits.{event_fits}
 use Rattle.cml_group.specs.Frames.{plug}
 use Rattle.cml_group.proofs.Asked.{part_put, put}

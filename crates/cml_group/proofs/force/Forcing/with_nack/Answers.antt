@@ -1,4 +1,4 @@
-use Rattle.std.proofs.Common.{◌≡◌, ◌∷◌, Some, ap, sym, ◌∙◌}
+use Rattle.std.proofs.Common.{◌∷◌, Some, ap, sym, ◌∙◌}
 use Rattle.cml_value.specs.Value.{guard, scope}
 use Rattle.cml_group.specs.Force.{calls, unforced, replaced, given_nack}
 use Rattle.cml_group.specs.Frames.{plug, in_scope}
@@ -15,18 +15,18 @@ returns-clause-next c =
     let k = c.args.nack.0 in
     let round = c.in_ok-round_scope.ensures ∙ ap (λ l. in_scope k ∷ l) c.deref-2.ensures.value in
     ap (λ l. plug l (guard c.in_ok-kept.kept)) round ∙ ap (λ f. plug c.in-Open.frames.items (scope k (guard f))) c.in_ok-kept.ensures
-      ∙ sym (put c.self.inside.part (scope k (guard c.in_ok-given.given)) _ c.self.view_is ∙ ap (part_put (scope k (guard c.in_ok-given.given))) c.in-Open.is)
+    ∙ sym (put c.self.inside.part (scope k (guard c.in_ok-given.given)) _ c.self.view_is ∙ ap (part_put (scope k (guard c.in_ok-given.given))) c.in-Open.is)
 
 pub returns-clause-asks : goal.returns-clause-asks
 returns-clause-asks c =
     let k = c.args.nack.0 in
     let round = c.in_ok-round_scope.ensures ∙ ap (λ l. in_scope k ∷ l) c.deref-2.ensures.value in
     ap (λ l. unforced (plug l (guard c.in_ok-kept.kept))) round ∙ in_scope_asks c.in-Open.frames.items k c.in_ok-kept.kept
-      ∙ ap (λ f. Some (calls f)) c.in_ok-kept.ensures
+    ∙ ap (λ f. Some (calls f)) c.in_ok-kept.ensures
 
 pub returns-clause-branch : goal.returns-clause-branch
 returns-clause-branch c = λ answer.
     let k = c.args.nack.0 in
     let round = c.in_ok-round_scope.ensures ∙ ap (λ l. in_scope k ∷ l) c.deref-2.ensures.value in
     ap (λ l. replaced answer (plug l (guard c.in_ok-kept.kept))) round ∙ in_scope_put c.in-Open.frames.items k c.in_ok-kept.kept answer
-      ∙ sym (put c.self.inside.part (scope k answer) _ c.self.view_is ∙ ap (part_put (scope k answer)) c.in-Open.is)
+    ∙ sym (put c.self.inside.part (scope k answer) _ c.self.view_is ∙ ap (part_put (scope k answer)) c.in-Open.is)
