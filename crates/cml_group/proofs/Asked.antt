@@ -3,16 +3,12 @@ use Rattle.std.proofs.Common.{◌≡◌, ℕ, Option, Some, None, List, refl, ap
 use Rattle.cml_value.specs.Value.{PlainEvent, guard, scope, PlainFunction}
 use Rattle.cml_group.specs.Force.{PlainAsk, calls, needs_nack, unforced, replaced, event_of}
 use Rattle.cml_group.specs.Frames.{PlainFrame, plug}
-use Rattle.cml_group.specs.FrameViews.{plain_hole, plain_part}
+use Rattle.cml_group.specs.FrameViews.{plain_hole, plain_part, hole_ask}
 use Rattle.cml_group.specs.declared.force.part.Hole.{Hole}
 use Rattle.cml_group.specs.declared.force.part.Hole.TheVariants as hole
 use Rattle.cml_group.specs.declared.force.part.Part.{Part}
 use Rattle.cml_group.specs.declared.force.part.Part.TheVariants as part
 use Rattle.cml_group.proofs.Plugs.{none_in, unforced_plug, replaced_plug}
-
-abbrev pub hole_ask : Hole → PlainAsk
-hole_ask (hole.Guard f) = calls f
-hole_ask (hole.WithNack f) = needs_nack f
 
 abbrev pub part_ask : Part → Option PlainAsk
 part_ask (part.Whole g) = None

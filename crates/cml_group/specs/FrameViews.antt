@@ -1,7 +1,7 @@
 -- What the parts of a forcing are seen as, from their fields.
 use Rattle.std.specs.Prelude.{ℕ, drop, Option}
 use Rattle.cml_value.specs.Value.{PlainEvent, guard, with_nack}
-use Rattle.cml_group.specs.Force.{event_of}
+use Rattle.cml_group.specs.Force.{PlainAsk, calls, needs_nack, event_of}
 use Rattle.cml_group.specs.Frames.{PlainFrame, in_choice, in_wrap, in_scope, plug, IsRoom}
 use Rattle.cml_group.specs.declared.force.frame.FrameKind.{FrameKind}
 use Rattle.cml_group.specs.declared.force.frame.FrameKind.TheVariants as frame_kind
@@ -18,6 +18,11 @@ plain_frame (frame_kind.Scope k) = in_scope k.0
 abbrev pub plain_hole : Hole → PlainEvent
 plain_hole (hole.Guard f) = guard f
 plain_hole (hole.WithNack f) = with_nack f
+
+-- what is asked for there
+abbrev pub hole_ask : Hole → PlainAsk
+hole_ask (hole.Guard f) = calls f
+hole_ask (hole.WithNack f) = needs_nack f
 
 abbrev pub plain_part : Part → PlainEvent
 plain_part (part.Whole g) = event_of g

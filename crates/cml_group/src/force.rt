@@ -13,7 +13,7 @@ mod frame;
 mod part;
 
 use crate::fault::ForceFault;
-use crate::force::frame::{Frame, FrameKind, room_in_scope, room_of, spend_within};
+use crate::force::frame::{Frame, FrameKind, add_frames, room_in_scope, room_of, spend_within};
 use crate::force::part::{Hole, Part, climb, force};
 use cml_value::{
     Base, BaseKind, Event, EventKind, FnRef, Group, GroupKind, MAX_DEPTH, MAX_NODES, NackId, Value,
@@ -109,9 +109,7 @@ fn round_scope(alloc: Global, nack: NackId, frames: &[Frame]) -> Result<Vec<Fram
 {
     let mut all = Vec::new(alloc);
     all.push(Frame::new(FrameKind::Scope(nack)))?;
-    for frame in frames {
-        all.push(frame.copy(alloc)?)?;
-    }
+    add_frames(&mut all, alloc, frames)?;
     Ok(all)
 }
 
@@ -164,7 +162,7 @@ impl Forcing {
         };
         let given = with_nack_event(alloc, f, nack)?;
         let kept = given.copy()?;
-        let room = room_in_scope(self.room, frames, nack);
+        let room = room_in_scope(self.room, frames);
         let part = Part::Open(round_scope(alloc, nack, frames)?, Hole::Guard(kept));
         Ok((given, Forcing { part, room }))
     }
@@ -197,10 +195,7 @@ impl Forcing {
     {
         match &self.part {
             Part::Whole(_) => Ok(Next::Ready),
-            Part::Open(_, hole) => match hole {
-                Hole::Guard(f) => Ok(Next::Call(f.copy()?)),
-                Hole::WithNack(_) => Ok(Next::NeedNack),
-            },
+            Part::Open(_, hole) => hole.next(),
         }
     }
 
@@ -245,6 +240,21 @@ impl Forcing {
         drop(answer);
         *self = next;
         Ok(())
+    }
+
+    /// Another owner of the same event being forced. It takes a count for each frame round the place where the forcing goes
+    /// on, whatever is forced already.
+    ///
+    /// # Errors
+    /// Want of memory.
+    pub fn copy(&self, alloc: Global) -> Result<Forcing, AllocError>
+        ensures { IfOk result (λ forcing. forcing ≡ self.now) }
+    {
+        let part = self.part.copy(alloc)?;
+        Ok(Forcing {
+            part,
+            room: self.room,
+        })
     }
 
     /// The group that the event was forced to, where nothing is asked for.

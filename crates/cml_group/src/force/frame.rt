@@ -1,6 +1,6 @@
 //! What stands round the place where a forcing goes on.
 
-ghost use Rattle.std.specs.Prelude.{◌≡◌, ◌+◌, ◌≤◌, ◌∷◌, length, drop, IfOk, is_some, IfSome};
+ghost use Rattle.std.specs.Prelude.{◌≡◌, ℕ, ◌+◌, ◌≤◌, ◌∷◌, ◌++◌, length, drop, IfOk, OnOk, is_some, IfSome};
 ghost use Rattle.cml_value.specs.Value.{events};
 ghost use Rattle.cml_value.specs.Limits.{is_within, events_depth, events_nodes, event_nodes, event_fits, max_depth, max_nodes};
 ghost use Rattle.cml_group.specs.Frames.{plug, side_depth, side_nodes, sides_depth, sides_nodes, in_scope, IsRoom};
@@ -141,11 +141,11 @@ pub fn room_of(frames: &[Frame]) -> Option<u32>
     spend_frames(frames)
 }
 
-/// How many nodes may stand in the scope in the frames.
+/// How many nodes may stand in a scope in the frames.
 #[tactic(auto, using(std::proofs::lemmas::Bool::Decides::nat_tests, crate::proofs::Plugs::measured))]
-pub fn room_in_scope(room: Option<u32>, frames: &[Frame], _nack: NackId) -> Option<u32>
+pub fn room_in_scope(room: Option<u32>, frames: &[Frame]) -> Option<u32>
     requires { IsRoom room frames.now }
-    ensures { IsRoom result (in_scope _nack.0 ∷ frames.now) }
+    ensures { (k : ℕ) → IsRoom result (in_scope k ∷ frames.now) }
 {
     let room = room?;
     if frames.len() > MAX_DEPTH as usize {
@@ -166,4 +166,17 @@ pub fn spend_within(room: Option<u32>, frames: &[Frame], event: &Event) -> Optio
         return None;
     }
     event.spend(MAX_DEPTH - frames.len() as u32, room)
+}
+
+/// Puts copies of the frames behind these.
+///
+/// # Errors
+/// Want of memory.
+pub fn add_frames(all: &mut Vec<Frame>, alloc: Global, frames: &[Frame]) -> Result<(), AllocError>
+    ensures { OnOk result (all.new.items ≡ all.old.items ++ frames.now) }
+{
+    for frame in frames {
+        all.push(frame.copy(alloc)?)?;
+    }
+    Ok(())
 }

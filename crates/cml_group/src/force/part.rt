@@ -1,13 +1,15 @@
 //! An event, forced up to a guard or a withNack.
 
-ghost use Rattle.std.specs.Prelude.{◌≡◌, ◌++◌, drop, map, IfOk};
+ghost use Rattle.std.specs.Prelude.{◌≡◌, ℕ, ◌++◌, drop, Option, Some, IfOk};
 ghost use Rattle.cml_value.specs.Value.{wrap, scope, choose, events};
 ghost use Rattle.cml_group.specs.Force.{event_of};
 ghost use Rattle.cml_group.specs.Frames.{framed, plug, choice};
-ghost use Rattle.cml_group.specs.FrameViews.{plain_part};
+ghost use Rattle.cml_group.specs.FrameViews.{plain_hole, plain_part, hole_ask, IsRoomOf};
+ghost use Rattle.cml_group.specs.Asks.{Asks};
 
+use crate::force::Next;
 use crate::force::done::Done;
-use crate::force::frame::{Frame, FrameKind};
+use crate::force::frame::{Frame, FrameKind, add_frames};
 use cml_value::{Event, EventKind, FnRef, Group, GroupKind, NackId};
 use std::alloc::{AllocError, Global};
 use std::sync::Arc;
@@ -30,7 +32,52 @@ pub enum Part {
     Open(Vec<Frame>, Hole),
 }
 
+impl Hole {
+    // Another owner of the same.
+    fn copy(&self) -> Result<Hole, AllocError>
+        ensures { IfOk result (λ hole. plain_hole hole ≡ plain_hole self.now) }
+    {
+        match self {
+            Hole::Guard(f) => Ok(Hole::Guard(f.copy()?)),
+            Hole::WithNack(f) => Ok(Hole::WithNack(f.copy()?)),
+        }
+    }
+
+    /// What is asked for there.
+    ///
+    /// # Errors
+    /// Want of memory: no more owners of the function can be counted.
+    pub fn next(&self) -> Result<Next, AllocError>
+        ensures { IfOk result (λ next. Asks next (Some (hole_ask self.now))) }
+    {
+        match self {
+            Hole::Guard(f) => Ok(Next::Call(f.copy()?)),
+            Hole::WithNack(_) => Ok(Next::NeedNack),
+        }
+    }
+}
+
 impl Part {
+    /// Another owner of the same.
+    ///
+    /// # Errors
+    /// Want of memory.
+    pub fn copy(&self, alloc: Global) -> Result<Part, AllocError>
+        ensures same { IfOk result (λ part. plain_part part ≡ plain_part self.now) }
+        ensures room { IfOk result (λ part.
+            (room : Option ℕ) → IsRoomOf room self.now → IsRoomOf room part) }
+    {
+        match self {
+            Part::Whole(group) => Ok(Part::Whole(group.copy()?)),
+            Part::Open(frames, hole) => {
+                let hole = hole.copy()?;
+                let mut copies = Vec::new(alloc);
+                add_frames(&mut copies, alloc, frames)?;
+                Ok(Part::Open(copies, hole))
+            }
+        }
+    }
+
     // The event under the wrap.
     #[tactic(auto, using(crate::proofs::Plugs::pushed))]
     fn wrap(self, alloc: Global, function: &FnRef) -> Result<Part, AllocError>

@@ -2,7 +2,8 @@ use Rattle.std.proofs.Common.{◌∷◌, Some, ap, sym, ◌∙◌}
 use Rattle.cml_value.specs.Value.{guard, scope}
 use Rattle.cml_group.specs.Force.{calls, unforced, replaced, given_nack}
 use Rattle.cml_group.specs.Frames.{plug, in_scope}
-use Rattle.cml_group.proofs.Asked.{hole_ask, part_ask, asked, part_put, put, in_scope_asks, in_scope_put, same_nack}
+use Rattle.cml_group.specs.FrameViews.{hole_ask}
+use Rattle.cml_group.proofs.Asked.{part_ask, asked, part_put, put, in_scope_asks, in_scope_put, same_nack}
 use Rattle.cml_group.proofs.force.Forcing.with_nack.Goals as goal
 
 pub returns-clause-function : goal.returns-clause-function
