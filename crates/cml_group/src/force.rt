@@ -122,6 +122,7 @@ impl Forcing {
         ensures left { IfSome result (λ left.
             left + event_nodes (replaced answer.now self.now) ≡ max_nodes) }
     {
+        // An answer is awaited, so there is a place for it.
         let Part::Open(frames, _) = &self.part else {
             return None;
         };
@@ -135,6 +136,7 @@ impl Forcing {
         requires left { left + event_nodes (replaced answer.now self.now) ≡ max_nodes }
         ensures { IfOk result (λ next. next ≡ replaced answer.now self.now) }
     {
+        // The same here.
         let Part::Open(frames, _) = &self.part else {
             return Err(AllocError);
         };
@@ -154,6 +156,7 @@ impl Forcing {
         ensures branch { IfOk result (λ both. (answer : PlainEvent) →
             replaced answer both.1 ≡ replaced (scope nack.0 answer) self.now) }
     {
+        // A nack is awaited, so there is a withNack.
         let Part::Open(frames, hole) = &self.part else {
             return Err(AllocError);
         };
@@ -208,7 +211,8 @@ impl Forcing {
         requires { AwaitsNack self.old }
         ensures function { IfOk result (λ given. (f : PlainFunction) →
             unforced self.old ≡ Some (needs_nack f) → given ≡ given_nack nack.0 f) }
-        ensures ok { IfOk result (λ given. self.new ≡ replaced (scope nack.0 (guard given)) self.old) }
+        ensures ok { IfOk result (λ given.
+            self.new ≡ replaced (scope nack.0 (guard given)) self.old) }
         ensures next { IfOk result (λ given. unforced self.new ≡ Some (calls given)) }
         ensures branch { OnOk result ((answer : PlainEvent) →
             replaced answer self.new ≡ replaced (scope nack.0 answer) self.old) }
@@ -228,7 +232,8 @@ impl Forcing {
         requires { AwaitsEvent self.old }
         ensures ok { OnOk result (self.new ≡ replaced answer self.old) }
         ensures within { OnOk result (event_fits self.new ≡ true) }
-        ensures err { IfErr result (λ fault. RefusesAnswer fault answer (replaced answer self.old)) }
+        ensures err { IfErr result (λ fault.
+            RefusesAnswer fault answer (replaced answer self.old)) }
         ensures unchanged { OnErr result (self.new ≡ self.old) }
     {
         let Some(left) = self.spend(&answer) else {
@@ -264,6 +269,7 @@ impl Forcing {
     {
         match self.part {
             Part::Whole(group) => group,
+            // Nothing is asked for, so it is whole.
             Part::Open(_, _) => Group::new(GroupKind::Never),
         }
     }

@@ -45,7 +45,8 @@ fn add_copies(all: &mut Vec<Group>, groups: &[Group]) -> Result<(), AllocError>
 #[tactic(auto, using(std::proofs::lemmas::Bool::Decides::nat_tests))]
 fn spend_all(members: &[Group], depth: u32, budget: u32) -> Option<u32>
     ensures enough { is_some result
-        ≡ is_within depth budget (groups_depth (groups members.now)) (groups_nodes (groups members.now)) }
+        ≡ is_within depth budget (groups_depth (groups members.now))
+        (groups_nodes (groups members.now)) }
     ensures left { IfSome result (λ left. left + groups_nodes (groups members.now) ≡ budget) }
 {
     let mut left = budget;
@@ -138,7 +139,8 @@ impl Done {
     #[tactic(auto, using(std::proofs::lemmas::Bool::Decides::nat_tests, crate::proofs::Spending::appended))]
     pub fn spend(&self, depth: u32, budget: u32) -> Option<u32>
         ensures enough { is_some result
-            ≡ is_within depth budget (groups_depth (groups self.now)) (groups_nodes (groups self.now)) }
+            ≡ is_within depth budget (groups_depth (groups self.now))
+            (groups_nodes (groups self.now)) }
         ensures left { IfSome result (λ left. left + groups_nodes (groups self.now) ≡ budget) }
     {
         let mut left = budget;

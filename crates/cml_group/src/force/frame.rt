@@ -46,8 +46,10 @@ impl Model for Frame {
 #[tactic(auto, using(std::proofs::lemmas::Bool::Decides::nat_tests))]
 fn spend_from(members: &[Event], next: usize, depth: u32, budget: u32) -> Option<u32>
     ensures enough { is_some result
-        ≡ is_within depth budget (events_depth (events (drop next members.now))) (events_nodes (events (drop next members.now))) }
-    ensures left { IfSome result (λ left. left + events_nodes (events (drop next members.now)) ≡ budget) }
+        ≡ is_within depth budget (events_depth (events (drop next members.now)))
+        (events_nodes (events (drop next members.now))) }
+    ensures left { IfSome result (λ left.
+        left + events_nodes (events (drop next members.now)) ≡ budget) }
 {
     let mut left = budget;
     for i in next..members.len() {
@@ -159,7 +161,8 @@ pub fn room_in_scope(room: Option<u32>, frames: &[Frame]) -> Option<u32>
 pub fn spend_within(room: Option<u32>, frames: &[Frame], event: &Event) -> Option<u32>
     requires { IsRoom room frames.now }
     ensures enough { is_some result ≡ event_fits (plug frames.now event.now) }
-    ensures left { IfSome result (λ left. left + event_nodes (plug frames.now event.now) ≡ max_nodes) }
+    ensures left { IfSome result (λ left.
+        left + event_nodes (plug frames.now event.now) ≡ max_nodes) }
 {
     let room = room?;
     if frames.len() > MAX_DEPTH as usize {

@@ -1,4 +1,4 @@
-use Rattle.std.proofs.Common.{◌≡◌, ap, ◌∙◌}
+use Rattle.std.proofs.Common.{ap, ◌∙◌}
 use Rattle.cml_group.proofs.Asked.{part_ask, asked}
 use Rattle.cml_group.proofs.force.Forcing.next.Goals as goal
 
