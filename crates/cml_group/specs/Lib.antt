@@ -3,3 +3,8 @@ pub mod ScopeCodes
 pub mod LaidOut
 pub mod Faults
 pub mod Laws
+pub mod Force
+pub mod Asks
+pub mod Frames
+pub mod FrameCodes
+pub mod FrameViews

@@ -4,10 +4,12 @@
 
 mod fault;
 mod flat;
+mod force;
 pub mod law;
 mod lay;
 mod limit;
 
-pub use fault::FlatFault;
+pub use fault::{FlatFault, ForceFault};
 pub use flat::{Chosen, Flat, flatten};
+pub use force::{Forcing, Next};
 pub use limit::MAX_LEAVES;

@@ -55,9 +55,10 @@ impl Group {
         self.spend(MAX_DEPTH, MAX_NODES).is_some()
     }
 
-    // What is left of a budget of nodes, where it and the depth are enough.
+    /// What is left of a budget of nodes after the group, where it and the depth are enough for it. It looks at no more
+    /// nodes than the budget.
     #[tactic(auto, using(std::proofs::lemmas::Bool::Decides::nat_tests))]
-    fn spend(&self, depth: u32, budget: u32) -> Option<u32>
+    pub fn spend(&self, depth: u32, budget: u32) -> Option<u32>
         ensures enough { is_some result
             ≡ is_within depth budget (group_depth self.now) (group_nodes self.now) }
         ensures left { IfSome result (λ left. left + group_nodes self.now ≡ budget) }

@@ -104,9 +104,11 @@ impl FnRef {
         count
     }
 
+    /// What is left of a budget of nodes after the captured values, where it and the depth are enough for them. It looks at
+    /// no more nodes than the budget.
     #[cycle(spend_value)]
     #[tactic(auto, using(std::proofs::lemmas::Bool::Decides::nat_tests))]
-    pub(crate) fn spend(&self, depth: u32, budget: u32) -> Option<u32>
+    pub fn spend(&self, depth: u32, budget: u32) -> Option<u32>
         ensures enough { is_some result
             ≡ is_within depth budget (function_depth self.now) (function_nodes self.now) }
         ensures left { IfSome result (λ left. left + function_nodes self.now ≡ budget) }
@@ -217,9 +219,11 @@ impl Event {
         self.spend(MAX_DEPTH, MAX_NODES).is_some()
     }
 
+    /// What is left of a budget of nodes after the event, where it and the depth are enough for it. It looks at no more
+    /// nodes than the budget.
     #[cycle(spend_value)]
     #[tactic(auto, using(std::proofs::lemmas::Bool::Decides::nat_tests))]
-    pub(crate) fn spend(&self, depth: u32, budget: u32) -> Option<u32>
+    pub fn spend(&self, depth: u32, budget: u32) -> Option<u32>
         ensures enough { is_some result
             ≡ is_within depth budget (event_depth self.now) (event_nodes self.now) }
         ensures left { IfSome result (λ left. left + event_nodes self.now ≡ budget) }

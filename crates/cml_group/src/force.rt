@@ -1,0 +1,276 @@
+//! The forcing of an event.
+
+ghost use Rattle.std.specs.Prelude.{◌≡◌, ◌∷◌, ◌+◌, true, Some, IfOk, IfErr, IfSome, OnOk, OnErr, is_some};
+ghost use Rattle.cml_value.specs.Value.{PlainFunction, PlainEvent, guard, scope};
+ghost use Rattle.cml_value.specs.Limits.{event_nodes, event_fits, max_nodes};
+ghost use Rattle.cml_group.specs.Force.{calls, needs_nack, unforced, replaced, given_nack, event_of, AwaitsEvent, AwaitsNack};
+ghost use Rattle.cml_group.specs.Asks.{Asks, RefusesAnswer};
+ghost use Rattle.cml_group.specs.Frames.{in_scope, plug};
+ghost use Rattle.cml_group.specs.FrameViews.{plain_hole, plain_part, IsRoomOf};
+
+mod done;
+mod frame;
+mod part;
+
+use crate::fault::ForceFault;
+use crate::force::frame::{Frame, FrameKind, add_frames, room_in_scope, room_of, spend_within};
+use crate::force::part::{Hole, Part, climb, force};
+use cml_value::{
+    Base, BaseKind, Event, EventKind, FnRef, Group, GroupKind, MAX_DEPTH, MAX_NODES, NackId, Value,
+};
+use std::alloc::{AllocError, AllocFailed, Global};
+use std::marker::Model;
+
+/// What a forcing asks for.
+#[derive(Drop)]
+pub enum Next {
+    /// The event that the function answers.
+    Call(FnRef),
+    /// A fresh nack.
+    NeedNack,
+    /// Nothing: all is forced.
+    Ready,
+}
+
+/// An event being forced: its guards and withNacks give way to the events that their functions answer, one after another.
+/// The event itself is what contracts see of it.
+#[derive(Drop)]
+pub struct Forcing {
+    part: Part,
+    room: Option<u32>,
+}
+
+impl Model for Forcing {
+    ghost use Rattle.cml_value.specs.Value.{PlainEvent};
+    ghost use Rattle.cml_value.specs.Codes.{event_code};
+
+    ghost Value = { PlainEvent };
+
+    ghost coded = { event_code };
+
+    ghost use Rattle.cml_group.specs.FrameViews.{plain_part, IsRoomOf};
+
+    ghost view = { λ a. plain_part a.part };
+
+    ghost invariant = { λ a. IsRoomOf a.room a.part };
+}
+
+// How many nodes may stand where the forcing of this event goes on.
+fn first_room(part: &Part) -> Option<u32>
+    ensures { IsRoomOf result part.now }
+{
+    match part {
+        Part::Whole(_) => None,
+        Part::Open(frames, _) => room_of(frames),
+    }
+}
+
+// The same of an event within the limits, to which so many nodes could be added.
+#[tactic(auto, using(std::proofs::lemmas::Bool::Decides::nat_tests, crate::proofs::Plugs::measured))]
+fn next_room(part: &Part, left: u32) -> Option<u32>
+    requires fits { event_fits (plain_part part.now) ≡ true }
+    requires left { left + event_nodes (plain_part part.now) ≡ max_nodes }
+    ensures { IsRoomOf result part.now }
+{
+    match part {
+        Part::Whole(_) => None,
+        Part::Open(_, Hole::Guard(f) | Hole::WithNack(f)) => {
+            let beside = f.spend(MAX_DEPTH, MAX_NODES - left)?;
+            Some(MAX_NODES - beside + 1)
+        }
+    }
+}
+
+// The answer in the frames, forced up to its first guard or withNack.
+fn put_in(alloc: Global, frames: &[Frame], answer: &Event) -> Result<Part, AllocError>
+    ensures { IfOk result (λ part. plain_part part ≡ plug frames.now answer.now) }
+{
+    let part = force(answer, alloc)?;
+    climb(alloc, frames, part)
+}
+
+// The function, with the event of the nack as its last argument.
+#[tactic(auto, using(crate::proofs::Plugs::values_push))]
+fn with_nack_event(alloc: Global, function: &FnRef, nack: NackId) -> Result<FnRef, AllocError>
+    ensures { IfOk result (λ given. given ≡ given_nack nack.0 function.now) }
+{
+    let mut args = Vec::new(alloc);
+    for argument in function.args() {
+        args.push(argument.copy()?)?;
+    }
+    let event = Event::new(EventKind::Leaf(Base::new(BaseKind::Nack(nack))));
+    args.push(Value::event(alloc, event)?)?;
+    Ok(FnRef::new(alloc, function.func(), args)?)
+}
+
+// The scope of the nack, and these frames round it.
+fn round_scope(alloc: Global, nack: NackId, frames: &[Frame]) -> Result<Vec<Frame>, AllocError>
+    ensures { IfOk result (λ all. all.items ≡ in_scope nack.0 ∷ frames.now) }
+{
+    let mut all = Vec::new(alloc);
+    all.push(Frame::new(FrameKind::Scope(nack)))?;
+    add_frames(&mut all, alloc, frames)?;
+    Ok(all)
+}
+
+// The steps, each to a forcing of its own: copies share what is large, so what was there stays as it is where memory runs out.
+impl Forcing {
+    // How many nodes may still be added to the event with this answer in its place, where all of it is within the limits.
+    fn spend(&self, answer: &Event) -> Option<u32>
+        requires { AwaitsEvent self.now }
+        ensures enough { is_some result ≡ event_fits (replaced answer.now self.now) }
+        ensures left { IfSome result (λ left.
+            left + event_nodes (replaced answer.now self.now) ≡ max_nodes) }
+    {
+        // An answer is awaited, so there is a place for it.
+        let Part::Open(frames, _) = &self.part else {
+            return None;
+        };
+        spend_within(self.room, frames, answer)
+    }
+
+    // The forcing with the answer in its place, to which so many nodes may still be added.
+    fn with_answer(&self, alloc: Global, answer: &Event, left: u32) -> Result<Forcing, AllocError>
+        requires awaits { AwaitsEvent self.now }
+        requires fits { event_fits (replaced answer.now self.now) ≡ true }
+        requires left { left + event_nodes (replaced answer.now self.now) ≡ max_nodes }
+        ensures { IfOk result (λ next. next ≡ replaced answer.now self.now) }
+    {
+        // The same here.
+        let Part::Open(frames, _) = &self.part else {
+            return Err(AllocError);
+        };
+        let part = put_in(alloc, frames, answer)?;
+        let room = next_room(&part, left);
+        Ok(Forcing { part, room })
+    }
+
+    // The function, given the nack, and the forcing with a guard of it in the withNack's place, in the scope of the nack.
+    fn with_nack(&self, alloc: Global, nack: NackId) -> Result<(FnRef, Forcing), AllocError>
+        requires { AwaitsNack self.now }
+        ensures function { IfOk result (λ both. (f : PlainFunction) →
+            unforced self.now ≡ Some (needs_nack f) → both.0 ≡ given_nack nack.0 f) }
+        ensures next { IfOk result (λ both.
+            both.1 ≡ replaced (scope nack.0 (guard both.0)) self.now) }
+        ensures asks { IfOk result (λ both. unforced both.1 ≡ Some (calls both.0)) }
+        ensures branch { IfOk result (λ both. (answer : PlainEvent) →
+            replaced answer both.1 ≡ replaced (scope nack.0 answer) self.now) }
+    {
+        // A nack is awaited, so there is a withNack.
+        let Part::Open(frames, hole) = &self.part else {
+            return Err(AllocError);
+        };
+        let Hole::WithNack(f) = hole else {
+            return Err(AllocError);
+        };
+        let given = with_nack_event(alloc, f, nack)?;
+        let kept = given.copy()?;
+        let room = room_in_scope(self.room, frames);
+        let part = Part::Open(round_scope(alloc, nack, frames)?, Hole::Guard(kept));
+        Ok((given, Forcing { part, room }))
+    }
+}
+
+impl Forcing {
+    /// The forcing of this event, up to its first guard or withNack.
+    ///
+    /// # Errors
+    /// Want of memory, with the event.
+    pub fn start(alloc: Global, event: Event) -> Result<Forcing, AllocFailed<Event>>
+        ensures ok { IfOk result (λ forcing. forcing ≡ event) }
+        ensures err { IfErr result (λ back. back.value ≡ event) }
+    {
+        match force(&event, alloc) {
+            Ok(part) => {
+                let room = first_room(&part);
+                Ok(Forcing { part, room })
+            }
+            Err(_) => Err(AllocFailed { value: event }),
+        }
+    }
+
+    /// What is asked for: the same until it is answered.
+    ///
+    /// # Errors
+    /// Want of memory: no more owners of the function can be counted.
+    pub fn next(&self) -> Result<Next, AllocError>
+        ensures { IfOk result (λ next. Asks next (unforced self.now)) }
+    {
+        match &self.part {
+            Part::Whole(_) => Ok(Next::Ready),
+            Part::Open(_, hole) => hole.next(),
+        }
+    }
+
+    /// Answers with a fresh nack, where one is asked for. The function, with the nack's event as its last argument, is to be
+    /// called next, and the event that it answers will stand in the withNack's place as the branch of the nack.
+    ///
+    /// # Errors
+    /// Want of memory. The forcing is then as it was.
+    pub fn answer_nack(&mut self, alloc: Global, nack: NackId) -> Result<FnRef, AllocError>
+        requires { AwaitsNack self.old }
+        ensures function { IfOk result (λ given. (f : PlainFunction) →
+            unforced self.old ≡ Some (needs_nack f) → given ≡ given_nack nack.0 f) }
+        ensures ok { IfOk result (λ given.
+            self.new ≡ replaced (scope nack.0 (guard given)) self.old) }
+        ensures next { IfOk result (λ given. unforced self.new ≡ Some (calls given)) }
+        ensures branch { OnOk result ((answer : PlainEvent) →
+            replaced answer self.new ≡ replaced (scope nack.0 answer) self.old) }
+        ensures err { OnErr result (self.new ≡ self.old) }
+    {
+        let (given, next) = self.with_nack(alloc, nack)?;
+        *self = next;
+        Ok(given)
+    }
+
+    /// Puts the event that the function answered in its place, where one is asked for.
+    ///
+    /// # Errors
+    /// An event that with this answer, and with all that is still unforced, would not be within the limits; then want of
+    /// memory. Each hands the answer back, and the forcing is as it was.
+    pub fn answer_event(&mut self, alloc: Global, answer: Event) -> Result<(), ForceFault>
+        requires { AwaitsEvent self.old }
+        ensures ok { OnOk result (self.new ≡ replaced answer self.old) }
+        ensures within { OnOk result (event_fits self.new ≡ true) }
+        ensures err { IfErr result (λ fault.
+            RefusesAnswer fault answer (replaced answer self.old)) }
+        ensures unchanged { OnErr result (self.new ≡ self.old) }
+    {
+        let Some(left) = self.spend(&answer) else {
+            return Err(ForceFault::Deep(answer));
+        };
+        let Ok(next) = self.with_answer(alloc, &answer, left) else {
+            return Err(ForceFault::Memory(answer));
+        };
+        drop(answer);
+        *self = next;
+        Ok(())
+    }
+
+    /// Another owner of the same event being forced. It takes a count for each frame round the place where the forcing goes
+    /// on, whatever is forced already.
+    ///
+    /// # Errors
+    /// Want of memory.
+    pub fn copy(&self, alloc: Global) -> Result<Forcing, AllocError>
+        ensures { IfOk result (λ forcing. forcing ≡ self.now) }
+    {
+        let part = self.part.copy(alloc)?;
+        Ok(Forcing {
+            part,
+            room: self.room,
+        })
+    }
+
+    /// The group that the event was forced to, where nothing is asked for.
+    pub fn finish(self) -> Group
+        requires { unforced self ≡ None }
+        ensures { event_of result ≡ self }
+    {
+        match self.part {
+            Part::Whole(group) => group,
+            // Nothing is asked for, so it is whole.
+            Part::Open(_, _) => Group::new(GroupKind::Never),
+        }
+    }
+}

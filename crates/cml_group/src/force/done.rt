@@ -1,0 +1,152 @@
+//! The forced members of a choice.
+
+ghost use Rattle.std.specs.Prelude.{◌≡◌, ◌+◌, ◌++◌, [], IfOk, OnOk, is_some, IfSome};
+ghost use Rattle.std.specs.List.{flat_map};
+ghost use Rattle.cml_value.specs.Group.{groups, groups_depth, groups_nodes};
+ghost use Rattle.cml_value.specs.Limits.{is_within};
+
+use cml_value::Group;
+use std::alloc::{AllocError, Global};
+use std::marker::Model;
+use std::sync::Arc;
+
+/// Groups in order, in pieces that copies share. A piece is longer than the next one, so there are few, and to put more
+/// behind them costs little over many times, also where there are copies.
+#[derive(Drop)]
+pub struct Done {
+    pieces: Vec<Arc<Vec<Group>>>,
+}
+
+impl Model for Done {
+    ghost use Rattle.std.specs.Prelude.{List};
+    ghost use Rattle.std.specs.List.{flat_map};
+    ghost use Rattle.std.specs.Coded.{coded_list};
+    ghost use Rattle.cml_value.specs.Group.{PlainGroup};
+    ghost use Rattle.cml_value.specs.GroupCodes.{group_code};
+
+    ghost Value = { List PlainGroup };
+
+    ghost coded = { coded_list group_code };
+
+    ghost view = { λ a. flat_map (λ p. p.value.items) a.pieces.items };
+}
+
+// Puts copies of the groups behind these.
+fn add_copies(all: &mut Vec<Group>, groups: &[Group]) -> Result<(), AllocError>
+    ensures { OnOk result (all.new.items ≡ all.old.items ++ groups.now) }
+{
+    for group in groups {
+        all.push(group.copy()?)?;
+    }
+    Ok(())
+}
+
+// What is left of a budget of nodes after the groups, where it and the depth are enough for them.
+#[tactic(auto, using(std::proofs::lemmas::Bool::Decides::nat_tests))]
+fn spend_all(members: &[Group], depth: u32, budget: u32) -> Option<u32>
+    ensures enough { is_some result
+        ≡ is_within depth budget (groups_depth (groups members.now))
+        (groups_nodes (groups members.now)) }
+    ensures left { IfSome result (λ left. left + groups_nodes (groups members.now) ≡ budget) }
+{
+    let mut left = budget;
+    for group in members {
+        left = group.spend(depth, left)?;
+    }
+    Some(left)
+}
+
+// Puts the groups behind those of the pieces, in one piece with the last pieces that are no longer.
+fn add_piece(
+    pieces: &mut Vec<Arc<Vec<Group>>>,
+    alloc: Global,
+    last: Vec<Group>,
+) -> Result<(), AllocError>
+    ensures { OnOk result (flat_map (λ p. p.value.items) pieces.new.items
+        ≡ flat_map (λ p. p.value.items) pieces.old.items ++ last.items) }
+{
+    match pieces.pop() {
+        Some(piece) => {
+            if piece.len() <= last.len() {
+                let mut joined = Vec::new(alloc);
+                add_copies(&mut joined, &piece)?;
+                add_copies(&mut joined, &last)?;
+                return add_piece(pieces, alloc, joined);
+            }
+            pieces.push(piece)?;
+            pieces.push(Arc::new(alloc, last)?)?;
+            Ok(())
+        }
+        None => {
+            pieces.push(Arc::new(alloc, last)?)?;
+            Ok(())
+        }
+    }
+}
+
+impl Done {
+    /// None.
+    pub fn new(alloc: Global) -> Done
+        ensures { result ≡ [] }
+    {
+        Done {
+            pieces: Vec::new(alloc),
+        }
+    }
+
+    /// Another owner of the same groups.
+    ///
+    /// # Errors
+    /// Want of memory.
+    pub fn copy(&self, alloc: Global) -> Result<Done, AllocError>
+        ensures { IfOk result (λ done. done ≡ self.now) }
+    {
+        let mut pieces = Vec::new(alloc);
+        for piece in &self.pieces {
+            pieces.push(Arc::try_clone(piece)?)?;
+        }
+        Ok(Done { pieces })
+    }
+
+    /// All of them, and then these, in one list.
+    ///
+    /// # Errors
+    /// Want of memory.
+    pub fn all_with(&self, alloc: Global, more: &[Group]) -> Result<Vec<Group>, AllocError>
+        ensures { IfOk result (λ all. all.items ≡ self.now ++ more.now) }
+    {
+        let mut all = Vec::new(alloc);
+        for piece in &self.pieces {
+            add_copies(&mut all, piece)?;
+        }
+        add_copies(&mut all, more)?;
+        Ok(all)
+    }
+
+    /// Them, and then these.
+    ///
+    /// # Errors
+    /// Want of memory.
+    pub fn with(&self, alloc: Global, more: Vec<Group>) -> Result<Done, AllocError>
+        ensures { IfOk result (λ done. done ≡ self.now ++ more.items) }
+    {
+        let mut done = self.copy(alloc)?;
+        add_piece(&mut done.pieces, alloc, more)?;
+        Ok(done)
+    }
+
+    /// What is left of a budget of nodes after the groups, where it and the depth are enough for them.
+    #[tactic(auto, using(std::proofs::lemmas::Bool::Decides::nat_tests, crate::proofs::Spending::appended))]
+    pub fn spend(&self, depth: u32, budget: u32) -> Option<u32>
+        ensures enough { is_some result
+            ≡ is_within depth budget (groups_depth (groups self.now))
+            (groups_nodes (groups self.now)) }
+        ensures left { IfSome result (λ left. left + groups_nodes (groups self.now) ≡ budget) }
+    {
+        let mut left = budget;
+        for piece in &self.pieces {
+            left = spend_all(piece, depth, left)?;
+        }
+        Some(left)
+    }
+}
