@@ -7,6 +7,8 @@ mod books;
 mod checks;
 pub mod choosing;
 #[cfg(test)]
+mod forcings;
+#[cfg(test)]
 mod groups;
 #[cfg(test)]
 mod kinds;
