@@ -2,8 +2,8 @@
 
 ghost use Rattle.std.specs.Prelude.{◌≡◌, ◌<◌, [], length, All, IfOk, IsTrue};
 
-use crate::links::{End, Link};
 use cml_base::{FeedFault, Paired, Register, Source};
+use cml_channel::{ChannelSide, Channels};
 use cml_queues::{MAX_ITEMS, Mailbox, Multicast, Port, copy_port, post};
 use cml_signal::{Alarm, Clock, Joined, NackCell, NackFeed, Spent};
 use cml_syncvar::{IVar, MVar, MVarWant};
@@ -593,7 +593,7 @@ fn a_clock_knows_its_next_alarm(rt: HostRuntime) -> Result<(), Fail> {
     Ok(())
 }
 
-// Whether the first and the second end meet, and which is the head.
+// The channels of two sides, whether each sends, and whether they meet.
 const MEETINGS: [(u32, bool, u32, bool, bool); 4] = [
     (0, true, 0, false, true),
     (1, false, 1, true, true),
@@ -601,11 +601,11 @@ const MEETINGS: [(u32, bool, u32, bool, bool); 4] = [
     (2, true, 2, true, false),
 ];
 
-fn end(link: u32, gives: bool) -> End {
-    if gives {
-        End::Gives(link, int(7))
+fn side(channel: u32, sends: bool) -> ChannelSide {
+    if sends {
+        ChannelSide::Send(ChanId(channel), int(7))
     } else {
-        End::Takes(link)
+        ChannelSide::Recv(ChanId(channel))
     }
 }
 
@@ -621,16 +621,16 @@ where
 }
 
 #[test]
-fn two_ends_meet(rt: HostRuntime) -> Result<(), Fail> {
-    for (link, gives, other, gives_too, meet) in MEETINGS {
-        assert_eq!(rt; Link::key(&end(link, gives)), link);
-        assert_eq!(rt; Link::heads(&end(link, gives)), gives);
-        match handed::<Link>(end(link, gives), end(other, gives_too)) {
+fn two_sides_meet(rt: HostRuntime) -> Result<(), Fail> {
+    for (channel, sends, other, sends_too, meet) in MEETINGS {
+        assert_eq!(rt; Channels::key(&side(channel, sends)), channel);
+        assert_eq!(rt; Channels::heads(&side(channel, sends)), sends);
+        match handed::<Channels>(side(channel, sends), side(other, sends_too)) {
             Some((first, second)) => {
                 assert!(rt; meet);
                 let unit = Value::new(ValueKind::Unit);
-                assert_eq!(rt; first.same(&unit), gives);
-                assert_eq!(rt; second.same(&unit), gives_too);
+                assert_eq!(rt; first.same(&unit), sends);
+                assert_eq!(rt; second.same(&unit), sends_too);
                 drop(unit);
                 drop(first);
                 drop(second);
@@ -647,7 +647,7 @@ fn two_ends_meet(rt: HostRuntime) -> Result<(), Fail> {
         (Base::new(BaseKind::IGet(IVarId(4))), None),
     ];
     for (base, place) in &bases {
-        assert!(rt; Link::place(base) == *place);
+        assert!(rt; Channels::place(base) == *place);
     }
     drop(bases);
     Ok(())

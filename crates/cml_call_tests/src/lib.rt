@@ -12,7 +12,8 @@ mod forcings;
 mod groups;
 #[cfg(test)]
 mod kinds;
-pub mod links;
+#[cfg(test)]
+mod lanes;
 #[cfg(test)]
 mod making;
 #[cfg(test)]
