@@ -6,7 +6,7 @@ use Rattle.cml_text.specs.Sizes.{text_limit, nesting_limit, literal_limit}
 use Rattle.cml_text.specs.Forms.{PlainSexpr, plain_name, plain_int, plain_text, plain_list, PlainForms, no_forms, forms_and, plain_forms, nesting_of}
 use Rattle.cml_text.specs.Lexemes.{is_separator, is_delimiter, is_number, number_value, is_name, unescaped, span_from}
 
--- How a text ends: as the whole text does, or in front of the parenthesis that closes the list in which it stands.
+-- How a text ends: it is the whole text, or it stands inside a list, whose closing parenthesis comes next.
 pub data Ending : Type 0 where
   whole_text : Ending
   inside_list : Ending
@@ -15,30 +15,32 @@ pub data Ending : Type 0 where
 abbrev pub HaveNoLineFeed : List ℕ → Type 0
 HaveNoLineFeed bytes = IsTrue (list_all (λ b. not (b == 10)) bytes)
 
--- the text is at its end, or goes on with a delimiter
+-- nothing is left, or what is left begins with a delimiter
 abbrev pub EndsOrDelimits : List ℕ → Type 0
 EndsOrDelimits [] = Unit {0}
 EndsOrDelimits (b ∷ text) = IsTrue (is_delimiter b)
 
--- the token has no delimiter in it, and in the text behind it none of it goes on
+-- a token: no delimiter is in it, and it goes on up to a delimiter or to the end of its text
 pub record IsToken (token text : List ℕ) : Type 0 where
   pub undivided : IsTrue (list_all (λ b. not (is_delimiter b)) token)
   pub ends : EndsOrDelimits text
 
--- What stands between the quotes of a text literal, and the bytes that it stands for: nothing; a byte other than a quote and a
--- backslash, which stands for itself; or a backslash with a byte that makes it an escape. More may follow.
+-- What stands between the quotes of a text literal, and the bytes that it stands for. It is nothing; or a byte other than a quote and
+-- a backslash, which stands for itself, and more; or a backslash, a byte that makes an escape with it, and more.
 pub data StandsFor : List ℕ → List ℕ → Type 0 where
   ended : StandsFor [] []
   itself : (b : ℕ) (spelling content : List ℕ) → b ≢ 34 → b ≢ 92 → StandsFor spelling content → StandsFor (b ∷ spelling) (b ∷ content)
   escape : (b c : ℕ) (spelling content : List ℕ) → unescaped b ≡ Some c → StandsFor spelling content → StandsFor (92 ∷ b ∷ spelling) (c ∷ content)
 
--- The text, whose first byte stands at this place, spells these forms. It is
+-- The grammar gives a text, whose first byte stands at this place, these forms. The text is
 -- nothing;
--- a separator and a text;
--- a comment (a `;`, bytes other than a line feed, and a line feed) and a text, or a comment with which the whole text ends;
--- a list (a `(`, a text inside it, and a `)`) and a text;
--- a text literal between two quotes, and a text;
--- a number whose value is an `i64`, or a name, as a token, and a text.
+-- a separator, and a text;
+-- a comment (a `;`, bytes other than a line feed, and a line feed), and a text;
+-- a comment that ends with the whole text, which no comment inside a list does: the closing parenthesis would be part of it;
+-- a list (a `(`, the text inside it, and a `)`), and a text;
+-- a text literal (its spelling between two quotes), and a text;
+-- a token that is a number with the value of an `i64`, and a text;
+-- a token that is a name, and a text.
 pub data Gives : Ending → ℕ → List ℕ → PlainForms → Type 0 where
   nothing : (ending : Ending) (at : ℕ) → Gives ending at [] no_forms
   separator : (ending : Ending) (at b : ℕ) (text : List ℕ) (forms : PlainForms)
