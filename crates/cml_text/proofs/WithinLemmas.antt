@@ -1,5 +1,5 @@
 -- What a text spells can be printed and read back.
-use Rattle.std.proofs.Common.{◌≡◌, ℕ, zero, suc, ◌+◌, ◌^◌, ◌<◌, ◌≤◌, true, false, eqb, leb, ltb, List, [], ◌∷◌, ◌++◌, length, refl, ap, sym, ◌∙◌, subst, arith, Option, Some, None, append_assoc, inl, inr, ℤ, pos, negsuc}
+use Rattle.std.proofs.Common.{◌≡◌, ℕ, zero, suc, ◌+◌, ◌^◌, ◌<◌, ◌≤◌, eqb, leb, ltb, List, [], ◌∷◌, ◌++◌, length, refl, ap, sym, ◌∙◌, subst, arith, Some, None, append_assoc, inl, inr, ℤ, pos}
 use Rattle.std.specs.Prelude.{neg_ℤ}
 use Rattle.std.specs.Str.{IsUtf8}
 use Rattle.std.specs.Str.Parse.{digits_value}
@@ -7,7 +7,6 @@ use Rattle.std.proofs.lemmas.Bool.Decides.{nat_tests}
 use Rattle.std.proofs.lemmas.Str.{IsUtf8-append}
 use Rattle.cml_text.specs.Forms.{PlainSexpr, plain_name, plain_int, plain_text, plain_list, PlainForms, no_forms, forms_and, plain_forms, without_spans, all_without_spans}
 use Rattle.cml_text.specs.Lexemes.{unescaped, number_value, negative_value, positive_value}
-use Rattle.cml_text.specs.Texts.{Spells}
 use Rattle.cml_text.specs.Grammar.{Ending, StandsFor, Gives, IsGrammatical}
 use Rattle.cml_text.specs.Limits.{IsSmall, AreProper}
 use Rattle.cml_text.specs.Printed.{printed_form, printed_members, printed_behind, printed}
@@ -15,7 +14,7 @@ use Rattle.cml_text.specs.Laws.{SpelledIsWithinLimits, PrintedAgainIsSame}
 use Rattle.cml_text.proofs.WordLemmas.{cases_test}
 use Rattle.cml_text.proofs.LiteralLemmas.{unescaped_low}
 use Rattle.cml_text.proofs.RoundLemmas.{one_ascii, printed_is_read}
-use Rattle.cml_text.proofs.GrammarLemmas.{BeginsLow, utf8_front, utf8_back, utf8_behind, utf8_past, separator_low, ends_low}
+use Rattle.cml_text.proofs.GrammarLemmas.{utf8_front, utf8_back, utf8_behind, utf8_past, separator_low, ends_low}
 use Rattle.cml_text.proofs.GrammarFindLemmas.{spells_by_the_grammar}
 
 -- a byte that makes an escape is ASCII

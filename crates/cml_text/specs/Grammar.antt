@@ -1,5 +1,5 @@
 -- The grammar of texts: which forms a text spells, by cases on the text as a whole. It says nothing of how a text is read.
-use Rattle.std.specs.Prelude.{◌≡◌, ◌≢◌, ℕ, ◌+◌, ◌≤◌, ℤ, Bool, not, ◌==◌, IsTrue, Some, List, [], ◌∷◌, ◌++◌, length}
+use Rattle.std.specs.Prelude.{◌≡◌, ◌≢◌, ℕ, ◌+◌, ◌≤◌, ℤ, not, ◌==◌, IsTrue, Some, List, [], ◌∷◌, ◌++◌, length}
 use Rattle.std.specs.List.{list_all}
 use Rattle.std.specs.Str.{IsUtf8}
 use Rattle.cml_text.specs.Sizes.{text_limit, nesting_limit, literal_limit}
