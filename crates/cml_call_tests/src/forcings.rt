@@ -2,7 +2,7 @@
 
 use crate::making::{MEMORY, group, make};
 use cml_group::{ForceFault, Forcing, Next};
-use cml_value::{FnRef, NackId};
+use cml_value::{Event, FnRef, Group, GroupKind, NackId};
 use std::process::Abort;
 
 // An event; the answers of the functions that are called, the last one first; what is asked for, with the number of each function
@@ -60,13 +60,36 @@ fn push_call(rt: &impl Abort, text: &mut String, word: &str, function: &FnRef) {
     .expect(rt, MEMORY);
 }
 
+// The function that is called answers this event.
+fn put(
+    rt: &(impl Abort + AllocGlobal),
+    forcing: &mut Forcing,
+    answer: Event,
+) -> Result<(), ForceFault> {
+    match forcing.next().expect(rt, MEMORY) {
+        Next::Call(function) => {
+            drop(function);
+            forcing.answer_event(rt.alloc(), answer)
+        }
+        _ => Err(ForceFault::Memory(answer)),
+    }
+}
+
+// The group that the event was forced to.
+fn forced(rt: &impl Abort, forcing: Forcing) -> Group {
+    match forcing.next().expect(rt, MEMORY) {
+        Next::Ready => forcing.finish(),
+        _ => Group::new(GroupKind::Never),
+    }
+}
+
 fn goes_so(rt: &(impl Abort + AllocGlobal), event: &str, answers: &str, asked: &str, end: &str) {
     let mut made = make(rt, event);
     let mut answered = make(rt, answers);
     let event = made.event(rt);
     let mut forcing = Forcing::start(rt.alloc(), event).expect(rt, MEMORY);
     let mut text = String::new(rt.alloc());
-    let mut nacks = 0;
+    let mut nacks = 0u32;
     for _ in 0..100 {
         match forcing.next().expect(rt, MEMORY) {
             Next::Call(function) => {
@@ -83,7 +106,7 @@ fn goes_so(rt: &(impl Abort + AllocGlobal), event: &str, answers: &str, asked: &
                     .expect(rt, MEMORY);
                 push_call(rt, &mut text, "nack", &function);
                 drop(function);
-                nacks += 1;
+                nacks = nacks.saturating_add(1);
             }
             Next::Ready => break,
         }
@@ -91,10 +114,10 @@ fn goes_so(rt: &(impl Abort + AllocGlobal), event: &str, answers: &str, asked: &
         drop(std::mem::replace(&mut forcing, copy));
     }
     assert_eq!(rt; text.as_str(), asked);
-    let forced = forcing.finish();
+    let group_forced = forced(rt, forcing);
     let wanted = group(rt, end);
-    assert!(rt; forced.same(&wanted), "{end}");
-    drop(forced);
+    assert!(rt; group_forced.same(&wanted), "{end}");
+    drop(group_forced);
     drop(wanted);
     drop(text);
     drop(made);
@@ -123,13 +146,13 @@ fn measured_as_a_whole(rt: HostRuntime) {
             answers.say(&rt, "1 choose");
         }
         let answer = answers.event(&rt);
-        let put = forcing.answer_event(rt.alloc(), answer);
-        assert!(rt; put.is_ok() == (depth <= 61), "the whole is measured");
+        let answered = put(&rt, &mut forcing, answer);
+        assert!(rt; answered.is_ok() == (depth <= 61), "the whole is measured");
         assert!(rt;
-            matches!(&put, Err(ForceFault::Deep(_))) == (depth > 61),
+            matches!(&answered, Err(ForceFault::Deep(_))) == (depth > 61),
             "too deep"
         );
-        drop(put);
+        drop(answered);
         drop(made);
         drop(answers);
         drop(forcing);
@@ -149,13 +172,15 @@ fn many_answers(rt: HostRuntime) {
     for _ in 0..20000 {
         let mut answers = make(&rt, "0 recv");
         let answer = answers.event(&rt);
-        let put = forcing.answer_event(rt.alloc(), answer);
-        assert!(rt; put.is_ok(), "within the limits");
-        drop(put);
+        let answered = put(&rt, &mut forcing, answer);
+        assert!(rt; answered.is_ok(), "within the limits");
+        drop(answered);
         drop(answers);
         let copy = forcing.copy(rt.alloc()).expect(&rt, MEMORY);
         drop(std::mem::replace(&mut forcing, copy));
     }
-    assert!(rt; forcing.finish().nodes() == 20001, "all");
+    let group_forced = forced(&rt, forcing);
+    assert!(rt; group_forced.nodes() == 20001, "all");
+    drop(group_forced);
     drop(made);
 }
