@@ -67,13 +67,13 @@ run_of p (b ∷ bytes) =
     ]
 
 -- what a literal with more at its front was without it
-front_inverse : (front : List ℕ) (n : ℕ) (l : Literal) (content : List ℕ) (more : ℕ) → with_front front n l ≡ closed content more →
+pub front_inverse : (front : List ℕ) (n : ℕ) (l : Literal) (content : List ℕ) (more : ℕ) → with_front front n l ≡ closed content more →
     (inner : List ℕ) × ((less : ℕ) × ((l ≡ closed inner less) × ((content ≡ front ++ inner) × (more ≡ n + less))))
 front_inverse front n (closed inner less) content more e = (inner, (less, (refl, (cc, cc))))
 front_inverse front n endless content more e = absurd (cc)
 front_inverse front n (no_escape place) content more e = absurd (cc)
 
-escape_inverse : (o : Option ℕ) (l : Literal) (content : List ℕ) (more : ℕ) → with_escape o l ≡ closed content more → (b : ℕ) × ((o ≡ Some b) × (with_front (b ∷ []) 2 l ≡ closed content more))
+pub escape_inverse : (o : Option ℕ) (l : Literal) (content : List ℕ) (more : ℕ) → with_escape o l ≡ closed content more → (b : ℕ) × ((o ≡ Some b) × (with_front (b ∷ []) 2 l ≡ closed content more))
 escape_inverse None l content more e = absurd (cc)
 escape_inverse (Some b) l content more e = (b, (refl, e))
 
@@ -90,7 +90,7 @@ quote_cut b bytes content more e is =
     let same : b ≡ 34 = grind (arith, nat_tests) in
     record { front = b ∷ []; rest = bytes; parts = refl; count = sym (cc); stays = λ ys. literal_quote (b ∷ ys) (omega arith) same ∙ is }
 
-literal_backslash : (b c : ℕ) (bytes : List ℕ) → eqb b 34 ≡ false → eqb b 92 ≡ true → literal (b ∷ c ∷ bytes) ≡ with_escape (unescaped c) (literal bytes)
+pub literal_backslash : (b c : ℕ) (bytes : List ℕ) → eqb b 34 ≡ false → eqb b 92 ≡ true → literal (b ∷ c ∷ bytes) ≡ with_escape (unescaped c) (literal bytes)
 unfolding literal
 literal_backslash b c bytes e e2 = rw e (rw e2 refl)
 

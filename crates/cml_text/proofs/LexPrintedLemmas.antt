@@ -38,11 +38,11 @@ lex_token at (b ∷ bytes) rest some all stop =
     ∙ ap (λ t. token_lexeme at (b ∷ t) ∷ lexemes 0 (at + 1 + prefix_len is_token_byte (bytes ++ rest)) (drop (prefix_len is_token_byte (bytes ++ rest)) (bytes ++ rest))) front
     ∙ ap (λ r. token_lexeme at (b ∷ bytes) ∷ lexemes 0 (at + 1 + prefix_len is_token_byte (bytes ++ rest)) r) back ∙ ap (λ n. token_lexeme at (b ∷ bytes) ∷ lexemes 0 n rest) place
 
-number_token : (at : ℕ) (token : List ℕ) (z : ℤ) → IsNumberToken token z → token_lexeme at token ≡ leaf (plain_int (span_from at (length token)) z)
+pub number_token : (at : ℕ) (token : List ℕ) (z : ℤ) → IsNumberToken token z → token_lexeme at token ≡ leaf (plain_int (span_from at (length token)) z)
 unfolding token_lexeme
 number_token at token z is = rw is.number (rw is.worth refl)
 
-name_token : (at : ℕ) (token : List ℕ) → IsNameToken token → is_name token ≡ true → token_lexeme at token ≡ leaf (plain_name (span_from at (length token)) token)
+pub name_token : (at : ℕ) (token : List ℕ) → IsNameToken token → is_name token ≡ true → token_lexeme at token ≡ leaf (plain_name (span_from at (length token)) token)
 unfolding token_lexeme
 name_token at token is named = rw is.number (rw named refl)
 

@@ -12,3 +12,6 @@ pub mod RoundLemmas
 pub mod WholeLemmas
 pub mod CutLemmas
 pub mod SpanLemmas
+pub mod GrammarLemmas
+pub mod GrammarFindLemmas
+pub mod WithinLemmas

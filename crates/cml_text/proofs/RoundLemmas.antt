@@ -23,7 +23,7 @@ use Rattle.cml_text.proofs.PrintLemmas.{escaped_plain}
 use Rattle.cml_text.proofs.PrintedLemmas.{all_of_both}
 use Rattle.cml_text.proofs.LexPrintedLemmas.{placed, placed_members, placed_behind, lex_form, begins_alone}
 
-one_ascii : (b : ℕ) → b < 128 → IsUtf8 (b ∷ [])
+pub one_ascii : (b : ℕ) → b < 128 → IsUtf8 (b ∷ [])
 one_ascii b low = IsUtf8-from_ascii (b ∷ []) (IsAscii-cons b [] low IsAscii-nil)
 
 two_ascii : (a b : ℕ) → a < 128 → b < 128 → IsUtf8 (a ∷ b ∷ [])

@@ -166,7 +166,7 @@ IsWhole (faulty fault) = ⊥
 goes_on : (at b : ℕ) (bytes : List ℕ) (p : Piece at b bytes) → lexemes 0 at (b ∷ bytes) ≡ p.word ++ lexemes 0 (at + length (b ∷ p.front)) p.rest
 goes_on at b bytes p = ap (λ t. lexemes 0 at (b ∷ t)) p.parts ∙ p.cut p.rest (same_front p.rest)
 
-no_words : (at : ℕ) → lexemes 0 at [] ≡ []
+pub no_words : (at : ℕ) → lexemes 0 at [] ≡ []
 unfolding lexemes
 no_words at = refl
 

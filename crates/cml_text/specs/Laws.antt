@@ -1,6 +1,7 @@
 -- What holds of every text.
 use Rattle.std.specs.Prelude.{◌≡◌, ℕ, ◌≤◌, None, List, length}
 use Rattle.cml_text.specs.Forms.{PlainSexpr, plain_forms, all_without_spans}
+use Rattle.cml_text.specs.Grammar.{IsGrammatical}
 use Rattle.cml_text.specs.Limits.{AreWithinLimits}
 use Rattle.cml_text.specs.Printed.{printed}
 use Rattle.cml_text.specs.Sizes.{text_limit}
@@ -27,3 +28,16 @@ SpelledOrFaulty = (text : List ℕ) → fault_of text ≡ None → (forms : List
 abbrev pub PrintedIsRead : Type 0
 PrintedIsRead = (forms : List PlainSexpr) → AreWithinLimits forms → length (printed forms) ≤ text_limit →
     (found : List PlainSexpr) × Spells (printed forms) found × (all_without_spans (plain_forms found) ≡ all_without_spans (plain_forms forms))
+
+-- a text spells forms exactly where the grammar gives it these forms, within the limits
+abbrev pub SpellsByTheGrammar : Type 0
+SpellsByTheGrammar = (text : List ℕ) (forms : List PlainSexpr) → (Spells text forms → IsGrammatical text forms) × (IsGrammatical text forms → Spells text forms)
+
+-- what a text spells is within the limits of what is printed and read back
+abbrev pub SpelledIsWithinLimits : Type 0
+SpelledIsWithinLimits = (text : List ℕ) (forms : List PlainSexpr) → Spells text forms → AreWithinLimits forms
+
+-- What a text spells, printed, is read back, if it is not too long; and printing that gives the same text again.
+abbrev pub PrintedAgainIsSame : Type 0
+PrintedAgainIsSame = (text : List ℕ) (forms : List PlainSexpr) → Spells text forms → length (printed forms) ≤ text_limit →
+    (found : List PlainSexpr) × Spells (printed forms) found × (printed found ≡ printed forms)

@@ -7,6 +7,7 @@ pub mod FormViews
 pub mod Lexemes
 pub mod Shapes
 pub mod Texts
+pub mod Grammar
 pub mod Steps
 pub mod Nests
 pub mod Answers

@@ -1,5 +1,5 @@
 //! What holds of every text. Each function does nothing, and its contract is the law.
-ghost use Rattle.cml_text.specs.Laws.{SpellsOneAtMost, SpelledHasNoFault, SpelledOrFaulty, EachAtItsSpan, PrintedIsRead};
+ghost use Rattle.cml_text.specs.Laws.{SpellsOneAtMost, SpelledHasNoFault, SpelledOrFaulty, EachAtItsSpan, PrintedIsRead, SpellsByTheGrammar, SpelledIsWithinLimits, PrintedAgainIsSame};
 
 /// A text spells at most one list of forms, and only one way: the spans are told too.
 pub fn spells_one_at_most()
@@ -24,4 +24,19 @@ pub fn spelled_or_faulty()
 /// What is printed of forms is read back as these forms, spans aside: if they are within the limits and their text is not too long.
 pub fn printed_is_read()
     ensures { PrintedIsRead }
+{}
+
+/// A text spells forms exactly where the grammar of texts gives them, within the limits.
+pub fn spells_by_the_grammar()
+    ensures { SpellsByTheGrammar }
+{}
+
+/// What a text spells is within the limits of what is printed and read back.
+pub fn spelled_is_within_limits()
+    ensures { SpelledIsWithinLimits }
+{}
+
+/// What was read and printed is read back, if it is not too long, and printed again it is the same text.
+pub fn printed_again_is_same()
+    ensures { PrintedAgainIsSame }
 {}
