@@ -3,9 +3,9 @@
 
 ghost use Rattle.cml_host.specs.Stores.{unknown};
 
+use cml_host::{Store, StoreFault, run_command};
 use cml_trace::Counting;
 use cml_trace::input_output::{ReadFault, read_all, write_out};
-use cml_host::{Store, StoreFault, run_command};
 use std::alloc::Global;
 use std::io::ErrorKind;
 use std::process::ExitCode;

@@ -51,7 +51,13 @@ fn push_call(rt: &impl Abort, text: &mut String, word: &str, function: &FnRef) {
     if !text.is_empty() {
         text.push_str(" ").expect(rt, MEMORY);
     }
-    write!(text, "{word} {}({})", function.func(), function.args().len()).expect(rt, MEMORY);
+    write!(
+        text,
+        "{word} {}({})",
+        function.func(),
+        function.args().len()
+    )
+    .expect(rt, MEMORY);
 }
 
 fn goes_so(rt: &(impl Abort + AllocGlobal), event: &str, answers: &str, asked: &str, end: &str) {
@@ -72,7 +78,9 @@ fn goes_so(rt: &(impl Abort + AllocGlobal), event: &str, answers: &str, asked: &
                 drop(put);
             }
             Next::NeedNack => {
-                let function = forcing.answer_nack(rt.alloc(), NackId(nacks)).expect(rt, MEMORY);
+                let function = forcing
+                    .answer_nack(rt.alloc(), NackId(nacks))
+                    .expect(rt, MEMORY);
                 push_call(rt, &mut text, "nack", &function);
                 drop(function);
                 nacks += 1;
@@ -117,7 +125,10 @@ fn measured_as_a_whole(rt: HostRuntime) {
         let answer = answers.event(&rt);
         let put = forcing.answer_event(rt.alloc(), answer);
         assert!(rt; put.is_ok() == (depth <= 61), "the whole is measured");
-        assert!(rt; matches!(&put, Err(ForceFault::Deep(_))) == (depth > 61), "too deep");
+        assert!(rt;
+            matches!(&put, Err(ForceFault::Deep(_))) == (depth > 61),
+            "too deep"
+        );
         drop(put);
         drop(made);
         drop(answers);
