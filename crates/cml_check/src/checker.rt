@@ -18,7 +18,7 @@ use std::alloc::Global;
 /// The program that the forms of a script are.
 ///
 /// Where they are no program the answer is their first fault: first in the heads of all items, then of `main`, then in the statements
-/// of all functions. `CheckFault::Memory` comes only where memory ran out.
+/// of all functions. `CheckFault::Memory` comes where memory ran out.
 #[tactic(auto, unfolding(crate::specs::Shape::shape))]
 pub fn check(alloc: Global, forms: &[Sexpr]) -> Result<Prog, CheckFault>
     ensures { Gives (λ program. map written program) result (shape forms.now) }

@@ -21,7 +21,7 @@ pub record Calls : Type 0 where
 
 -- When a trace ends so, by the calls of its reader and of its writer. A fault of reading comes only where a read failed, the one that the
 -- input does not end only where the reader was called as often as it may be, and in both nothing was written. A fault of writing comes
--- only where a write failed. No stream is called again after it failed; elsewhere nothing failed.
+-- only where a write failed. No stream fails twice; elsewhere nothing failed.
 abbrev pub HasCause : Result TraceEnd TraceFault → Calls → Calls → Type 0
 HasCause (Err Read) reader writer = (reader.failed ≡ 1) × (writer.calls ≡ 0)
 HasCause (Err Turns) reader writer = (reader.calls ≡ most_reads max_input) × (reader.failed ≡ 0) × (writer.calls ≡ 0)
