@@ -1,1 +1,2 @@
 mod SayLemmas
+mod TextLemmas

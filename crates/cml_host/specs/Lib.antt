@@ -1,2 +1,4 @@
 pub mod Stores
+pub mod Written
+pub mod Scripts
 pub mod Statuses

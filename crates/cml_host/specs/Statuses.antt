@@ -1,7 +1,7 @@
 -- How the program ends: its status, and what it says of a fault.
 use Rattle.std.specs.Prelude.{◌≡◌, ◌⊎◌, ℕ, List, codes}
 use Rattle.std.specs.String.{string_bytes}
-use Rattle.cml_words.specs.declared.Task.TheVariants.{Trace}
+use Rattle.cml_words.specs.declared.Task.TheVariants.{Trace, Check, Fmt}
 use Rattle.cml_words.specs.declared.Answer.{Answer}
 use Rattle.cml_words.specs.declared.Answer.TheVariants as answer
 use Rattle.cml_words.specs.Words.{IsAnswer}
@@ -10,8 +10,10 @@ use Rattle.cml_trace.specs.declared.fault.TraceEnd.TheVariants.{Done, Bad, TooLo
 use Rattle.cml_trace.specs.declared.fault.TraceFault.{TraceFault}
 use Rattle.cml_trace.specs.declared.fault.TraceFault.TheVariants.{Read, Turns, Write, Memory}
 use Rattle.cml_trace.specs.Replies.{line}
-use Rattle.cml_trace.specs.Streams.{Stream, Takes, TakesStart, IsUntouched}
+use Rattle.cml_trace.specs.Streams.{Stream, TakesStart, IsUntouched}
 use Rattle.cml_host.specs.Stores.{Shelf, IsUnchanged}
+use Rattle.cml_host.specs.Scripts.{FileRan, IsChecked, IsPrinted}
+use Rattle.cml_host.specs.Written.{TextRan}
 use Rattle.cml_trace.specs.Runs.{IsAnswered, IsBroken}
 
 -- What stands round a run of the program, before and after: its input, its output, what it says its errors to, and its store.
@@ -47,12 +49,6 @@ TraceRan input output errors status =
     ((end : TraceEnd) × IsAnswered input output end × (status ≡ status_of end) × IsUntouched errors)
     ⊎ ((fault : TraceFault) × IsBroken input output fault × (status ≡ fault_status fault) × TakesStart errors (fault_line fault))
 
--- The text that was asked for was written to the output; or not to its end, and the errors tell of the fault.
-abbrev pub HelpRan : List ℕ → Stream → Stream → ℕ → Type 0
-HelpRan text output errors status =
-    (Takes output text × (status ≡ 0) × IsUntouched errors)
-    ⊎ (TakesStart output text × (status ≡ 1) × TakesStart errors (line (codes "cannot write output")))
-
 -- nothing was saved in the store
 abbrev pub SavesNothing : Surroundings → Type 0
 SavesNothing around = IsUnchanged around.store.before around.store.after
@@ -62,8 +58,14 @@ SavesNothing around = IsUnchanged around.store.before around.store.after
 abbrev pub AnswerRan : Answer → Surroundings → ℕ → Type 0
 AnswerRan (answer.Task Trace) around status =
     TraceRan around.input around.output around.errors status × SavesNothing around
+AnswerRan (answer.Task (Check name)) around status =
+    FileRan IsChecked name.now (around.store.before name.now) around.output around.errors status
+    × IsUntouched around.input × SavesNothing around
+AnswerRan (answer.Task (Fmt name)) around status =
+    FileRan IsPrinted name.now (around.store.before name.now) around.output around.errors status
+    × IsUntouched around.input × SavesNothing around
 AnswerRan (answer.Help text) around status =
-    HelpRan (string_bytes text) around.output around.errors status × IsUntouched around.input × SavesNothing around
+    TextRan (string_bytes text) around.output around.errors status × IsUntouched around.input × SavesNothing around
 AnswerRan (answer.Fault text) around status =
     TakesStart around.errors (string_bytes text) × (status ≡ 1)
     × IsUntouched around.input × IsUntouched around.output × SavesNothing around

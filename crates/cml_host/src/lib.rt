@@ -2,6 +2,8 @@
 #![tactic(auto)]
 
 mod command;
+mod output;
+mod script;
 mod store;
 
 pub use command::run_command;

@@ -13,6 +13,8 @@ pub mod memory_store;
 #[cfg(test)]
 mod run;
 #[cfg(test)]
+mod scripts;
+#[cfg(test)]
 mod stores;
 #[cfg(test)]
 mod words;

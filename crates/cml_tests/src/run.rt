@@ -14,6 +14,8 @@ pub enum Part {
     Times(&'static str, u32),
     /// A line for each number below this one: this word, and the number behind it.
     Each(&'static str, u32),
+    /// So many functions `f1`, `f2` and so on, which do nothing.
+    Functions(u32),
 }
 
 /// A trace, and what answers it.
@@ -65,8 +67,8 @@ pub fn words(alloc: Global, line: &str) -> Result<Vec<String>, AllocError> {
     Ok(words)
 }
 
-// The parts, one after another.
-fn whole(alloc: Global, parts: &[Part]) -> Result<String, AllocError> {
+/// The parts, one after another.
+pub fn whole(alloc: Global, parts: &[Part]) -> Result<String, AllocError> {
     let mut text = String::new(alloc);
     for part in parts {
         push_part(&mut text, part)?;
@@ -85,6 +87,11 @@ fn push_part(text: &mut String, part: &Part) -> Result<(), AllocError> {
         Part::Each(word, count) => {
             for number in 0..*count {
                 writeln!(text, "{word} {number}")?;
+            }
+        }
+        Part::Functions(count) => {
+            for number in 1..=*count {
+                write!(text, " (fn f{number} ())")?;
             }
         }
     }

@@ -15,7 +15,7 @@ struct Asked {
 const WORDS: &[Asked] = &[
     Asked {
         words: "--help",
-        output: "Events of Concurrent ML: answers traces of commands\n\nUsage: cml <COMMAND>\n\nCommands:\n  trace  Answers the commands on standard input\n  help   Print this message or the help of the given subcommand(s)\n\nOptions:\n  -h, --help  Print help\n",
+        output: "Events of Concurrent ML: answers traces of commands and checks scripts\n\nUsage: cml <COMMAND>\n\nCommands:\n  trace  Answers the commands on standard input\n  check  Checks a script\n  fmt    Prints the forms of a text, each on a line\n  help   Print this message or the help of the given subcommand(s)\n\nOptions:\n  -h, --help  Print help\n",
         errors: "",
         status: 0,
     },
@@ -24,6 +24,18 @@ const WORDS: &[Asked] = &[
         output: "Answers the commands on standard input\n\nUsage: cml trace\n\nOptions:\n  -h, --help  Print help\n",
         errors: "",
         status: 0,
+    },
+    Asked {
+        words: "check --help",
+        output: "Checks a script\n\nUsage: cml check <FILE>\n\nArguments:\n  <FILE>  \n\nOptions:\n  -h, --help  Print help\n",
+        errors: "",
+        status: 0,
+    },
+    Asked {
+        words: "fmt",
+        output: "",
+        errors: "error: the following required arguments were not provided:\n  <FILE>\n\nUsage: cml fmt <FILE>\n\nFor more information, try '--help'.\n",
+        status: 1,
     },
     Asked {
         words: "walk",

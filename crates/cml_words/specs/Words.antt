@@ -1,23 +1,50 @@
 -- What the words of the command line are answered.
-use Rattle.std.specs.Prelude.{◌≡◌, ◌≢◌, ◌⊎◌, ℕ, true, List, [], codes}
-use Rattle.clap.specs.Words.{App, new_app, with_subcommand, fault_of, Kinds, IsAmong}
+use Rattle.std.specs.Prelude.{◌≡◌, ◌≢◌, ◌⊎◌, ℕ, true, Option, Some, List, [], codes, option_map, option_and_then}
+use Rattle.clap.specs.Words.{App, Shape, Rule, Row, Text, new_app, new_rule, with_rule, with_subcommand, fault_of, Kinds, IsAmong, first_of, subcommand_of}
+use Rattle.clap.specs.declared.builder.action.ArgAction.TheVariants.{Set}
 use Rattle.clap.specs.declared.error.kind.ErrorKind.{ErrorKind}
 use Rattle.clap.specs.declared.error.kind.ErrorKind.TheVariants.{DisplayHelp, DisplayVersion, OutOfMemory}
+use Rattle.cml_words.specs.declared.Task.{Task}
+use Rattle.cml_words.specs.declared.Task.TheVariants as task_of
 use Rattle.cml_words.specs.declared.Answer.{Answer}
 use Rattle.cml_words.specs.declared.Answer.TheVariants as answer
 
--- the commands of the program: there is one, and one must be named
+-- the name of a file, which must be given
+abbrev pub file_rule : Rule
+file_rule = record (new_rule (codes "FILE")) { required = true; action = Some Set }
+
+-- a command that takes a file
+abbrev pub file_command : Text → Shape
+file_command name = (with_rule (new_app name) file_rule).top
+
+-- the program without its commands, of which one must be named
+abbrev pub program : App
+program = record { top = record (new_app (codes "cml")).top { subcommand_required = true }; subs = [] }
+
+-- the commands of the program
 abbrev pub commands : App
-commands = with_subcommand (record { top = record (new_app (codes "cml")).top { subcommand_required = true }; subs = [] }) (new_app (codes "trace")).top
+commands =
+    with_subcommand (with_subcommand (with_subcommand program
+    (new_app (codes "trace")).top) (file_command (codes "check"))) (file_command (codes "fmt"))
 
 -- what may be wrong with the words, the first of which names the program: nothing where they name a command
 abbrev pub faults : List (List ℕ) → Kinds
 faults words = fault_of commands words
 
--- A command is answered only where nothing is wrong, help only where it is asked for, and a fault only where there is one. There is one
--- command, so words with which nothing is wrong name it.
+-- The command that was named, with the values that it was given, is this one, with this file.
+abbrev pub Names : Option (Text × List Row) → Task → Type 0
+Names found task_of.Trace = option_map (λ command. command.0) found ≡ Some (codes "trace")
+Names found (task_of.Check file) =
+    (option_map (λ command. command.0) found ≡ Some (codes "check"))
+    × (option_and_then (λ command. first_of (codes "FILE") command.1) found ≡ Some file.now)
+Names found (task_of.Fmt file) =
+    (option_map (λ command. command.0) found ≡ Some (codes "fmt"))
+    × (option_and_then (λ command. first_of (codes "FILE") command.1) found ≡ Some file.now)
+
+-- A command is answered only where nothing is wrong and the words name it, help only where it is asked for, and a fault only where there
+-- is one.
 abbrev pub IsAnswer : List (List ℕ) → Answer → Type 0
-IsAnswer words (answer.Task task) = faults words ≡ []
+IsAnswer words (answer.Task task) = (faults words ≡ []) × Names (subcommand_of commands words) task
 IsAnswer words (answer.Help text) = IsAmong DisplayHelp (faults words) ⊎ IsAmong DisplayVersion (faults words)
 IsAnswer words (answer.Fault text) = (kind : ErrorKind) × IsAmong kind (faults words) × (kind ≢ DisplayHelp) × (kind ≢ DisplayVersion)
 

@@ -1,0 +1,94 @@
+-- The commands `check` and `fmt`: what they say of the text of a file, and how they end.
+use Rattle.std.specs.Prelude.{◌≡◌, ◌⊎◌, ℕ, List, ◌++◌, length, Some, Result, Ok, Err, codes}
+use Rattle.std.specs.Fmt.{decimal}
+use Rattle.std.specs.String.{string_bytes}
+use Rattle.std.specs.declared.alloc.AllocError.{AllocError}
+use Rattle.cml_text.specs.Faults as text
+use Rattle.cml_text.specs.Forms.{PlainSexpr}
+use Rattle.cml_text.specs.Printed.{printed}
+use Rattle.cml_text.specs.Texts.{Spells, fault_of}
+use Rattle.cml_text.specs.declared.fault.TextFault.{TextFault}
+use Rattle.cml_text.specs.declared.fault.TextFault.TheVariants as text_fault
+use Rattle.cml_check.specs.Faults as script
+use Rattle.cml_check.specs.Shape.{shape}
+use Rattle.cml_check.specs.Syntax.{Name, PlainFunction}
+use Rattle.cml_check.specs.declared.fault.CheckFault.TheVariants as check_fault
+use Rattle.cml_host.specs.Stores.{Content, unknown, nothing, bytes}
+use Rattle.cml_host.specs.Written.{TextRan}
+use Rattle.cml_host.specs.declared.script.Said.{Said}
+use Rattle.cml_host.specs.declared.script.Said.TheVariants.{Written, Refused}
+use Rattle.cml_trace.specs.Replies.{line}
+use Rattle.cml_trace.specs.Streams.{Stream, TakesStart, IsUntouched}
+
+-- the line that tells of a fault of a text, and of a fault of a script
+abbrev pub text_line : text.PlainFault → List ℕ
+text_line fault = line (text.fault_line (text_fault.At fault.kind fault.at))
+
+abbrev pub script_line : script.PlainCheckFault → List ℕ
+script_line fault = line (script.fault_line (check_fault.At fault.kind fault.at))
+
+-- The forms are a program, and how many functions it has is written; or they are none, and their first fault is told.
+abbrev pub IsShaped : List PlainSexpr → Said → Type 0
+IsShaped forms (Written all) =
+    (program : List (PlainFunction Name)) × (shape forms ≡ Ok program)
+    × (string_bytes all ≡ line (codes "ok functions " ++ decimal (length program)))
+IsShaped forms (Refused all) =
+    (fault : script.PlainCheckFault) × (shape forms ≡ Err fault) × (string_bytes all ≡ script_line fault)
+
+-- the text has a fault, which is told
+abbrev pub IsFaulty : List ℕ → Said → Type 0
+IsFaulty given (Written all) = ⊥
+IsFaulty given (Refused all) =
+    (fault : text.PlainFault) × (fault_of given ≡ Some fault) × (string_bytes all ≡ text_line fault)
+
+-- `check`: the text spells forms, and of these it is said whether they are a program; or it has a fault
+abbrev pub IsChecked : List ℕ → Said → Type 0
+IsChecked given said =
+    ((forms : List PlainSexpr) × Spells given forms × IsShaped forms said) ⊎ IsFaulty given said
+
+-- these forms are written
+abbrev pub IsWritten : List PlainSexpr → Said → Type 0
+IsWritten forms (Written all) = string_bytes all ≡ printed forms
+IsWritten forms (Refused all) = ⊥
+
+-- `fmt`: the text spells forms, and these are written, each on a line; or it has a fault
+abbrev pub IsPrinted : List ℕ → Said → Type 0
+IsPrinted given said =
+    ((forms : List PlainSexpr) × Spells given forms × IsWritten forms said) ⊎ IsFaulty given said
+
+-- What was said: it went to the output; or the text was refused.
+abbrev pub IsSaid : Said → Stream → Stream → ℕ → Type 0
+IsSaid (Written all) output errors status = TextRan (string_bytes all) output errors status
+IsSaid (Refused all) output errors status =
+    TakesStart errors (string_bytes all) × (status ≡ 2) × IsUntouched output
+
+-- memory ran out
+abbrev pub MemoryRan : Stream → ℕ → Type 0
+MemoryRan errors status = TakesStart errors (line (codes "memory")) × (status ≡ 5)
+
+-- the same of a call that may have run out of memory
+abbrev pub SaidRan : Result Said AllocError → Stream → Stream → ℕ → Type 0
+SaidRan (Ok said) output errors status = IsSaid said output errors status
+SaidRan (Err e) output errors status = MemoryRan errors status × IsUntouched output
+
+-- The file of this name was refused, or memory ran out.
+abbrev pub RefusedRan : List ℕ → Stream → ℕ → Type 0
+RefusedRan name errors status =
+    (TakesStart errors (line (codes "cannot read " ++ name)) × (status ≡ 1)) ⊎ MemoryRan errors status
+
+-- This is the whole text that lies there: any one, where it is not known; and where nothing lies there is none.
+abbrev pub IsText : Content → List ℕ → Type 0
+IsText unknown all = Unit {0}
+IsText nothing all = ⊥
+IsText (bytes known) all = all ≡ known
+
+-- The text that lies under the name was read, and what the command says of it was said; or the file was refused, or memory ran out.
+abbrev pub FileRan : (List ℕ → Said → Type 0) → List ℕ → Content → Stream → Stream → ℕ → Type 0
+FileRan Says name content output errors status =
+    ((all : List ℕ) × IsText content all × (said : Said) × Says all said × IsSaid said output errors status)
+    ⊎ (RefusedRan name errors status × IsUntouched output)
+
+-- what is said of a text with this fault, which is not want of memory
+abbrev pub Told : TextFault → Said → Type 0
+Told (text_fault.At kind at) (Refused all) = string_bytes all ≡ line (text.fault_line (text_fault.At kind at))
+Told fault said = ⊥
