@@ -13,7 +13,7 @@ use Rattle.cml_check.specs.Faults as script
 use Rattle.cml_check.specs.Shape.{shape}
 use Rattle.cml_check.specs.Syntax.{Name, PlainFunction}
 use Rattle.cml_check.specs.declared.fault.CheckFault.TheVariants as check_fault
-use Rattle.cml_host.specs.Stores.{Content, unknown, nothing, bytes}
+use Rattle.cml_host.specs.Stores.{Content, unknown, nothing, bytes, MayBeRefused}
 use Rattle.cml_host.specs.Written.{TextRan}
 use Rattle.cml_host.specs.declared.script.Said.{Said}
 use Rattle.cml_host.specs.declared.script.Said.TheVariants.{Written, Refused}
@@ -71,10 +71,10 @@ abbrev pub SaidRan : Result Said AllocError → Stream → Stream → ℕ → Ty
 SaidRan (Ok said) output errors status = IsSaid said output errors status
 SaidRan (Err e) output errors status = MemoryRan errors status × IsUntouched output
 
--- The file of this name was refused, or memory ran out.
-abbrev pub RefusedRan : List ℕ → Stream → ℕ → Type 0
-RefusedRan name errors status =
-    (TakesStart errors (line (codes "cannot read " ++ name)) × (status ≡ 1)) ⊎ MemoryRan errors status
+-- The file of this name was refused, where it may be; or memory ran out.
+abbrev pub RefusedRan : Content → List ℕ → Stream → ℕ → Type 0
+RefusedRan content name errors status =
+    (MayBeRefused content × TakesStart errors (line (codes "cannot read " ++ name)) × (status ≡ 1)) ⊎ MemoryRan errors status
 
 -- This is the whole text that lies there: any one, where it is not known; and where nothing lies there is none.
 abbrev pub IsText : Content → List ℕ → Type 0
@@ -86,7 +86,7 @@ IsText (bytes known) all = all ≡ known
 abbrev pub FileRan : (List ℕ → Said → Type 0) → List ℕ → Content → Stream → Stream → ℕ → Type 0
 FileRan Says name content output errors status =
     ((all : List ℕ) × IsText content all × (said : Said) × Says all said × IsSaid said output errors status)
-    ⊎ (RefusedRan name errors status × IsUntouched output)
+    ⊎ (RefusedRan content name errors status × IsUntouched output)
 
 -- what is said of a text with this fault, which is not want of memory
 abbrev pub Told : TextFault → Said → Type 0

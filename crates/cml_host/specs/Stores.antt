@@ -14,6 +14,11 @@ IsLoaded unknown limit found = length found ≤ limit + 1
 IsLoaded nothing limit found = ⊥
 IsLoaded (bytes all) limit found = found ≡ take (limit + 1) all
 
+-- It may be refused: where nothing lies, or nothing is known of what does.
+abbrev pub MayBeRefused : Content → Type 0
+MayBeRefused (bytes all) = ⊥
+MayBeRefused _ = Unit {0}
+
 -- it was this, and is now these bytes, where it was known
 abbrev pub Becomes : Content → Content → List ℕ → Type 0
 Becomes unknown new all = Unit {0}

@@ -4,7 +4,8 @@ ghost use Rattle.std.specs.Prelude.{◌≡◌, ◌++◌, IfOk, map};
 ghost use Rattle.std.specs.String.{string_bytes};
 ghost use Rattle.cml_host.specs.Scripts.{IsChecked, IsPrinted, IsShaped, FileRan, SaidRan};
 ghost use Rattle.cml_host.specs.Scripts.{RefusedRan, Told};
-ghost use Rattle.cml_host.specs.Stores.{IsUnchanged};
+ghost use Rattle.cml_host.specs.Stores.{Content, IsUnchanged, MayBeRefused};
+ghost use Rattle.cml_host.specs.declared.store.StoreFault.TheVariants.{Refused};
 ghost use Rattle.cml_trace.specs.Streams.{stream, IsUntouched};
 
 use crate::output::{say, send_text};
@@ -133,7 +134,8 @@ fn finish<O: Write, E: Write>(said: Result<Said, AllocError>, out: &mut O, err: 
 // Says that the file can't be read, or that memory ran out.
 fn refuse_file<E: Write>(alloc: Global, name: &str, fault: StoreFault, err: &mut E) -> u8
     ensures { let errors = stream (E.contents err.old) (E.contents err.new) in
-        RefusedRan name.now errors result }
+        (content : Content) → (fault ≡ Refused → MayBeRefused content) →
+            RefusedRan content name.now errors result }
 {
     if matches!(fault, StoreFault::Refused)
         && let Ok(line) = format!(in alloc; "cannot read {name}\n")

@@ -1,7 +1,8 @@
 //! Where scripts and schedules lie.
 
-ghost use Rattle.std.specs.Prelude.{ℕ, List, ◌+◌, ◌≤◌, length, IfOk, OnOk, OnErr};
-ghost use Rattle.cml_host.specs.Stores.{Content, IsLoaded, IsSaved, IsUnchanged};
+ghost use Rattle.std.specs.Prelude.{ℕ, List, Err, ◌≡◌, ◌+◌, ◌≤◌, length, IfOk, OnOk, OnErr};
+ghost use Rattle.cml_host.specs.Stores.{Content, IsLoaded, IsSaved, IsUnchanged, MayBeRefused};
+ghost use Rattle.cml_host.specs.declared.store.StoreFault.TheVariants.{Refused};
 
 use std::alloc::Global;
 use thiserror::Error;
@@ -26,10 +27,11 @@ pub trait Store {
     /// are read in at most twice as many reads as the limit. What the store holds stays as it is.
     ///
     /// # Errors
-    /// A refusal, also where they do not end in so many reads, or want of memory.
+    /// A refusal, also where they do not end in so many reads, or want of memory. Bytes that are known to lie there are not refused.
     fn load(&mut self, alloc: Global, name: &str, limit: usize) -> Result<Vec<u8>, StoreFault>
         ensures bound { IfOk result (λ bs. length bs.items ≤ limit + 1) }
         ensures found { IfOk result (λ bs. IsLoaded (holds self.old name.now) limit bs.items) }
+        ensures refused { result ≡ Err Refused → MayBeRefused (holds self.old name.now) }
         ensures same { IsUnchanged (holds self.old) (holds self.new) };
 
     /// Keeps the bytes under the name, in place of what lay there, and touches no other name.

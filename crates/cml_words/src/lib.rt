@@ -44,7 +44,7 @@ pub fn read_words<'a>(alloc: Global, words: &'a [String]) -> Result<Answer<'a>, 
     match command(alloc)?.try_get_matches_from(words) {
         Ok(matches) => match task_of(&matches) {
             Some(task) => Ok(Answer::Task(task)),
-            // Not reached: a command must be named, and with the files that it takes.
+            // By clap's rules a command is named, and with the file that it takes; nothing here proves that.
             None => Err(AllocError),
         },
         Err(error) => answer_to_error(alloc, &error),
