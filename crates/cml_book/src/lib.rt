@@ -22,6 +22,5 @@ mod ticks;
 mod walk;
 
 pub use book::{Book, MAX_OBJECTS, MAX_THREADS};
-pub use cml_kept::KeptRows;
 pub use command::{Command, Committed, Reply, Resume, Stopped};
 pub use refusal::{Fault, Refusal, Returned};

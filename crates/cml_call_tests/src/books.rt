@@ -1,7 +1,8 @@
 //! Books and the plain table, in what only a caller of the library can do.
 
 use crate::making::{MEMORY, group, value};
-use cml_book::{Book, Fault, KeptRows, Refusal, Resume};
+use cml_book::{Book, Fault, Refusal, Resume};
+use cml_kept::KeptRows;
 use cml_scan::{Light, Meet, Place, Table};
 use cml_value::{Base, BaseKind, ChanId, Group, GroupKind, MVarId, NackId, Tid};
 use std::process::Abort;

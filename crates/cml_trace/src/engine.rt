@@ -19,7 +19,8 @@ use crate::input_output::{WriteFault, read_all, write_out};
 use crate::line::Lines;
 use crate::page::Page;
 use crate::reply::{tell_bad, tell_replies, tell_rows};
-use cml_book::{Book, Command, KeptRows};
+use cml_book::{Book, Command};
+use cml_kept::KeptRows;
 use cml_scan::Table;
 use cml_text::law::spelled_or_faulty;
 use std::alloc::Global;
@@ -53,20 +54,51 @@ pub fn run_trace<R: Read, W: Write>(
     ensures same_reader { reader.new.stream.ghost_name ≡ reader.old.stream.ghost_name }
     ensures same_writer { writer.new.stream.ghost_name ≡ writer.old.stream.ghost_name }
 {
+    run_trace_over(alloc, KeptRows::new(alloc), reader, writer)
+}
+
+/// Answers a trace over this table, which was told nothing, as [`run_trace`] does: which table it is makes no difference to the answer.
+///
+/// # Errors
+/// Those of [`run_trace`].
+pub fn run_trace_over<T: Table, R: Read, W: Write>(
+    alloc: Global,
+    table: T,
+    reader: &mut Counting<'_, R>,
+    writer: &mut Counting<'_, W>,
+) -> Result<TraceEnd, TraceFault>
+    requires nothing_told { T.entries table ≡ [] }
+    requires reads { (reader.old.calls ≡ 0) × (reader.old.failed ≡ 0) }
+    requires writes { (writer.old.calls ≡ 0) × (writer.old.failed ≡ 0) }
+    ensures ok { let input = stream (R.remaining reader.old.stream.now) (R.remaining reader.new.stream.now) in
+        let output = stream (W.contents writer.old.stream.now) (W.contents writer.new.stream.now) in
+        IfOk result (IsAnswered input output) }
+    ensures err { let input = stream (R.remaining reader.old.stream.now) (R.remaining reader.new.stream.now) in
+        let output = stream (W.contents writer.old.stream.now) (W.contents writer.new.stream.now) in
+        IfErr result (IsBroken input output) }
+    ensures cause { let reads : Calls = record { calls = reader.new.calls; failed = reader.new.failed } in
+        let writes : Calls = record { calls = writer.new.calls; failed = writer.new.failed } in
+        HasCause result reads writes }
+    ensures reads { reader.new.calls ≤ most_reads max_input }
+    ensures same_reader { reader.new.stream.ghost_name ≡ reader.old.stream.ghost_name }
+    ensures same_writer { writer.new.stream.ghost_name ≡ writer.old.stream.ghost_name }
+{
     let input = read_all(alloc, reader, MAX_INPUT)?;
     if input.len() > MAX_INPUT {
         write_out(writer, b"too long\n")?;
         return Ok(TraceEnd::TooLong);
     }
-    answer(alloc, input.as_slice(), writer)
+    answer(alloc, table, input.as_slice(), writer)
 }
 
 // Answers a trace that is not too long.
-fn answer<W: Write>(
+fn answer<T: Table, W: Write>(
     alloc: Global,
+    table: T,
     input: &[u8],
     writer: &mut Counting<'_, W>,
 ) -> Result<TraceEnd, TraceFault>
+    requires nothing_told { T.entries table ≡ [] }
     requires short { length input.now ≤ max_input }
     requires fresh { writer.old.failed ≡ 0 }
     ensures ok { let output = stream (W.contents writer.old.stream.now) (W.contents writer.new.stream.now) in
@@ -76,7 +108,7 @@ fn answer<W: Write>(
     ensures same_reference { writer.new.stream.ghost_name ≡ writer.old.stream.ghost_name }
     ensures failed { IsWriteFailure result writer.new.failed }
 {
-    let mut book = Book::new(alloc, KeptRows::new(alloc));
+    let mut book = Book::new(alloc, table);
     let mut page = Page::new(alloc);
     let end = answer_lines(alloc, &mut book, input, &mut page, writer);
     drop(book);

@@ -16,5 +16,5 @@ mod page;
 mod reply;
 
 pub use counts::Counting;
-pub use engine::run_trace;
+pub use engine::{run_trace, run_trace_over};
 pub use fault::{TraceEnd, TraceFault};

@@ -3,7 +3,7 @@ use Rattle.cml_trace.specs.Answers.{max_input}
 use Rattle.cml_trace.specs.Streams.{stream}
 use Rattle.cml_trace.specs.Runs.{Came}
 use Rattle.cml_trace.proofs.EngineLemmas.{begun_long, broken_write}
-use Rattle.cml_trace.proofs.engine.run_trace.Goals as goal
+use Rattle.cml_trace.proofs.engine.run_trace_over.Goals as goal
 
 pub returns-in_err-write_out-clause-err : goal.returns-in_err-write_out-clause-err
 returns-in_err-write_out-clause-err g c =
