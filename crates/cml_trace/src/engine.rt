@@ -20,7 +20,7 @@ use crate::line::Lines;
 use crate::page::Page;
 use crate::reply::{tell_bad, tell_replies, tell_rows};
 use cml_book::{Book, Command};
-use cml_kept::KeptRows;
+use cml_index::OfferIndex;
 use cml_scan::Table;
 use cml_text::law::spelled_or_faulty;
 use std::alloc::Global;
@@ -54,14 +54,14 @@ pub fn run_trace<R: Read, W: Write>(
     ensures same_reader { reader.new.stream.ghost_name ≡ reader.old.stream.ghost_name }
     ensures same_writer { writer.new.stream.ghost_name ≡ writer.old.stream.ghost_name }
 {
-    run_trace_over(alloc, KeptRows::new(alloc), reader, writer)
+    run_trace_over(alloc, OfferIndex::new(alloc), reader, writer)
 }
 
 /// Answers a trace over this table, which was told nothing, as [`run_trace`] does: which table it is makes no difference to the answer.
 ///
 /// # Errors
 /// Those of [`run_trace`].
-pub fn run_trace_over<T: Table, R: Read, W: Write>(
+pub fn run_trace_over<T: Table + Drop, R: Read, W: Write>(
     alloc: Global,
     table: T,
     reader: &mut Counting<'_, R>,
@@ -92,7 +92,7 @@ pub fn run_trace_over<T: Table, R: Read, W: Write>(
 }
 
 // Answers a trace that is not too long.
-fn answer<T: Table, W: Write>(
+fn answer<T: Table + Drop, W: Write>(
     alloc: Global,
     table: T,
     input: &[u8],

@@ -1,0 +1,7 @@
+mod Walks
+mod Parted
+mod Lit
+mod Going
+pub mod Scopes
+mod Receivers
+mod Seeking

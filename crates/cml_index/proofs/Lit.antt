@@ -1,0 +1,227 @@
+-- How many leaves can be taken alone, when a light is told.
+use Rattle.std.proofs.Common.{◌≡◌, ℕ, zero, suc, ◌<◌, take, get_or, ◌+◌, Bool, true, false, not, ◌||◌, nat_eq, cond, List, [], ◌∷◌, length, Option, Some, None, refl, ap, sym, subst, ◌∙◌, arith}
+use Rattle.std.specs.List.{filter}
+use Rattle.std.specs.Prelude.{OnOk, Result, Ok, Err}
+use Rattle.std.proofs.lemmas.List.{length-map, take_more}
+use Rattle.std.proofs.lemmas.List.Folds.{list_any-append}
+use Rattle.std.proofs.lemmas.Bool.Decides.{nat_tests}
+use Rattle.cml_value.specs.Value.{PlainBase, always, send, recv, iget, mtake, mget, mswap, mail_recv, port_recv, join, at_tick, after_ticks, nack}
+use Rattle.cml_scan.specs.Light.{light, is_always, is_told, lit_by}
+use Rattle.cml_scan.specs.Scan.{PlainOffer, offers_of}
+use Rattle.cml_scan.specs.Order.{place, Every}
+use Rattle.cml_scan.specs.Table.{same_light, has_light}
+use Rattle.cml_scan.specs.declared.object.Light.{Light}
+use Rattle.cml_scan.specs.declared.object.Light.TheVariants as of
+use Rattle.cml_scan.proofs.Telling.{same_light_is, same_light_self}
+use Rattle.cml_index.specs.Slot.{same_slot, slot_of_light, slot_of_side}
+use Rattle.cml_index.specs.Slots.{is_slot, lane_of, lane_at}
+use Rattle.cml_index.specs.Posts.{slot_of, told, is_named, slot_of_nack, nacks_in, IsIndexed}
+use Rattle.cml_index.specs.declared.slot.Slot.{Slot}
+use Rattle.indexmap.specs.IndexMap.{IndexMap}
+use Rattle.cml_channel.specs.Lanes.{PlainLane}
+use Rattle.cml_scan.specs.World.{PlainEntry}
+use Rattle.cml_scan.proofs.Ordered.{Every-weaker}
+
+-- two lights have one lane where they are one
+pub slots_are_lights : (l m : Light) → same_slot (slot_of_light l) (slot_of_light m) ≡ same_light l m
+slots_are_lights (of.IVar a) (of.IVar b) = refl
+slots_are_lights (of.MVar a) (of.MVar b) = refl
+slots_are_lights (of.Mbox a) (of.Mbox b) = refl
+slots_are_lights (of.Port a) (of.Port b) = refl
+slots_are_lights (of.Joined a) (of.Joined b) = refl
+slots_are_lights (of.Alarm a) (of.Alarm b) = refl
+slots_are_lights (of.Nack a) (of.Nack b) = refl
+slots_are_lights _ _ = refl
+
+-- no light has the lane of a side
+no_side : (l : Light) (n : ℕ) (heads : Bool) → same_slot (slot_of_light l) (slot_of_side n heads) ≡ false
+no_side (of.IVar a) n true = refl
+no_side (of.IVar a) n false = refl
+no_side (of.MVar a) n true = refl
+no_side (of.MVar a) n false = refl
+no_side (of.Mbox a) n true = refl
+no_side (of.Mbox a) n false = refl
+no_side (of.Port a) n true = refl
+no_side (of.Port a) n false = refl
+no_side (of.Joined a) n true = refl
+no_side (of.Joined a) n false = refl
+no_side (of.Alarm a) n true = refl
+no_side (of.Alarm a) n false = refl
+no_side (of.Nack a) n true = refl
+no_side (of.Nack a) n false = refl
+
+-- the light is the one that is there
+abbrev pub light_is : Light → Option Light → Bool
+light_is l None = false
+light_is l (Some m) = same_light l m
+
+-- a base event stands in the lane of the light that it looks at
+slot_light : (l : Light) (b : PlainBase) → is_slot (slot_of_light l) (slot_of b) ≡ light_is l (light b)
+slot_light l (always v) = refl
+slot_light l (send c v) = no_side l c true
+slot_light l (recv c) = no_side l c false
+slot_light l (iget i) = slots_are_lights l (of.IVar (record { 0 = i }))
+slot_light l (mtake m) = slots_are_lights l (of.MVar (record { 0 = m }))
+slot_light l (mget m) = slots_are_lights l (of.MVar (record { 0 = m }))
+slot_light l (mswap m v) = slots_are_lights l (of.MVar (record { 0 = m }))
+slot_light l (mail_recv b) = slots_are_lights l (of.Mbox (record { 0 = b }))
+slot_light l (port_recv p) = slots_are_lights l (of.Port (record { 0 = p }))
+slot_light l (join t) = slots_are_lights l (of.Joined (record { 0 = t }))
+slot_light l (at_tick t) = slots_are_lights l (of.Alarm t)
+slot_light l (after_ticks d) = refl
+slot_light l (nack k) = slots_are_lights l (of.Nack (record { 0 = k }))
+
+-- what is always enabled has no light
+always_dark : (b : PlainBase) → is_always b ≡ true → light b ≡ None
+always_dark (always v) e = refl
+always_dark _ e = cc
+
+-- of one base event: where the light goes on it can be taken in addition if it waits for that light
+pub record IsFlipped (off_ on_ waits : Bool) : Type 0 where
+  pub both : on_ ≡ off_ || waits
+  pub apart : waits ≡ true → off_ ≡ false
+
+flipped : (l : Light) (off_ on_ : Light → Bool) → off_ l ≡ false → ((m : Light) → on_ m ≡ cond (same_light l m) true (off_ m)) → (b : PlainBase) → IsFlipped (lit_by off_ b) (lit_by on_ b) (light_is l (light b))
+flipped l off_ on_ dark agree b = at (is_always b) refl (light b) refl
+  where
+    here : (m : Light) → (s : Bool) → same_light l m ≡ s → IsFlipped (off_ m) (on_ m) s
+    here m true e =
+        let same : l ≡ m = same_light_is l m e in
+        let out_ : off_ m ≡ false = sym (ap off_ same) ∙ dark in
+        let in_ : on_ m ≡ true = agree m ∙ ap (λ s. cond s true (off_ m)) e in
+        record { both = rw (in_, out_) refl; apart = λ _. out_ }
+    here m false e =
+        let same : on_ m ≡ off_ m = agree m ∙ ap (λ s. cond s true (off_ m)) e in
+        record { both = same ∙ or_false (off_ m); apart = λ h. cc }
+      where
+        or_false : (x : Bool) → x ≡ x || false
+        or_false true = refl
+        or_false false = refl
+
+    at : (a : Bool) → is_always b ≡ a → (m : Option Light) → light b ≡ m → IsFlipped (a || is_told off_ m) (a || is_told on_ m) (light_is l m)
+    at true e None f = record { both = refl; apart = λ h. cc }
+    at true e (Some m) f = let none : light b ≡ None = always_dark b e in cc
+    at false e None f = record { both = refl; apart = λ h. cc }
+    at false e (Some m) f = here m (same_light l m) refl
+
+-- the leaves that can be taken alone where the light is on are those where it is off, and those who wait for it
+pub flip_count : (l : Light) (off_ on_ : Light → Bool) → off_ l ≡ false → ((m : Light) → on_ m ≡ cond (same_light l m) true (off_ m)) → (os : List PlainOffer)
+    → length (filter (λ o. lit_by on_ o.base) os) ≡ length (filter (λ o. lit_by off_ o.base) os) + length (lane_of slot_of (slot_of_light l) os)
+flip_count l off_ on_ dark agree os = all os ∙ ap (λ n. length (filter (λ o. lit_by off_ o.base) os) + n) (sym (length-map (filter (λ o. is_slot (slot_of_light l) (slot_of o.base)) os) place))
+  where
+    step : (a b w : Bool) (o : PlainOffer) (xs ys zs : List PlainOffer) → IsFlipped a b w → length ys ≡ length xs + length zs → length (cond b (o ∷ ys) ys) ≡ length (cond a (o ∷ xs) xs) + length (cond w (o ∷ zs) zs)
+    step true true true o xs ys zs f e = let no_ : true ≡ false = f.apart refl in cc
+    step true true false o xs ys zs f e = omega (arith, e)
+    step true false w o xs ys zs f e = let no_ : false ≡ true = f.both in cc
+    step false true true o xs ys zs f e = omega (arith, e)
+    step false true false o xs ys zs f e = let no_ : true ≡ false = f.both in cc
+    step false false true o xs ys zs f e = let no_ : false ≡ true = f.both in cc
+    step false false false o xs ys zs f e = e
+
+    all : (os : List PlainOffer) → length (filter (λ o. lit_by on_ o.base) os) ≡ length (filter (λ o. lit_by off_ o.base) os) + length (filter (λ o. is_slot (slot_of_light l) (slot_of o.base)) os)
+    all [] = refl
+    all (o ∷ os) =
+        step (lit_by off_ o.base) (lit_by on_ o.base) (is_slot (slot_of_light l) (slot_of o.base)) o (filter (λ x. lit_by off_ x.base) os) (filter (λ x. lit_by on_ x.base) os) (filter (λ x. is_slot (slot_of_light l) (slot_of x.base)) os)
+        (subst (IsFlipped (lit_by off_ o.base) (lit_by on_ o.base)) (sym (slot_light l o.base)) (flipped l off_ on_ dark agree o.base)) (all os)
+
+-- where the same is told of each light, the same leaves can be taken alone
+pub told_same : (old new : Light → Bool) → ((m : Light) → new m ≡ old m) → (os : List PlainOffer) → filter (λ o. lit_by new o.base) os ≡ filter (λ o. lit_by old o.base) os
+told_same old new same os = let whole : new ≡ old = λ i m. same m i in ap (λ t. filter (λ o. lit_by t o.base) os) whole
+
+not_true : (b : Bool) → not b ≡ true → b ≡ false
+not_true true e = cc
+not_true false e = refl
+
+-- a light that was out is told to be lit
+pub retold_lit : (l : Light) (lit : Bool) (old new : Light → Bool) (changed : Bool) → lit ≡ true → changed ≡ true → changed ≡ cond lit (not (old l)) (old l) → ((m : Light) → new m ≡ cond (same_light l m) lit (old m)) → (os : List PlainOffer)
+    → length (filter (λ o. lit_by new o.base) os) ≡ length (filter (λ o. lit_by old o.base) os) + length (lane_of slot_of (slot_of_light l) os)
+retold_lit l true old new changed e is was told os = flip_count l old new (not_true (old l) (sym was ∙ is)) told os
+retold_lit l false old new changed e is was told os = cc
+
+-- a light that was lit is told to be out
+pub retold_unlit : (l : Light) (lit : Bool) (old new : Light → Bool) (changed : Bool) → lit ≡ false → changed ≡ true → changed ≡ cond lit (not (old l)) (old l) → ((m : Light) → new m ≡ cond (same_light l m) lit (old m)) → (os : List PlainOffer)
+    → length (filter (λ o. lit_by old o.base) os) ≡ length (filter (λ o. lit_by new o.base) os) + length (lane_of slot_of (slot_of_light l) os)
+retold_unlit l true old new changed e is was told os = cc
+retold_unlit l false old new changed e is was told os =
+    flip_count l new old (told l ∙ ap (λ s. cond s false (old l)) (same_light_self l)) (λ m. at m (same_light l m) refl) os
+  where
+    at : (m : Light) (s : Bool) → same_light l m ≡ s → old m ≡ cond s true (new m)
+    at m true h = sym (ap old (same_light_is l m h)) ∙ sym was ∙ is
+    at m false h = sym (told m ∙ ap (λ s. cond s false (old m)) h)
+
+-- a light is told what is so already
+pub retold_same : (l : Light) (lit : Bool) (old new : Light → Bool) (changed : Bool) → changed ≡ false → changed ≡ cond lit (not (old l)) (old l) → ((m : Light) → new m ≡ cond (same_light l m) lit (old m)) → (m : Light) → new m ≡ old m
+retold_same l lit old new changed is was told m = at (same_light l m) refl
+  where
+    so : (b : Bool) → changed ≡ cond b (not (old l)) (old l) → old l ≡ b
+    so true w = flip_ (old l) (sym w ∙ is)
+      where
+        flip_ : (x : Bool) → not x ≡ false → x ≡ true
+        flip_ true e = refl
+        flip_ false e = cc
+    so false w = sym w ∙ is
+
+    at : (s : Bool) → same_light l m ≡ s → new m ≡ old m
+    at true h = told m ∙ ap (λ s. cond s lit (old m)) h ∙ sym (so lit was) ∙ ap old (same_light_is l m h)
+    at false h = told m ∙ ap (λ s. cond s lit (old m)) h
+
+-- nothing was told of any light, and no place is lost
+pub still_indexed : {S T : Type 0} (es : List PlainEntry) (lanes : IndexMap Slot PlainLane S) (after : IndexMap Slot PlainLane T) (old new : List (Slot × Bool)) (leaves lit : ℕ)
+    → IsIndexed es lanes old leaves lit → ((k : Slot) → lane_at after k ≡ lane_at lanes k) → ((m : Light) → told new m ≡ told old m) → ((k : Slot) → is_named old k ≡ true → is_named new k ≡ true)
+    → IsIndexed es after new leaves lit
+still_indexed es lanes after old new leaves lit x same told_ kept =
+    record {
+      sorted = x.sorted;
+      placed = λ k. same k ∙ x.placed k;
+      all = x.all;
+      alone = x.alone ∙ sym (ap length (told_same (told old) (told new) told_ (offers_of es)));
+      named = Every-weaker (λ k. is_named old (slot_of_nack k)) (λ k. is_named new (slot_of_nack k)) (nacks_in es) (λ k h. kept (slot_of_nack k) h) x.named;
+    }
+
+turned : (a b : ℕ) → nat_eq a b ≡ nat_eq b a
+turned a b = at (nat_eq a b) refl
+  where
+    at : (c : Bool) → nat_eq a b ≡ c → nat_eq a b ≡ nat_eq b a
+    at true e = e ∙ sym (yes_ a b e)
+      where
+        yes_ : (a b : ℕ) → nat_eq a b ≡ true → nat_eq b a ≡ true
+        yes_ a b e = grind (arith, nat_tests)
+    at false e = e ∙ sym (no_ a b e)
+      where
+        no_ : (a b : ℕ) → nat_eq a b ≡ false → nat_eq b a ≡ false
+        no_ a b e = grind (arith, nat_tests)
+
+same_light-turned : (l m : Light) → same_light l m ≡ same_light m l
+same_light-turned (of.IVar a) (of.IVar b) = turned a.0 b.0
+same_light-turned (of.MVar a) (of.MVar b) = turned a.0 b.0
+same_light-turned (of.Mbox a) (of.Mbox b) = turned a.0 b.0
+same_light-turned (of.Port a) (of.Port b) = turned a.0 b.0
+same_light-turned (of.Joined a) (of.Joined b) = turned a.0 b.0
+same_light-turned (of.Alarm a) (of.Alarm b) = turned a b
+same_light-turned (of.Nack a) (of.Nack b) = turned a.0 b.0
+same_light-turned _ _ = refl
+
+-- one more light is told
+pub told_more : (xs : List Light) (i : ℕ) (d m : Light) (lit old now new : Bool) → i < length xs → new ≡ cond (same_light (get_or xs i d) m) lit now → now ≡ cond (has_light (take i xs) m) lit old → new ≡ cond (has_light (take (i + 1) xs) m) lit old
+told_more xs i d m lit old now new within one before =
+    rw (take_more xs i d within, list_any-append (same_light m) (take i xs) (get_or xs i d ∷ []))
+    (one ∙ ap (λ b. cond (same_light (get_or xs i d) m) lit b) before ∙ ap (λ s. cond s lit (cond (has_light (take i xs) m) lit old)) (same_light-turned (get_or xs i d) m) ∙ at (same_light m (get_or xs i d)) (has_light (take i xs) m))
+  where
+    at : (s h : Bool) → cond s lit (cond h lit old) ≡ cond (h || (s || false)) lit old
+    at true true = refl
+    at true false = refl
+    at false true = refl
+    at false false = refl
+
+pub at_place : {X : Type 0} (p : X → Bool) (xs : List X) (i : ℕ) (d : X) → i < length xs → Every p xs → p (get_or xs i d) ≡ true
+at_place p [] i d within each = absurd (omega arith)
+at_place p (x ∷ xs) zero d within each = each.0
+at_place p (x ∷ xs) (suc i) d within each = at_place p xs i d (omega arith) each.1
+
+pub on_ok : {A E : Type 0} (r : Result A E) (X : Type 0) → X → OnOk r X
+on_ok (Ok a) X x = x
+on_ok (Err e) X x = tt
+
+pub on_ok_both : {A E X Y Z : Type 0} (r : Result A E) → OnOk r X → OnOk r Y → (X → Y → Z) → OnOk r Z
+on_ok_both (Ok a) x y f = f x y
+on_ok_both (Err e) x y f = tt

@@ -1,0 +1,172 @@
+-- A search among the leaves of one thread after another.
+use Rattle.std.proofs.Common.{◌≡◌, ℕ, zero, suc, ◌+◌, ◌-◌, ◌<◌, ◌≤◌, Bool, true, false, cond, List, [], ◌∷◌, ◌++◌, map, drop, length, get_or, nat_lt, Some, refl, ap, sym, ◌∙◌, arith}
+use Rattle.std.specs.Prelude.{slice_get}
+use Rattle.std.specs.List.{filter}
+use Rattle.std.proofs.lemmas.Bool.Decides.{nat_tests}
+use Rattle.std.proofs.lemmas.List.{drop_more, length-append, length-map, map-append}
+use Rattle.std.proofs.lemmas.List.Elements.{filter-append}
+use Rattle.cml_value.specs.Value.{PlainBase}
+use Rattle.cml_value.specs.Group.{bases}
+use Rattle.cml_scan.specs.World.{PlainEntry}
+use Rattle.cml_scan.specs.Scan.{PlainOffer, leaves_from, offers_of, scan_of, heads_of}
+use Rattle.cml_scan.specs.Order.{IsSorted, place, before, before_numbers}
+use Rattle.cml_scan.specs.declared.meet.Place.{Place}
+use Rattle.cml_scan.proofs.Partners.{lit_by-alone, scan_of-heads}
+use Rattle.cml_index.specs.declared.slot.Slot.{Slot}
+use Rattle.cml_index.specs.declared.heads.HeadKind.TheVariants.{Alone, Met}
+use Rattle.cml_index.specs.Heads.{is_sought}
+use Rattle.cml_index.specs.Posts.{told}
+use Rattle.cml_index.proofs.Parted.{leaves_all, filter_fewer}
+use Rattle.cml_index.proofs.Lit.{at_place}
+use Rattle.cml_index.proofs.Receivers.{no_partner}
+
+-- what is found in the first of two lists is found in both
+pub found_first : {X : Type 0} (xs ys : List X) (k : ℕ) (x : X) → slice_get xs k ≡ Some x → slice_get (xs ++ ys) k ≡ Some x
+found_first [] ys k x e = cc
+found_first (y ∷ xs) ys zero x e = e
+found_first (y ∷ xs) ys (suc k) x e = found_first xs ys k x e
+
+-- what stands behind the first of two lists is found in the second
+pub found_behind : {X : Type 0} (xs ys : List X) (k more : ℕ) → k ≡ length xs + more → slice_get (xs ++ ys) k ≡ slice_get ys more
+found_behind [] ys k more e = let same : k ≡ more = omega (arith, e) in ap (slice_get ys) same
+found_behind (x ∷ xs) ys zero more e = absurd (omega (arith, e))
+found_behind (x ∷ xs) ys (suc k) more e = found_behind xs ys k more (omega (arith, e))
+
+-- what stands behind one that is passed by
+pub passed_by : {X : Type 0} (x : X) (xs : List X) (k : ℕ) → 0 < k → slice_get (x ∷ xs) k ≡ slice_get xs (k - 1)
+passed_by x xs zero some = absurd (omega (arith, some))
+passed_by x xs (suc k) some = let less : k ≡ suc k - 1 = omega arith in ap (slice_get xs) less
+
+-- the leaf of a thread
+abbrev pub leaf_at : ℕ → ℕ → PlainBase → PlainOffer
+leaf_at t i b = record { thread = t; leaf = i; base = b }
+
+-- those that pass from one leaf on are that one, if it passes, and the later ones
+pub leaves_step : (f : PlainOffer → Bool) (t i : ℕ) (bs : List PlainBase) (b : PlainBase) (r : Bool) → i < length bs → b ≡ get_or bs i b → r ≡ f (leaf_at t i b)
+    → filter f (leaves_from t i (drop i bs)) ≡ cond r (leaf_at t i b ∷ filter f (leaves_from t (i + 1) (drop (i + 1) bs))) (filter f (leaves_from t (i + 1) (drop (i + 1) bs)))
+leaves_step f t i bs b r within is e =
+    ap (λ xs. filter f (leaves_from t i xs)) (drop_more bs i b within ∙ ap (λ x. x ∷ drop (i + 1) bs) (sym is))
+    ∙ ap (λ s. cond s (leaf_at t i b ∷ filter f (leaves_from t (i + 1) (drop (i + 1) bs))) (filter f (leaves_from t (i + 1) (drop (i + 1) bs)))) (sym e)
+
+-- how many pass
+pub count_step : (f : PlainOffer → Bool) (t i : ℕ) (bs : List PlainBase) (b : PlainBase) (r : Bool) → i < length bs → b ≡ get_or bs i b → r ≡ f (leaf_at t i b)
+    → length (filter f (leaves_from t i (drop i bs))) ≡ cond r 1 0 + length (filter f (leaves_from t (i + 1) (drop (i + 1) bs)))
+count_step f t i bs b r within is e = ap length (leaves_step f t i bs b r within is e) ∙ at r (leaf_at t i b) (filter f (leaves_from t (i + 1) (drop (i + 1) bs)))
+  where
+    at : (s : Bool) (x : PlainOffer) (xs : List PlainOffer) → length (cond s (x ∷ xs) xs) ≡ cond s 1 0 + length xs
+    at true x xs = omega arith
+    at false x xs = omega arith
+
+-- the leaves of the threads from one on are its own and those of the later ones
+pub offers_step : (es : List PlainEntry) (i : ℕ) (e : PlainEntry) → i < length es → e ≡ get_or es i e → offers_of (drop i es) ≡ leaves_from e.thread 0 (bases e.group) ++ offers_of (drop (i + 1) es)
+offers_step es i e within is = ap offers_of (drop_more es i e within ∙ ap (λ x. x ∷ drop (i + 1) es) (sym is))
+
+pub offers_more : (es : List PlainEntry) (i : ℕ) (e : PlainEntry) → i < length es → e ≡ get_or es i e → length (offers_of (drop i es)) ≡ length (bases e.group) + length (offers_of (drop (i + 1) es))
+offers_more es i e within is =
+    ap length (offers_step es i e within is) ∙ length-append (leaves_from e.thread 0 (bases e.group)) (offers_of (drop (i + 1) es)) ∙ ap (λ n. n + length (offers_of (drop (i + 1) es))) (leaves_all e.thread 0 (bases e.group))
+
+pub sought_step : (f : PlainOffer → Bool) (es : List PlainEntry) (i : ℕ) (e : PlainEntry) → i < length es → e ≡ get_or es i e
+    → filter f (offers_of (drop i es)) ≡ filter f (leaves_from e.thread 0 (bases e.group)) ++ filter f (offers_of (drop (i + 1) es))
+sought_step f es i e within is = ap (filter f) (offers_step es i e within is) ∙ filter-append f (leaves_from e.thread 0 (bases e.group)) (offers_of (drop (i + 1) es))
+
+pub sought_more : (f : PlainOffer → Bool) (es : List PlainEntry) (i : ℕ) (e : PlainEntry) → i < length es → e ≡ get_or es i e
+    → length (filter f (offers_of (drop i es))) ≡ length (filter f (leaves_from e.thread 0 (bases e.group))) + length (filter f (offers_of (drop (i + 1) es)))
+sought_more f es i e within is = ap length (sought_step f es i e within is) ∙ length-append (filter f (leaves_from e.thread 0 (bases e.group))) (filter f (offers_of (drop (i + 1) es)))
+
+pub sought_places : (f : PlainOffer → Bool) (es : List PlainEntry) (i : ℕ) (e : PlainEntry) → i < length es → e ≡ get_or es i e
+    → map place (filter f (offers_of (drop i es))) ≡ map place (filter f (leaves_from e.thread 0 (bases e.group))) ++ map place (filter f (offers_of (drop (i + 1) es)))
+sought_places f es i e within is = ap (map place) (sought_step f es i e within is) ∙ map-append place (filter f (leaves_from e.thread 0 (bases e.group))) (filter f (offers_of (drop (i + 1) es)))
+
+-- those that pass one of two tests, of which no one passes both, are no more than all
+pub both_fewer : {X : Type 0} (f g : X → Bool) → ((x : X) → f x ≡ true → g x ≡ false) → (xs : List X) → length (filter f xs) + length (filter g xs) ≤ length xs
+both_fewer f g apart [] = omega arith
+both_fewer f g apart (x ∷ xs) = at (f x) (g x) (apart x) (both_fewer f g apart xs)
+  where
+    at : (a b : Bool) → (a ≡ true → b ≡ false) → length (filter f xs) + length (filter g xs) ≤ length xs
+        → length (cond a (x ∷ filter f xs) (filter f xs)) + length (cond b (x ∷ filter g xs) (filter g xs)) ≤ length (x ∷ xs)
+    at true true never h = let off : true ≡ false = never refl in cc
+    at true false never h = omega (arith, h)
+    at false true never h = omega (arith, h)
+    at false false never h = omega (arith, h)
+
+-- no leaf can be taken alone and has a partner
+pub never_both : (flags : List (Slot × Bool)) (os : List PlainOffer) (o : PlainOffer) → is_sought Alone flags os o ≡ true → is_sought Met flags os o ≡ false
+never_both flags os o e = no_partner (record { 0 = o.thread }) o.leaf o.base (λ c. lit_by-alone (told flags) o.base c e) os
+
+-- the heads are those that can be taken alone, and then those that have a partner
+pub heads_are : (flags : List (Slot × Bool)) (es : List PlainEntry) → IsSorted es
+    → heads_of (scan_of es (told flags)) ≡ map place (filter (is_sought Alone flags (offers_of es)) (offers_of es)) ++ map place (filter (is_sought Met flags (offers_of es)) (offers_of es))
+heads_are flags es up = scan_of-heads es (told flags) up
+
+pub heads_many : (flags : List (Slot × Bool)) (es : List PlainEntry) → IsSorted es
+    → length (heads_of (scan_of es (told flags))) ≡ length (filter (is_sought Alone flags (offers_of es)) (offers_of es)) + length (filter (is_sought Met flags (offers_of es)) (offers_of es))
+heads_many flags es up =
+    let alone = filter (is_sought Alone flags (offers_of es)) (offers_of es) in
+    let met = filter (is_sought Met flags (offers_of es)) (offers_of es) in
+    ap length (heads_are flags es up) ∙ length-append (map place alone) (map place met) ∙ ap (λ n. n + length (map place met)) (length-map alone place) ∙ ap (λ n. length alone + n) (length-map met place)
+
+-- how many of a thread's leaves, from one on, stand behind one of them
+own_behind : (p : Place) (leaf : ℕ) (bs : List PlainBase) → leaf ≤ p.leaf → p.leaf < leaf + length bs
+    → length (filter (λ o. before p (place o)) (leaves_from p.tid.0 leaf bs)) + p.leaf + 1 ≤ leaf + length bs
+own_behind p leaf [] low high = absurd (omega (arith, low, high))
+own_behind p leaf (b ∷ bs) low high = rw (not_behind p.tid.0 p.leaf leaf low) (at (nat_lt leaf p.leaf) refl (own_behind p (leaf + 1) bs))
+  where
+    not_behind : (t m n : ℕ) → n ≤ m → before_numbers t m t n ≡ false
+    not_behind t m n low = grind (arith, nat_tests)
+
+    above : (m n : ℕ) → nat_lt n m ≡ true → n + 1 ≤ m
+    above m n e = grind (arith, nat_tests)
+
+    same : (m n : ℕ) → n ≤ m → nat_lt n m ≡ false → m ≡ n
+    same m n low e = grind (arith, nat_tests)
+
+    long : length (b ∷ bs) ≡ length bs + 1
+    long = omega arith
+
+    at : (s : Bool) → nat_lt leaf p.leaf ≡ s
+        → (leaf + 1 ≤ p.leaf → p.leaf < leaf + 1 + length bs → length (filter (λ o. before p (place o)) (leaves_from p.tid.0 (leaf + 1) bs)) + p.leaf + 1 ≤ leaf + 1 + length bs)
+        → length (filter (λ o. before p (place o)) (leaves_from p.tid.0 (leaf + 1) bs)) + p.leaf + 1 ≤ leaf + length (b ∷ bs)
+    at true e later =
+        let up = above p.leaf leaf e in
+        let rest = later up (omega (arith, high, long)) in
+        omega (arith, rest, long)
+    at false e later =
+        let is = same p.leaf leaf low e in
+        let few : length (filter (λ o. before p (place o)) (leaves_from p.tid.0 (leaf + 1) bs)) ≤ length (leaves_from p.tid.0 (leaf + 1) bs) = filter_fewer (λ o. before p (place o)) (leaves_from p.tid.0 (leaf + 1) bs) in
+        let all : length (leaves_from p.tid.0 (leaf + 1) bs) ≡ length bs = leaves_all p.tid.0 (leaf + 1) bs in
+        omega (arith, is, few, all, long)
+
+-- no leaf of a thread stands behind one of a higher thread
+none_behind : (p : Place) (t leaf : ℕ) (bs : List PlainBase) → nat_lt t p.tid.0 ≡ true → filter (λ o. before p (place o)) (leaves_from t leaf bs) ≡ []
+none_behind p t leaf [] low = refl
+none_behind p t leaf (b ∷ bs) low = rw (off p.tid.0 p.leaf t leaf low) (none_behind p t (leaf + 1) bs low)
+  where
+    off : (a m c n : ℕ) → nat_lt c a ≡ true → before_numbers a m c n ≡ false
+    off a m c n e = grind (arith, nat_tests)
+
+-- The leaves behind one of a thread are fewer than those of this thread and of the later ones, by that leaf and those before it.
+pub few_behind : (p : Place) (es : List PlainEntry) (i : ℕ) (e : PlainEntry) → IsSorted es → i < length es → e ≡ get_or es i e → p.tid.0 ≡ e.thread → p.leaf < length (bases e.group)
+    → length (filter (λ o. before p (place o)) (offers_of es)) + p.leaf + 1 ≤ length (offers_of (drop i es))
+few_behind p [] i e up within is own low = absurd (omega (arith, within))
+few_behind p (x ∷ xs) zero e up within is own low =
+    let here : leaves_from x.thread 0 (bases x.group) ≡ leaves_from p.tid.0 0 (bases e.group) = ap (λ (y : PlainEntry). leaves_from y.thread 0 (bases y.group)) (sym is) ∙ ap (λ t. leaves_from t 0 (bases e.group)) (sym own) in
+    let f : PlainOffer → Bool = λ o. before p (place o) in
+    let mine = leaves_from x.thread 0 (bases x.group) in
+    let parts : length (filter f (mine ++ offers_of xs)) ≡ length (filter f mine) + length (filter f (offers_of xs)) = ap length (filter-append f mine (offers_of xs)) ∙ length-append (filter f mine) (filter f (offers_of xs)) in
+    let whole : length (mine ++ offers_of xs) ≡ length mine + length (offers_of xs) = length-append mine (offers_of xs) in
+    let later : length (filter f (offers_of xs)) ≤ length (offers_of xs) = filter_fewer f (offers_of xs) in
+    let counted : length (filter f mine) ≡ length (filter f (leaves_from p.tid.0 0 (bases e.group))) = ap (λ os. length (filter f os)) here in
+    let many : length mine ≡ length (bases e.group) = ap length here ∙ leaves_all p.tid.0 0 (bases e.group) in
+    let few : length (filter f (leaves_from p.tid.0 0 (bases e.group))) + p.leaf + 1 ≤ 0 + length (bases e.group) = own_behind p 0 (bases e.group) (omega arith) (omega (arith, low)) in
+    omega (arith, parts, whole, later, counted, many, few)
+few_behind p (x ∷ xs) (suc i) e up within is own low =
+    let f : PlainOffer → Bool = λ o. before p (place o) in
+    let mine = leaves_from x.thread 0 (bases x.group) in
+    let inside : i < length xs = omega (arith, within) in
+    let under : nat_lt x.thread (get_or xs i e).thread ≡ true = at_place (λ (y : PlainEntry). nat_lt x.thread y.thread) xs i e inside up.0 in
+    let lower : nat_lt x.thread p.tid.0 ≡ true = ap (nat_lt x.thread) (own ∙ ap (λ (y : PlainEntry). y.thread) is) ∙ under in
+    let none : filter f mine ≡ [] = none_behind p x.thread 0 (bases x.group) lower in
+    let rest : filter f (mine ++ offers_of xs) ≡ filter f (offers_of xs) = filter-append f mine (offers_of xs) ∙ ap (λ os. os ++ filter f (offers_of xs)) none in
+    let counted : length (filter f (mine ++ offers_of xs)) ≡ length (filter f (offers_of xs)) = ap length rest in
+    let k = few_behind p xs i e up.1 inside is own low in
+    omega (arith, counted, k)

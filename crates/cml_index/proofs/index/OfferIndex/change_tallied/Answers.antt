@@ -1,0 +1,60 @@
+use Rattle.std.proofs.Common.{◌≡◌, ◌≢◌, Some, ◌∙◌, ◌+◌, ◌*◌, ◌≤◌, ◌<◌, ◌^◌, not, nat_eq, length, ap, sym, subst, arith}
+use Rattle.std.specs.List.{All}
+use Rattle.cml_scan.specs.Table.{IsNew, without, with_entry, IsThere, IsNackOf, nacks_among}
+use Rattle.cml_scan.specs.Scan.{is_among, offers_of}
+use Rattle.cml_scan.specs.World.{PlainEntry}
+use Rattle.cml_value.specs.Group.{bases}
+use Rattle.cml_scan.proofs.Ordered.{Every-filter, sorted_without}
+use Rattle.cml_index.specs.declared.slot.Slot.{Slot}
+use Rattle.cml_index.specs.Slots.{lane_at}
+use Rattle.cml_index.specs.Slot.{slot_of_light}
+use Rattle.cml_index.specs.Posts as spec
+use Rattle.cml_index.proofs.Parted.{nacks_left, all_apart, came_all}
+use Rattle.cml_index.proofs.Lit.{on_ok_both}
+use Rattle.cml_index.proofs.Going.{nacks_named, gone_many, cost_gone, cost_came}
+use Rattle.cml_index.proofs.index.OfferIndex.change_tallied.Goals as goal
+
+pub leave_only-requires-clause-there : goal.leave_only-requires-clause-there
+leave_only-requires-clause-there c = subst (λ (x : spec.PlainIndex). All (IsThere x.entries) c.args.gone.now) (sym c.self.view_is) c.requires.there
+
+pub leave_and_come-requires-clause-there : goal.leave_and_come-requires-clause-there
+leave_and_come-requires-clause-there c = subst (λ (x : spec.PlainIndex). All (IsThere x.entries) c.args.gone.now) (sym c.self.view_is) c.requires.there
+
+pub returns-in-None-clause-sure : goal.returns-in-None-clause-sure
+returns-in-None-clause-sure c = λ none nacks.
+    let es = c.self.inside.core.entries.items in
+    let all = subst (λ (x : spec.PlainIndex). All (IsNackOf (nacks_among c.args.gone.now x.entries)) c.args.lit.now) (sym c.self.view_is) nacks in
+    c.leave_only.ensures.sure (nacks_named (λ k. spec.is_named c.self.inside.core.flags.entries (spec.slot_of_nack k)) (λ l. spec.is_named c.self.inside.core.flags.entries (slot_of_light l)) (λ k. Rattle.std.proofs.Common.refl) (nacks_among c.args.gone.now es) c.args.lit.now
+    (nacks_left (λ k. spec.is_named c.self.inside.core.flags.entries (spec.slot_of_nack k)) (λ e. is_among c.args.gone.now e.thread) es c.self.invariant.named) all)
+
+pub returns-in-None-clause-cost : goal.returns-in-None-clause-cost
+returns-in-None-clause-cost c = on_ok_both c.leave_only.result c.leave_only.ensures.ok c.leave_only.ensures.cost (λ ok cost digits few.
+    let es = c.self.inside.core.entries.items in
+    let same : c.args.self.now.entries ≡ es = sym (ap (λ (x : spec.PlainIndex). x.entries) c.self.view_is) in
+    let lanes : (k : Slot) → length (lane_at c.self.inside.core.lanes k) < 2 ^ digits = λ k. rw (c.self.invariant.placed k, ← same) (few k) in
+    let many = gone_many c.args.gone.now es in
+    let now : length (offers_of c.leave_only.new.self.entries.items) ≡ length (offers_of (without c.args.gone.now es)) = ap (λ xs. length (offers_of xs)) ok in
+    let whole : c.self.inside.core.leaves ≡ spec.gone_leaves c.args.gone.now es + c.leave_only.new.self.leaves = omega (arith, many, now, c.self.invariant.all, c.leave_only.ensures.indexed.all) in
+    let sum = cost_gone c.args.tally.now c.leave_only.new.tally (spec.gone_leaves c.args.gone.now es) c.leave_only.new.self.leaves _ digits (rw (← whole) (cost digits lanes)) in
+    let none : spec.came_leaves c.args.came ≡ 0 = ap spec.came_leaves c.in-None.is in
+    rw (same, none) sum)
+
+pub returns-in-Some-clause-cost : goal.returns-in-Some-clause-cost
+returns-in-Some-clause-cost c = on_ok_both c.leave_and_come.result c.leave_and_come.ensures.ok c.leave_and_come.ensures.cost (λ ok cost digits few.
+    let es = c.self.inside.core.entries.items in
+    let same : c.args.self.now.entries ≡ es = sym (ap (λ (x : spec.PlainIndex). x.entries) c.self.view_is) in
+    let lanes : (k : Slot) → length (lane_at c.self.inside.core.lanes k) < 2 ^ digits = λ k. rw (c.self.invariant.placed k, ← same) (few k) in
+    let many = gone_many c.args.gone.now es in
+    let e : PlainEntry = record { thread = c.in-Some.tid.0; group = c.in-Some.group.now } in
+    let n = length (bases c.in-Some.group.now) in
+    let left = length (offers_of (without c.args.gone.now es)) in
+    let now : length (offers_of c.leave_and_come.new.self.entries.items) ≡ length (offers_of (with_entry e (without c.args.gone.now es))) = ap (λ xs. length (offers_of xs)) ok in
+    let fresh : IsNew c.args.self.now.entries (Some (c.in-Some.tid, c.in-Some.group)) = subst (IsNew c.args.self.now.entries) c.in-Some.is c.requires.new in
+    let fresh_here : All (λ (x : PlainEntry). x.thread ≢ e.thread) es = subst (All (λ (x : PlainEntry). x.thread ≢ e.thread)) same fresh in
+    let apart = Every-filter (λ x. not (nat_eq e.thread x.thread)) (λ x. not (is_among c.args.gone.now x.thread)) es (all_apart e.thread es fresh_here) in
+    let came = came_all e (without c.args.gone.now es) (sorted_without c.args.gone.now es c.self.invariant.sorted) apart in
+    let after : c.leave_and_come.new.self.leaves ≡ left + n = omega (arith, came, now, c.leave_and_come.ensures.indexed.all) in
+    let whole : c.self.inside.core.leaves ≡ spec.gone_leaves c.args.gone.now es + left = omega (arith, many, c.self.invariant.all) in
+    let sum = cost_came c.args.tally.now c.leave_and_come.new.tally (spec.gone_leaves c.args.gone.now es) left n _ digits (rw (← whole, ← after) (cost digits lanes)) in
+    let some : spec.came_leaves c.args.came ≡ n = ap spec.came_leaves c.in-Some.is in
+    rw (same, some) sum)

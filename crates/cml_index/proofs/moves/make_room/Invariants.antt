@@ -1,0 +1,12 @@
+use Rattle.std.proofs.Common.{◌≡◌, ◌≤◌, length, drop, false}
+use Rattle.cml_index.specs.declared.slot.Slot.{Slot}
+use Rattle.cml_index.specs.Slots as spec
+use Rattle.cml_index.proofs.moves.make_room.Given as goal
+
+-- the lanes of the runs so far have room
+abbrev pub invariant-loop-i : goal.invariant-loop-i
+invariant-loop-i l = record {
+  same : (k : Slot) → spec.lane_at l.lanes k ≡ spec.lane_at l.fn.lanes k;
+  kept : (k : Slot) → spec.room_at l.fn.lanes k ≤ spec.room_at l.lanes k;
+  room : (k : Slot) → spec.has_run (drop l.i l.runs.entries) k ≡ false → length (spec.run_in l.runs k) ≤ spec.room_at l.lanes k;
+}

@@ -1,0 +1,80 @@
+use Rattle.std.proofs.Common.{◌≡◌, ◌≤◌, ◌+◌, ◌*◌, ◌∙◌, ◌++◌, ◌∷◌, length, drop, nat_eq, nat_lt, not, map, ap, sym, subst, arith}
+use Rattle.std.specs.List.{insert, filter}
+use Rattle.cml_value.specs.Group.{bases}
+use Rattle.cml_scan.specs.World.{PlainEntry}
+use Rattle.cml_scan.specs.Scan.{offers_of}
+use Rattle.cml_scan.specs.Table.{with_entry}
+use Rattle.cml_scan.specs.Light.{lit_by}
+use Rattle.cml_scan.specs.Order.{IsSorted, Every, Ascends, before}
+use Rattle.cml_scan.proofs.Ordered.{sorted_with}
+use Rattle.cml_channel.specs.Lanes.{is_others, with_run}
+use Rattle.cml_index.specs.Slots.{lane_at, lane_of, leaves_at}
+use Rattle.cml_index.specs.Posts as spec
+use Rattle.cml_index.proofs.Parted.{all_apart, between, lane_others, lane-ascends, leaves_at-ascend, came_lane, came_count, came_all, nacks_with, move_cost, filter_fewer}
+use Rattle.cml_index.proofs.state.Core.enter.Goals as goal
+
+pub overflow_add-self-2 : goal.overflow_add-self-2
+overflow_add-self-2 c =
+    let es = c.args.self.now.entries.items in
+    let lit = lit_by (spec.told c.args.self.now.flags.entries) in
+    let count : c.count_lit-lit.result ≡ length (filter lit (bases c.args.entry.group)) = c.count_lit-lit.ensures.count ∙ ap (λ bs. length (filter lit bs)) c.bases.ensures in
+    let a : length (filter lit (bases c.args.entry.group)) ≤ length (bases c.args.entry.group) = filter_fewer lit (bases c.args.entry.group) in
+    let b : length (spec.lit_offers c.args.self.now.flags.entries es) ≤ length (offers_of es) = filter_fewer (λ (o : Rattle.cml_scan.specs.Scan.PlainOffer). lit o.base) (offers_of es) in
+    omega (arith, count, a, b, c.requires.indexed.all, c.requires.indexed.alone, c.requires.small)
+
+pub come-requires-clause-sorted : goal.come-requires-clause-sorted
+come-requires-clause-sorted c k = subst (Ascends before) (sym (c.requires.indexed.placed k)) (lane-ascends spec.slot_of k c.args.self.now.entries.items c.requires.indexed.sorted)
+
+pub come-requires-clause-new : goal.come-requires-clause-new
+come-requires-clause-new c k =
+    let apart = all_apart c.args.entry.thread c.args.self.now.entries.items c.requires.new in
+    let here = subst (λ t. Every (λ (e : PlainEntry). not (nat_eq t e.thread)) c.args.self.now.entries.items) (sym c.tid-2.ensures) apart in
+    subst (Every (is_others c.tid-2.result)) (sym (c.requires.indexed.placed k)) (lane_others spec.slot_of k c.tid-2.result c.args.self.now.entries.items here)
+
+pub come-requires-clause-ascend : goal.come-requires-clause-ascend
+come-requires-clause-ascend c k = subst (Ascends nat_lt) (sym (c.runs.ensures.runs k)) (leaves_at-ascend k 0 (map spec.slot_of (bases c.args.entry.group)))
+
+pub insert_in_room-requires-clause-within : goal.insert_in_room-requires-clause-within
+insert_in_room-requires-clause-within c =
+    let es = c.args.self.now.entries.items in
+    let at : c.find-at.result ≡ spec.count_below c.args.entry.thread es = c.find-at.ensures ∙ ap (λ t. spec.count_below t c.deref.result.now) c.tid.ensures ∙ ap (spec.count_below c.args.entry.thread) c.deref.ensures.value in
+    let fewer : spec.count_below c.args.entry.thread es ≤ length es = filter_fewer (λ (e : PlainEntry). nat_lt e.thread c.args.entry.thread) es in
+    omega (arith, at, fewer)
+
+pub returns-clause-entries : goal.returns-clause-entries
+returns-clause-entries c =
+    let es = c.args.self.now.entries.items in
+    let at : c.find-at.result ≡ spec.count_below c.args.entry.thread es = c.find-at.ensures ∙ ap (λ t. spec.count_below t c.deref.result.now) c.tid.ensures ∙ ap (spec.count_below c.args.entry.thread) c.deref.ensures.value in
+    let b = between c.args.entry.thread es c.requires.indexed.sorted (all_apart c.args.entry.thread es c.requires.new) in
+    c.insert_in_room.ensures ∙ ap (λ n. insert es n c.args.entry) at ∙ ap (λ xs. xs ++ c.args.entry ∷ drop (spec.count_below c.args.entry.thread es) es) b.front ∙ ap (λ xs. filter (λ x. nat_lt x.thread c.args.entry.thread) es ++ c.args.entry ∷ xs) b.back
+
+pub returns-clause-indexed : goal.returns-clause-indexed
+returns-clause-indexed c =
+    let es = c.args.self.now.entries.items in
+    let e = c.args.entry in
+    let after : c.insert_in_room.new.entries.items ≡ with_entry e es = returns-clause-entries c in
+    let apart = all_apart e.thread es c.requires.new in
+    let lit = lit_by (spec.told c.args.self.now.flags.entries) in
+    let count : length c.bases-2.result.now ≡ length (bases e.group) = ap length c.bases-2.ensures in
+    let count_lit : c.count_lit-lit.result ≡ length (filter lit (bases e.group)) = c.count_lit-lit.ensures.count ∙ ap (λ bs. length (filter lit bs)) c.bases.ensures in
+    let many = came_all e es c.requires.indexed.sorted apart in
+    let many_lit = came_count lit e es c.requires.indexed.sorted apart in
+    let now : length (offers_of c.insert_in_room.new.entries.items) ≡ length (offers_of (with_entry e es)) = ap (λ xs. length (offers_of xs)) after in
+    let now_lit : length (spec.lit_offers c.args.self.now.flags.entries c.insert_in_room.new.entries.items) ≡ length (filter (λ o. lit o.base) (offers_of (with_entry e es))) = ap (λ xs. length (filter (λ o. lit o.base) (offers_of xs))) after in
+    record {
+      sorted = subst IsSorted (sym after) (sorted_with e es c.requires.indexed.sorted);
+      placed = λ k. c.come.ensures.lanes k ∙ ap (λ ls. with_run c.tid-2.result ls (lane_at c.args.self.now.lanes k)) (c.runs.ensures.runs k)
+          ∙ ap (with_run c.tid-2.result (leaves_at k 0 (map spec.slot_of (bases e.group)))) (c.requires.indexed.placed k)
+          ∙ came_lane spec.slot_of k c.tid-2.result e es c.tid-2.ensures ∙ ap (λ xs. lane_of spec.slot_of k (offers_of xs)) (sym after);
+      all = omega (arith, many, count, now, c.requires.indexed.all);
+      alone = omega (arith, many_lit, count_lit, now_lit, c.requires.indexed.alone);
+      named = subst (λ xs. Every (λ k. spec.is_named c.args.self.now.flags.entries (spec.slot_of_nack k)) (spec.nacks_in xs)) (sym after) (nacks_with (λ k. spec.is_named c.args.self.now.flags.entries (spec.slot_of_nack k)) e es c.requires.indexed.named c.requires.named);
+    }
+
+pub returns-clause-cost : goal.returns-clause-cost
+returns-clause-cost c digits few =
+    let count : length c.bases.result.now ≡ length (bases c.args.entry.group) = ap length c.bases.ensures in
+    let one : c.count_lit-lit.new.tally ≤ c.args.tally.now + 2 * length (bases c.args.entry.group) = omega (arith, c.count_lit-lit.ensures.cost, count) in
+    let two = c.come.ensures.cost digits few in
+    let sum = move_cost c.args.tally.now c.count_lit-lit.new.tally c.come.new.tally (length (bases c.args.entry.group)) _ 0 digits one two c.runs.ensures.few in
+    omega (arith, sum)

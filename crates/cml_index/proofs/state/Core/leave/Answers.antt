@@ -1,0 +1,115 @@
+use Rattle.std.proofs.Common.{◌≡◌, ◌≤◌, ◌-◌, ◌+◌, ◌*◌, ◌∙◌, [], ◌∷◌, length, get_or, nat_eq, not, ap, sym, subst, arith}
+use Rattle.std.specs.List.{remove, filter}
+use Rattle.cml_value.specs.Group.{bases}
+use Rattle.cml_scan.specs.World.{PlainEntry}
+use Rattle.cml_scan.specs.Scan.{offers_of}
+use Rattle.cml_scan.specs.Table.{without}
+use Rattle.cml_scan.specs.Light.{lit_by}
+use Rattle.cml_scan.specs.Order.{IsSorted, Every}
+use Rattle.cml_scan.proofs.Ordered.{sorted_without}
+use Rattle.cml_channel.specs.Lanes.{is_own, is_others, others}
+use Rattle.cml_index.specs.Slots.{lane_at, lane_of}
+use Rattle.cml_index.specs.Posts as spec
+use Rattle.cml_index.proofs.Parted.{owned, there_any, gone_one, left_lane, left_rest, left_count, left_all, nacks_left, move_cost, filter_fewer}
+use Rattle.cml_index.proofs.state.Core.leave.Goals as goal
+
+pub remove-entry-requires : goal.remove-entry-requires
+remove-entry-requires c =
+    let es = c.args.self.now.entries.items in
+    let o = owned c.args.tid.0 es (record { thread = 0; group = Rattle.cml_value.specs.Group.never }) c.requires.indexed.sorted (there_any c.args.tid.0 es c.requires.there) in
+    omega (arith, o.within, c.find-at.ensures, ap (spec.count_below c.args.tid.0) c.deref.ensures.value, c.args.self.now.entries.ok.0)
+
+pub overflow_sub-self : goal.overflow_sub-self
+overflow_sub-self c =
+    let es = c.args.self.now.entries.items in
+    let d = c.remove-entry.result in
+    let o = owned c.args.tid.0 es d c.requires.indexed.sorted (there_any c.args.tid.0 es c.requires.there) in
+    let at = c.find-at.ensures ∙ ap (spec.count_below c.args.tid.0) c.deref.ensures.value in
+    let entry : d ≡ get_or es (spec.count_below c.args.tid.0 es) d = c.remove-entry.ensures.value ∙ ap (λ n. get_or es n d) at in
+    let own : filter (λ e. nat_eq c.args.tid.0 e.thread) es ≡ d ∷ [] = o.own ∙ ap (λ x. x ∷ []) (sym entry) in
+    let many = left_count (lit_by (spec.told c.args.self.now.flags.entries)) c.args.tid.0 es d own in
+    let count : c.count_lit-lit.result ≡ length (filter (lit_by (spec.told c.args.self.now.flags.entries)) (bases d.group)) = c.count_lit-lit.ensures.count ∙ ap (λ bs. length (filter (lit_by (spec.told c.args.self.now.flags.entries)) bs)) c.bases.ensures in
+    omega (arith, many, count, c.requires.indexed.alone)
+
+pub overflow_sub-self-2 : goal.overflow_sub-self-2
+overflow_sub-self-2 c =
+    let es = c.args.self.now.entries.items in
+    let d = c.remove-entry.result in
+    let o = owned c.args.tid.0 es d c.requires.indexed.sorted (there_any c.args.tid.0 es c.requires.there) in
+    let at = c.find-at.ensures ∙ ap (spec.count_below c.args.tid.0) c.deref.ensures.value in
+    let entry : d ≡ get_or es (spec.count_below c.args.tid.0 es) d = c.remove-entry.ensures.value ∙ ap (λ n. get_or es n d) at in
+    let own : filter (λ e. nat_eq c.args.tid.0 e.thread) es ≡ d ∷ [] = o.own ∙ ap (λ x. x ∷ []) (sym entry) in
+    let many = left_all c.args.tid.0 es d own in
+    let count : length c.bases-2.result.now ≡ length (bases d.group) = ap length c.bases-2.ensures in
+    omega (arith, many, count, c.requires.indexed.all)
+
+pub go-requires : goal.go-requires
+go-requires c k =
+    let es = c.args.self.now.entries.items in
+    let d = c.remove-entry.result in
+    let o = owned c.args.tid.0 es d c.requires.indexed.sorted (there_any c.args.tid.0 es c.requires.there) in
+    let at = c.find-at.ensures ∙ ap (spec.count_below c.args.tid.0) c.deref.ensures.value in
+    let entry : d ≡ get_or es (spec.count_below c.args.tid.0 es) d = c.remove-entry.ensures.value ∙ ap (λ n. get_or es n d) at in
+    let own : filter (λ e. nat_eq c.args.tid.0 e.thread) es ≡ d ∷ [] = o.own ∙ ap (λ x. x ∷ []) (sym entry) in
+    let thread : d.thread ≡ c.args.tid.0 = ap (λ (e : PlainEntry). e.thread) entry ∙ o.thread in
+    ap length (c.runs.ensures.runs k) ∙ left_lane spec.slot_of k c.args.tid es d own thread ∙ ap (λ ps. length (filter (is_own c.args.tid) ps)) (sym (c.requires.indexed.placed k))
+
+pub returns-clause-entries : goal.returns-clause-entries
+returns-clause-entries c =
+    let es = c.args.self.now.entries.items in
+    let d = c.remove-entry.result in
+    let o = owned c.args.tid.0 es d c.requires.indexed.sorted (there_any c.args.tid.0 es c.requires.there) in
+    let at = c.find-at.ensures ∙ ap (spec.count_below c.args.tid.0) c.deref.ensures.value in
+    let entry : d ≡ get_or es (spec.count_below c.args.tid.0 es) d = c.remove-entry.ensures.value ∙ ap (λ n. get_or es n d) at in
+    let own : filter (λ e. nat_eq c.args.tid.0 e.thread) es ≡ d ∷ [] = o.own ∙ ap (λ x. x ∷ []) (sym entry) in
+    c.remove-entry.ensures.items ∙ ap (remove es) at ∙ o.rest ∙ gone_one c.args.tid es
+
+pub returns-clause-indexed : goal.returns-clause-indexed
+returns-clause-indexed c =
+    let es = c.args.self.now.entries.items in
+    let d = c.remove-entry.result in
+    let o = owned c.args.tid.0 es d c.requires.indexed.sorted (there_any c.args.tid.0 es c.requires.there) in
+    let at = c.find-at.ensures ∙ ap (spec.count_below c.args.tid.0) c.deref.ensures.value in
+    let entry : d ≡ get_or es (spec.count_below c.args.tid.0 es) d = c.remove-entry.ensures.value ∙ ap (λ n. get_or es n d) at in
+    let own : filter (λ e. nat_eq c.args.tid.0 e.thread) es ≡ d ∷ [] = o.own ∙ ap (λ x. x ∷ []) (sym entry) in
+    let rest : c.remove-entry.new.self.items ≡ filter (λ e. not (nat_eq c.args.tid.0 e.thread)) es = c.remove-entry.ensures.items ∙ ap (remove es) at ∙ o.rest in
+    let without_ : c.remove-entry.new.self.items ≡ without (c.args.tid ∷ []) es = rest ∙ gone_one c.args.tid es in
+    let lit = lit_by (spec.told c.args.self.now.flags.entries) in
+    let many = left_all c.args.tid.0 es d own in
+    let count : length c.bases-2.result.now ≡ length (bases d.group) = ap length c.bases-2.ensures in
+    let after : length (offers_of c.remove-entry.new.self.items) ≡ length (offers_of (filter (λ e. not (nat_eq c.args.tid.0 e.thread)) es)) = ap (λ xs. length (offers_of xs)) rest in
+    let many_lit = left_count lit c.args.tid.0 es d own in
+    let count_lit : c.count_lit-lit.result ≡ length (filter lit (bases d.group)) = c.count_lit-lit.ensures.count ∙ ap (λ bs. length (filter lit bs)) c.bases.ensures in
+    let after_lit : length (spec.lit_offers c.args.self.now.flags.entries c.remove-entry.new.self.items) ≡ length (filter (λ o. lit o.base) (offers_of (filter (λ e. not (nat_eq c.args.tid.0 e.thread)) es))) = ap (λ xs. length (filter (λ o. lit o.base) (offers_of xs))) rest in
+    record {
+      sorted = subst IsSorted (sym without_) (sorted_without (c.args.tid ∷ []) es c.requires.indexed.sorted);
+      placed = λ k. c.go.ensures.lanes k ∙ ap (others c.args.tid) (c.requires.indexed.placed k) ∙ sym (left_rest spec.slot_of k c.args.tid es) ∙ ap (λ xs. lane_of spec.slot_of k (offers_of xs)) (sym rest);
+      all = omega (arith, many, count, after, c.requires.indexed.all);
+      alone = omega (arith, many_lit, count_lit, after_lit, c.requires.indexed.alone);
+      named = subst (λ xs. Every (λ k. spec.is_named c.args.self.now.flags.entries (spec.slot_of_nack k)) (spec.nacks_in xs)) (sym rest) (nacks_left (λ k. spec.is_named c.args.self.now.flags.entries (spec.slot_of_nack k)) (λ e. not (nat_eq c.args.tid.0 e.thread)) es c.requires.indexed.named);
+    }
+
+pub returns-clause-shorter : goal.returns-clause-shorter
+returns-clause-shorter c k =
+    let fewer : length (others c.args.tid (lane_at c.args.self.now.lanes k)) ≤ length (lane_at c.args.self.now.lanes k) = filter_fewer (is_others c.args.tid) (lane_at c.args.self.now.lanes k) in
+    let same : length (lane_at c.go.new.lanes k) ≡ length (others c.args.tid (lane_at c.args.self.now.lanes k)) = ap length (c.go.ensures.lanes k) in
+    omega (arith, fewer, same)
+
+pub returns-clause-cost : goal.returns-clause-cost
+returns-clause-cost c digits few =
+    let es = c.args.self.now.entries.items in
+    let d = c.remove-entry.result in
+    let o = owned c.args.tid.0 es d c.requires.indexed.sorted (there_any c.args.tid.0 es c.requires.there) in
+    let at = c.find-at.ensures ∙ ap (spec.count_below c.args.tid.0) c.deref.ensures.value in
+    let entry : d ≡ get_or es (spec.count_below c.args.tid.0 es) d = c.remove-entry.ensures.value ∙ ap (λ n. get_or es n d) at in
+    let own : filter (λ e. nat_eq c.args.tid.0 e.thread) es ≡ d ∷ [] = o.own ∙ ap (λ x. x ∷ []) (sym entry) in
+    let many = left_all c.args.tid.0 es d own in
+    let count : length c.bases-2.result.now ≡ length (bases d.group) = ap length c.bases-2.ensures in
+    let count1 : length c.bases.result.now ≡ length (bases d.group) = ap length c.bases.ensures in
+    let left = c.args.self.now.leaves - length (bases d.group) in
+    let whole : c.args.self.now.leaves ≡ length (bases d.group) + left = omega (arith, many, c.requires.indexed.all) in
+    let rest : c.args.self.now.leaves - length c.bases-2.result.now ≡ left = ap (λ n. c.args.self.now.leaves - n) count in
+    let one : c.count_lit-lit.new.tally ≤ c.args.tally.now + 2 * length (bases d.group) = omega (arith, c.count_lit-lit.ensures.cost, count1) in
+    let two = c.go.ensures.cost digits few in
+    let sum = move_cost c.args.tally.now c.count_lit-lit.new.tally c.go.new.tally (length (bases d.group)) _ left digits one two c.runs.ensures.few in
+    rw (rest) (rw (← whole) at sum)

@@ -1,0 +1,77 @@
+use Rattle.std.proofs.Common.{◌≡◌, ◌≤◌, ◌∙◌, length, ap, sym, arith}
+use Rattle.std.specs.List.{filter}
+use Rattle.cml_scan.specs.Light.{lit_by}
+use Rattle.cml_scan.specs.Scan.{PlainOffer, offers_of}
+use Rattle.cml_scan.proofs.Ordered.{Every-weaker}
+use Rattle.cml_index.specs.Slot.{slot_of_light}
+use Rattle.cml_index.specs.Slots.{lane_at, lane_of}
+use Rattle.cml_index.specs.Posts as spec
+use Rattle.cml_index.proofs.Parted.{filter_fewer}
+use Rattle.cml_index.proofs.Lit.{retold_lit, retold_unlit, retold_same, told_same}
+use Rattle.cml_index.proofs.state.Core.tell.Goals as goal
+
+pub overflow_add-self : goal.overflow_add-self
+overflow_add-self c =
+    let os = offers_of c.args.self.now.entries.items in
+    let old = spec.told c.args.self.now.flags.entries in
+    let new = spec.told c.flip.new.flags.entries in
+    let waiters : c.lane_len-waiters.result ≡ length (lane_of spec.slot_of (slot_of_light c.args.light) os) =
+    c.lane_len-waiters.ensures ∙ ap (λ k. length (lane_at c.args.self.now.lanes k)) c.slot_of_light.ensures ∙ ap length (c.requires.indexed.placed (slot_of_light c.args.light)) in
+    let many = retold_lit c.args.light c.args.lit old new c.flip.result c.if-lit.true c.if-flip.true c.flip.ensures.changed c.flip.ensures.told os in
+    let few : length (filter (λ o. lit_by new o.base) os) ≤ length os = filter_fewer (λ (o : PlainOffer). lit_by new o.base) os in
+    omega (arith, waiters, many, few, c.requires.indexed.alone, c.requires.indexed.all)
+
+pub overflow_sub-self : goal.overflow_sub-self
+overflow_sub-self c =
+    let os = offers_of c.args.self.now.entries.items in
+    let old = spec.told c.args.self.now.flags.entries in
+    let new = spec.told c.flip.new.flags.entries in
+    let waiters : c.lane_len-waiters.result ≡ length (lane_of spec.slot_of (slot_of_light c.args.light) os) =
+    c.lane_len-waiters.ensures ∙ ap (λ k. length (lane_at c.args.self.now.lanes k)) c.slot_of_light.ensures ∙ ap length (c.requires.indexed.placed (slot_of_light c.args.light)) in
+    let many = retold_unlit c.args.light c.args.lit old new c.flip.result c.if-lit.false c.if-flip.true c.flip.ensures.changed c.flip.ensures.told os in
+    omega (arith, waiters, many, c.requires.indexed.alone)
+
+pub returns-then-lit-clause-indexed : goal.returns-then-lit-clause-indexed
+returns-then-lit-clause-indexed c =
+    let os = offers_of c.args.self.now.entries.items in
+    let old = spec.told c.args.self.now.flags.entries in
+    let new = spec.told c.flip.new.flags.entries in
+    let waiters : c.lane_len-waiters.result ≡ length (lane_of spec.slot_of (slot_of_light c.args.light) os) =
+    c.lane_len-waiters.ensures ∙ ap (λ k. length (lane_at c.args.self.now.lanes k)) c.slot_of_light.ensures ∙ ap length (c.requires.indexed.placed (slot_of_light c.args.light)) in
+    let many = retold_lit c.args.light c.args.lit old new c.flip.result c.if-lit.true c.if-flip.true c.flip.ensures.changed c.flip.ensures.told os in
+    record {
+      sorted = c.requires.indexed.sorted;
+      placed = c.requires.indexed.placed;
+      all = c.requires.indexed.all;
+      alone = omega (arith, waiters, many, c.requires.indexed.alone);
+      named = Every-weaker (λ k. spec.is_named c.args.self.now.flags.entries (spec.slot_of_nack k)) (λ k. spec.is_named c.flip.new.flags.entries (spec.slot_of_nack k)) (spec.nacks_in c.args.self.now.entries.items) (λ k h. c.flip.ensures.kept (spec.slot_of_nack k) h) c.requires.indexed.named;
+    }
+
+pub returns-else-lit-clause-indexed : goal.returns-else-lit-clause-indexed
+returns-else-lit-clause-indexed c =
+    let os = offers_of c.args.self.now.entries.items in
+    let old = spec.told c.args.self.now.flags.entries in
+    let new = spec.told c.flip.new.flags.entries in
+    let waiters : c.lane_len-waiters.result ≡ length (lane_of spec.slot_of (slot_of_light c.args.light) os) =
+    c.lane_len-waiters.ensures ∙ ap (λ k. length (lane_at c.args.self.now.lanes k)) c.slot_of_light.ensures ∙ ap length (c.requires.indexed.placed (slot_of_light c.args.light)) in
+    let many = retold_unlit c.args.light c.args.lit old new c.flip.result c.if-lit.false c.if-flip.true c.flip.ensures.changed c.flip.ensures.told os in
+    record {
+      sorted = c.requires.indexed.sorted;
+      placed = c.requires.indexed.placed;
+      all = c.requires.indexed.all;
+      alone = omega (arith, waiters, many, c.requires.indexed.alone);
+      named = Every-weaker (λ k. spec.is_named c.args.self.now.flags.entries (spec.slot_of_nack k)) (λ k. spec.is_named c.flip.new.flags.entries (spec.slot_of_nack k)) (spec.nacks_in c.args.self.now.entries.items) (λ k h. c.flip.ensures.kept (spec.slot_of_nack k) h) c.requires.indexed.named;
+    }
+
+pub returns-else-flip-clause-indexed : goal.returns-else-flip-clause-indexed
+returns-else-flip-clause-indexed c =
+    let os = offers_of c.args.self.now.entries.items in
+    let old = spec.told c.args.self.now.flags.entries in
+    let new = spec.told c.flip.new.flags.entries in
+    record {
+      sorted = c.requires.indexed.sorted;
+      placed = c.requires.indexed.placed;
+      all = c.requires.indexed.all;
+      alone = c.requires.indexed.alone ∙ sym (ap length (told_same old new (retold_same c.args.light c.args.lit old new c.flip.result c.if-flip.false c.flip.ensures.changed c.flip.ensures.told) os));
+      named = Every-weaker (λ k. spec.is_named c.args.self.now.flags.entries (spec.slot_of_nack k)) (λ k. spec.is_named c.flip.new.flags.entries (spec.slot_of_nack k)) (spec.nacks_in c.args.self.now.entries.items) (λ k h. c.flip.ensures.kept (spec.slot_of_nack k) h) c.requires.indexed.named;
+    }

@@ -1,0 +1,20 @@
+use Rattle.std.proofs.Common.{◌∙◌, arith}
+use Rattle.cml_index.specs.Slot.{slot_of_light}
+use Rattle.cml_index.specs.Posts as spec
+use Rattle.cml_index.proofs.Lit.{told_more, at_place}
+use Rattle.cml_index.proofs.state.Core.tell_all.Goals as goal
+
+pub tell-requires-clause-there : goal.tell-requires-clause-there
+tell-requires-clause-there c = λ on. c.loop-light.invariant.kept _ (at_place (λ l. spec.is_named c.args.self.now.flags.entries (slot_of_light l)) c.args.lights.now c.loop-light.light-index _ c.loop-light-test.true (c.requires.there on))
+
+pub loop-light-preserved : goal.loop-light-preserved
+loop-light-preserved c =
+    record {
+      told = λ m. told_more c.args.lights.now c.loop-light.light-index _ m c.args.lit _ _ _ c.loop-light-test.true (c.tell.ensures.told m) (c.loop-light.invariant.told m);
+      indexed = c.tell.ensures.indexed;
+      entries = c.tell.ensures.entries ∙ c.loop-light.invariant.entries;
+      lanes = c.tell.ensures.lanes ∙ c.loop-light.invariant.lanes;
+      leaves = c.tell.ensures.leaves ∙ c.loop-light.invariant.leaves;
+      kept = λ k h. c.tell.ensures.kept k (c.loop-light.invariant.kept k h);
+      cost = omega (arith, c.tell.ensures.cost, c.loop-light.invariant.cost);
+    }

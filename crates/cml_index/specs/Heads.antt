@@ -1,0 +1,28 @@
+-- The leaves that begin a row, and what a search among some leaves answers.
+use Rattle.std.specs.Prelude.{ℕ, ◌≡◌, ◌+◌, ◌*◌, ◌<◌, ◌≤◌, Bool, List, Some, map, length, slice_get}
+use Rattle.cml_value.specs.Group.{bases}
+use Rattle.cml_scan.specs.Light.{lit_by}
+use Rattle.cml_scan.specs.World.{PlainEntry}
+use Rattle.cml_scan.specs.Scan.{PlainOffer}
+use Rattle.cml_scan.specs.Order.{place, has_partner}
+use Rattle.cml_index.specs.declared.slot.Slot.{Slot}
+use Rattle.cml_index.specs.declared.heads.HeadKind.{HeadKind}
+use Rattle.cml_index.specs.declared.heads.HeadKind.TheVariants.{Alone, Met}
+use Rattle.cml_index.specs.declared.heads.Sought.{Sought}
+use Rattle.cml_index.specs.declared.heads.Sought.TheVariants.{Found, Left}
+use Rattle.cml_index.specs.Posts.{told}
+
+-- The leaf is one of those that are sought: it can be taken alone, or one of these leaves can meet it.
+abbrev pub is_sought : HeadKind → List (Slot × Bool) → List PlainOffer → PlainOffer → Bool
+is_sought Alone flags os o = lit_by (told flags) o.base
+is_sought Met flags os o = has_partner os o
+
+-- the place of the leaf of this number among these, or how many more leaves are to be passed by behind them
+abbrev pub IsAnswer : Sought → ℕ → List PlainOffer → Type 0
+IsAnswer (Found p) k os = slice_get (map place os) k ≡ Some p
+IsAnswer (Left more) k os = k ≡ length os + more
+
+-- The search among the leaves of one thread made three looks at most for each leaf up to where it ended.
+abbrev pub EndsThere : Sought → PlainEntry → ℕ → ℕ → Type 0
+EndsThere (Found p) e old new = (p.tid.0 ≡ e.thread) × (p.leaf < length (bases e.group)) × (new ≤ old + 3 * (p.leaf + 1))
+EndsThere (Left more) e old new = new ≤ old + 3 * length (bases e.group)

@@ -1,0 +1,4 @@
+pub mod Slot
+pub mod Slots
+pub mod Posts
+pub mod Heads

@@ -1,0 +1,131 @@
+-- What the index keeps: the pending threads with their groups, and what it was told of lights.
+use Rattle.std.specs.Prelude.{ℕ, ◌≡◌, ◌++◌, ◌≤◌, ◌<◌, ◌^◌, Bool, false, if◌then◌else◌, nat_lt, List, [], ◌∷◌, Option, Some, None, map, filter, length, Vec, is_some}
+use Rattle.std.specs.Option.{option_map_or}
+use Rattle.std.specs.Map.{lookup}
+use Rattle.std.specs.Coded.{Coded, code_by, coded×, coded_list, coded_ℕ, coded_bool}
+use Rattle.std.specs.Prelude.{refl}
+use Rattle.std.specs.declared.alloc.Global.{Global}
+use Rattle.indexmap.specs.IndexMap.{IndexMap, index_map_len}
+use base.Stored.{Gv, gnum, gcons}
+use Rattle.cml_value.specs.Value.{PlainBase}
+use Rattle.cml_value.specs.Group.{PlainGroup, bases, scopes, nacks_of}
+use Rattle.cml_value.specs.GroupCodes.{group_code}
+use Rattle.cml_scan.specs.World.{PlainEntry}
+use Rattle.cml_scan.specs.Light.{lit_by}
+use Rattle.cml_scan.specs.Order.{IsSorted, Every}
+use Rattle.cml_scan.specs.Scan.{PlainOffer, offers_of, pairs_with, is_among}
+use Rattle.cml_scan.specs.declared.meet.Meet.{Meet}
+use Rattle.cml_scan.specs.declared.meet.Meet.TheVariants.{Single}
+use Rattle.cml_scan.specs.declared.meet.Place.{Place}
+use Rattle.cml_value.specs.declared.number.Tid.{Tid}
+use Rattle.std.specs.Borrow.{Bor}
+use Rattle.cml_scan.specs.declared.object.Light.{Light}
+use Rattle.cml_channel.specs.Sides.{channel_of, is_sender, side_in}
+use Rattle.cml_index.specs.declared.slot.Slot.{Slot}
+use Rattle.cml_index.specs.declared.slot.SlotKind.{SlotKind}
+use Rattle.cml_index.specs.declared.slot.SlotKind.TheVariants.{Heads, Others, IVar, MVar, Mbox, Port, Joined, Alarm, Nack}
+use Rattle.cml_index.specs.Slot.{rank, same_slot, slot_by, met_by, slot_of_light}
+use Rattle.cml_index.specs.Slots.{leaves_at, run_in, lane_of, AreLanes}
+use Rattle.std.specs.List.{flat_map}
+use Rattle.cml_channel.specs.Lanes.{PlainLane}
+
+-- the lane of a base event, where channels are the objects over which two threads meet
+abbrev pub slot_of : PlainBase → Option Slot
+slot_of b = slot_by side_in channel_of is_sender b
+
+-- the lane of those whom a base event meets, where it stands first
+abbrev pub slot_met : PlainBase → Option Slot
+slot_met b = met_by side_in channel_of is_sender b
+
+-- The rows that the leaf at a place begins, if it waits for this: its own, where it can be taken alone, and those with its partners.
+abbrev pub rows_at : (Light → Bool) → List PlainOffer → Place → PlainBase → List Meet
+rows_at told os p b = (if lit_by told b then Single p.tid p.leaf ∷ [] else []) ++ pairs_with os (record { thread = p.tid.0; leaf = p.leaf; base = b })
+
+-- what was told of a light, where these were told: any other is unlit
+abbrev pub told : List (Slot × Bool) → Light → Bool
+told flags l = option_map_or (λ b. b) (lookup (same_slot (slot_of_light l)) flags) false
+
+-- the pending threads, ascending, each with its group, and the lights of which something was told, with what was told last
+pub record PlainIndex : Type 0 where
+  pub entries : List PlainEntry
+  pub flags : List (Slot × Bool)
+
+-- the leaves of these threads that can be taken alone
+abbrev pub lit_offers : List (Slot × Bool) → List PlainEntry → List PlainOffer
+lit_offers flags entries = filter (λ o. lit_by (told flags) o.base) (offers_of entries)
+
+-- what is kept beside a group: its base events, and its leaves by their lanes
+pub record IsPost {S : Type 0} (group : PlainGroup) (kept : List PlainBase) (runs : IndexMap Slot (Vec ℕ Global) S) : Type 0 where
+  pub same : kept ≡ bases group
+  pub laid : (k : Slot) → run_in runs k ≡ leaves_at k 0 (map slot_of (bases group))
+  pub few : index_map_len runs ≤ length (bases group)
+  pub small : length (bases group) < 2 ^ 32
+
+-- the nacks of the scopes in these groups
+abbrev pub nacks_in : List PlainEntry → List ℕ
+nacks_in entries = flat_map (λ e. nacks_of (scopes e.group)) entries
+
+-- something was told of the light, or its place is reserved
+abbrev pub is_named : List (Slot × Bool) → Slot → Bool
+is_named flags k = is_some (lookup (same_slot k) flags)
+
+-- the place of a nack among the lights
+abbrev pub slot_of_nack : ℕ → Slot
+slot_of_nack k = record { kind = Nack; number = k }
+
+-- The threads ascend; each lane has the offers that stand in it; all leaves, and those that can be taken alone, are counted; and each
+-- nack that can fire with a pending group has its place among the lights.
+pub record IsIndexed {S : Type 0} (entries : List PlainEntry) (lanes : IndexMap Slot PlainLane S) (flags : List (Slot × Bool)) (leaves lit : ℕ) : Type 0 where
+  pub sorted : IsSorted entries
+  pub placed : AreLanes slot_of lanes (offers_of entries)
+  pub all : leaves ≡ length (offers_of entries)
+  pub alone : lit ≡ length (lit_offers flags entries)
+  pub named : Every (λ k. is_named flags (slot_of_nack k)) (nacks_in entries)
+
+-- a lane has fewer offers of these threads than two to the power of this number of binary digits, whichever lane it is
+abbrev pub HasDigits : List PlainEntry → ℕ → Type 0
+HasDigits entries digits = (k : Slot) → length (lane_of slot_of k (offers_of entries)) < 2 ^ digits
+
+-- how many leaves these threads have, and the thread that comes, if one does
+abbrev pub gone_leaves : List Tid → List PlainEntry → ℕ
+gone_leaves gone entries = length (filter (λ o. is_among gone o.thread) (offers_of entries))
+
+abbrev pub came_leaves : Option (Tid × Bor PlainGroup) → ℕ
+came_leaves None = 0
+came_leaves (Some c) = length (bases c.1.now)
+
+-- how many of these threads are below this one
+abbrev pub count_below : ℕ → List PlainEntry → ℕ
+count_below thread entries = length (filter (λ e. nat_lt e.thread thread) entries)
+
+-- The codes of the above: trees of numbers from which they can be read back. The toolchain asks for them; no rule speaks of them.
+abbrev pub entry_code : Coded PlainEntry
+entry_code = code_by (ℕ × PlainGroup) (coded× coded_ℕ group_code) (λ e. (e.thread, e.group)) (λ p. record { thread = p.0; group = p.1 }) (λ _. refl)
+
+abbrev pub slot_gv : Slot → Gv
+slot_gv k = gcons (gnum (rank k.kind)) (gnum k.number)
+
+same_kind : (a b : SlotKind) → rank a ≡ rank b → a ≡ b
+same_kind Heads Heads e = refl
+same_kind Others Others e = refl
+same_kind IVar IVar e = refl
+same_kind MVar MVar e = refl
+same_kind Mbox Mbox e = refl
+same_kind Port Port e = refl
+same_kind Joined Joined e = refl
+same_kind Alarm Alarm e = refl
+same_kind Nack Nack e = refl
+same_kind _ _ e = cc
+
+pub slot_gv_inj : (a b : Slot) → slot_gv a ≡ slot_gv b → a ≡ b
+slot_gv_inj a b p =
+    let n : rank a.kind ≡ rank b.kind = cc in
+    let kind : a.kind ≡ b.kind = same_kind a.kind b.kind n in
+    let number : a.number ≡ b.number = cc in
+    λ i. record { kind = kind i; number = number i }
+
+abbrev pub slot_code : Coded Slot
+slot_code = record { code = slot_gv; inj = slot_gv_inj }
+
+abbrev pub index_code : Coded PlainIndex
+index_code = code_by (List PlainEntry × List (Slot × Bool)) (coded× (coded_list entry_code) (coded_list (coded× slot_code coded_bool))) (λ x. (x.entries, x.flags)) (λ p. record { entries = p.0; flags = p.1 }) (λ _. refl)

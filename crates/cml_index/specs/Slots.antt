@@ -1,0 +1,47 @@
+-- The lanes, and the leaves of one group by the lane in which each stands.
+use Rattle.std.specs.Prelude.{ℕ, ◌≡◌, ◌+◌, Bool, false, if◌then◌else◌, List, [], ◌∷◌, Option, Some, None, map, filter}
+use Rattle.std.specs.List.{list_any}
+use Rattle.std.specs.Option.{option_map_or}
+use Rattle.indexmap.specs.IndexMap.{IndexMap, get}
+use Rattle.std.specs.declared.alloc.Global.{Global}
+use Rattle.std.specs.Prelude.{Vec}
+use Rattle.cml_value.specs.Value.{PlainBase}
+use Rattle.cml_index.specs.declared.slot.Slot.{Slot}
+use Rattle.cml_index.specs.Slot.{same_slot}
+use Rattle.cml_scan.specs.declared.meet.Place.{Place}
+use Rattle.cml_scan.specs.Scan.{PlainOffer}
+use Rattle.cml_scan.specs.Order.{place}
+use Rattle.cml_channel.specs.Lanes.{PlainLane}
+
+-- the slot is this one
+abbrev pub is_slot : Slot → Option Slot → Bool
+is_slot k None = false
+is_slot k (Some j) = same_slot k j
+
+-- the leaves, numbered from this one on, that stand in this slot
+abbrev pub leaves_at : Slot → ℕ → List (Option Slot) → List ℕ
+leaves_at k leaf [] = []
+leaves_at k leaf (s ∷ ss) = if is_slot k s then leaf ∷ leaves_at k (leaf + 1) ss else leaves_at k (leaf + 1) ss
+
+-- the run of this slot, in a map of runs
+abbrev pub run_in : {S : Type 0} → IndexMap Slot (Vec ℕ Global) S → Slot → List ℕ
+run_in runs k = option_map_or (λ v. v.items) (get same_slot runs k) []
+
+-- one of these runs is that of this slot
+abbrev pub has_run : {V : Type 0} → List (Slot × V) → Slot → Bool
+has_run runs k = list_any (λ run. same_slot k run.0) runs
+
+-- the offers of this lane, and how much room is in it; one that was not made yet is empty
+abbrev pub lane_at : {S : Type 0} → IndexMap Slot PlainLane S → Slot → List Place
+lane_at lanes k = option_map_or (λ l. l.places) (get same_slot lanes k) []
+
+abbrev pub room_at : {S : Type 0} → IndexMap Slot PlainLane S → Slot → ℕ
+room_at lanes k = option_map_or (λ l. l.room) (get same_slot lanes k) 0
+
+-- the offers of these that stand in this slot
+abbrev pub lane_of : (PlainBase → Option Slot) → Slot → List PlainOffer → List Place
+lane_of slot k offers = map place (filter (λ o. is_slot k (slot o.base)) offers)
+
+-- each lane has the offers that stand in its slot
+abbrev pub AreLanes : {S : Type 0} → (PlainBase → Option Slot) → IndexMap Slot PlainLane S → List PlainOffer → Type 0
+AreLanes slot lanes offers = (k : Slot) → lane_at lanes k ≡ lane_of slot k offers

@@ -1,0 +1,116 @@
+//! A pending thread, and what the index keeps of its group.
+
+ghost use Rattle.std.specs.Prelude.{◌≡◌, ◌≤◌, ◌<◌, ◌^◌, length, map, IfOk};
+ghost use Rattle.indexmap.specs.IndexMap.{index_map_len};
+ghost use Rattle.cml_value.specs.Group.{bases};
+ghost use Rattle.cml_index.specs.declared.slot.Slot.{Slot};
+ghost use Rattle.cml_index.specs.Posts as spec;
+ghost use Rattle.cml_index.specs.Slots.{run_in, leaves_at};
+
+use crate::runs::{Runs, runs};
+use crate::slot::{Slot, slot_in};
+use cml_channel::Channels;
+use cml_scan::{Place, leaf_bases};
+use cml_value::{Base, Group, Tid};
+use std::alloc::{AllocError, Global};
+use std::marker::Model;
+
+// A pending thread, with its group.
+#[derive(Drop)]
+pub(crate) struct Entry {
+    tid: Tid,
+    group: Group,
+    bases: Vec<Base>,
+    runs: Runs,
+}
+
+impl Model for Entry {
+    ghost use Rattle.cml_scan.specs.World.{PlainEntry};
+    ghost use Rattle.cml_index.specs.Posts.{entry_code, IsPost};
+
+    ghost Value = { PlainEntry };
+
+    ghost coded = { entry_code };
+
+    ghost view = { λ e. record { thread = e.tid.0; group = e.group } };
+
+    ghost invariant = { λ e. IsPost e.group e.bases.items e.runs };
+}
+
+// The lanes of these base events.
+fn slots(alloc: Global, bases: &[Base]) -> Result<Vec<Option<Slot>>, AllocError>
+    ensures { IfOk result (λ slots. slots.items ≡ map spec.slot_of bases.now) }
+{
+    let mut slots = Vec::new(alloc);
+    for base in bases {
+        slots.push(slot_in::<Channels>(base))?;
+    }
+    Ok(slots)
+}
+
+// How many leaves there are, as the number of a leaf. There is no memory for a list in which it is too large.
+fn number(count: usize) -> Result<u32, AllocError>
+    ensures { IfOk result (λ n. (n ≡ count) × (count < 2 ^ 32)) }
+{
+    u32::try_from(count).map_err(|_| AllocError)
+}
+
+impl Entry {
+    // The thread with a copy of the group.
+    pub(crate) fn new(alloc: Global, tid: Tid, group: &Group) -> Result<Entry, AllocError>
+        ensures { IfOk result (λ e. e ≡ record { thread = tid.0; group = group.now }) }
+    {
+        let bases = leaf_bases(alloc, group)?;
+        let _count = number(bases.len())?;
+        let slots = slots(alloc, &bases)?;
+        let runs = runs(alloc, &slots)?;
+        let group = group.copy()?;
+        Ok(Entry {
+            tid,
+            group,
+            bases,
+            runs,
+        })
+    }
+
+    pub(crate) fn tid(&self) -> Tid
+        ensures { result.0 ≡ self.now.thread }
+    {
+        self.tid
+    }
+
+    pub(crate) fn group(&self) -> &Group
+        ensures { result.now ≡ self.now.group }
+    {
+        &self.group
+    }
+
+    // The place of the leaf.
+    pub(crate) fn place(&self, leaf: usize) -> Place
+        requires { leaf < length (bases self.now.group) }
+        ensures { result ≡ record { tid = record { 0 = self.now.thread }; leaf = leaf } }
+    {
+        let _bases = &self.bases;
+        Place {
+            tid: self.tid,
+            leaf: leaf as u32,
+        }
+    }
+
+    // The base events of the leaves, from the left.
+    pub(crate) fn bases(&self) -> &[Base]
+        ensures { result.now ≡ bases self.now.group }
+    {
+        &self.bases
+    }
+
+    // The leaves by their lanes.
+    pub(crate) fn runs(&self) -> &Runs
+        ensures runs { (k : Slot) → run_in result.now k
+            ≡ leaves_at k 0 (map spec.slot_of (bases self.now.group)) }
+        ensures few { index_map_len result.now ≤ length (bases self.now.group) }
+    {
+        let _bases = &self.bases;
+        &self.runs
+    }
+}

@@ -1,0 +1,99 @@
+//! What was told of lights.
+
+ghost use Rattle.std.specs.Prelude.{◌≡◌, ◌≤◌, ◌+◌, ◌*◌, ◌++◌, Bool, true, false, not, if◌then◌else◌, length, filter, drop, IfOk, OnOk, OnErr, IsTrue, IsOk, is_some};
+ghost use Rattle.std.specs.Map.{lookup};
+ghost use Rattle.cml_value.specs.Group.{scopes, nacks_of};
+ghost use Rattle.cml_scan.specs.declared.object.Light.{Light};
+ghost use Rattle.cml_scan.specs.Light.{lit_by};
+ghost use Rattle.cml_scan.specs.Table.{same_light};
+ghost use Rattle.cml_index.specs.declared.slot.Slot.{Slot};
+ghost use Rattle.cml_index.specs.Posts as spec;
+ghost use Rattle.cml_index.specs.Slot.{same_slot, slot_of_light as slot_spec};
+
+use crate::slot::{Slot, slot_of_light};
+use cml_channel::Tally;
+use cml_scan::{Light, light};
+use cml_value::{Base, BaseKind};
+use indexmap::IndexMap;
+use std::alloc::{AllocError, Global};
+
+// What was told last of each light of which something was told, or for which a place is reserved.
+pub(crate) type Flags = IndexMap<Slot, bool>;
+
+// Whether the light is lit.
+pub(crate) fn is_lit(flags: &Flags, light: Light) -> bool
+    ensures { result ≡ spec.told flags.now.entries light }
+{
+    match flags.get(&slot_of_light(light)) {
+        Some(lit) => *lit,
+        None => false,
+    }
+}
+
+// Whether the base event can be taken alone: one light is examined.
+pub(crate) fn is_lit_by(flags: &Flags, base: &Base, tally: &mut Tally) -> bool
+    ensures value { result ≡ lit_by (spec.told flags.now.entries) base.now }
+    ensures cost { tally.new ≤ tally.old + 1 }
+{
+    tally.add();
+    match base.kind() {
+        BaseKind::Always(_) => true,
+        _ => match light(base) {
+            Some(l) => is_lit(flags, l),
+            None => false,
+        },
+    }
+}
+
+// How many of these base events can be taken alone: each is looked at, and its light.
+pub(crate) fn count_lit(flags: &Flags, bases: &[Base], tally: &mut Tally) -> usize
+    ensures count { result ≡ length (filter (lit_by (spec.told flags.now.entries)) bases.now) }
+    ensures cost { tally.new ≤ tally.old + 2 * length bases.now }
+{
+    let mut count = 0;
+    for base in bases {
+        tally.add();
+        if is_lit_by(flags, base, tally) {
+            count += 1;
+        }
+    }
+    count
+}
+
+// Reserves the place of a light of which nothing was told. What was told of any stays.
+pub(crate) fn reserve(flags: &mut Flags, light: Light) -> Result<(), AllocError>
+    ensures told { (m : Light) →
+        spec.told flags.new.entries m ≡ spec.told flags.old.entries m }
+    ensures there { OnOk result (spec.is_named flags.new.entries (slot_spec light) ≡ true) }
+    ensures kept { (k : Slot) → spec.is_named flags.old.entries k ≡ true →
+        spec.is_named flags.new.entries k ≡ true }
+    ensures sure { spec.is_named flags.old.entries (slot_spec light) ≡ true → IsOk result }
+{
+    let slot = slot_of_light(light);
+    if flags.contains_key(&slot) {
+        return Ok(());
+    }
+    flags.insert(slot, false)?;
+    Ok(())
+}
+
+// Tells of the light, and answers whether that was new. A light that is told to be lit has its place.
+pub(crate) fn flip(flags: &mut Flags, light: Light, lit: bool) -> bool
+    requires { lit ≡ true → spec.is_named flags.old.entries (slot_spec light) ≡ true }
+    ensures told { (m : Light) → spec.told flags.new.entries m
+        ≡ (if same_light light m then lit else spec.told flags.old.entries m) }
+    ensures changed { result ≡ (if lit then not (spec.told flags.old.entries light)
+        else spec.told flags.old.entries light) }
+    ensures kept { (k : Slot) → spec.is_named flags.old.entries k ≡ true →
+        spec.is_named flags.new.entries k ≡ true }
+{
+    let slot = slot_of_light(light);
+    match flags.get_mut(&slot) {
+        Some(flag) => {
+            let changed = *flag != lit;
+            *flag = lit;
+            changed
+        }
+        None => false,
+    }
+}

@@ -1,0 +1,196 @@
+//! The leaves that begin a row: those that can be taken alone, and then those that have a partner.
+
+ghost use Rattle.std.specs.Prelude.{◌≡◌, ◌≤◌, ◌<◌, ◌+◌, ◌*◌, ℕ, length, filter, map, slice_get, Some};
+ghost use Rattle.std.specs.List.{list_any};
+ghost use Rattle.cml_value.specs.Group.{bases};
+ghost use Rattle.cml_scan.specs.Order.{before, place, has_partner};
+ghost use Rattle.cml_scan.specs.Scan.{PlainOffer, scan_of, heads_of, offers_of, leaves_from};
+ghost use Rattle.cml_channel.specs.Lanes.{is_others};
+ghost use Rattle.cml_index.specs.declared.heads.HeadKind.TheVariants.{Met};
+ghost use Rattle.cml_index.specs.Slots.{lane_of};
+ghost use Rattle.cml_index.specs.Heads.{is_sought, IsAnswer, EndsThere};
+ghost use Rattle.cml_index.specs.Posts as spec;
+
+use crate::entry::Entry;
+use crate::flags::is_lit_by;
+use crate::slot::{Slot, slot_met};
+use crate::state::Core;
+use cml_channel::{Channels, Tally};
+use cml_scan::Place;
+use cml_value::{Base, Tid};
+
+// Which leaves are sought.
+#[derive(Clone, Copy)]
+pub(crate) enum HeadKind {
+    // Those that can be taken alone.
+    Alone,
+    // Those that have a partner.
+    Met,
+}
+
+// What came of a search among some leaves.
+#[derive(Clone, Copy)]
+enum Sought {
+    // The leaf at this place.
+    Found(Place),
+    // This many more are to be passed by.
+    Left(usize),
+}
+
+// Whether a thread other than this one has an offer in the lane.
+fn has_other(core: &Core, slot: Slot, tid: Tid, tally: &mut Tally) -> bool
+    requires { spec.IsIndexed core.now.entries.items core.now.lanes
+        core.now.flags.entries core.now.leaves core.now.lit }
+    ensures value { result ≡ list_any (is_others tid)
+        (lane_of spec.slot_of slot (offers_of core.now.entries.items)) }
+    ensures cost { tally.new ≤ tally.old + 2 }
+{
+    match core.lanes.get(&slot) {
+        Some(lane) => lane.has_other(tid, tally),
+        None => false,
+    }
+}
+
+// Whether a leaf of the thread that waits for this has a partner.
+fn is_met(core: &Core, tid: Tid, base: &Base, tally: &mut Tally) -> bool
+    requires { spec.IsIndexed core.now.entries.items core.now.lanes
+        core.now.flags.entries core.now.leaves core.now.lit }
+    ensures value { (leaf : ℕ) → result ≡ has_partner (offers_of core.now.entries.items)
+        (record { thread = tid.0; leaf = leaf; base = base.now }) }
+    ensures cost { tally.new ≤ tally.old + 2 }
+{
+    match slot_met::<Channels>(base) {
+        Some(slot) => has_other(core, slot, tid, tally),
+        None => false,
+    }
+}
+
+// Whether a leaf of the thread that waits for this is one of those that are sought: it is looked at, and its light or two offers.
+fn is_head(core: &Core, kind: HeadKind, tid: Tid, base: &Base, tally: &mut Tally) -> bool
+    requires { spec.IsIndexed core.now.entries.items core.now.lanes
+        core.now.flags.entries core.now.leaves core.now.lit }
+    ensures value { (leaf : ℕ) → result
+        ≡ is_sought kind core.now.flags.entries (offers_of core.now.entries.items)
+        (record { thread = tid.0; leaf = leaf; base = base.now }) }
+    ensures cost { tally.new ≤ tally.old + 3 }
+{
+    tally.add();
+    match kind {
+        HeadKind::Alone => is_lit_by(&core.flags, base, tally),
+        HeadKind::Met => is_met(core, tid, base, tally),
+    }
+}
+
+// How many leaves of the thread have a partner.
+fn count_in(core: &Core, entry: &Entry, tally: &mut Tally) -> usize
+    requires { spec.IsIndexed core.now.entries.items core.now.lanes
+        core.now.flags.entries core.now.leaves core.now.lit }
+    ensures count { result
+        ≡ length (filter (is_sought Met core.now.flags.entries (offers_of core.now.entries.items))
+        (leaves_from entry.now.thread 0 (bases entry.now.group))) }
+    ensures cost { tally.new ≤ tally.old + 3 * length (bases entry.now.group) }
+{
+    let mut count = 0;
+    for base in entry.bases() {
+        if is_head(core, HeadKind::Met, entry.tid(), base, tally) {
+            count += 1;
+        }
+    }
+    count
+}
+
+// How many leaves have a partner.
+fn count_met(core: &Core, tally: &mut Tally) -> usize
+    requires { spec.IsIndexed core.now.entries.items core.now.lanes
+        core.now.flags.entries core.now.leaves core.now.lit }
+    ensures count { result
+        ≡ length (filter (is_sought Met core.now.flags.entries (offers_of core.now.entries.items))
+        (offers_of core.now.entries.items)) }
+    ensures cost { tally.new ≤ tally.old + 3 * length (offers_of core.now.entries.items) }
+{
+    let _leaves = core.leaves;
+    let mut count = 0;
+    for entry in &core.entries {
+        count += count_in(core, entry, tally);
+    }
+    count
+}
+
+// Passes by so many of the leaves of the thread that are sought.
+fn seek_in(core: &Core, kind: HeadKind, entry: &Entry, k: usize, tally: &mut Tally) -> Sought
+    requires { spec.IsIndexed core.now.entries.items core.now.lanes
+        core.now.flags.entries core.now.leaves core.now.lit }
+    ensures value { IsAnswer result k
+        (filter (is_sought kind core.now.flags.entries (offers_of core.now.entries.items))
+        (leaves_from entry.now.thread 0 (bases entry.now.group))) }
+    ensures cost { tally.new ≤ tally.old + 3 * length (bases entry.now.group) }
+    ensures early { EndsThere result entry.now tally.old tally.new }
+{
+    let mut left = k;
+    for (leaf, base) in entry.bases().iter().enumerate() {
+        if is_head(core, kind, entry.tid(), base, tally) {
+            if left == 0 {
+                return Sought::Found(entry.place(leaf));
+            }
+            left -= 1;
+        }
+    }
+    Sought::Left(left)
+}
+
+// The leaf at this place among those that are sought.
+fn seek(core: &Core, kind: HeadKind, k: usize, tally: &mut Tally) -> Place
+    requires indexed { spec.IsIndexed core.now.entries.items core.now.lanes
+        core.now.flags.entries core.now.leaves core.now.lit }
+    requires within { k < length (filter
+        (is_sought kind core.now.flags.entries (offers_of core.now.entries.items))
+        (offers_of core.now.entries.items)) }
+    ensures value { slice_get (map place (filter
+        (is_sought kind core.now.flags.entries (offers_of core.now.entries.items))
+        (offers_of core.now.entries.items))) k ≡ Some result }
+    ensures cost { tally.new ≤ tally.old + 3 * length (offers_of core.now.entries.items) }
+    ensures early { tally.new
+        + 3 * length (filter (λ o. before result (place o)) (offers_of core.now.entries.items))
+        ≤ tally.old + 3 * length (offers_of core.now.entries.items) }
+{
+    let mut left = k;
+    for entry in &core.entries {
+        match seek_in(core, kind, entry, left, tally) {
+            Sought::Found(place) => return place,
+            Sought::Left(more) => left = more,
+        }
+    }
+    unreachable!()
+}
+
+// How many heads there are.
+pub(crate) fn head_count(core: &Core, tally: &mut Tally) -> usize
+    requires { spec.IsIndexed core.now.entries.items core.now.lanes
+        core.now.flags.entries core.now.leaves core.now.lit }
+    ensures count { result ≡ length (heads_of
+        (scan_of core.now.entries.items (spec.told core.now.flags.entries))) }
+    ensures cost { tally.new ≤ tally.old + 3 * length (offers_of core.now.entries.items) }
+{
+    let _leaves = core.leaves;
+    core.lit + count_met(core, tally)
+}
+
+// The head at this place in their order.
+pub(crate) fn head(core: &Core, k: usize, tally: &mut Tally) -> Place
+    requires indexed { spec.IsIndexed core.now.entries.items core.now.lanes
+        core.now.flags.entries core.now.leaves core.now.lit }
+    requires within { k < length (heads_of
+        (scan_of core.now.entries.items (spec.told core.now.flags.entries))) }
+    ensures value { slice_get (heads_of
+        (scan_of core.now.entries.items (spec.told core.now.flags.entries))) k ≡ Some result }
+    ensures cost { tally.new ≤ tally.old + 3 * length (offers_of core.now.entries.items) }
+    ensures early { tally.new
+        + 3 * length (filter (λ o. before result (place o)) (offers_of core.now.entries.items))
+        ≤ tally.old + 3 * length (offers_of core.now.entries.items) }
+{
+    if k < core.lit {
+        seek(core, HeadKind::Alone, k, tally)
+    } else {
+        seek(core, HeadKind::Met, k - core.lit, tally)
+    }
+}

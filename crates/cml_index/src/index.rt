@@ -1,0 +1,219 @@
+//! The index.
+
+ghost use Rattle.std.specs.Prelude.{◌≡◌, ◌≢◌, ◌≤◌, ◌<◌, ◌+◌, ◌*◌, ◌^◌, [], ℕ, Bool, true, false, length, filter, All, AllPairs, Some, slice_get, OnOk, OnErr, IfOk, IsOk, IsNone};
+ghost use Rattle.cml_scan.specs.declared.object.Light.{Light};
+ghost use Rattle.cml_scan.specs.Light.{lit_by};
+ghost use Rattle.cml_scan.specs.Order.{before, place, lit_at, meet_at, base_at};
+ghost use Rattle.cml_scan.specs.Scan.{meets, scan_of, has_row, offers_of, heads_of, partners_of};
+ghost use Rattle.cml_scan.specs.Table.{changed, lit_after, IsThere, IsNew, AreApart, IsNackOf, nacks_among};
+ghost use Rattle.cml_index.specs.Posts as spec;
+
+use crate::flags::is_lit_by;
+use crate::state::{self, Core};
+use crate::table::offers;
+use crate::{heads, partners};
+use cml_channel::Tally;
+use cml_scan::{Light, Meet, Place};
+use cml_value::{Base, BaseKind, Group, Tid};
+use indexmap::IndexMap;
+use std::alloc::{AllocError, Global};
+use std::marker::Model;
+
+/// A table of communications that keeps no list of rows: two lanes of offers for each channel, one of those who wait for each light,
+/// and the pending groups. How long a change takes does not depend on how many rows there are.
+#[derive(Drop)]
+pub struct OfferIndex {
+    core: Core,
+}
+
+impl Model for OfferIndex {
+    ghost use Rattle.cml_index.specs.Posts.{PlainIndex, IsIndexed, index_code};
+
+    ghost Value = { PlainIndex };
+
+    ghost coded = { index_code };
+
+    ghost view = { λ x. record { entries = x.core.entries.items; flags = x.core.flags.entries } };
+
+    ghost invariant = { λ x. IsIndexed x.core.entries.items x.core.lanes
+        x.core.flags.entries x.core.leaves x.core.lit };
+}
+
+impl OfferIndex {
+    /// A table that was told nothing: no thread is pending, and no light is lit.
+    pub fn new(alloc: Global) -> OfferIndex
+        ensures { result ≡ record { entries = []; flags = [] } }
+    {
+        OfferIndex {
+            core: Core {
+                entries: Vec::new(alloc),
+                lanes: IndexMap::new(alloc),
+                flags: IndexMap::new(alloc),
+                leaves: 0,
+                lit: 0,
+            },
+        }
+    }
+
+    /// A change, and a count of what was looked at: at most the digits and two for each leaf of the threads that go and of the one
+    /// that comes, and one for each light, where each lane before the change is shorter than two to the power of the digits.
+    ///
+    /// # Errors
+    /// Want of memory: nothing was told.
+    pub fn change_tallied(
+        &mut self,
+        alloc: Global,
+        gone: &[Tid],
+        came: Option<(Tid, &Group)>,
+        lit: &[Light],
+        unlit: &[Light],
+        tally: &mut Tally,
+    ) -> Result<(), AllocError>
+        requires there { All (IsThere self.old.entries) gone.now }
+        requires once { AllPairs (λ a b. a.0 ≢ b.0) gone.now }
+        requires new { IsNew self.old.entries came }
+        requires apart { AreApart lit.now unlit.now }
+        ensures ok { OnOk result (self.new.entries ≡ changed self.old.entries gone.now came.entry) }
+        ensures ok_lit { OnOk result ((l : Light) → spec.told self.new.flags l
+            ≡ lit_after lit.now unlit.now l (spec.told self.old.flags l)) }
+        ensures err { OnErr result (self.new.entries ≡ self.old.entries) }
+        ensures err_lit { OnErr result ((l : Light) →
+            spec.told self.new.flags l ≡ spec.told self.old.flags l) }
+        ensures sure { IsNone came.entry →
+            All (IsNackOf (nacks_among gone.now self.old.entries)) lit.now → IsOk result }
+        ensures cost { OnOk result ((digits : ℕ) → spec.HasDigits self.old.entries digits →
+            tally.new ≤ tally.old
+            + (spec.gone_leaves gone.now self.old.entries + spec.came_leaves came.entry)
+            * (2 + digits)
+            + (length lit.now + length unlit.now)) }
+        ensures err_cost { OnErr result (tally.new ≡ tally.old) }
+    {
+        match came {
+            None => self.core.leave_only(gone, lit, unlit, tally),
+            Some((tid, group)) => self
+                .core
+                .leave_and_come(alloc, gone, tid, group, lit, unlit, tally),
+        }
+    }
+
+    // Whether the leaf at the place can be taken alone: it is looked at, and its light.
+    fn is_lit_at(&self, place: Place, tally: &mut Tally) -> bool
+        ensures value { result ≡ lit_at (lit_by (spec.told self.now.flags))
+            (base_at place (offers_of self.now.entries)) }
+        ensures cost { tally.new ≤ tally.old + 2 }
+    {
+        match state::base_at(&self.core.entries, place, tally) {
+            Some(base) => is_lit_by(&self.core.flags, base, tally),
+            None => false,
+        }
+    }
+
+    // Whether the leaves at the two places meet, and are of two threads: each is looked at.
+    fn meet(&self, head: Place, other: Place, tally: &mut Tally) -> bool
+        ensures value { result ≡ meet_at head.tid.0 other.tid.0
+            (base_at head (offers_of self.now.entries))
+            (base_at other (offers_of self.now.entries)) }
+        ensures cost { tally.new ≤ tally.old + 2 }
+    {
+        let first = state::base_at(&self.core.entries, head, tally);
+        let second = state::base_at(&self.core.entries, other, tally);
+        match (first, second) {
+            (Some(b), Some(c)) => head.tid.0 != other.tid.0 && do_meet(b, c),
+            _ => false,
+        }
+    }
+
+    /// Whether the row is there, and a count of what was looked at: two leaves, or a leaf and its light.
+    pub fn has_tallied(&self, row: &Meet, tally: &mut Tally) -> bool
+        ensures value { result
+            ≡ has_row (scan_of self.now.entries (spec.told self.now.flags)) row.now }
+        ensures cost { tally.new ≤ tally.old + 2 }
+    {
+        let _ = &self.core;
+        match *row {
+            Meet::Single { tid, leaf } => self.is_lit_at(Place { tid, leaf }, tally),
+            Meet::Pair {
+                head,
+                head_leaf,
+                other,
+                other_leaf,
+            } => self.meet(
+                Place {
+                    tid: head,
+                    leaf: head_leaf,
+                },
+                Place {
+                    tid: other,
+                    leaf: other_leaf,
+                },
+                tally,
+            ),
+        }
+    }
+
+    /// How many heads there are, and a count of what was looked at: three for each leaf.
+    pub fn head_count_tallied(&self, tally: &mut Tally) -> usize
+        ensures count { result
+            ≡ length (heads_of (scan_of self.now.entries (spec.told self.now.flags))) }
+        ensures cost { tally.new ≤ tally.old + 3 * length (offers_of self.now.entries) }
+    {
+        heads::head_count(&self.core, tally)
+    }
+
+    /// The head at this place in their order, and a count of what was looked at: three for each leaf, and none for a leaf that stands
+    /// behind the head.
+    pub fn head_tallied(&self, k: usize, tally: &mut Tally) -> Place
+        requires { k < length (heads_of (scan_of self.now.entries (spec.told self.now.flags))) }
+        ensures value { slice_get
+            (heads_of (scan_of self.now.entries (spec.told self.now.flags))) k ≡ Some result }
+        ensures cost { tally.new ≤ tally.old + 3 * length (offers_of self.now.entries) }
+        ensures early { tally.new
+            + 3 * length (filter (λ o. before result (place o)) (offers_of self.now.entries))
+            ≤ tally.old + 3 * length (offers_of self.now.entries) }
+    {
+        heads::head(&self.core, k, tally)
+    }
+
+    /// How many rows begin with the head, and a count of what was looked at: twice the digits of the longest lane, and two.
+    pub fn partner_count_tallied(&self, head: Place, tally: &mut Tally) -> usize
+        ensures count { result ≡ length
+            (partners_of (scan_of self.now.entries (spec.told self.now.flags)) head) }
+        ensures cost { (digits : ℕ) → spec.HasDigits self.now.entries digits →
+            tally.new ≤ tally.old + (2 * digits + 2) }
+    {
+        partners::partner_count(&self.core, head, tally)
+    }
+
+    /// The row at this place among those that begin with the head, and a count of what was looked at: twice the digits of the
+    /// longest lane, and two.
+    pub fn partner_tallied(&self, head: Place, j: usize, tally: &mut Tally) -> Meet
+        requires { j < length
+            (partners_of (scan_of self.now.entries (spec.told self.now.flags)) head) }
+        ensures value { slice_get
+            (partners_of (scan_of self.now.entries (spec.told self.now.flags)) head) j
+            ≡ Some result }
+        ensures cost { (digits : ℕ) → spec.HasDigits self.now.entries digits →
+            tally.new ≤ tally.old + (2 * digits + 2) }
+    {
+        partners::partner(&self.core, head, j, tally)
+    }
+
+    // All rows, in order.
+    pub(crate) fn all_rows(&self, alloc: Global) -> Result<Vec<Meet>, AllocError>
+        ensures { IfOk result (λ rows. rows.items
+            ≡ scan_of self.now.entries (spec.told self.now.flags)) }
+    {
+        let offers = offers(alloc, &self.core.entries)?;
+        cml_scan::rows(alloc, &offers, &self.core)
+    }
+}
+
+// Whether the first sends what the second receives.
+fn do_meet(head: &Base, other: &Base) -> bool
+    ensures { result ≡ meets head.now other.now }
+{
+    match (head.kind(), other.kind()) {
+        (BaseKind::Send(c, _), BaseKind::Recv(d)) => c.0 == d.0,
+        _ => false,
+    }
+}

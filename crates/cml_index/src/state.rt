@@ -1,0 +1,246 @@
+//! The fields of the index, and the steps of a change.
+
+ghost use Rattle.std.specs.Prelude.{◌≡◌, ◌≢◌, ◌≤◌, ◌<◌, ◌+◌, ◌*◌, ◌^◌, [], ◌∷◌, ℕ, Bool, true, false, if◌then◌else◌, length, map, All, AllPairs, slice_get, OnOk, IsOk, IfOk, vec_len};
+ghost use Rattle.std.specs.List.{insert};
+ghost use Rattle.std.specs.Vec.{vec_capacity};
+ghost use Rattle.cml_value.specs.Group.{PlainGroup, bases, scopes, nacks_of};
+ghost use Rattle.cml_scan.specs.declared.object.Light.{Light};
+ghost use Rattle.cml_scan.specs.Scan.{offers_of};
+ghost use Rattle.std.specs.Option.{option_copied};
+ghost use Rattle.cml_scan.specs.Order.{IsSorted, Every, base_at as scan_base_at};
+ghost use Rattle.cml_scan.specs.Table.{without, with_entry, IsThere, same_light};
+ghost use Rattle.cml_scan.specs.World.{PlainEntry};
+ghost use Rattle.cml_index.specs.declared.slot.Slot.{Slot};
+ghost use Rattle.cml_index.specs.Posts as spec;
+ghost use Rattle.cml_index.specs.Slot.{slot_of_light as slot_spec};
+ghost use Rattle.cml_index.specs.Slots.{lane_at, room_at, leaves_at};
+
+use crate::entry::Entry;
+use crate::flags::{Flags, count_lit, flip};
+use crate::moves::{Lanes, come, go, make_room};
+use crate::nacks::reserve_nacks;
+use crate::slot::{Slot, slot_of_light};
+use cml_channel::Tally;
+use cml_scan::{Light, Place};
+use cml_value::{Base, Tid};
+use std::alloc::{AllocError, Global};
+
+// The pending threads, ascending; the lanes of their offers; what was told of lights; and how many leaves there are, and how
+// many of them can be taken alone.
+#[derive(Drop)]
+pub(crate) struct Core {
+    pub(crate) entries: Vec<Entry>,
+    pub(crate) lanes: Lanes,
+    pub(crate) flags: Flags,
+    pub(crate) leaves: usize,
+    pub(crate) lit: usize,
+}
+
+// How many of these threads are below this one.
+pub(crate) fn find(entries: &[Entry], tid: Tid) -> usize
+    requires { IsSorted entries.now }
+    ensures { result ≡ spec.count_below tid.0 entries.now }
+{
+    let mut low = 0;
+    let mut high = entries.len();
+    while low < high {
+        let middle = low + (high - low) / 2;
+        if entries[middle].tid().0 < tid.0 {
+            low = middle + 1;
+        } else {
+            high = middle;
+        }
+    }
+    low
+}
+
+impl Core {
+    // The thread goes, and its offers with it. It takes no memory.
+    pub(crate) fn leave(&mut self, tid: Tid, tally: &mut Tally)
+        requires indexed { spec.IsIndexed self.old.entries.items self.old.lanes
+            self.old.flags.entries self.old.leaves self.old.lit }
+        requires there { IsThere self.old.entries.items tid }
+        ensures entries { self.new.entries.items ≡ without (tid ∷ []) self.old.entries.items }
+        ensures indexed { spec.IsIndexed self.new.entries.items self.new.lanes
+            self.new.flags.entries self.new.leaves self.new.lit }
+        ensures flags { self.new.flags ≡ self.old.flags }
+        ensures room { (k : Slot) → room_at self.old.lanes k ≤ room_at self.new.lanes k }
+        ensures shorter { (k : Slot) →
+            length (lane_at self.new.lanes k) ≤ length (lane_at self.old.lanes k) }
+        ensures cost { (digits : ℕ) →
+            ((k : Slot) → length (lane_at self.old.lanes k) < 2 ^ digits) →
+            tally.new + self.new.leaves * (digits + 2)
+            ≤ tally.old + self.old.leaves * (digits + 2) }
+        ensures lighter { self.new.leaves ≤ self.old.leaves }
+        ensures fewer { vec_len self.new.entries ≤ vec_len self.old.entries }
+        ensures capacity { vec_capacity self.old.entries ≤ vec_capacity self.new.entries }
+    {
+        let at = find(&self.entries, tid);
+        let entry = self.entries.remove(at);
+        let lit = count_lit(&self.flags, entry.bases(), tally);
+        self.lit -= lit;
+        self.leaves -= entry.bases().len();
+        go(&mut self.lanes, tid, entry.runs(), tally);
+        drop(entry);
+    }
+
+    // These threads go. It takes no memory.
+    pub(crate) fn leave_all(&mut self, gone: &[Tid], tally: &mut Tally)
+        requires indexed { spec.IsIndexed self.old.entries.items self.old.lanes
+            self.old.flags.entries self.old.leaves self.old.lit }
+        requires there { All (IsThere self.old.entries.items) gone.now }
+        requires once { AllPairs (λ a b. a.0 ≢ b.0) gone.now }
+        ensures entries { self.new.entries.items ≡ without gone.now self.old.entries.items }
+        ensures indexed { spec.IsIndexed self.new.entries.items self.new.lanes
+            self.new.flags.entries self.new.leaves self.new.lit }
+        ensures flags { self.new.flags ≡ self.old.flags }
+        ensures room { (k : Slot) → room_at self.old.lanes k ≤ room_at self.new.lanes k }
+        ensures shorter { (k : Slot) →
+            length (lane_at self.new.lanes k) ≤ length (lane_at self.old.lanes k) }
+        ensures cost { (digits : ℕ) →
+            ((k : Slot) → length (lane_at self.old.lanes k) < 2 ^ digits) →
+            tally.new + self.new.leaves * (digits + 2)
+            ≤ tally.old + self.old.leaves * (digits + 2) }
+        ensures lighter { self.new.leaves ≤ self.old.leaves }
+        ensures fewer { vec_len self.new.entries ≤ vec_len self.old.entries }
+        ensures capacity { vec_capacity self.old.entries ≤ vec_capacity self.new.entries }
+    {
+        for tid in gone {
+            self.leave(*tid, tally);
+        }
+    }
+
+    // Makes room for a thread that will come: its lanes, its seat, and a place among the lights for each nack of its scopes. At want
+    // of memory, which is answered also where the leaves would be too many to count, nothing was told.
+    pub(crate) fn make_places(&mut self, alloc: Global, entry: &Entry) -> Result<(), AllocError>
+        requires indexed { spec.IsIndexed self.old.entries.items self.old.lanes
+            self.old.flags.entries self.old.leaves self.old.lit }
+        ensures indexed { spec.IsIndexed self.new.entries.items self.new.lanes
+            self.new.flags.entries self.new.leaves self.new.lit }
+        ensures entries { self.new.entries.items ≡ self.old.entries.items }
+        ensures leaves { self.new.leaves ≡ self.old.leaves }
+        ensures lanes { (k : Slot) → lane_at self.new.lanes k ≡ lane_at self.old.lanes k }
+        ensures told { (m : Light) →
+            spec.told self.new.flags.entries m ≡ spec.told self.old.flags.entries m }
+        ensures kept { (k : Slot) → spec.is_named self.old.flags.entries k ≡ true →
+            spec.is_named self.new.flags.entries k ≡ true }
+        ensures seat { OnOk result (vec_len self.new.entries < vec_capacity self.new.entries) }
+        ensures small { OnOk result
+            (self.new.leaves + length (bases entry.now.group) ≤ usize.MAX) }
+        ensures room { OnOk result ((k : Slot) →
+            length (leaves_at k 0 (map spec.slot_of (bases entry.now.group)))
+            ≤ room_at self.new.lanes k) }
+        ensures named { OnOk result (Every
+            (λ k. spec.is_named self.new.flags.entries (spec.slot_of_nack k))
+            (nacks_of (scopes entry.now.group))) }
+    {
+        if self.leaves.checked_add(entry.bases().len()).is_none() {
+            return Err(AllocError);
+        }
+        self.entries.reserve(1)?;
+        make_room(&mut self.lanes, alloc, entry.runs())?;
+        reserve_nacks(&mut self.flags, alloc, entry.group())
+    }
+
+    // Tells of the light: one is examined. One that is told to be lit has its place. It takes no memory.
+    pub(crate) fn tell(&mut self, light: Light, lit: bool, tally: &mut Tally)
+        requires indexed { spec.IsIndexed self.old.entries.items self.old.lanes
+            self.old.flags.entries self.old.leaves self.old.lit }
+        requires there { lit ≡ true →
+            spec.is_named self.old.flags.entries (slot_spec light) ≡ true }
+        ensures told { (m : Light) → spec.told self.new.flags.entries m
+            ≡ (if same_light light m then lit else spec.told self.old.flags.entries m) }
+        ensures indexed { spec.IsIndexed self.new.entries.items self.new.lanes
+            self.new.flags.entries self.new.leaves self.new.lit }
+        ensures entries { self.new.entries ≡ self.old.entries }
+        ensures lanes { self.new.lanes ≡ self.old.lanes }
+        ensures leaves { self.new.leaves ≡ self.old.leaves }
+        ensures kept { (k : Slot) → spec.is_named self.old.flags.entries k ≡ true →
+            spec.is_named self.new.flags.entries k ≡ true }
+        ensures cost { tally.new ≤ tally.old + 1 }
+    {
+        tally.add();
+        if flip(&mut self.flags, light, lit) {
+            let waiters = lane_len(&self.lanes, slot_of_light(light));
+            if lit {
+                self.lit += waiters;
+            } else {
+                self.lit -= waiters;
+            }
+        }
+    }
+
+    // The thread comes, and its offers with it. There is room for it, and the nacks of its scopes have their places.
+    pub(crate) fn enter(&mut self, entry: Entry, tally: &mut Tally)
+        requires indexed { spec.IsIndexed self.old.entries.items self.old.lanes
+            self.old.flags.entries self.old.leaves self.old.lit }
+        requires new { All (λ e. e.thread ≢ entry.thread) self.old.entries.items }
+        requires seat { vec_len self.old.entries < vec_capacity self.old.entries }
+        requires small { self.old.leaves + length (bases entry.group) ≤ usize.MAX }
+        requires room { (k : Slot) → length (leaves_at k 0 (map spec.slot_of (bases entry.group)))
+            ≤ room_at self.old.lanes k }
+        requires named { Every (λ k. spec.is_named self.old.flags.entries (spec.slot_of_nack k))
+            (nacks_of (scopes entry.group)) }
+        ensures entries { self.new.entries.items ≡ with_entry entry self.old.entries.items }
+        ensures leaves { self.new.leaves ≡ self.old.leaves + length (bases entry.group) }
+        ensures indexed { spec.IsIndexed self.new.entries.items self.new.lanes
+            self.new.flags.entries self.new.leaves self.new.lit }
+        ensures flags { self.new.flags ≡ self.old.flags }
+        ensures cost { (digits : ℕ) →
+            ((k : Slot) → length (lane_at self.old.lanes k) < 2 ^ digits) →
+            tally.new ≤ tally.old + length (bases entry.group) * (digits + 2) }
+    {
+        let at = find(&self.entries, entry.tid());
+        let lit = count_lit(&self.flags, entry.bases(), tally);
+        self.leaves += entry.bases().len();
+        self.lit += lit;
+        come(&mut self.lanes, entry.tid(), entry.runs(), tally);
+        insert_in_room(&mut self.entries, at, entry);
+    }
+}
+
+// How many offers stand in the lane.
+fn lane_len(lanes: &Lanes, slot: Slot) -> usize
+    ensures { result ≡ length (lane_at lanes.now slot) }
+{
+    match lanes.get(&slot) {
+        Some(lane) => lane.len(),
+        None => 0,
+    }
+}
+
+// What the leaf at the place waits for, if one of these threads has it: one look.
+pub(crate) fn base_at<'a>(entries: &'a [Entry], place: Place, tally: &mut Tally) -> Option<&'a Base>
+    requires { IsSorted entries.now }
+    ensures value { option_copied result ≡ scan_base_at place (offers_of entries.now) }
+    ensures cost { tally.new ≤ tally.old + 1 }
+{
+    let at = find(entries, place.tid);
+    if at >= entries.len() {
+        return None;
+    }
+    let entry = &entries[at];
+    if entry.tid().0 != place.tid.0 {
+        return None;
+    }
+    tally.add();
+    nth(entry.bases(), place.leaf)
+}
+
+fn nth(bases: &[Base], leaf: u32) -> Option<&Base>
+    ensures { option_copied result ≡ slice_get bases.now leaf }
+{
+    bases.get(leaf as usize)
+}
+
+// Puts the entry in its place. It takes no memory.
+fn insert_in_room(entries: &mut Vec<Entry>, at: usize, entry: Entry)
+    requires within { at ≤ length entries.old.items }
+    requires room { vec_len entries.old < vec_capacity entries.old }
+    ensures { entries.new.items ≡ insert entries.old.items at entry }
+{
+    match entries.insert(at, entry) {
+        Ok(()) => {}
+        Err(_) => unreachable!(),
+    }
+}

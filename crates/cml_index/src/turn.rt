@@ -1,0 +1,178 @@
+//! A change as a whole.
+
+ghost use Rattle.std.specs.Prelude.{◌≡◌, ◌≢◌, ◌≤◌, ◌<◌, ◌+◌, ◌*◌, ◌^◌, ℕ, Bool, true, false, if◌then◌else◌, length, map, All, AllPairs, OnOk, OnErr, IsOk, IfOk, vec_len};
+ghost use Rattle.std.specs.Vec.{vec_capacity};
+ghost use Rattle.cml_value.specs.Group.{bases, scopes, nacks_of};
+ghost use Rattle.cml_scan.specs.declared.object.Light.{Light};
+ghost use Rattle.cml_scan.specs.Order.{Every};
+ghost use Rattle.cml_scan.specs.Table.{without, with_entry, IsThere, has_light, lit_after};
+ghost use Rattle.cml_index.specs.declared.slot.Slot.{Slot};
+ghost use Rattle.cml_index.specs.Posts as spec;
+ghost use Rattle.cml_index.specs.Slot.{slot_of_light as slot_spec};
+ghost use Rattle.cml_index.specs.Slots.{lane_at, room_at, leaves_at};
+
+use crate::entry::Entry;
+use crate::nacks::reserve_lights;
+use crate::state::Core;
+use cml_channel::Tally;
+use cml_scan::Light;
+use cml_value::{Group, Tid};
+use std::alloc::{AllocError, Global};
+
+impl Core {
+    // Tells the same of these lights. It takes no memory.
+    fn tell_all(&mut self, lights: &[Light], lit: bool, tally: &mut Tally)
+        requires indexed { spec.IsIndexed self.old.entries.items self.old.lanes
+            self.old.flags.entries self.old.leaves self.old.lit }
+        requires there { lit ≡ true →
+            Every (λ l. spec.is_named self.old.flags.entries (slot_spec l)) lights.now }
+        ensures told { (m : Light) → spec.told self.new.flags.entries m
+            ≡ (if has_light lights.now m then lit else spec.told self.old.flags.entries m) }
+        ensures indexed { spec.IsIndexed self.new.entries.items self.new.lanes
+            self.new.flags.entries self.new.leaves self.new.lit }
+        ensures entries { self.new.entries ≡ self.old.entries }
+        ensures lanes { self.new.lanes ≡ self.old.lanes }
+        ensures leaves { self.new.leaves ≡ self.old.leaves }
+        ensures kept { (k : Slot) → spec.is_named self.old.flags.entries k ≡ true →
+            spec.is_named self.new.flags.entries k ≡ true }
+        ensures cost { tally.new ≤ tally.old + length lights.now }
+    {
+        for light in lights {
+            self.tell(*light, lit, tally);
+        }
+    }
+
+    // Tells of the lights, which have their places where they are told to be lit, and then the threads go. It takes no memory.
+    fn turn(&mut self, gone: &[Tid], lit: &[Light], unlit: &[Light], tally: &mut Tally)
+        requires indexed { spec.IsIndexed self.old.entries.items self.old.lanes
+            self.old.flags.entries self.old.leaves self.old.lit }
+        requires there { All (IsThere self.old.entries.items) gone.now }
+        requires once { AllPairs (λ a b. a.0 ≢ b.0) gone.now }
+        requires named { Every (λ l. spec.is_named self.old.flags.entries (slot_spec l)) lit.now }
+        ensures indexed { spec.IsIndexed self.new.entries.items self.new.lanes
+            self.new.flags.entries self.new.leaves self.new.lit }
+        ensures entries { self.new.entries.items ≡ without gone.now self.old.entries.items }
+        ensures told { (l : Light) → spec.told self.new.flags.entries l
+            ≡ lit_after lit.now unlit.now l (spec.told self.old.flags.entries l) }
+        ensures kept { (k : Slot) → spec.is_named self.old.flags.entries k ≡ true →
+            spec.is_named self.new.flags.entries k ≡ true }
+        ensures room { (k : Slot) → room_at self.old.lanes k ≤ room_at self.new.lanes k }
+        ensures cost { (digits : ℕ) →
+            ((k : Slot) → length (lane_at self.old.lanes k) < 2 ^ digits) →
+            tally.new + self.new.leaves * (digits + 2) ≤ tally.old
+            + self.old.leaves * (digits + 2) + (length lit.now + length unlit.now) }
+        ensures shorter { (k : Slot) →
+            length (lane_at self.new.lanes k) ≤ length (lane_at self.old.lanes k) }
+        ensures leaves { self.new.leaves ≤ self.old.leaves }
+        ensures fewer { vec_len self.new.entries ≤ vec_len self.old.entries }
+        ensures capacity { vec_capacity self.old.entries ≤ vec_capacity self.new.entries }
+    {
+        self.tell_all(unlit, false, tally);
+        self.tell_all(lit, true, tally);
+        self.leave_all(gone, tally);
+    }
+
+    // A change in which no thread comes.
+    pub(crate) fn leave_only(
+        &mut self,
+        gone: &[Tid],
+        lit: &[Light],
+        unlit: &[Light],
+        tally: &mut Tally,
+    ) -> Result<(), AllocError>
+        requires indexed { spec.IsIndexed self.old.entries.items self.old.lanes
+            self.old.flags.entries self.old.leaves self.old.lit }
+        requires there { All (IsThere self.old.entries.items) gone.now }
+        requires once { AllPairs (λ a b. a.0 ≢ b.0) gone.now }
+        ensures indexed { spec.IsIndexed self.new.entries.items self.new.lanes
+            self.new.flags.entries self.new.leaves self.new.lit }
+        ensures ok { OnOk result
+            (self.new.entries.items ≡ without gone.now self.old.entries.items) }
+        ensures ok_lit { OnOk result ((l : Light) → spec.told self.new.flags.entries l
+            ≡ lit_after lit.now unlit.now l (spec.told self.old.flags.entries l)) }
+        ensures err { OnErr result (self.new.entries.items ≡ self.old.entries.items) }
+        ensures err_lit { OnErr result ((l : Light) →
+            spec.told self.new.flags.entries l ≡ spec.told self.old.flags.entries l) }
+        ensures err_cost { OnErr result (tally.new ≡ tally.old) }
+        ensures sure { Every (λ l. spec.is_named self.old.flags.entries (slot_spec l)) lit.now →
+            IsOk result }
+        ensures cost { OnOk result ((digits : ℕ) →
+            ((k : Slot) → length (lane_at self.old.lanes k) < 2 ^ digits) →
+            tally.new + self.new.leaves * (digits + 2) ≤ tally.old
+            + self.old.leaves * (digits + 2) + (length lit.now + length unlit.now)) }
+    {
+        reserve_lights(&mut self.flags, lit)?;
+        self.turn(gone, lit, unlit, tally);
+        Ok(())
+    }
+
+    // A change in which the thread comes.
+    pub(crate) fn leave_and_come(
+        &mut self,
+        alloc: Global,
+        gone: &[Tid],
+        tid: Tid,
+        group: &Group,
+        lit: &[Light],
+        unlit: &[Light],
+        tally: &mut Tally,
+    ) -> Result<(), AllocError>
+        requires indexed { spec.IsIndexed self.old.entries.items self.old.lanes
+            self.old.flags.entries self.old.leaves self.old.lit }
+        requires there { All (IsThere self.old.entries.items) gone.now }
+        requires once { AllPairs (λ a b. a.0 ≢ b.0) gone.now }
+        requires new { All (λ e. e.thread ≢ tid.0) self.old.entries.items }
+        ensures indexed { spec.IsIndexed self.new.entries.items self.new.lanes
+            self.new.flags.entries self.new.leaves self.new.lit }
+        ensures ok { OnOk result (self.new.entries.items
+            ≡ with_entry (record { thread = tid.0; group = group.now })
+            (without gone.now self.old.entries.items)) }
+        ensures ok_lit { OnOk result ((l : Light) → spec.told self.new.flags.entries l
+            ≡ lit_after lit.now unlit.now l (spec.told self.old.flags.entries l)) }
+        ensures err { OnErr result (self.new.entries.items ≡ self.old.entries.items) }
+        ensures err_lit { OnErr result ((l : Light) →
+            spec.told self.new.flags.entries l ≡ spec.told self.old.flags.entries l) }
+        ensures err_cost { OnErr result (tally.new ≡ tally.old) }
+        ensures cost { OnOk result ((digits : ℕ) →
+            ((k : Slot) → length (lane_at self.old.lanes k) < 2 ^ digits) →
+            tally.new + self.new.leaves * (digits + 2) ≤ tally.old
+            + (self.old.leaves + 2 * length (bases group.now)) * (digits + 2)
+            + (length lit.now + length unlit.now)) }
+    {
+        let entry = Entry::new(alloc, tid, group)?;
+        let Ok(()) = self.make_ready(alloc, &entry, lit) else {
+            drop(entry);
+            return Err(AllocError);
+        };
+        self.turn(gone, lit, unlit, tally);
+        self.enter(entry, tally);
+        Ok(())
+    }
+
+    // Makes room for the entry that will come, and for the lights that will be told to be lit. Nothing was told.
+    fn make_ready(&mut self, alloc: Global, entry: &Entry, lit: &[Light]) -> Result<(), AllocError>
+        requires indexed { spec.IsIndexed self.old.entries.items self.old.lanes
+            self.old.flags.entries self.old.leaves self.old.lit }
+        ensures indexed { spec.IsIndexed self.new.entries.items self.new.lanes
+            self.new.flags.entries self.new.leaves self.new.lit }
+        ensures entries { self.new.entries.items ≡ self.old.entries.items }
+        ensures leaves { self.new.leaves ≡ self.old.leaves }
+        ensures lanes { (k : Slot) → lane_at self.new.lanes k ≡ lane_at self.old.lanes k }
+        ensures told { (m : Light) →
+            spec.told self.new.flags.entries m ≡ spec.told self.old.flags.entries m }
+        ensures seat { OnOk result (vec_len self.new.entries < vec_capacity self.new.entries) }
+        ensures small { OnOk result
+            (self.new.leaves + length (bases entry.now.group) ≤ usize.MAX) }
+        ensures room { OnOk result ((k : Slot) →
+            length (leaves_at k 0 (map spec.slot_of (bases entry.now.group)))
+            ≤ room_at self.new.lanes k) }
+        ensures named { OnOk result (Every
+            (λ k. spec.is_named self.new.flags.entries (spec.slot_of_nack k))
+            (nacks_of (scopes entry.now.group))) }
+        ensures lights { OnOk result
+            (Every (λ l. spec.is_named self.new.flags.entries (slot_spec l)) lit.now) }
+    {
+        self.make_places(alloc, entry)?;
+        reserve_lights(&mut self.flags, lit)
+    }
+}
