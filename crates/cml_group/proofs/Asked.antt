@@ -14,7 +14,7 @@ abbrev pub part_ask : Part → Option PlainAsk
 part_ask (part.Whole g) = None
 part_ask (part.Open frames h) = Some (hole_ask h)
 
-at_hole : (h : Hole) → unforced (plain_hole h) ≡ Some (hole_ask h)
+pub at_hole : (h : Hole) → unforced (plain_hole h) ≡ Some (hole_ask h)
 at_hole (hole.Guard f) = refl
 at_hole (hole.WithNack f) = refl
 

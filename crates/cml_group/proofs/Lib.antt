@@ -6,3 +6,5 @@ pub mod Spending
 pub mod Plugs
 pub mod Members
 pub mod Asked
+pub mod Cuts
+pub mod Same

@@ -80,7 +80,7 @@ replaced_choice new (g ∷ gs) e es a h =
     ap (λ o. where_found o (events_and (replaced new (event_of g)) rest) (events_and (event_of g) (replaced_in_all new rest))) (none_in g)
     ∙ ap (λ t. events_and (event_of g) t) (replaced_choice new gs e es a h)
 
-unforced_framed : (f : PlainFrame) (e : PlainEvent) (a : PlainAsk) → unforced e ≡ Some a → unforced (framed f e) ≡ Some a
+pub unforced_framed : (f : PlainFrame) (e : PlainEvent) (a : PlainAsk) → unforced e ≡ Some a → unforced (framed f e) ≡ Some a
 unforced_framed (in_choice gs es) e a h = unforced_choice gs e es a h
 unforced_framed (in_wrap f) e a h = h
 unforced_framed (in_scope k) e a h = h

@@ -1,6 +1,6 @@
 //! The forcing of an event.
 
-ghost use Rattle.std.specs.Prelude.{◌≡◌, ◌∷◌, ◌+◌, true, Some, IfOk, IfErr, IfSome, OnOk, OnErr, is_some};
+ghost use Rattle.std.specs.Prelude.{◌≡◌, ◌↔◌, IsTrue, ◌∷◌, ◌+◌, true, Some, IfOk, IfErr, IfSome, OnOk, OnErr, is_some};
 ghost use Rattle.cml_value.specs.Value.{PlainFunction, PlainEvent, guard, scope};
 ghost use Rattle.cml_value.specs.Limits.{event_nodes, event_fits, max_nodes};
 ghost use Rattle.cml_group.specs.Force.{calls, needs_nack, unforced, replaced, given_nack, event_of, AwaitsEvent, AwaitsNack};
@@ -260,6 +260,14 @@ impl Forcing {
             part,
             room: self.room,
         })
+    }
+
+    /// Whether the two are the same event being forced, part for part. It takes no memory, and at most the time of a walk
+    /// through the event: where the two wait for different things, only these are compared.
+    pub fn same(&self, other: &Forcing) -> bool
+        ensures { IsTrue result ↔ (self.now ≡ other.now) }
+    {
+        self.part.same(&other.part)
     }
 
     /// The group that the event was forced to, where nothing is asked for.

@@ -1,6 +1,6 @@
 //! The forced members of a choice.
 
-ghost use Rattle.std.specs.Prelude.{◌≡◌, ◌+◌, ◌++◌, [], IfOk, OnOk, is_some, IfSome};
+ghost use Rattle.std.specs.Prelude.{◌≡◌, ◌↔◌, ◌+◌, ◌++◌, [], IfOk, OnOk, is_some, IfSome, IsTrue};
 ghost use Rattle.std.specs.List.{flat_map};
 ghost use Rattle.cml_value.specs.Group.{groups, groups_depth, groups_nodes};
 ghost use Rattle.cml_value.specs.Limits.{is_within};
@@ -84,6 +84,46 @@ fn add_piece(
     }
 }
 
+// Whether the two are the same groups, one after another.
+fn same_groups(groups: &[Group], others: &[Group]) -> bool
+    ensures { IsTrue result ↔ (groups.now ≡ others.now) }
+{
+    if groups.len() != others.len() {
+        return false;
+    }
+    for i in 0..groups.len() {
+        if !groups[i].same(&others[i]) {
+            return false;
+        }
+    }
+    true
+}
+
+// Whether the groups and those of the pieces are the others and those of the other pieces, however they are cut.
+fn same_pieces(
+    groups: &[Group],
+    pieces: &[Arc<Vec<Group>>],
+    others: &[Group],
+    other_pieces: &[Arc<Vec<Group>>],
+) -> bool
+    ensures { IsTrue result ↔ (groups.now ++ flat_map (λ p. p.value.items) pieces.now
+        ≡ others.now ++ flat_map (λ p. p.value.items) other_pieces.now) }
+{
+    if let ([], [piece, rest @ ..]) = (groups, pieces) {
+        return same_pieces(piece, rest, others, other_pieces);
+    }
+    if let ([], [piece, rest @ ..]) = (others, other_pieces) {
+        return same_pieces(groups, pieces, piece, rest);
+    }
+    let many = groups.len().min(others.len());
+    if many == 0 {
+        return groups.is_empty() && others.is_empty();
+    }
+    let (first, rest) = groups.split_at(many);
+    let (other_first, other_rest) = others.split_at(many);
+    same_groups(first, other_first) && same_pieces(rest, pieces, other_rest, other_pieces)
+}
+
 impl Done {
     /// None.
     pub fn new(alloc: Global) -> Done
@@ -106,6 +146,13 @@ impl Done {
             pieces.push(Arc::try_clone(piece)?)?;
         }
         Ok(Done { pieces })
+    }
+
+    /// Whether the two are the same groups, however their pieces are cut.
+    pub fn same(&self, other: &Done) -> bool
+        ensures { IsTrue result ↔ (self.now ≡ other.now) }
+    {
+        same_pieces(&[], &self.pieces, &[], &other.pieces)
     }
 
     /// All of them, and then these, in one list.

@@ -1,6 +1,6 @@
 //! What stands round the place where a forcing goes on.
 
-ghost use Rattle.std.specs.Prelude.{◌≡◌, ℕ, ◌+◌, ◌≤◌, ◌∷◌, ◌++◌, length, drop, IfOk, OnOk, is_some, IfSome};
+ghost use Rattle.std.specs.Prelude.{◌≡◌, ◌↔◌, IsTrue, ℕ, ◌+◌, ◌≤◌, ◌∷◌, ◌++◌, length, drop, IfOk, OnOk, is_some, IfSome};
 ghost use Rattle.cml_value.specs.Value.{events};
 ghost use Rattle.cml_value.specs.Limits.{is_within, events_depth, events_nodes, event_nodes, event_fits, max_depth, max_nodes};
 ghost use Rattle.cml_group.specs.Frames.{plug, side_depth, side_nodes, sides_depth, sides_nodes, in_scope, IsRoom};
@@ -58,6 +58,43 @@ fn spend_from(members: &[Event], next: usize, depth: u32, budget: u32) -> Option
     Some(left)
 }
 
+// The members from this number on.
+fn members_from(members: &[Event], next: usize) -> &[Event]
+    ensures { result.now ≡ drop next members.now }
+{
+    &members[next.min(members.len())..]
+}
+
+// Whether the two are the same events, one after another.
+fn same_events(events: &[Event], others: &[Event]) -> bool
+    ensures { IsTrue result ↔ (events.now ≡ others.now) }
+{
+    if events.len() != others.len() {
+        return false;
+    }
+    for i in 0..events.len() {
+        if !events[i].same(&others[i]) {
+            return false;
+        }
+    }
+    true
+}
+
+/// Whether the two are the same frames, one after another.
+pub fn same_frames(frames: &[Frame], others: &[Frame]) -> bool
+    ensures { IsTrue result ↔ (frames.now ≡ others.now) }
+{
+    if frames.len() != others.len() {
+        return false;
+    }
+    for i in 0..frames.len() {
+        if !frames[i].same(&others[i]) {
+            return false;
+        }
+    }
+    true
+}
+
 impl Frame {
     /// The frame of this kind.
     pub fn new(kind: FrameKind) -> Frame
@@ -89,6 +126,21 @@ impl Frame {
             FrameKind::Scope(k) => FrameKind::Scope(*k),
         };
         Ok(Frame { kind })
+    }
+
+    /// Whether the two are the same frame, part for part.
+    pub fn same(&self, other: &Frame) -> bool
+        ensures { IsTrue result ↔ (self.now ≡ other.now) }
+    {
+        match (&self.kind, &other.kind) {
+            (FrameKind::Choose(done, members, next), FrameKind::Choose(old, others, from)) => {
+                done.same(old)
+                    && same_events(members_from(members, *next), members_from(others, *from))
+            }
+            (FrameKind::Wrap(f), FrameKind::Wrap(g)) => f.same(g),
+            (FrameKind::Scope(k), FrameKind::Scope(l)) => k.0 == l.0,
+            _ => false,
+        }
     }
 
     // What is left of a budget of nodes after the frame without what stands in it, where it and the depth are enough.

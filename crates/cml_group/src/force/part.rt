@@ -1,6 +1,6 @@
 //! An event, forced up to a guard or a withNack.
 
-ghost use Rattle.std.specs.Prelude.{◌≡◌, ℕ, ◌++◌, drop, Option, Some, IfOk};
+ghost use Rattle.std.specs.Prelude.{◌≡◌, ◌↔◌, IsTrue, ℕ, ◌++◌, drop, Option, Some, IfOk};
 ghost use Rattle.cml_value.specs.Value.{wrap, scope, choose, events};
 ghost use Rattle.cml_group.specs.Force.{event_of};
 ghost use Rattle.cml_group.specs.Frames.{framed, plug, choice};
@@ -9,7 +9,7 @@ ghost use Rattle.cml_group.specs.Asks.{Asks};
 
 use crate::force::Next;
 use crate::force::done::Done;
-use crate::force::frame::{Frame, FrameKind, add_frames};
+use crate::force::frame::{Frame, FrameKind, add_frames, same_frames};
 use cml_value::{Event, EventKind, FnRef, Group, GroupKind, NackId};
 use std::alloc::{AllocError, Global};
 use std::sync::Arc;
@@ -40,6 +40,17 @@ impl Hole {
         match self {
             Hole::Guard(f) => Ok(Hole::Guard(f.copy()?)),
             Hole::WithNack(f) => Ok(Hole::WithNack(f.copy()?)),
+        }
+    }
+
+    // Whether the same stands there.
+    fn same(&self, other: &Hole) -> bool
+        ensures { IsTrue result ↔ (plain_hole self.now ≡ plain_hole other.now) }
+    {
+        match (self, other) {
+            (Hole::Guard(f), Hole::Guard(g)) => f.same(g),
+            (Hole::WithNack(f), Hole::WithNack(g)) => f.same(g),
+            _ => false,
         }
     }
 
@@ -75,6 +86,20 @@ impl Part {
                 add_frames(&mut copies, alloc, frames)?;
                 Ok(Part::Open(copies, hole))
             }
+        }
+    }
+
+    /// Whether the two are the same event. An event has one place where its forcing goes on, so they are the same where the
+    /// places and what stands round them are.
+    pub fn same(&self, other: &Part) -> bool
+        ensures { IsTrue result ↔ (plain_part self.now ≡ plain_part other.now) }
+    {
+        match (self, other) {
+            (Part::Whole(group), Part::Whole(old)) => group.same(old),
+            (Part::Open(frames, hole), Part::Open(others, old)) => hole.same(old)
+                && same_frames(frames, others),
+            (Part::Whole(_), Part::Open(_, _)) => false,
+            (Part::Open(_, _), Part::Whole(_)) => false,
         }
     }
 
