@@ -40,7 +40,7 @@ impl Exprs {
     pub fn same(&self, other: &Exprs) -> bool
         ensures { IsTrue result ↔ (self.now ≡ other.now) }
     {
-        if self.items.len() != other.items.len() {
+        if other.items.len() != self.items.len() {
             return false;
         }
         for i in 0..self.items.len() {
