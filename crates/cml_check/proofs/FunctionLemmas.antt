@@ -1,5 +1,5 @@
 -- The functions of heads.
-use Rattle.std.proofs.Common.{◌≡◌, ℕ, ◌+◌, ◌<◌, ◌≤◌, List, [], ◌∷◌, ◌++◌, length, get_or, drop, Ok, Err, refl, sym, ap, ◌∙◌, append_assoc, append-nil}
+use Rattle.std.proofs.Common.{◌≡◌, ℕ, ◌+◌, ◌<◌, ◌≤◌, List, [], ◌∷◌, ◌++◌, map, length, get_or, drop, Ok, Err, refl, sym, ap, ◌∙◌, append_assoc, append-nil}
 use Rattle.std.proofs.Math.ListN.{drop_of_length-le}
 use Rattle.std.proofs.lemmas.List.{map_push}
 use Rattle.cml_check.specs.declared.fault.CheckFault.{CheckFault}
@@ -8,7 +8,7 @@ use Rattle.cml_check.specs.Syntax.{Name, PlainFunction}
 use Rattle.cml_check.specs.Checked.{Checked, ◌>>=◌, Fails}
 use Rattle.cml_check.specs.Heads.{PlainHead, arities_of}
 use Rattle.cml_check.specs.HeadViews.{plain_head, plain_heads}
-use Rattle.cml_check.specs.InOrder.{arities}
+use Rattle.cml_check.specs.InOrder.{arities, names_of}
 use Rattle.cml_check.specs.Shape.{function_by, functions_in}
 use Rattle.cml_check.proofs.CheckedLemmas.{fails-as, drop-at}
 
@@ -71,3 +71,19 @@ pub arities-end : (hs : List Head) (i : ℕ) (fs : List (PlainFunction ℕ)) (al
     arities fs ++ arities_of (plain_heads (drop i hs)) ≡ all → arities fs ≡ all
 arities-end hs i fs all le inv =
     sym (append-nil (arities fs)) ∙ ap (λ xs. arities fs ++ arities_of (plain_heads xs)) (sym (drop_of_length-le hs le)) ∙ inv
+
+abbrev pub head_names : List PlainHead → List Name
+head_names heads = map (λ head. head.name) heads
+
+pub names-next : (hs : List Head) (i : ℕ) (head : Head) (fs : List (PlainFunction ℕ)) (f : PlainFunction ℕ) (all : List Name) → i < length hs → head ≡ get_or hs i head →
+    names_of fs ++ head_names (plain_heads (drop i hs)) ≡ all → f.name ≡ head.name.now → names_of (fs ++ f ∷ []) ++ head_names (plain_heads (drop (i + 1) hs)) ≡ all
+names-next hs i head fs f all lt is inv same =
+    ap (λ xs. xs ++ head_names (plain_heads (drop (i + 1) hs))) (map_push (λ (f : PlainFunction ℕ). f.name) fs f)
+    ∙ append_assoc (names_of fs) (f.name ∷ []) (head_names (plain_heads (drop (i + 1) hs)))
+    ∙ ap (λ n. names_of fs ++ n ∷ head_names (plain_heads (drop (i + 1) hs))) same
+    ∙ ap (λ xs. names_of fs ++ head_names (plain_heads xs)) (sym (drop-at hs i head lt is)) ∙ inv
+
+pub names-end : (hs : List Head) (i : ℕ) (fs : List (PlainFunction ℕ)) (all : List Name) → length hs ≤ i →
+    names_of fs ++ head_names (plain_heads (drop i hs)) ≡ all → names_of fs ≡ all
+names-end hs i fs all le inv =
+    sym (append-nil (names_of fs)) ∙ ap (λ xs. names_of fs ++ head_names (plain_heads xs)) (sym (drop_of_length-le hs le)) ∙ inv

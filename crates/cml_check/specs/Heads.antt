@@ -26,9 +26,13 @@ pub record PlainHead : Type 0 where
 abbrev pub arities_of : List PlainHead → List ℕ
 arities_of heads = map (λ head. length head.parameters) heads
 
+-- the number of the first of these names that is this one
+abbrev pub numbered : List Name → Name → Option ℕ
+numbered names name = position (bytes_eq name) names
+
 -- the number of the first function of this name
 abbrev pub number_of : List PlainHead → Name → Option ℕ
-number_of heads name = position (bytes_eq name) (map (λ head. head.name) heads)
+number_of heads name = numbered (map (λ head. head.name) heads) name
 
 -- a function that may be there takes that many values
 abbrev pub is_arity : Option ℕ → ℕ → Bool

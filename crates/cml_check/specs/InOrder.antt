@@ -1,10 +1,10 @@
 -- What makes a program in order: each slot is one of its function's, each function is there, and each gets as many values as it takes.
-use Rattle.std.specs.Prelude.{◌≡◌, ℕ, ◌+◌, ◌≤◌, List, length, map, All, Bool, true, ◌&&◌, nat_lt}
+use Rattle.std.specs.Prelude.{◌≡◌, ℕ, ◌+◌, ◌≤◌, List, length, map, All, Bool, true, ◌&&◌, nat_lt, codes, Some}
 use Rattle.cml_check.specs.Syntax.{PlainExpr, constant, number, text, variable, unary, binary, choose, wrap, guard, with_nack, PlainExprs, no_exprs, exprs_and}
 use Rattle.cml_check.specs.Syntax.{PlainEffect, act, act_on_one, act_on_two, call, spawn, PlainSource, value, effect}
-use Rattle.cml_check.specs.Syntax.{PlainStmt, let_be, set_to, just_do, if_so, while_so, return_with, PlainStmts, no_stmts, stmts_and, PlainFunction}
+use Rattle.cml_check.specs.Syntax.{Name, PlainStmt, let_be, set_to, just_do, if_so, while_so, return_with, PlainStmts, no_stmts, stmts_and, PlainFunction}
 use Rattle.cml_check.specs.Names.{AreDistinct}
-use Rattle.cml_check.specs.Heads.{takes}
+use Rattle.cml_check.specs.Heads.{takes, numbered}
 
 abbrev pub exprs_count : {V : Type 0} → PlainExprs V → ℕ
 exprs_count no_exprs = 0
@@ -65,3 +65,12 @@ pub record FunctionFits (arities : List ℕ) (f : PlainFunction ℕ) : Type 0 wh
 -- each of the functions is in order among all of them
 abbrev pub InOrder : List (PlainFunction ℕ) → Type 0
 InOrder functions = All (FunctionFits (arities functions)) functions
+
+abbrev pub names_of : List (PlainFunction ℕ) → List Name
+names_of functions = map (λ f. f.name) functions
+
+-- a program: each function is in order, and the one of this number is `main`, which takes no value
+pub record IsProgram (main : ℕ) (functions : List (PlainFunction ℕ)) : Type 0 where
+  pub order : InOrder functions
+  pub found : numbered (names_of functions) (codes "main") ≡ Some main
+  pub takes : takes (arities functions) main 0 ≡ true

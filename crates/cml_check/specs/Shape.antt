@@ -11,7 +11,7 @@ use Rattle.cml_check.specs.Statements.{stmts_in}
 unfoldable pub function_by : List PlainHead → ℕ → PlainHead → Checked (PlainFunction Name × ℕ)
 function_by heads statements head = do
   body ← stmts_in heads (record { names = head.parameters; statements = statements }) head.body
-  Ok (record { names = body.1.names; arity = length head.parameters; body = body.0 }, body.1.statements)
+  Ok (record { name = head.name; names = body.1.names; arity = length head.parameters; body = body.0 }, body.1.statements)
 
 -- the functions of the heads that are left, where the script had that many statements so far
 unfoldable pub functions_in : List PlainHead → ℕ → List PlainHead → Checked (List (PlainFunction Name))

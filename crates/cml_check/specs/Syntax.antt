@@ -107,9 +107,10 @@ abbrev mutual
 abbrev pub Name : Type 0
 Name = List ℕ
 
--- A function: the names that it declares, its parameters first and then those of its `let`s as they come; how many of them are
+-- A function: its name; the names that it declares, its parameters first and then those of its `let`s as they come; how many of them are
 -- parameters; and its statements.
 pub record PlainFunction (V : Type 0) : Type 0 where
+  pub name : Name
   pub names : List Name
   pub arity : ℕ
   pub body : PlainStmts V
@@ -120,7 +121,7 @@ name_at names slot = get_or names slot []
 
 -- the function as it is written
 abbrev pub written : PlainFunction ℕ → PlainFunction Name
-written f = record { names = f.names; arity = f.arity; body = stmts_map (name_at f.names) f.body }
+written f = record { name = f.name; names = f.names; arity = f.arity; body = stmts_map (name_at f.names) f.body }
 
 -- how deep expressions, and statements, stand in one another
 abbrev mutual

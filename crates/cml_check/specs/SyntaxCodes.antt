@@ -271,5 +271,5 @@ stmts_code = record { code = stmts_gv; inj = stmts_gv_inj }
 
 abbrev pub function_code : Coded (PlainFunction ℕ)
 function_code =
-    code_by (List Name × (ℕ × PlainStmts ℕ)) (coded× (coded_list (coded_list coded_ℕ)) (coded× coded_ℕ stmts_code))
-    (λ f. (f.names, (f.arity, f.body))) (λ p. record { names = p.0; arity = p.1.0; body = p.1.1 }) (λ _. refl)
+    code_by (Name × (List Name × (ℕ × PlainStmts ℕ))) (coded× (coded_list coded_ℕ) (coded× (coded_list (coded_list coded_ℕ)) (coded× coded_ℕ stmts_code)))
+    (λ f. (f.name, (f.names, (f.arity, f.body)))) (λ p. record { name = p.0; names = p.1.0; arity = p.1.1.0; body = p.1.1.1 }) (λ _. refl)

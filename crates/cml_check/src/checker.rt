@@ -5,7 +5,7 @@ ghost use Rattle.cml_check.specs.Syntax.{written};
 ghost use Rattle.cml_check.specs.Checked.{Gives};
 ghost use Rattle.cml_check.specs.Heads.{arities_of};
 ghost use Rattle.cml_check.specs.HeadViews.{plain_head};
-ghost use Rattle.cml_check.specs.InOrder.{InOrder, FunctionFits};
+ghost use Rattle.cml_check.specs.InOrder.{InOrder, FunctionFits, arities, names_of};
 ghost use Rattle.cml_check.specs.Shape.{shape, function_by, functions_in};
 
 use crate::fault::CheckFault;
@@ -24,9 +24,9 @@ pub fn check(alloc: Global, forms: &[Sexpr]) -> Result<Prog, CheckFault>
     ensures { Gives (λ program. map written program) result (shape forms.now) }
 {
     let heads = heads_of(alloc, forms)?;
-    main_function(&heads)?;
+    let main = main_function(&heads)?;
     let functions = functions(alloc, &heads)?;
-    Ok(Prog::new(alloc, functions)?)
+    Ok(Prog::new(alloc, functions, main)?)
 }
 
 // The functions of these heads.
@@ -34,6 +34,10 @@ fn functions(alloc: Global, heads: &Heads<'_>) -> Result<Vec<Function>, CheckFau
     ensures gives { let found = functions_in heads.now 0 heads.now in
         Gives (λ functions. map written functions.items) result found }
     ensures order { IfOk result (λ functions. InOrder functions.items) }
+    ensures arities { IfOk result (λ functions.
+        arities functions.items ≡ arities_of heads.now) }
+    ensures names { IfOk result (λ functions.
+        names_of functions.items ≡ map (λ head. head.name) heads.now) }
 {
     let mut items = Vec::new(alloc);
     let mut statements = 0;
@@ -55,6 +59,7 @@ fn function(
         Gives (λ function. (written function, count.new)) result found }
     ensures fits { IfOk result (λ function. FunctionFits (arities_of heads.now) function) }
     ensures arity { IfOk result (λ function. function.arity ≡ length head.now.parameters) }
+    ensures name { IfOk result (λ function. function.name ≡ head.now.name.now) }
 {
     // A function has fewer parameters than a text has bytes, so this never comes.
     let Ok(arity) = u32::try_from(head.parameters.len()) else {
@@ -67,5 +72,11 @@ fn function(
     let body = statements(alloc, heads, &mut scope, head.body)?;
     *count = scope.statements;
     let names = scope.names.to_strings(alloc)?;
-    Ok(Function { names, arity, body })
+    let name = String::from_str(alloc, head.name)?;
+    Ok(Function {
+        name,
+        names,
+        arity,
+        body,
+    })
 }

@@ -1,6 +1,6 @@
 //! The heads of a script's items: which functions there are.
 
-ghost use Rattle.std.specs.Prelude.{◌≡◌, ◌<◌, List, [], length, IfSome, IfOk, true, Some};
+ghost use Rattle.std.specs.Prelude.{◌≡◌, ◌<◌, List, [], codes, length, IfSome, IfOk, true, Some};
 ghost use Rattle.cml_text.specs.Forms.{plain_forms, span_of};
 ghost use Rattle.cml_check.specs.Checked.{Gives};
 ghost use Rattle.cml_check.specs.Heads as spec;
@@ -202,10 +202,12 @@ pub fn heads_of(alloc: Global, forms: &[Sexpr]) -> Result<Heads<'_>, CheckFault>
     Ok(Heads { names, items })
 }
 
-/// That `main` is there and has no parameter.
+/// The number of `main`, which is there and has no parameter.
 #[tactic(auto, unfolding(crate::specs::Heads::main_in))]
-pub fn main_function(heads: &Heads<'_>) -> Result<(), CheckFault>
-    ensures { Gives (λ _. Prim.tt) result (spec.main_in heads.now) }
+pub fn main_function(heads: &Heads<'_>) -> Result<u32, CheckFault>
+    ensures gives { Gives (λ _. Prim.tt) result (spec.main_in heads.now) }
+    ensures found { IfOk result (λ number. number_of heads.now (codes "main") ≡ Some number) }
+    ensures takes { IfOk result (λ number. takes (arities_of heads.now) number 0 ≡ true) }
 {
     let Some(number) = heads.number("main") else {
         return Err(CheckFault::At {
@@ -219,5 +221,5 @@ pub fn main_function(heads: &Heads<'_>) -> Result<(), CheckFault>
             at: heads.place(number),
         });
     }
-    Ok(())
+    Ok(number)
 }

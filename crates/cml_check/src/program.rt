@@ -1,17 +1,19 @@
 //! Programs that were checked.
 
-ghost use Rattle.std.specs.Prelude.{◌≡◌, ◌<◌, ◌≤◌, IfOk, length, map, slice_get, slice_index_or};
+ghost use Rattle.std.specs.Prelude.{◌≡◌, ◌<◌, ◌≤◌, IfOk, Some, true, codes, length, map, slice_get, slice_index_or};
 ghost use Rattle.std.specs.String.{string_bytes};
-ghost use Rattle.cml_check.specs.InOrder.{InOrder, FunctionFits, arities};
+ghost use Rattle.cml_check.specs.Heads.{numbered, takes};
+ghost use Rattle.cml_check.specs.InOrder.{InOrder, IsProgram, FunctionFits, arities, names_of};
 
 use crate::syntax::Block;
 use std::alloc::{AllocError, Global};
 use std::marker::Model;
 use std::sync::Arc;
 
-/// A function: the names of its slots, its parameters first, how many of them are parameters, and its statements.
+/// A function: its name, the names of its slots, its parameters first, how many of them are parameters, and its statements.
 #[derive(Drop)]
 pub struct Function {
+    pub name: String,
     pub names: Vec<String>,
     pub arity: u32,
     pub body: Block,
@@ -28,16 +30,18 @@ impl Model for Function {
     ghost coded = { function_code };
 
     ghost view = { λ a. record {
+      name = string_bytes a.name;
       names = map string_bytes a.names.items;
       arity = a.arity;
       body = a.body;
     } };
 }
 
-/// A program in which each function, each slot and each number of values is in order. Its copies share it.
+/// A program in which each function, each slot and each number of values is in order, and which has a `main`. Its copies share it.
 #[derive(Drop)]
 pub struct Prog {
     shared: Arc<Vec<Function>>,
+    main: u32,
 }
 
 impl Model for Prog {
@@ -50,21 +54,33 @@ impl Model for Prog {
 
     ghost coded = { coded_list function_code };
 
-    ghost use Rattle.cml_check.specs.InOrder.{InOrder};
+    ghost use Rattle.cml_check.specs.InOrder.{IsProgram};
 
     ghost view = { λ a. a.shared.value.items };
 
-    ghost invariant = { λ a. InOrder a.shared.value.items };
+    ghost invariant = { λ a. IsProgram a.main a.shared.value.items };
 }
 
 impl Prog {
-    /// A program of these functions.
-    pub(crate) fn new(alloc: Global, functions: Vec<Function>) -> Result<Prog, AllocError>
-        requires { InOrder functions.items }
+    /// A program of these functions, of which the one of this number is `main`.
+    pub(crate) fn new(
+        alloc: Global,
+        functions: Vec<Function>,
+        main: u32,
+    ) -> Result<Prog, AllocError>
+        requires { IsProgram main functions.items }
         ensures { IfOk result (λ program. program ≡ functions.items) }
     {
         let shared = Arc::new(alloc, functions)?;
-        Ok(Prog { shared })
+        Ok(Prog { shared, main })
+    }
+
+    /// The number of `main`, with which a program begins. It takes no value.
+    pub fn main(&self) -> u32
+        ensures found { numbered (names_of self.now) (codes "main") ≡ Some result }
+        ensures takes { takes (arities self.now) result 0 ≡ true }
+    {
+        self.main
     }
 
     /// How many functions there are.
@@ -106,6 +122,9 @@ impl Prog {
         ensures { IfOk result (λ program. program ≡ self.now) }
     {
         let shared = Arc::try_clone(&self.shared)?;
-        Ok(Prog { shared })
+        Ok(Prog {
+            shared,
+            main: self.main,
+        })
     }
 }

@@ -126,6 +126,7 @@ impl Function {
         ensures { IsTrue result ↔ (self.now ≡ other.now) }
     {
         self.arity == other.arity
+            && self.name.as_str() == other.name.as_str()
             && same_names(&self.names, &other.names)
             && self.body.same(&other.body)
     }

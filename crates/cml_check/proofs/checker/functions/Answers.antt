@@ -7,7 +7,7 @@ use Rattle.cml_check.specs.Syntax.{written}
 use Rattle.cml_check.specs.Heads.{arities_of}
 use Rattle.cml_check.specs.InOrder.{FunctionFits, arities}
 use Rattle.cml_check.specs.Shape.{functions_in}
-use Rattle.cml_check.proofs.FunctionLemmas.{front_nil, function-fails, function-next, function-end, arities-next, arities-end}
+use Rattle.cml_check.proofs.FunctionLemmas.{front_nil, function-fails, function-next, function-end, arities-next, arities-end, names-next, names-end}
 use Rattle.cml_check.proofs.checker.functions.Goals as goal
 
 pub loop-head-init : goal.loop-head-init
@@ -15,6 +15,7 @@ loop-head-init c = record {
   whole = c.as_slice-head-items.ensures;
   left = rw (c.new-items.ensures.items, c.as_slice-head-items.ensures) (front_nil (functions_in c.args.heads.now 0 c.args.heads.now));
   fits = rw (c.new-items.ensures.items) (λ k d lt. absurd (omega arith));
+  named = rw (c.new-items.ensures.items, c.as_slice-head-items.ensures) refl;
   same = rw (c.new-items.ensures.items, c.as_slice-head-items.ensures) refl;
 }
 
@@ -32,6 +33,8 @@ loop-head-preserved c =
       whole = c.loop-head.invariant.whole;
       left = rw (c.in_ok-push.ensures.items, map_push written c.loop-head.items.items c.in_ok-function.field-0) next;
       fits = rw c.in_ok-push.ensures.items (All-push (FunctionFits (arities_of c.args.heads.now)) c.loop-head.items.items c.in_ok-function.field-0 c.loop-head.invariant.fits c.in_ok-function.ensures.fits);
+      named = rw c.in_ok-push.ensures.items (names-next c.as_slice-head-items.result.now c.loop-head.head-index c.head-item.result c.loop-head.items.items c.in_ok-function.field-0 _
+          c.loop-head-test.true c.head-item.is c.loop-head.invariant.named c.in_ok-function.ensures.name);
       same = rw c.in_ok-push.ensures.items (arities-next c.as_slice-head-items.result.now c.loop-head.head-index c.head-item.result c.loop-head.items.items c.in_ok-function.field-0 _
           c.loop-head-test.true c.head-item.is c.loop-head.invariant.same c.in_ok-function.ensures.arity);
     }
@@ -45,3 +48,9 @@ returns-clause-order c =
     let same : arities c.loop-head.items.items ≡ arities_of c.args.heads.now =
     arities-end c.as_slice-head-items.result.now c.loop-head.head-index c.loop-head.items.items _ (omega (arith, c.loop-head-test.false)) c.loop-head.invariant.same in
     subst (λ (ar : List _). All (FunctionFits ar) c.loop-head.items.items) (sym same) c.loop-head.invariant.fits
+
+pub returns-clause-arities : goal.returns-clause-arities
+returns-clause-arities c = arities-end c.as_slice-head-items.result.now c.loop-head.head-index c.loop-head.items.items _ (omega (arith, c.loop-head-test.false)) c.loop-head.invariant.same
+
+pub returns-clause-names : goal.returns-clause-names
+returns-clause-names c = names-end c.as_slice-head-items.result.now c.loop-head.head-index c.loop-head.items.items _ (omega (arith, c.loop-head-test.false)) c.loop-head.invariant.named
