@@ -7,6 +7,8 @@ mod books;
 mod checks;
 pub mod choosing;
 #[cfg(test)]
+mod drawing;
+#[cfg(test)]
 mod forcings;
 #[cfg(test)]
 mod groups;
@@ -18,6 +20,8 @@ mod lanes;
 mod making;
 #[cfg(test)]
 mod scans;
+#[cfg(test)]
+mod tables;
 #[cfg(test)]
 mod texts;
 #[cfg(test)]
