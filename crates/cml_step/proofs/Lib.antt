@@ -1,0 +1,13 @@
+pub mod Numbers
+pub mod SameLemmas
+pub mod Prefixes
+pub mod VariableLemmas
+pub mod PlaceLemmas
+pub mod AgreeLemmas
+pub mod CallLemmas
+pub mod ForceLemmas
+pub mod StackLemmas
+pub mod SliceLemmas
+pub mod AwaitLemmas
+pub mod AnswerLemmas
+mod Worked

@@ -1,0 +1,43 @@
+-- A slice, step by step.
+use Rattle.std.proofs.Common.{◌≡◌, ℕ, suc, ◌+◌, ◌-◌, ◌<◌, ◌≤◌, [], refl, ap, ◌∙◌, arith}
+use Rattle.cml_step.specs.declared.fault.Fault.{Fault}
+use Rattle.cml_step.specs.declared.ask.Ask.{Ask}
+use Rattle.cml_step.specs.declared.ask.Ask.TheVariants as asks_of
+use Rattle.cml_step.specs.Terms.{Program, Term}
+use Rattle.cml_step.specs.Asks as ask
+use Rattle.cml_step.specs.Asks.{PlainAsk}
+use Rattle.cml_step.specs.AskViews.{plain_ask}
+use Rattle.cml_step.specs.Steps.{PlainTurn, goes_on, asks, fails, next}
+use Rattle.cml_step.specs.Slices.{PlainSlice, carried, sliced_from}
+
+stops : (go : Term → PlainSlice) (n : ℕ) (a : Ask) (t : Term) → (a ≡ asks_of.Nothing → ⊥) → carried go n (plain_ask a) t ≡ record { ask = plain_ask a; end = t; steps = n }
+stops go n asks_of.Nothing t h = absurd (h refl)
+stops go n _ t h = refl
+
+one_step : (p : Program) (self k n : ℕ) (t : Term) (u : PlainTurn) → next p self t ≡ u →
+    sliced_from p self (suc k) n t ≡ carried (λ v. sliced_from p self k (n + 1) v) (n + 1) u.ask u.term
+unfolding sliced_from
+one_step p self k n t u e = ap (λ d. carried (λ v. sliced_from p self k (n + 1) v) (n + 1) d.ask d.term) e
+
+no_step : (p : Program) (self n : ℕ) (t : Term) → sliced_from p self 0 n t ≡ record { ask = ask.nothing; end = t; steps = n }
+unfolding sliced_from
+no_step p self n t = refl
+
+fewer : (k n : ℕ) → n < k → k - n ≡ suc (k - (n + 1))
+fewer k n h = omega (arith, h)
+
+pub slice_on : (p : Program) (self k n : ℕ) (t u : Term) → n < k → next p self t ≡ goes_on u → sliced_from p self (k - n) n t ≡ sliced_from p self (k - (n + 1)) (n + 1) u
+slice_on p self k n t u h e = ap (λ m. sliced_from p self m n t) (fewer k n h) ∙ one_step p self (k - (n + 1)) n t (goes_on u) e
+
+pub slice_asks : (p : Program) (self k n : ℕ) (t u : Term) (a : Ask) → n < k → next p self t ≡ asks (plain_ask a) u → (a ≡ asks_of.Nothing → ⊥) →
+    sliced_from p self (k - n) n t ≡ record { ask = plain_ask a; end = u; steps = n + 1 }
+slice_asks p self k n t u a h e g =
+    ap (λ m. sliced_from p self m n t) (fewer k n h) ∙ one_step p self (k - (n + 1)) n t (asks (plain_ask a) u) e
+    ∙ stops (λ v. sliced_from p self (k - (n + 1)) (n + 1) v) (n + 1) a u g
+
+pub slice_fails : (p : Program) (self k n : ℕ) (t : Term) (why : Fault) → n < k → next p self t ≡ fails why →
+    sliced_from p self (k - n) n t ≡ record { ask = ask.fault why; end = []; steps = n + 1 }
+slice_fails p self k n t why h e = ap (λ m. sliced_from p self m n t) (fewer k n h) ∙ one_step p self (k - (n + 1)) n t (fails why) e
+
+pub slice_over : (p : Program) (self k n : ℕ) (t : Term) → k ≤ n → sliced_from p self (k - n) n t ≡ record { ask = ask.nothing; end = t; steps = n }
+slice_over p self k n t h = let e : k - n ≡ 0 = omega (arith, h) in ap (λ m. sliced_from p self m n t) e ∙ no_step p self n t

@@ -1,0 +1,196 @@
+-- A stack and its term.
+use Rattle.std.proofs.Common.{◌≡◌, ℕ, zero, suc, ◌+◌, ◌<◌, true, List, [], ◌∷◌, ◌++◌, length, map, refl, ap, sym, ◌∙◌, subst, arith, get_or, Option, Some, None, slice_get, reverse}
+use Rattle.std.proofs.lemmas.List.{reverse-append}
+use Rattle.std.specs.Option.{option_map}
+use Rattle.cml_value.specs.Value.{PlainValue, PlainFunction, function, func_of, args_of, values}
+use Rattle.cml_check.specs.Syntax.{PlainFunction as PlainItem, no_stmts, stmts_map, name_at, written}
+use Rattle.cml_step.specs.declared.call.Wait.{Wait}
+use Rattle.cml_step.specs.declared.call.Wait.TheVariants as wait
+use Rattle.cml_step.specs.declared.call.Call.{Call}
+use Rattle.cml_step.specs.Variables.{bound}
+use Rattle.cml_step.specs.Places.{left_at}
+use Rattle.cml_step.specs.Calls.{entry_in, entry_of, wait_of, text_of}
+use Rattle.cml_check.specs.Heads.{takes}
+use Rattle.cml_check.specs.InOrder.{arities}
+use Rattle.cml_step.specs.Agrees.{function_agrees, values_count}
+use Rattle.cml_step.specs.Calls.{WaitFits}
+use Rattle.cml_step.proofs.VariableLemmas.{and_first, and_second}
+use Rattle.cml_check.specs.Names.{AreDistinct}
+use Rattle.cml_step.specs.Agrees.{value_agrees, all_agree}
+use Rattle.cml_step.specs.Steps.{filled, delivered, goes_on, next, wraps_step, pushed}
+use Rattle.cml_step.specs.Terms.{runs}
+use Rattle.cml_step.specs.Forced.{given}
+use Rattle.cml_step.specs.Calls.{entry_for, slots_with}
+use Rattle.cml_step.proofs.CallLemmas.{filled_is, agree_filled, wait_room}
+use Rattle.cml_step.proofs.AgreeLemmas.{all_values, both}
+use Rattle.cml_step.proofs.ForceLemmas.{list_values}
+use Rattle.cml_step.specs.declared.entry.Entry.{Entry}
+use Rattle.cml_step.specs.declared.entry.Entry.TheVariants as entry
+use Rattle.cml_step.specs.Terms.{Program, call, wraps, Term, list_of, started, call_of}
+use Rattle.cml_step.specs.Agrees.{functions_agree}
+use Rattle.cml_step.specs.Machines.{names_of}
+use Rattle.cml_step.specs.Stacks.{CallFits, entry_view, term_on, term_of, EntryFits, BeneathFits, EachBeneath, StackFits}
+
+term_on_pushed : (p : List (PlainItem ℕ)) (es : List Entry) (e : Entry) (below : Term) → term_on p (es ++ e ∷ []) below ≡ entry_view p e ∷ term_on p es below
+term_on_pushed p [] e below = refl
+term_on_pushed p (x ∷ es) e below = term_on_pushed p es e (entry_view p x ∷ below)
+
+pub term_pushed : (p : List (PlainItem ℕ)) (es : List Entry) (e : Entry) → term_of p (es ++ e ∷ []) ≡ entry_view p e ∷ term_of p es
+term_pushed p es e = term_on_pushed p es e []
+
+term_on_length : (p : List (PlainItem ℕ)) (es : List Entry) (below : Term) → length (term_on p es below) ≡ length es + length below
+term_on_length p [] below = omega arith
+term_on_length p (e ∷ es) below = omega (arith, term_on_length p es (entry_view p e ∷ below))
+
+pub term_length : (p : List (PlainItem ℕ)) (es : List Entry) → length (term_of p es) ≡ length es
+term_length p es = omega (arith, term_on_length p es [])
+
+pub fits_pushed : (p : List (PlainItem ℕ)) (es : List Entry) (e : Entry) → EachBeneath p es → EntryFits p e → StackFits p (es ++ e ∷ [])
+fits_pushed p [] e h f = f
+fits_pushed p (x ∷ []) e h f = (h.0, f)
+fits_pushed p (x ∷ y ∷ es) e h f = (h.0, fits_pushed p (y ∷ es) e h.1 f)
+
+pub fits_popped : (p : List (PlainItem ℕ)) (es : List Entry) (e : Entry) → StackFits p (es ++ e ∷ []) → EachBeneath p es × EntryFits p e
+fits_popped p [] e h = (tt, h)
+fits_popped p (x ∷ []) e h = ((h.0, tt), h.1)
+fits_popped p (x ∷ y ∷ es) e h = let r = fits_popped p (y ∷ es) e h.1 in ((h.0, r.0), r.1)
+
+pub beneath_pushed : (p : List (PlainItem ℕ)) (es : List Entry) (e : Entry) → EachBeneath p es → BeneathFits p e → EachBeneath p (es ++ e ∷ [])
+beneath_pushed p [] e h f = (f, tt)
+beneath_pushed p (x ∷ es) e h f = (h.0, beneath_pushed p es e h.1 f)
+
+pub beneath_popped : (p : List (PlainItem ℕ)) (es : List Entry) (e : Entry) → EachBeneath p (es ++ e ∷ []) → EachBeneath p es × BeneathFits p e
+beneath_popped p [] e h = (tt, h.0)
+beneath_popped p (x ∷ es) e h = let r = beneath_popped p es e h.1 in ((h.0, r.0), r.1)
+
+text_at : (p : List (PlainItem ℕ)) (g : ℕ) (o : Option (PlainItem ℕ)) → slice_get p g ≡ o → slice_get (map written p) g ≡ option_map written o
+text_at [] g o e = ap (option_map written) e
+text_at (x ∷ xs) zero o e = ap (option_map written) e
+text_at (x ∷ xs) (suc g) o e = text_at xs g o e
+
+begun_in : (o : Option (PlainItem ℕ)) (vs : List PlainValue) (c : Call) → c.path.items ≡ [] → c.at ≡ 0 → c.slots.items ≡ vs → c.wait ≡ wait.Runs →
+    entry_in o c ≡ started (option_map written o) vs
+begun_in (Some f) vs c h a s w =
+    ap (λ hs. call (stmts_map (name_at f.names) (left_at f.body hs c.at)) (bound f.names c.slots.items) (wait_of f.names c.wait)) h
+    ∙ ap (λ n. call (stmts_map (name_at f.names) (left_at f.body [] n)) (bound f.names c.slots.items) (wait_of f.names c.wait)) a
+    ∙ ap (λ ws. call (stmts_map (name_at f.names) f.body) (bound f.names ws) (wait_of f.names c.wait)) s
+    ∙ ap (λ d. call (stmts_map (name_at f.names) f.body) (bound f.names vs) (wait_of f.names d)) w
+begun_in None vs c h a s w = ap (λ d. call no_stmts [] (wait_of [] d)) w
+
+-- a call of a function at its beginning
+pub begun : (p : List (PlainItem ℕ)) (vs : List PlainValue) (c : Call) → c.path.items ≡ [] → c.at ≡ 0 → c.slots.items ≡ vs → c.wait ≡ wait.Runs →
+    entry_of p c ≡ call_of (text_of p) (function c.func (values vs))
+begun p vs c h a s w =
+    begun_in (slice_get p c.func) vs c h a s w
+    ∙ ap (λ ws. started (option_map written (slice_get p c.func)) ws) (sym (list_values vs))
+    ∙ ap (λ o. started o (list_of (values vs))) (sym (text_at p c.func (slice_get p c.func) refl))
+
+there : (fs : List (PlainItem ℕ)) (g n : ℕ) → takes (arities fs) g n ≡ true → g < length fs
+there [] g n h = absurd (cc)
+there (f ∷ fs) zero n h = omega arith
+there (f ∷ fs) (suc g) n h = let l = there fs g n h in omega (arith, l)
+
+-- such a call is one of the program's
+pub begun_fits : (p : List (PlainItem ℕ)) (c : Call) → function_agrees (arities p) 0 (function c.func (values c.slots.items)) ≡ true → c.wait ≡ wait.Runs → CallFits p c
+begun_fits p c h w = record {
+  there = there p c.func _ (and_first _ _ h);
+  agree = sym (all_values (arities p) c.slots.items) ∙ and_second (takes (arities p) c.func (values_count (values c.slots.items) + 0)) _ h;
+  waits = subst (λ d. WaitFits d (names_of (slice_get p c.func)) (length c.slots.items)) (sym w) tt;
+}
+
+-- the same of a call that begins with the values that the function has captured
+pub begun_by : (p : List (PlainItem ℕ)) (f : PlainFunction) (c : Call) → c.func ≡ func_of f → values c.slots.items ≡ args_of f → c.path.items ≡ [] → c.at ≡ 0 → c.wait ≡ wait.Runs →
+    entry_of p c ≡ call_of (text_of p) f
+begun_by p (function g us) c e a h t w =
+    begun p c.slots.items c h t refl w ∙ ap (λ ws. call_of (text_of p) (function c.func ws)) a ∙ ap (λ n. call_of (text_of p) (function n us)) e
+
+pub begun_by_fits : (p : List (PlainItem ℕ)) (f : PlainFunction) (c : Call) → c.func ≡ func_of f → values c.slots.items ≡ args_of f → c.wait ≡ wait.Runs →
+    function_agrees (arities p) 0 f ≡ true → CallFits p c
+begun_by_fits p (function g us) c e a w h =
+    begun_fits p c (ap (λ ws. function_agrees (arities p) 0 (function c.func ws)) a ∙ ap (λ n. function_agrees (arities p) 0 (function n us)) e ∙ h) w
+
+-- a call, and the same once the value has come that it waited for
+pub filled_fits : (p : List (PlainItem ℕ)) (c d : Call) (v : PlainValue) → CallFits p c → value_agrees (arities p) v ≡ true → d.func ≡ c.func → d.wait ≡ wait.Runs →
+    d.slots.items ≡ slots_with c.wait v c.slots.items → CallFits p d
+filled_fits p c d v h g e w s = record {
+  there = subst (λ n. n < length p) (sym e) h.there;
+  agree = ap (all_agree (arities p)) s ∙ agree_filled (arities p) c.slots.items c.wait v h.agree g;
+  waits = subst (λ x. WaitFits x (names_of (slice_get p d.func)) (length d.slots.items)) (sym w) tt;
+}
+
+pub filled_room : (p : List (PlainItem ℕ)) (c : Call) → CallFits p c → WaitFits c.wait (length c.slots.items) (length c.slots.items)
+filled_room p c h = wait_room c.wait _ _ h.waits
+
+fun_at : (p : List (PlainItem ℕ)) (g : ℕ) (f : PlainItem ℕ) → g < length p → f ≡ get_or p g f → slice_get p g ≡ Some f
+fun_at [] g f l e = absurd (omega arith)
+fun_at (x ∷ xs) zero f l e = cc
+fun_at (x ∷ xs) (suc g) f l e = fun_at xs g f (omega arith) e
+
+pub filled_for : (f : PlainItem ℕ) (c d : Call) (v : PlainValue) → AreDistinct f.names → WaitFits c.wait (length f.names) (length c.slots.items) →
+    (d.func ≡ c.func) × (d.at ≡ c.at) × (d.path ≡ c.path) → d.wait ≡ wait.Runs → d.slots.items ≡ slots_with c.wait v c.slots.items →
+    entry_for f d ≡ call (stmts_map (name_at f.names) (left_at f.body c.path.items c.at)) (filled (wait_of f.names c.wait) v (bound f.names c.slots.items)) runs
+filled_for f c d v i h e w s =
+    ap (λ n. call (stmts_map (name_at f.names) (left_at f.body d.path.items n)) (bound f.names d.slots.items) (wait_of f.names d.wait)) e.1
+    ∙ ap (λ hs. call (stmts_map (name_at f.names) (left_at f.body hs.items c.at)) (bound f.names d.slots.items) (wait_of f.names d.wait)) e.2
+    ∙ ap (λ x. call (stmts_map (name_at f.names) (left_at f.body c.path.items c.at)) (bound f.names d.slots.items) (wait_of f.names x)) w
+    ∙ ap (λ x. call (stmts_map (name_at f.names) (left_at f.body c.path.items c.at)) x runs) (ap (bound f.names) s ∙ sym (filled_is f.names c.slots.items c.wait v i h))
+
+-- what delivering to it comes to
+pub delivered_call : (p : List (PlainItem ℕ)) (f : PlainItem ℕ) (c d : Call) (v : PlainValue) (es : List Entry) → CallFits p c → f ≡ get_or p c.func f → AreDistinct f.names →
+    (d.func ≡ c.func) × (d.at ≡ c.at) × (d.path ≡ c.path) → d.wait ≡ wait.Runs → d.slots.items ≡ slots_with c.wait v c.slots.items →
+    delivered v (entry_of p c ∷ term_of p es) ≡ goes_on (term_of p (es ++ entry.Call d ∷ []))
+delivered_call p f c d v es h g i e w s =
+    let o : slice_get p c.func ≡ Some f = fun_at p c.func f h.there g in
+    let room : WaitFits c.wait (length f.names) (length c.slots.items) = subst (λ x. WaitFits c.wait (names_of x) (length c.slots.items)) o h.waits in
+    let q : entry_of p d ≡ entry_for f d = ap (λ n. entry_in (slice_get p n) d) e.0 ∙ ap (λ x. entry_in x d) o in
+    ap (λ x. delivered v (entry_in x c ∷ term_of p es)) o
+    ∙ ap (λ x. goes_on (x ∷ term_of p es)) (sym (q ∙ filled_for f c d v i room e w s))
+    ∙ ap goes_on (sym (term_pushed p es (entry.Call d)))
+
+-- an entry put on top, with what it waits for
+pub pushed_is : (p : List (PlainItem ℕ)) (es fs : List Entry) (e : Entry) → fs ≡ es ++ e ∷ [] → term_of p fs ≡ entry_view p e ∷ term_of p es
+pushed_is p es fs e h = ap (term_of p) h ∙ term_pushed p es e
+
+-- the entry of a call of this function
+pub entry_is : (p : List (PlainItem ℕ)) (f : PlainItem ℕ) (c d : Call) → c.func < length p → f ≡ get_or p c.func f → d.func ≡ c.func → entry_of p d ≡ entry_for f d
+entry_is p f c d l g e = ap (λ n. entry_in (slice_get p n) d) e ∙ ap (λ x. entry_in x d) (fun_at p c.func f l g)
+
+-- a call that has made a step is one of the program's still
+pub moved_fits : (p : List (PlainItem ℕ)) (f : PlainItem ℕ) (c d : Call) → c.func < length p → f ≡ get_or p c.func f → d.func ≡ c.func →
+    all_agree (arities p) d.slots.items ≡ true → WaitFits d.wait (length f.names) (length d.slots.items) → CallFits p d
+moved_fits p f c d l g e a w = record {
+  there = subst (λ n. n < length p) (sym e) l;
+  agree = a;
+  waits = subst (λ x. WaitFits d.wait (names_of x) (length d.slots.items)) (sym (ap (slice_get p) e ∙ fun_at p c.func f l g)) w;
+}
+
+-- the last function is the next
+pub last_next : (fs : List PlainFunction) (f : PlainFunction) → reverse (fs ++ f ∷ []) ≡ f ∷ reverse fs
+last_next fs f = reverse-append fs (f ∷ [])
+
+pub wraps_popped : (counts : List ℕ) (fs : List PlainFunction) (f : PlainFunction) → functions_agree counts (fs ++ f ∷ []) ≡ true → (functions_agree counts fs ≡ true) × (function_agrees counts 1 f ≡ true)
+wraps_popped counts [] f h = (refl, and_first _ _ h)
+wraps_popped counts (x ∷ fs) f h = let r = wraps_popped counts fs f (and_second (function_agrees counts 1 x) _ h) in (both _ _ (and_first _ _ h) r.0, r.1)
+
+-- a call that waits takes no step
+waiting_in : (p : Program) (self : ℕ) (o : Option (PlainItem ℕ)) (c : Call) (w : Wait) (below : Term) → c.wait ≡ w → (w ≡ wait.Runs → ⊥) →
+    next p self (entry_in o c ∷ below) ≡ goes_on (entry_in o c ∷ below)
+waiting_in p self o c wait.Runs below e h = absurd (h refl)
+waiting_in p self (Some f) c wait.Drops below e h =
+    ap (λ w. next p self (call (stmts_map (name_at f.names) (left_at f.body c.path.items c.at)) (bound f.names c.slots.items) (wait_of f.names w) ∷ below)) e
+    ∙ ap (λ w. goes_on (call (stmts_map (name_at f.names) (left_at f.body c.path.items c.at)) (bound f.names c.slots.items) (wait_of f.names w) ∷ below)) (sym e)
+waiting_in p self (Some f) c (wait.Gives s) below e h =
+    ap (λ w. next p self (call (stmts_map (name_at f.names) (left_at f.body c.path.items c.at)) (bound f.names c.slots.items) (wait_of f.names w) ∷ below)) e
+    ∙ ap (λ w. goes_on (call (stmts_map (name_at f.names) (left_at f.body c.path.items c.at)) (bound f.names c.slots.items) (wait_of f.names w) ∷ below)) (sym e)
+waiting_in p self None c wait.Drops below e h =
+    ap (λ w. next p self (call no_stmts [] (wait_of [] w) ∷ below)) e ∙ ap (λ w. goes_on (call no_stmts [] (wait_of [] w) ∷ below)) (sym e)
+waiting_in p self None c (wait.Gives s) below e h =
+    ap (λ w. next p self (call no_stmts [] (wait_of [] w) ∷ below)) e ∙ ap (λ w. goes_on (call no_stmts [] (wait_of [] w) ∷ below)) (sym e)
+
+pub waiting : (p : List (PlainItem ℕ)) (self : ℕ) (c : Call) (below : Term) → (c.wait ≡ wait.Runs → ⊥) → next (text_of p) self (entry_of p c ∷ below) ≡ goes_on (entry_of p c ∷ below)
+waiting p self c below h = waiting_in (text_of p) self (slice_get p c.func) c c.wait below refl h
+
+-- the same of wraps in progress
+pub next_wrap : (p : Program) (self : ℕ) (all left : List PlainFunction) (f : PlainFunction) (v : PlainValue) (below : Term) → all ≡ left ++ f ∷ [] →
+    wraps_step p (reverse all) v below ≡ pushed (call_of p (given f v)) (wraps (reverse left) v ∷ below)
+next_wrap p self all left f v below h = ap (λ fs. wraps_step p fs v below) (ap reverse h ∙ last_next left f)

@@ -1,0 +1,6 @@
+use Rattle.std.proofs.Common.{◌≡◌, ◌↔◌, drop, length}
+use Rattle.cml_step.proofs.entry.same_functions.Given as goal
+
+-- what the loop has seen is the same, so the rest decides
+abbrev pub invariant-loop-i : goal.invariant-loop-i
+invariant-loop-i l = (length l.functions ≡ length l.others) × ((l.functions ≡ l.others) ↔ (drop l.i l.functions ≡ drop l.i l.others))

@@ -1,0 +1,55 @@
+-- The stack of the machine, and the term that it stands for under a program.
+use Rattle.std.specs.Prelude.{◌≡◌, ℕ, true, List, [], ◌∷◌, map, Result, Ok, Err}
+use Rattle.cml_check.specs.Syntax.{PlainFunction as PlainItem}
+use Rattle.cml_check.specs.InOrder.{arities}
+use Rattle.cml_step.specs.declared.ask.Ask.{Ask}
+use Rattle.cml_step.specs.declared.fault.Stop.{Stop}
+use Rattle.cml_step.specs.declared.fault.Stop.TheVariants as stop
+use Rattle.cml_step.specs.declared.call.Call.{Call}
+use Rattle.cml_step.specs.declared.entry.Wraps.{Wraps}
+use Rattle.cml_step.specs.declared.entry.Entry.{Entry}
+use Rattle.cml_step.specs.Terms.{PlainEntry, Term}
+use Rattle.cml_step.specs.AskViews.{plain_ask}
+use Rattle.cml_step.specs.Agrees.{ask_agrees}
+use Rattle.cml_step.specs.Steps.{PlainTurn, asks, fails}
+use Rattle.cml_step.specs.Machines.{plain_held, held_entry, held_on, IsCallOf, AreWrapsOf, HeldFits, HeldFitsBeneath, AllHeldFit}
+
+abbrev pub entry_view : List (PlainItem ℕ) → Entry → PlainEntry
+entry_view p e = held_entry p (plain_held e)
+
+-- the entries, the top one last, above those of `below`
+abbrev pub term_on : List (PlainItem ℕ) → List Entry → Term → Term
+term_on p es below = held_on p (map plain_held es) below
+
+abbrev pub term_of : List (PlainItem ℕ) → List Entry → Term
+term_of p es = term_on p es []
+
+abbrev pub CallFits : List (PlainItem ℕ) → Call → Type 0
+CallFits p c = IsCallOf p c.func c.slots.items c.wait
+
+abbrev pub WrapsFit : List (PlainItem ℕ) → Wraps → Type 0
+WrapsFit p w = AreWrapsOf p w.left.items w.value
+
+abbrev pub EntryFits : List (PlainItem ℕ) → Entry → Type 0
+EntryFits p e = HeldFits p (plain_held e)
+
+-- an event beneath another entry waits for the event of a guard's function
+abbrev pub BeneathFits : List (PlainItem ℕ) → Entry → Type 0
+BeneathFits p e = HeldFitsBeneath p (plain_held e)
+
+abbrev pub EachBeneath : List (PlainItem ℕ) → List Entry → Type 0
+EachBeneath p [] = Unit {0}
+EachBeneath p (e ∷ es) = BeneathFits p e × EachBeneath p es
+
+abbrev pub StackFits : List (PlainItem ℕ) → List Entry → Type 0
+StackFits p es = AllHeldFit p (map plain_held es)
+
+-- what a step of the machine came to
+abbrev pub Turns : List (PlainItem ℕ) → Result Ask Stop → PlainTurn → List Entry → Type 0
+Turns p (Ok a) turn es = turn ≡ asks (plain_ask a) (term_of p es)
+Turns p (Err (stop.Fault why)) turn es = turn ≡ fails why
+Turns p (Err stop.Memory) turn es = Unit {0}
+
+abbrev pub TurnFits : List (PlainItem ℕ) → Result Ask Stop → List Entry → Type 0
+TurnFits p (Ok a) es = StackFits p es × (ask_agrees (arities p) (plain_ask a) ≡ true)
+TurnFits p (Err e) es = Unit {0}

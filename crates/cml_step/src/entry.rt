@@ -1,0 +1,221 @@
+//! The entries of a thread's stack.
+
+ghost use Rattle.std.specs.Prelude.{◌≡◌, ◌↔◌, IsTrue, IfOk, List, ℕ, true, map, length};
+ghost use Rattle.cml_check.specs.Syntax.{PlainFunction as PlainItem};
+ghost use Rattle.cml_check.specs.InOrder.{arities};
+ghost use Rattle.cml_step.specs.Agrees.{function_agrees};
+ghost use Rattle.cml_step.specs.Terms.{call_of};
+ghost use Rattle.cml_step.specs.Calls.{text_of, entry_of};
+ghost use Rattle.cml_step.specs.Machines.{plain_held};
+ghost use Rattle.cml_step.specs.Stacks.{CallFits};
+
+use crate::call::{Call, Wait};
+use crate::place::Hop;
+use cml_group::Forcing;
+use cml_value::{FnRef, Value};
+use std::alloc::{AllocError, Global};
+
+/// Wraps in progress: the functions that are left, the next one last, and the value that has come so far.
+#[derive(Drop)]
+pub(crate) struct Wraps {
+    pub left: Vec<FnRef>,
+    pub value: Value,
+}
+
+/// An entry of a stack: a call; an event that is being forced, and whether it has asked; or wraps in progress.
+#[derive(Drop)]
+pub(crate) enum Entry {
+    Call(Call),
+    Force(Forcing, bool),
+    Wraps(Wraps),
+}
+
+/// Other owners of these values.
+pub(crate) fn copies(alloc: Global, values: &[Value]) -> Result<Vec<Value>, AllocError>
+    ensures { IfOk result (λ vs. vs.items ≡ values.now) }
+{
+    let mut copies = Vec::new(alloc);
+    for value in values {
+        copies.push(value.copy()?)?;
+    }
+    Ok(copies)
+}
+
+// Other owners of these functions.
+fn functions(alloc: Global, functions: &[FnRef]) -> Result<Vec<FnRef>, AllocError>
+    ensures { IfOk result (λ fs. fs.items ≡ functions.now) }
+{
+    let mut copies = Vec::new(alloc);
+    for function in functions {
+        copies.push(function.copy()?)?;
+    }
+    Ok(copies)
+}
+
+// The same way down through the blocks.
+fn copy_path(alloc: Global, path: &[Hop]) -> Result<Vec<Hop>, AllocError>
+    ensures { IfOk result (λ hops. hops.items ≡ path.now) }
+{
+    let mut hops = Vec::new(alloc);
+    for hop in path {
+        hops.push(*hop)?;
+    }
+    Ok(hops)
+}
+
+/// A call of the function at its first statement.
+pub(crate) fn begin(alloc: Global, function: &FnRef) -> Result<Call, AllocError>
+    ensures term { IfOk result (λ call. (p : List (PlainItem ℕ)) →
+        entry_of p call ≡ call_of (text_of p) function.now) }
+    ensures fits { IfOk result (λ call. (p : List (PlainItem ℕ)) →
+        function_agrees (arities p) 0 function.now ≡ true → CallFits p call) }
+    ensures runs { IfOk result (λ call. call.wait ≡ Wait.Runs) }
+{
+    Ok(Call {
+        func: function.func(),
+        path: Vec::new(alloc),
+        at: 0,
+        slots: copies(alloc, function.args())?,
+        wait: Wait::Runs,
+    })
+}
+
+/// The same entry, whose values have one more owner each.
+pub(crate) fn copy_entry(alloc: Global, entry: &Entry) -> Result<Entry, AllocError>
+    ensures { IfOk result (λ copy. plain_held copy ≡ plain_held entry.now) }
+{
+    match entry {
+        Entry::Call(call) => Ok(Entry::Call(Call {
+            func: call.func,
+            path: copy_path(alloc, call.path.as_slice())?,
+            at: call.at,
+            slots: copies(alloc, call.slots.as_slice())?,
+            wait: call.wait,
+        })),
+        Entry::Force(forcing, asked) => Ok(Entry::Force(forcing.copy(alloc)?, *asked)),
+        Entry::Wraps(wraps) => Ok(Entry::Wraps(Wraps {
+            left: functions(alloc, wraps.left.as_slice())?,
+            value: wraps.value.copy()?,
+        })),
+    }
+}
+
+// Whether the two are the same way down through the blocks.
+fn same_path(hops: &[Hop], others: &[Hop]) -> bool
+    ensures { IsTrue result ↔ (hops.now ≡ others.now) }
+{
+    if hops.len() != others.len() {
+        return false;
+    }
+    for i in 0..hops.len() {
+        if hops[i] != others[i] {
+            return false;
+        }
+    }
+    true
+}
+
+// Whether two calls are of one function, at one place in it.
+fn same_place(call: &Call, other: &Call) -> bool
+    ensures { IsTrue result ↔ (call.now.func ≡ other.now.func)
+        × (call.now.at ≡ other.now.at) × (call.now.wait ≡ other.now.wait)
+        × (call.now.path.items ≡ other.now.path.items) }
+{
+    call.func == other.func
+        && call.at == other.at
+        && call.wait == other.wait
+        && same_path(call.path.as_slice(), other.path.as_slice())
+}
+
+// Whether the two are the same values, one after another.
+fn same_values(values: &[Value], others: &[Value]) -> bool
+    ensures { IsTrue result ↔ (values.now ≡ others.now) }
+{
+    if values.len() != others.len() {
+        return false;
+    }
+    for i in 0..values.len() {
+        if !values[i].same(&others[i]) {
+            return false;
+        }
+    }
+    true
+}
+
+// Whether the two are the same functions, one after another.
+fn same_functions(functions: &[FnRef], others: &[FnRef]) -> bool
+    ensures { IsTrue result ↔ (functions.now ≡ others.now) }
+{
+    if functions.len() != others.len() {
+        return false;
+    }
+    for i in 0..functions.len() {
+        if !functions[i].same(&others[i]) {
+            return false;
+        }
+    }
+    true
+}
+
+// Whether the two may be the same: no value is looked at.
+fn may_be_same(entry: &Entry, other: &Entry) -> bool
+    ensures { plain_held entry.now ≡ plain_held other.now → IsTrue result }
+{
+    match (entry, other) {
+        (Entry::Call(call), Entry::Call(second)) => same_place(call, second),
+        (Entry::Force(_, asked), Entry::Force(_, second)) => *asked == *second,
+        (Entry::Wraps(_), Entry::Wraps(_)) => true,
+        _ => false,
+    }
+}
+
+// Whether the two are the same entry.
+fn same_entry(entry: &Entry, other: &Entry) -> bool
+    ensures { IsTrue result ↔ (plain_held entry.now ≡ plain_held other.now) }
+{
+    match (entry, other) {
+        (Entry::Call(call), Entry::Call(second)) => same_place(call, second)
+            && same_values(call.slots.as_slice(), second.slots.as_slice()),
+        (Entry::Force(forcing, asked), Entry::Force(second, had_asked)) => {
+            *asked == *had_asked && forcing.same(second)
+        }
+        (Entry::Wraps(wraps), Entry::Wraps(second)) => {
+            wraps.value.same(&second.value)
+                && same_functions(wraps.left.as_slice(), second.left.as_slice())
+        }
+        _ => false,
+    }
+}
+
+// Whether two stacks of one height may be the same: no value is looked at.
+fn may_all_be_same(entries: &[Entry], others: &[Entry]) -> bool
+    requires { length entries.now ≡ length others.now }
+    ensures { map plain_held entries.now ≡ map plain_held others.now → IsTrue result }
+{
+    for i in 0..entries.len() {
+        if !may_be_same(&entries[i], &others[i]) {
+            return false;
+        }
+    }
+    true
+}
+
+// Whether two stacks of one height are the same, entry by entry.
+fn all_same(entries: &[Entry], others: &[Entry]) -> bool
+    requires { length entries.now ≡ length others.now }
+    ensures { IsTrue result ↔ (map plain_held entries.now ≡ map plain_held others.now) }
+{
+    for i in 0..entries.len() {
+        if !same_entry(&entries[i], &others[i]) {
+            return false;
+        }
+    }
+    true
+}
+
+/// Whether the two are the same stack: functions and places are looked at before values.
+pub(crate) fn same_stack(entries: &[Entry], others: &[Entry]) -> bool
+    ensures { IsTrue result ↔ (map plain_held entries.now ≡ map plain_held others.now) }
+{
+    entries.len() == others.len() && may_all_be_same(entries, others) && all_same(entries, others)
+}

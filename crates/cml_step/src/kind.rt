@@ -1,0 +1,128 @@
+//! What kind a value is of, where a step asks for one kind.
+
+ghost use Rattle.std.specs.Prelude.{◌≡◌};
+ghost use Rattle.cml_step.specs.Faults.{Gives};
+ghost use Rattle.cml_step.specs.Kinds as spec;
+
+use crate::fault::{Fault, Stop};
+use cml_value::{ChanId, Event, IVarId, MVarId, MboxId, McastId, PortId, Tid, Value, ValueKind};
+
+/// The number that a value is.
+pub(crate) fn number_of(value: &Value) -> Result<i64, Stop>
+    ensures { Gives (λ z. z) result (spec.number_of value.now) }
+{
+    match value.kind() {
+        ValueKind::Int(z) => Ok(*z),
+        _ => Err(Stop::Fault(Fault::Kind)),
+    }
+}
+
+/// The truth value that a value is.
+pub(crate) fn truth_of(value: &Value) -> Result<bool, Stop>
+    ensures { Gives (λ b. b) result (spec.truth_of value.now) }
+{
+    match value.kind() {
+        ValueKind::Bool(b) => Ok(*b),
+        _ => Err(Stop::Fault(Fault::Kind)),
+    }
+}
+
+/// Another owner of the event that a value is.
+pub(crate) fn event_of(value: &Value) -> Result<Event, Stop>
+    ensures { Gives (λ e. e) result (spec.event_of value.now) }
+{
+    match value.kind() {
+        ValueKind::Event(e) => Ok(e.copy()?),
+        _ => Err(Stop::Fault(Fault::Kind)),
+    }
+}
+
+/// Another owner of the first part of the pair that a value is.
+pub(crate) fn first_of(value: &Value) -> Result<Value, Stop>
+    ensures { Gives (λ v. v) result (spec.first_of value.now) }
+{
+    match value.kind() {
+        ValueKind::Pair(p) => Ok(p.0.copy()?),
+        _ => Err(Stop::Fault(Fault::Kind)),
+    }
+}
+
+/// Another owner of the second part of the pair that a value is.
+pub(crate) fn second_of(value: &Value) -> Result<Value, Stop>
+    ensures { Gives (λ v. v) result (spec.second_of value.now) }
+{
+    match value.kind() {
+        ValueKind::Pair(p) => Ok(p.1.copy()?),
+        _ => Err(Stop::Fault(Fault::Kind)),
+    }
+}
+
+/// The thread that a value is.
+pub(crate) fn thread_of(value: &Value) -> Result<Tid, Stop>
+    ensures { Gives (λ t. t.0) result (spec.thread_of value.now) }
+{
+    match value.kind() {
+        ValueKind::Thread(t) => Ok(*t),
+        _ => Err(Stop::Fault(Fault::Kind)),
+    }
+}
+
+/// The channel that a value is.
+pub(crate) fn chan_of(value: &Value) -> Result<ChanId, Stop>
+    ensures { Gives (λ c. c.0) result (spec.chan_of value.now) }
+{
+    match value.kind() {
+        ValueKind::Chan(c) => Ok(*c),
+        _ => Err(Stop::Fault(Fault::Kind)),
+    }
+}
+
+/// The I-variable that a value is.
+pub(crate) fn ivar_of(value: &Value) -> Result<IVarId, Stop>
+    ensures { Gives (λ i. i.0) result (spec.ivar_of value.now) }
+{
+    match value.kind() {
+        ValueKind::IVar(i) => Ok(*i),
+        _ => Err(Stop::Fault(Fault::Kind)),
+    }
+}
+
+/// The M-variable that a value is.
+pub(crate) fn mvar_of(value: &Value) -> Result<MVarId, Stop>
+    ensures { Gives (λ m. m.0) result (spec.mvar_of value.now) }
+{
+    match value.kind() {
+        ValueKind::MVar(m) => Ok(*m),
+        _ => Err(Stop::Fault(Fault::Kind)),
+    }
+}
+
+/// The mailbox that a value is.
+pub(crate) fn mailbox_of(value: &Value) -> Result<MboxId, Stop>
+    ensures { Gives (λ b. b.0) result (spec.mailbox_of value.now) }
+{
+    match value.kind() {
+        ValueKind::Mailbox(b) => Ok(*b),
+        _ => Err(Stop::Fault(Fault::Kind)),
+    }
+}
+
+/// The multicast channel that a value is.
+pub(crate) fn mchan_of(value: &Value) -> Result<McastId, Stop>
+    ensures { Gives (λ x. x.0) result (spec.mchan_of value.now) }
+{
+    match value.kind() {
+        ValueKind::Mchan(x) => Ok(*x),
+        _ => Err(Stop::Fault(Fault::Kind)),
+    }
+}
+
+/// The port that a value is.
+pub(crate) fn port_of(value: &Value) -> Result<PortId, Stop>
+    ensures { Gives (λ p. p.0) result (spec.port_of value.now) }
+{
+    match value.kind() {
+        ValueKind::Port(p) => Ok(*p),
+        _ => Err(Stop::Fault(Fault::Kind)),
+    }
+}

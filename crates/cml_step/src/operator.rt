@@ -1,0 +1,173 @@
+//! What the operations make of values.
+
+ghost use Rattle.std.specs.Prelude.{◌≡◌};
+ghost use Rattle.cml_value.specs.Value.{truth, pair, event, leaf};
+ghost use Rattle.cml_value.specs.Views.{plain_base};
+ghost use Rattle.cml_step.specs.Faults.{Gives};
+ghost use Rattle.cml_step.specs.Operators as spec;
+ghost use Rattle.cml_step.specs.Same.{are_same};
+
+use crate::fault::{Fault, Stop};
+use crate::kind::{
+    chan_of, first_of, ivar_of, mailbox_of, mvar_of, number_of, port_of, second_of, thread_of,
+    truth_of,
+};
+use cml_check::{Binary, Constant, Unary};
+use cml_value::{Base, BaseKind, Event, EventKind, Value, ValueKind};
+use std::alloc::Global;
+
+/// The value of a constant.
+///
+/// # Errors
+/// Want of memory.
+pub(crate) fn constant_value(alloc: Global, constant: Constant) -> Result<Value, Stop>
+    ensures { Gives (λ v. v) result (spec.constant_value constant) }
+{
+    match constant {
+        Constant::True => Ok(Value::new(ValueKind::Bool(true))),
+        Constant::False => Ok(Value::new(ValueKind::Bool(false))),
+        Constant::Unit => Ok(Value::new(ValueKind::Unit)),
+        Constant::Never => Ok(Value::event(alloc, Event::new(EventKind::Never))?),
+    }
+}
+
+/// The event as a value, once it was measured.
+pub(crate) fn event_value(alloc: Global, held: Event) -> Result<Value, Stop>
+    ensures { Gives (λ v. v) result (spec.built (event held)) }
+{
+    if !held.fits() {
+        return Err(Stop::Fault(Fault::Deep));
+    }
+    Ok(Value::event(alloc, held)?)
+}
+
+// The base event as a value.
+fn base_value(alloc: Global, kind: BaseKind) -> Result<Value, Stop>
+    ensures { Gives (λ v. v) result (spec.built (event (leaf (plain_base kind)))) }
+{
+    event_value(alloc, Event::new(EventKind::Leaf(Base::new(kind))))
+}
+
+// The pair as a value, once it was measured.
+fn pair_value(alloc: Global, first: Value, second: Value) -> Result<Value, Stop>
+    ensures { Gives (λ v. v) result (spec.built (pair first second)) }
+{
+    let both = Value::pair(alloc, first, second)?;
+    if !both.fits() {
+        return Err(Stop::Fault(Fault::Deep));
+    }
+    Ok(both)
+}
+
+// So many ticks.
+fn ticks_of(value: &Value) -> Result<u64, Stop>
+    ensures { Gives (λ n. n) result (spec.ticks_of value.now) }
+{
+    let number = number_of(value)?;
+    if number < 0 {
+        return Err(Stop::Fault(Fault::Range));
+    }
+    Ok(number as u64)
+}
+
+/// What an operation makes of one value.
+pub(crate) fn unary_value(alloc: Global, operator: Unary, value: Value) -> Result<Value, Stop>
+    ensures { Gives (λ v. v) result (spec.unary_value operator value) }
+{
+    match operator {
+        Unary::Not => {
+            let b = truth_of(&value)?;
+            Ok(Value::new(ValueKind::Bool(!b)))
+        }
+        Unary::Fst => first_of(&value),
+        Unary::Snd => second_of(&value),
+        Unary::Always => base_value(alloc, BaseKind::Always(value)),
+        Unary::Recv => base_value(alloc, BaseKind::Recv(chan_of(&value)?)),
+        Unary::IGet => base_value(alloc, BaseKind::IGet(ivar_of(&value)?)),
+        Unary::MTake => base_value(alloc, BaseKind::MTake(mvar_of(&value)?)),
+        Unary::MGet => base_value(alloc, BaseKind::MGet(mvar_of(&value)?)),
+        Unary::MailRecv => base_value(alloc, BaseKind::MailRecv(mailbox_of(&value)?)),
+        Unary::PortRecv => base_value(alloc, BaseKind::PortRecv(port_of(&value)?)),
+        Unary::Join => base_value(alloc, BaseKind::Join(thread_of(&value)?)),
+        Unary::At => base_value(alloc, BaseKind::At(ticks_of(&value)?)),
+        Unary::After => base_value(alloc, BaseKind::After(ticks_of(&value)?)),
+    }
+}
+
+// The sum of two numbers.
+#[tactic(auto, using(crate::proofs::Numbers::number_fits, crate::proofs::Numbers::number_too_far))]
+fn sum_value(first: &Value, second: &Value) -> Result<Value, Stop>
+    ensures { Gives (λ v. v) result (spec.sum_of first.now second.now) }
+{
+    let (x, y) = (number_of(first)?, number_of(second)?);
+    match x.checked_add(y) {
+        Some(z) => Ok(Value::new(ValueKind::Int(z))),
+        None => Err(Stop::Fault(Fault::Overflow)),
+    }
+}
+
+// The difference of two numbers.
+#[tactic(auto, using(crate::proofs::Numbers::number_fits, crate::proofs::Numbers::number_too_far))]
+fn difference_value(first: &Value, second: &Value) -> Result<Value, Stop>
+    ensures { Gives (λ v. v) result (spec.difference_of first.now second.now) }
+{
+    let (x, y) = (number_of(first)?, number_of(second)?);
+    match x.checked_sub(y) {
+        Some(z) => Ok(Value::new(ValueKind::Int(z))),
+        None => Err(Stop::Fault(Fault::Overflow)),
+    }
+}
+
+// The product of two numbers.
+#[tactic(auto, using(crate::proofs::Numbers::number_fits, crate::proofs::Numbers::number_too_far))]
+fn product_value(first: &Value, second: &Value) -> Result<Value, Stop>
+    ensures { Gives (λ v. v) result (spec.product_of first.now second.now) }
+{
+    let (x, y) = (number_of(first)?, number_of(second)?);
+    match x.checked_mul(y) {
+        Some(z) => Ok(Value::new(ValueKind::Int(z))),
+        None => Err(Stop::Fault(Fault::Overflow)),
+    }
+}
+
+// Whether one number is less than the other.
+fn less_value(first: &Value, second: &Value) -> Result<Value, Stop>
+    ensures { Gives (λ v. v) result (spec.less_of first.now second.now) }
+{
+    let (x, y) = (number_of(first)?, number_of(second)?);
+    Ok(Value::new(ValueKind::Bool(x < y)))
+}
+
+// Whether two values are one.
+fn equal_value(first: &Value, second: &Value) -> Value
+    ensures { result ≡ truth (are_same first.now second.now) }
+{
+    Value::new(ValueKind::Bool(first.same(second)))
+}
+
+/// What an operation makes of two values.
+pub(crate) fn binary_value(
+    alloc: Global,
+    operator: Binary,
+    first: Value,
+    second: Value,
+) -> Result<Value, Stop>
+    ensures { Gives (λ v. v) result (spec.binary_value operator first second) }
+{
+    match operator {
+        Binary::Plus => sum_value(&first, &second),
+        Binary::Minus => difference_value(&first, &second),
+        Binary::Times => product_value(&first, &second),
+        Binary::Less => less_value(&first, &second),
+        Binary::Equal => Ok(equal_value(&first, &second)),
+        Binary::Pair => pair_value(alloc, first, second),
+        Binary::Send => {
+            let channel = chan_of(&first)?;
+            base_value(alloc, BaseKind::Send(channel, second))
+        }
+        Binary::MSwap => {
+            let variable = mvar_of(&first)?;
+            base_value(alloc, BaseKind::MSwap(variable, second))
+        }
+    }
+}

@@ -1,0 +1,460 @@
+//! Steps of a stack.
+
+ghost use Rattle.std.specs.Prelude.{◌≡◌, ℕ, List, ◌∷◌, Bool, true, false, Some, None, Ok, IfOk, IfErr};
+ghost use Rattle.cml_value.specs.Value.{PlainValue, function, values};
+ghost use Rattle.cml_check.specs.Syntax.{PlainFunction as PlainItem};
+ghost use Rattle.cml_check.specs.InOrder.{arities};
+ghost use Rattle.cml_step.specs.Agrees.{value_agrees, all_agree, function_agrees, event_agrees, ask_agrees};
+ghost use Rattle.cml_step.specs.Terms.{call_of, force};
+ghost use Rattle.cml_group.specs.Force.{AwaitsEvent, unforced, calls, event_of as plain_event_of};
+ghost use Rattle.cml_step.specs.AskViews.{plain_ask};
+ghost use Rattle.cml_step.specs.Forced.{group_of, given};
+ghost use Rattle.cml_step.specs.Steps as steps;
+ghost use Rattle.cml_step.specs.Steps.{PlainTurn};
+ghost use Rattle.cml_step.specs.Calls.{text_of, entry_of, MovesTo, DidAgrees};
+ghost use Rattle.cml_step.specs.Stacks.{entry_view, term_of, EntryFits, EachBeneath, StackFits, Turns, TurnFits, CallFits, WrapsFit};
+
+use crate::ask::Ask;
+use crate::call::{Call, Did, Wait, call_step, fill};
+use crate::entry::{Entry, Wraps, copies};
+use crate::fault::{Fault, Stop};
+use crate::kind::event_of;
+use cml_check::Prog;
+use cml_group::{ForceFault, Forcing, Next};
+use cml_value::{Event, FnRef, Group, Tid, Value};
+use std::alloc::Global;
+
+// The most entries of a stack.
+const MAX_ENTRIES: usize = 1024;
+
+// The entry on top, if there is room.
+#[tactic(auto, using(crate::proofs::StackLemmas::term_pushed, crate::proofs::StackLemmas::term_length, crate::proofs::StackLemmas::fits_pushed))]
+fn push(entry: Entry, below: &mut Vec<Entry>) -> Result<Ask, Stop>
+    ensures turns { (p : List (PlainItem ℕ)) → Turns p result
+        (steps.pushed (entry_view p entry) (term_of p below.old.items)) below.new.items }
+    ensures fits { (p : List (PlainItem ℕ)) → EntryFits p entry
+        → EachBeneath p below.old.items → TurnFits p result below.new.items }
+{
+    if below.len() >= MAX_ENTRIES {
+        return Err(Stop::Fault(Fault::Stack));
+    }
+    below.push(entry)?;
+    Ok(Ask::Nothing)
+}
+
+// A call of the function with these values, on top.
+#[tactic(auto, using(crate::proofs::StackLemmas::begun, crate::proofs::StackLemmas::begun_fits))]
+fn push_call(
+    alloc: Global,
+    program: &Prog,
+    func: u32,
+    args: Vec<Value>,
+    below: &mut Vec<Entry>,
+) -> Result<Ask, Stop>
+    requires agrees { let f = function func (values args.items) in
+        function_agrees (arities program.now) 0 f ≡ true }
+    requires beneath { EachBeneath program.now below.old.items }
+    ensures turns { let f = function func (values args.items) in
+        let entry = call_of (text_of program.now) f in
+        Turns program.now result
+        (steps.pushed entry (term_of program.now below.old.items)) below.new.items }
+    ensures fits { TurnFits program.now result below.new.items }
+{
+    let call = Call {
+        func,
+        path: Vec::new(alloc),
+        at: 0,
+        slots: args,
+        wait: Wait::Runs,
+    };
+    push(Entry::Call(call), below)
+}
+
+// The same of a function with captured values, and those that it is given besides.
+fn push_function(
+    alloc: Global,
+    program: &Prog,
+    f: &FnRef,
+    below: &mut Vec<Entry>,
+) -> Result<Ask, Stop>
+    requires agrees { function_agrees (arities program.now) 0 f.now ≡ true }
+    requires beneath { EachBeneath program.now below.old.items }
+    ensures turns { let entry = call_of (text_of program.now) f.now in
+        Turns program.now result
+        (steps.pushed entry (term_of program.now below.old.items)) below.new.items }
+    ensures fits { TurnFits program.now result below.new.items }
+{
+    let args = copies(alloc, f.args())?;
+    push_call(alloc, program, f.func(), args, below)
+}
+
+// The value goes to a call that waits for it.
+#[tactic(auto, using(crate::proofs::StackLemmas::fits_pushed, crate::proofs::StackLemmas::filled_fits, crate::proofs::StackLemmas::filled_room))]
+fn deliver_to_call(
+    program: &Prog,
+    call: Call,
+    value: Value,
+    below: &mut Vec<Entry>,
+) -> Result<Ask, Stop>
+    requires fits { CallFits program.now call }
+    requires agrees { value_agrees (arities program.now) value ≡ true }
+    requires beneath { EachBeneath program.now below.old.items }
+    ensures turns { Turns program.now result
+        (steps.delivered value
+        (entry_of program.now call ∷ term_of program.now below.old.items)) below.new.items }
+    ensures fits { TurnFits program.now result below.new.items }
+{
+    let _f = program.function(call.func);
+    let mut call = call;
+    fill(&mut call, value);
+    below.push(Entry::Call(call))?;
+    Ok(Ask::Nothing)
+}
+
+// The event that a guard's function answered takes its place.
+#[tactic(auto, using(crate::proofs::ForceLemmas::replaced_agrees, crate::proofs::AgreeLemmas::event_of_agrees, crate::proofs::StackLemmas::term_pushed, crate::proofs::StackLemmas::fits_pushed))]
+fn deliver_to_force(
+    alloc: Global,
+    program: &Prog,
+    forcing: Forcing,
+    value: Value,
+    below: &mut Vec<Entry>,
+) -> Result<Ask, Stop>
+    requires fits { event_agrees (arities program.now) forcing ≡ true }
+    requires awaits { AwaitsEvent forcing }
+    requires agrees { value_agrees (arities program.now) value ≡ true }
+    requires beneath { EachBeneath program.now below.old.items }
+    ensures turns { (asked : Bool) → Turns program.now result
+        (steps.delivered value
+        (force forcing asked ∷ term_of program.now below.old.items)) below.new.items }
+    ensures fits { TurnFits program.now result below.new.items }
+{
+    let answer = event_of(&value)?;
+    drop(value);
+    let mut forcing = forcing;
+    match forcing.answer_event(alloc, answer) {
+        Ok(()) => {
+            below.push(Entry::Force(forcing, false))?;
+            Ok(Ask::Nothing)
+        }
+        Err(ForceFault::Deep(back)) => {
+            drop(back);
+            Err(Stop::Fault(Fault::Deep))
+        }
+        Err(ForceFault::Memory(back)) => {
+            drop(back);
+            Err(Stop::Memory)
+        }
+    }
+}
+
+// The value is the one that has come so far to wraps in progress.
+#[tactic(auto, using(crate::proofs::StackLemmas::term_pushed, crate::proofs::StackLemmas::fits_pushed))]
+fn deliver_to_wraps(
+    program: &Prog,
+    wraps: Wraps,
+    value: Value,
+    below: &mut Vec<Entry>,
+) -> Result<Ask, Stop>
+    requires fits { WrapsFit program.now wraps }
+    requires agrees { value_agrees (arities program.now) value ≡ true }
+    requires beneath { EachBeneath program.now below.old.items }
+    ensures turns { Turns program.now result
+        (steps.delivered value
+        (entry_view program.now (Entry.Wraps wraps) ∷ term_of program.now below.old.items)) below.new.items }
+    ensures fits { TurnFits program.now result below.new.items }
+{
+    let left = wraps.left;
+    below.push(Entry::Wraps(Wraps { left, value }))?;
+    Ok(Ask::Nothing)
+}
+
+// The value is delivered to what waits beneath.
+#[tactic(auto, using(crate::proofs::StackLemmas::term_pushed, crate::proofs::StackLemmas::beneath_popped))]
+fn deliver(alloc: Global, program: &Prog, value: Value, below: &mut Vec<Entry>) -> Result<Ask, Stop>
+    requires agrees { value_agrees (arities program.now) value ≡ true }
+    requires beneath { EachBeneath program.now below.old.items }
+    ensures turns { Turns program.now result
+        (steps.delivered value (term_of program.now below.old.items)) below.new.items }
+    ensures fits { TurnFits program.now result below.new.items }
+{
+    match below.pop() {
+        None => {
+            drop(value);
+            Ok(Ask::End)
+        }
+        Some(Entry::Call(call)) => deliver_to_call(program, call, value, below),
+        Some(Entry::Force(forcing, _)) => {
+            deliver_to_force(alloc, program, forcing, value, below)
+        }
+        Some(Entry::Wraps(wraps)) => deliver_to_wraps(program, wraps, value, below),
+    }
+}
+
+// The call goes back on top.
+#[tactic(auto, using(crate::proofs::StackLemmas::term_pushed, crate::proofs::StackLemmas::fits_pushed, crate::proofs::StackLemmas::beneath_pushed))]
+fn keep(program: &Prog, call: Call, below: &mut Vec<Entry>) -> Result<(), Stop>
+    requires fits { CallFits program.now call }
+    requires beneath { EachBeneath program.now below.old.items }
+    ensures term { IfOk result (λ _. term_of program.now below.new.items
+        ≡ entry_of program.now call ∷ term_of program.now below.old.items) }
+    ensures beneath { IfOk result (λ _. EachBeneath program.now below.new.items) }
+    ensures stack { IfOk result (λ _. StackFits program.now below.new.items) }
+    ensures memory { IfErr result (λ e. e ≡ Stop.Memory) }
+{
+    below.push(Entry::Call(call))?;
+    Ok(())
+}
+
+// What comes of what a call did.
+fn after_call(
+    alloc: Global,
+    program: &Prog,
+    did: Did,
+    call: Call,
+    below: &mut Vec<Entry>,
+) -> Result<Ask, Stop>
+    requires fits { CallFits program.now call }
+    requires did { DidAgrees (arities program.now) (Ok did) }
+    requires beneath { EachBeneath program.now below.old.items }
+    ensures turns { (turn : PlainTurn) → MovesTo program.now (Ok did)
+        (entry_of program.now call) (term_of program.now below.old.items) turn
+        → Turns program.now result turn below.new.items }
+    ensures fits { TurnFits program.now result below.new.items }
+{
+    match did {
+        Did::Goes => {
+            keep(program, call, below)?;
+            Ok(Ask::Nothing)
+        }
+        Did::Calls(func, args) => {
+            keep(program, call, below)?;
+            push_call(alloc, program, func, args, below)
+        }
+        Did::Forces(event) => {
+            keep(program, call, below)?;
+            let forcing = Forcing::start(alloc, event)?;
+            push(Entry::Force(forcing, false), below)
+        }
+        Did::Returns(value) => {
+            drop(call);
+            deliver(alloc, program, value, below)
+        }
+        Did::Asks(ask) => {
+            keep(program, call, below)?;
+            Ok(ask)
+        }
+        Did::Ends => {
+            drop(call);
+            below.clear();
+            Ok(Ask::End)
+        }
+    }
+}
+
+// A step of a call that runs.
+fn step_call(
+    alloc: Global,
+    thread: Tid,
+    program: &Prog,
+    call: Call,
+    below: &mut Vec<Entry>,
+) -> Result<Ask, Stop>
+    requires fits { CallFits program.now call }
+    requires runs { call.wait ≡ Wait.Runs }
+    requires beneath { EachBeneath program.now below.old.items }
+    ensures turns { let before = entry_of program.now call in
+        Turns program.now result
+        (steps.next (text_of program.now) thread.0
+        (before ∷ term_of program.now below.old.items)) below.new.items }
+    ensures fits { TurnFits program.now result below.new.items }
+{
+    let f = program.function(call.func);
+    let mut call = call;
+    let did = call_step(alloc, thread, program, f, &mut call)?;
+    after_call(alloc, program, did, call, below)
+}
+
+// The function of a guard is called, and the event waits for what it answers.
+#[tactic(auto, using(crate::proofs::StackLemmas::term_pushed, crate::proofs::StackLemmas::beneath_pushed, crate::proofs::ForceLemmas::guard_agrees))]
+fn call_guard(
+    alloc: Global,
+    program: &Prog,
+    forcing: Forcing,
+    f: FnRef,
+    below: &mut Vec<Entry>,
+) -> Result<Ask, Stop>
+    requires fits { event_agrees (arities program.now) forcing ≡ true }
+    requires calls { unforced forcing ≡ Some (calls f) }
+    requires beneath { EachBeneath program.now below.old.items }
+    ensures turns { Turns program.now result
+        (steps.next (text_of program.now) 0
+        (force forcing false ∷ term_of program.now below.old.items)) below.new.items }
+    ensures fits { TurnFits program.now result below.new.items }
+{
+    below.push(Entry::Force(forcing, false))?;
+    push_function(alloc, program, &f, below)
+}
+
+// The event asks, and waits for the answer.
+#[tactic(auto, using(crate::proofs::StackLemmas::term_pushed, crate::proofs::StackLemmas::fits_pushed))]
+fn ask_for(program: &Prog, forcing: Forcing, ask: Ask, below: &mut Vec<Entry>) -> Result<Ask, Stop>
+    requires fits { event_agrees (arities program.now) forcing ≡ true }
+    requires agrees { ask_agrees (arities program.now) (plain_ask ask) ≡ true }
+    requires beneath { EachBeneath program.now below.old.items }
+    ensures turns { Turns program.now result (steps.asks (plain_ask ask)
+        (force forcing true ∷ term_of program.now below.old.items)) below.new.items }
+    ensures fits { TurnFits program.now result below.new.items }
+{
+    below.push(Entry::Force(forcing, true))?;
+    Ok(ask)
+}
+
+// The group that the event was forced to, of which the event is kept.
+#[tactic(auto, using(crate::proofs::ForceLemmas::group_of_event))]
+fn group_ready(alloc: Global, forcing: &Forcing) -> Result<Group, Stop>
+    requires { unforced forcing.now ≡ None }
+    ensures group { IfOk result (λ g. g ≡ group_of forcing.now) }
+    ensures event { IfOk result (λ g. plain_event_of g ≡ forcing.now) }
+    ensures memory { IfErr result (λ e. e ≡ Stop.Memory) }
+{
+    let copy = forcing.copy(alloc)?;
+    Ok(copy.finish())
+}
+
+// A step of an event that is being forced.
+#[tactic(auto, using(crate::proofs::StackLemmas::term_length))]
+fn step_force(
+    alloc: Global,
+    program: &Prog,
+    forcing: Forcing,
+    below: &mut Vec<Entry>,
+) -> Result<Ask, Stop>
+    requires fits { event_agrees (arities program.now) forcing ≡ true }
+    requires beneath { EachBeneath program.now below.old.items }
+    ensures turns { Turns program.now result
+        (steps.next (text_of program.now) 0
+        (force forcing false ∷ term_of program.now below.old.items)) below.new.items }
+    ensures fits { TurnFits program.now result below.new.items }
+{
+    match forcing.next()? {
+        Next::Call(f) => call_guard(alloc, program, forcing, f, below),
+        Next::NeedNack => {
+            if below.len() + 1 >= MAX_ENTRIES {
+                return Err(Stop::Fault(Fault::Stack));
+            }
+            ask_for(program, forcing, Ask::Nack, below)
+        }
+        Next::Ready => {
+            let group = group_ready(alloc, &forcing)?;
+            ask_for(program, forcing, Ask::Sync(group), below)
+        }
+    }
+}
+
+// The next function of wraps in progress, with the value that has come so far as its last argument.
+fn last_call(
+    alloc: Global,
+    program: &Prog,
+    f: &FnRef,
+    value: Value,
+    below: &mut Vec<Entry>,
+) -> Result<Ask, Stop>
+    requires takes { function_agrees (arities program.now) 1 f.now ≡ true }
+    requires agrees { value_agrees (arities program.now) value ≡ true }
+    requires beneath { EachBeneath program.now below.old.items }
+    ensures turns { let entry = call_of (text_of program.now) (given f.now value) in
+        Turns program.now result
+        (steps.pushed entry (term_of program.now below.old.items)) below.new.items }
+    ensures fits { TurnFits program.now result below.new.items }
+{
+    let mut args = copies(alloc, f.args())?;
+    args.push(value)?;
+    push_call(alloc, program, f.func(), args, below)
+}
+
+// A step of wraps in progress.
+#[tactic(auto, using(crate::proofs::StackLemmas::last_next, crate::proofs::StackLemmas::wraps_popped, crate::proofs::StackLemmas::term_pushed, crate::proofs::StackLemmas::beneath_pushed))]
+fn step_wraps(
+    alloc: Global,
+    program: &Prog,
+    wraps: Wraps,
+    below: &mut Vec<Entry>,
+) -> Result<Ask, Stop>
+    requires fits { WrapsFit program.now wraps }
+    requires beneath { EachBeneath program.now below.old.items }
+    ensures turns { Turns program.now result
+        (steps.next (text_of program.now) 0
+        (entry_view program.now (Entry.Wraps wraps)
+        ∷ term_of program.now below.old.items)) below.new.items }
+    ensures fits { TurnFits program.now result below.new.items }
+{
+    let mut left = wraps.left;
+    let value = wraps.value;
+    match left.pop() {
+        None => {
+            drop(left);
+            deliver(alloc, program, value, below)
+        }
+        Some(f) => {
+            let so_far = value.copy()?;
+            below.push(Entry::Wraps(Wraps {
+                left,
+                value: so_far,
+            }))?;
+            last_call(alloc, program, &f, value, below)
+        }
+    }
+}
+
+// A step of a call, which it takes only if it runs.
+#[tactic(auto, using(crate::proofs::StackLemmas::waiting))]
+fn step_if_runs(
+    alloc: Global,
+    thread: Tid,
+    program: &Prog,
+    call: Call,
+    below: &mut Vec<Entry>,
+) -> Result<Ask, Stop>
+    requires fits { CallFits program.now call }
+    requires beneath { EachBeneath program.now below.old.items }
+    ensures turns { let before = entry_of program.now call in
+        Turns program.now result
+        (steps.next (text_of program.now) thread.0
+        (before ∷ term_of program.now below.old.items)) below.new.items }
+    ensures fits { TurnFits program.now result below.new.items }
+{
+    match call.wait {
+        Wait::Runs => step_call(alloc, thread, program, call, below),
+        Wait::Drops | Wait::Gives(_) => {
+            keep(program, call, below)?;
+            Ok(Ask::Nothing)
+        }
+    }
+}
+
+/// One step of a thread.
+#[tactic(auto, using(crate::proofs::StackLemmas::term_pushed, crate::proofs::StackLemmas::fits_popped))]
+pub(crate) fn step(
+    alloc: Global,
+    thread: Tid,
+    program: &Prog,
+    stack: &mut Vec<Entry>,
+) -> Result<Ask, Stop>
+    requires { StackFits program.now stack.old.items }
+    ensures turns { Turns program.now result
+        (steps.next (text_of program.now) thread.0 (term_of program.now stack.old.items))
+        stack.new.items }
+    ensures fits { TurnFits program.now result stack.new.items }
+{
+    match stack.pop() {
+        None => Ok(Ask::Nothing),
+        Some(Entry::Call(call)) => step_if_runs(alloc, thread, program, call, stack),
+        Some(Entry::Force(forcing, false)) => step_force(alloc, program, forcing, stack),
+        Some(Entry::Force(forcing, true)) => {
+            stack.push(Entry::Force(forcing, true))?;
+            Ok(Ask::Nothing)
+        }
+        Some(Entry::Wraps(wraps)) => step_wraps(alloc, program, wraps, stack),
+    }
+}

@@ -1,0 +1,82 @@
+//! Slices of a thread's steps.
+
+ghost use Rattle.std.specs.Prelude.{◌≡◌, [], true, IfOk};
+ghost use Rattle.cml_check.specs.InOrder.{arities};
+ghost use Rattle.cml_step.specs.AskViews.{plain_ask};
+ghost use Rattle.cml_step.specs.Agrees.{ask_agrees};
+ghost use Rattle.cml_step.specs.Steps.{next, asks};
+ghost use Rattle.cml_step.specs.Slices.{sliced_from};
+ghost use Rattle.cml_step.specs.Calls.{text_of};
+ghost use Rattle.cml_step.specs.Stacks.{term_of, StackFits};
+
+use crate::ask::Ask;
+use crate::entry::Entry;
+use crate::fault::{Fault, Stop};
+use crate::stack::step;
+use cml_check::Prog;
+use cml_value::Tid;
+use std::alloc::{AllocError, Global};
+
+/// The most steps of a slice.
+pub const MAX_STEPS: u32 = 1000;
+
+// One step, where a fault is an ask of a thread that has ended.
+fn turn(
+    alloc: Global,
+    thread: Tid,
+    program: &Prog,
+    stack: &mut Vec<Entry>,
+) -> Result<Ask, AllocError>
+    requires { StackFits program.now stack.old.items }
+    ensures turns { IfOk result (λ a.
+        next (text_of program.now) thread.0 (term_of program.now stack.old.items)
+        ≡ asks (plain_ask a) (term_of program.now stack.new.items)) }
+    ensures fits { IfOk result (λ _. StackFits program.now stack.new.items) }
+    ensures agrees { IfOk result (λ a. ask_agrees (arities program.now) (plain_ask a) ≡ true) }
+{
+    match step(alloc, thread, program, stack) {
+        Ok(ask) => Ok(ask),
+        Err(Stop::Memory) => Err(AllocError),
+        Err(Stop::Fault(fault)) => Ok(failed(fault, stack)),
+    }
+}
+
+// The fault ends the thread: nothing is on its stack.
+fn failed(fault: Fault, stack: &mut Vec<Entry>) -> Ask
+    ensures ask { result ≡ Ask.Fault fault }
+    ensures stack { stack.new.items ≡ [] }
+{
+    stack.clear();
+    Ask::Fault(fault)
+}
+
+/// At most so many steps of the thread, up to the first that asks, ends or is at fault: what it asks, and how many they were.
+#[tactic(auto, using(crate::proofs::SliceLemmas::slice_on, crate::proofs::SliceLemmas::slice_asks, crate::proofs::SliceLemmas::slice_over))]
+pub(crate) fn run(
+    alloc: Global,
+    thread: Tid,
+    program: &Prog,
+    stack: &mut Vec<Entry>,
+    most: u32,
+) -> Result<(Ask, u32), AllocError>
+    requires { StackFits program.now stack.old.items }
+    ensures meant { IfOk result (λ r.
+        sliced_from (text_of program.now) thread.0 most 0 (term_of program.now stack.old.items)
+        ≡ record {
+          ask = plain_ask r.0;
+          end = term_of program.now stack.new.items;
+          steps = r.1;
+        }) }
+    ensures fits { IfOk result (λ r. StackFits program.now stack.new.items) }
+    ensures agrees { IfOk result (λ r.
+        ask_agrees (arities program.now) (plain_ask r.0) ≡ true) }
+{
+    let mut done = 0u32;
+    while done < most {
+        match turn(alloc, thread, program, stack)? {
+            Ask::Nothing => done += 1,
+            ask => return Ok((ask, done + 1)),
+        }
+    }
+    Ok((Ask::Nothing, done))
+}
