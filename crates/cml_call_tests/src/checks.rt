@@ -120,6 +120,7 @@ fn checked(rt: &(impl Abort + AllocGlobal), script: &str) -> Result<Prog, CheckF
     checked
 }
 
+// In each of them `main` is the first function without parameters.
 #[test]
 fn takes_programs(rt: HostRuntime) {
     for (script, arities) in PROGRAMS {
@@ -131,6 +132,8 @@ fn takes_programs(rt: HostRuntime) {
         assert_eq!(rt; program.arity(arities.len() as u32), None, "{script}");
         let copy = program.copy().expect(&rt, MEMORY);
         assert!(rt; copy.same(&program), "{script}");
+        let begins = arities.iter().position(|arity| *arity == 0);
+        assert_eq!(rt; begins, Some(program.main() as usize), "{script}");
         drop(copy);
         drop(program);
     }

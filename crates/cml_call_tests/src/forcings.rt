@@ -179,6 +179,9 @@ fn many_answers(rt: HostRuntime) {
         let copy = forcing.copy(rt.alloc()).expect(&rt, MEMORY);
         drop(std::mem::replace(&mut forcing, copy));
     }
+    let copy = forcing.copy(rt.alloc()).expect(&rt, MEMORY);
+    assert!(rt; copy.same(&forcing), "a copy");
+    drop(copy);
     let group_forced = forced(&rt, forcing);
     assert!(rt; group_forced.nodes() == 20001, "all");
     drop(group_forced);
