@@ -148,9 +148,6 @@ pub fn draw(
         5 => Command::Clock(soon(random, seen.now)),
         6 => Command::Nack(Tid(late(random, seen.threads))),
         7..=14 => taking(random, rows),
-        _ => Command::Sync(
-            Tid(late(random, seen.threads)),
-            choice(rt, random, seen),
-        ),
+        _ => Command::Sync(Tid(late(random, seen.threads)), choice(rt, random, seen)),
     }
 }

@@ -56,7 +56,11 @@ fn same_resume(one: &Resume, other: &Resume) -> bool {
         && one.value.same(&other.value)
         && one.fired == other.fired
         && one.wraps.len() == other.wraps.len()
-        && one.wraps.iter().zip(other.wraps.iter()).all(|(f, g)| f.same(g))
+        && one
+            .wraps
+            .iter()
+            .zip(other.wraps.iter())
+            .all(|(f, g)| f.same(g))
 }
 
 fn same_committed(one: &Committed, other: &Committed) -> bool {
@@ -172,12 +176,7 @@ fn offers(rt: &(impl Abort + AllocGlobal), count: u32, sends: bool) -> Group {
 }
 
 // So many threads come that wait on the group.
-fn come<T: Table>(
-    rt: &(impl Abort + AllocGlobal),
-    book: &mut Book<T>,
-    count: u32,
-    group: &Group,
-) {
+fn come<T: Table>(rt: &(impl Abort + AllocGlobal), book: &mut Book<T>, count: u32, group: &Group) {
     for _ in 0..count {
         let thread = book.spawn().expect(rt, "a thread");
         book.sync(rt.alloc(), thread, group).expect(rt, "a wait");
@@ -185,12 +184,7 @@ fn come<T: Table>(
 }
 
 // So many threads offer so many sends each, and then as many that many receives, all on one channel.
-fn crowd<T: Table>(
-    rt: &(impl Abort + AllocGlobal),
-    book: &mut Book<T>,
-    threads: u32,
-    leaves: u32,
-) {
+fn crowd<T: Table>(rt: &(impl Abort + AllocGlobal), book: &mut Book<T>, threads: u32, leaves: u32) {
     assert_eq!(rt; book.make_chan(), Ok(ChanId(0)));
     let sends = offers(rt, leaves, true);
     let receives = offers(rt, leaves, false);

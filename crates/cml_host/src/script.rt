@@ -135,7 +135,7 @@ fn finish<O: Write, E: Write>(said: Result<Said, AllocError>, out: &mut O, err: 
 fn refuse_file<E: Write>(alloc: Global, name: &str, fault: StoreFault, err: &mut E) -> u8
     ensures { let errors = stream (E.contents err.old) (E.contents err.new) in
         (content : Content) → (fault ≡ Refused → MayBeRefused content) →
-            RefusedRan content name.now errors result }
+        RefusedRan content name.now errors result }
 {
     if matches!(fault, StoreFault::Refused)
         && let Ok(line) = format!(in alloc; "cannot read {name}\n")

@@ -23,7 +23,9 @@ const SCRIPTS: &[Script] = &[
     Script {
         name: "check-addition",
         words: "check F",
-        text: &[Part::Once("(fn add (a b) (return (+ a b))) (fn give (c) (sync (send c 41))) (fn main () (let c (chan)) (spawn give c) (let x (sync (wrap (recv c) add 1))) (print x))")],
+        text: &[Part::Once(
+            "(fn add (a b) (return (+ a b))) (fn give (c) (sync (send c 41))) (fn main () (let c (chan)) (spawn give c) (let x (sync (wrap (recv c) add 1))) (print x))",
+        )],
         output: "ok functions 3\n",
         errors: "",
         status: 0,
@@ -183,7 +185,11 @@ const SCRIPTS: &[Script] = &[
     Script {
         name: "statements-4096",
         words: "check F",
-        text: &[Part::Once("(fn main ()"), Part::Times(" (yield)", 4096), Part::Once(")")],
+        text: &[
+            Part::Once("(fn main ()"),
+            Part::Times(" (yield)", 4096),
+            Part::Once(")"),
+        ],
         output: "ok functions 1\n",
         errors: "",
         status: 0,
@@ -191,7 +197,11 @@ const SCRIPTS: &[Script] = &[
     Script {
         name: "statements-4097",
         words: "check F",
-        text: &[Part::Once("(fn main ()"), Part::Times(" (yield)", 4097), Part::Once(")")],
+        text: &[
+            Part::Once("(fn main ()"),
+            Part::Times(" (yield)", 4097),
+            Part::Once(")"),
+        ],
         output: "",
         errors: "check 7 limit at 32780\n",
         status: 2,
@@ -284,8 +294,14 @@ fn scripts(rt: HostRuntime) -> Result<(), Fail> {
         let text = whole(rt.alloc(), script.text)?;
         let left = run_on(rt.alloc(), script.words, text.as_bytes())?;
         let name = script.name;
-        assert!(rt; left.output.as_slice() == script.output.as_bytes(), "output of {name}");
-        assert!(rt; left.errors.as_slice() == script.errors.as_bytes(), "errors of {name}");
+        assert!(rt;
+            left.output.as_slice() == script.output.as_bytes(),
+            "output of {name}"
+        );
+        assert!(rt;
+            left.errors.as_slice() == script.errors.as_bytes(),
+            "errors of {name}"
+        );
         assert_eq!(rt; left.status, script.status, "status of {name}");
         drop(text);
         drop(left);
