@@ -20,7 +20,7 @@ struct Entry {
 
 impl Model for Entry {
     ghost use Rattle.cml_scan.specs.World.{PlainEntry};
-    ghost use Rattle.cml_kept.specs.Kept.{entry_code};
+    ghost use Rattle.cml_scan.specs.Codes.{entry_code};
 
     ghost Value = { PlainEntry };
 

@@ -1,12 +1,16 @@
--- A code of the world: a tree of numbers from which it can be read back. The toolchain asks for one; no rule speaks of it.
+-- Codes of the world and of its parts: trees of numbers from which they can be read back. The toolchain asks for them; no rule speaks of them.
 use Rattle.std.specs.Prelude.{◌≡◌, ℕ, List, Option, refl}
 use Rattle.std.specs.Coded.{Coded, code_by, coded×, coded_list, coded_option, coded_ℕ}
+use Rattle.std.proofs.Common.{ap}
 use base.Stored.{Gv, gnum, gcons}
 use Rattle.cml_value.specs.Value.{PlainValue, PlainBase}
 use Rattle.cml_value.specs.Codes.{value_code, base_code}
+use Rattle.cml_value.specs.Group.{PlainGroup}
 use Rattle.cml_value.specs.GroupCodes.{group_code}
-use Rattle.cml_scan.specs.World.{PlainThread, running, pending_on, ended, PlainNack, fresh_of, live, fired, held, PlainWorld}
+use Rattle.cml_scan.specs.World.{PlainThread, running, pending_on, ended, PlainNack, fresh_of, live, fired, held, PlainWorld, PlainEntry}
 use Rattle.cml_scan.specs.Scan.{PlainOffer}
+use Rattle.cml_scan.specs.declared.object.Light.{Light}
+use Rattle.cml_scan.specs.declared.object.Light.TheVariants as of
 
 abbrev pub thread_gv : PlainThread → Gv
 thread_gv running = gnum 0
@@ -76,3 +80,28 @@ world_code =
 
 abbrev pub offer_code : Coded PlainOffer
 offer_code = code_by (ℕ × (ℕ × PlainBase)) (coded× coded_ℕ (coded× coded_ℕ base_code)) (λ o. (o.thread, (o.leaf, o.base))) (λ p. record { thread = p.0; leaf = p.1.0; base = p.1.1 }) (λ _. refl)
+
+abbrev pub entry_code : Coded PlainEntry
+entry_code = code_by (ℕ × PlainGroup) (coded× coded_ℕ group_code) (λ e. (e.thread, e.group)) (λ p. record { thread = p.0; group = p.1 }) (λ _. refl)
+
+abbrev pub light_gv : Light → Gv
+light_gv (of.IVar i) = gcons (gnum 0) (gnum i.0)
+light_gv (of.MVar m) = gcons (gnum 1) (gnum m.0)
+light_gv (of.Mbox b) = gcons (gnum 2) (gnum b.0)
+light_gv (of.Port p) = gcons (gnum 3) (gnum p.0)
+light_gv (of.Joined t) = gcons (gnum 4) (gnum t.0)
+light_gv (of.Alarm t) = gcons (gnum 5) (gnum t)
+light_gv (of.Nack k) = gcons (gnum 6) (gnum k.0)
+
+pub light_gv_inj : (x y : Light) → light_gv x ≡ light_gv y → x ≡ y
+light_gv_inj (of.IVar i) (of.IVar j) p = let e : i.0 ≡ j.0 = cc in ap (λ n. of.IVar (record { 0 = n })) e
+light_gv_inj (of.MVar m) (of.MVar n) p = let e : m.0 ≡ n.0 = cc in ap (λ k. of.MVar (record { 0 = k })) e
+light_gv_inj (of.Mbox b) (of.Mbox c) p = let e : b.0 ≡ c.0 = cc in ap (λ n. of.Mbox (record { 0 = n })) e
+light_gv_inj (of.Port a) (of.Port b) p = let e : a.0 ≡ b.0 = cc in ap (λ n. of.Port (record { 0 = n })) e
+light_gv_inj (of.Joined t) (of.Joined u) p = let e : t.0 ≡ u.0 = cc in ap (λ n. of.Joined (record { 0 = n })) e
+light_gv_inj (of.Alarm t) (of.Alarm u) p = cc
+light_gv_inj (of.Nack k) (of.Nack l) p = let e : k.0 ≡ l.0 = cc in ap (λ n. of.Nack (record { 0 = n })) e
+light_gv_inj _ _ p = cc
+
+abbrev pub light_code : Coded Light
+light_code = record { code = light_gv; inj = light_gv_inj }
