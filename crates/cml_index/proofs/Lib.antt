@@ -3,5 +3,6 @@ mod Parted
 mod Lit
 mod Going
 pub mod Scopes
+mod Pairs
 mod Receivers
 mod Seeking

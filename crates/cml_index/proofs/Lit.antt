@@ -1,19 +1,21 @@
 -- How many leaves can be taken alone, when a light is told.
 use Rattle.std.proofs.Common.{◌≡◌, ℕ, zero, suc, ◌<◌, take, get_or, ◌+◌, Bool, true, false, not, ◌||◌, nat_eq, cond, List, [], ◌∷◌, length, Option, Some, None, refl, ap, sym, subst, ◌∙◌, arith}
 use Rattle.std.specs.List.{filter}
-use Rattle.std.specs.Prelude.{OnOk, Result, Ok, Err}
+use Rattle.std.specs.Prelude.{OnOk, Result, Ok, Err, option_map}
 use Rattle.std.proofs.lemmas.List.{length-map, take_more}
 use Rattle.std.proofs.lemmas.List.Folds.{list_any-append}
 use Rattle.std.proofs.lemmas.Bool.Decides.{nat_tests}
-use Rattle.cml_value.specs.Value.{PlainBase, always, send, recv, iget, mtake, mget, mswap, mail_recv, port_recv, join, at_tick, after_ticks, nack}
+use Rattle.cml_value.specs.Value.{PlainBase, always, send, recv}
 use Rattle.cml_scan.specs.Light.{light, is_always, is_told, lit_by}
 use Rattle.cml_scan.specs.Scan.{PlainOffer, offers_of}
 use Rattle.cml_scan.specs.Order.{place, Every}
 use Rattle.cml_scan.specs.Table.{same_light, has_light}
 use Rattle.cml_scan.specs.declared.object.Light.{Light}
-use Rattle.cml_scan.specs.declared.object.Light.TheVariants as of
-use Rattle.cml_scan.proofs.Telling.{same_light_is, same_light_self}
-use Rattle.cml_index.specs.Slot.{same_slot, slot_of_light, slot_of_side}
+use Rattle.cml_scan.proofs.Telling.{same_light_is, same_light_self, light_eq}
+use Rattle.cml_index.specs.Slot.{same_slot, slot_of_either}
+use Rattle.cml_index.specs.declared.slot.Slot.TheVariants.{Waiters}
+use Rattle.cml_channel.specs.Sides.{channel_of, is_sender, side_in}
+use Rattle.cml_channel.specs.declared.channel.ChannelSide.{ChannelSide}
 use Rattle.cml_index.specs.Slots.{is_slot, lane_of, lane_at}
 use Rattle.cml_index.specs.Posts.{slot_of, told, is_named, slot_of_nack, nacks_in, IsIndexed}
 use Rattle.cml_index.specs.declared.slot.Slot.{Slot}
@@ -22,54 +24,26 @@ use Rattle.cml_channel.specs.Lanes.{PlainLane}
 use Rattle.cml_scan.specs.World.{PlainEntry}
 use Rattle.cml_scan.proofs.Ordered.{Every-weaker}
 
--- two lights have one lane where they are one
-pub slots_are_lights : (l m : Light) → same_slot (slot_of_light l) (slot_of_light m) ≡ same_light l m
-slots_are_lights (of.IVar a) (of.IVar b) = refl
-slots_are_lights (of.MVar a) (of.MVar b) = refl
-slots_are_lights (of.Mbox a) (of.Mbox b) = refl
-slots_are_lights (of.Port a) (of.Port b) = refl
-slots_are_lights (of.Joined a) (of.Joined b) = refl
-slots_are_lights (of.Alarm a) (of.Alarm b) = refl
-slots_are_lights (of.Nack a) (of.Nack b) = refl
-slots_are_lights _ _ = refl
-
--- no light has the lane of a side
-no_side : (l : Light) (n : ℕ) (heads : Bool) → same_slot (slot_of_light l) (slot_of_side n heads) ≡ false
-no_side (of.IVar a) n true = refl
-no_side (of.IVar a) n false = refl
-no_side (of.MVar a) n true = refl
-no_side (of.MVar a) n false = refl
-no_side (of.Mbox a) n true = refl
-no_side (of.Mbox a) n false = refl
-no_side (of.Port a) n true = refl
-no_side (of.Port a) n false = refl
-no_side (of.Joined a) n true = refl
-no_side (of.Joined a) n false = refl
-no_side (of.Alarm a) n true = refl
-no_side (of.Alarm a) n false = refl
-no_side (of.Nack a) n true = refl
-no_side (of.Nack a) n false = refl
-
 -- the light is the one that is there
 abbrev pub light_is : Light → Option Light → Bool
 light_is l None = false
 light_is l (Some m) = same_light l m
 
+-- a side of a channel has no light
+side_dark : (b : PlainBase) (s : ChannelSide) → side_in b ≡ Some s → light b ≡ None
+side_dark (send c v) s e = refl
+side_dark (recv c) s e = refl
+side_dark _ s e = cc
+
 -- a base event stands in the lane of the light that it looks at
-slot_light : (l : Light) (b : PlainBase) → is_slot (slot_of_light l) (slot_of b) ≡ light_is l (light b)
-slot_light l (always v) = refl
-slot_light l (send c v) = no_side l c true
-slot_light l (recv c) = no_side l c false
-slot_light l (iget i) = slots_are_lights l (of.IVar (record { 0 = i }))
-slot_light l (mtake m) = slots_are_lights l (of.MVar (record { 0 = m }))
-slot_light l (mget m) = slots_are_lights l (of.MVar (record { 0 = m }))
-slot_light l (mswap m v) = slots_are_lights l (of.MVar (record { 0 = m }))
-slot_light l (mail_recv b) = slots_are_lights l (of.Mbox (record { 0 = b }))
-slot_light l (port_recv p) = slots_are_lights l (of.Port (record { 0 = p }))
-slot_light l (join t) = slots_are_lights l (of.Joined (record { 0 = t }))
-slot_light l (at_tick t) = slots_are_lights l (of.Alarm t)
-slot_light l (after_ticks d) = refl
-slot_light l (nack k) = slots_are_lights l (of.Nack (record { 0 = k }))
+slot_light : (l : Light) (b : PlainBase) → is_slot (Waiters l) (slot_of b) ≡ light_is l (light b)
+slot_light l b = at (side_in b) refl (light b) refl
+  where
+    at : (s : Option ChannelSide) → side_in b ≡ s → (m : Option Light) → light b ≡ m → is_slot (Waiters l) (slot_of_either channel_of is_sender s b) ≡ light_is l m
+    at (Some s) e None f = refl
+    at (Some s) e (Some m) f = let none : light b ≡ None = side_dark b s e in cc
+    at None e None f = ap (λ o. is_slot (Waiters l) (option_map Waiters o)) f
+    at None e (Some m) f = ap (λ o. is_slot (Waiters l) (option_map Waiters o)) f ∙ light_eq l m
 
 -- what is always enabled has no light
 always_dark : (b : PlainBase) → is_always b ≡ true → light b ≡ None
@@ -106,8 +80,8 @@ flipped l off_ on_ dark agree b = at (is_always b) refl (light b) refl
 
 -- the leaves that can be taken alone where the light is on are those where it is off, and those who wait for it
 pub flip_count : (l : Light) (off_ on_ : Light → Bool) → off_ l ≡ false → ((m : Light) → on_ m ≡ cond (same_light l m) true (off_ m)) → (os : List PlainOffer)
-    → length (filter (λ o. lit_by on_ o.base) os) ≡ length (filter (λ o. lit_by off_ o.base) os) + length (lane_of slot_of (slot_of_light l) os)
-flip_count l off_ on_ dark agree os = all os ∙ ap (λ n. length (filter (λ o. lit_by off_ o.base) os) + n) (sym (length-map (filter (λ o. is_slot (slot_of_light l) (slot_of o.base)) os) place))
+    → length (filter (λ o. lit_by on_ o.base) os) ≡ length (filter (λ o. lit_by off_ o.base) os) + length (lane_of slot_of (Waiters l) os)
+flip_count l off_ on_ dark agree os = all os ∙ ap (λ n. length (filter (λ o. lit_by off_ o.base) os) + n) (sym (length-map (filter (λ o. is_slot (Waiters l) (slot_of o.base)) os) place))
   where
     step : (a b w : Bool) (o : PlainOffer) (xs ys zs : List PlainOffer) → IsFlipped a b w → length ys ≡ length xs + length zs → length (cond b (o ∷ ys) ys) ≡ length (cond a (o ∷ xs) xs) + length (cond w (o ∷ zs) zs)
     step true true true o xs ys zs f e = let no_ : true ≡ false = f.apart refl in cc
@@ -118,10 +92,10 @@ flip_count l off_ on_ dark agree os = all os ∙ ap (λ n. length (filter (λ o.
     step false false true o xs ys zs f e = let no_ : false ≡ true = f.both in cc
     step false false false o xs ys zs f e = e
 
-    all : (os : List PlainOffer) → length (filter (λ o. lit_by on_ o.base) os) ≡ length (filter (λ o. lit_by off_ o.base) os) + length (filter (λ o. is_slot (slot_of_light l) (slot_of o.base)) os)
+    all : (os : List PlainOffer) → length (filter (λ o. lit_by on_ o.base) os) ≡ length (filter (λ o. lit_by off_ o.base) os) + length (filter (λ o. is_slot (Waiters l) (slot_of o.base)) os)
     all [] = refl
     all (o ∷ os) =
-        step (lit_by off_ o.base) (lit_by on_ o.base) (is_slot (slot_of_light l) (slot_of o.base)) o (filter (λ x. lit_by off_ x.base) os) (filter (λ x. lit_by on_ x.base) os) (filter (λ x. is_slot (slot_of_light l) (slot_of x.base)) os)
+        step (lit_by off_ o.base) (lit_by on_ o.base) (is_slot (Waiters l) (slot_of o.base)) o (filter (λ x. lit_by off_ x.base) os) (filter (λ x. lit_by on_ x.base) os) (filter (λ x. is_slot (Waiters l) (slot_of x.base)) os)
         (subst (IsFlipped (lit_by off_ o.base) (lit_by on_ o.base)) (sym (slot_light l o.base)) (flipped l off_ on_ dark agree o.base)) (all os)
 
 -- where the same is told of each light, the same leaves can be taken alone
@@ -134,13 +108,13 @@ not_true false e = refl
 
 -- a light that was out is told to be lit
 pub retold_lit : (l : Light) (lit : Bool) (old new : Light → Bool) (changed : Bool) → lit ≡ true → changed ≡ true → changed ≡ cond lit (not (old l)) (old l) → ((m : Light) → new m ≡ cond (same_light l m) lit (old m)) → (os : List PlainOffer)
-    → length (filter (λ o. lit_by new o.base) os) ≡ length (filter (λ o. lit_by old o.base) os) + length (lane_of slot_of (slot_of_light l) os)
+    → length (filter (λ o. lit_by new o.base) os) ≡ length (filter (λ o. lit_by old o.base) os) + length (lane_of slot_of (Waiters l) os)
 retold_lit l true old new changed e is was told os = flip_count l old new (not_true (old l) (sym was ∙ is)) told os
 retold_lit l false old new changed e is was told os = cc
 
 -- a light that was lit is told to be out
 pub retold_unlit : (l : Light) (lit : Bool) (old new : Light → Bool) (changed : Bool) → lit ≡ false → changed ≡ true → changed ≡ cond lit (not (old l)) (old l) → ((m : Light) → new m ≡ cond (same_light l m) lit (old m)) → (os : List PlainOffer)
-    → length (filter (λ o. lit_by old o.base) os) ≡ length (filter (λ o. lit_by new o.base) os) + length (lane_of slot_of (slot_of_light l) os)
+    → length (filter (λ o. lit_by old o.base) os) ≡ length (filter (λ o. lit_by new o.base) os) + length (lane_of slot_of (Waiters l) os)
 retold_unlit l true old new changed e is was told os = cc
 retold_unlit l false old new changed e is was told os =
     flip_count l new old (told l ∙ ap (λ s. cond s false (old l)) (same_light_self l)) (λ m. at m (same_light l m) refl) os
@@ -178,28 +152,13 @@ still_indexed es lanes after old new leaves lit x same told_ kept =
       named = Every-weaker (λ k. is_named old (slot_of_nack k)) (λ k. is_named new (slot_of_nack k)) (nacks_in es) (λ k h. kept (slot_of_nack k) h) x.named;
     }
 
-turned : (a b : ℕ) → nat_eq a b ≡ nat_eq b a
-turned a b = at (nat_eq a b) refl
-  where
-    at : (c : Bool) → nat_eq a b ≡ c → nat_eq a b ≡ nat_eq b a
-    at true e = e ∙ sym (yes_ a b e)
-      where
-        yes_ : (a b : ℕ) → nat_eq a b ≡ true → nat_eq b a ≡ true
-        yes_ a b e = grind (arith, nat_tests)
-    at false e = e ∙ sym (no_ a b e)
-      where
-        no_ : (a b : ℕ) → nat_eq a b ≡ false → nat_eq b a ≡ false
-        no_ a b e = grind (arith, nat_tests)
-
 same_light-turned : (l m : Light) → same_light l m ≡ same_light m l
-same_light-turned (of.IVar a) (of.IVar b) = turned a.0 b.0
-same_light-turned (of.MVar a) (of.MVar b) = turned a.0 b.0
-same_light-turned (of.Mbox a) (of.Mbox b) = turned a.0 b.0
-same_light-turned (of.Port a) (of.Port b) = turned a.0 b.0
-same_light-turned (of.Joined a) (of.Joined b) = turned a.0 b.0
-same_light-turned (of.Alarm a) (of.Alarm b) = turned a b
-same_light-turned (of.Nack a) (of.Nack b) = turned a.0 b.0
-same_light-turned _ _ = refl
+same_light-turned l m = at (same_light l m) (same_light m l) refl refl
+  where
+    at : (s t : Bool) → same_light l m ≡ s → same_light m l ≡ t → s ≡ t
+    at true t e f = let same : l ≡ m = same_light_is l m e in sym (subst (λ x. same_light m x ≡ true) (sym same) (same_light_self m)) ∙ f
+    at false true e f = let same : m ≡ l = same_light_is m l f in sym e ∙ subst (λ x. same_light l x ≡ true) (sym same) (same_light_self l)
+    at false false e f = refl
 
 -- one more light is told
 pub told_more : (xs : List Light) (i : ℕ) (d m : Light) (lit old now new : Bool) → i < length xs → new ≡ cond (same_light (get_or xs i d) m) lit now → now ≡ cond (has_light (take i xs) m) lit old → new ≡ cond (has_light (take (i + 1) xs) m) lit old

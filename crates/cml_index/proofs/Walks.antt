@@ -1,6 +1,7 @@
 -- One run after another.
 use Rattle.std.proofs.Common.{◌≡◌, ℕ, zero, suc, Bool, true, false, not, ◌&&◌, ◌||◌, nat_eq, nat_lt, cond, List, [], ◌∷◌, ◌++◌, drop, length, Some, None, refl, ap, sym, subst, ◌∙◌, append_assoc, arith}
 use Rattle.std.specs.Prelude.{slice_get}
+use Rattle.std.specs.Bool.{beq}
 use Rattle.std.specs.List.{filter, list_any, IsDistinct, AllByRecursion}
 use Rattle.std.specs.Map.{keys_of, lookup}
 use Rattle.std.proofs.lemmas.Map.Keys.{IsDistinct-head, IsDistinct-tail}
@@ -8,42 +9,46 @@ use Rattle.std.proofs.lemmas.Bool.Decides.{nat_tests}
 use Rattle.cml_value.specs.declared.number.Tid.{Tid}
 use Rattle.cml_scan.specs.declared.meet.Place.{Place}
 use Rattle.cml_scan.specs.Order.{before, before_numbers, Every, Ascends}
+use Rattle.cml_scan.proofs.Telling.{same_light_is, same_light_self, light_eq}
 use Rattle.cml_channel.specs.Lanes.{is_own, is_others, others, with_run}
 use Rattle.cml_index.specs.declared.slot.Slot.{Slot}
-use Rattle.cml_index.specs.declared.slot.SlotKind.{SlotKind}
-use Rattle.cml_index.specs.declared.slot.SlotKind.TheVariants.{Heads, Others, IVar, MVar, Mbox, Port, Joined, Alarm, Nack}
-use Rattle.cml_index.specs.Slot.{rank, same_slot}
+use Rattle.cml_index.specs.declared.slot.Slot.TheVariants.{Side, Waiters}
+use Rattle.cml_index.specs.Slot.{same_slot}
 use Rattle.cml_index.specs.Slots.{has_run}
 
 -- one lane, as a test and as a fact
 
-pub same_kind : (a b : SlotKind) → rank a ≡ rank b → a ≡ b
-same_kind Heads Heads e = refl
-same_kind Others Others e = refl
-same_kind IVar IVar e = refl
-same_kind MVar MVar e = refl
-same_kind Mbox Mbox e = refl
-same_kind Port Port e = refl
-same_kind Joined Joined e = refl
-same_kind Alarm Alarm e = refl
-same_kind Nack Nack e = refl
-same_kind _ _ e = cc
-
 pub same_slot_is : (a b : Slot) → same_slot a b ≡ true → a ≡ b
-same_slot_is a b e =
-    let n = numbers (rank a.kind) (rank b.kind) a.number b.number e in
-    let kind : a.kind ≡ b.kind = same_kind a.kind b.kind n.0 in
-    let number : a.number ≡ b.number = n.1 in
-    λ i. record { kind = kind i; number = number i }
+same_slot_is (Side h n) (Side g m) e =
+    let both = parts (beq h g) (nat_eq n m) e in
+    let heads : h ≡ g = same_bool h g both.0 in
+    let number : n ≡ m = same_number n m both.1 in
+    λ i. Side (heads i) (number i)
   where
-    numbers : (a b c d : ℕ) → nat_eq a b && nat_eq c d ≡ true → (a ≡ b) × (c ≡ d)
-    numbers a b c d e = grind (arith, nat_tests)
+    parts : (a b : Bool) → a && b ≡ true → (a ≡ true) × (b ≡ true)
+    parts true b e = (refl, e)
+    parts false b e = cc
+
+    same_bool : (h g : Bool) → beq h g ≡ true → h ≡ g
+    same_bool true true e = refl
+    same_bool false false e = refl
+    same_bool _ _ e = cc
+
+    same_number : (n m : ℕ) → nat_eq n m ≡ true → n ≡ m
+    same_number n m e = grind (arith, nat_tests)
+same_slot_is (Waiters l) (Waiters m) e = ap Waiters (same_light_is l m (sym (light_eq l m) ∙ e))
+same_slot_is _ _ e = cc
 
 pub same_slot_self : (a : Slot) → same_slot a a ≡ true
-same_slot_self a = numbers (rank a.kind) a.number
+same_slot_self (Side true n) = alike n
   where
-    numbers : (a c : ℕ) → nat_eq a a && nat_eq c c ≡ true
-    numbers a c = grind (arith, nat_tests)
+    alike : (n : ℕ) → nat_eq n n ≡ true
+    alike n = grind (arith, nat_tests)
+same_slot_self (Side false n) = alike n
+  where
+    alike : (n : ℕ) → nat_eq n n ≡ true
+    alike n = grind (arith, nat_tests)
+same_slot_self (Waiters l) = light_eq l l ∙ same_light_self l
 
 -- the runs from one on are that one and the later ones
 pub runs_left : {V : Type 0} (es : List (Slot × V)) (i : ℕ) (slot : Slot) (v : V) (k : Slot) → slice_get es i ≡ Some (slot, v) → has_run (drop i es) k ≡ same_slot k slot || has_run (drop (suc i) es) k

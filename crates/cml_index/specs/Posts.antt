@@ -2,15 +2,15 @@
 use Rattle.std.specs.Prelude.{ℕ, ◌≡◌, ◌++◌, ◌≤◌, ◌<◌, ◌^◌, Bool, false, if◌then◌else◌, nat_lt, List, [], ◌∷◌, Option, Some, None, map, filter, length, Vec, is_some}
 use Rattle.std.specs.Option.{option_map_or}
 use Rattle.std.specs.Map.{lookup}
-use Rattle.std.specs.Coded.{Coded, code_by, coded×, coded_list, coded_ℕ, coded_bool}
+use Rattle.std.specs.Coded.{Coded, code_by, coded×, coded_list, coded_bool}
 use Rattle.std.specs.Prelude.{refl}
 use Rattle.std.specs.declared.alloc.Global.{Global}
 use Rattle.indexmap.specs.IndexMap.{IndexMap, index_map_len}
 use base.Stored.{Gv, gnum, gcons}
 use Rattle.cml_value.specs.Value.{PlainBase}
 use Rattle.cml_value.specs.Group.{PlainGroup, bases, scopes, nacks_of}
-use Rattle.cml_value.specs.GroupCodes.{group_code}
 use Rattle.cml_scan.specs.World.{PlainEntry}
+use Rattle.cml_scan.specs.Codes.{entry_code, light_code}
 use Rattle.cml_scan.specs.Light.{lit_by}
 use Rattle.cml_scan.specs.Order.{IsSorted, Every}
 use Rattle.cml_scan.specs.Scan.{PlainOffer, offers_of, pairs_with, is_among}
@@ -20,11 +20,11 @@ use Rattle.cml_scan.specs.declared.meet.Place.{Place}
 use Rattle.cml_value.specs.declared.number.Tid.{Tid}
 use Rattle.std.specs.Borrow.{Bor}
 use Rattle.cml_scan.specs.declared.object.Light.{Light}
+use Rattle.cml_scan.specs.declared.object.Light.TheVariants.{Nack}
 use Rattle.cml_channel.specs.Sides.{channel_of, is_sender, side_in}
 use Rattle.cml_index.specs.declared.slot.Slot.{Slot}
-use Rattle.cml_index.specs.declared.slot.SlotKind.{SlotKind}
-use Rattle.cml_index.specs.declared.slot.SlotKind.TheVariants.{Heads, Others, IVar, MVar, Mbox, Port, Joined, Alarm, Nack}
-use Rattle.cml_index.specs.Slot.{rank, same_slot, slot_by, met_by, slot_of_light}
+use Rattle.cml_index.specs.declared.slot.Slot.TheVariants.{Side, Waiters}
+use Rattle.cml_index.specs.Slot.{same_slot, slot_by, met_by}
 use Rattle.cml_index.specs.Slots.{leaves_at, run_in, lane_of, AreLanes}
 use Rattle.std.specs.List.{flat_map}
 use Rattle.cml_channel.specs.Lanes.{PlainLane}
@@ -43,7 +43,7 @@ rows_at told os p b = (if lit_by told b then Single p.tid p.leaf ∷ [] else [])
 
 -- what was told of a light, where these were told: any other is unlit
 abbrev pub told : List (Slot × Bool) → Light → Bool
-told flags l = option_map_or (λ b. b) (lookup (same_slot (slot_of_light l)) flags) false
+told flags l = option_map_or (λ b. b) (lookup (same_slot (Waiters l)) flags) false
 
 -- the pending threads, ascending, each with its group, and the lights of which something was told, with what was told last
 pub record PlainIndex : Type 0 where
@@ -71,7 +71,7 @@ is_named flags k = is_some (lookup (same_slot k) flags)
 
 -- the place of a nack among the lights
 abbrev pub slot_of_nack : ℕ → Slot
-slot_of_nack k = record { kind = Nack; number = k }
+slot_of_nack k = Waiters (Nack (record { 0 = k }))
 
 -- The threads ascend; each lane has the offers that stand in it; all leaves, and those that can be taken alone, are counted; and each
 -- nack that can fire with a pending group has its place among the lights.
@@ -99,30 +99,14 @@ abbrev pub count_below : ℕ → List PlainEntry → ℕ
 count_below thread entries = length (filter (λ e. nat_lt e.thread thread) entries)
 
 -- The codes of the above: trees of numbers from which they can be read back. The toolchain asks for them; no rule speaks of them.
-abbrev pub entry_code : Coded PlainEntry
-entry_code = code_by (ℕ × PlainGroup) (coded× coded_ℕ group_code) (λ e. (e.thread, e.group)) (λ p. record { thread = p.0; group = p.1 }) (λ _. refl)
-
 abbrev pub slot_gv : Slot → Gv
-slot_gv k = gcons (gnum (rank k.kind)) (gnum k.number)
-
-same_kind : (a b : SlotKind) → rank a ≡ rank b → a ≡ b
-same_kind Heads Heads e = refl
-same_kind Others Others e = refl
-same_kind IVar IVar e = refl
-same_kind MVar MVar e = refl
-same_kind Mbox Mbox e = refl
-same_kind Port Port e = refl
-same_kind Joined Joined e = refl
-same_kind Alarm Alarm e = refl
-same_kind Nack Nack e = refl
-same_kind _ _ e = cc
+slot_gv (Side heads number) = gcons (gnum 0) (gcons (coded_bool.code heads) (gnum number))
+slot_gv (Waiters light) = gcons (gnum 1) (light_code.code light)
 
 pub slot_gv_inj : (a b : Slot) → slot_gv a ≡ slot_gv b → a ≡ b
-slot_gv_inj a b p =
-    let n : rank a.kind ≡ rank b.kind = cc in
-    let kind : a.kind ≡ b.kind = same_kind a.kind b.kind n in
-    let number : a.number ≡ b.number = cc in
-    λ i. record { kind = kind i; number = number i }
+slot_gv_inj (Side h n) (Side g m) p = let heads : h ≡ g = coded_bool.inj h g cc in let number : n ≡ m = cc in λ i. Side (heads i) (number i)
+slot_gv_inj (Waiters l) (Waiters m) p = let same : l ≡ m = light_code.inj l m cc in λ i. Waiters (same i)
+slot_gv_inj _ _ p = cc
 
 abbrev pub slot_code : Coded Slot
 slot_code = record { code = slot_gv; inj = slot_gv_inj }

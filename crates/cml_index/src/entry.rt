@@ -26,7 +26,8 @@ pub(crate) struct Entry {
 
 impl Model for Entry {
     ghost use Rattle.cml_scan.specs.World.{PlainEntry};
-    ghost use Rattle.cml_index.specs.Posts.{entry_code, IsPost};
+    ghost use Rattle.cml_scan.specs.Codes.{entry_code};
+    ghost use Rattle.cml_index.specs.Posts.{IsPost};
 
     ghost Value = { PlainEntry };
 

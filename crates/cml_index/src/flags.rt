@@ -8,9 +8,9 @@ ghost use Rattle.cml_scan.specs.Light.{lit_by};
 ghost use Rattle.cml_scan.specs.Table.{same_light};
 ghost use Rattle.cml_index.specs.declared.slot.Slot.{Slot};
 ghost use Rattle.cml_index.specs.Posts as spec;
-ghost use Rattle.cml_index.specs.Slot.{same_slot, slot_of_light as slot_spec};
+ghost use Rattle.cml_index.specs.declared.slot.Slot.TheVariants.{Waiters};
 
-use crate::slot::{Slot, slot_of_light};
+use crate::slot::Slot;
 use cml_channel::Tally;
 use cml_scan::{Light, light};
 use cml_value::{Base, BaseKind};
@@ -24,7 +24,7 @@ pub(crate) type Flags = IndexMap<Slot, bool>;
 pub(crate) fn is_lit(flags: &Flags, light: Light) -> bool
     ensures { result ≡ spec.told flags.now.entries light }
 {
-    match flags.get(&slot_of_light(light)) {
+    match flags.get(&Slot::Waiters(light)) {
         Some(lit) => *lit,
         None => false,
     }
@@ -64,12 +64,12 @@ pub(crate) fn count_lit(flags: &Flags, bases: &[Base], tally: &mut Tally) -> usi
 pub(crate) fn reserve(flags: &mut Flags, light: Light) -> Result<(), AllocError>
     ensures told { (m : Light) →
         spec.told flags.new.entries m ≡ spec.told flags.old.entries m }
-    ensures there { OnOk result (spec.is_named flags.new.entries (slot_spec light) ≡ true) }
+    ensures there { OnOk result (spec.is_named flags.new.entries (Waiters light) ≡ true) }
     ensures kept { (k : Slot) → spec.is_named flags.old.entries k ≡ true →
         spec.is_named flags.new.entries k ≡ true }
-    ensures sure { spec.is_named flags.old.entries (slot_spec light) ≡ true → IsOk result }
+    ensures sure { spec.is_named flags.old.entries (Waiters light) ≡ true → IsOk result }
 {
-    let slot = slot_of_light(light);
+    let slot = Slot::Waiters(light);
     if flags.contains_key(&slot) {
         return Ok(());
     }
@@ -79,7 +79,7 @@ pub(crate) fn reserve(flags: &mut Flags, light: Light) -> Result<(), AllocError>
 
 // Tells of the light, and answers whether that was new. A light that is told to be lit has its place.
 pub(crate) fn flip(flags: &mut Flags, light: Light, lit: bool) -> bool
-    requires { lit ≡ true → spec.is_named flags.old.entries (slot_spec light) ≡ true }
+    requires { lit ≡ true → spec.is_named flags.old.entries (Waiters light) ≡ true }
     ensures told { (m : Light) → spec.told flags.new.entries m
         ≡ (if same_light light m then lit else spec.told flags.old.entries m) }
     ensures changed { result ≡ (if lit then not (spec.told flags.old.entries light)
@@ -87,7 +87,7 @@ pub(crate) fn flip(flags: &mut Flags, light: Light, lit: bool) -> bool
     ensures kept { (k : Slot) → spec.is_named flags.old.entries k ≡ true →
         spec.is_named flags.new.entries k ≡ true }
 {
-    let slot = slot_of_light(light);
+    let slot = Slot::Waiters(light);
     match flags.get_mut(&slot) {
         Some(flag) => {
             let changed = *flag != lit;

@@ -5,7 +5,7 @@ ghost use Rattle.cml_value.specs.Group.{scopes, nacks_of};
 ghost use Rattle.cml_scan.specs.declared.object.Light.{Light};
 ghost use Rattle.cml_scan.specs.Order.{Every};
 ghost use Rattle.cml_index.specs.declared.slot.Slot.{Slot};
-ghost use Rattle.cml_index.specs.Slot.{slot_of_light as slot_spec};
+ghost use Rattle.cml_index.specs.declared.slot.Slot.TheVariants.{Waiters};
 ghost use Rattle.cml_index.specs.Posts as spec;
 
 use crate::flags::{Flags, reserve};
@@ -73,10 +73,10 @@ pub(crate) fn reserve_lights(flags: &mut Flags, lights: &[Light]) -> Result<(), 
     ensures told { (m : Light) →
         spec.told flags.new.entries m ≡ spec.told flags.old.entries m }
     ensures there { OnOk result
-        (Every (λ l. spec.is_named flags.new.entries (slot_spec l)) lights.now) }
+        (Every (λ l. spec.is_named flags.new.entries (Waiters l)) lights.now) }
     ensures kept { (k : Slot) → spec.is_named flags.old.entries k ≡ true →
         spec.is_named flags.new.entries k ≡ true }
-    ensures sure { Every (λ l. spec.is_named flags.old.entries (slot_spec l)) lights.now →
+    ensures sure { Every (λ l. spec.is_named flags.old.entries (Waiters l)) lights.now →
         IsOk result }
 {
     for light in lights {

@@ -12,14 +12,14 @@ ghost use Rattle.cml_scan.specs.Table.{without, with_entry, IsThere, same_light}
 ghost use Rattle.cml_scan.specs.World.{PlainEntry};
 ghost use Rattle.cml_index.specs.declared.slot.Slot.{Slot};
 ghost use Rattle.cml_index.specs.Posts as spec;
-ghost use Rattle.cml_index.specs.Slot.{slot_of_light as slot_spec};
+ghost use Rattle.cml_index.specs.declared.slot.Slot.TheVariants.{Waiters};
 ghost use Rattle.cml_index.specs.Slots.{lane_at, room_at, leaves_at};
 
 use crate::entry::Entry;
 use crate::flags::{Flags, count_lit, flip};
 use crate::moves::{Lanes, come, go, make_room};
 use crate::nacks::reserve_nacks;
-use crate::slot::{Slot, slot_of_light};
+use crate::slot::Slot;
 use cml_channel::Tally;
 use cml_scan::{Light, Place};
 use cml_value::{Base, Tid};
@@ -147,7 +147,7 @@ impl Core {
         requires indexed { spec.IsIndexed self.old.entries.items self.old.lanes
             self.old.flags.entries self.old.leaves self.old.lit }
         requires there { lit ≡ true →
-            spec.is_named self.old.flags.entries (slot_spec light) ≡ true }
+            spec.is_named self.old.flags.entries (Waiters light) ≡ true }
         ensures told { (m : Light) → spec.told self.new.flags.entries m
             ≡ (if same_light light m then lit else spec.told self.old.flags.entries m) }
         ensures indexed { spec.IsIndexed self.new.entries.items self.new.lanes
@@ -161,7 +161,7 @@ impl Core {
     {
         tally.add();
         if flip(&mut self.flags, light, lit) {
-            let waiters = lane_len(&self.lanes, slot_of_light(light));
+            let waiters = lane_len(&self.lanes, Slot::Waiters(light));
             if lit {
                 self.lit += waiters;
             } else {

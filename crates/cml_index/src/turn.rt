@@ -8,7 +8,7 @@ ghost use Rattle.cml_scan.specs.Order.{Every};
 ghost use Rattle.cml_scan.specs.Table.{without, with_entry, IsThere, has_light, lit_after};
 ghost use Rattle.cml_index.specs.declared.slot.Slot.{Slot};
 ghost use Rattle.cml_index.specs.Posts as spec;
-ghost use Rattle.cml_index.specs.Slot.{slot_of_light as slot_spec};
+ghost use Rattle.cml_index.specs.declared.slot.Slot.TheVariants.{Waiters};
 ghost use Rattle.cml_index.specs.Slots.{lane_at, room_at, leaves_at};
 
 use crate::entry::Entry;
@@ -25,7 +25,7 @@ impl Core {
         requires indexed { spec.IsIndexed self.old.entries.items self.old.lanes
             self.old.flags.entries self.old.leaves self.old.lit }
         requires there { lit ≡ true →
-            Every (λ l. spec.is_named self.old.flags.entries (slot_spec l)) lights.now }
+            Every (λ l. spec.is_named self.old.flags.entries (Waiters l)) lights.now }
         ensures told { (m : Light) → spec.told self.new.flags.entries m
             ≡ (if has_light lights.now m then lit else spec.told self.old.flags.entries m) }
         ensures indexed { spec.IsIndexed self.new.entries.items self.new.lanes
@@ -48,7 +48,7 @@ impl Core {
             self.old.flags.entries self.old.leaves self.old.lit }
         requires there { All (IsThere self.old.entries.items) gone.now }
         requires once { AllPairs (λ a b. a.0 ≢ b.0) gone.now }
-        requires named { Every (λ l. spec.is_named self.old.flags.entries (slot_spec l)) lit.now }
+        requires named { Every (λ l. spec.is_named self.old.flags.entries (Waiters l)) lit.now }
         ensures indexed { spec.IsIndexed self.new.entries.items self.new.lanes
             self.new.flags.entries self.new.leaves self.new.lit }
         ensures entries { self.new.entries.items ≡ without gone.now self.old.entries.items }
@@ -94,7 +94,7 @@ impl Core {
         ensures err_lit { OnErr result ((l : Light) →
             spec.told self.new.flags.entries l ≡ spec.told self.old.flags.entries l) }
         ensures err_cost { OnErr result (tally.new ≡ tally.old) }
-        ensures sure { Every (λ l. spec.is_named self.old.flags.entries (slot_spec l)) lit.now →
+        ensures sure { Every (λ l. spec.is_named self.old.flags.entries (Waiters l)) lit.now →
             IsOk result }
         ensures cost { OnOk result ((digits : ℕ) →
             ((k : Slot) → length (lane_at self.old.lanes k) < 2 ^ digits) →
@@ -170,7 +170,7 @@ impl Core {
             (λ k. spec.is_named self.new.flags.entries (spec.slot_of_nack k))
             (nacks_of (scopes entry.now.group))) }
         ensures lights { OnOk result
-            (Every (λ l. spec.is_named self.new.flags.entries (slot_spec l)) lit.now) }
+            (Every (λ l. spec.is_named self.new.flags.entries (Waiters l)) lit.now) }
     {
         self.make_places(alloc, entry)?;
         reserve_lights(&mut self.flags, lit)

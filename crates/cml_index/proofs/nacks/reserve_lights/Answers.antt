@@ -3,7 +3,7 @@ use Rattle.std.proofs.lemmas.List.{take_more}
 use Rattle.cml_scan.specs.Order.{Every}
 use Rattle.cml_scan.specs.declared.object.Light.{Light}
 use Rattle.cml_scan.proofs.Ordered.{Every-weaker, Every-append}
-use Rattle.cml_index.specs.Slot.{slot_of_light}
+use Rattle.cml_index.specs.declared.slot.Slot.TheVariants.{Waiters}
 use Rattle.cml_index.specs.Posts as spec
 use Rattle.cml_index.proofs.nacks.reserve_lights.Goals as goal
 
@@ -14,7 +14,7 @@ at_place p (x ∷ xs) (suc i) d within each = at_place p xs i d (omega arith) ea
 
 pub returns-in_err-reserve-clause-sure : goal.returns-in_err-reserve-clause-sure
 returns-in_err-reserve-clause-sure c = λ each.
-    let named = at_place (λ l. spec.is_named c.args.flags.now.entries (slot_of_light l)) c.args.lights.now c.loop-light.light-index _ c.loop-light-test.true each in
+    let named = at_place (λ l. spec.is_named c.args.flags.now.entries (Waiters l)) c.args.lights.now c.loop-light.light-index _ c.loop-light-test.true each in
     let ok = c.in_err-reserve.ensures.sure (c.loop-light.invariant.kept _ named) in
     cc
 
@@ -24,9 +24,9 @@ loop-light-preserved c =
     let i = c.loop-light.light-index in
     record {
       told = λ m. c.reserve.ensures.told m ∙ c.loop-light.invariant.told m;
-      there = subst (Every (λ l. spec.is_named c.reserve.new.flags.entries (slot_of_light l))) (sym (take_more xs i _ c.loop-light-test.true))
-          (Every-append (λ l. spec.is_named c.reserve.new.flags.entries (slot_of_light l)) (take i xs) (get_or xs i _ ∷ [])
-          (Every-weaker (λ l. spec.is_named c.loop-light.flags.entries (slot_of_light l)) (λ l. spec.is_named c.reserve.new.flags.entries (slot_of_light l)) (take i xs) (λ l h. c.reserve.ensures.kept (slot_of_light l) h) c.loop-light.invariant.there)
+      there = subst (Every (λ l. spec.is_named c.reserve.new.flags.entries (Waiters l))) (sym (take_more xs i _ c.loop-light-test.true))
+          (Every-append (λ l. spec.is_named c.reserve.new.flags.entries (Waiters l)) (take i xs) (get_or xs i _ ∷ [])
+          (Every-weaker (λ l. spec.is_named c.loop-light.flags.entries (Waiters l)) (λ l. spec.is_named c.reserve.new.flags.entries (Waiters l)) (take i xs) (λ l h. c.reserve.ensures.kept (Waiters l) h) c.loop-light.invariant.there)
           (c.in_ok-reserve.ensures.there, tt));
       kept = λ k h. c.reserve.ensures.kept k (c.loop-light.invariant.kept k h);
     }

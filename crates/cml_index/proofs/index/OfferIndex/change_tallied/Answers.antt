@@ -7,7 +7,7 @@ use Rattle.cml_value.specs.Group.{bases}
 use Rattle.cml_scan.proofs.Ordered.{Every-filter, sorted_without}
 use Rattle.cml_index.specs.declared.slot.Slot.{Slot}
 use Rattle.cml_index.specs.Slots.{lane_at}
-use Rattle.cml_index.specs.Slot.{slot_of_light}
+use Rattle.cml_index.specs.declared.slot.Slot.TheVariants.{Waiters}
 use Rattle.cml_index.specs.Posts as spec
 use Rattle.cml_index.proofs.Parted.{nacks_left, all_apart, came_all}
 use Rattle.cml_index.proofs.Lit.{on_ok_both}
@@ -24,7 +24,7 @@ pub returns-in-None-clause-sure : goal.returns-in-None-clause-sure
 returns-in-None-clause-sure c = λ none nacks.
     let es = c.self.inside.core.entries.items in
     let all = subst (λ (x : spec.PlainIndex). All (IsNackOf (nacks_among c.args.gone.now x.entries)) c.args.lit.now) (sym c.self.view_is) nacks in
-    c.leave_only.ensures.sure (nacks_named (λ k. spec.is_named c.self.inside.core.flags.entries (spec.slot_of_nack k)) (λ l. spec.is_named c.self.inside.core.flags.entries (slot_of_light l)) (λ k. Rattle.std.proofs.Common.refl) (nacks_among c.args.gone.now es) c.args.lit.now
+    c.leave_only.ensures.sure (nacks_named (λ k. spec.is_named c.self.inside.core.flags.entries (spec.slot_of_nack k)) (λ l. spec.is_named c.self.inside.core.flags.entries (Waiters l)) (λ k. Rattle.std.proofs.Common.refl) (nacks_among c.args.gone.now es) c.args.lit.now
     (nacks_left (λ k. spec.is_named c.self.inside.core.flags.entries (spec.slot_of_nack k)) (λ e. is_among c.args.gone.now e.thread) es c.self.invariant.named) all)
 
 pub returns-in-None-clause-cost : goal.returns-in-None-clause-cost

@@ -1,11 +1,11 @@
 use Rattle.std.proofs.Common.{◌∙◌, arith}
-use Rattle.cml_index.specs.Slot.{slot_of_light}
+use Rattle.cml_index.specs.declared.slot.Slot.TheVariants.{Waiters}
 use Rattle.cml_index.specs.Posts as spec
 use Rattle.cml_index.proofs.Lit.{told_more, at_place}
 use Rattle.cml_index.proofs.state.Core.tell_all.Goals as goal
 
 pub tell-requires-clause-there : goal.tell-requires-clause-there
-tell-requires-clause-there c = λ on. c.loop-light.invariant.kept _ (at_place (λ l. spec.is_named c.args.self.now.flags.entries (slot_of_light l)) c.args.lights.now c.loop-light.light-index _ c.loop-light-test.true (c.requires.there on))
+tell-requires-clause-there c = λ on. c.loop-light.invariant.kept _ (at_place (λ l. spec.is_named c.args.self.now.flags.entries (Waiters l)) c.args.lights.now c.loop-light.light-index _ c.loop-light-test.true (c.requires.there on))
 
 pub loop-light-preserved : goal.loop-light-preserved
 loop-light-preserved c =

@@ -2,12 +2,12 @@ use Rattle.std.proofs.Common.{◌∙◌, ap, sym, subst}
 use Rattle.std.specs.List.{All}
 use Rattle.cml_scan.specs.Table.{IsThere}
 use Rattle.cml_scan.proofs.Ordered.{Every-weaker}
-use Rattle.cml_index.specs.Slot.{slot_of_light}
+use Rattle.cml_index.specs.declared.slot.Slot.TheVariants.{Waiters}
 use Rattle.cml_index.specs.Posts as spec
 use Rattle.cml_index.proofs.state.Core.turn.Goals as goal
 
 pub tell_all-requires-2-clause-there : goal.tell_all-requires-2-clause-there
-tell_all-requires-2-clause-there c = λ on. Every-weaker (λ l. spec.is_named c.args.self.now.flags.entries (slot_of_light l)) (λ l. spec.is_named c.tell_all.new.self.flags.entries (slot_of_light l)) c.args.lit.now (λ l h. c.tell_all.ensures.kept (slot_of_light l) h) c.requires.named
+tell_all-requires-2-clause-there c = λ on. Every-weaker (λ l. spec.is_named c.args.self.now.flags.entries (Waiters l)) (λ l. spec.is_named c.tell_all.new.self.flags.entries (Waiters l)) c.args.lit.now (λ l h. c.tell_all.ensures.kept (Waiters l) h) c.requires.named
 
 pub leave_all-requires-clause-there : goal.leave_all-requires-clause-there
 leave_all-requires-clause-there c = subst (λ es. All (IsThere es) c.args.gone.now) (sym (ap (λ v. v.items) (c.tell_all-2.ensures.entries ∙ c.tell_all.ensures.entries))) c.requires.there
