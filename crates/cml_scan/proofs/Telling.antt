@@ -1,5 +1,5 @@
 -- What is known of the lights that pending leaves wait for, when threads go and come and lights change.
-use Rattle.std.proofs.Common.{◌≡◌, ℕ, ◌+◌, Bool, true, false, not, nat_eq, nat_lt, cond, List, [], ◌∷◌, ◌++◌, Option, Some, None, ap, sym, subst, arith}
+use Rattle.std.proofs.Common.{◌≡◌, ℕ, ◌+◌, Bool, true, false, not, nat_eq, nat_lt, cond, List, [], ◌∷◌, ◌++◌, Option, Some, None, refl, ap, sym, subst, arith}
 use Rattle.std.specs.Prelude.{All}
 use Rattle.std.specs.List.{filter}
 use Rattle.std.specs.Borrow.{Bor}
@@ -15,6 +15,7 @@ use Rattle.cml_scan.specs.Scan.{PlainOffer, leaves_from, offers_of, is_among}
 use Rattle.cml_scan.specs.Table.{without, with_entry, changed, same_light, AgreeFor}
 use Rattle.cml_scan.specs.declared.object.Light.{Light}
 use Rattle.cml_scan.specs.declared.object.Light.TheVariants as of
+use Rattle.cml_scan.specs.contracts.object.LightPartialEq.TheImpl as derived
 
 -- of some of these threads, where it holds of all
 kept : (P : PlainOffer → Type 0) (test : PlainEntry → Bool) (es : List PlainEntry) → All P (offers_of es) → All P (offers_of (filter test es))
@@ -93,3 +94,14 @@ same_light_self (of.Port a) = alike a.0
 same_light_self (of.Joined a) = alike a.0
 same_light_self (of.Alarm a) = alike a
 same_light_self (of.Nack a) = alike a.0
+
+-- the comparison that is derived on lights is this test
+pub light_eq : (l m : Light) → derived.ghosts.eq l m ≡ same_light l m
+light_eq (of.IVar a) (of.IVar b) = refl
+light_eq (of.MVar a) (of.MVar b) = refl
+light_eq (of.Mbox a) (of.Mbox b) = refl
+light_eq (of.Port a) (of.Port b) = refl
+light_eq (of.Joined a) (of.Joined b) = refl
+light_eq (of.Alarm a) (of.Alarm b) = refl
+light_eq (of.Nack a) (of.Nack b) = refl
+light_eq _ _ = refl
