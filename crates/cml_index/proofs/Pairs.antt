@@ -36,7 +36,7 @@ pub meets_by_lanes : {S : Type 0} (side_of : PlainBase → Option S) (key_of : S
     → ((s t : S) → IsTrue (do_meet s t) ↔ ((key_of s ≡ key_of t) × (is_head s ≢ is_head t)))
     → ((b c : PlainBase) → meets b c ≡ sides_meet is_head do_meet (side_of b) (side_of c))
     → (b c : PlainBase) → meets b c ≡ meets_in (met_by side_of key_of is_head b) (slot_by side_of key_of is_head c)
-meets_by_lanes side_of key_of is_head do_meet law sides b c = sides b c ∙ at (side_of b) (side_of c)
+meets_by_lanes {S = S} side_of key_of is_head do_meet law sides b c = sides b c ∙ at (side_of b) (side_of c)
   where
     none : (h : Bool) → h && false ≡ false
     none true = refl

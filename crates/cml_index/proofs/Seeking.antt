@@ -1,5 +1,5 @@
 -- A search among the leaves of one thread after another.
-use Rattle.std.proofs.Common.{◌≡◌, ℕ, zero, suc, ◌+◌, ◌-◌, ◌<◌, ◌≤◌, Bool, true, false, cond, List, [], ◌∷◌, ◌++◌, map, drop, length, get_or, nat_lt, Some, refl, ap, sym, ◌∙◌, arith}
+use Rattle.std.proofs.Common.{◌≡◌, ℕ, zero, suc, ◌+◌, ◌-◌, ◌<◌, ◌≤◌, Bool, true, false, cond, List, [], ◌∷◌, ◌++◌, map, drop, length, get_or, nat_lt, Option, Some, None, refl, ap, sym, ◌∙◌, arith}
 use Rattle.std.specs.Prelude.{slice_get}
 use Rattle.std.specs.List.{filter}
 use Rattle.std.proofs.lemmas.Bool.Decides.{nat_tests}
@@ -9,7 +9,7 @@ use Rattle.cml_value.specs.Value.{PlainBase}
 use Rattle.cml_value.specs.Group.{bases}
 use Rattle.cml_scan.specs.World.{PlainEntry}
 use Rattle.cml_scan.specs.Scan.{PlainOffer, leaves_from, offers_of, scan_of, heads_of}
-use Rattle.cml_scan.specs.Order.{IsSorted, place, before, before_numbers}
+use Rattle.cml_scan.specs.Order.{IsSorted, place, before, before_numbers, has_partner}
 use Rattle.cml_scan.specs.declared.meet.Place.{Place}
 use Rattle.cml_scan.proofs.Partners.{lit_by-alone, scan_of-heads}
 use Rattle.cml_index.specs.declared.slot.Slot.{Slot}

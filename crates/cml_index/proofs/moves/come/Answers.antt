@@ -18,19 +18,19 @@ loop-i-init c =
 
 pub loop-i-preserved : goal.loop-i-preserved
 loop-i-preserved c =
-    let slot = c.run_at.result.0 in
+    let slot = c.run_at-slot.result.0 in
     let tid = c.args.tid in
     let now_left : Slot → Bool = λ k. spec.has_run (drop c.loop-i.i c.args.runs.now.entries) k in
     let later : Slot → Bool = λ k. spec.has_run (drop (c.loop-i.i + 1) c.args.runs.now.entries) k in
-    let untouched = c.loop-i.invariant.left slot (self_left slot (now_left slot) (later slot) (c.run_at.ensures.left slot)) in
+    let untouched = c.loop-i.invariant.left slot (self_left slot (now_left slot) (later slot) (c.run_at-slot.ensures.left slot)) in
     let here : spec.lane_at c.come_at.new.lanes slot ≡ with_run tid (spec.run_in c.args.runs.now slot) (spec.lane_at c.args.lanes.now slot) =
-    c.come_at.ensures.here ∙ ap (λ ls. with_run tid ls (spec.lane_at c.loop-i.lanes slot)) (sym c.run_at.ensures.run) ∙ ap (with_run tid (spec.run_in c.args.runs.now slot)) untouched in
+    c.come_at.ensures.here ∙ ap (λ ls. with_run tid ls (spec.lane_at c.loop-i.lanes slot)) (sym c.run_at-slot.ensures.run) ∙ ap (with_run tid (spec.run_in c.args.runs.now slot)) untouched in
     record {
-      done = λ k e. cases_done (same_slot k slot) (now_left k) (later k) (c.run_at.ensures.left k) e
+      done = λ k e. cases_done (same_slot k slot) (now_left k) (later k) (c.run_at-slot.ensures.left k) e
           (λ is. subst (λ n. spec.lane_at c.come_at.new.lanes n ≡ with_run tid (spec.run_in c.args.runs.now n) (spec.lane_at c.args.lanes.now n)) (sym (same_slot_is k slot is)) here)
           (λ off left. c.come_at.ensures.elsewhere k off ∙ c.loop-i.invariant.done k left);
-      left = λ k e. cases_left (same_slot k slot) (now_left k) (later k) (c.run_at.ensures.left k) e (c.run_at.ensures.once k) (λ off left. c.come_at.ensures.elsewhere k off ∙ c.loop-i.invariant.left k left);
-      room = λ k e. cases_left (same_slot k slot) (now_left k) (later k) (c.run_at.ensures.left k) e (c.run_at.ensures.once k) (λ off left. c.come_at.ensures.room k off ∙ c.loop-i.invariant.room k left);
+      left = λ k e. cases_left (same_slot k slot) (now_left k) (later k) (c.run_at-slot.ensures.left k) e (c.run_at-slot.ensures.once k) (λ off left. c.come_at.ensures.elsewhere k off ∙ c.loop-i.invariant.left k left);
+      room = λ k e. cases_left (same_slot k slot) (now_left k) (later k) (c.run_at-slot.ensures.left k) e (c.run_at-slot.ensures.once k) (λ off left. c.come_at.ensures.room k off ∙ c.loop-i.invariant.room k left);
       cost = λ digits few.
           let before = c.loop-i.invariant.cost digits few in
           let one = c.come_at.ensures.cost digits (subst (λ ps. length ps < 2 ^ digits) (sym untouched) (few slot)) in

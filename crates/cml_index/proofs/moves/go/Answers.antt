@@ -19,23 +19,23 @@ loop-i-init c =
 
 pub go_at-requires : goal.go_at-requires
 go_at-requires c =
-    let slot = c.run_at.result.0 in
-    let untouched = c.loop-i.invariant.left slot (self_left slot (spec.has_run (drop c.loop-i.i c.args.runs.now.entries) slot) (spec.has_run (drop (c.loop-i.i + 1) c.args.runs.now.entries) slot) (c.run_at.ensures.left slot)) in
-    ap length (sym c.run_at.ensures.run) ∙ c.requires slot ∙ ap (λ ps. length (filter (is_own c.args.tid) ps)) (sym untouched)
+    let slot = c.run_at-slot.result.0 in
+    let untouched = c.loop-i.invariant.left slot (self_left slot (spec.has_run (drop c.loop-i.i c.args.runs.now.entries) slot) (spec.has_run (drop (c.loop-i.i + 1) c.args.runs.now.entries) slot) (c.run_at-slot.ensures.left slot)) in
+    ap length (sym c.run_at-slot.ensures.run) ∙ c.requires slot ∙ ap (λ ps. length (filter (is_own c.args.tid) ps)) (sym untouched)
 
 pub loop-i-preserved : goal.loop-i-preserved
 loop-i-preserved c =
-    let slot = c.run_at.result.0 in
+    let slot = c.run_at-slot.result.0 in
     let tid = c.args.tid in
     let now_left : Slot → Bool = λ k. spec.has_run (drop c.loop-i.i c.args.runs.now.entries) k in
     let later : Slot → Bool = λ k. spec.has_run (drop (c.loop-i.i + 1) c.args.runs.now.entries) k in
-    let untouched = c.loop-i.invariant.left slot (self_left slot (now_left slot) (later slot) (c.run_at.ensures.left slot)) in
+    let untouched = c.loop-i.invariant.left slot (self_left slot (now_left slot) (later slot) (c.run_at-slot.ensures.left slot)) in
     let here : spec.lane_at c.go_at.new.lanes slot ≡ others tid (spec.lane_at c.args.lanes.now slot) = c.go_at.ensures.here ∙ ap (others tid) untouched in
     record {
-      done = λ k e. cases_done (same_slot k slot) (now_left k) (later k) (c.run_at.ensures.left k) e
+      done = λ k e. cases_done (same_slot k slot) (now_left k) (later k) (c.run_at-slot.ensures.left k) e
           (λ is. subst (λ n. spec.lane_at c.go_at.new.lanes n ≡ others tid (spec.lane_at c.args.lanes.now n)) (sym (same_slot_is k slot is)) here)
           (λ off left. c.go_at.ensures.elsewhere k off ∙ c.loop-i.invariant.done k left);
-      left = λ k e. cases_left (same_slot k slot) (now_left k) (later k) (c.run_at.ensures.left k) e (c.run_at.ensures.once k) (λ off left. c.go_at.ensures.elsewhere k off ∙ c.loop-i.invariant.left k left);
+      left = λ k e. cases_left (same_slot k slot) (now_left k) (later k) (c.run_at-slot.ensures.left k) e (c.run_at-slot.ensures.once k) (λ off left. c.go_at.ensures.elsewhere k off ∙ c.loop-i.invariant.left k left);
       room = λ k. let a = c.go_at.ensures.room k in let b = c.loop-i.invariant.room k in omega (arith, a, b);
       cost = λ digits few.
           let before = c.loop-i.invariant.cost digits few in

@@ -16,14 +16,14 @@ loop-i-init c =
 
 pub loop-i-preserved : goal.loop-i-preserved
 loop-i-preserved c =
-    let slot = c.run_at.result.0 in
+    let slot = c.run_at-slot.result.0 in
     let now_left : Slot → Bool = λ k. spec.has_run (drop c.loop-i.i c.args.runs.now.entries) k in
     let later : Slot → Bool = λ k. spec.has_run (drop (c.loop-i.i + 1) c.args.runs.now.entries) k in
-    let here : length (spec.run_in c.args.runs.now slot) ≤ spec.room_at c.reserve_at.new.lanes slot = rw c.run_at.ensures.run c.in_ok-reserve_at.ensures.room in
+    let here : length (spec.run_in c.args.runs.now slot) ≤ spec.room_at c.reserve_at.new.lanes slot = rw c.run_at-slot.ensures.run c.in_ok-reserve_at.ensures.room in
     record {
       same = λ k. c.reserve_at.ensures.same k ∙ c.loop-i.invariant.same k;
       kept = λ k. let a = c.reserve_at.ensures.kept k in let b = c.loop-i.invariant.kept k in omega (arith, a, b);
-      room = λ k e. cases_done (same_slot k slot) (now_left k) (later k) (c.run_at.ensures.left k) e
+      room = λ k e. cases_done (same_slot k slot) (now_left k) (later k) (c.run_at-slot.ensures.left k) e
           (λ is. subst (λ n. length (spec.run_in c.args.runs.now n) ≤ spec.room_at c.reserve_at.new.lanes n) (sym (same_slot_is k slot is)) here)
           (λ off left. let a = c.reserve_at.ensures.kept k in let b = c.loop-i.invariant.room k left in omega (arith, a, b));
     }

@@ -2,6 +2,7 @@ use Rattle.std.proofs.Common.{◌≡◌, ◌∙◌, ◌<◌, true, [], ◌∷◌
 use Rattle.std.proofs.lemmas.List.{take_more}
 use Rattle.cml_scan.specs.Order.{Every}
 use Rattle.cml_scan.specs.declared.object.Light.{Light}
+use Rattle.cml_scan.specs.declared.object.Light.TheVariants as of
 use Rattle.cml_scan.proofs.Ordered.{Every-weaker, Every-append}
 use Rattle.cml_index.specs.declared.slot.Slot.TheVariants.{Waiters}
 use Rattle.cml_index.specs.Posts as spec
@@ -14,8 +15,9 @@ at_place p (x ∷ xs) (suc i) d within each = at_place p xs i d (omega arith) ea
 
 pub returns-in_err-reserve-clause-sure : goal.returns-in_err-reserve-clause-sure
 returns-in_err-reserve-clause-sure c = λ each.
-    let named = at_place (λ l. spec.is_named c.args.flags.now.entries (Waiters l)) c.args.lights.now c.loop-light.light-index _ c.loop-light-test.true each in
-    let ok = c.in_err-reserve.ensures.sure (c.loop-light.invariant.kept _ named) in
+    let d = of.IVar (record { 0 = 0 }) in
+    let named = at_place (λ l. spec.is_named c.args.flags.now.entries (Waiters l)) c.args.lights.now c.loop-light.light-index d c.loop-light-test.true each in
+    let ok = c.in_err-reserve.ensures.sure (c.loop-light.invariant.kept (Waiters (get_or c.args.lights.now c.loop-light.light-index d)) named) in
     cc
 
 pub loop-light-preserved : goal.loop-light-preserved

@@ -1,11 +1,15 @@
-use Rattle.std.proofs.Common.{◌∙◌, arith}
+use Rattle.std.proofs.Common.{◌∙◌, get_or, arith}
+use Rattle.cml_scan.specs.declared.object.Light.TheVariants as of
 use Rattle.cml_index.specs.declared.slot.Slot.TheVariants.{Waiters}
 use Rattle.cml_index.specs.Posts as spec
 use Rattle.cml_index.proofs.Lit.{told_more, at_place}
 use Rattle.cml_index.proofs.state.Core.tell_all.Goals as goal
 
 pub tell-requires-clause-there : goal.tell-requires-clause-there
-tell-requires-clause-there c = λ on. c.loop-light.invariant.kept _ (at_place (λ l. spec.is_named c.args.self.now.flags.entries (Waiters l)) c.args.lights.now c.loop-light.light-index _ c.loop-light-test.true (c.requires.there on))
+tell-requires-clause-there c = λ on.
+    let d = of.IVar (record { 0 = 0 }) in
+    c.loop-light.invariant.kept (Waiters (get_or c.args.lights.now c.loop-light.light-index d))
+    (at_place (λ l. spec.is_named c.args.self.now.flags.entries (Waiters l)) c.args.lights.now c.loop-light.light-index d c.loop-light-test.true (c.requires.there on))
 
 pub loop-light-preserved : goal.loop-light-preserved
 loop-light-preserved c =
