@@ -1,10 +1,9 @@
 -- How many leaves can be taken alone, when a light is told.
-use Rattle.std.proofs.Common.{◌≡◌, ℕ, zero, suc, ◌<◌, take, get_or, ◌+◌, Bool, true, false, not, ◌||◌, nat_eq, cond, List, [], ◌∷◌, length, Option, Some, None, refl, ap, sym, subst, ◌∙◌, arith}
+use Rattle.std.proofs.Common.{◌≡◌, ℕ, zero, suc, ◌<◌, take, get_or, ◌+◌, Bool, true, false, not, ◌||◌, cond, List, [], ◌∷◌, length, Option, Some, None, refl, ap, sym, subst, ◌∙◌, arith}
 use Rattle.std.specs.List.{filter}
 use Rattle.std.specs.Prelude.{OnOk, Result, Ok, Err, option_map}
 use Rattle.std.proofs.lemmas.List.{length-map, take_more}
 use Rattle.std.proofs.lemmas.List.Folds.{list_any-append}
-use Rattle.std.proofs.lemmas.Bool.Decides.{nat_tests}
 use Rattle.cml_value.specs.Value.{PlainBase, always, send, recv}
 use Rattle.cml_scan.specs.Light.{light, is_always, is_told, lit_by}
 use Rattle.cml_scan.specs.Scan.{PlainOffer, offers_of}
@@ -12,7 +11,7 @@ use Rattle.cml_scan.specs.Order.{place, Every}
 use Rattle.cml_scan.specs.Table.{same_light, has_light}
 use Rattle.cml_scan.specs.declared.object.Light.{Light}
 use Rattle.cml_scan.proofs.Telling.{same_light_is, same_light_self, light_eq}
-use Rattle.cml_index.specs.Slot.{same_slot, slot_of_either}
+use Rattle.cml_index.specs.Slot.{slot_of_either}
 use Rattle.cml_index.specs.declared.slot.Slot.TheVariants.{Waiters}
 use Rattle.cml_channel.specs.Sides.{channel_of, is_sender, side_in}
 use Rattle.cml_channel.specs.declared.channel.ChannelSide.{ChannelSide}

@@ -1,17 +1,16 @@
 -- Over any kind of object over which two threads meet: those whom a leaf meets are the offers in one lane that are of other threads.
-use Rattle.std.proofs.Common.{◌≡◌, ℕ, Bool, true, false, not, ◌&&◌, ◌||◌, nat_eq, cond, List, [], ◌∷◌, ◌++◌, map, Option, Some, None, refl, ap, sym, ◌∙◌, arith}
+use Rattle.std.proofs.Common.{◌≡◌, ℕ, Bool, true, false, not, ◌&&◌, ◌||◌, nat_eq, cond, List, [], ◌∷◌, map, Option, Some, None, refl, ap, sym, ◌∙◌, arith}
 use Rattle.std.specs.Prelude.{◌≢◌, ◌↔◌, IsTrue, option_map}
 use Rattle.std.specs.Bool.{beq}
 use Rattle.std.specs.List.{filter, list_any}
 use Rattle.std.proofs.lemmas.Bool.Decides.{nat_tests}
-use Rattle.std.proofs.lemmas.List.{append-nil}
 use Rattle.cml_value.specs.Value.{PlainBase}
 use Rattle.cml_value.specs.declared.number.Tid.{Tid}
 use Rattle.cml_scan.specs.declared.object.Light.{Light}
 use Rattle.cml_scan.specs.declared.meet.Meet.{Meet}
-use Rattle.cml_scan.specs.declared.meet.Meet.TheVariants.{Single, Pair}
+use Rattle.cml_scan.specs.declared.meet.Meet.TheVariants.{Pair}
 use Rattle.cml_scan.specs.declared.meet.Place.{Place}
-use Rattle.cml_scan.specs.Light.{light, lit_by}
+use Rattle.cml_scan.specs.Light.{light}
 use Rattle.cml_scan.specs.Scan.{PlainOffer, meets, can_meet, pair, pairs_with}
 use Rattle.cml_scan.specs.Order.{place, has_partner}
 use Rattle.cml_scan.proofs.Found.{offer}

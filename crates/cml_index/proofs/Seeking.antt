@@ -11,9 +11,10 @@ use Rattle.cml_scan.specs.World.{PlainEntry}
 use Rattle.cml_scan.specs.Scan.{PlainOffer, leaves_from, offers_of, scan_of, heads_of}
 use Rattle.cml_scan.specs.Order.{IsSorted, place, before, before_numbers, has_partner}
 use Rattle.cml_scan.specs.declared.meet.Place.{Place}
-use Rattle.cml_scan.proofs.Partners.{lit_by-alone, scan_of-heads}
+use Rattle.cml_scan.proofs.Partners.{scan_of-heads}
 use Rattle.cml_index.specs.declared.slot.Slot.{Slot}
 use Rattle.cml_index.specs.declared.heads.HeadKind.TheVariants.{Alone, Met}
+use Rattle.cml_scan.specs.Light.{lit_by}
 use Rattle.cml_index.specs.Heads.{is_sought}
 use Rattle.cml_index.specs.Posts.{told, slot_of, slot_met}
 use Rattle.cml_index.proofs.Parted.{leaves_all, filter_fewer}

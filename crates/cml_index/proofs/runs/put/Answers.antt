@@ -1,4 +1,4 @@
-use Rattle.std.proofs.Common.{rules, ◌≡◌, ◌++◌, ◌∷◌, [], ℕ, List, cond, ap, sym, ◌∙◌}
+use Rattle.std.proofs.Common.{rules, ◌≡◌, ◌++◌, ◌∷◌, [], cond, ap, sym, ◌∙◌}
 use Rattle.cml_index.specs.Slots as spec
 use Rattle.cml_index.proofs.Walks.{put_done}
 use Rattle.cml_index.proofs.runs.put.Goals as goal

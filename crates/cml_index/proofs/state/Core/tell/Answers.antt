@@ -4,7 +4,7 @@ use Rattle.cml_scan.specs.Light.{lit_by}
 use Rattle.cml_scan.specs.Scan.{PlainOffer, offers_of}
 use Rattle.cml_scan.proofs.Ordered.{Every-weaker}
 use Rattle.cml_index.specs.declared.slot.Slot.TheVariants.{Waiters}
-use Rattle.cml_index.specs.Slots.{lane_at, lane_of}
+use Rattle.cml_index.specs.Slots.{lane_of}
 use Rattle.cml_index.specs.Posts as spec
 use Rattle.cml_index.proofs.Parted.{filter_fewer}
 use Rattle.cml_index.proofs.Lit.{retold_lit, retold_unlit, retold_same, told_same}
