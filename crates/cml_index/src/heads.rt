@@ -13,7 +13,8 @@ ghost use Rattle.cml_index.specs.Posts as spec;
 
 use crate::entry::Entry;
 use crate::flags::is_lit_by;
-use crate::slot::{Slot, slot_met};
+use crate::lanes::Lanes;
+use crate::slot::Slot;
 use crate::state::Core;
 use cml_channel::{Channels, Tally};
 use cml_scan::Place;
@@ -39,13 +40,13 @@ enum Sought {
 
 // Whether a thread other than this one has an offer in the lane.
 fn has_other(core: &Core, slot: Slot, tid: Tid, tally: &mut Tally) -> bool
-    requires { spec.IsIndexed core.now.entries.items core.now.lanes
+    requires { spec.IsIndexed core.now.entries.items core.now.lanes.by_slot
         core.now.flags.entries core.now.leaves core.now.lit }
     ensures value { result ≡ list_any (is_others tid)
         (lane_of spec.slot_of slot (offers_of core.now.entries.items)) }
     ensures cost { tally.new ≤ tally.old + 2 }
 {
-    match core.lanes.get(&slot) {
+    match core.lanes.by_slot.get(&slot) {
         Some(lane) => lane.has_other(tid, tally),
         None => false,
     }
@@ -53,13 +54,13 @@ fn has_other(core: &Core, slot: Slot, tid: Tid, tally: &mut Tally) -> bool
 
 // Whether a leaf of the thread that waits for this has a partner.
 fn is_met(core: &Core, tid: Tid, base: &Base, tally: &mut Tally) -> bool
-    requires { spec.IsIndexed core.now.entries.items core.now.lanes
+    requires { spec.IsIndexed core.now.entries.items core.now.lanes.by_slot
         core.now.flags.entries core.now.leaves core.now.lit }
     ensures value { (leaf : ℕ) → result ≡ has_partner (offers_of core.now.entries.items)
         (record { thread = tid.0; leaf = leaf; base = base.now }) }
     ensures cost { tally.new ≤ tally.old + 2 }
 {
-    match slot_met::<Channels>(base) {
+    match Lanes::<Channels>::met_by(base) {
         Some(slot) => has_other(core, slot, tid, tally),
         None => false,
     }
@@ -67,7 +68,7 @@ fn is_met(core: &Core, tid: Tid, base: &Base, tally: &mut Tally) -> bool
 
 // Whether a leaf of the thread that waits for this is one of those that are sought: it is looked at, and its light or two offers.
 fn is_head(core: &Core, kind: HeadKind, tid: Tid, base: &Base, tally: &mut Tally) -> bool
-    requires { spec.IsIndexed core.now.entries.items core.now.lanes
+    requires { spec.IsIndexed core.now.entries.items core.now.lanes.by_slot
         core.now.flags.entries core.now.leaves core.now.lit }
     ensures value { (leaf : ℕ) → result
         ≡ is_sought kind core.now.flags.entries (offers_of core.now.entries.items)
@@ -83,7 +84,7 @@ fn is_head(core: &Core, kind: HeadKind, tid: Tid, base: &Base, tally: &mut Tally
 
 // How many leaves of the thread have a partner.
 fn count_in(core: &Core, entry: &Entry, tally: &mut Tally) -> usize
-    requires { spec.IsIndexed core.now.entries.items core.now.lanes
+    requires { spec.IsIndexed core.now.entries.items core.now.lanes.by_slot
         core.now.flags.entries core.now.leaves core.now.lit }
     ensures count { result
         ≡ length (filter (is_sought Met core.now.flags.entries (offers_of core.now.entries.items))
@@ -101,7 +102,7 @@ fn count_in(core: &Core, entry: &Entry, tally: &mut Tally) -> usize
 
 // How many leaves have a partner.
 fn count_met(core: &Core, tally: &mut Tally) -> usize
-    requires { spec.IsIndexed core.now.entries.items core.now.lanes
+    requires { spec.IsIndexed core.now.entries.items core.now.lanes.by_slot
         core.now.flags.entries core.now.leaves core.now.lit }
     ensures count { result
         ≡ length (filter (is_sought Met core.now.flags.entries (offers_of core.now.entries.items))
@@ -118,7 +119,7 @@ fn count_met(core: &Core, tally: &mut Tally) -> usize
 
 // Passes by so many of the leaves of the thread that are sought.
 fn seek_in(core: &Core, kind: HeadKind, entry: &Entry, k: usize, tally: &mut Tally) -> Sought
-    requires { spec.IsIndexed core.now.entries.items core.now.lanes
+    requires { spec.IsIndexed core.now.entries.items core.now.lanes.by_slot
         core.now.flags.entries core.now.leaves core.now.lit }
     ensures value { IsAnswer result k
         (filter (is_sought kind core.now.flags.entries (offers_of core.now.entries.items))
@@ -140,7 +141,7 @@ fn seek_in(core: &Core, kind: HeadKind, entry: &Entry, k: usize, tally: &mut Tal
 
 // The leaf at this place among those that are sought.
 fn seek(core: &Core, kind: HeadKind, k: usize, tally: &mut Tally) -> Place
-    requires indexed { spec.IsIndexed core.now.entries.items core.now.lanes
+    requires indexed { spec.IsIndexed core.now.entries.items core.now.lanes.by_slot
         core.now.flags.entries core.now.leaves core.now.lit }
     requires within { k < length (filter
         (is_sought kind core.now.flags.entries (offers_of core.now.entries.items))
@@ -165,7 +166,7 @@ fn seek(core: &Core, kind: HeadKind, k: usize, tally: &mut Tally) -> Place
 
 // How many heads there are.
 pub(crate) fn head_count(core: &Core, tally: &mut Tally) -> usize
-    requires { spec.IsIndexed core.now.entries.items core.now.lanes
+    requires { spec.IsIndexed core.now.entries.items core.now.lanes.by_slot
         core.now.flags.entries core.now.leaves core.now.lit }
     ensures count { result ≡ length (heads_of
         (scan_of core.now.entries.items (spec.told core.now.flags.entries))) }
@@ -177,7 +178,7 @@ pub(crate) fn head_count(core: &Core, tally: &mut Tally) -> usize
 
 // The head at this place in their order.
 pub(crate) fn head(core: &Core, k: usize, tally: &mut Tally) -> Place
-    requires indexed { spec.IsIndexed core.now.entries.items core.now.lanes
+    requires indexed { spec.IsIndexed core.now.entries.items core.now.lanes.by_slot
         core.now.flags.entries core.now.leaves core.now.lit }
     requires within { k < length (heads_of
         (scan_of core.now.entries.items (spec.told core.now.flags.entries))) }

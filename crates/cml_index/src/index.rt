@@ -9,6 +9,7 @@ ghost use Rattle.cml_scan.specs.Table.{changed, lit_after, IsThere, IsNew, AreAp
 ghost use Rattle.cml_index.specs.Posts as spec;
 
 use crate::flags::is_lit_by;
+use crate::lanes::Lanes;
 use crate::state::{self, Core};
 use crate::table::offers;
 use crate::{heads, partners};
@@ -35,7 +36,7 @@ impl Model for OfferIndex {
 
     ghost view = { λ x. record { entries = x.core.entries.items; flags = x.core.flags.entries } };
 
-    ghost invariant = { λ x. IsIndexed x.core.entries.items x.core.lanes
+    ghost invariant = { λ x. IsIndexed x.core.entries.items x.core.lanes.by_slot
         x.core.flags.entries x.core.leaves x.core.lit };
 }
 
@@ -47,7 +48,7 @@ impl OfferIndex {
         OfferIndex {
             core: Core {
                 entries: Vec::new(alloc),
-                lanes: IndexMap::new(alloc),
+                lanes: Lanes::new(alloc),
                 flags: IndexMap::new(alloc),
                 leaves: 0,
                 lit: 0,

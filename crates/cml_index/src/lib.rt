@@ -5,7 +5,7 @@ mod entry;
 mod flags;
 mod heads;
 mod index;
-mod moves;
+mod lanes;
 mod nacks;
 mod partners;
 mod runs;

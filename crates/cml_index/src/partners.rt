@@ -7,7 +7,8 @@ ghost use Rattle.cml_index.specs.Slots.{lane_of};
 ghost use Rattle.cml_index.specs.Posts as spec;
 
 use crate::flags::is_lit_by;
-use crate::slot::{Slot, slot_met};
+use crate::lanes::Lanes;
+use crate::slot::Slot;
 use crate::state::{Core, base_at};
 use cml_channel::{Channels, Tally};
 use cml_scan::{Meet, Place};
@@ -15,14 +16,14 @@ use cml_value::{Base, Tid};
 
 // How many offers in the lane are of other threads than this one.
 fn others_count(core: &Core, slot: Slot, tid: Tid, tally: &mut Tally) -> usize
-    requires { spec.IsIndexed core.now.entries.items core.now.lanes
+    requires { spec.IsIndexed core.now.entries.items core.now.lanes.by_slot
         core.now.flags.entries core.now.leaves core.now.lit }
     ensures count { result ≡ length (others tid
         (lane_of spec.slot_of slot (offers_of core.now.entries.items))) }
     ensures cost { (digits : ℕ) → spec.HasDigits core.now.entries.items digits →
         tally.new ≤ tally.old + 2 * digits }
 {
-    match core.lanes.get(&slot) {
+    match core.lanes.by_slot.get(&slot) {
         Some(lane) => lane.others_count(tid, tally),
         None => 0,
     }
@@ -30,7 +31,7 @@ fn others_count(core: &Core, slot: Slot, tid: Tid, tally: &mut Tally) -> usize
 
 // The offer at this place among those in the lane that are of other threads than this one.
 fn other_at(core: &Core, slot: Slot, tid: Tid, j: usize, tally: &mut Tally) -> Place
-    requires indexed { spec.IsIndexed core.now.entries.items core.now.lanes
+    requires indexed { spec.IsIndexed core.now.entries.items core.now.lanes.by_slot
         core.now.flags.entries core.now.leaves core.now.lit }
     requires within { j < length (others tid
         (lane_of spec.slot_of slot (offers_of core.now.entries.items))) }
@@ -39,7 +40,7 @@ fn other_at(core: &Core, slot: Slot, tid: Tid, j: usize, tally: &mut Tally) -> P
     ensures cost { (digits : ℕ) → spec.HasDigits core.now.entries.items digits →
         tally.new ≤ tally.old + (2 * digits + 1) }
 {
-    match core.lanes.get(&slot) {
+    match core.lanes.by_slot.get(&slot) {
         Some(lane) => lane.other(tid, j, tally),
         None => unreachable!(),
     }
@@ -47,14 +48,14 @@ fn other_at(core: &Core, slot: Slot, tid: Tid, j: usize, tally: &mut Tally) -> P
 
 // How many rows the leaf begins that waits for this.
 fn count_at(core: &Core, head: Place, base: &Base, tally: &mut Tally) -> usize
-    requires { spec.IsIndexed core.now.entries.items core.now.lanes
+    requires { spec.IsIndexed core.now.entries.items core.now.lanes.by_slot
         core.now.flags.entries core.now.leaves core.now.lit }
     ensures count { result ≡ length (spec.rows_at (spec.told core.now.flags.entries)
         (offers_of core.now.entries.items) head base.now) }
     ensures cost { (digits : ℕ) → spec.HasDigits core.now.entries.items digits →
         tally.new ≤ tally.old + (2 * digits + 1) }
 {
-    match slot_met::<Channels>(base) {
+    match Lanes::<Channels>::met_by(base) {
         Some(slot) => others_count(core, slot, head.tid, tally),
         None => {
             if is_lit_by(&core.flags, base, tally) {
@@ -68,7 +69,7 @@ fn count_at(core: &Core, head: Place, base: &Base, tally: &mut Tally) -> usize
 
 // The row at this place among those that the leaf begins that waits for this.
 fn row_at(core: &Core, head: Place, base: &Base, j: usize, tally: &mut Tally) -> Meet
-    requires indexed { spec.IsIndexed core.now.entries.items core.now.lanes
+    requires indexed { spec.IsIndexed core.now.entries.items core.now.lanes.by_slot
         core.now.flags.entries core.now.leaves core.now.lit }
     requires within { j < length (spec.rows_at (spec.told core.now.flags.entries)
         (offers_of core.now.entries.items) head base.now) }
@@ -77,7 +78,7 @@ fn row_at(core: &Core, head: Place, base: &Base, j: usize, tally: &mut Tally) ->
     ensures cost { (digits : ℕ) → spec.HasDigits core.now.entries.items digits →
         tally.new ≤ tally.old + (2 * digits + 1) }
 {
-    match slot_met::<Channels>(base) {
+    match Lanes::<Channels>::met_by(base) {
         Some(slot) => {
             let other = other_at(core, slot, head.tid, j, tally);
             Meet::Pair {
@@ -96,7 +97,7 @@ fn row_at(core: &Core, head: Place, base: &Base, j: usize, tally: &mut Tally) ->
 
 // How many rows begin with the head.
 pub(crate) fn partner_count(core: &Core, head: Place, tally: &mut Tally) -> usize
-    requires { spec.IsIndexed core.now.entries.items core.now.lanes
+    requires { spec.IsIndexed core.now.entries.items core.now.lanes.by_slot
         core.now.flags.entries core.now.leaves core.now.lit }
     ensures count { result ≡ length (partners_of
         (scan_of core.now.entries.items (spec.told core.now.flags.entries)) head) }
@@ -111,7 +112,7 @@ pub(crate) fn partner_count(core: &Core, head: Place, tally: &mut Tally) -> usiz
 
 // The row at this place among those that begin with the head.
 pub(crate) fn partner(core: &Core, head: Place, j: usize, tally: &mut Tally) -> Meet
-    requires indexed { spec.IsIndexed core.now.entries.items core.now.lanes
+    requires indexed { spec.IsIndexed core.now.entries.items core.now.lanes.by_slot
         core.now.flags.entries core.now.leaves core.now.lit }
     requires within { j < length (partners_of
         (scan_of core.now.entries.items (spec.told core.now.flags.entries)) head) }

@@ -17,10 +17,10 @@ ghost use Rattle.cml_index.specs.Slots.{lane_at, room_at, leaves_at};
 
 use crate::entry::Entry;
 use crate::flags::{Flags, count_lit, flip};
-use crate::moves::{Lanes, come, go, make_room};
+use crate::lanes::Lanes;
 use crate::nacks::reserve_nacks;
 use crate::slot::Slot;
-use cml_channel::Tally;
+use cml_channel::{Channels, Tally};
 use cml_scan::{Light, Place};
 use cml_value::{Base, Tid};
 use std::alloc::{AllocError, Global};
@@ -30,7 +30,7 @@ use std::alloc::{AllocError, Global};
 #[derive(Drop)]
 pub(crate) struct Core {
     pub(crate) entries: Vec<Entry>,
-    pub(crate) lanes: Lanes,
+    pub(crate) lanes: Lanes<Channels>,
     pub(crate) flags: Flags,
     pub(crate) leaves: usize,
     pub(crate) lit: usize,
@@ -57,18 +57,18 @@ pub(crate) fn find(entries: &[Entry], tid: Tid) -> usize
 impl Core {
     // The thread goes, and its offers with it. It takes no memory.
     pub(crate) fn leave(&mut self, tid: Tid, tally: &mut Tally)
-        requires indexed { spec.IsIndexed self.old.entries.items self.old.lanes
+        requires indexed { spec.IsIndexed self.old.entries.items self.old.lanes.by_slot
             self.old.flags.entries self.old.leaves self.old.lit }
         requires there { IsThere self.old.entries.items tid }
         ensures entries { self.new.entries.items ≡ without (tid ∷ []) self.old.entries.items }
-        ensures indexed { spec.IsIndexed self.new.entries.items self.new.lanes
+        ensures indexed { spec.IsIndexed self.new.entries.items self.new.lanes.by_slot
             self.new.flags.entries self.new.leaves self.new.lit }
         ensures flags { self.new.flags ≡ self.old.flags }
-        ensures room { (k : Slot) → room_at self.old.lanes k ≤ room_at self.new.lanes k }
+        ensures room { (k : Slot) → room_at self.old.lanes.by_slot k ≤ room_at self.new.lanes.by_slot k }
         ensures shorter { (k : Slot) →
-            length (lane_at self.new.lanes k) ≤ length (lane_at self.old.lanes k) }
+            length (lane_at self.new.lanes.by_slot k) ≤ length (lane_at self.old.lanes.by_slot k) }
         ensures cost { (digits : ℕ) →
-            ((k : Slot) → length (lane_at self.old.lanes k) < 2 ^ digits) →
+            ((k : Slot) → length (lane_at self.old.lanes.by_slot k) < 2 ^ digits) →
             tally.new + self.new.leaves * (digits + 2)
             ≤ tally.old + self.old.leaves * (digits + 2) }
         ensures lighter { self.new.leaves ≤ self.old.leaves }
@@ -80,25 +80,25 @@ impl Core {
         let lit = count_lit(&self.flags, entry.bases(), tally);
         self.lit -= lit;
         self.leaves -= entry.bases().len();
-        go(&mut self.lanes, tid, entry.runs(), tally);
+        self.lanes.go(tid, entry.runs(), tally);
         drop(entry);
     }
 
     // These threads go. It takes no memory.
     pub(crate) fn leave_all(&mut self, gone: &[Tid], tally: &mut Tally)
-        requires indexed { spec.IsIndexed self.old.entries.items self.old.lanes
+        requires indexed { spec.IsIndexed self.old.entries.items self.old.lanes.by_slot
             self.old.flags.entries self.old.leaves self.old.lit }
         requires there { All (IsThere self.old.entries.items) gone.now }
         requires once { AllPairs (λ a b. a.0 ≢ b.0) gone.now }
         ensures entries { self.new.entries.items ≡ without gone.now self.old.entries.items }
-        ensures indexed { spec.IsIndexed self.new.entries.items self.new.lanes
+        ensures indexed { spec.IsIndexed self.new.entries.items self.new.lanes.by_slot
             self.new.flags.entries self.new.leaves self.new.lit }
         ensures flags { self.new.flags ≡ self.old.flags }
-        ensures room { (k : Slot) → room_at self.old.lanes k ≤ room_at self.new.lanes k }
+        ensures room { (k : Slot) → room_at self.old.lanes.by_slot k ≤ room_at self.new.lanes.by_slot k }
         ensures shorter { (k : Slot) →
-            length (lane_at self.new.lanes k) ≤ length (lane_at self.old.lanes k) }
+            length (lane_at self.new.lanes.by_slot k) ≤ length (lane_at self.old.lanes.by_slot k) }
         ensures cost { (digits : ℕ) →
-            ((k : Slot) → length (lane_at self.old.lanes k) < 2 ^ digits) →
+            ((k : Slot) → length (lane_at self.old.lanes.by_slot k) < 2 ^ digits) →
             tally.new + self.new.leaves * (digits + 2)
             ≤ tally.old + self.old.leaves * (digits + 2) }
         ensures lighter { self.new.leaves ≤ self.old.leaves }
@@ -113,13 +113,14 @@ impl Core {
     // Makes room for a thread that will come: its lanes, its seat, and a place among the lights for each nack of its scopes. At want
     // of memory, which is answered also where the leaves would be too many to count, nothing was told.
     pub(crate) fn make_places(&mut self, alloc: Global, entry: &Entry) -> Result<(), AllocError>
-        requires indexed { spec.IsIndexed self.old.entries.items self.old.lanes
+        requires indexed { spec.IsIndexed self.old.entries.items self.old.lanes.by_slot
             self.old.flags.entries self.old.leaves self.old.lit }
-        ensures indexed { spec.IsIndexed self.new.entries.items self.new.lanes
+        ensures indexed { spec.IsIndexed self.new.entries.items self.new.lanes.by_slot
             self.new.flags.entries self.new.leaves self.new.lit }
         ensures entries { self.new.entries.items ≡ self.old.entries.items }
         ensures leaves { self.new.leaves ≡ self.old.leaves }
-        ensures lanes { (k : Slot) → lane_at self.new.lanes k ≡ lane_at self.old.lanes k }
+        ensures lanes { (k : Slot) →
+            lane_at self.new.lanes.by_slot k ≡ lane_at self.old.lanes.by_slot k }
         ensures told { (m : Light) →
             spec.told self.new.flags.entries m ≡ spec.told self.old.flags.entries m }
         ensures kept { (k : Slot) → spec.is_named self.old.flags.entries k ≡ true →
@@ -129,7 +130,7 @@ impl Core {
             (self.new.leaves + length (bases entry.now.group) ≤ usize.MAX) }
         ensures room { OnOk result ((k : Slot) →
             length (leaves_at k 0 (map spec.slot_of (bases entry.now.group)))
-            ≤ room_at self.new.lanes k) }
+            ≤ room_at self.new.lanes.by_slot k) }
         ensures named { OnOk result (Every
             (λ k. spec.is_named self.new.flags.entries (spec.slot_of_nack k))
             (nacks_of (scopes entry.now.group))) }
@@ -138,22 +139,22 @@ impl Core {
             return Err(AllocError);
         }
         self.entries.reserve(1)?;
-        make_room(&mut self.lanes, alloc, entry.runs())?;
+        self.lanes.make_room(alloc, entry.runs())?;
         reserve_nacks(&mut self.flags, alloc, entry.group())
     }
 
     // Tells of the light: one is examined. One that is told to be lit has its place. It takes no memory.
     pub(crate) fn tell(&mut self, light: Light, lit: bool, tally: &mut Tally)
-        requires indexed { spec.IsIndexed self.old.entries.items self.old.lanes
+        requires indexed { spec.IsIndexed self.old.entries.items self.old.lanes.by_slot
             self.old.flags.entries self.old.leaves self.old.lit }
         requires there { lit ≡ true →
             spec.is_named self.old.flags.entries (Waiters light) ≡ true }
         ensures told { (m : Light) → spec.told self.new.flags.entries m
             ≡ (if same_light light m then lit else spec.told self.old.flags.entries m) }
-        ensures indexed { spec.IsIndexed self.new.entries.items self.new.lanes
+        ensures indexed { spec.IsIndexed self.new.entries.items self.new.lanes.by_slot
             self.new.flags.entries self.new.leaves self.new.lit }
         ensures entries { self.new.entries ≡ self.old.entries }
-        ensures lanes { self.new.lanes ≡ self.old.lanes }
+        ensures lanes { self.new.lanes.by_slot ≡ self.old.lanes.by_slot }
         ensures leaves { self.new.leaves ≡ self.old.leaves }
         ensures kept { (k : Slot) → spec.is_named self.old.flags.entries k ≡ true →
             spec.is_named self.new.flags.entries k ≡ true }
@@ -161,7 +162,7 @@ impl Core {
     {
         tally.add();
         if flip(&mut self.flags, light, lit) {
-            let waiters = lane_len(&self.lanes, Slot::Waiters(light));
+            let waiters = self.lanes.len(Slot::Waiters(light));
             if lit {
                 self.lit += waiters;
             } else {
@@ -172,40 +173,30 @@ impl Core {
 
     // The thread comes, and its offers with it. There is room for it, and the nacks of its scopes have their places.
     pub(crate) fn enter(&mut self, entry: Entry, tally: &mut Tally)
-        requires indexed { spec.IsIndexed self.old.entries.items self.old.lanes
+        requires indexed { spec.IsIndexed self.old.entries.items self.old.lanes.by_slot
             self.old.flags.entries self.old.leaves self.old.lit }
         requires new { All (λ e. e.thread ≢ entry.thread) self.old.entries.items }
         requires seat { vec_len self.old.entries < vec_capacity self.old.entries }
         requires small { self.old.leaves + length (bases entry.group) ≤ usize.MAX }
         requires room { (k : Slot) → length (leaves_at k 0 (map spec.slot_of (bases entry.group)))
-            ≤ room_at self.old.lanes k }
+            ≤ room_at self.old.lanes.by_slot k }
         requires named { Every (λ k. spec.is_named self.old.flags.entries (spec.slot_of_nack k))
             (nacks_of (scopes entry.group)) }
         ensures entries { self.new.entries.items ≡ with_entry entry self.old.entries.items }
         ensures leaves { self.new.leaves ≡ self.old.leaves + length (bases entry.group) }
-        ensures indexed { spec.IsIndexed self.new.entries.items self.new.lanes
+        ensures indexed { spec.IsIndexed self.new.entries.items self.new.lanes.by_slot
             self.new.flags.entries self.new.leaves self.new.lit }
         ensures flags { self.new.flags ≡ self.old.flags }
         ensures cost { (digits : ℕ) →
-            ((k : Slot) → length (lane_at self.old.lanes k) < 2 ^ digits) →
+            ((k : Slot) → length (lane_at self.old.lanes.by_slot k) < 2 ^ digits) →
             tally.new ≤ tally.old + length (bases entry.group) * (digits + 2) }
     {
         let at = find(&self.entries, entry.tid());
         let lit = count_lit(&self.flags, entry.bases(), tally);
         self.leaves += entry.bases().len();
         self.lit += lit;
-        come(&mut self.lanes, entry.tid(), entry.runs(), tally);
+        self.lanes.come(entry.tid(), entry.runs(), tally);
         insert_in_room(&mut self.entries, at, entry);
-    }
-}
-
-// How many offers stand in the lane.
-fn lane_len(lanes: &Lanes, slot: Slot) -> usize
-    ensures { result ≡ length (lane_at lanes.now slot) }
-{
-    match lanes.get(&slot) {
-        Some(lane) => lane.len(),
-        None => 0,
     }
 }
 

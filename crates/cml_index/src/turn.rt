@@ -22,16 +22,16 @@ use std::alloc::{AllocError, Global};
 impl Core {
     // Tells the same of these lights. It takes no memory.
     fn tell_all(&mut self, lights: &[Light], lit: bool, tally: &mut Tally)
-        requires indexed { spec.IsIndexed self.old.entries.items self.old.lanes
+        requires indexed { spec.IsIndexed self.old.entries.items self.old.lanes.by_slot
             self.old.flags.entries self.old.leaves self.old.lit }
         requires there { lit ≡ true →
             Every (λ l. spec.is_named self.old.flags.entries (Waiters l)) lights.now }
         ensures told { (m : Light) → spec.told self.new.flags.entries m
             ≡ (if has_light lights.now m then lit else spec.told self.old.flags.entries m) }
-        ensures indexed { spec.IsIndexed self.new.entries.items self.new.lanes
+        ensures indexed { spec.IsIndexed self.new.entries.items self.new.lanes.by_slot
             self.new.flags.entries self.new.leaves self.new.lit }
         ensures entries { self.new.entries ≡ self.old.entries }
-        ensures lanes { self.new.lanes ≡ self.old.lanes }
+        ensures lanes { self.new.lanes.by_slot ≡ self.old.lanes.by_slot }
         ensures leaves { self.new.leaves ≡ self.old.leaves }
         ensures kept { (k : Slot) → spec.is_named self.old.flags.entries k ≡ true →
             spec.is_named self.new.flags.entries k ≡ true }
@@ -44,25 +44,25 @@ impl Core {
 
     // Tells of the lights, which have their places where they are told to be lit, and then the threads go. It takes no memory.
     fn turn(&mut self, gone: &[Tid], lit: &[Light], unlit: &[Light], tally: &mut Tally)
-        requires indexed { spec.IsIndexed self.old.entries.items self.old.lanes
+        requires indexed { spec.IsIndexed self.old.entries.items self.old.lanes.by_slot
             self.old.flags.entries self.old.leaves self.old.lit }
         requires there { All (IsThere self.old.entries.items) gone.now }
         requires once { AllPairs (λ a b. a.0 ≢ b.0) gone.now }
         requires named { Every (λ l. spec.is_named self.old.flags.entries (Waiters l)) lit.now }
-        ensures indexed { spec.IsIndexed self.new.entries.items self.new.lanes
+        ensures indexed { spec.IsIndexed self.new.entries.items self.new.lanes.by_slot
             self.new.flags.entries self.new.leaves self.new.lit }
         ensures entries { self.new.entries.items ≡ without gone.now self.old.entries.items }
         ensures told { (l : Light) → spec.told self.new.flags.entries l
             ≡ lit_after lit.now unlit.now l (spec.told self.old.flags.entries l) }
         ensures kept { (k : Slot) → spec.is_named self.old.flags.entries k ≡ true →
             spec.is_named self.new.flags.entries k ≡ true }
-        ensures room { (k : Slot) → room_at self.old.lanes k ≤ room_at self.new.lanes k }
+        ensures room { (k : Slot) → room_at self.old.lanes.by_slot k ≤ room_at self.new.lanes.by_slot k }
         ensures cost { (digits : ℕ) →
-            ((k : Slot) → length (lane_at self.old.lanes k) < 2 ^ digits) →
+            ((k : Slot) → length (lane_at self.old.lanes.by_slot k) < 2 ^ digits) →
             tally.new + self.new.leaves * (digits + 2) ≤ tally.old
             + self.old.leaves * (digits + 2) + (length lit.now + length unlit.now) }
         ensures shorter { (k : Slot) →
-            length (lane_at self.new.lanes k) ≤ length (lane_at self.old.lanes k) }
+            length (lane_at self.new.lanes.by_slot k) ≤ length (lane_at self.old.lanes.by_slot k) }
         ensures leaves { self.new.leaves ≤ self.old.leaves }
         ensures fewer { vec_len self.new.entries ≤ vec_len self.old.entries }
         ensures capacity { vec_capacity self.old.entries ≤ vec_capacity self.new.entries }
@@ -80,11 +80,11 @@ impl Core {
         unlit: &[Light],
         tally: &mut Tally,
     ) -> Result<(), AllocError>
-        requires indexed { spec.IsIndexed self.old.entries.items self.old.lanes
+        requires indexed { spec.IsIndexed self.old.entries.items self.old.lanes.by_slot
             self.old.flags.entries self.old.leaves self.old.lit }
         requires there { All (IsThere self.old.entries.items) gone.now }
         requires once { AllPairs (λ a b. a.0 ≢ b.0) gone.now }
-        ensures indexed { spec.IsIndexed self.new.entries.items self.new.lanes
+        ensures indexed { spec.IsIndexed self.new.entries.items self.new.lanes.by_slot
             self.new.flags.entries self.new.leaves self.new.lit }
         ensures ok { OnOk result
             (self.new.entries.items ≡ without gone.now self.old.entries.items) }
@@ -97,7 +97,7 @@ impl Core {
         ensures sure { Every (λ l. spec.is_named self.old.flags.entries (Waiters l)) lit.now →
             IsOk result }
         ensures cost { OnOk result ((digits : ℕ) →
-            ((k : Slot) → length (lane_at self.old.lanes k) < 2 ^ digits) →
+            ((k : Slot) → length (lane_at self.old.lanes.by_slot k) < 2 ^ digits) →
             tally.new + self.new.leaves * (digits + 2) ≤ tally.old
             + self.old.leaves * (digits + 2) + (length lit.now + length unlit.now)) }
     {
@@ -117,12 +117,12 @@ impl Core {
         unlit: &[Light],
         tally: &mut Tally,
     ) -> Result<(), AllocError>
-        requires indexed { spec.IsIndexed self.old.entries.items self.old.lanes
+        requires indexed { spec.IsIndexed self.old.entries.items self.old.lanes.by_slot
             self.old.flags.entries self.old.leaves self.old.lit }
         requires there { All (IsThere self.old.entries.items) gone.now }
         requires once { AllPairs (λ a b. a.0 ≢ b.0) gone.now }
         requires new { All (λ e. e.thread ≢ tid.0) self.old.entries.items }
-        ensures indexed { spec.IsIndexed self.new.entries.items self.new.lanes
+        ensures indexed { spec.IsIndexed self.new.entries.items self.new.lanes.by_slot
             self.new.flags.entries self.new.leaves self.new.lit }
         ensures ok { OnOk result (self.new.entries.items
             ≡ with_entry (record { thread = tid.0; group = group.now })
@@ -134,7 +134,7 @@ impl Core {
             spec.told self.new.flags.entries l ≡ spec.told self.old.flags.entries l) }
         ensures err_cost { OnErr result (tally.new ≡ tally.old) }
         ensures cost { OnOk result ((digits : ℕ) →
-            ((k : Slot) → length (lane_at self.old.lanes k) < 2 ^ digits) →
+            ((k : Slot) → length (lane_at self.old.lanes.by_slot k) < 2 ^ digits) →
             tally.new + self.new.leaves * (digits + 2) ≤ tally.old
             + (self.old.leaves + 2 * length (bases group.now)) * (digits + 2)
             + (length lit.now + length unlit.now)) }
@@ -151,13 +151,14 @@ impl Core {
 
     // Makes room for the entry that will come, and for the lights that will be told to be lit. Nothing was told.
     fn make_ready(&mut self, alloc: Global, entry: &Entry, lit: &[Light]) -> Result<(), AllocError>
-        requires indexed { spec.IsIndexed self.old.entries.items self.old.lanes
+        requires indexed { spec.IsIndexed self.old.entries.items self.old.lanes.by_slot
             self.old.flags.entries self.old.leaves self.old.lit }
-        ensures indexed { spec.IsIndexed self.new.entries.items self.new.lanes
+        ensures indexed { spec.IsIndexed self.new.entries.items self.new.lanes.by_slot
             self.new.flags.entries self.new.leaves self.new.lit }
         ensures entries { self.new.entries.items ≡ self.old.entries.items }
         ensures leaves { self.new.leaves ≡ self.old.leaves }
-        ensures lanes { (k : Slot) → lane_at self.new.lanes k ≡ lane_at self.old.lanes k }
+        ensures lanes { (k : Slot) →
+            lane_at self.new.lanes.by_slot k ≡ lane_at self.old.lanes.by_slot k }
         ensures told { (m : Light) →
             spec.told self.new.flags.entries m ≡ spec.told self.old.flags.entries m }
         ensures seat { OnOk result (vec_len self.new.entries < vec_capacity self.new.entries) }
@@ -165,7 +166,7 @@ impl Core {
             (self.new.leaves + length (bases entry.now.group) ≤ usize.MAX) }
         ensures room { OnOk result ((k : Slot) →
             length (leaves_at k 0 (map spec.slot_of (bases entry.now.group)))
-            ≤ room_at self.new.lanes k) }
+            ≤ room_at self.new.lanes.by_slot k) }
         ensures named { OnOk result (Every
             (λ k. spec.is_named self.new.flags.entries (spec.slot_of_nack k))
             (nacks_of (scopes entry.now.group))) }

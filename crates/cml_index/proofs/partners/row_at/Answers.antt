@@ -18,17 +18,17 @@ only_one false x j within = absurd (omega (arith, within))
 
 pub other_at-other-requires-clause-within : goal.other_at-other-requires-clause-within
 other_at-other-requires-clause-within c =
-    let same = ap length (rows_some (spec.told c.args.core.now.flags.entries) (offers_of c.args.core.now.entries.items) c.args.head c.args.base.now c.slot_met.result c.in-Some.slot c.slot_met.ensures c.in-Some.is) ∙ length-map _ (pair_of c.args.head) in
+    let same = ap length (rows_some (spec.told c.args.core.now.flags.entries) (offers_of c.args.core.now.entries.items) c.args.head c.args.base.now c.met_by.result c.in-Some.slot c.met_by.ensures c.in-Some.is) ∙ length-map _ (pair_of c.args.head) in
     subst (λ n. c.args.j < n) same c.requires.within
 
 pub returns-in-Some-clause-value : goal.returns-in-Some-clause-value
 returns-in-Some-clause-value c =
-    ap (λ rs. slice_get rs c.args.j) (rows_some (spec.told c.args.core.now.flags.entries) (offers_of c.args.core.now.entries.items) c.args.head c.args.base.now c.slot_met.result c.in-Some.slot c.slot_met.ensures c.in-Some.is)
+    ap (λ rs. slice_get rs c.args.j) (rows_some (spec.told c.args.core.now.flags.entries) (offers_of c.args.core.now.entries.items) c.args.head c.args.base.now c.met_by.result c.in-Some.slot c.met_by.ensures c.in-Some.is)
     ∙ slice_get-map (pair_of c.args.head) _ c.args.j
     ∙ ap (option_map (pair_of c.args.head)) c.other_at-other.ensures.value
 
 pub returns-in-None-clause-value : goal.returns-in-None-clause-value
 returns-in-None-clause-value c =
     let told = spec.told c.args.core.now.flags.entries in
-    let same = rows_none told (offers_of c.args.core.now.entries.items) c.args.head c.args.base.now c.slot_met.result (lit_by told c.args.base.now) c.slot_met.ensures c.in-None.is refl in
+    let same = rows_none told (offers_of c.args.core.now.entries.items) c.args.head c.args.base.now c.met_by.result (lit_by told c.args.base.now) c.met_by.ensures c.in-None.is refl in
     ap (λ rs. slice_get rs c.args.j) same ∙ only_one (lit_by told c.args.base.now) _ c.args.j (subst (λ rs. c.args.j < length rs) same c.requires.within)

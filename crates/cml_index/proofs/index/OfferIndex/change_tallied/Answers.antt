@@ -31,7 +31,7 @@ pub returns-in-None-clause-cost : goal.returns-in-None-clause-cost
 returns-in-None-clause-cost c = on_ok_both c.leave_only.result c.leave_only.ensures.ok c.leave_only.ensures.cost (λ ok cost digits few.
     let es = c.self.inside.core.entries.items in
     let same : c.args.self.now.entries ≡ es = sym (ap (λ (x : spec.PlainIndex). x.entries) c.self.view_is) in
-    let lanes : (k : Slot) → length (lane_at c.self.inside.core.lanes k) < 2 ^ digits = λ k. rw (c.self.invariant.placed k, ← same) (few k) in
+    let lanes : (k : Slot) → length (lane_at c.self.inside.core.lanes.by_slot k) < 2 ^ digits = λ k. rw (c.self.invariant.placed k, ← same) (few k) in
     let many = gone_many c.args.gone.now es in
     let now : length (offers_of c.leave_only.new.self.entries.items) ≡ length (offers_of (without c.args.gone.now es)) = ap (λ xs. length (offers_of xs)) ok in
     let whole : c.self.inside.core.leaves ≡ spec.gone_leaves c.args.gone.now es + c.leave_only.new.self.leaves = omega (arith, many, now, c.self.invariant.all, c.leave_only.ensures.indexed.all) in
@@ -43,7 +43,7 @@ pub returns-in-Some-clause-cost : goal.returns-in-Some-clause-cost
 returns-in-Some-clause-cost c = on_ok_both c.leave_and_come.result c.leave_and_come.ensures.ok c.leave_and_come.ensures.cost (λ ok cost digits few.
     let es = c.self.inside.core.entries.items in
     let same : c.args.self.now.entries ≡ es = sym (ap (λ (x : spec.PlainIndex). x.entries) c.self.view_is) in
-    let lanes : (k : Slot) → length (lane_at c.self.inside.core.lanes k) < 2 ^ digits = λ k. rw (c.self.invariant.placed k, ← same) (few k) in
+    let lanes : (k : Slot) → length (lane_at c.self.inside.core.lanes.by_slot k) < 2 ^ digits = λ k. rw (c.self.invariant.placed k, ← same) (few k) in
     let many = gone_many c.args.gone.now es in
     let e : PlainEntry = record { thread = c.in-Some.tid.0; group = c.in-Some.group.now } in
     let n = length (bases c.in-Some.group.now) in

@@ -63,7 +63,7 @@ returns-clause-indexed c =
     let now_lit : length (spec.lit_offers c.args.self.now.flags.entries c.insert_in_room.new.entries.items) ≡ length (filter (λ o. lit o.base) (offers_of (with_entry e es))) = ap (λ xs. length (filter (λ o. lit o.base) (offers_of xs))) after in
     record {
       sorted = subst IsSorted (sym after) (sorted_with e es c.requires.indexed.sorted);
-      placed = λ k. c.come.ensures.lanes k ∙ ap (λ ls. with_run c.tid-2.result ls (lane_at c.args.self.now.lanes k)) (c.runs.ensures.runs k)
+      placed = λ k. c.come.ensures.lanes k ∙ ap (λ ls. with_run c.tid-2.result ls (lane_at c.args.self.now.lanes.by_slot k)) (c.runs.ensures.runs k)
           ∙ ap (with_run c.tid-2.result (leaves_at k 0 (map spec.slot_of (bases e.group)))) (c.requires.indexed.placed k)
           ∙ came_lane spec.slot_of k c.tid-2.result e es c.tid-2.ensures ∙ ap (λ xs. lane_of spec.slot_of k (offers_of xs)) (sym after);
       all = omega (arith, many, count, now, c.requires.indexed.all);

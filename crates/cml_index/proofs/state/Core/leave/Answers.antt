@@ -91,8 +91,8 @@ returns-clause-indexed c =
 
 pub returns-clause-shorter : goal.returns-clause-shorter
 returns-clause-shorter c k =
-    let fewer : length (others c.args.tid (lane_at c.args.self.now.lanes k)) ≤ length (lane_at c.args.self.now.lanes k) = filter_fewer (is_others c.args.tid) (lane_at c.args.self.now.lanes k) in
-    let same : length (lane_at c.go.new.lanes k) ≡ length (others c.args.tid (lane_at c.args.self.now.lanes k)) = ap length (c.go.ensures.lanes k) in
+    let fewer : length (others c.args.tid (lane_at c.args.self.now.lanes.by_slot k)) ≤ length (lane_at c.args.self.now.lanes.by_slot k) = filter_fewer (is_others c.args.tid) (lane_at c.args.self.now.lanes.by_slot k) in
+    let same : length (lane_at c.go.new.self.by_slot k) ≡ length (others c.args.tid (lane_at c.args.self.now.lanes.by_slot k)) = ap length (c.go.ensures.lanes k) in
     omega (arith, fewer, same)
 
 pub returns-clause-cost : goal.returns-clause-cost

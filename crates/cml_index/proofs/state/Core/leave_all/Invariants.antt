@@ -10,11 +10,11 @@ use Rattle.cml_index.proofs.state.Core.leave_all.Given as goal
 abbrev pub invariant-loop-tid : goal.invariant-loop-tid
 invariant-loop-tid l = record {
   entries : l.self.entries.items ≡ without (take l.tid-index l.gone) l.fn.self.entries.items;
-  indexed : spec.IsIndexed l.self.entries.items l.self.lanes l.self.flags.entries l.self.leaves l.self.lit;
+  indexed : spec.IsIndexed l.self.entries.items l.self.lanes.by_slot l.self.flags.entries l.self.leaves l.self.lit;
   flags : l.self.flags ≡ l.fn.self.flags;
-  room : (k : Slot) → room_at l.fn.self.lanes k ≤ room_at l.self.lanes k;
-  shorter : (k : Slot) → length (lane_at l.self.lanes k) ≤ length (lane_at l.fn.self.lanes k);
-  cost : (digits : ℕ) → ((k : Slot) → length (lane_at l.fn.self.lanes k) < 2 ^ digits) → l.tally + l.self.leaves * (digits + 2) ≤ l.fn.tally + l.fn.self.leaves * (digits + 2);
+  room : (k : Slot) → room_at l.fn.self.lanes.by_slot k ≤ room_at l.self.lanes.by_slot k;
+  shorter : (k : Slot) → length (lane_at l.self.lanes.by_slot k) ≤ length (lane_at l.fn.self.lanes.by_slot k);
+  cost : (digits : ℕ) → ((k : Slot) → length (lane_at l.fn.self.lanes.by_slot k) < 2 ^ digits) → l.tally + l.self.leaves * (digits + 2) ≤ l.fn.tally + l.fn.self.leaves * (digits + 2);
   lighter : l.self.leaves ≤ l.fn.self.leaves;
   fewer : vec_len l.self.entries ≤ vec_len l.fn.self.entries;
   capacity : vec_capacity l.fn.self.entries ≤ vec_capacity l.self.entries;

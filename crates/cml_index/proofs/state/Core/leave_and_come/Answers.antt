@@ -30,7 +30,7 @@ enter-requires-clause-named c =
 pub returns-clause-cost : goal.returns-clause-cost
 returns-clause-cost c digits few =
     let same : length (bases c.in_ok-entry.entry.group) ≡ length (bases c.args.group.now) = ap (λ (e : PlainEntry). length (bases e.group)) c.in_ok-entry.ensures in
-    let ready : (k : Slot) → length (lane_at c.make_ready.new.self.lanes k) < 2 ^ digits = λ k. let q = ap length (c.in-Ok.ensures.lanes k) in let f = few k in omega (arith, q, f) in
+    let ready : (k : Slot) → length (lane_at c.make_ready.new.self.lanes.by_slot k) < 2 ^ digits = λ k. let q = ap length (c.in-Ok.ensures.lanes k) in let f = few k in omega (arith, q, f) in
     let turned = c.turn.ensures.cost digits ready in
     let entered = c.enter.ensures.cost digits (λ k. let q = c.turn.ensures.shorter k in let f = ready k in omega (arith, q, f)) in
     let sum = cost_sum c.args.tally.now c.turn.new.tally c.enter.new.tally c.make_ready.new.self.leaves c.turn.new.self.leaves (length (bases c.in_ok-entry.entry.group)) _ digits turned entered in

@@ -15,8 +15,8 @@ overflow_add-self c =
     let os = offers_of c.args.self.now.entries.items in
     let old = spec.told c.args.self.now.flags.entries in
     let new = spec.told c.flip.new.flags.entries in
-    let waiters : c.lane_len-waiters.result ≡ length (lane_of spec.slot_of (Waiters c.args.light) os) =
-    c.lane_len-waiters.ensures ∙ ap length (c.requires.indexed.placed (Waiters c.args.light)) in
+    let waiters : c.len-waiters.result ≡ length (lane_of spec.slot_of (Waiters c.args.light) os) =
+    c.len-waiters.ensures ∙ ap length (c.requires.indexed.placed (Waiters c.args.light)) in
     let many = retold_lit c.args.light c.args.lit old new c.flip.result c.if-lit.true c.if-flip.true c.flip.ensures.changed c.flip.ensures.told os in
     let few : length (filter (λ o. lit_by new o.base) os) ≤ length os = filter_fewer (λ (o : PlainOffer). lit_by new o.base) os in
     omega (arith, waiters, many, few, c.requires.indexed.alone, c.requires.indexed.all)
@@ -26,8 +26,8 @@ overflow_sub-self c =
     let os = offers_of c.args.self.now.entries.items in
     let old = spec.told c.args.self.now.flags.entries in
     let new = spec.told c.flip.new.flags.entries in
-    let waiters : c.lane_len-waiters.result ≡ length (lane_of spec.slot_of (Waiters c.args.light) os) =
-    c.lane_len-waiters.ensures ∙ ap length (c.requires.indexed.placed (Waiters c.args.light)) in
+    let waiters : c.len-waiters.result ≡ length (lane_of spec.slot_of (Waiters c.args.light) os) =
+    c.len-waiters.ensures ∙ ap length (c.requires.indexed.placed (Waiters c.args.light)) in
     let many = retold_unlit c.args.light c.args.lit old new c.flip.result c.if-lit.false c.if-flip.true c.flip.ensures.changed c.flip.ensures.told os in
     omega (arith, waiters, many, c.requires.indexed.alone)
 
@@ -36,8 +36,8 @@ returns-then-lit-clause-indexed c =
     let os = offers_of c.args.self.now.entries.items in
     let old = spec.told c.args.self.now.flags.entries in
     let new = spec.told c.flip.new.flags.entries in
-    let waiters : c.lane_len-waiters.result ≡ length (lane_of spec.slot_of (Waiters c.args.light) os) =
-    c.lane_len-waiters.ensures ∙ ap length (c.requires.indexed.placed (Waiters c.args.light)) in
+    let waiters : c.len-waiters.result ≡ length (lane_of spec.slot_of (Waiters c.args.light) os) =
+    c.len-waiters.ensures ∙ ap length (c.requires.indexed.placed (Waiters c.args.light)) in
     let many = retold_lit c.args.light c.args.lit old new c.flip.result c.if-lit.true c.if-flip.true c.flip.ensures.changed c.flip.ensures.told os in
     record {
       sorted = c.requires.indexed.sorted;
@@ -52,8 +52,8 @@ returns-else-lit-clause-indexed c =
     let os = offers_of c.args.self.now.entries.items in
     let old = spec.told c.args.self.now.flags.entries in
     let new = spec.told c.flip.new.flags.entries in
-    let waiters : c.lane_len-waiters.result ≡ length (lane_of spec.slot_of (Waiters c.args.light) os) =
-    c.lane_len-waiters.ensures ∙ ap length (c.requires.indexed.placed (Waiters c.args.light)) in
+    let waiters : c.len-waiters.result ≡ length (lane_of spec.slot_of (Waiters c.args.light) os) =
+    c.len-waiters.ensures ∙ ap length (c.requires.indexed.placed (Waiters c.args.light)) in
     let many = retold_unlit c.args.light c.args.lit old new c.flip.result c.if-lit.false c.if-flip.true c.flip.ensures.changed c.flip.ensures.told os in
     record {
       sorted = c.requires.indexed.sorted;

@@ -5,29 +5,29 @@ use Rattle.cml_index.specs.declared.slot.Slot.{Slot}
 use Rattle.cml_index.specs.Slot.{same_slot}
 use Rattle.cml_index.specs.Slots as spec
 use Rattle.cml_index.proofs.Walks.{no_run, with_none, same_slot_is, cases_done, cases_left, self_left}
-use Rattle.cml_index.proofs.moves.come.Goals as goal
+use Rattle.cml_index.proofs.lanes.Lanes.come.Goals as goal
 
 pub loop-i-init : goal.loop-i-init
-loop-i-init c =
+loop-i-init o c =
     record {
-      done = λ k e. let none : spec.run_in c.args.runs.now k ≡ [] = ap (λ r. option_map_or (λ v. v.items) r []) (no_run c.args.runs.now.entries k e) in rw none (sym (with_none c.args.tid (spec.lane_at c.args.lanes.now k) (c.requires.sorted k) (c.requires.new k)));
+      done = λ k e. let none : spec.run_in c.args.runs.now k ≡ [] = ap (λ r. option_map_or (λ v. v.items) r []) (no_run c.args.runs.now.entries k e) in rw none (sym (with_none c.args.tid (spec.lane_at c.args.self.now.by_slot k) (c.requires.sorted k) (c.requires.new k)));
       left = λ k e. refl;
       room = λ k e. refl;
       cost = λ digits few. omega arith;
     }
 
 pub loop-i-preserved : goal.loop-i-preserved
-loop-i-preserved c =
+loop-i-preserved o c =
     let slot = c.run_at-slot.result.0 in
     let tid = c.args.tid in
     let now_left : Slot → Bool = λ k. spec.has_run (drop c.loop-i.i c.args.runs.now.entries) k in
     let later : Slot → Bool = λ k. spec.has_run (drop (c.loop-i.i + 1) c.args.runs.now.entries) k in
     let untouched = c.loop-i.invariant.left slot (self_left slot (now_left slot) (later slot) (c.run_at-slot.ensures.left slot)) in
-    let here : spec.lane_at c.come_at.new.lanes slot ≡ with_run tid (spec.run_in c.args.runs.now slot) (spec.lane_at c.args.lanes.now slot) =
-    c.come_at.ensures.here ∙ ap (λ ls. with_run tid ls (spec.lane_at c.loop-i.lanes slot)) (sym c.run_at-slot.ensures.run) ∙ ap (with_run tid (spec.run_in c.args.runs.now slot)) untouched in
+    let here : spec.lane_at c.come_at.new.self.by_slot slot ≡ with_run tid (spec.run_in c.args.runs.now slot) (spec.lane_at c.args.self.now.by_slot slot) =
+    c.come_at.ensures.here ∙ ap (λ ls. with_run tid ls (spec.lane_at c.loop-i.self.by_slot slot)) (sym c.run_at-slot.ensures.run) ∙ ap (with_run tid (spec.run_in c.args.runs.now slot)) untouched in
     record {
       done = λ k e. cases_done (same_slot k slot) (now_left k) (later k) (c.run_at-slot.ensures.left k) e
-          (λ is. subst (λ n. spec.lane_at c.come_at.new.lanes n ≡ with_run tid (spec.run_in c.args.runs.now n) (spec.lane_at c.args.lanes.now n)) (sym (same_slot_is k slot is)) here)
+          (λ is. subst (λ n. spec.lane_at c.come_at.new.self.by_slot n ≡ with_run tid (spec.run_in c.args.runs.now n) (spec.lane_at c.args.self.now.by_slot n)) (sym (same_slot_is k slot is)) here)
           (λ off left. c.come_at.ensures.elsewhere k off ∙ c.loop-i.invariant.done k left);
       left = λ k e. cases_left (same_slot k slot) (now_left k) (later k) (c.run_at-slot.ensures.left k) e (c.run_at-slot.ensures.once k) (λ off left. c.come_at.ensures.elsewhere k off ∙ c.loop-i.invariant.left k left);
       room = λ k e. cases_left (same_slot k slot) (now_left k) (later k) (c.run_at-slot.ensures.left k) e (c.run_at-slot.ensures.once k) (λ off left. c.come_at.ensures.room k off ∙ c.loop-i.invariant.room k left);

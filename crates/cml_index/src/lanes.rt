@@ -1,0 +1,174 @@
+//! The lanes in which the offers of pending threads stand.
+
+ghost use Rattle.std.specs.Prelude.{◌≡◌, ◌≤◌, ◌<◌, ◌+◌, ◌*◌, ◌^◌, ℕ, [], false, nat_lt, length, filter, OnOk};
+ghost use Rattle.indexmap.specs.IndexMap.{index_map_len};
+ghost use Rattle.cml_scan.specs.Order.{Every, Ascends, before};
+ghost use Rattle.cml_channel.specs.Lanes.{is_own, is_others, others, with_run};
+ghost use Rattle.cml_index.specs.declared.slot.Slot.{Slot};
+ghost use Rattle.cml_index.specs.Slot.{same_slot, slot_by, met_by};
+ghost use Rattle.cml_index.specs.Slots as spec;
+
+use crate::runs::{Runs, run_at};
+use crate::slot::Slot;
+use cml_base::Paired;
+use cml_channel::{Lane, Tally};
+use cml_scan::light;
+use cml_value::{Base, Tid};
+use indexmap::IndexMap;
+use std::alloc::{AllocError, Global};
+use std::marker::PhantomData;
+
+// The lanes: one for each side of each object of the kind over which two threads meet, and one for each light.
+#[derive(Drop)]
+pub(crate) struct Lanes<P: Paired> {
+    pub(crate) by_slot: IndexMap<Slot, Lane>,
+    kind: PhantomData<P>,
+}
+
+impl<P: Paired> Lanes<P> {
+    // No lane was made yet.
+    pub(crate) fn new(alloc: Global) -> Lanes<P>
+        ensures { result.by_slot.entries ≡ [] }
+    {
+        Lanes {
+            by_slot: IndexMap::new(alloc),
+            kind: PhantomData,
+        }
+    }
+
+    // The lane in which an offer of the base event stands. One that is always enabled, or never, stands in none.
+    pub(crate) fn of(base: &Base) -> Option<Slot>
+        ensures { result ≡ slot_by P.side_of P.key_of P.is_head base.now }
+    {
+        match P::place(base) {
+            Some((number, heads)) => Some(Slot::Side { heads, number }),
+            None => match light(base) {
+                Some(light) => Some(Slot::Waiters(light)),
+                None => None,
+            },
+        }
+    }
+
+    // The lane of those whom an offer of the base event meets, where it stands first.
+    pub(crate) fn met_by(base: &Base) -> Option<Slot>
+        ensures { result ≡ met_by P.side_of P.key_of P.is_head base.now }
+    {
+        match P::place(base) {
+            Some((number, true)) => Some(Slot::Side {
+                heads: false,
+                number,
+            }),
+            _ => None,
+        }
+    }
+
+    // How many offers stand in the lane.
+    pub(crate) fn len(&self, slot: Slot) -> usize
+        ensures { result ≡ length (spec.lane_at self.now.by_slot slot) }
+    {
+        match self.by_slot.get(&slot) {
+            Some(lane) => lane.len(),
+            None => 0,
+        }
+    }
+
+    // Makes the lane, if it is not there yet, and room in it.
+    fn reserve_at(&mut self, alloc: Global, slot: Slot, additional: usize) -> Result<(), AllocError>
+        ensures same { (k : Slot) → spec.lane_at self.new.by_slot k ≡ spec.lane_at self.old.by_slot k }
+        ensures kept { (k : Slot) → spec.room_at self.old.by_slot k ≤ spec.room_at self.new.by_slot k }
+        ensures room { OnOk result (additional ≤ spec.room_at self.new.by_slot slot) }
+    {
+        if let Some(lane) = self.by_slot.get_mut(&slot) {
+            return lane.reserve(additional);
+        }
+        let mut lane = Lane::new(alloc);
+        lane.reserve(additional)?;
+        self.by_slot.insert(slot, lane)?;
+        Ok(())
+    }
+
+    // Makes room in each lane for its run.
+    pub(crate) fn make_room(&mut self, alloc: Global, runs: &Runs) -> Result<(), AllocError>
+        ensures same { (k : Slot) → spec.lane_at self.new.by_slot k ≡ spec.lane_at self.old.by_slot k }
+        ensures kept { (k : Slot) → spec.room_at self.old.by_slot k ≤ spec.room_at self.new.by_slot k }
+        ensures room { OnOk result ((k : Slot) →
+            length (spec.run_in runs.now k) ≤ spec.room_at self.new.by_slot k) }
+    {
+        for i in 0..runs.len() {
+            let (slot, leaves) = run_at(runs, i);
+            self.reserve_at(alloc, slot, leaves.len())?;
+        }
+        Ok(())
+    }
+
+    // A run of the thread comes to its lane.
+    fn come_at(&mut self, slot: Slot, tid: Tid, leaves: &[u32], tally: &mut Tally)
+        requires room { length leaves.now ≤ spec.room_at self.old.by_slot slot }
+        requires new { Every (is_others tid) (spec.lane_at self.old.by_slot slot) }
+        requires ascend { Ascends nat_lt leaves.now }
+        ensures here { spec.lane_at self.new.by_slot slot
+            ≡ with_run tid leaves.now (spec.lane_at self.old.by_slot slot) }
+        ensures elsewhere { (k : Slot) → same_slot k slot ≡ false →
+            spec.lane_at self.new.by_slot k ≡ spec.lane_at self.old.by_slot k }
+        ensures room { (k : Slot) → same_slot k slot ≡ false →
+            spec.room_at self.new.by_slot k ≡ spec.room_at self.old.by_slot k }
+        ensures cost { (digits : ℕ) → length (spec.lane_at self.old.by_slot slot) < 2 ^ digits →
+            tally.new ≤ tally.old + digits }
+    {
+        if let Some(lane) = self.by_slot.get_mut(&slot) {
+            lane.come(tid, leaves, tally);
+        }
+    }
+
+    // The run of the thread goes from its lane, where it has this many leaves.
+    fn go_at(&mut self, slot: Slot, tid: Tid, count: usize, tally: &mut Tally)
+        requires { count ≡ length (filter (is_own tid) (spec.lane_at self.old.by_slot slot)) }
+        ensures here { spec.lane_at self.new.by_slot slot
+            ≡ others tid (spec.lane_at self.old.by_slot slot) }
+        ensures elsewhere { (k : Slot) → same_slot k slot ≡ false →
+            spec.lane_at self.new.by_slot k ≡ spec.lane_at self.old.by_slot k }
+        ensures room { (k : Slot) → spec.room_at self.old.by_slot k ≤ spec.room_at self.new.by_slot k }
+        ensures cost { (digits : ℕ) → length (spec.lane_at self.old.by_slot slot) < 2 ^ digits →
+            tally.new ≤ tally.old + digits }
+    {
+        if let Some(lane) = self.by_slot.get_mut(&slot) {
+            lane.go(tid, count, tally);
+        }
+    }
+
+    // All runs of the thread come, for which there is room.
+    pub(crate) fn come(&mut self, tid: Tid, runs: &Runs, tally: &mut Tally)
+        requires room { (k : Slot) →
+            length (spec.run_in runs.now k) ≤ spec.room_at self.old.by_slot k }
+        requires sorted { (k : Slot) → Ascends before (spec.lane_at self.old.by_slot k) }
+        requires new { (k : Slot) → Every (is_others tid) (spec.lane_at self.old.by_slot k) }
+        requires ascend { (k : Slot) → Ascends nat_lt (spec.run_in runs.now k) }
+        ensures lanes { (k : Slot) → spec.lane_at self.new.by_slot k
+            ≡ with_run tid (spec.run_in runs.now k) (spec.lane_at self.old.by_slot k) }
+        ensures cost { (digits : ℕ) →
+            ((k : Slot) → length (spec.lane_at self.old.by_slot k) < 2 ^ digits) →
+            tally.new ≤ tally.old + index_map_len runs.now * digits }
+    {
+        for i in 0..runs.len() {
+            let (slot, leaves) = run_at(runs, i);
+            self.come_at(slot, tid, leaves, tally);
+        }
+    }
+
+    // All runs of the thread go, which are all its offers in these lanes.
+    pub(crate) fn go(&mut self, tid: Tid, runs: &Runs, tally: &mut Tally)
+        requires { (k : Slot) → length (spec.run_in runs.now k)
+            ≡ length (filter (is_own tid) (spec.lane_at self.old.by_slot k)) }
+        ensures lanes { (k : Slot) → spec.lane_at self.new.by_slot k
+            ≡ others tid (spec.lane_at self.old.by_slot k) }
+        ensures room { (k : Slot) → spec.room_at self.old.by_slot k ≤ spec.room_at self.new.by_slot k }
+        ensures cost { (digits : ℕ) →
+            ((k : Slot) → length (spec.lane_at self.old.by_slot k) < 2 ^ digits) →
+            tally.new ≤ tally.old + index_map_len runs.now * digits }
+    {
+        for i in 0..runs.len() {
+            let (slot, leaves) = run_at(runs, i);
+            self.go_at(slot, tid, leaves.len(), tally);
+        }
+    }
+}
