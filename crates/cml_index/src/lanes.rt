@@ -74,8 +74,10 @@ impl<P: Paired> Lanes<P> {
 
     // Makes the lane, if it is not there yet, and room in it.
     fn reserve_at(&mut self, alloc: Global, slot: Slot, additional: usize) -> Result<(), AllocError>
-        ensures same { (k : Slot) → spec.lane_at self.new.by_slot k ≡ spec.lane_at self.old.by_slot k }
-        ensures kept { (k : Slot) → spec.room_at self.old.by_slot k ≤ spec.room_at self.new.by_slot k }
+        ensures same { (k : Slot) →
+            spec.lane_at self.new.by_slot k ≡ spec.lane_at self.old.by_slot k }
+        ensures kept { (k : Slot) →
+            spec.room_at self.old.by_slot k ≤ spec.room_at self.new.by_slot k }
         ensures room { OnOk result (additional ≤ spec.room_at self.new.by_slot slot) }
     {
         if let Some(lane) = self.by_slot.get_mut(&slot) {
@@ -89,8 +91,10 @@ impl<P: Paired> Lanes<P> {
 
     // Makes room in each lane for its run.
     pub(crate) fn make_room(&mut self, alloc: Global, runs: &Runs) -> Result<(), AllocError>
-        ensures same { (k : Slot) → spec.lane_at self.new.by_slot k ≡ spec.lane_at self.old.by_slot k }
-        ensures kept { (k : Slot) → spec.room_at self.old.by_slot k ≤ spec.room_at self.new.by_slot k }
+        ensures same { (k : Slot) →
+            spec.lane_at self.new.by_slot k ≡ spec.lane_at self.old.by_slot k }
+        ensures kept { (k : Slot) →
+            spec.room_at self.old.by_slot k ≤ spec.room_at self.new.by_slot k }
         ensures room { OnOk result ((k : Slot) →
             length (spec.run_in runs.now k) ≤ spec.room_at self.new.by_slot k) }
     {
@@ -127,7 +131,8 @@ impl<P: Paired> Lanes<P> {
             ≡ others tid (spec.lane_at self.old.by_slot slot) }
         ensures elsewhere { (k : Slot) → same_slot k slot ≡ false →
             spec.lane_at self.new.by_slot k ≡ spec.lane_at self.old.by_slot k }
-        ensures room { (k : Slot) → spec.room_at self.old.by_slot k ≤ spec.room_at self.new.by_slot k }
+        ensures room { (k : Slot) →
+            spec.room_at self.old.by_slot k ≤ spec.room_at self.new.by_slot k }
         ensures cost { (digits : ℕ) → length (spec.lane_at self.old.by_slot slot) < 2 ^ digits →
             tally.new ≤ tally.old + digits }
     {
@@ -161,7 +166,8 @@ impl<P: Paired> Lanes<P> {
             ≡ length (filter (is_own tid) (spec.lane_at self.old.by_slot k)) }
         ensures lanes { (k : Slot) → spec.lane_at self.new.by_slot k
             ≡ others tid (spec.lane_at self.old.by_slot k) }
-        ensures room { (k : Slot) → spec.room_at self.old.by_slot k ≤ spec.room_at self.new.by_slot k }
+        ensures room { (k : Slot) →
+            spec.room_at self.old.by_slot k ≤ spec.room_at self.new.by_slot k }
         ensures cost { (digits : ℕ) →
             ((k : Slot) → length (spec.lane_at self.old.by_slot k) < 2 ^ digits) →
             tally.new ≤ tally.old + index_map_len runs.now * digits }

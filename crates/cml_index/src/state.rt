@@ -64,7 +64,8 @@ impl Core {
         ensures indexed { spec.IsIndexed self.new.entries.items self.new.lanes.by_slot
             self.new.flags.entries self.new.leaves self.new.lit }
         ensures flags { self.new.flags ≡ self.old.flags }
-        ensures room { (k : Slot) → room_at self.old.lanes.by_slot k ≤ room_at self.new.lanes.by_slot k }
+        ensures room { (k : Slot) →
+            room_at self.old.lanes.by_slot k ≤ room_at self.new.lanes.by_slot k }
         ensures shorter { (k : Slot) →
             length (lane_at self.new.lanes.by_slot k) ≤ length (lane_at self.old.lanes.by_slot k) }
         ensures cost { (digits : ℕ) →
@@ -94,7 +95,8 @@ impl Core {
         ensures indexed { spec.IsIndexed self.new.entries.items self.new.lanes.by_slot
             self.new.flags.entries self.new.leaves self.new.lit }
         ensures flags { self.new.flags ≡ self.old.flags }
-        ensures room { (k : Slot) → room_at self.old.lanes.by_slot k ≤ room_at self.new.lanes.by_slot k }
+        ensures room { (k : Slot) →
+            room_at self.old.lanes.by_slot k ≤ room_at self.new.lanes.by_slot k }
         ensures shorter { (k : Slot) →
             length (lane_at self.new.lanes.by_slot k) ≤ length (lane_at self.old.lanes.by_slot k) }
         ensures cost { (digits : ℕ) →

@@ -56,7 +56,8 @@ impl Core {
             ≡ lit_after lit.now unlit.now l (spec.told self.old.flags.entries l) }
         ensures kept { (k : Slot) → spec.is_named self.old.flags.entries k ≡ true →
             spec.is_named self.new.flags.entries k ≡ true }
-        ensures room { (k : Slot) → room_at self.old.lanes.by_slot k ≤ room_at self.new.lanes.by_slot k }
+        ensures room { (k : Slot) →
+            room_at self.old.lanes.by_slot k ≤ room_at self.new.lanes.by_slot k }
         ensures cost { (digits : ℕ) →
             ((k : Slot) → length (lane_at self.old.lanes.by_slot k) < 2 ^ digits) →
             tally.new + self.new.leaves * (digits + 2) ≤ tally.old
