@@ -17,6 +17,8 @@ mod kinds;
 #[cfg(test)]
 mod lanes;
 #[cfg(test)]
+mod machines;
+#[cfg(test)]
 mod making;
 #[cfg(test)]
 mod scans;
