@@ -8,6 +8,7 @@ pub mod CallLemmas
 pub mod ForceLemmas
 pub mod StackLemmas
 pub mod SliceLemmas
+pub mod QuietLemmas
 pub mod AwaitLemmas
 pub mod AnswerLemmas
 mod Worked

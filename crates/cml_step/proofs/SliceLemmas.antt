@@ -8,7 +8,7 @@ use Rattle.cml_step.specs.Asks as ask
 use Rattle.cml_step.specs.Asks.{PlainAsk}
 use Rattle.cml_step.specs.AskViews.{plain_ask}
 use Rattle.cml_step.specs.Steps.{PlainTurn, goes_on, asks, fails, next}
-use Rattle.cml_step.specs.Slices.{PlainSlice, carried, sliced_from}
+use Rattle.cml_step.specs.Slices.{PlainSlice, carried, sliced_from, GoesIn}
 
 stops : (go : Term → PlainSlice) (n : ℕ) (a : Ask) (t : Term) → (a ≡ asks_of.Nothing → ⊥) → carried go n (plain_ask a) t ≡ record { ask = plain_ask a; end = t; steps = n }
 stops go n asks_of.Nothing t h = absurd (h refl)
@@ -41,3 +41,31 @@ slice_fails p self k n t why h e = ap (λ m. sliced_from p self m n t) (fewer k 
 
 pub slice_over : (p : Program) (self k n : ℕ) (t : Term) → k ≤ n → sliced_from p self (k - n) n t ≡ record { ask = ask.nothing; end = t; steps = n }
 slice_over p self k n t h = let e : k - n ≡ 0 = omega (arith, h) in ap (λ m. sliced_from p self m n t) e ∙ no_step p self n t
+
+-- no step was made
+pub goes_none : (p : Program) (self : ℕ) (t : Term) → GoesIn p self 0 t t
+goes_none p self t left steps = ap (λ n. sliced_from p self n steps t) (whole left) ∙ ap (λ n. sliced_from p self left n t) (same steps)
+  where
+    whole : (n : ℕ) → 0 + n ≡ n
+    whole n = omega arith
+
+    same : (n : ℕ) → n ≡ n + 0
+    same n = omega arith
+
+-- one more step goes on
+pub goes_more : (p : Program) (self n : ℕ) (t u v : Term) → GoesIn p self n t u → next p self u ≡ goes_on v → GoesIn p self (n + 1) t v
+goes_more p self n t u v before one left steps =
+    ap (λ m. sliced_from p self m steps t) (more n left) ∙ before (suc left) steps ∙ one_step p self left (steps + n) u (goes_on v) one ∙ ap (λ m. sliced_from p self left m v) (later steps n)
+  where
+    more : (n left : ℕ) → n + 1 + left ≡ n + suc left
+    more n left = omega arith
+
+    later : (a b : ℕ) → a + b + 1 ≡ a + (b + 1)
+    later a b = omega arith
+
+-- a slice in which so many steps went on has the rest before it
+pub slice_skips : (p : Program) (self k n m : ℕ) (t u : Term) → GoesIn p self n t u → n ≤ k - m → sliced_from p self (k - m) m t ≡ sliced_from p self (k - (m + n)) (m + n) u
+slice_skips p self k n m t u goes within = ap (λ j. sliced_from p self j m t) (rest k n m within) ∙ goes (k - (m + n)) m
+  where
+    rest : (k n m : ℕ) → n ≤ k - m → k - m ≡ n + (k - (m + n))
+    rest k n m h = omega (arith, h)

@@ -1,5 +1,5 @@
 -- Slices of a thread's steps.
-use Rattle.std.specs.Prelude.{ℕ, zero, suc, ◌+◌}
+use Rattle.std.specs.Prelude.{◌≡◌, ℕ, zero, suc, ◌+◌}
 use Rattle.cml_step.specs.Terms.{Program, Term}
 use Rattle.cml_step.specs.Asks as ask
 use Rattle.cml_step.specs.Asks.{PlainAsk}
@@ -29,3 +29,7 @@ sliced_from p self (suc left) steps term =
 -- a slice of the thread of this number
 abbrev pub sliced : Program → ℕ → Term → PlainSlice
 sliced p self term = sliced_from p self max_steps 0 term
+
+-- from the one term the thread goes on to the other in so many steps that ask nothing
+abbrev pub GoesIn : Program → ℕ → ℕ → Term → Term → Type 0
+GoesIn p self n before after = (left steps : ℕ) → sliced_from p self (n + left) steps before ≡ sliced_from p self left (steps + n) after

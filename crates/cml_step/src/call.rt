@@ -122,7 +122,7 @@ fn pad(slots: &mut Vec<Value>, slot: usize) -> Result<(), Stop>
 
 // The statement sets a variable to the value of an expression.
 #[tactic(auto, using(crate::proofs::VariableLemmas::bound_set, crate::proofs::CallLemmas::agree_set))]
-fn assign(
+pub(crate) fn assign(
     alloc: Global,
     program: &Prog,
     f: &Function,
@@ -147,6 +147,9 @@ fn assign(
     ensures agree { all_agree (arities program.now) call.new.slots.items ≡ true }
     ensures waits { WaitFits call.new.wait (length f.now.names) (length call.new.slots.items) }
     ensures did { DidAgrees (arities program.now) result }
+    ensures goes { IfOk result (λ d. d ≡ Did.Goes) }
+    ensures kept { IfErr result (λ _. entry_for f.now call.new ≡ entry_for f.now call.old) }
+    ensures runs { call.new.wait ≡ Wait.Runs }
     ensures same { call.new.func ≡ call.old.func }
 {
     let value = value_in(alloc, program, f, call.slots.as_slice(), e)?;
@@ -158,7 +161,7 @@ fn assign(
 
 // The statement goes on in one of two blocks.
 #[tactic(auto, using(crate::proofs::PlaceLemmas::left_then, crate::proofs::PlaceLemmas::left_else))]
-fn branch(
+pub(crate) fn branch(
     alloc: Global,
     program: &Prog,
     f: &Function,
@@ -184,6 +187,9 @@ fn branch(
     ensures agree { all_agree (arities program.now) call.new.slots.items ≡ true }
     ensures waits { WaitFits call.new.wait (length f.now.names) (length call.new.slots.items) }
     ensures did { DidAgrees (arities program.now) result }
+    ensures goes { IfOk result (λ d. d ≡ Did.Goes) }
+    ensures kept { IfErr result (λ _. entry_for f.now call.new ≡ entry_for f.now call.old) }
+    ensures runs { call.new.wait ≡ Wait.Runs }
     ensures same { call.new.func ≡ call.old.func }
 {
     let value = value_in(alloc, program, f, call.slots.as_slice(), e)?;
@@ -198,7 +204,7 @@ fn branch(
 
 // The statement does its block and then itself again, or is done.
 #[tactic(auto, using(crate::proofs::PlaceLemmas::left_body))]
-fn repeat(
+pub(crate) fn repeat(
     alloc: Global,
     program: &Prog,
     f: &Function,
@@ -223,6 +229,9 @@ fn repeat(
     ensures agree { all_agree (arities program.now) call.new.slots.items ≡ true }
     ensures waits { WaitFits call.new.wait (length f.now.names) (length call.new.slots.items) }
     ensures did { DidAgrees (arities program.now) result }
+    ensures goes { IfOk result (λ d. d ≡ Did.Goes) }
+    ensures kept { IfErr result (λ _. entry_for f.now call.new ≡ entry_for f.now call.old) }
+    ensures runs { call.new.wait ≡ Wait.Runs }
     ensures same { call.new.func ≡ call.old.func }
 {
     let value = value_in(alloc, program, f, call.slots.as_slice(), e)?;

@@ -11,6 +11,7 @@ mod kind;
 mod machine;
 mod operator;
 mod place;
+mod quiet;
 mod ran;
 mod stack;
 mod turns;

@@ -12,6 +12,7 @@ ghost use Rattle.cml_step.specs.Stacks.{term_of, StackFits};
 use crate::ask::Ask;
 use crate::entry::Entry;
 use crate::fault::{Fault, Stop};
+use crate::quiet::quiet_steps;
 use crate::stack::step;
 use cml_check::Prog;
 use cml_value::Tid;
@@ -73,6 +74,10 @@ pub(crate) fn run(
 {
     let mut done = 0u32;
     while done < most {
+        done += quiet_steps(alloc, program, stack, most - done)?;
+        if done == most {
+            return Ok((Ask::Nothing, done));
+        }
         match turn(alloc, thread, program, stack)? {
             Ask::Nothing => done += 1,
             ask => return Ok((ask, done + 1)),

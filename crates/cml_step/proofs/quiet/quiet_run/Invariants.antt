@@ -1,0 +1,18 @@
+use Rattle.std.proofs.Common.{◌≡◌, ◌≤◌, ◌-◌, ℕ, ◌∷◌}
+use Rattle.cml_step.specs.Terms.{Term}
+use Rattle.cml_step.specs.Slices.{GoesIn}
+use Rattle.cml_step.specs.Calls.{entry_of, text_of}
+use Rattle.cml_step.specs.Stacks.{CallFits}
+use Rattle.cml_step.proofs.quiet.quiet_run.Given as goal
+
+-- so many steps went on
+abbrev pub invariant-loop-done : goal.invariant-loop-done
+invariant-loop-done l = record {
+  within : l.done ≤ l.most;
+  func : l.call.func ≡ l.fn.call.func;
+  fits : CallFits l.program l.call;
+  goes : (self : ℕ) (below : Term) → GoesIn (text_of l.program) self l.done (entry_of l.program l.fn.call ∷ below) (entry_of l.program l.call ∷ below);
+}
+
+abbrev pub decreases-loop-done : goal.decreases-loop-done
+decreases-loop-done l = l.most - l.done

@@ -1,0 +1,159 @@
+//! Steps that only set variables and choose blocks. The call on top does them where it is; for any other it is taken off the stack.
+
+ghost use Rattle.std.specs.Prelude.{◌≡◌, ◌≤◌, ◌<◌, ℕ, suc, ◌∷◌, length, true, false, Some, IfOk};
+ghost use Rattle.std.specs.Result.{is_ok};
+ghost use Rattle.cml_check.specs.Syntax.{name_at, stmt_map, stmts_map};
+ghost use Rattle.cml_check.specs.Names.{AreDistinct};
+ghost use Rattle.cml_check.specs.InOrder.{FunctionFits, arities, stmt_fits};
+ghost use Rattle.cml_step.specs.Agrees.{all_agree};
+ghost use Rattle.cml_step.specs.Variables.{bound};
+ghost use Rattle.cml_step.specs.Places.{stmt_at, block_at, left_at};
+ghost use Rattle.cml_step.specs.Terms.{Term};
+ghost use Rattle.cml_step.specs.Calls.{entry_for, entry_of, text_of};
+ghost use Rattle.cml_step.specs.Steps as steps;
+ghost use Rattle.cml_step.specs.Steps.{goes_on};
+ghost use Rattle.cml_step.specs.Slices.{GoesIn};
+ghost use Rattle.cml_step.specs.Stacks.{term_of, CallFits, EachBeneath, StackFits};
+
+use crate::call::{Call, Did, Wait, assign, branch, repeat};
+use crate::entry::Entry;
+use crate::fault::Stop;
+use crate::place::{settle, statement};
+use cml_check::{Function, Prog, Source, Stmt, StmtKind};
+use std::alloc::{AllocError, Global};
+
+// Whether a step was made, and went on.
+fn has_gone(did: Result<Did, Stop>) -> bool
+    ensures { result ≡ is_ok did }
+{
+    let gone = did.is_ok();
+    drop(did);
+    gone
+}
+
+// Whether the statement only sets a variable or chooses a block, and was done. Else nothing has changed.
+fn quiet(alloc: Global, program: &Prog, f: &Function, stmt: &Stmt, call: &mut Call) -> bool
+    requires here { stmt_at (block_at f.now.body call.old.path.items) call.old.at
+        ≡ Some stmt.now }
+    requires fits { stmt_fits (arities program.now) (length f.now.names) stmt.now ≡ true }
+    requires distinct { AreDistinct f.now.names }
+    requires agree { all_agree (arities program.now) call.old.slots.items ≡ true }
+    requires runs { call.old.wait ≡ Wait.Runs }
+    requires bounded { call.old.at < usize.MAX }
+    ensures goes { result ≡ true → (self : ℕ) (below : Term) →
+        let s = stmt_map (name_at f.now.names) stmt.now in
+        let left = stmts_map (name_at f.now.names)
+        (left_at f.now.body call.old.path.items (suc call.old.at)) in
+        let variables = bound f.now.names call.old.slots.items in
+        steps.statement_step (text_of program.now) self s left variables below
+        ≡ goes_on (entry_for f.now call.new ∷ below) }
+    ensures stays { result ≡ false → entry_for f.now call.new ≡ entry_for f.now call.old }
+    ensures agree { all_agree (arities program.now) call.new.slots.items ≡ true }
+    ensures runs { call.new.wait ≡ Wait.Runs }
+    ensures same { call.new.func ≡ call.old.func }
+{
+    match &stmt.kind {
+        StmtKind::Let(slot, source) => match source {
+            Source::Value(e) => has_gone(assign(alloc, program, f, *slot, e, call)),
+            Source::Effect(_) => false,
+        },
+        StmtKind::Set(slot, e) => has_gone(assign(alloc, program, f, *slot, e, call)),
+        StmtKind::If(e, a, b) => has_gone(branch(alloc, program, f, e, a, b, call)),
+        StmtKind::While(e, a) => has_gone(repeat(alloc, program, f, e, a, call)),
+        _ => false,
+    }
+}
+
+// The same of the statement at the call's place, if there is one.
+#[tactic(auto, using(crate::proofs::PlaceLemmas::found_fits))]
+fn quiet_step(alloc: Global, program: &Prog, f: &Function, call: &mut Call) -> bool
+    requires fits { FunctionFits (arities program.now) f.now }
+    requires agree { all_agree (arities program.now) call.old.slots.items ≡ true }
+    requires runs { call.old.wait ≡ Wait.Runs }
+    ensures goes { result ≡ true → (self : ℕ) (below : Term) →
+        let before = entry_for f.now call.old in
+        steps.next (text_of program.now) self (before ∷ below)
+        ≡ goes_on (entry_for f.now call.new ∷ below) }
+    ensures stays { result ≡ false → entry_for f.now call.new ≡ entry_for f.now call.old }
+    ensures agree { all_agree (arities program.now) call.new.slots.items ≡ true }
+    ensures runs { call.new.wait ≡ Wait.Runs }
+    ensures same { call.new.func ≡ call.old.func }
+{
+    call.at = settle(&f.body, &mut call.path, call.at);
+    match statement(&f.body, call.path.as_slice(), call.at) {
+        Some(stmt) => quiet(alloc, program, f, stmt, call),
+        None => false,
+    }
+}
+
+// The first steps of the call that are such, at most so many: how many they were.
+fn quiet_run(alloc: Global, program: &Prog, call: &mut Call, most: u32) -> u32
+    requires fits { CallFits program.now call.old }
+    ensures fits { CallFits program.now call.new }
+    ensures within { result ≤ most }
+    ensures goes { (self : ℕ) (below : Term) → GoesIn (text_of program.now) self result
+        (entry_of program.now call.old ∷ below) (entry_of program.now call.new ∷ below) }
+{
+    let f = program.function(call.func);
+    let mut done = 0u32;
+    while done < most {
+        if call.wait != Wait::Runs {
+            return done;
+        }
+        if !quiet_step(alloc, program, f, call) {
+            return done;
+        }
+        done += 1;
+    }
+    done
+}
+
+// The same of the call on top, which goes back on it.
+#[tactic(auto, using(crate::proofs::StackLemmas::term_pushed, crate::proofs::StackLemmas::fits_pushed))]
+fn quiet_call(
+    alloc: Global,
+    program: &Prog,
+    call: Call,
+    below: &mut Vec<Entry>,
+    most: u32,
+) -> Result<u32, AllocError>
+    requires fits { CallFits program.now call }
+    requires beneath { EachBeneath program.now below.old.items }
+    ensures fits { IfOk result (λ _. StackFits program.now below.new.items) }
+    ensures within { IfOk result (λ n. n ≤ most) }
+    ensures goes { IfOk result (λ n. (self : ℕ) → GoesIn (text_of program.now) self n
+        (entry_of program.now call ∷ term_of program.now below.old.items)
+        (term_of program.now below.new.items)) }
+{
+    let mut call = call;
+    let done = quiet_run(alloc, program, &mut call, most);
+    below.push(Entry::Call(call))?;
+    Ok(done)
+}
+
+/// The first steps of a stack that only set variables and choose blocks, at most so many: how many they were.
+#[tactic(auto, using(crate::proofs::StackLemmas::term_pushed, crate::proofs::StackLemmas::fits_popped))]
+pub(crate) fn quiet_steps(
+    alloc: Global,
+    program: &Prog,
+    stack: &mut Vec<Entry>,
+    most: u32,
+) -> Result<u32, AllocError>
+    requires { StackFits program.now stack.old.items }
+    ensures fits { IfOk result (λ _. StackFits program.now stack.new.items) }
+    ensures within { IfOk result (λ n. n ≤ most) }
+    ensures goes { IfOk result (λ n. (self : ℕ) → GoesIn (text_of program.now) self n
+        (term_of program.now stack.old.items) (term_of program.now stack.new.items)) }
+{
+    let Some(Entry::Call(_)) = stack.last() else {
+        return Ok(0);
+    };
+    match stack.pop() {
+        Some(Entry::Call(call)) => quiet_call(alloc, program, call, stack, most),
+        Some(other) => {
+            stack.push(other)?;
+            Ok(0)
+        }
+        None => Ok(0),
+    }
+}
