@@ -409,7 +409,7 @@ fn value_of(rt: &impl Abort, base: &Base) -> Value
 }
 
 // The answer to a synchronization that is committed by the last leaf of its group, if there is one.
-#[tactic(auto, using(crate::proofs::MachineLemmas::member_agrees, crate::proofs::MachineLemmas::left_agrees, crate::proofs::MachineLemmas::right_agrees))]
+#[tactic(auto, using(crate::proofs::MachineLemmas::member_agrees, std::proofs::lemmas::Bool::and_parts))]
 fn commit_of(rt: &(impl Abort + AllocGlobal), group: &Group) -> Option<Answer>
     ensures wanted { IfSome result (λ a.
         answers.answer_for (plain_answer a) ≡ answers.commit) }
@@ -524,8 +524,10 @@ fn slice_of(
     assert!(rt; ran.start().same(&copy), "the start");
     assert!(rt; ran.end().thread() == copy.thread(), "the thread");
     drop(copy);
+    let ended = matches!(ran.ask(), Ask::End);
     let steps = ran.steps();
     let (end, ask) = ran.into_end();
+    assert!(rt; ended == matches!(&ask, Ask::End), "what is asked");
     (end, ask, steps)
 }
 

@@ -1,6 +1,7 @@
 -- The expressions of forms.
 use Rattle.std.proofs.Common.{◌≡◌, ℕ, zero, suc, ℤ, ◌+◌, ◌<◌, ◌≤◌, ◌≢◌, Bool, true, false, ◌&&◌, List, [], ◌∷◌, ◌++◌, length, get_or, map, drop, Some, Ok, Err, refl, sym, ap, ◌∙◌, arith}
 use Rattle.std.proofs.Math.ListN.{drop_of_length-le}
+use Rattle.std.proofs.lemmas.Bool.{and_parts, and_from}
 use mathlib.Core.Bool.{true≢false}
 use Rattle.cml_text.specs.declared.sexpr.Span.{Span}
 use Rattle.cml_text.specs.Forms.{PlainSexpr, plain_name, plain_int, plain_text, plain_list, PlainForms, no_forms, forms_and, plain_forms, span_of, nesting, nesting_of}
@@ -18,13 +19,6 @@ use Rattle.cml_check.specs.ExpressionParts.{unary_in, binary_in, wrap_in, choose
 use Rattle.cml_check.specs.Parts.{is_headed}
 use Rattle.cml_check.specs.InOrder.{expr_fits, exprs_fit, exprs_count}
 use Rattle.cml_check.proofs.CheckedLemmas.{fails-as, drop-at}
-
-pub and_true : (a b : Bool) → a ≡ true → b ≡ true → (a && b) ≡ true
-and_true a b p q = rw (p, q) refl
-
-pub both : (a b : Bool) → (a && b) ≡ true → (a ≡ true) × (b ≡ true)
-both true b h = (refl, h)
-both false b h = absurd (true≢false (sym h))
 
 -- how many forms a list has
 pub count_forms : (forms : List PlainSexpr) → count (plain_forms forms) ≡ length forms
@@ -182,10 +176,10 @@ exprs-count (e ∷ es) = omega (arith, exprs-count es)
 
 pub exprs-fit_push : (arities : List ℕ) (slots : ℕ) (es : List (PlainExpr ℕ)) (e : PlainExpr ℕ) → exprs_fit arities slots (exprs es) ≡ true → expr_fits arities slots e ≡ true →
     exprs_fit arities slots (exprs (es ++ e ∷ [])) ≡ true
-exprs-fit_push arities slots [] e h g = and_true (expr_fits arities slots e) true g refl
+exprs-fit_push arities slots [] e h g = and_from (expr_fits arities slots e) true g refl
 exprs-fit_push arities slots (d ∷ es) e h g =
-    let p = both (expr_fits arities slots d) (exprs_fit arities slots (exprs es)) h in
-    and_true (expr_fits arities slots d) _ p.0 (exprs-fit_push arities slots es e p.1 g)
+    let p = and_parts (expr_fits arities slots d) (exprs_fit arities slots (exprs es)) h in
+    and_from (expr_fits arities slots d) _ p.0 (exprs-fit_push arities slots es e p.1 g)
 
 step : (heads : List PlainHead) (names : List Name) (forms : List PlainSexpr) (i : ℕ) (form : PlainSexpr) → i < length forms → form ≡ get_or forms i form →
     exprs_in heads names (plain_forms (drop i forms)) ≡ (expr_in heads names form >>= λ e. exprs_in heads names (plain_forms (drop (i + 1) forms)) >>= λ es. Ok (exprs_and e es))

@@ -6,12 +6,11 @@ use Rattle.cml_text.specs.Forms.{PlainSexpr, plain_name, plain_int, plain_text, 
 use Rattle.cml_check.specs.declared.fault.CheckKind.TheVariants.{Form}
 use Rattle.cml_check.specs.declared.statement.Scope.{Scope}
 use Rattle.cml_check.specs.declared.word.Word.TheVariants as word
-use Rattle.std.proofs.lemmas.Bool.{lt-ltb}
+use Rattle.std.proofs.lemmas.Bool.{lt-ltb, and_from}
 use Rattle.cml_check.specs.Syntax.{Name, PlainExpr, PlainSource, PlainStmts, let_be, if_so, while_so, expr_map, source_map, stmts_map, name_at}
 use Rattle.cml_check.specs.Names.{with_name, free_name}
 use Rattle.cml_check.specs.Expressions.{expr_in}
 use Rattle.cml_check.specs.InOrder.{expr_fits, source_fits, stmts_fit}
-use Rattle.cml_check.proofs.ExpressionLemmas.{and_true}
 use Rattle.cml_check.proofs.GrowthLemmas.{grows-with_name, grows-on, expr-grown, source-grown, stmts-grown}
 use Rattle.cml_check.specs.Checked.{fault_at}
 use Rattle.cml_check.specs.Words.{word_from}
@@ -121,7 +120,7 @@ pub let_fits : (ar : List ℕ) (old new : List Name) (name : Name) (slot : ℕ) 
     (nat_lt slot (length new) && source_fits ar (length new) given) ≡ true
 let_fits ar old new name slot given is lt fits =
     let grows : Grows old new = rw is (grows-with_name old name) in
-    and_true _ _ (lt-ltb slot (length new) lt) (source-grown ar old new grows given fits).1
+    and_from _ _ (lt-ltb slot (length new) lt) (source-grown ar old new grows given fits).1
 
 pub if_gives : (ar : List ℕ) (heads : List PlainHead) (scope mid new : Scope) (p x y : PlainSexpr) (e : PlainExpr ℕ) (a b : PlainStmts ℕ) →
     expr_in heads scope.names p ≡ Ok (expr_map (name_at scope.names) e) → expr_fits ar (length scope.names) e ≡ true →
@@ -135,7 +134,7 @@ if_gives ar heads scope mid new p x y e a b pe fe pa fa g pb h =
 pub if_fits : (ar : List ℕ) (old mid new : List Name) (e : PlainExpr ℕ) (a b : PlainStmts ℕ) → expr_fits ar (length old) e ≡ true → stmts_fit ar (length mid) a ≡ true →
     stmts_fit ar (length new) b ≡ true → Grows old mid → Grows mid new → (expr_fits ar (length new) e && stmts_fit ar (length new) a && stmts_fit ar (length new) b) ≡ true
 if_fits ar old mid new e a b fe fa fb g h =
-    and_true _ _ (and_true _ _ (expr-grown ar old new (grows-on _ _ _ g h) e fe).1 (stmts-grown ar mid new h a fa).1) fb
+    and_from _ _ (and_from _ _ (expr-grown ar old new (grows-on _ _ _ g h) e fe).1 (stmts-grown ar mid new h a fa).1) fb
 
 pub while_gives : (ar : List ℕ) (heads : List PlainHead) (scope new : Scope) (p : PlainSexpr) (forms : PlainForms) (e : PlainExpr ℕ) (a : PlainStmts ℕ) →
     expr_in heads scope.names p ≡ Ok (expr_map (name_at scope.names) e) → expr_fits ar (length scope.names) e ≡ true →
@@ -147,4 +146,4 @@ while_gives ar heads scope new p forms e a pe fe pa g =
 
 pub while_fits : (ar : List ℕ) (old new : List Name) (e : PlainExpr ℕ) (a : PlainStmts ℕ) → expr_fits ar (length old) e ≡ true → stmts_fit ar (length new) a ≡ true →
     Grows old new → (expr_fits ar (length new) e && stmts_fit ar (length new) a) ≡ true
-while_fits ar old new e a fe fa g = and_true _ _ (expr-grown ar old new g e fe).1 fa
+while_fits ar old new e a fe fa g = and_from _ _ (expr-grown ar old new g e fe).1 fa

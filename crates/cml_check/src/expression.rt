@@ -133,7 +133,7 @@ fn unary(
 
 // An operation on two values.
 #[cycle(expression)]
-#[tactic(auto, unfolding(crate::specs::ExpressionParts::binary_in), using(crate::proofs::ExpressionLemmas::no_binary, crate::proofs::ExpressionLemmas::and_true))]
+#[tactic(auto, unfolding(crate::specs::ExpressionParts::binary_in), using(crate::proofs::ExpressionLemmas::no_binary, std::proofs::lemmas::Bool::and_from))]
 fn binary(
     alloc: Global,
     heads: &Heads<'_>,
@@ -183,7 +183,7 @@ fn choose(
 
 // An event that is wrapped by a function.
 #[cycle(expression)]
-#[tactic(auto, unfolding(crate::specs::ExpressionParts::wrap_in), using(crate::proofs::ExpressionLemmas::no_wrap, crate::proofs::ExpressionLemmas::and_true))]
+#[tactic(auto, unfolding(crate::specs::ExpressionParts::wrap_in), using(crate::proofs::ExpressionLemmas::no_wrap, std::proofs::lemmas::Bool::and_from))]
 fn wrap(
     alloc: Global,
     heads: &Heads<'_>,
@@ -211,7 +211,7 @@ fn wrap(
 
 // An event that a function makes.
 #[cycle(expression)]
-#[tactic(auto, unfolding(crate::specs::ExpressionParts::guard_in), using(crate::proofs::ExpressionLemmas::and_true))]
+#[tactic(auto, unfolding(crate::specs::ExpressionParts::guard_in), using(std::proofs::lemmas::Bool::and_from))]
 fn guard(
     alloc: Global,
     heads: &Heads<'_>,
@@ -233,7 +233,7 @@ fn guard(
 
 // An event that a function makes from a nack.
 #[cycle(expression)]
-#[tactic(auto, unfolding(crate::specs::ExpressionParts::nack_in), using(crate::proofs::ExpressionLemmas::and_true))]
+#[tactic(auto, unfolding(crate::specs::ExpressionParts::nack_in), using(std::proofs::lemmas::Bool::and_from))]
 fn with_nack(
     alloc: Global,
     heads: &Heads<'_>,

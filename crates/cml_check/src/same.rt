@@ -8,9 +8,9 @@ use crate::program::{Function, Prog};
 use crate::syntax::{Block, Effect, Expr, ExprKind, Exprs, Source, Stmt, StmtKind};
 
 impl Expr {
-    /// Whether the two are the same expression, part for part.
+    // Whether the two are the same expression, part for part.
     #[cycle(same_expr)]
-    pub fn same(&self, other: &Expr) -> bool
+    pub(crate) fn same(&self, other: &Expr) -> bool
         ensures { IsTrue result ↔ (self.now ≡ other.now) }
     {
         match (&self.kind, &other.kind) {
@@ -34,10 +34,10 @@ impl Expr {
 }
 
 impl Exprs {
-    /// Whether the two are the same expressions, one after another.
+    // Whether the two are the same expressions, one after another.
     #[cycle(same_expr)]
     #[tactic(auto, using(crate::proofs::SameLemmas::length_exprs))]
-    pub fn same(&self, other: &Exprs) -> bool
+    pub(crate) fn same(&self, other: &Exprs) -> bool
         ensures { IsTrue result ↔ (self.now ≡ other.now) }
     {
         if other.items.len() != self.items.len() {
@@ -53,8 +53,8 @@ impl Exprs {
 }
 
 impl Effect {
-    /// Whether the two are the same effect, part for part.
-    pub fn same(&self, other: &Effect) -> bool
+    // Whether the two are the same effect, part for part.
+    pub(crate) fn same(&self, other: &Effect) -> bool
         ensures { IsTrue result ↔ (plain_effect self.now ≡ plain_effect other.now) }
     {
         match (self, other) {
@@ -71,8 +71,8 @@ impl Effect {
 }
 
 impl Source {
-    /// Whether the two are the same, part for part.
-    pub fn same(&self, other: &Source) -> bool
+    // Whether the two are the same, part for part.
+    pub(crate) fn same(&self, other: &Source) -> bool
         ensures { IsTrue result ↔ (plain_source self.now ≡ plain_source other.now) }
     {
         match (self, other) {
@@ -84,9 +84,9 @@ impl Source {
 }
 
 impl Stmt {
-    /// Whether the two are the same statement, part for part.
+    // Whether the two are the same statement, part for part.
     #[cycle(same_stmt)]
-    pub fn same(&self, other: &Stmt) -> bool
+    pub(crate) fn same(&self, other: &Stmt) -> bool
         ensures { IsTrue result ↔ (self.now ≡ other.now) }
     {
         match (&self.kind, &other.kind) {
@@ -102,10 +102,10 @@ impl Stmt {
 }
 
 impl Block {
-    /// Whether the two are the same statements, one after another.
+    // Whether the two are the same statements, one after another.
     #[cycle(same_stmt)]
     #[tactic(auto, using(crate::proofs::SameLemmas::length_stmts))]
-    pub fn same(&self, other: &Block) -> bool
+    pub(crate) fn same(&self, other: &Block) -> bool
         ensures { IsTrue result ↔ (self.now ≡ other.now) }
     {
         if self.items.len() != other.items.len() {
@@ -121,8 +121,8 @@ impl Block {
 }
 
 impl Function {
-    /// Whether the two are the same function: in names, in parameters and in statements.
-    pub fn same(&self, other: &Function) -> bool
+    // Whether the two are the same function: in names, in parameters and in statements.
+    pub(crate) fn same(&self, other: &Function) -> bool
         ensures { IsTrue result ↔ (self.now ≡ other.now) }
     {
         self.arity == other.arity

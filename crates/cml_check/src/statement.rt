@@ -131,7 +131,7 @@ fn declare<'a>(
 }
 
 // A new value for a variable.
-#[tactic(auto, unfolding(crate::specs::StatementParts::set_in), using(crate::proofs::StatementWalk::no_set, crate::proofs::ExpressionLemmas::and_true, crate::proofs::GrowthLemmas::grows_same))]
+#[tactic(auto, unfolding(crate::specs::StatementParts::set_in), using(crate::proofs::StatementWalk::no_set, std::proofs::lemmas::Bool::and_from, crate::proofs::GrowthLemmas::grows_same))]
 fn set_statement<'a>(
     alloc: Global,
     heads: &Heads<'_>,

@@ -5,6 +5,7 @@ use Rattle.std.specs.Bool.{beq}
 use Rattle.std.specs.List.{filter, list_any, IsDistinct, AllByRecursion}
 use Rattle.std.specs.Map.{keys_of, lookup}
 use Rattle.std.proofs.lemmas.Map.Keys.{IsDistinct-head, IsDistinct-tail}
+use Rattle.std.proofs.lemmas.Bool.{and_parts}
 use Rattle.std.proofs.lemmas.Bool.Decides.{nat_tests}
 use Rattle.cml_value.specs.declared.number.Tid.{Tid}
 use Rattle.cml_scan.specs.declared.meet.Place.{Place}
@@ -20,15 +21,11 @@ use Rattle.cml_index.specs.Slots.{has_run}
 
 pub same_slot_is : (a b : Slot) → same_slot a b ≡ true → a ≡ b
 same_slot_is (Side h n) (Side g m) e =
-    let both = parts (beq h g) (nat_eq n m) e in
+    let both = and_parts (beq h g) (nat_eq n m) e in
     let heads : h ≡ g = same_bool h g both.0 in
     let number : n ≡ m = same_number n m both.1 in
     λ i. Side (heads i) (number i)
   where
-    parts : (a b : Bool) → a && b ≡ true → (a ≡ true) × (b ≡ true)
-    parts true b e = (refl, e)
-    parts false b e = cc
-
     same_bool : (h g : Bool) → beq h g ≡ true → h ≡ g
     same_bool true true e = refl
     same_bool false false e = refl
@@ -143,6 +140,21 @@ cases_left false left later e f once no_ = no_ refl (e ∙ f)
 -- the run itself was left
 pub self_left : (slot : Slot) (left later : Bool) → left ≡ same_slot slot slot || later → left ≡ true
 self_left slot left later e = e ∙ ap (λ b. b || later) (same_slot_self slot)
+
+-- the slots whose runs are done are as wanted, the others as they were
+abbrev pub IsMoved : {X : Type 0} → (Slot → Bool) → (Slot → X) → (Slot → X) → (Slot → X) → Type 0
+IsMoved left old wanted new = ((k : Slot) → left k ≡ false → new k ≡ wanted k) × ((k : Slot) → left k ≡ true → new k ≡ old k)
+
+-- one more run is done, and no other slot has changed
+pub moved : {X : Type 0} (slot : Slot) (left later : Slot → Bool) (old wanted before after : Slot → X)
+    → ((k : Slot) → left k ≡ same_slot k slot || later k) → ((k : Slot) → same_slot k slot ≡ true → later k ≡ false)
+    → (before slot ≡ old slot → after slot ≡ wanted slot) → ((k : Slot) → same_slot k slot ≡ false → after k ≡ before k)
+    → IsMoved left old wanted before → IsMoved later old wanted after
+moved slot left later old wanted before after one once here elsewhere so_far =
+    ( λ k e. cases_done (same_slot k slot) (left k) (later k) (one k) e
+        (λ is. subst (λ n. after n ≡ wanted n) (sym (same_slot_is k slot is)) (here (so_far.1 slot (self_left slot (left slot) (later slot) (one slot)))))
+        (λ off done. elsewhere k off ∙ so_far.0 k done)
+    , λ k e. cases_left (same_slot k slot) (left k) (later k) (one k) e (once k) (λ off rest. elsewhere k off ∙ so_far.1 k rest) )
 
 -- a leaf that was put into its slot stands behind those that were there
 pub put_done : (k s : Slot) (leaf : ℕ) (old new : Slot → List ℕ) (later : List ℕ) → new s ≡ old s ++ leaf ∷ [] → ((j : Slot) → same_slot j s ≡ false → new j ≡ old j)

@@ -16,6 +16,7 @@ use Rattle.cml_check.specs.InOrder.{expr_fits, exprs_fit, exprs_count}
 use Rattle.cml_step.specs.declared.fault.Fault.TheVariants.{Deep, Overflow}
 use Rattle.std.specs.Global.{Global}
 use Rattle.std.specs.declared.vec.Vec.{Vec}
+use Rattle.std.proofs.lemmas.Bool.{and_parts, and_from}
 use Rattle.cml_step.specs.declared.fault.Stop.{Stop}
 use Rattle.cml_step.specs.Faults.{Found, ◌>>=◌, Gives}
 use Rattle.cml_step.specs.Kinds.{number_of, truth_of, first_of, second_of, thread_of, chan_of, ivar_of, mvar_of, mailbox_of, port_of, event_of}
@@ -23,11 +24,6 @@ use Rattle.cml_step.specs.Operators.{constant_value, ticks_of, built, is_number,
 use Rattle.cml_step.specs.Variables.{slot_value}
 use Rattle.cml_step.specs.Evaluate.{evaluate, evaluate_all}
 use Rattle.cml_step.specs.Agrees.{value_agrees, values_agree, values_count, function_agrees, base_agrees, event_agrees, events_agree, all_agree}
-use Rattle.cml_step.proofs.VariableLemmas.{and_first, and_second}
-
-pub both : (a b : Bool) → a ≡ true → b ≡ true → (a && b) ≡ true
-both true b p q = q
-both false b p q = absurd (cc)
 
 pub all_values : (fs : List ℕ) (vs : List PlainValue) → values_agree fs (values vs) ≡ all_agree fs vs
 all_values fs [] = refl
@@ -63,11 +59,11 @@ constant_agrees fs constant_of.Unit = refl
 constant_agrees fs constant_of.Never = refl
 
 first_agrees : (fs : List ℕ) (v : PlainValue) → value_agrees fs v ≡ true → Agrees fs (first_of v)
-first_agrees fs (pair a b) h = and_first _ _ h
+first_agrees fs (pair a b) h = (and_parts _ _ h).0
 first_agrees fs _ h = tt
 
 second_agrees : (fs : List ℕ) (v : PlainValue) → value_agrees fs v ≡ true → Agrees fs (second_of v)
-second_agrees fs (pair a b) h = and_second (value_agrees fs a) _ h
+second_agrees fs (pair a b) h = (and_parts (value_agrees fs a) _ h).1
 second_agrees fs _ h = tt
 
 plain_base_agrees : {A : Type 0} (fs : List ℕ) (r : Found A) (b : A → PlainBase) → ((x : A) → base_agrees fs (b x) ≡ true) → Agrees fs (r >>= (λ x. base_value (b x)))
@@ -105,7 +101,7 @@ binary_agrees fs binary_of.Minus v w h g = two_numbers fs v w _ (λ x y. in_rang
 binary_agrees fs binary_of.Times v w h g = two_numbers fs v w _ (λ x y. in_range_agrees fs (x *ℤ y))
 binary_agrees fs binary_of.Less v w h g = two_numbers fs v w _ (λ x y. refl)
 binary_agrees fs binary_of.Equal v w h g = refl
-binary_agrees fs binary_of.Pair v w h g = built_agrees fs (pair v w) (both _ _ h g)
+binary_agrees fs binary_of.Pair v w h g = built_agrees fs (pair v w) (and_from _ _ h g)
 binary_agrees fs binary_of.Send v w h g = then_agrees fs (chan_of v) _ (λ c _. built_agrees fs (event (leaf (value.send c w))) g)
 binary_agrees fs binary_of.MSwap v w h g = then_agrees fs (mvar_of v) _ (λ m _. built_agrees fs (event (leaf (value.mswap m w))) g)
 
@@ -115,35 +111,35 @@ event_of_agrees fs _ e h g = absurd (cc)
 
 events_then : (fs : List ℕ) (r : Found PlainEvent) (q : Found (List PlainEvent)) → ((e : PlainEvent) → r ≡ Ok e → event_agrees fs e ≡ true) →
     IfOk q (λ es. events_agree fs (events es) ≡ true) → IfOk (r >>= (λ e. q >>= (λ es. Ok (e ∷ es)))) (λ es. events_agree fs (events es) ≡ true)
-events_then fs (Ok e) (Ok es) h g = both _ _ (h e refl) g
+events_then fs (Ok e) (Ok es) h g = and_from _ _ (h e refl) g
 events_then fs (Ok e) (Err x) h g = tt
 events_then fs (Err x) q h g = tt
 
 events_of_agree : (fs : List ℕ) (vs : List PlainValue) → all_agree fs vs ≡ true → IfOk (events_of vs) (λ es. events_agree fs (events es) ≡ true)
 events_of_agree fs [] h = refl
-events_of_agree fs (v ∷ vs) h = events_then fs (event_of v) (events_of vs) (λ e g. event_of_agrees fs v e (and_first _ _ h) g) (events_of_agree fs vs (and_second _ _ h))
+events_of_agree fs (v ∷ vs) h = events_then fs (event_of v) (events_of vs) (λ e g. event_of_agrees fs v e (and_parts _ _ h).0 g) (events_of_agree fs vs (and_parts _ _ h).1)
 
 choose_agrees : (fs : List ℕ) (r : Found (List PlainEvent)) → IfOk r (λ es. events_agree fs (events es) ≡ true) → Agrees fs (r >>= (λ es. built (event (value.choose (events es)))))
 choose_agrees fs (Ok es) h = built_agrees fs (event (value.choose (events es))) h
 choose_agrees fs (Err e) h = tt
 
 wrap_agrees : (fs : List ℕ) (v : PlainValue) (f : PlainFunction) → value_agrees fs v ≡ true → function_agrees fs 1 f ≡ true → Agrees fs (wrap_value v f)
-wrap_agrees fs v f h g = then_agrees fs (event_of v) _ (λ e p. built_agrees fs (event (value.wrap e f)) (both (event_agrees fs e) (function_agrees fs 1 f) (event_of_agrees fs v e h p) g))
+wrap_agrees fs v f h g = then_agrees fs (event_of v) _ (λ e p. built_agrees fs (event (value.wrap e f)) (and_from (event_agrees fs e) (function_agrees fs 1 f) (event_of_agrees fs v e h p) g))
 
 slot_agrees : (fs : List ℕ) (vs : List PlainValue) (s : ℕ) → all_agree fs vs ≡ true → value_agrees fs (slot_value vs s) ≡ true
 slot_agrees fs [] zero h = refl
 slot_agrees fs [] (suc s) h = refl
-slot_agrees fs (v ∷ vs) zero h = and_first _ _ h
-slot_agrees fs (v ∷ vs) (suc s) h = slot_agrees fs vs s (and_second _ _ h)
+slot_agrees fs (v ∷ vs) zero h = (and_parts _ _ h).0
+slot_agrees fs (v ∷ vs) (suc s) h = slot_agrees fs vs s (and_parts _ _ h).1
 
 -- a function that takes so many values and is given them
 pub given_agrees : (fs : List ℕ) (f n more : ℕ) (vs : List PlainValue) → takes fs f (n + more) ≡ true → length vs ≡ n → all_agree fs vs ≡ true →
     function_agrees fs more (function f (values vs)) ≡ true
 given_agrees fs f n more vs t l h =
-    both _ _ (ap (λ k. takes fs f (k + more)) (count_values vs ∙ l) ∙ t) (all_values fs vs ∙ h)
+    and_from _ _ (ap (λ k. takes fs f (k + more)) (count_values vs ∙ l) ∙ t) (all_values fs vs ∙ h)
 
 all_then : (fs : List ℕ) (r : Found PlainValue) (q : Found (List PlainValue)) → Agrees fs r → AllAgrees fs q → AllAgrees fs (r >>= (λ v. q >>= (λ vs. Ok (v ∷ vs))))
-all_then fs (Ok v) (Ok vs) h g = both _ _ h g
+all_then fs (Ok v) (Ok vs) h g = and_from _ _ h g
 all_then fs (Ok v) (Err e) h g = tt
 all_then fs (Err e) q h g = tt
 
@@ -192,21 +188,21 @@ module _ (fs : List ℕ) (n : ℕ) (vs : List PlainValue) (h : all_agree fs vs �
     evaluate_agrees (text bytes) f = refl
     evaluate_agrees (variable s) f = slot_agrees fs vs s h
     evaluate_agrees (unary op e) f = unary_then fs op (evaluate (slot_value vs) e) (evaluate_agrees e f)
-    evaluate_agrees (binary op a b) f = binary_then fs op _ _ (evaluate_agrees a (and_first _ _ f)) (evaluate_agrees b (and_second (expr_fits fs n a) _ f))
+    evaluate_agrees (binary op a b) f = binary_then fs op _ _ (evaluate_agrees a (and_parts _ _ f).0) (evaluate_agrees b (and_parts (expr_fits fs n a) _ f).1)
     evaluate_agrees (choose es) f = choose_then fs _ (all_evaluate_agree es f)
     evaluate_agrees (wrap e g es) f =
-        wrap_then fs g (exprs_count es) _ _ (and_second (expr_fits fs n e && exprs_fit fs n es) _ f) (evaluate_agrees e (and_first _ _ (and_first _ _ f)))
-        (all_counted (slot_value vs) es) (all_evaluate_agree es (and_second (expr_fits fs n e) _ (and_first _ _ f)))
+        wrap_then fs g (exprs_count es) _ _ (and_parts (expr_fits fs n e && exprs_fit fs n es) _ f).1 (evaluate_agrees e (and_parts _ _ (and_parts _ _ f).0).0)
+        (all_counted (slot_value vs) es) (all_evaluate_agree es (and_parts (expr_fits fs n e) _ (and_parts _ _ f).0).1)
     evaluate_agrees (guard g es) f =
-        captured fs g (exprs_count es) 0 _ guard_value (takes_none fs g _ (and_second (exprs_fit fs n es) _ f)) (all_counted (slot_value vs) es)
-        (all_evaluate_agree es (and_first _ _ f)) (λ d p. built_agrees fs (event (value.guard d)) p)
+        captured fs g (exprs_count es) 0 _ guard_value (takes_none fs g _ (and_parts (exprs_fit fs n es) _ f).1) (all_counted (slot_value vs) es)
+        (all_evaluate_agree es (and_parts _ _ f).0) (λ d p. built_agrees fs (event (value.guard d)) p)
     evaluate_agrees (with_nack g es) f =
-        captured fs g (exprs_count es) 1 _ nack_value (and_second (exprs_fit fs n es) _ f) (all_counted (slot_value vs) es)
-        (all_evaluate_agree es (and_first _ _ f)) (λ d p. built_agrees fs (event (value.with_nack d)) p)
+        captured fs g (exprs_count es) 1 _ nack_value (and_parts (exprs_fit fs n es) _ f).1 (all_counted (slot_value vs) es)
+        (all_evaluate_agree es (and_parts _ _ f).0) (λ d p. built_agrees fs (event (value.with_nack d)) p)
 
     pub all_evaluate_agree : (es : PlainExprs ℕ) → exprs_fit fs n es ≡ true → AllAgrees fs (evaluate_all (slot_value vs) es)
     all_evaluate_agree no_exprs f = refl
-    all_evaluate_agree (exprs_and e es) f = all_then fs _ _ (evaluate_agrees e (and_first _ _ f)) (all_evaluate_agree es (and_second (expr_fits fs n e) _ f))
+    all_evaluate_agree (exprs_and e es) f = all_then fs _ _ (evaluate_agrees e (and_parts _ _ f).0) (all_evaluate_agree es (and_parts (expr_fits fs n e) _ f).1)
 
 -- from what is found to what a call answers
 pub answer_agrees : (fs : List ℕ) (r : Result PlainValue Stop) (found : Found PlainValue) → Gives (λ v. v) r found → Agrees fs found → IfOk r (λ v. value_agrees fs v ≡ true)

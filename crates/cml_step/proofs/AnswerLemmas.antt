@@ -1,6 +1,7 @@
 -- A stack whose thread is answered.
 use Rattle.std.proofs.Common.{◌≡◌, ℕ, zero, suc, ◌<◌, Bool, true, false, ◌&&◌, List, [], ◌∷◌, ◌++◌, length, refl, ap, sym, ◌∙◌, subst, arith, Option, Some, None, slice_get, slice_index_or, reverse}
 use Rattle.std.proofs.lemmas.List.{reverse-reverse}
+use Rattle.std.proofs.lemmas.Bool.{and_parts, and_from}
 use mathlib.Core.List.{reverse_aux}
 use Rattle.cml_value.specs.Value.{PlainValue, PlainFunction, PlainEvent, guard, scope}
 use Rattle.cml_group.specs.Force.{PlainAsk as PlainPlace, calls, needs_nack, unforced, replaced, given_nack, AwaitsNack}
@@ -22,8 +23,6 @@ use Rattle.cml_step.specs.Calls.{entry_of, entry_in, entry_for, placed_in, text_
 use Rattle.cml_step.specs.Machines.{names_of}
 use Rattle.cml_step.specs.Stacks.{CallFits, entry_view, term_of, StackFits}
 use Rattle.cml_step.specs.Terms.{Program, runs, drops, gives, call, force, wraps, Term, call_of}
-use Rattle.cml_step.proofs.VariableLemmas.{and_first, and_second}
-use Rattle.cml_step.proofs.AgreeLemmas.{both}
 use Rattle.cml_step.proofs.AwaitLemmas.{begun_runs}
 use Rattle.cml_step.proofs.ForceLemmas.{PlaceAgrees, place_agrees, replaced_agrees, given_nack_agrees}
 use Rattle.cml_step.proofs.StackLemmas.{term_pushed, fits_pushed, fits_popped, beneath_pushed, filled_for, filled_fits}
@@ -113,7 +112,7 @@ value_given_fits p es c d v h g e w s =
 -- wraps in the place of an event
 functions_turned : (ns : List ℕ) (fs gs : List PlainFunction) → functions_agree ns fs ≡ true → functions_agree ns gs ≡ true → functions_agree ns (reverse_aux fs gs) ≡ true
 functions_turned ns [] gs h g = g
-functions_turned ns (f ∷ fs) gs h g = functions_turned ns fs (f ∷ gs) (and_second (function_agrees ns 1 f) _ h) (both (function_agrees ns 1 f) _ (and_first _ _ h) g)
+functions_turned ns (f ∷ fs) gs h g = functions_turned ns fs (f ∷ gs) (and_parts (function_agrees ns 1 f) _ h).1 (and_from (function_agrees ns 1 f) _ (and_parts _ _ h).0 g)
 
 pub commit_given : (p : List (PlainItem ℕ)) (es : List Entry) (g : PlainEvent) (asked : Bool) (w : Wraps) (fs : List PlainFunction) (v : PlainValue) → w.left.items ≡ reverse fs → w.value ≡ v →
     term_of p (es ++ entry.Wraps w ∷ []) ≡ answered (text_of p) (a_commit v fs) (force g asked ∷ term_of p es)
@@ -124,8 +123,8 @@ commit_given p es g asked w fs v h e =
 pub commit_given_fits : (p : List (PlainItem ℕ)) (es : List Entry) (e : Entry) (w : Wraps) (fs : List PlainFunction) (v : PlainValue) → StackFits p (es ++ e ∷ []) →
     (value_agrees (arities p) v && functions_agree (arities p) fs) ≡ true → w.left.items ≡ reverse fs → w.value ≡ v → StackFits p (es ++ entry.Wraps w ∷ [])
 commit_given_fits p es e w fs v h g i j = fits_pushed p es (entry.Wraps w) (fits_popped p es e h).0 (record {
-  functions = ap (functions_agree (arities p)) i ∙ functions_turned (arities p) fs [] (and_second (value_agrees (arities p) v) _ g) refl;
-  value = ap (value_agrees (arities p)) j ∙ and_first _ _ g;
+  functions = ap (functions_agree (arities p)) i ∙ functions_turned (arities p) fs [] (and_parts (value_agrees (arities p) v) _ g).1 refl;
+  value = ap (value_agrees (arities p)) j ∙ (and_parts _ _ g).0;
 })
 
 -- a nack, and the call of the withNack's function

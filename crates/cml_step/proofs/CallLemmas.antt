@@ -1,5 +1,6 @@
 -- A call's slots.
 use Rattle.std.proofs.Common.{◌≡◌, ℕ, zero, suc, true, List, [], ◌∷◌, ◌++◌, length, set, refl, ap, sym, ◌∙◌, Some}
+use Rattle.std.proofs.lemmas.Bool.{and_parts, and_from}
 use Rattle.cml_value.specs.Value.{PlainValue, unit}
 use Rattle.cml_check.specs.Syntax.{Name, name_at, PlainStmt, PlainStmts, stmt_map, stmts_map, PlainFunction as PlainItem}
 use Rattle.cml_step.specs.declared.place.Hop.{Hop}
@@ -14,20 +15,19 @@ use Rattle.cml_step.specs.Variables.{bound}
 use Rattle.cml_step.specs.Steps.{filled, next, call_step, statement_step}
 use Rattle.cml_step.specs.Calls.{entry_for, wait_of, slots_with, WaitFits}
 use Rattle.cml_step.specs.Agrees.{value_agrees, all_agree}
-use Rattle.cml_step.proofs.VariableLemmas.{bound_unit, bound_set, and_first, and_second}
-use Rattle.cml_step.proofs.AgreeLemmas.{both}
+use Rattle.cml_step.proofs.VariableLemmas.{bound_unit, bound_set}
 
 pub padded : (names : List Name) (vs ws : List PlainValue) → bound names vs ≡ bound names ws → bound names (vs ++ unit ∷ []) ≡ bound names ws
 padded names vs ws h = bound_unit names vs ∙ h
 
 pub agree_padded : (fs : List ℕ) (vs : List PlainValue) → all_agree fs vs ≡ true → all_agree fs (vs ++ unit ∷ []) ≡ true
 agree_padded fs [] h = refl
-agree_padded fs (v ∷ vs) h = both _ _ (and_first _ _ h) (agree_padded fs vs (and_second (value_agrees fs v) _ h))
+agree_padded fs (v ∷ vs) h = and_from _ _ (and_parts _ _ h).0 (agree_padded fs vs (and_parts (value_agrees fs v) _ h).1)
 
 pub agree_set : (fs : List ℕ) (vs : List PlainValue) (s : ℕ) (v : PlainValue) → all_agree fs vs ≡ true → value_agrees fs v ≡ true → all_agree fs (set vs s v) ≡ true
 agree_set fs [] s v h g = h
-agree_set fs (w ∷ vs) zero v h g = both _ _ g (and_second (value_agrees fs w) _ h)
-agree_set fs (w ∷ vs) (suc s) v h g = both _ _ (and_first _ _ h) (agree_set fs vs s v (and_second (value_agrees fs w) _ h) g)
+agree_set fs (w ∷ vs) zero v h g = and_from _ _ g (and_parts (value_agrees fs w) _ h).1
+agree_set fs (w ∷ vs) (suc s) v h g = and_from _ _ (and_parts _ _ h).0 (agree_set fs vs s v (and_parts (value_agrees fs w) _ h).1 g)
 
 -- the variables of a call, where the value has come that it waited for
 pub filled_is : (names : List Name) (vs : List PlainValue) (w : Wait) (v : PlainValue) → AreDistinct names → WaitFits w (length names) (length vs) →

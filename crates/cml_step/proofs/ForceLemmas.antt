@@ -1,5 +1,6 @@
 -- Events being forced, and the functions that are called for them, agree with the program.
 use Rattle.std.proofs.Common.{◌≡◌, ℕ, ◌+◌, true, List, [], ◌∷◌, ◌++◌, refl, ap, sym, ◌∙◌, subst, arith, Option, Some, None}
+use Rattle.std.proofs.lemmas.Bool.{and_parts, and_from}
 use Rattle.cml_value.specs.Value.{PlainValue, event, PlainValues, no_values, values_and, PlainFunction, function, func_of, args_of, values, PlainEvent, never, leaf, choose, wrap, guard, with_nack, scope, PlainEvents, no_events, events_and, nack}
 use Rattle.cml_value.specs.Group.{PlainGroup, PlainGroups, no_groups, groups_and}
 use Rattle.cml_value.specs.Group as group
@@ -9,8 +10,6 @@ use Rattle.cml_group.specs.Force as forced
 use Rattle.cml_step.specs.Forced.{group_of, groups_of, given}
 use Rattle.cml_step.specs.Terms.{list_of}
 use Rattle.cml_step.specs.Agrees.{value_agrees, values_agree, values_count, function_agrees, event_agrees, events_agree}
-use Rattle.cml_step.proofs.VariableLemmas.{and_first, and_second}
-use Rattle.cml_step.proofs.AgreeLemmas.{both}
 
 if_found : (fs : List ℕ) (a : Option PlainAsk) (x y : PlainEvents) → events_agree fs x ≡ true → events_agree fs y ≡ true → events_agree fs (where_found a x y) ≡ true
 if_found fs (Some a) x y h g = h
@@ -22,7 +21,7 @@ mutual
   replaced_agrees fs new never h g = refl
   replaced_agrees fs new (leaf b) h g = g
   replaced_agrees fs new (choose es) h g = all_replaced fs new es h g
-  replaced_agrees fs new (wrap e f) h g = both (event_agrees fs (replaced new e)) _ (replaced_agrees fs new e h (and_first _ _ g)) (and_second (event_agrees fs e) _ g)
+  replaced_agrees fs new (wrap e f) h g = and_from (event_agrees fs (replaced new e)) _ (replaced_agrees fs new e h (and_parts _ _ g).0) (and_parts (event_agrees fs e) _ g).1
   replaced_agrees fs new (guard f) h g = h
   replaced_agrees fs new (with_nack f) h g = h
   replaced_agrees fs new (scope k e) h g = replaced_agrees fs new e h g
@@ -31,8 +30,8 @@ mutual
   all_replaced fs new no_events h g = refl
   all_replaced fs new (events_and e es) h g =
       if_found fs (unforced e) (events_and (replaced new e) es) (events_and e (replaced_in_all new es))
-      (both (event_agrees fs (replaced new e)) _ (replaced_agrees fs new e h (and_first _ _ g)) (and_second (event_agrees fs e) _ g))
-      (both (event_agrees fs e) _ (and_first _ _ g) (all_replaced fs new es h (and_second (event_agrees fs e) _ g)))
+      (and_from (event_agrees fs (replaced new e)) _ (replaced_agrees fs new e h (and_parts _ _ g).0) (and_parts (event_agrees fs e) _ g).1)
+      (and_from (event_agrees fs e) _ (and_parts _ _ g).0 (all_replaced fs new es h (and_parts (event_agrees fs e) _ g).1))
 
 -- a place that is found has a function that agrees
 abbrev pub PlaceAgrees : List ℕ → Option PlainAsk → Type 0
@@ -49,28 +48,28 @@ mutual
   place_agrees fs never g = tt
   place_agrees fs (leaf b) g = tt
   place_agrees fs (choose es) g = some_place_agrees fs es g
-  place_agrees fs (wrap e f) g = place_agrees fs e (and_first _ _ g)
+  place_agrees fs (wrap e f) g = place_agrees fs e (and_parts _ _ g).0
   place_agrees fs (guard f) g = g
   place_agrees fs (with_nack f) g = g
   place_agrees fs (scope k e) g = place_agrees fs e g
 
   some_place_agrees : (fs : List ℕ) (es : PlainEvents) → events_agree fs es ≡ true → PlaceAgrees fs (unforced_of_all es)
   some_place_agrees fs no_events g = tt
-  some_place_agrees fs (events_and e es) g = either_agrees fs (unforced e) (unforced_of_all es) (place_agrees fs e (and_first _ _ g)) (some_place_agrees fs es (and_second (event_agrees fs e) _ g))
+  some_place_agrees fs (events_and e es) g = either_agrees fs (unforced e) (unforced_of_all es) (place_agrees fs e (and_parts _ _ g).0) (some_place_agrees fs es (and_parts (event_agrees fs e) _ g).1)
 
 last_count : (v : PlainValue) (vs : PlainValues) → values_count (with_last v vs) ≡ values_count vs + 1
 last_count v no_values = refl
 last_count v (values_and w ws) = omega (arith, last_count v ws)
 
 last_agrees : (fs : List ℕ) (v : PlainValue) (vs : PlainValues) → value_agrees fs v ≡ true → values_agree fs vs ≡ true → values_agree fs (with_last v vs) ≡ true
-last_agrees fs v no_values h g = both _ _ h refl
-last_agrees fs v (values_and w ws) h g = both (value_agrees fs w) _ (and_first _ _ g) (last_agrees fs v ws h (and_second (value_agrees fs w) _ g))
+last_agrees fs v no_values h g = and_from _ _ h refl
+last_agrees fs v (values_and w ws) h g = and_from (value_agrees fs w) _ (and_parts _ _ g).0 (last_agrees fs v ws h (and_parts (value_agrees fs w) _ g).1)
 
 -- a function that takes one value more, given one
 pub given_agrees_last : (fs : List ℕ) (f : PlainFunction) (v : PlainValue) → function_agrees fs 1 f ≡ true → value_agrees fs v ≡ true → function_agrees fs 0 (given f v) ≡ true
 given_agrees_last fs (function f vs) v h g =
     let e : values_count (with_last v vs) + 0 ≡ values_count vs + 1 = omega (arith, last_count v vs) in
-    both (takes fs f (values_count (with_last v vs) + 0)) _ (ap (takes fs f) e ∙ and_first _ _ h) (last_agrees fs v vs g (and_second (takes fs f (values_count vs + 1)) _ h))
+    and_from (takes fs f (values_count (with_last v vs) + 0)) _ (ap (takes fs f) e ∙ (and_parts _ _ h).0) (last_agrees fs v vs g (and_parts (takes fs f (values_count vs + 1)) _ h).1)
 
 pub given_nack_agrees : (fs : List ℕ) (f : PlainFunction) (k : ℕ) → function_agrees fs 1 f ≡ true → function_agrees fs 0 (given_nack k f) ≡ true
 given_nack_agrees fs (function f vs) k h = given_agrees_last fs (function f vs) (event (leaf (nack k))) h refl

@@ -1,5 +1,6 @@
 -- Places in a function's body.
 use Rattle.std.proofs.Common.{◌≡◌, ℕ, zero, suc, ◌+◌, ◌<◌, ◌≤◌, List, [], ◌∷◌, ◌++◌, length, refl, ap, sym, ◌∙◌, arith, Option, Some, None, slice_get, add-one, Bool, true, false, ◌&&◌, get_or, drop}
+use Rattle.std.proofs.lemmas.Bool.{and_parts}
 use Rattle.cml_check.specs.Syntax.{PlainExpr, expr_map, PlainStmt, if_so, while_so, let_be, set_to, just_do, return_with, PlainStmts, no_stmts, stmts_and, stmts, stmts_map}
 use Rattle.cml_step.specs.declared.place.Arm.{Arm}
 use Rattle.cml_step.specs.declared.place.Arm.TheVariants.{Then, Else, Body}
@@ -123,27 +124,19 @@ left_body f b hs at e x h =
 pub left_end : (b : PlainStmts ℕ) (at : ℕ) → stmt_at b at ≡ None → left_at b [] at ≡ no_stmts
 left_end b at e = drop_none b at e
 
-both_left : (a b : Bool) → a && b ≡ true → a ≡ true
-both_left true b e = refl
-both_left false b e = absurd (cc)
-
-both_right : (a b : Bool) → a && b ≡ true → b ≡ true
-both_right true b e = e
-both_right false b e = absurd (cc)
-
 pub at_fits : (fs : List ℕ) (n : ℕ) (b : PlainStmts ℕ) (i : ℕ) (s : PlainStmt ℕ) → stmts_fit fs n b ≡ true → stmt_at b i ≡ Some s → stmt_fits fs n s ≡ true
 at_fits fs n no_stmts i s f e = absurd (cc)
 at_fits fs n (stmts_and t ts) zero s f e =
-    let h : t ≡ s = cc in ap (stmt_fits fs n) (sym h) ∙ both_left (stmt_fits fs n t) (stmts_fit fs n ts) f
-at_fits fs n (stmts_and t ts) (suc i) s f e = at_fits fs n ts i s (both_right (stmt_fits fs n t) (stmts_fit fs n ts) f) e
+    let h : t ≡ s = cc in ap (stmt_fits fs n) (sym h) ∙ (and_parts (stmt_fits fs n t) (stmts_fit fs n ts) f).0
+at_fits fs n (stmts_and t ts) (suc i) s f e = at_fits fs n ts i s (and_parts (stmt_fits fs n t) (stmts_fit fs n ts) f).1 e
 
 inside_fits : (fs : List ℕ) (n : ℕ) (o : Option (PlainStmt ℕ)) (a : Arm) → ((s : PlainStmt ℕ) → o ≡ Some s → stmt_fits fs n s ≡ true) → stmts_fit fs n (inside o a) ≡ true
 inside_fits fs n None a h = refl
 inside_fits fs n (Some (if_so e x y)) Then h =
-    both_right (expr_fits fs n e) (stmts_fit fs n x) (both_left (expr_fits fs n e && stmts_fit fs n x) (stmts_fit fs n y) (h (if_so e x y) refl))
-inside_fits fs n (Some (if_so e x y)) Else h = both_right (expr_fits fs n e && stmts_fit fs n x) (stmts_fit fs n y) (h (if_so e x y) refl)
+    (and_parts (expr_fits fs n e) (stmts_fit fs n x) (and_parts (expr_fits fs n e && stmts_fit fs n x) (stmts_fit fs n y) (h (if_so e x y) refl)).0).1
+inside_fits fs n (Some (if_so e x y)) Else h = (and_parts (expr_fits fs n e && stmts_fit fs n x) (stmts_fit fs n y) (h (if_so e x y) refl)).1
 inside_fits fs n (Some (if_so e x y)) Body h = refl
-inside_fits fs n (Some (while_so e x)) Body h = both_right (expr_fits fs n e) (stmts_fit fs n x) (h (while_so e x) refl)
+inside_fits fs n (Some (while_so e x)) Body h = (and_parts (expr_fits fs n e) (stmts_fit fs n x) (h (while_so e x) refl)).1
 inside_fits fs n (Some (while_so e x)) Then h = refl
 inside_fits fs n (Some (while_so e x)) Else h = refl
 inside_fits fs n (Some (let_be v e)) a h = refl

@@ -1,5 +1,5 @@
 -- A slice, step by step.
-use Rattle.std.proofs.Common.{◌≡◌, ℕ, suc, ◌+◌, ◌-◌, ◌<◌, ◌≤◌, [], refl, ap, ◌∙◌, arith}
+use Rattle.std.proofs.Common.{◌≡◌, ℕ, zero, suc, ◌+◌, ◌-◌, ◌<◌, ◌≤◌, [], refl, ap, subst, ◌∙◌, arith}
 use Rattle.cml_step.specs.declared.fault.Fault.{Fault}
 use Rattle.cml_step.specs.declared.ask.Ask.{Ask}
 use Rattle.cml_step.specs.declared.ask.Ask.TheVariants as asks_of
@@ -42,30 +42,39 @@ slice_fails p self k n t why h e = ap (λ m. sliced_from p self m n t) (fewer k 
 pub slice_over : (p : Program) (self k n : ℕ) (t : Term) → k ≤ n → sliced_from p self (k - n) n t ≡ record { ask = ask.nothing; end = t; steps = n }
 slice_over p self k n t h = let e : k - n ≡ 0 = omega (arith, h) in ap (λ m. sliced_from p self m n t) e ∙ no_step p self n t
 
--- no step was made
-pub goes_none : (p : Program) (self : ℕ) (t : Term) → GoesIn p self 0 t t
-goes_none p self t left steps = ap (λ n. sliced_from p self n steps t) (whole left) ∙ ap (λ n. sliced_from p self left n t) (same steps)
+-- one more step goes on
+pub goes_more : (p : Program) (self n : ℕ) (t u v : Term) → GoesIn p self n t u → next p self u ≡ goes_on v → GoesIn p self (n + 1) t v
+goes_more p self n t u v before one = subst (λ m. GoesIn p self m t v) (plus_one n) (further n t before)
+  where
+    plus_one : (n : ℕ) → suc n ≡ n + 1
+    plus_one n = omega arith
+
+    further : (n : ℕ) (t : Term) → GoesIn p self n t u → GoesIn p self (suc n) t v
+    further zero t e = (v, ap (λ x. next p self x) e ∙ one, refl)
+    further (suc n) t steps = (steps.0, steps.1, further n steps.0 steps.2)
+
+-- a slice that begins with so many steps which go on is the rest of it behind them
+goes_sliced : (p : Program) (self n left steps : ℕ) (t u : Term) → GoesIn p self n t u → sliced_from p self (n + left) steps t ≡ sliced_from p self left (steps + n) u
+goes_sliced p self zero left steps t u e = ap (λ k. sliced_from p self k steps t) (whole left) ∙ ap (λ k. sliced_from p self left k t) (same steps) ∙ ap (λ v. sliced_from p self left (steps + 0) v) e
   where
     whole : (n : ℕ) → 0 + n ≡ n
     whole n = omega arith
 
     same : (n : ℕ) → n ≡ n + 0
     same n = omega arith
-
--- one more step goes on
-pub goes_more : (p : Program) (self n : ℕ) (t u v : Term) → GoesIn p self n t u → next p self u ≡ goes_on v → GoesIn p self (n + 1) t v
-goes_more p self n t u v before one left steps =
-    ap (λ m. sliced_from p self m steps t) (more n left) ∙ before (suc left) steps ∙ one_step p self left (steps + n) u (goes_on v) one ∙ ap (λ m. sliced_from p self left m v) (later steps n)
+goes_sliced p self (suc n) left steps t u goes =
+    ap (λ k. sliced_from p self k steps t) (first n left) ∙ one_step p self (n + left) steps t (goes_on goes.0) goes.1
+    ∙ goes_sliced p self n left (steps + 1) goes.0 u goes.2 ∙ ap (λ k. sliced_from p self left k u) (later steps n)
   where
-    more : (n left : ℕ) → n + 1 + left ≡ n + suc left
-    more n left = omega arith
+    first : (n left : ℕ) → suc n + left ≡ suc (n + left)
+    first n left = omega arith
 
-    later : (a b : ℕ) → a + b + 1 ≡ a + (b + 1)
+    later : (a b : ℕ) → a + 1 + b ≡ a + suc b
     later a b = omega arith
 
 -- a slice in which so many steps went on has the rest before it
 pub slice_skips : (p : Program) (self k n m : ℕ) (t u : Term) → GoesIn p self n t u → n ≤ k - m → sliced_from p self (k - m) m t ≡ sliced_from p self (k - (m + n)) (m + n) u
-slice_skips p self k n m t u goes within = ap (λ j. sliced_from p self j m t) (rest k n m within) ∙ goes (k - (m + n)) m
+slice_skips p self k n m t u goes within = ap (λ j. sliced_from p self j m t) (rest k n m within) ∙ goes_sliced p self n (k - (m + n)) m t u goes
   where
     rest : (k n m : ℕ) → n ≤ k - m → k - m ≡ n + (k - (m + n))
     rest k n m h = omega (arith, h)

@@ -2,6 +2,7 @@
 use Rattle.std.proofs.Common.{◌≡◌, ℕ, zero, suc, ◌+◌, ◌<◌, true, List, [], ◌∷◌, ◌++◌, length, map, refl, ap, sym, ◌∙◌, subst, arith, get_or, Option, Some, None, slice_get, reverse}
 use Rattle.std.proofs.lemmas.List.{reverse-append}
 use Rattle.std.specs.Option.{option_map}
+use Rattle.std.proofs.lemmas.Bool.{and_parts, and_from}
 use Rattle.cml_value.specs.Value.{PlainValue, PlainFunction, function, func_of, args_of, values}
 use Rattle.cml_check.specs.Syntax.{PlainFunction as PlainItem, no_stmts, stmts_map, name_at, written}
 use Rattle.cml_step.specs.declared.call.Wait.{Wait}
@@ -14,7 +15,6 @@ use Rattle.cml_check.specs.Heads.{takes}
 use Rattle.cml_check.specs.InOrder.{arities}
 use Rattle.cml_step.specs.Agrees.{function_agrees, values_count}
 use Rattle.cml_step.specs.Calls.{WaitFits}
-use Rattle.cml_step.proofs.VariableLemmas.{and_first, and_second}
 use Rattle.cml_check.specs.Names.{AreDistinct}
 use Rattle.cml_step.specs.Agrees.{value_agrees, all_agree}
 use Rattle.cml_step.specs.Steps.{filled, delivered, goes_on, next, wraps_step, pushed}
@@ -22,7 +22,7 @@ use Rattle.cml_step.specs.Terms.{runs}
 use Rattle.cml_step.specs.Forced.{given}
 use Rattle.cml_step.specs.Calls.{entry_for, slots_with}
 use Rattle.cml_step.proofs.CallLemmas.{filled_is, agree_filled, wait_room}
-use Rattle.cml_step.proofs.AgreeLemmas.{all_values, both}
+use Rattle.cml_step.proofs.AgreeLemmas.{all_values}
 use Rattle.cml_step.proofs.ForceLemmas.{list_values}
 use Rattle.cml_step.specs.declared.entry.Entry.{Entry}
 use Rattle.cml_step.specs.declared.entry.Entry.TheVariants as entry
@@ -93,8 +93,8 @@ there (f ∷ fs) (suc g) n h = let l = there fs g n h in omega (arith, l)
 -- such a call is one of the program's
 pub begun_fits : (p : List (PlainItem ℕ)) (c : Call) → function_agrees (arities p) 0 (function c.func (values c.slots.items)) ≡ true → c.wait ≡ wait.Runs → CallFits p c
 begun_fits p c h w = record {
-  there = there p c.func _ (and_first _ _ h);
-  agree = sym (all_values (arities p) c.slots.items) ∙ and_second (takes (arities p) c.func (values_count (values c.slots.items) + 0)) _ h;
+  there = there p c.func _ (and_parts _ _ h).0;
+  agree = sym (all_values (arities p) c.slots.items) ∙ (and_parts (takes (arities p) c.func (values_count (values c.slots.items) + 0)) _ h).1;
   waits = subst (λ d. WaitFits d (names_of (slice_get p c.func)) (length c.slots.items)) (sym w) tt;
 }
 
@@ -169,8 +169,8 @@ pub last_next : (fs : List PlainFunction) (f : PlainFunction) → reverse (fs ++
 last_next fs f = reverse-append fs (f ∷ [])
 
 pub wraps_popped : (counts : List ℕ) (fs : List PlainFunction) (f : PlainFunction) → functions_agree counts (fs ++ f ∷ []) ≡ true → (functions_agree counts fs ≡ true) × (function_agrees counts 1 f ≡ true)
-wraps_popped counts [] f h = (refl, and_first _ _ h)
-wraps_popped counts (x ∷ fs) f h = let r = wraps_popped counts fs f (and_second (function_agrees counts 1 x) _ h) in (both _ _ (and_first _ _ h) r.0, r.1)
+wraps_popped counts [] f h = (refl, (and_parts _ _ h).0)
+wraps_popped counts (x ∷ fs) f h = let r = wraps_popped counts fs f (and_parts (function_agrees counts 1 x) _ h).1 in (and_from _ _ (and_parts _ _ h).0 r.0, r.1)
 
 -- a call that waits takes no step
 waiting_in : (p : Program) (self : ℕ) (o : Option (PlainItem ℕ)) (c : Call) (w : Wait) (below : Term) → c.wait ≡ w → (w ≡ wait.Runs → ⊥) →

@@ -3,6 +3,7 @@ use Rattle.std.proofs.Common.{◌≡◌, ℕ, zero, suc, ◌<◌, Bool, true, fa
 use Rattle.std.specs.Str.{bytes_eq}
 use Rattle.std.specs.Map.{lookup, set_value}
 use Rattle.std.specs.Cmp.Lexicographic.{nat_list_eq_equiv, bytes_decides}
+use Rattle.std.proofs.lemmas.Bool.{and_parts, or_parts}
 use Rattle.cml_value.specs.Value.{PlainValue, unit, function, values}
 use Rattle.cml_check.specs.Syntax.{Name, name_at, PlainExpr, constant, number, text, variable, unary, binary, choose, wrap, guard, with_nack, PlainExprs, no_exprs, exprs_and, expr_map, exprs_map}
 use Rattle.cml_check.specs.Names.{AreDistinct, is_among}
@@ -15,27 +16,11 @@ use Rattle.cml_step.specs.Evaluate.{evaluate, evaluate_all}
 own_name : (x : Name) → bytes_eq x x ≡ true
 own_name x = (bytes_decides x x).1 refl
 
-or_first : (a b : Bool) → (a || b) ≡ false → a ≡ false
-or_first true b h = h
-or_first false b h = refl
-
-or_second : (a b : Bool) → (a || b) ≡ false → b ≡ false
-or_second true b h = absurd (cc)
-or_second false b h = h
-
-pub and_first : (a b : Bool) → (a && b) ≡ true → a ≡ true
-and_first true b h = refl
-and_first false b h = absurd (cc)
-
-pub and_second : (a b : Bool) → (a && b) ≡ true → b ≡ true
-and_second true b h = h
-and_second false b h = absurd (cc)
-
 -- a name behind another is not that one
 other_name : (x : Name) (xs : List Name) (s : ℕ) → is_among xs x ≡ false → s < length xs → bytes_eq (name_at xs s) x ≡ false
 other_name x [] s h l = absurd (omega arith)
-other_name x (y ∷ ys) zero h l = nat_list_eq_equiv.symm y x ∙ or_first (bytes_eq x y) (is_among ys x) h
-other_name x (y ∷ ys) (suc s) h l = other_name x ys s (or_second (bytes_eq x y) (is_among ys x) h) (omega arith)
+other_name x (y ∷ ys) zero h l = nat_list_eq_equiv.symm y x ∙ (or_parts (bytes_eq x y) (is_among ys x) h).0
+other_name x (y ∷ ys) (suc s) h l = other_name x ys s (or_parts (bytes_eq x y) (is_among ys x) h).1 (omega arith)
 
 looked : (x q : Name) (v : PlainValue) (b : Bool) (rest : Variables) → bytes_eq q x ≡ b →
     unwrap_or (lookup (bytes_eq q) ((x, v) ∷ rest)) unit ≡ cond b v (unwrap_or (lookup (bytes_eq q) rest) unit)
@@ -80,21 +65,21 @@ module _ (names : List Name) (vs : List PlainValue) (d : AreDistinct names) (fs 
     evaluate_named (variable s) h = ap Ok (bound_value names vs s d (grind (arith, h)))
     evaluate_named (unary op e) h = ap (λ r. r >>= (λ v. unary_value op v)) (evaluate_named e h)
     evaluate_named (binary op a b) h =
-        let p = evaluate_named a (and_first _ _ h) in let q = evaluate_named b (and_second _ _ h) in
+        let p = evaluate_named a (and_parts _ _ h).0 in let q = evaluate_named b (and_parts _ _ h).1 in
         ap (λ r. r >>= (λ v. evaluate (value_of (bound names vs)) (expr_map (name_at names) b) >>= (λ w. binary_value op v w))) p
         ∙ ap (λ r. evaluate (slot_value vs) a >>= (λ v. r >>= (λ w. binary_value op v w))) q
     evaluate_named (choose es) h = ap (λ r. r >>= choose_value) (all_named es h)
     evaluate_named (wrap e f es) h =
-        let p = evaluate_named e (and_first _ _ (and_first _ _ h)) in let q = all_named es (and_second _ _ (and_first _ _ h)) in
+        let p = evaluate_named e (and_parts _ _ (and_parts _ _ h).0).0 in let q = all_named es (and_parts _ _ (and_parts _ _ h).0).1 in
         ap (λ r. r >>= (λ v. evaluate_all (value_of (bound names vs)) (exprs_map (name_at names) es) >>= (λ ws. wrap_value v (function f (values ws))))) p
         ∙ ap (λ r. evaluate (slot_value vs) e >>= (λ v. r >>= (λ ws. wrap_value v (function f (values ws))))) q
-    evaluate_named (guard f es) h = ap (λ r. r >>= (λ ws. guard_value (function f (values ws)))) (all_named es (and_first _ _ h))
-    evaluate_named (with_nack f es) h = ap (λ r. r >>= (λ ws. nack_value (function f (values ws)))) (all_named es (and_first _ _ h))
+    evaluate_named (guard f es) h = ap (λ r. r >>= (λ ws. guard_value (function f (values ws)))) (all_named es (and_parts _ _ h).0)
+    evaluate_named (with_nack f es) h = ap (λ r. r >>= (λ ws. nack_value (function f (values ws)))) (all_named es (and_parts _ _ h).0)
 
     pub all_named : (es : PlainExprs ℕ) → exprs_fit fs (length names) es ≡ true →
         evaluate_all (value_of (bound names vs)) (exprs_map (name_at names) es) ≡ evaluate_all (slot_value vs) es
     all_named no_exprs h = refl
     all_named (exprs_and e es) h =
-        let p = evaluate_named e (and_first _ _ h) in let q = all_named es (and_second _ _ h) in
+        let p = evaluate_named e (and_parts _ _ h).0 in let q = all_named es (and_parts _ _ h).1 in
         ap (λ r. r >>= (λ v. evaluate_all (value_of (bound names vs)) (exprs_map (name_at names) es) >>= (λ ws. Ok (v ∷ ws)))) p
         ∙ ap (λ r. evaluate (slot_value vs) e >>= (λ v. r >>= (λ ws. Ok (v ∷ ws)))) q

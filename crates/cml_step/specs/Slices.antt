@@ -3,7 +3,7 @@ use Rattle.std.specs.Prelude.{◌≡◌, ℕ, zero, suc, ◌+◌}
 use Rattle.cml_step.specs.Terms.{Program, Term}
 use Rattle.cml_step.specs.Asks as ask
 use Rattle.cml_step.specs.Asks.{PlainAsk}
-use Rattle.cml_step.specs.Steps.{next}
+use Rattle.cml_step.specs.Steps.{goes_on, next}
 
 -- what a slice comes to: what the thread asks in the end, its term there, and the number of steps
 pub record PlainSlice : Type 0 where
@@ -32,4 +32,5 @@ sliced p self term = sliced_from p self max_steps 0 term
 
 -- from the one term the thread goes on to the other in so many steps that ask nothing
 abbrev pub GoesIn : Program → ℕ → ℕ → Term → Term → Type 0
-GoesIn p self n before after = (left steps : ℕ) → sliced_from p self (n + left) steps before ≡ sliced_from p self left (steps + n) after
+GoesIn p self zero before after = before ≡ after
+GoesIn p self (suc n) before after = (mid : Term) × (next p self before ≡ goes_on mid) × GoesIn p self n mid after

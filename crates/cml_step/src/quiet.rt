@@ -145,9 +145,6 @@ pub(crate) fn quiet_steps(
     ensures goes { IfOk result (λ n. (self : ℕ) → GoesIn (text_of program.now) self n
         (term_of program.now stack.old.items) (term_of program.now stack.new.items)) }
 {
-    let Some(Entry::Call(_)) = stack.last() else {
-        return Ok(0);
-    };
     match stack.pop() {
         Some(Entry::Call(call)) => quiet_call(alloc, program, call, stack, most),
         Some(other) => {

@@ -4,7 +4,7 @@ use Rattle.cml_channel.specs.Lanes.{with_run}
 use Rattle.cml_index.specs.declared.slot.Slot.{Slot}
 use Rattle.cml_index.specs.Slot.{same_slot}
 use Rattle.cml_index.specs.Slots as spec
-use Rattle.cml_index.proofs.Walks.{no_run, with_none, same_slot_is, cases_done, cases_left, self_left}
+use Rattle.cml_index.proofs.Walks.{no_run, with_none, cases_left, self_left, moved}
 use Rattle.cml_index.proofs.lanes.Lanes.come.Goals as goal
 
 pub loop-i-init : goal.loop-i-init
@@ -25,11 +25,12 @@ loop-i-preserved o c =
     let untouched = c.loop-i.invariant.left slot (self_left slot (now_left slot) (later slot) (c.run_at-slot.ensures.left slot)) in
     let here : spec.lane_at c.come_at.new.self.by_slot slot ≡ with_run tid (spec.run_in c.args.runs.now slot) (spec.lane_at c.args.self.now.by_slot slot) =
     c.come_at.ensures.here ∙ ap (λ ls. with_run tid ls (spec.lane_at c.loop-i.self.by_slot slot)) (sym c.run_at-slot.ensures.run) ∙ ap (with_run tid (spec.run_in c.args.runs.now slot)) untouched in
+    let lanes = moved slot now_left later (λ k. spec.lane_at c.args.self.now.by_slot k) (λ k. with_run tid (spec.run_in c.args.runs.now k) (spec.lane_at c.args.self.now.by_slot k))
+        (λ k. spec.lane_at c.loop-i.self.by_slot k) (λ k. spec.lane_at c.come_at.new.self.by_slot k) c.run_at-slot.ensures.left c.run_at-slot.ensures.once (λ _. here) c.come_at.ensures.elsewhere
+        (c.loop-i.invariant.done, c.loop-i.invariant.left) in
     record {
-      done = λ k e. cases_done (same_slot k slot) (now_left k) (later k) (c.run_at-slot.ensures.left k) e
-          (λ is. subst (λ n. spec.lane_at c.come_at.new.self.by_slot n ≡ with_run tid (spec.run_in c.args.runs.now n) (spec.lane_at c.args.self.now.by_slot n)) (sym (same_slot_is k slot is)) here)
-          (λ off left. c.come_at.ensures.elsewhere k off ∙ c.loop-i.invariant.done k left);
-      left = λ k e. cases_left (same_slot k slot) (now_left k) (later k) (c.run_at-slot.ensures.left k) e (c.run_at-slot.ensures.once k) (λ off left. c.come_at.ensures.elsewhere k off ∙ c.loop-i.invariant.left k left);
+      done = lanes.0;
+      left = lanes.1;
       room = λ k e. cases_left (same_slot k slot) (now_left k) (later k) (c.run_at-slot.ensures.left k) e (c.run_at-slot.ensures.once k) (λ off left. c.come_at.ensures.room k off ∙ c.loop-i.invariant.room k left);
       cost = λ digits few.
           let before = c.loop-i.invariant.cost digits few in

@@ -2,9 +2,8 @@ use Rattle.std.proofs.Common.{◌≡◌, ◌<◌, ◌+◌, ◌^◌, Bool, [], le
 use Rattle.std.specs.Option.{option_map_or}
 use Rattle.cml_channel.specs.Lanes.{is_own, others}
 use Rattle.cml_index.specs.declared.slot.Slot.{Slot}
-use Rattle.cml_index.specs.Slot.{same_slot}
 use Rattle.cml_index.specs.Slots as spec
-use Rattle.cml_index.proofs.Walks.{no_run, others_all, same_slot_is, cases_done, cases_left, self_left}
+use Rattle.cml_index.proofs.Walks.{no_run, others_all, self_left, moved}
 use Rattle.cml_index.proofs.lanes.Lanes.go.Goals as goal
 
 pub loop-i-init : goal.loop-i-init
@@ -31,11 +30,11 @@ loop-i-preserved o c =
     let later : Slot → Bool = λ k. spec.has_run (drop (c.loop-i.i + 1) c.args.runs.now.entries) k in
     let untouched = c.loop-i.invariant.left slot (self_left slot (now_left slot) (later slot) (c.run_at-slot.ensures.left slot)) in
     let here : spec.lane_at c.go_at.new.self.by_slot slot ≡ others tid (spec.lane_at c.args.self.now.by_slot slot) = c.go_at.ensures.here ∙ ap (others tid) untouched in
+    let lanes = moved slot now_left later (λ k. spec.lane_at c.args.self.now.by_slot k) (λ k. others tid (spec.lane_at c.args.self.now.by_slot k)) (λ k. spec.lane_at c.loop-i.self.by_slot k)
+        (λ k. spec.lane_at c.go_at.new.self.by_slot k) c.run_at-slot.ensures.left c.run_at-slot.ensures.once (λ _. here) c.go_at.ensures.elsewhere (c.loop-i.invariant.done, c.loop-i.invariant.left) in
     record {
-      done = λ k e. cases_done (same_slot k slot) (now_left k) (later k) (c.run_at-slot.ensures.left k) e
-          (λ is. subst (λ n. spec.lane_at c.go_at.new.self.by_slot n ≡ others tid (spec.lane_at c.args.self.now.by_slot n)) (sym (same_slot_is k slot is)) here)
-          (λ off left. c.go_at.ensures.elsewhere k off ∙ c.loop-i.invariant.done k left);
-      left = λ k e. cases_left (same_slot k slot) (now_left k) (later k) (c.run_at-slot.ensures.left k) e (c.run_at-slot.ensures.once k) (λ off left. c.go_at.ensures.elsewhere k off ∙ c.loop-i.invariant.left k left);
+      done = lanes.0;
+      left = lanes.1;
       room = λ k. let a = c.go_at.ensures.room k in let b = c.loop-i.invariant.room k in omega (arith, a, b);
       cost = λ digits few.
           let before = c.loop-i.invariant.cost digits few in
