@@ -43,9 +43,9 @@ const TICKS: [(u64, Option<Refusal>); 3] = [
 fn book_of(rt: &(impl Abort + AllocGlobal), threads: u32) -> Book<KeptRows> {
     let mut book = Book::new(rt.alloc(), KeptRows::new(rt.alloc()));
     for number in 0..threads {
-        assert_eq!(rt; book.spawn(), Ok(Tid(number)));
+        assert!(rt; book.spawn() == Ok(Tid(number)));
     }
-    assert_eq!(rt; book.make_chan(), Ok(ChanId(0)));
+    assert!(rt; book.make_chan() == Ok(ChanId(0)));
     book
 }
 
@@ -65,10 +65,10 @@ fn wait(
 // The party is this thread, and goes on with the value that the words make, and nothing else.
 fn goes_on(rt: &(impl Abort + AllocGlobal), party: Resume, thread: u32, text: &str) {
     let wanted = value(rt, text);
-    assert_eq!(rt; party.tid, Tid(thread));
+    assert!(rt; party.tid == Tid(thread));
     assert!(rt; party.value.same(&wanted));
-    assert_eq!(rt; party.wraps.len(), 0);
-    assert_eq!(rt; party.fired.len(), 0);
+    assert!(rt; party.wraps.is_empty());
+    assert!(rt; party.fired.is_empty());
     drop(party);
     drop(wanted);
 }
@@ -83,49 +83,49 @@ fn pending_count(rt: &(impl Abort + AllocGlobal), book: &Book<KeptRows>) -> usiz
 // The table shows just the exchange, by each of its calls.
 fn shows_the_exchange(rt: &(impl Abort + AllocGlobal), table: &KeptRows) {
     let rows = table.rows(rt.alloc()).expect(rt, MEMORY);
-    assert_eq!(rt; rows.len(), 1);
-    assert_eq!(rt; rows[0], EXCHANGE);
+    assert!(rt; rows.len() == 1);
+    assert!(rt; rows[0] == EXCHANGE);
     drop(rows);
     assert!(rt; table.has(&EXCHANGE));
     assert!(rt; !table.has(&FIRST));
-    assert_eq!(rt; table.head_count(), 1);
-    assert_eq!(rt; table.head(0), SENDER);
-    assert_eq!(rt; table.partner_count(SENDER), 1);
-    assert_eq!(rt; table.partner(SENDER, 0), EXCHANGE);
+    assert!(rt; table.head_count() == 1);
+    assert!(rt; table.head(0) == SENDER);
+    assert!(rt; table.partner_count(SENDER) == 1);
+    assert!(rt; table.partner(SENDER, 0) == EXCHANGE);
 }
 
 #[test]
 fn a_value_is_handed_over(rt: HostRuntime) {
     let mut book = book_of(&rt, 2);
-    assert_eq!(rt; book.next_thread(), Tid(2));
-    assert_eq!(rt; wait(&rt, &mut book, 1, "0 5 send"), Ok(()));
-    assert_eq!(rt; book.table().head_count(), 0);
-    assert_eq!(rt; wait(&rt, &mut book, 0, "0 recv"), Ok(()));
-    assert_eq!(rt; pending_count(&rt, &book), 2);
+    assert!(rt; book.next_thread() == Tid(2));
+    assert!(rt; wait(&rt, &mut book, 1, "0 5 send") == Ok(()));
+    assert!(rt; book.table().head_count() == 0);
+    assert!(rt; wait(&rt, &mut book, 0, "0 recv") == Ok(()));
+    assert!(rt; pending_count(&rt, &book) == 2);
     shows_the_exchange(&rt, book.table());
     let committed = book.commit(rt.alloc(), EXCHANGE).expect(&rt, MEMORY);
     goes_on(&rt, committed.head, 1, "unit");
     goes_on(&rt, committed.partner.expect(&rt, "a receiver"), 0, "5");
-    assert_eq!(rt; pending_count(&rt, &book), 0);
-    assert_eq!(rt; book.table().head_count(), 0);
+    assert!(rt; pending_count(&rt, &book) == 0);
+    assert!(rt; book.table().head_count() == 0);
     drop(book);
 }
 
 #[test]
 fn a_join_is_lit_by_the_end(rt: HostRuntime) {
     let mut book = book_of(&rt, 2);
-    assert_eq!(rt; book.nack(Tid(2)), Err(Fault::Refused(Refusal::Thread)));
-    assert_eq!(rt; book.nack(Tid(1)), Ok(NackId(0)));
-    assert_eq!(rt; book.next_nack(), NackId(1));
-    assert_eq!(rt; wait(&rt, &mut book, 0, "1 join"), Ok(()));
+    assert!(rt; book.nack(Tid(2)) == Err(Fault::Refused(Refusal::Thread)));
+    assert!(rt; book.nack(Tid(1)) == Ok(NackId(0)));
+    assert!(rt; book.next_nack() == NackId(1));
+    assert!(rt; wait(&rt, &mut book, 0, "1 join") == Ok(()));
     assert!(rt; !book.table().has(&FIRST));
-    assert_eq!(rt; book.end(rt.alloc(), Tid(1)), Ok(()));
+    assert!(rt; book.end(rt.alloc(), Tid(1)) == Ok(()));
     let again = book.end(rt.alloc(), Tid(1));
-    assert_eq!(rt; again, Err(Fault::Refused(Refusal::State)));
+    assert!(rt; again == Err(Fault::Refused(Refusal::State)));
     let committed = book.commit(rt.alloc(), FIRST).expect(&rt, MEMORY);
     assert!(rt; committed.partner.is_none());
     goes_on(&rt, committed.head, 0, "unit");
-    assert_eq!(rt; wait(&rt, &mut book, 0, "0 after"), Ok(()));
+    assert!(rt; wait(&rt, &mut book, 0, "0 after") == Ok(()));
     assert!(rt; book.table().has(&FIRST));
     drop(book);
 }
@@ -145,32 +145,32 @@ fn waits_for_tick(
 fn a_wait_is_refused_by_what_it_names(rt: HostRuntime) {
     let mut book = book_of(&rt, 1);
     for (text, why) in &REFUSED {
-        assert_eq!(rt; wait(&rt, &mut book, 0, text), Err(Fault::Refused(*why)));
+        assert!(rt; wait(&rt, &mut book, 0, text) == Err(Fault::Refused(*why)));
     }
     for (tick, why) in &TICKS {
         let waits = match why {
             Some(why) => Err(Fault::Refused(*why)),
             None => Ok(()),
         };
-        assert_eq!(rt; waits_for_tick(&rt, &mut book, *tick), waits);
+        assert!(rt; waits_for_tick(&rt, &mut book, *tick) == waits);
     }
     let again = waits_for_tick(&rt, &mut book, 0);
-    assert_eq!(rt; again, Err(Fault::Refused(Refusal::State)));
+    assert!(rt; again == Err(Fault::Refused(Refusal::State)));
     drop(book);
 }
 
 #[test]
 fn a_book_knows_its_next_alarm(rt: HostRuntime) {
     let mut book = book_of(&rt, 1);
-    assert_eq!(rt; book.clock(rt.alloc(), 5), Ok(()));
-    assert_eq!(rt; book.now(), 5);
-    assert_eq!(rt; book.next_alarm(), None);
-    assert_eq!(rt; waits_for_tick(&rt, &mut book, 7), Ok(()));
-    assert_eq!(rt; book.next_alarm(), Some(7));
+    assert!(rt; book.clock(rt.alloc(), 5) == Ok(()));
+    assert!(rt; book.now() == 5);
+    assert!(rt; book.next_alarm().is_none());
+    assert!(rt; waits_for_tick(&rt, &mut book, 7) == Ok(()));
+    assert!(rt; book.next_alarm() == Some(7));
     let back = book.clock(rt.alloc(), 4);
-    assert_eq!(rt; back, Err(Fault::Refused(Refusal::Clock)));
-    assert_eq!(rt; book.clock(rt.alloc(), 7), Ok(()));
-    assert_eq!(rt; book.next_alarm(), None);
+    assert!(rt; back == Err(Fault::Refused(Refusal::Clock)));
+    assert!(rt; book.clock(rt.alloc(), 7) == Ok(()));
+    assert!(rt; book.next_alarm().is_none());
     assert!(rt; book.table().has(&FIRST));
     drop(book);
 }

@@ -125,15 +125,18 @@ fn checked(rt: &(impl Abort + AllocGlobal), script: &str) -> Result<Prog, CheckF
 fn takes_programs(rt: HostRuntime) {
     for (script, arities) in PROGRAMS {
         let program = checked(&rt, script).expect(&rt, script);
-        assert_eq!(rt; program.functions(), arities.len(), "{script}");
+        assert!(rt; program.functions() == arities.len(), "{script}");
         for func in 0..arities.len() {
-            assert_eq!(rt; program.arity(func as u32), Some(arities[func]), "{script}");
+            assert!(rt;
+                program.arity(func as u32) == Some(arities[func]),
+                "{script}"
+            );
         }
-        assert_eq!(rt; program.arity(arities.len() as u32), None, "{script}");
+        assert!(rt; program.arity(arities.len() as u32).is_none(), "{script}");
         let copy = program.copy().expect(&rt, MEMORY);
         assert!(rt; copy.same(&program), "{script}");
         let begins = arities.iter().position(|arity| *arity == 0);
-        assert_eq!(rt; begins, Some(program.main() as usize), "{script}");
+        assert!(rt; begins == Some(program.main() as usize), "{script}");
         drop(copy);
         drop(program);
     }
@@ -153,9 +156,8 @@ fn fault(rt: &(impl Abort + AllocGlobal), script: &str) -> Option<CheckFault> {
 #[test]
 fn answers_the_first_fault_of_a_script(rt: HostRuntime) {
     for (script, kind, at) in FAULTS {
-        assert_eq!(rt;
-            fault(&rt, script),
-            Some(CheckFault::At { kind, at }),
+        assert!(rt;
+            fault(&rt, script) == Some(CheckFault::At { kind, at }),
             "{script}"
         );
     }
@@ -208,7 +210,7 @@ fn keeps_to_the_limit_of_statements(rt: HostRuntime) {
         let found = fault(&rt, script.as_str());
         drop(script);
         let expected = expected.map(|(kind, at)| CheckFault::At { kind, at });
-        assert_eq!(rt; found, expected, "{times} times {part}");
+        assert!(rt; found == expected, "{times} times {part}");
     }
 }
 
@@ -232,7 +234,7 @@ fn keeps_to_the_limit_of_functions(rt: HostRuntime) {
         }
         let found = fault(&rt, script.as_str());
         drop(script);
-        assert_eq!(rt; found, expected, "{count}");
+        assert!(rt; found == expected, "{count}");
     }
 }
 
@@ -252,7 +254,7 @@ fn prints_a_fault_of_a_script(rt: HostRuntime) {
     for (kind, line) in KINDS {
         let fault = CheckFault::At { kind, at: 12 };
         let text = fault.to_string(rt.alloc()).expect(&rt, MEMORY);
-        assert_eq!(rt; text.as_str(), line);
+        assert!(rt; text.as_str() == line);
         drop(text);
     }
 }

@@ -113,7 +113,7 @@ fn goes_so(rt: &(impl Abort + AllocGlobal), event: &str, answers: &str, asked: &
         let copy = forcing.copy(rt.alloc()).expect(rt, MEMORY);
         drop(std::mem::replace(&mut forcing, copy));
     }
-    assert_eq!(rt; text.as_str(), asked);
+    assert!(rt; text.as_str() == asked);
     let group_forced = forced(rt, forcing);
     let wanted = group(rt, end);
     assert!(rt; group_forced.same(&wanted), "{end}");

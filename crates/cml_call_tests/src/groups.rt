@@ -134,7 +134,7 @@ fn fires_so(rt: &(impl Abort + AllocGlobal), flat: &Flat) {
             }
         }
         let all = flat.lost(rt.alloc(), n).expect(rt, MEMORY);
-        assert_eq!(rt; fired.as_slice(), all.as_slice());
+        assert!(rt; fired.as_slice() == all.as_slice());
         drop(fired);
         drop(all);
     }
@@ -145,13 +145,13 @@ fn is_told(rt: &(impl Abort + AllocGlobal), group: &Group, scopes: &str, leaves:
     assert!(rt; flat.group().same(group));
     let mut text = String::new(rt.alloc());
     push_nacks(rt, &mut text, flat.scopes());
-    assert_eq!(rt; text.as_str(), scopes);
+    assert!(rt; text.as_str() == scopes);
     text.clear();
     push_leaves(rt, &mut text, &flat);
-    assert_eq!(rt; text.as_str(), leaves);
+    assert!(rt; text.as_str() == leaves);
     text.clear();
     push_chosen(rt, &mut text, group, flat.len());
-    assert_eq!(rt; text.as_str(), leaves);
+    assert!(rt; text.as_str() == leaves);
     drop(text);
     fires_so(rt, &flat);
     drop(flat);
@@ -169,7 +169,7 @@ fn groups_by_hand(rt: HostRuntime) {
 fn refused(rt: &(impl Abort + AllocGlobal), fault: FlatFault, expected: &str) {
     let text = format!(in rt.alloc(); "{fault}").expect(rt, MEMORY);
     drop(fault);
-    assert_eq!(rt; text.as_str(), expected);
+    assert!(rt; text.as_str() == expected);
     drop(text);
 }
 
@@ -178,7 +178,7 @@ fn answers(rt: &(impl Abort + AllocGlobal), group: Group, expected: &str) {
         Ok(flat) => {
             let text = format!(in rt.alloc(); "{}", flat.len()).expect(rt, MEMORY);
             drop(flat);
-            assert_eq!(rt; text.as_str(), expected);
+            assert!(rt; text.as_str() == expected);
             drop(text);
         }
         Err(fault) => refused(rt, fault, expected),

@@ -357,7 +357,7 @@ fn objects_answer(rt: HostRuntime) -> Result<(), Fail> {
         ),
     ];
     for (found, wanted) in &answers {
-        assert_eq!(rt; found.as_str(), *wanted);
+        assert!(rt; found.as_str() == *wanted);
     }
     drop(answers);
     Ok(())
@@ -368,13 +368,13 @@ fn a_nack_goes_its_way_once(rt: HostRuntime) {
     let mut fires = NackCell::new(Tid(3));
     let mut holds = NackCell::new(Tid(3));
     assert!(rt; fires.is_fresh_of(Tid(3)) && !fires.is_fresh_of(Tid(2)));
-    assert_eq!(rt; fires.fire(), Err(Spent));
-    assert_eq!(rt; fires.enter(), Ok(()));
-    assert_eq!(rt; holds.enter(), Ok(()));
+    assert!(rt; fires.fire() == Err(Spent));
+    assert!(rt; fires.enter() == Ok(()));
+    assert!(rt; holds.enter() == Ok(()));
     assert!(rt; !fires.is_fresh_of(Tid(3)));
-    assert_eq!(rt; fires.fire(), Ok(()));
-    assert_eq!(rt; holds.hold(), Ok(()));
-    assert_eq!(rt; holds.fire(), Err(Spent));
+    assert!(rt; fires.fire() == Ok(()));
+    assert!(rt; holds.hold() == Ok(()));
+    assert!(rt; holds.fire() == Err(Spent));
     assert!(rt; fires.is_fired() && !holds.is_fired());
 }
 
@@ -491,14 +491,11 @@ fn a_post_reaches_every_port_or_none(rt: HostRuntime) -> Result<(), Fail> {
     let mut ports: Register<Port> = Register::new(alloc);
     let mut channel = Multicast::new(alloc);
     let mut text = String::new(alloc);
-    assert_eq!(rt; post_word(alloc, &channel, &mut ports, 6), "posted");
+    assert!(rt; post_word(alloc, &channel, &mut ports, 6) == "posted");
     assert!(rt; two_ports(alloc, &mut ports, &mut channel)?);
-    assert_eq!(rt; channel.ports().len(), 2);
+    assert!(rt; channel.ports().len() == 2);
     posts(alloc, &mut text, &mut ports, &channel)?;
-    assert_eq!(rt;
-        text.as_str(),
-        "posted 7 leaves filled full 7 leaves 0 stays posted 9 leaves"
-    );
+    assert!(rt; text.as_str() == "posted 7 leaves filled full 7 leaves 0 stays posted 9 leaves");
     drop(text);
     drop(channel);
     drop(ports);
@@ -519,7 +516,7 @@ fn a_copied_port_goes_its_own_way(rt: HostRuntime) -> Result<(), Fail> {
             read = read.wrapping_add(1);
         }
     }
-    assert_eq!(rt; read, 2);
+    assert!(rt; read == 2);
     assert!(rt; port.lit() && !port.is_full());
     drop(copy);
     drop(port);
@@ -585,9 +582,9 @@ fn a_clock_knows_its_next_alarm(rt: HostRuntime) -> Result<(), Fail> {
             None => text.push_str(" none")?,
         }
     }
-    assert_eq!(rt; text.as_str(), " 9 4 4 4 lit 4 5 9 9 9 none lit none");
+    assert!(rt; text.as_str() == " 9 4 4 4 lit 4 5 9 9 9 none lit none");
     assert!(rt; clock.has_come(8) && !clock.has_come(9));
-    assert_eq!(rt; Alarm::new(9, 8).tick(), 9);
+    assert!(rt; Alarm::new(9, 8).tick() == 9);
     drop(text);
     drop(clock);
     Ok(())
@@ -623,14 +620,14 @@ where
 #[test]
 fn two_sides_meet(rt: HostRuntime) -> Result<(), Fail> {
     for (channel, sends, other, sends_too, meet) in MEETINGS {
-        assert_eq!(rt; Channels::key(&side(channel, sends)), channel);
-        assert_eq!(rt; Channels::heads(&side(channel, sends)), sends);
+        assert!(rt; Channels::key(&side(channel, sends)) == channel);
+        assert!(rt; Channels::heads(&side(channel, sends)) == sends);
         match handed::<Channels>(side(channel, sends), side(other, sends_too)) {
             Some((first, second)) => {
                 assert!(rt; meet);
                 let unit = Value::new(ValueKind::Unit);
-                assert_eq!(rt; first.same(&unit), sends);
-                assert_eq!(rt; second.same(&unit), sends_too);
+                assert!(rt; first.same(&unit) == sends);
+                assert!(rt; second.same(&unit) == sends_too);
                 drop(unit);
                 drop(first);
                 drop(second);

@@ -19,13 +19,13 @@ fn place(tid: u32, leaf: u32) -> Place {
 // The lane has just these offers, and each look is counted.
 fn shows(rt: &impl Abort, lane: &Lane, offers: &[(u32, u32)]) {
     let mut tally = Tally::new();
-    assert_eq!(rt; lane.len(), offers.len());
+    assert!(rt; lane.len() == offers.len());
     for (k, (tid, leaf)) in offers.iter().enumerate() {
         if k < lane.len() {
-            assert_eq!(rt; lane.look(k, &mut tally), place(*tid, *leaf));
+            assert!(rt; lane.look(k, &mut tally) == place(*tid, *leaf));
         }
     }
-    assert_eq!(rt; tally.looks(), offers.len() as u64);
+    assert!(rt; tally.looks() == offers.len() as u64);
     drop(tally);
 }
 
@@ -36,7 +36,7 @@ fn offers_come(rt: HostRuntime) {
     lane.reserve(2).expect(&rt, MEMORY);
     lane.come(Tid(5), &[0, 3], &mut tally);
     shows(&rt, &lane, &OFFERS);
-    assert_eq!(rt; lane.others_count(Tid(5), &mut tally), 0);
+    assert!(rt; lane.others_count(Tid(5), &mut tally) == 0);
     assert!(rt; !lane.has_other(Tid(5), &mut tally));
     assert!(rt; lane.has_other(Tid(4), &mut tally));
     drop(tally);

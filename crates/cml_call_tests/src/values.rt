@@ -119,7 +119,7 @@ const LITERALS: [(&str, &str); 10] = [
 fn values_by_hand(rt: HostRuntime) {
     for (text, depth, nodes, shown) in VALUES {
         let value = value(&rt, text);
-        assert_eq!(rt; (value.depth(), value.nodes()), (depth, nodes), "{text}");
+        assert!(rt; (value.depth(), value.nodes()) == (depth, nodes), "{text}");
         shows(&rt, &value, shown);
         drop(value);
     }
@@ -127,7 +127,7 @@ fn values_by_hand(rt: HostRuntime) {
 
 fn shows(rt: &(impl Abort + AllocGlobal), value: &Value, expected: &str) {
     let text = value.show(rt.alloc()).expect(rt, MEMORY);
-    assert_eq!(rt; text.as_str(), expected);
+    assert!(rt; text.as_str() == expected);
     drop(text);
 }
 
@@ -145,13 +145,13 @@ fn events_by_hand(rt: HostRuntime) {
     for (text, depth, nodes) in EVENTS {
         let made = make(&rt, text);
         for event in &made.events {
-            assert_eq!(rt; (event.depth(), event.nodes()), (depth, nodes), "{text}");
+            assert!(rt; (event.depth(), event.nodes()) == (depth, nodes), "{text}");
             if let EventKind::Leaf(base) = event.kind() {
-                assert_eq!(rt; (base.depth(), base.nodes()), (depth, nodes), "{text}");
+                assert!(rt; (base.depth(), base.nodes()) == (depth, nodes), "{text}");
             }
         }
         for group in &made.groups {
-            assert_eq!(rt; (group.depth(), group.nodes()), (depth, nodes), "{text}");
+            assert!(rt; (group.depth(), group.nodes()) == (depth, nodes), "{text}");
         }
         drop(made);
     }
@@ -160,11 +160,11 @@ fn events_by_hand(rt: HostRuntime) {
 #[test]
 fn no_two_values(rt: HostRuntime) {
     let made = make(&rt, APART);
-    assert_eq!(rt; made.values.len(), 62);
+    assert!(rt; made.values.len() == 62);
     for (i, one) in made.values.iter().enumerate() {
         for (j, other) in made.values.iter().enumerate() {
             let copy = other.copy().expect(&rt, MEMORY);
-            assert_eq!(rt; one.same(&copy), i == j, "{i} and {j}");
+            assert!(rt; one.same(&copy) == (i == j), "{i} and {j}");
             drop(copy);
         }
     }
@@ -174,11 +174,11 @@ fn no_two_values(rt: HostRuntime) {
 #[test]
 fn no_two_groups(rt: HostRuntime) {
     let made = make(&rt, GROUPS_APART);
-    assert_eq!(rt; made.groups.len(), 10);
+    assert!(rt; made.groups.len() == 10);
     for (i, one) in made.groups.iter().enumerate() {
         for (j, other) in made.groups.iter().enumerate() {
             let copy = other.copy().expect(&rt, MEMORY);
-            assert_eq!(rt; one.same(&copy), i == j, "{i} and {j}");
+            assert!(rt; one.same(&copy) == (i == j), "{i} and {j}");
             drop(copy);
         }
     }
@@ -216,17 +216,17 @@ fn same_as_long(rt: &(impl Abort + AllocGlobal), value: &Value, last: i64) -> bo
 #[test]
 fn a_value_of_a_million_nodes(rt: HostRuntime) {
     let value = long_value(&rt, 0);
-    assert_eq!(rt; (value.depth(), value.nodes()), (257, 1_007_615));
+    assert!(rt; (value.depth(), value.nodes()) == (257, 1_007_615));
     assert!(rt; !value.fits());
     // 503,807 pairs of eight characters each, and 503,808 digits
     let shown = value.show(rt.alloc()).expect(&rt, MEMORY);
-    assert_eq!(rt; shown.len(), 4_534_264);
+    assert!(rt; shown.len() == 4_534_264);
     drop(shown);
     assert!(rt; same_as_long(&rt, &value, 0));
     assert!(rt; !same_as_long(&rt, &value, 1));
     let copy = value.copy().expect(&rt, MEMORY);
     drop(value);
-    assert_eq!(rt; copy.nodes(), 1_007_615);
+    assert!(rt; copy.nodes() == 1_007_615);
     drop(copy);
 }
 
@@ -263,24 +263,18 @@ fn an_event_of_a_million_nodes(rt: HostRuntime) {
     let event = made.event(&rt);
     let group = made.group(&rt);
     drop(made);
-    assert_eq!(rt; (event.depth(), event.nodes()), (257, 1_003_523));
-    assert_eq!(rt; (group.depth(), group.nodes()), (257, 1_003_523));
-    assert_eq!(rt; (event.fits(), group.fits()), (false, false));
-    assert_eq!(rt;
-        same_as_made(&rt, &event, &group, "0 always 1 choose"),
-        (true, true)
-    );
-    assert_eq!(rt;
-        same_as_made(&rt, &event, &group, "1 always 1 choose"),
-        (false, false)
-    );
+    assert!(rt; (event.depth(), event.nodes()) == (257, 1_003_523));
+    assert!(rt; (group.depth(), group.nodes()) == (257, 1_003_523));
+    assert!(rt; !event.fits() && !group.fits());
+    assert!(rt; same_as_made(&rt, &event, &group, "0 always 1 choose") == (true, true));
+    assert!(rt; same_as_made(&rt, &event, &group, "1 always 1 choose") == (false, false));
     let copy = event.copy().expect(&rt, MEMORY);
     drop(event);
-    assert_eq!(rt; copy.depth(), 257);
+    assert!(rt; copy.depth() == 257);
     drop(copy);
     let copy = group.copy().expect(&rt, MEMORY);
     drop(group);
-    assert_eq!(rt; copy.nodes(), 1_003_523);
+    assert!(rt; copy.nodes() == 1_003_523);
     drop(copy);
 }
 
@@ -298,19 +292,19 @@ const LIMITS: [(&str, &str, u32, &str, bool); 7] = [
 
 fn fit(rt: &impl Abort, made: &Made, expected: bool) {
     for value in &made.values {
-        assert_eq!(rt; value.fits(), expected);
+        assert!(rt; value.fits() == expected);
     }
     for event in &made.events {
-        assert_eq!(rt; event.fits(), expected);
+        assert!(rt; event.fits() == expected);
     }
     for group in &made.groups {
-        assert_eq!(rt; group.fits(), expected);
+        assert!(rt; group.fits() == expected);
     }
 }
 
 #[test]
 fn limits(rt: HostRuntime) {
-    assert_eq!(rt; (MAX_DEPTH, MAX_NODES), (64, 65_536));
+    assert!(rt; (MAX_DEPTH, MAX_NODES) == (64, 65_536));
     for (first, step, times, last, fits) in LIMITS {
         let mut made = make(&rt, first);
         for _ in 0..times {
@@ -339,8 +333,8 @@ fn parts_of_a_function(rt: HostRuntime) {
     let mut made = make(&rt, "1 unit 2 12 function");
     let function = made.last_function(&rt);
     drop(made);
-    assert_eq!(rt; function.func(), 12);
-    assert_eq!(rt; function.args().len(), 2);
+    assert!(rt; function.func() == 12);
+    assert!(rt; function.args().len() == 2);
     assert!(rt; matches!(function.args(), [one, _] if matches!(one.kind(), ValueKind::Int(1))));
     drop(function);
 }

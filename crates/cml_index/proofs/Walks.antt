@@ -150,11 +150,12 @@ pub moved : {X : Type 0} (slot : Slot) (left later : Slot → Bool) (old wanted 
     → ((k : Slot) → left k ≡ same_slot k slot || later k) → ((k : Slot) → same_slot k slot ≡ true → later k ≡ false)
     → (before slot ≡ old slot → after slot ≡ wanted slot) → ((k : Slot) → same_slot k slot ≡ false → after k ≡ before k)
     → IsMoved left old wanted before → IsMoved later old wanted after
-moved slot left later old wanted before after one once here elsewhere so_far =
-    ( λ k e. cases_done (same_slot k slot) (left k) (later k) (one k) e
-        (λ is. subst (λ n. after n ≡ wanted n) (sym (same_slot_is k slot is)) (here (so_far.1 slot (self_left slot (left slot) (later slot) (one slot)))))
-        (λ off done. elsewhere k off ∙ so_far.0 k done)
-    , λ k e. cases_left (same_slot k slot) (left k) (later k) (one k) e (once k) (λ off rest. elsewhere k off ∙ so_far.1 k rest) )
+moved slot left later old wanted before after one once here elsewhere so_far = (
+  λ k e. cases_done (same_slot k slot) (left k) (later k) (one k) e
+      (λ is. subst (λ n. after n ≡ wanted n) (sym (same_slot_is k slot is)) (here (so_far.1 slot (self_left slot (left slot) (later slot) (one slot)))))
+      (λ off done. elsewhere k off ∙ so_far.0 k done),
+  λ k e. cases_left (same_slot k slot) (left k) (later k) (one k) e (once k) (λ off rest. elsewhere k off ∙ so_far.1 k rest),
+)
 
 -- a leaf that was put into its slot stands behind those that were there
 pub put_done : (k s : Slot) (leaf : ℕ) (old new : Slot → List ℕ) (later : List ℕ) → new s ≡ old s ++ leaf ∷ [] → ((j : Slot) → same_slot j s ≡ false → new j ≡ old j)
