@@ -302,7 +302,7 @@ fn scripts(rt: HostRuntime) -> Result<(), Fail> {
             left.errors.as_slice() == script.errors.as_bytes(),
             "errors of {name}"
         );
-        assert_eq!(rt; left.status, script.status, "status of {name}");
+        assert!(rt; left.status == script.status, "status of {name}");
         drop(text);
         drop(left);
     }
@@ -314,7 +314,7 @@ fn bytes_that_are_no_text(rt: HostRuntime) -> Result<(), Fail> {
     let left = run_on(rt.alloc(), "fmt F", b"\xff")?;
     assert!(rt; left.output.is_empty());
     assert!(rt; left.errors.as_slice() == b"text 8 utf8 at 0\n".as_slice());
-    assert_eq!(rt; left.status, 2);
+    assert!(rt; left.status == 2);
     drop(left);
     Ok(())
 }
@@ -324,11 +324,11 @@ fn beginnings_of_scripts(rt: HostRuntime) -> Result<(), Fail> {
     for program in PROGRAMS {
         for length in 0..program.len() {
             let left = run_on(rt.alloc(), "check F", &program.as_bytes()[..length])?;
-            assert_eq!(rt; left.status, 2, "{length}");
+            assert!(rt; left.status == 2, "{length}");
             drop(left);
         }
         let left = run_on(rt.alloc(), "check F", program.as_bytes())?;
-        assert_eq!(rt; left.status, 0);
+        assert!(rt; left.status == 0);
         drop(left);
     }
     Ok(())
