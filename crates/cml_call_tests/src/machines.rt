@@ -581,16 +581,16 @@ fn course_of(rt: &(impl Abort + AllocGlobal), script: &str) -> Course {
 
 #[test]
 fn scripts_go_so(rt: HostRuntime) {
-    for (script, wanted) in SCRIPTS {
+    for (script, wanted) in &SCRIPTS {
         let course = course_of(&rt, script);
-        assert!(rt; course.text.as_str() == wanted, "{script}");
+        assert!(rt; course.text.as_str() == *wanted, "{script}");
         drop(course);
     }
 }
 
 #[test]
 fn scripts_synchronize_on_groups(rt: HostRuntime) {
-    for (script, words) in GROUPS {
+    for (script, words) in &GROUPS {
         let course = course_of(&rt, script);
         let wanted = make(&rt, words);
         assert!(rt; course.groups.len() == wanted.groups.len(), "{script}");
