@@ -123,7 +123,7 @@ fn checked(rt: &(impl Abort + AllocGlobal), script: &str) -> Result<Prog, CheckF
 // In each of them `main` is the first function without parameters.
 #[test]
 fn takes_programs(rt: HostRuntime) {
-    for (script, arities) in PROGRAMS {
+    for &(script, arities) in &PROGRAMS {
         let program = checked(&rt, script).expect(&rt, script);
         assert!(rt; program.functions() == arities.len(), "{script}");
         for func in 0..arities.len() {
@@ -155,7 +155,7 @@ fn fault(rt: &(impl Abort + AllocGlobal), script: &str) -> Option<CheckFault> {
 
 #[test]
 fn answers_the_first_fault_of_a_script(rt: HostRuntime) {
-    for (script, kind, at) in FAULTS {
+    for &(script, kind, at) in &FAULTS {
         assert!(rt;
             fault(&rt, script) == Some(CheckFault::At { kind, at }),
             "{script}"
@@ -200,7 +200,7 @@ const MANY: [(&str, &str, usize, &str, Option<(CheckKind, usize)>); 7] = [
 
 #[test]
 fn keeps_to_the_limit_of_statements(rt: HostRuntime) {
-    for (before, part, times, behind, expected) in MANY {
+    for &(before, part, times, behind, expected) in &MANY {
         let mut script = String::new(rt.alloc());
         script.push_str(before).expect(&rt, MEMORY);
         for _ in 0..times {
@@ -251,7 +251,7 @@ const KINDS: [(CheckKind, &str); 7] = [
 
 #[test]
 fn prints_a_fault_of_a_script(rt: HostRuntime) {
-    for (kind, line) in KINDS {
+    for &(kind, line) in &KINDS {
         let fault = CheckFault::At { kind, at: 12 };
         let text = fault.to_string(rt.alloc()).expect(&rt, MEMORY);
         assert!(rt; text.as_str() == line);

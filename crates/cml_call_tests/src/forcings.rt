@@ -126,7 +126,7 @@ fn goes_so(rt: &(impl Abort + AllocGlobal), event: &str, answers: &str, asked: &
 
 #[test]
 fn forcings_ask_from_the_left(rt: HostRuntime) {
-    for (event, answers, asked, end) in FORCINGS {
+    for &(event, answers, asked, end) in &FORCINGS {
         goes_so(&rt, event, answers, asked, end);
     }
 }

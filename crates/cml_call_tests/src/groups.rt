@@ -159,7 +159,7 @@ fn is_told(rt: &(impl Abort + AllocGlobal), group: &Group, scopes: &str, leaves:
 
 #[test]
 fn groups_by_hand(rt: HostRuntime) {
-    for (text, scopes, leaves) in GROUPS {
+    for &(text, scopes, leaves) in &GROUPS {
         let group = group(&rt, text);
         is_told(&rt, &group, scopes, leaves);
         drop(group);
@@ -187,7 +187,7 @@ fn answers(rt: &(impl Abort + AllocGlobal), group: Group, expected: &str) {
 
 #[test]
 fn limits(rt: HostRuntime) {
-    for (member, members, choice, choices, expected) in LIMITS {
+    for &(member, members, choice, choices, expected) in &LIMITS {
         let mut made = Made::new(&rt);
         for _ in 0..members {
             made.say(&rt, member);

@@ -567,7 +567,7 @@ fn a_clock_knows_its_next_alarm(rt: HostRuntime) -> Result<(), Fail> {
     let alloc = rt.alloc();
     let mut clock = Clock::new(alloc);
     let mut text = String::new(alloc);
-    for tick in TICKS {
+    for &tick in &TICKS {
         match tick {
             Awaits(tick) => {
                 if clock.leaves(tick) < 100 {
@@ -619,7 +619,7 @@ where
 
 #[test]
 fn two_sides_meet(rt: HostRuntime) -> Result<(), Fail> {
-    for (channel, sends, other, sends_too, meet) in MEETINGS {
+    for &(channel, sends, other, sends_too, meet) in &MEETINGS {
         assert!(rt; Channels::key(&side(channel, sends)) == channel);
         assert!(rt; Channels::heads(&side(channel, sends)) == sends);
         match handed::<Channels>(side(channel, sends), side(other, sends_too)) {

@@ -120,7 +120,7 @@ fn rows_are(rt: &(impl Abort + AllocGlobal), found: &[Meet], expected: &str) {
 
 #[test]
 fn rows_of_worlds(rt: HostRuntime) {
-    for (threads, mvar, nack, tick, expected) in WORLDS {
+    for &(threads, mvar, nack, tick, expected) in &WORLDS {
         let mut world = world(&rt, threads);
         world.mvars.push(mvar.map(int)).expect(&rt, MEMORY);
         world.nacks.push(nack).expect(&rt, MEMORY);
@@ -134,7 +134,7 @@ fn rows_of_worlds(rt: HostRuntime) {
 
 #[test]
 fn lights_of_bases(rt: HostRuntime) {
-    for (text, expected) in LIGHTS {
+    for &(text, expected) in &LIGHTS {
         let group = group(&rt, text);
         let bases = leaf_bases(rt.alloc(), &group).expect(&rt, MEMORY);
         drop(group);

@@ -67,7 +67,7 @@ const KINDS: [(FaultKind, &str); 8] = [
 
 #[test]
 fn prints_what_is_read(rt: HostRuntime) {
-    for (text, printed) in PRINTED {
+    for &(text, printed) in &PRINTED {
         let forms = read(rt.alloc(), text.as_bytes()).expect(&rt, "forms");
         let canonical = print(rt.alloc(), &forms).expect(&rt, MEMORY);
         drop(forms);
@@ -104,7 +104,7 @@ fn fault(rt: &impl AllocGlobal, text: &[u8]) -> Option<TextFault> {
 
 #[test]
 fn answers_the_first_fault(rt: HostRuntime) {
-    for (text, kind, at) in FAULTS {
+    for &(text, kind, at) in &FAULTS {
         assert!(rt;
             fault(&rt, text) == Some(TextFault::At { kind, at }),
             "{text:?}"
@@ -114,7 +114,7 @@ fn answers_the_first_fault(rt: HostRuntime) {
 
 #[test]
 fn answers_texts_of_the_greatest_length(rt: HostRuntime) {
-    for (byte, times, is_quoted, expected) in LONG {
+    for &(byte, times, is_quoted, expected) in &LONG {
         let mut text = vec![in rt.alloc(); byte; times].expect(&rt, MEMORY);
         if is_quoted {
             text.insert(0, b'"').expect(&rt, MEMORY);
@@ -147,7 +147,7 @@ fn shows_each_form_and_its_place(rt: HostRuntime) {
 
 #[test]
 fn prints_a_fault(rt: HostRuntime) {
-    for (kind, line) in KINDS {
+    for &(kind, line) in &KINDS {
         let fault = TextFault::At { kind, at: 12 };
         let text = fault.to_string(rt.alloc()).expect(&rt, MEMORY);
         assert!(rt; text.as_str() == line);

@@ -117,7 +117,7 @@ const LITERALS: [(&str, &str); 10] = [
 
 #[test]
 fn values_by_hand(rt: HostRuntime) {
-    for (text, depth, nodes, shown) in VALUES {
+    for &(text, depth, nodes, shown) in &VALUES {
         let value = value(&rt, text);
         assert!(rt; (value.depth(), value.nodes()) == (depth, nodes), "{text}");
         shows(&rt, &value, shown);
@@ -133,7 +133,7 @@ fn shows(rt: &(impl Abort + AllocGlobal), value: &Value, expected: &str) {
 
 #[test]
 fn literals(rt: HostRuntime) {
-    for (characters, literal) in LITERALS {
+    for &(characters, literal) in &LITERALS {
         let value = Value::text(rt.alloc(), characters).expect(&rt, MEMORY);
         shows(&rt, &value, literal);
         drop(value);
@@ -142,7 +142,7 @@ fn literals(rt: HostRuntime) {
 
 #[test]
 fn events_by_hand(rt: HostRuntime) {
-    for (text, depth, nodes) in EVENTS {
+    for &(text, depth, nodes) in &EVENTS {
         let made = make(&rt, text);
         for event in &made.events {
             assert!(rt; (event.depth(), event.nodes()) == (depth, nodes), "{text}");
@@ -305,7 +305,7 @@ fn fit(rt: &impl Abort, made: &Made, expected: bool) {
 #[test]
 fn limits(rt: HostRuntime) {
     assert!(rt; (MAX_DEPTH, MAX_NODES) == (64, 65_536));
-    for (first, step, times, last, fits) in LIMITS {
+    for &(first, step, times, last, fits) in &LIMITS {
         let mut made = make(&rt, first);
         for _ in 0..times {
             made.say(&rt, step);
