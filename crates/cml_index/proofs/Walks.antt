@@ -148,11 +148,11 @@ IsMoved left old wanted new = ((k : Slot) → left k ≡ false → new k ≡ wan
 -- one more run is done, and no other slot has changed
 pub moved : {X : Type 0} (slot : Slot) (left later : Slot → Bool) (old wanted before after : Slot → X)
     → ((k : Slot) → left k ≡ same_slot k slot || later k) → ((k : Slot) → same_slot k slot ≡ true → later k ≡ false)
-    → (before slot ≡ old slot → after slot ≡ wanted slot) → ((k : Slot) → same_slot k slot ≡ false → after k ≡ before k)
+    → after slot ≡ wanted slot → ((k : Slot) → same_slot k slot ≡ false → after k ≡ before k)
     → IsMoved left old wanted before → IsMoved later old wanted after
 moved slot left later old wanted before after one once here elsewhere so_far = (
   λ k e. cases_done (same_slot k slot) (left k) (later k) (one k) e
-      (λ is. subst (λ n. after n ≡ wanted n) (sym (same_slot_is k slot is)) (here (so_far.1 slot (self_left slot (left slot) (later slot) (one slot)))))
+      (λ is. subst (λ n. after n ≡ wanted n) (sym (same_slot_is k slot is)) here)
       (λ off done. elsewhere k off ∙ so_far.0 k done),
   λ k e. cases_left (same_slot k slot) (left k) (later k) (one k) e (once k) (λ off rest. elsewhere k off ∙ so_far.1 k rest),
 )

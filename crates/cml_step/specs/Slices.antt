@@ -33,4 +33,4 @@ sliced p self term = sliced_from p self max_steps 0 term
 -- from the one term the thread goes on to the other in so many steps that ask nothing
 abbrev pub GoesIn : Program → ℕ → ℕ → Term → Term → Type 0
 GoesIn p self zero before after = before ≡ after
-GoesIn p self (suc n) before after = (mid : Term) × (next p self before ≡ goes_on mid) × GoesIn p self n mid after
+GoesIn p self (suc n) before after = (middle : Term) × (next p self before ≡ goes_on middle) × GoesIn p self n middle after

@@ -26,7 +26,7 @@ loop-i-preserved o c =
     let here : spec.lane_at c.come_at.new.self.by_slot slot ≡ with_run tid (spec.run_in c.args.runs.now slot) (spec.lane_at c.args.self.now.by_slot slot) =
     c.come_at.ensures.here ∙ ap (λ ls. with_run tid ls (spec.lane_at c.loop-i.self.by_slot slot)) (sym c.run_at-slot.ensures.run) ∙ ap (with_run tid (spec.run_in c.args.runs.now slot)) untouched in
     let lanes = moved slot now_left later (λ k. spec.lane_at c.args.self.now.by_slot k) (λ k. with_run tid (spec.run_in c.args.runs.now k) (spec.lane_at c.args.self.now.by_slot k))
-    (λ k. spec.lane_at c.loop-i.self.by_slot k) (λ k. spec.lane_at c.come_at.new.self.by_slot k) c.run_at-slot.ensures.left c.run_at-slot.ensures.once (λ _. here) c.come_at.ensures.elsewhere
+    (λ k. spec.lane_at c.loop-i.self.by_slot k) (λ k. spec.lane_at c.come_at.new.self.by_slot k) c.run_at-slot.ensures.left c.run_at-slot.ensures.once here c.come_at.ensures.elsewhere
     (c.loop-i.invariant.done, c.loop-i.invariant.left) in
     record {
       done = lanes.0;

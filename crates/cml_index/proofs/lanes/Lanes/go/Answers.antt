@@ -31,7 +31,7 @@ loop-i-preserved o c =
     let untouched = c.loop-i.invariant.left slot (self_left slot (now_left slot) (later slot) (c.run_at-slot.ensures.left slot)) in
     let here : spec.lane_at c.go_at.new.self.by_slot slot ≡ others tid (spec.lane_at c.args.self.now.by_slot slot) = c.go_at.ensures.here ∙ ap (others tid) untouched in
     let lanes = moved slot now_left later (λ k. spec.lane_at c.args.self.now.by_slot k) (λ k. others tid (spec.lane_at c.args.self.now.by_slot k)) (λ k. spec.lane_at c.loop-i.self.by_slot k)
-    (λ k. spec.lane_at c.go_at.new.self.by_slot k) c.run_at-slot.ensures.left c.run_at-slot.ensures.once (λ _. here) c.go_at.ensures.elsewhere (c.loop-i.invariant.done, c.loop-i.invariant.left) in
+    (λ k. spec.lane_at c.go_at.new.self.by_slot k) c.run_at-slot.ensures.left c.run_at-slot.ensures.once here c.go_at.ensures.elsewhere (c.loop-i.invariant.done, c.loop-i.invariant.left) in
     record {
       done = lanes.0;
       left = lanes.1;
