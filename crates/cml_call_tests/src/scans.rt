@@ -182,7 +182,7 @@ fn lights_of_a_world(rt: HostRuntime) {
     let world = half_lit(&rt);
     for (n, expected) in [(0, true), (1, false), (2, false)] {
         for light in lights(n) {
-            assert!(rt; world.is_lit(light) == expected, "{light:?}");
+            assert!(rt; world.is_lit(light) == expected);
         }
     }
     assert!(rt; world.is_lit(Light::Alarm(0)));

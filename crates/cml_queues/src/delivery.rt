@@ -40,7 +40,7 @@ pub fn post(
 }
 
 /// Why a message can't be posted. Nothing has changed.
-#[derive(Clone, Copy, Debug, PartialEq, Eq)]
+#[derive(Clone, Copy, PartialEq, Eq)]
 pub enum PostFault {
     /// One of the ports is full.
     Full,

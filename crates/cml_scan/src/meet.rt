@@ -6,7 +6,7 @@ ghost use Rattle.cml_scan.specs.Scan as spec;
 use cml_value::Tid;
 
 /// A communication that is possible now.
-#[derive(Clone, Copy, Debug, PartialEq, Eq)]
+#[derive(Clone, Copy, PartialEq, Eq)]
 pub enum Meet {
     /// This leaf alone.
     Single {
@@ -23,7 +23,7 @@ pub enum Meet {
 }
 
 /// A leaf of a thread.
-#[derive(Clone, Copy, Debug, PartialEq, Eq)]
+#[derive(Clone, Copy, PartialEq, Eq)]
 pub struct Place {
     /// The thread.
     pub tid: Tid,

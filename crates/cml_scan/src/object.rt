@@ -3,7 +3,7 @@
 use cml_value::{IVarId, MVarId, MboxId, NackId, PortId, Tid};
 
 /// An object whose state a base event looks at. It is lit where such a base can be taken alone.
-#[derive(Clone, Copy, Debug, PartialEq, Eq, Hash)]
+#[derive(Clone, Copy, PartialEq, Eq, Hash)]
 pub enum Light {
     /// An I-variable, lit while it is full.
     IVar(IVarId),

@@ -13,7 +13,7 @@ use thiserror::Error;
 #[error("the nack is spent")]
 pub struct Spent;
 
-#[derive(Clone, Copy, Debug)]
+#[derive(Clone, Copy)]
 enum State {
     Fresh(Tid),
     Live,
@@ -22,7 +22,7 @@ enum State {
 }
 
 /// A nack. It enters one pending group, and then either fires or is held, once.
-#[derive(Debug, Drop)]
+#[derive(Drop)]
 pub struct NackCell {
     state: State,
 }

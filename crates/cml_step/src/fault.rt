@@ -7,7 +7,7 @@ ghost use Rattle.cml_step.specs.declared.fault.Stop.TheVariants as stop;
 use std::alloc::{AllocError, AllocFailed};
 
 /// What is wrong with a step of a thread: it ends the thread.
-#[derive(Clone, Copy, Debug, PartialEq, Eq)]
+#[derive(Clone, Copy, PartialEq, Eq)]
 pub enum Fault {
     /// A value of the wrong kind.
     Kind,

@@ -7,7 +7,7 @@ use std::fmt::Write;
 use std::marker::Model;
 
 /// The bytes of a text from `start` up to `end`.
-#[derive(Clone, Copy, Debug, PartialEq, Eq)]
+#[derive(Clone, Copy, PartialEq, Eq)]
 pub struct Span {
     pub start: usize,
     pub end: usize,

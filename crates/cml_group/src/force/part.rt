@@ -111,10 +111,7 @@ impl Part {
         let function = function.copy()?;
         match self {
             Part::Whole(group) => Ok(Part::Whole(group.wrap(alloc, function)?)),
-            Part::Open(mut frames, hole) => {
-                frames.push(Frame::new(FrameKind::Wrap(function)))?;
-                Ok(Part::Open(frames, hole))
-            }
+            Part::Open(frames, hole) => opened(frames, Frame::new(FrameKind::Wrap(function)), hole),
         }
     }
 
@@ -125,10 +122,7 @@ impl Part {
     {
         match self {
             Part::Whole(group) => Ok(Part::Whole(group.scope(alloc, nack)?)),
-            Part::Open(mut frames, hole) => {
-                frames.push(Frame::new(FrameKind::Scope(nack)))?;
-                Ok(Part::Open(frames, hole))
-            }
+            Part::Open(frames, hole) => opened(frames, Frame::new(FrameKind::Scope(nack)), hole),
         }
     }
 
@@ -147,12 +141,19 @@ impl Part {
                 FrameKind::Wrap(f) => Ok(Part::Whole(group.wrap(alloc, f.copy()?)?)),
                 FrameKind::Scope(k) => Ok(Part::Whole(group.scope(alloc, *k)?)),
             },
-            Part::Open(mut frames, hole) => {
-                frames.push(frame.copy(alloc)?)?;
-                Ok(Part::Open(frames, hole))
-            }
+            Part::Open(frames, hole) => opened(frames, frame.copy(alloc)?, hole),
         }
     }
+}
+
+// The place in one more frame.
+#[tactic(auto, using(crate::proofs::Plugs::pushed))]
+fn opened(mut frames: Vec<Frame>, frame: Frame, hole: Hole) -> Result<Part, AllocError>
+    ensures { IfOk result (λ part. plain_part part
+        ≡ framed frame (plug frames.items (plain_hole hole))) }
+{
+    frames.push(frame)?;
+    Ok(Part::Open(frames, hole))
 }
 
 /// The event, forced up to its first guard or withNack.
