@@ -14,7 +14,7 @@ use Rattle.cml_host.specs.Scripts.{IsChecked, IsPrinted, IsFaulty, FileRan, Said
 use Rattle.cml_host.specs.Stores.{Content, unknown, nothing, bytes, IsLoaded}
 use Rattle.cml_host.specs.declared.script.Said.{Said}
 use Rattle.cml_host.specs.declared.script.Said.TheVariants.{Written, Refused}
-use Rattle.cml_trace.specs.Streams.{Stream}
+use Rattle.cml_stream.specs.Streams.{Counted}
 
 -- a fault that was read is told
 pub faulty : (text : List ℕ) (fault : TextFault) (said : Said) → IsFault fault (fault_of text) → Told fault said → IsFaulty text said
@@ -67,7 +67,7 @@ printed_whole all found said is (inl spelled) = inl (spelled.0, whole_spelled al
 printed_whole all found said is (inr told) = inr (whole_fault all found said is told)
 
 pub file_ran : (Says : List ℕ → Said → Type 0) → IsOfWhole Says → (name : List ℕ) (content : Content) (found : List ℕ)
-    (r : Result Said AllocError) (output errors : Stream) (status : ℕ) →
+    (r : Result Said AllocError) (output errors : Counted) (status : ℕ) →
     IsLoaded content text_limit found → IfOk r (Says found) → SaidRan r output errors status → FileRan Says name content output errors status
 file_ran Says whole name unknown found (Ok said) output errors status loaded says ran = inl (found, tt, said, says, ran)
 file_ran Says whole name nothing found (Ok said) output errors status loaded says ran = absurd loaded

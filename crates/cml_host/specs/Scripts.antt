@@ -18,7 +18,7 @@ use Rattle.cml_host.specs.Written.{TextRan}
 use Rattle.cml_host.specs.declared.script.Said.{Said}
 use Rattle.cml_host.specs.declared.script.Said.TheVariants.{Written, Refused}
 use Rattle.cml_trace.specs.Replies.{line}
-use Rattle.cml_trace.specs.Streams.{Stream, TakesStart, IsUntouched}
+use Rattle.cml_stream.specs.Streams.{Counted, IsIdle, Says}
 
 -- the line that tells of a fault of a text, and of a fault of a script
 abbrev pub text_line : text.PlainFault → List ℕ
@@ -57,24 +57,23 @@ IsPrinted given said =
     ((forms : List PlainSexpr) × Spells given forms × IsWritten forms said) ⊎ IsFaulty given said
 
 -- What was said: it went to the output; or the text was refused.
-abbrev pub IsSaid : Said → Stream → Stream → ℕ → Type 0
+abbrev pub IsSaid : Said → Counted → Counted → ℕ → Type 0
 IsSaid (Written all) output errors status = TextRan (string_bytes all) output errors status
-IsSaid (Refused all) output errors status =
-    TakesStart errors (string_bytes all) × (status ≡ 2) × IsUntouched output
+IsSaid (Refused all) output errors status = Says errors (string_bytes all) × (status ≡ 2) × IsIdle output
 
 -- memory ran out
-abbrev pub MemoryRan : Stream → ℕ → Type 0
-MemoryRan errors status = TakesStart errors (line (codes "memory")) × (status ≡ 5)
+abbrev pub MemoryRan : Counted → ℕ → Type 0
+MemoryRan errors status = Says errors (line (codes "memory")) × (status ≡ 5)
 
 -- the same of a call that may have run out of memory
-abbrev pub SaidRan : Result Said AllocError → Stream → Stream → ℕ → Type 0
+abbrev pub SaidRan : Result Said AllocError → Counted → Counted → ℕ → Type 0
 SaidRan (Ok said) output errors status = IsSaid said output errors status
-SaidRan (Err e) output errors status = MemoryRan errors status × IsUntouched output
+SaidRan (Err e) output errors status = MemoryRan errors status × IsIdle output
 
 -- The file of this name was refused, where it may be; or memory ran out.
-abbrev pub RefusedRan : Content → List ℕ → Stream → ℕ → Type 0
+abbrev pub RefusedRan : Content → List ℕ → Counted → ℕ → Type 0
 RefusedRan content name errors status =
-    (MayBeRefused content × TakesStart errors (line (codes "cannot read " ++ name)) × (status ≡ 1)) ⊎ MemoryRan errors status
+    (MayBeRefused content × Says errors (line (codes "cannot read " ++ name)) × (status ≡ 1)) ⊎ MemoryRan errors status
 
 -- This is the whole text that lies there: any one, where it is not known; and where nothing lies there is none.
 abbrev pub IsText : Content → List ℕ → Type 0
@@ -83,10 +82,10 @@ IsText nothing all = ⊥
 IsText (bytes known) all = all ≡ known
 
 -- The text that lies under the name was read, and what the command says of it was said; or the file was refused, or memory ran out.
-abbrev pub FileRan : (List ℕ → Said → Type 0) → List ℕ → Content → Stream → Stream → ℕ → Type 0
+abbrev pub FileRan : (List ℕ → Said → Type 0) → List ℕ → Content → Counted → Counted → ℕ → Type 0
 FileRan Says name content output errors status =
     ((all : List ℕ) × IsText content all × (said : Said) × Says all said × IsSaid said output errors status)
-    ⊎ (RefusedRan content name errors status × IsUntouched output)
+    ⊎ (RefusedRan content name errors status × IsIdle output)
 
 -- what is said of a text with this fault, which is not want of memory
 abbrev pub Told : TextFault → Said → Type 0

@@ -1,5 +1,5 @@
 -- How the program ends: its status, and what it says of a fault.
-use Rattle.std.specs.Prelude.{◌≡◌, ◌⊎◌, ℕ, List, codes}
+use Rattle.std.specs.Prelude.{◌≡◌, ◌⊎◌, ℕ, List, Ok, Err, codes}
 use Rattle.std.specs.String.{string_bytes}
 use Rattle.cml_words.specs.declared.Task.TheVariants.{Trace, Check, Fmt}
 use Rattle.cml_words.specs.declared.Answer.{Answer}
@@ -9,8 +9,10 @@ use Rattle.cml_trace.specs.declared.fault.TraceEnd.{TraceEnd}
 use Rattle.cml_trace.specs.declared.fault.TraceEnd.TheVariants.{Done, Bad, TooLong}
 use Rattle.cml_trace.specs.declared.fault.TraceFault.{TraceFault}
 use Rattle.cml_trace.specs.declared.fault.TraceFault.TheVariants.{Read, Turns, Write, Memory}
+use Rattle.cml_trace.specs.Faults.{HasCause}
 use Rattle.cml_trace.specs.Replies.{line}
-use Rattle.cml_trace.specs.Streams.{Stream, TakesStart, IsUntouched}
+use Rattle.cml_stream.specs.Counts.{Calls}
+use Rattle.cml_stream.specs.Streams.{Counted, Stream, IsIdle, Says}
 use Rattle.cml_host.specs.Stores.{Shelf, IsUnchanged}
 use Rattle.cml_host.specs.Scripts.{FileRan, IsChecked, IsPrinted}
 use Rattle.cml_host.specs.Written.{TextRan}
@@ -18,9 +20,9 @@ use Rattle.cml_trace.specs.Runs.{IsAnswered, IsBroken}
 
 -- What stands round a run of the program, before and after: its input, its output, what it says its errors to, and its store.
 pub record Surroundings : Type 0 where
-  pub input : Stream
-  pub output : Stream
-  pub errors : Stream
+  pub input : Counted
+  pub output : Counted
+  pub errors : Counted
   pub store : Shelf
 
 -- 0 where all was done, 2 where the trace has a bad line or is too long
@@ -43,11 +45,14 @@ fault_line Turns = line (codes "cannot read input")
 fault_line Write = line (codes "cannot write output")
 fault_line Memory = line (codes "memory")
 
--- The trace on the input was answered; or not to its end, and the errors tell of the fault.
-abbrev pub TraceRan : Stream → Stream → Stream → ℕ → Type 0
+-- The trace on the input was answered, and no call of its streams failed; or not to its end, for a fault that has its cause in these calls,
+-- and the errors tell of it.
+abbrev pub TraceRan : Counted → Counted → Counted → ℕ → Type 0
 TraceRan input output errors status =
-    ((end : TraceEnd) × IsAnswered input output end × (status ≡ status_of end) × IsUntouched errors)
-    ⊎ ((fault : TraceFault) × IsBroken input output fault × (status ≡ fault_status fault) × TakesStart errors (fault_line fault))
+    ((end : TraceEnd) × IsAnswered input.bytes output.bytes end × HasCause (Ok end) input.counts output.counts
+    × (status ≡ status_of end) × IsIdle errors)
+    ⊎ ((fault : TraceFault) × IsBroken input.bytes output.bytes fault × HasCause (Err fault) input.counts output.counts
+    × (status ≡ fault_status fault) × Says errors (fault_line fault))
 
 -- nothing was saved in the store
 abbrev pub SavesNothing : Surroundings → Type 0
@@ -60,23 +65,35 @@ AnswerRan (answer.Task Trace) around status =
     TraceRan around.input around.output around.errors status × SavesNothing around
 AnswerRan (answer.Task (Check name)) around status =
     FileRan IsChecked name.now (around.store.before name.now) around.output around.errors status
-    × IsUntouched around.input × SavesNothing around
+    × IsIdle around.input × SavesNothing around
 AnswerRan (answer.Task (Fmt name)) around status =
     FileRan IsPrinted name.now (around.store.before name.now) around.output around.errors status
-    × IsUntouched around.input × SavesNothing around
+    × IsIdle around.input × SavesNothing around
 AnswerRan (answer.Help text) around status =
-    TextRan (string_bytes text) around.output around.errors status × IsUntouched around.input × SavesNothing around
+    TextRan (string_bytes text) around.output around.errors status × IsIdle around.input × SavesNothing around
 AnswerRan (answer.Fault text) around status =
-    TakesStart around.errors (string_bytes text) × (status ≡ 1)
-    × IsUntouched around.input × IsUntouched around.output × SavesNothing around
+    Says around.errors (string_bytes text) × (status ≡ 1) × IsIdle around.input × IsIdle around.output × SavesNothing around
 
 -- memory ran out before the words were read
 abbrev pub IsOutOfMemory : Surroundings → ℕ → Type 0
 IsOutOfMemory around status =
-    TakesStart around.errors (line (codes "memory")) × (status ≡ 5)
-    × IsUntouched around.input × IsUntouched around.output × SavesNothing around
+    Says around.errors (line (codes "memory")) × (status ≡ 5)
+    × IsIdle around.input × IsIdle around.output × SavesNothing around
 
 -- The words were answered and that was done, or memory ran out before.
 abbrev pub Ran : List (List ℕ) → Surroundings → ℕ → Type 0
 Ran words around status =
     ((what : Answer) × IsAnswer words what × AnswerRan what around status) ⊎ IsOutOfMemory around status
+
+-- The same of streams whose calls nobody counts: there are counts with which it is so.
+abbrev pub RanOver : List (List ℕ) → Stream → Stream → Stream → Shelf → ℕ → Type 0
+RanOver words input output errors store status =
+    (reads : Calls) × (writes : Calls) × (complaints : Calls)
+    × Ran words
+    (record {
+      input = record { bytes = input; counts = reads };
+      output = record { bytes = output; counts = writes };
+      errors = record { bytes = errors; counts = complaints };
+      store = store;
+    })
+    status

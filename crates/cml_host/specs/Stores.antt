@@ -1,11 +1,16 @@
 -- Stores: what is known of what lies in them.
-use Rattle.std.specs.Prelude.{◌≡◌, ◌≢◌, ℕ, ◌+◌, ◌≤◌, List, length, take}
+use Rattle.std.specs.Prelude.{◌≡◌, ◌≢◌, ℕ, ◌+◌, ◌≤◌, List, Option, Some, None, length, take}
 
 -- What is known of what lies under a name: not a thing, that nothing does, or these bytes.
 pub data Content : Type 0 where
   unknown : Content
   nothing : Content
   bytes : List ℕ → Content
+
+-- what is known of the bytes that a reader has
+abbrev pub content_of : Option (List ℕ) → Content
+content_of (Some all) = bytes all
+content_of None = unknown
 
 -- These bytes are handed over for that: the first bytes of what lies there, one more than the limit at most. Nothing is handed over
 -- where nothing lies.

@@ -1,10 +1,10 @@
 -- How the writing of a text ends.
 use Rattle.std.specs.Prelude.{◌≡◌, ◌⊎◌, ℕ, List, codes}
 use Rattle.cml_trace.specs.Replies.{line}
-use Rattle.cml_trace.specs.Streams.{Stream, Takes, TakesStart, IsUntouched}
+use Rattle.cml_stream.specs.Streams.{Counted, IsIdle, Says, Takes, TakesStart}
 
--- The text was written to the output; or not to its end, and the errors tell of the fault.
-abbrev pub TextRan : List ℕ → Stream → Stream → ℕ → Type 0
+-- The text was written to the output, and no write failed; or not to its end, because a write failed, and the errors tell of that.
+abbrev pub TextRan : List ℕ → Counted → Counted → ℕ → Type 0
 TextRan text output errors status =
-    (Takes output text × (status ≡ 0) × IsUntouched errors)
-    ⊎ (TakesStart output text × (status ≡ 1) × TakesStart errors (line (codes "cannot write output")))
+    (Takes output.bytes text × (output.counts.failed ≡ 0) × (status ≡ 0) × IsIdle errors)
+    ⊎ (TakesStart output.bytes text × (output.counts.failed ≡ 1) × (status ≡ 1) × Says errors (line (codes "cannot write output")))

@@ -1,15 +1,19 @@
 //! The commands of the program.
 
-ghost use Rattle.std.specs.Prelude.{◌≡◌, map};
+ghost use Rattle.std.specs.Prelude.{◌≡◌, ◌≤◌, map};
 ghost use Rattle.std.specs.String.{string_bytes};
 ghost use Rattle.cml_host.specs.Statuses as spec;
-ghost use Rattle.cml_host.specs.Statuses.{Surroundings, TraceRan, Ran};
-ghost use Rattle.cml_trace.specs.Streams.{stream};
+ghost use Rattle.cml_host.specs.Statuses.{Surroundings, TraceRan, Ran, RanOver};
+ghost use Rattle.cml_host.specs.Stores.{Shelf};
+ghost use Rattle.cml_stream.specs.Counts.{most_reads};
+ghost use Rattle.cml_stream.specs.Streams.{counted_stream, stream};
+ghost use Rattle.cml_trace.specs.Answers.{max_input};
 
 use crate::output::{say, send_text};
 use crate::script::{check_file, print_file};
 use crate::store::Store;
-use cml_trace::{Counting, TraceEnd, TraceFault, run_trace};
+use cml_stream::Counting;
+use cml_trace::{TraceEnd, TraceFault, run_trace};
 use cml_words::{Answer, Task, read_words};
 use std::alloc::{AllocError, Global};
 use std::io::{Read, Write};
@@ -27,13 +31,43 @@ pub fn run_command<R: Read, O: Write, E: Write, S: Store>(
     err: &mut E,
     store: &mut S,
 ) -> u8
-    ensures { let around : Surroundings = record {
-      input = stream (R.remaining input.old) (R.remaining input.new);
-      output = stream (O.contents out.old) (O.contents out.new);
-      errors = stream (E.contents err.old) (E.contents err.new);
+    ensures { let given = stream (R.remaining input.old) (R.remaining input.new) in
+        let output = stream (O.contents out.old) (O.contents out.new) in
+        let errors = stream (E.contents err.old) (E.contents err.new) in
+        let shelf : Shelf = record { before = S.holds store.old; after = S.holds store.new } in
+        RanOver (map string_bytes words.now) given output errors shelf result }
+{
+    let mut input = Counting::new(input);
+    let mut out = Counting::new(out);
+    let mut err = Counting::new(err);
+    run_command_counted(alloc, words, &mut input, &mut out, &mut err, store)
+}
+
+/// Runs the command as [`run_command`] does, over streams whose calls are counted, and of which none was called yet. A fault of the input
+/// is told only where a read failed, or 2,097,152 reads came to no end; a fault of the output only where a write failed or took nothing;
+/// and what is told goes to the errors whole, but where a write of it failed.
+pub fn run_command_counted<R: Read, O: Write, E: Write, S: Store>(
+    alloc: Global,
+    words: &[String],
+    input: &mut Counting<'_, R>,
+    out: &mut Counting<'_, O>,
+    err: &mut Counting<'_, E>,
+    store: &mut S,
+) -> u8
+    requires reads { (input.old.calls ≡ 0) × (input.old.failed ≡ 0) }
+    requires writes { (out.old.calls ≡ 0) × (out.old.failed ≡ 0) }
+    requires complaints { (err.old.calls ≡ 0) × (err.old.failed ≡ 0) }
+    ensures ran { let around : Surroundings = record {
+      input = counted_stream (R.remaining input.old.stream.now) (R.remaining input.new.stream.now) input.new.calls input.new.failed;
+      output = counted_stream (O.contents out.old.stream.now) (O.contents out.new.stream.now) out.new.calls out.new.failed;
+      errors = counted_stream (E.contents err.old.stream.now) (E.contents err.new.stream.now) err.new.calls err.new.failed;
       store = record { before = S.holds store.old; after = S.holds store.new };
     } in
         Ran (map string_bytes words.now) around result }
+    ensures most { input.new.calls ≤ most_reads max_input }
+    ensures same_in { input.new.stream.ghost_name ≡ input.old.stream.ghost_name }
+    ensures same_out { out.new.stream.ghost_name ≡ out.old.stream.ghost_name }
+    ensures same_err { err.new.stream.ghost_name ≡ err.old.stream.ghost_name }
 {
     match read_words(alloc, words) {
         Ok(Answer::Task(Task::Trace)) => trace(alloc, input, out, err),
@@ -52,15 +86,25 @@ pub fn run_command<R: Read, O: Write, E: Write, S: Store>(
 }
 
 // Answers the trace on the input.
-fn trace<R: Read, O: Write, E: Write>(alloc: Global, input: &mut R, out: &mut O, err: &mut E) -> u8
-    ensures { let given = stream (R.remaining input.old) (R.remaining input.new) in
-        let output = stream (O.contents out.old) (O.contents out.new) in
-        let errors = stream (E.contents err.old) (E.contents err.new) in
+fn trace<R: Read, O: Write, E: Write>(
+    alloc: Global,
+    input: &mut Counting<'_, R>,
+    out: &mut Counting<'_, O>,
+    err: &mut Counting<'_, E>,
+) -> u8
+    requires reads { (input.old.calls ≡ 0) × (input.old.failed ≡ 0) }
+    requires writes { (out.old.calls ≡ 0) × (out.old.failed ≡ 0) }
+    requires complaints { (err.old.calls ≡ 0) × (err.old.failed ≡ 0) }
+    ensures ran { let given = counted_stream (R.remaining input.old.stream.now) (R.remaining input.new.stream.now) input.new.calls input.new.failed in
+        let output = counted_stream (O.contents out.old.stream.now) (O.contents out.new.stream.now) out.new.calls out.new.failed in
+        let errors = counted_stream (E.contents err.old.stream.now) (E.contents err.new.stream.now) err.new.calls err.new.failed in
         TraceRan given output errors result }
+    ensures most { input.new.calls ≤ most_reads max_input }
+    ensures same_in { input.new.stream.ghost_name ≡ input.old.stream.ghost_name }
+    ensures same_out { out.new.stream.ghost_name ≡ out.old.stream.ghost_name }
+    ensures same_err { err.new.stream.ghost_name ≡ err.old.stream.ghost_name }
 {
-    let mut reader = Counting::new(input);
-    let mut writer = Counting::new(out);
-    match run_trace(alloc, &mut reader, &mut writer) {
+    match run_trace(alloc, input, out) {
         Ok(end) => status_of(end),
         Err(fault) => {
             say(err, fault_line(fault).as_bytes());

@@ -2,9 +2,11 @@
 #![tactic(auto)]
 
 mod command;
+mod file;
 mod output;
 mod script;
 mod store;
 
-pub use command::run_command;
+pub use command::{run_command, run_command_counted};
+pub use file::{load_from, save_to};
 pub use store::{Store, StoreFault};

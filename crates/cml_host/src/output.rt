@@ -1,20 +1,27 @@
 //! Writing to the output, and saying what went wrong.
 
-ghost use Rattle.std.specs.Prelude.{ℕ, take, OnOk, OnErr};
+ghost use Rattle.std.specs.Prelude.{◌≡◌};
 ghost use Rattle.cml_host.specs.Written.{TextRan};
-ghost use Rattle.cml_trace.specs.Streams.{stream, Takes, TakesStart};
+ghost use Rattle.cml_stream.specs.Streams.{counted_stream, Says};
 
-use cml_trace::Counting;
-use cml_trace::input_output::{WriteFault, write_out};
+use cml_stream::Counting;
+use cml_stream::input_output::write_out;
 use std::io::Write;
 
 /// Writes a text, and answers the status.
-pub fn send_text<O: Write, E: Write>(text: &[u8], out: &mut O, err: &mut E) -> u8
-    ensures { let output = stream (O.contents out.old) (O.contents out.new) in
-        let errors = stream (E.contents err.old) (E.contents err.new) in
+pub fn send_text<O: Write, E: Write>(
+    text: &[u8],
+    out: &mut Counting<'_, O>,
+    err: &mut Counting<'_, E>,
+) -> u8
+    requires fresh { (out.old.failed ≡ 0) × (err.old.calls ≡ 0) × (err.old.failed ≡ 0) }
+    ensures ran { let output = counted_stream (O.contents out.old.stream.now) (O.contents out.new.stream.now) out.new.calls out.new.failed in
+        let errors = counted_stream (E.contents err.old.stream.now) (E.contents err.new.stream.now) err.new.calls err.new.failed in
         TextRan text.now output errors result }
+    ensures same_out { out.new.stream.ghost_name ≡ out.old.stream.ghost_name }
+    ensures same_err { err.new.stream.ghost_name ≡ err.old.stream.ghost_name }
 {
-    match send(out, text) {
+    match write_out(out, text) {
         Ok(()) => 0,
         Err(_) => {
             say(err, b"cannot write output\n");
@@ -24,19 +31,11 @@ pub fn send_text<O: Write, E: Write>(text: &[u8], out: &mut O, err: &mut E) -> u
 }
 
 /// Says what went wrong, as far as it can be said.
-pub fn say<E: Write>(err: &mut E, line: &[u8])
-    ensures { TakesStart (stream (E.contents err.old) (E.contents err.new)) line.now }
+pub fn say<E: Write>(err: &mut Counting<'_, E>, line: &[u8])
+    requires fresh { err.old.failed ≡ 0 }
+    ensures said { let errors = counted_stream (E.contents err.old.stream.now) (E.contents err.new.stream.now) err.new.calls err.new.failed in
+        Says errors line.now }
+    ensures same_reference { err.new.stream.ghost_name ≡ err.old.stream.ghost_name }
 {
-    let _ = send(err, line);
-}
-
-// Writes the bytes, as far as they can be written.
-fn send<W: Write>(out: &mut W, bytes: &[u8]) -> Result<(), WriteFault>
-    ensures ok { let output = stream (W.contents out.old) (W.contents out.new) in
-        OnOk result (Takes output bytes.now) }
-    ensures err { let output = stream (W.contents out.old) (W.contents out.new) in
-        OnErr result ((n : ℕ) × Takes output (take n bytes.now)) }
-{
-    let mut writer = Counting::new(out);
-    write_out(&mut writer, bytes)
+    let _ = write_out(err, line);
 }

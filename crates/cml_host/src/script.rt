@@ -6,11 +6,12 @@ ghost use Rattle.cml_host.specs.Scripts.{IsChecked, IsPrinted, IsShaped, FileRan
 ghost use Rattle.cml_host.specs.Scripts.{RefusedRan, Told};
 ghost use Rattle.cml_host.specs.Stores.{Content, IsUnchanged, MayBeRefused};
 ghost use Rattle.cml_host.specs.declared.store.StoreFault.TheVariants.{Refused};
-ghost use Rattle.cml_trace.specs.Streams.{stream, IsUntouched};
+ghost use Rattle.cml_stream.specs.Streams.{counted_stream, IsIdle};
 
 use crate::output::{say, send_text};
 use crate::store::{Store, StoreFault};
 use cml_check::{CheckFault, check};
+use cml_stream::Counting;
 use cml_text::{Sexpr, TextFault, print, read};
 use std::alloc::{AllocError, Global};
 use std::io::Write;
@@ -31,14 +32,17 @@ pub enum Said {
 pub fn check_file<O: Write, E: Write, S: Store>(
     alloc: Global,
     name: &str,
-    out: &mut O,
-    err: &mut E,
+    out: &mut Counting<'_, O>,
+    err: &mut Counting<'_, E>,
     store: &mut S,
 ) -> u8
-    ensures ran { let output = stream (O.contents out.old) (O.contents out.new) in
-        let errors = stream (E.contents err.old) (E.contents err.new) in
+    requires fresh { (out.old.calls ≡ 0) × (out.old.failed ≡ 0) × (err.old.calls ≡ 0) × (err.old.failed ≡ 0) }
+    ensures ran { let output = counted_stream (O.contents out.old.stream.now) (O.contents out.new.stream.now) out.new.calls out.new.failed in
+        let errors = counted_stream (E.contents err.old.stream.now) (E.contents err.new.stream.now) err.new.calls err.new.failed in
         FileRan IsChecked name.now (S.holds store.old name.now) output errors result }
     ensures same { IsUnchanged (S.holds store.old) (S.holds store.new) }
+    ensures same_out { out.new.stream.ghost_name ≡ out.old.stream.ghost_name }
+    ensures same_err { err.new.stream.ghost_name ≡ err.old.stream.ghost_name }
 {
     match store.load(alloc, name, TEXT_LIMIT) {
         Ok(text) => finish(check_text(alloc, text.as_slice()), out, err),
@@ -50,14 +54,17 @@ pub fn check_file<O: Write, E: Write, S: Store>(
 pub fn print_file<O: Write, E: Write, S: Store>(
     alloc: Global,
     name: &str,
-    out: &mut O,
-    err: &mut E,
+    out: &mut Counting<'_, O>,
+    err: &mut Counting<'_, E>,
     store: &mut S,
 ) -> u8
-    ensures ran { let output = stream (O.contents out.old) (O.contents out.new) in
-        let errors = stream (E.contents err.old) (E.contents err.new) in
+    requires fresh { (out.old.calls ≡ 0) × (out.old.failed ≡ 0) × (err.old.calls ≡ 0) × (err.old.failed ≡ 0) }
+    ensures ran { let output = counted_stream (O.contents out.old.stream.now) (O.contents out.new.stream.now) out.new.calls out.new.failed in
+        let errors = counted_stream (E.contents err.old.stream.now) (E.contents err.new.stream.now) err.new.calls err.new.failed in
         FileRan IsPrinted name.now (S.holds store.old name.now) output errors result }
     ensures same { IsUnchanged (S.holds store.old) (S.holds store.new) }
+    ensures same_out { out.new.stream.ghost_name ≡ out.old.stream.ghost_name }
+    ensures same_err { err.new.stream.ghost_name ≡ err.old.stream.ghost_name }
 {
     match store.load(alloc, name, TEXT_LIMIT) {
         Ok(text) => finish(print_text(alloc, text.as_slice()), out, err),
@@ -113,10 +120,17 @@ fn refuse_text(alloc: Global, fault: TextFault) -> Result<Said, AllocError>
 }
 
 // Writes what was said, or that memory ran out.
-fn finish<O: Write, E: Write>(said: Result<Said, AllocError>, out: &mut O, err: &mut E) -> u8
-    ensures { let output = stream (O.contents out.old) (O.contents out.new) in
-        let errors = stream (E.contents err.old) (E.contents err.new) in
+fn finish<O: Write, E: Write>(
+    said: Result<Said, AllocError>,
+    out: &mut Counting<'_, O>,
+    err: &mut Counting<'_, E>,
+) -> u8
+    requires fresh { (out.old.calls ≡ 0) × (out.old.failed ≡ 0) × (err.old.calls ≡ 0) × (err.old.failed ≡ 0) }
+    ensures ran { let output = counted_stream (O.contents out.old.stream.now) (O.contents out.new.stream.now) out.new.calls out.new.failed in
+        let errors = counted_stream (E.contents err.old.stream.now) (E.contents err.new.stream.now) err.new.calls err.new.failed in
         SaidRan said output errors result }
+    ensures same_out { out.new.stream.ghost_name ≡ out.old.stream.ghost_name }
+    ensures same_err { err.new.stream.ghost_name ≡ err.old.stream.ghost_name }
 {
     match said {
         Ok(Said::Written(text)) => send_text(text.as_bytes(), out, err),
@@ -132,10 +146,17 @@ fn finish<O: Write, E: Write>(said: Result<Said, AllocError>, out: &mut O, err: 
 }
 
 // Says that the file can't be read, or that memory ran out.
-fn refuse_file<E: Write>(alloc: Global, name: &str, fault: StoreFault, err: &mut E) -> u8
-    ensures { let errors = stream (E.contents err.old) (E.contents err.new) in
+fn refuse_file<E: Write>(
+    alloc: Global,
+    name: &str,
+    fault: StoreFault,
+    err: &mut Counting<'_, E>,
+) -> u8
+    requires fresh { err.old.failed ≡ 0 }
+    ensures refused { let errors = counted_stream (E.contents err.old.stream.now) (E.contents err.new.stream.now) err.new.calls err.new.failed in
         (content : Content) → (fault ≡ Refused → MayBeRefused content) →
         RefusedRan content name.now errors result }
+    ensures same_err { err.new.stream.ghost_name ≡ err.old.stream.ghost_name }
 {
     if matches!(fault, StoreFault::Refused)
         && let Ok(line) = format!(in alloc; "cannot read {name}\n")

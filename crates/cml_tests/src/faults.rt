@@ -2,7 +2,8 @@
 
 use crate::memory_store::MemoryStore;
 use crate::run::words;
-use cml_host::run_command;
+use crate::words::HELP;
+use cml_host::{Store, run_command};
 use std::alloc::Global;
 use std::io::{Error, ErrorKind, Read, Result as IoResult, Write};
 use std::process::Abort;
@@ -18,6 +19,13 @@ const TRACES: &[(&str, &str)] = &[
         "spawn\nmchan\nport 0\nmulticast 0 1\nmulticast 0 2\ncopy 0\nport 0\nsync 0 (portrecv 0)\ncommit 0 0\nsync 0 (portrecv 1)\ncommit 0 0\nsync 0 (portrecv 0)\ncommit 0 0\nsync 0 (portrecv 1)\ncommit 0 0\nsync 0 (portrecv 2)\nrows\n",
         "thread 0\nmchan 0\nport 0\nok\nok\nport 1\nport 2\nok\nresume 0 1\nfired\nok\nresume 0 1\nfired\nok\nresume 0 2\nfired\nok\nresume 0 2\nfired\nok\nrows 0\n",
     ),
+];
+
+// Words over a file with the script `(fn main () (print 007))`, and what is written.
+const COMMANDS: &[(&str, &str)] = &[
+    ("check F", "ok functions 1\n"),
+    ("fmt F", "(fn main () (print 7))\n"),
+    ("--help", HELP),
 ];
 
 /// A reader that gives a byte at a time, and is interrupted before each. One read fails, after so many good ones; those behind it don't.
@@ -78,23 +86,25 @@ impl Write for Narrow {
     }
 }
 
-// What comes of the trace, with the streams that fail after so many good calls: what was taken, what goes to the errors, the status.
+// What comes of the words, with the text as input and in the file `F`, and streams that fail after so many good calls: what was taken,
+// what goes to the errors, the status.
 fn ends(
     rt: &impl Abort,
     alloc: Global,
-    input: &str,
+    (line, text): (&str, &str),
     reads: usize,
     mut out: Narrow,
     expected: (&[u8], &str, u8),
 ) -> Result<(), Fail> {
-    let words = words(alloc, "trace")?;
+    let words = words(alloc, line)?;
     let mut reader = Dripping {
-        rest: input.as_bytes(),
+        rest: text.as_bytes(),
         interrupted: false,
         good: reads,
     };
     let mut err = Vec::new(alloc);
     let mut store = MemoryStore::new(alloc);
+    assert!(rt; store.save("F", text.as_bytes()).is_ok());
     let status = run_command(
         alloc,
         words.as_slice(),
@@ -135,44 +145,46 @@ fn each_read_fails(rt: HostRuntime) -> Result<(), Fail> {
         let all = input.len();
         for reads in 0..all {
             let out = taking(alloc, usize::MAX, false);
-            ends(
-                &rt,
-                alloc,
-                input,
-                reads,
-                out,
-                (b"", "cannot read input\n", 1),
-            )?;
+            let expected = (b"".as_slice(), "cannot read input\n", 1);
+            ends(&rt, alloc, ("trace", input), reads, out, expected)?;
         }
         let out = taking(alloc, usize::MAX, false);
-        ends(&rt, alloc, input, all, out, (b"", "cannot read input\n", 1))?;
+        let expected = (b"".as_slice(), "cannot read input\n", 1);
+        ends(&rt, alloc, ("trace", input), all, out, expected)?;
         let out = taking(alloc, usize::MAX, false);
-        ends(
-            &rt,
-            alloc,
-            input,
-            usize::MAX,
-            out,
-            (output.as_bytes(), "", 0),
-        )?;
+        let expected = (output.as_bytes(), "", 0);
+        ends(&rt, alloc, ("trace", input), usize::MAX, out, expected)?;
     }
     Ok(())
 }
 
+// Each write of what is written in answer to these words fails in turn, or takes nothing.
+fn writes_fail(
+    rt: &impl Abort,
+    alloc: Global,
+    line: &str,
+    input: &str,
+    output: &str,
+) -> Result<(), Fail> {
+    let text = output.as_bytes();
+    for writes in 0..text.len() {
+        for takes_nothing in [false, true] {
+            let out = taking(alloc, writes, takes_nothing);
+            let expected = (&text[..writes], "cannot write output\n", 1);
+            ends(rt, alloc, (line, input), usize::MAX, out, expected)?;
+        }
+    }
+    let out = taking(alloc, text.len(), false);
+    ends(rt, alloc, (line, input), usize::MAX, out, (text, "", 0))
+}
+
 #[test]
 fn each_write_fails(rt: HostRuntime) -> Result<(), Fail> {
-    let alloc = rt.alloc();
-    for (input, output) in TRACES {
-        let text = output.as_bytes();
-        for writes in 0..text.len() {
-            for takes_nothing in [false, true] {
-                let out = taking(alloc, writes, takes_nothing);
-                let expected = (&text[..writes], "cannot write output\n", 1);
-                ends(&rt, alloc, input, usize::MAX, out, expected)?;
-            }
-        }
-        let out = taking(alloc, text.len(), false);
-        ends(&rt, alloc, input, usize::MAX, out, (text, "", 0))?;
+    for &(input, output) in TRACES {
+        writes_fail(&rt, rt.alloc(), "trace", input, output)?;
+    }
+    for &(line, output) in COMMANDS {
+        writes_fail(&rt, rt.alloc(), line, "(fn main () (print 007))", output)?;
     }
     Ok(())
 }

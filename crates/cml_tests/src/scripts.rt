@@ -310,6 +310,20 @@ fn scripts(rt: HostRuntime) -> Result<(), Fail> {
 }
 
 #[test]
+fn a_long_text_is_printed(rt: HostRuntime) -> Result<(), Fail> {
+    let text = whole(rt.alloc(), &[Part::Times("ab ", 30_000)])?;
+    let printed = whole(rt.alloc(), &[Part::Times("ab\n", 30_000)])?;
+    let left = run_on(rt.alloc(), "fmt F", text.as_bytes())?;
+    assert!(rt; left.output.as_slice() == printed.as_bytes());
+    assert!(rt; left.errors.is_empty());
+    assert!(rt; left.status == 0);
+    drop(text);
+    drop(printed);
+    drop(left);
+    Ok(())
+}
+
+#[test]
 fn bytes_that_are_no_text(rt: HostRuntime) -> Result<(), Fail> {
     let left = run_on(rt.alloc(), "fmt F", b"\xff")?;
     assert!(rt; left.output.is_empty());

@@ -4,6 +4,10 @@
 use crate::run::{Run, gives};
 use std::test::Fail;
 
+/// The help of the program.
+pub const HELP: &str =
+    "Events of Concurrent ML: answers traces of commands and checks scripts\n\nUsage: cml <COMMAND>\n\nCommands:\n  trace  Answers the commands on standard input\n  check  Checks a script\n  fmt    Prints the forms of a text, each on a line\n  help   Print this message or the help of the given subcommand(s)\n\nOptions:\n  -h, --help  Print help\n";
+
 // Words, what goes to the output and to the errors, and the status.
 struct Asked {
     words: &'static str,
@@ -15,7 +19,7 @@ struct Asked {
 const WORDS: &[Asked] = &[
     Asked {
         words: "--help",
-        output: "Events of Concurrent ML: answers traces of commands and checks scripts\n\nUsage: cml <COMMAND>\n\nCommands:\n  trace  Answers the commands on standard input\n  check  Checks a script\n  fmt    Prints the forms of a text, each on a line\n  help   Print this message or the help of the given subcommand(s)\n\nOptions:\n  -h, --help  Print help\n",
+        output: HELP,
         errors: "",
         status: 0,
     },

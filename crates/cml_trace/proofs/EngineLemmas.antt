@@ -23,7 +23,7 @@ use Rattle.cml_trace.specs.Answers.{bad_line, lines, max_input, Answers}
 use Rattle.cml_trace.specs.Replies.{line, reply_text, rows_text}
 use Rattle.cml_trace.specs.Lines.{PlainLines}
 use Rattle.cml_trace.specs.Batches.{StopsAt, Gathers}
-use Rattle.cml_trace.specs.Streams.{Stream, stream, Takes, TakesStart}
+use Rattle.cml_stream.specs.Streams.{Stream, stream, Takes, TakesStart}
 use Rattle.cml_trace.specs.Pages.{Tells, TellsStart}
 use Rattle.cml_trace.specs.Runs.{AreAnswered, AreBegun, AreWritten, AreWrittenTo, Came, IsAnswered, IsBegun, IsBroken}
 use Rattle.cml_trace.proofs.PageLemmas.{Tells-nothing, Tells-both, TellsStart-nothing, TellsStart-all, TellsStart-more, TellsStart-behind}

@@ -1,5 +1,4 @@
 mod GivenLemmas
-mod Sent
 mod BatchLemmas
 mod PageLemmas
 mod AnswerLemmas

@@ -5,7 +5,7 @@ use Rattle.std.specs.List.{flat_map}
 use Rattle.std.proofs.lemmas.List.{take-append-drop}
 use Rattle.std.specs.Io.KnownBytes.{Appends}
 use Rattle.std.proofs.KnownBytes.{Appends-trans, Appends-nil}
-use Rattle.cml_trace.specs.Streams.{stream}
+use Rattle.cml_stream.specs.Streams.{stream}
 use Rattle.cml_trace.specs.Pages.{Tells, TellsStart}
 
 -- nothing was told

@@ -1,11 +1,11 @@
 -- When each fault comes, by how often the streams were called and how often that failed.
 use Rattle.std.specs.Prelude.{◌≡◌, ℕ, Result, Ok, Err}
-use Rattle.cml_trace.specs.declared.input_output.ReadFault.{ReadFault}
-use Rattle.cml_trace.specs.declared.input_output.ReadFault.TheVariants as read
+use Rattle.cml_stream.specs.declared.input_output.ReadFault.{ReadFault}
+use Rattle.cml_stream.specs.declared.input_output.ReadFault.TheVariants as read
 use Rattle.cml_trace.specs.declared.fault.TraceEnd.{TraceEnd}
 use Rattle.cml_trace.specs.declared.fault.TraceFault.{TraceFault}
 use Rattle.cml_trace.specs.declared.fault.TraceFault.TheVariants.{Read, Turns, Write, Memory}
-use Rattle.cml_trace.specs.Counts.{most_reads}
+use Rattle.cml_stream.specs.Counts.{Calls, most_reads}
 use Rattle.cml_trace.specs.Answers.{max_input}
 
 -- the fault of a trace whose input was not read
@@ -13,11 +13,6 @@ abbrev pub read_fault : ReadFault → TraceFault
 read_fault read.Read = Read
 read_fault read.Turns = Turns
 read_fault read.Memory = Memory
-
--- how often a stream was called, and how often that failed
-pub record Calls : Type 0 where
-  pub calls : ℕ
-  pub failed : ℕ
 
 -- When a trace ends so, by the calls of its reader and of its writer. A fault of reading comes only where a read failed, the one that the
 -- input does not end only where the reader was called as often as it may be, and in both nothing was written. A fault of writing comes

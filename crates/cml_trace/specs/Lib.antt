@@ -7,8 +7,6 @@ pub mod Replies
 pub mod Answers
 pub mod Lines
 pub mod Batches
-pub mod Streams
-pub mod Counts
 pub mod Pages
 pub mod Runs
 pub mod Faults

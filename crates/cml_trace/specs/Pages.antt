@@ -1,6 +1,6 @@
 -- Text that is told: it waits until there is enough of it, and is then written.
 use Rattle.std.specs.Prelude.{◌≡◌, ℕ, List, ◌++◌}
-use Rattle.cml_trace.specs.Streams.{Stream, Takes}
+use Rattle.cml_stream.specs.Streams.{Stream, Takes}
 
 -- Behind what waited this text was told: a first part of it all was written, and the rest waits.
 pub record Tells (waited waits : List ℕ) (output : Stream) (text : List ℕ) : Type 0 where

@@ -4,7 +4,7 @@ use Rattle.cml_scan.specs.World.{PlainWorld}
 use Rattle.cml_trace.specs.declared.fault.TraceEnd.{TraceEnd}
 use Rattle.cml_trace.specs.declared.fault.TraceFault.{TraceFault}
 use Rattle.cml_trace.specs.declared.fault.TraceFault.TheVariants.{Read, Turns, Write, Memory}
-use Rattle.cml_trace.specs.Streams.{Stream, Gives, IsSpent, Takes, TakesStart, IsUntouched}
+use Rattle.cml_stream.specs.Streams.{Stream, Gives, IsSpent, Takes, TakesStart, IsUntouched}
 use Rattle.cml_book.specs.Step.{empty_world}
 use Rattle.cml_trace.specs.Pages.{Tells, TellsStart}
 use Rattle.cml_trace.specs.Answers.{Answers, max_input, AnswersTrace}

@@ -1,6 +1,6 @@
 //! How a trace ends, and why it is not answered to its end.
 
-use crate::input_output::{ReadFault, WriteFault};
+use cml_stream::input_output::{ReadFault, WriteFault};
 use std::alloc::AllocError;
 use thiserror::Error;
 

@@ -2,12 +2,10 @@
 #![tactic(auto)]
 
 mod batch;
-mod counts;
 mod engine;
 mod fault;
 mod form;
 mod group;
-pub mod input_output;
 mod keyword;
 pub mod law;
 mod line;
@@ -15,6 +13,5 @@ mod order;
 mod page;
 mod reply;
 
-pub use counts::Counting;
 pub use engine::{run_trace, run_trace_over};
 pub use fault::{TraceEnd, TraceFault};

@@ -2,14 +2,14 @@
 
 ghost use Rattle.std.specs.Prelude.{◌≡◌, [], OnOk, OnErr, ℕ, take};
 ghost use Rattle.std.specs.String.{string_bytes};
-ghost use Rattle.cml_trace.specs.Counts.{counted};
+ghost use Rattle.cml_stream.specs.Counts.{counted};
 ghost use Rattle.cml_trace.specs.Faults.{IsWriteFailure};
 ghost use Rattle.cml_trace.specs.Pages.{Tells, TellsStart};
-ghost use Rattle.cml_trace.specs.Streams.{stream, Takes};
+ghost use Rattle.cml_stream.specs.Streams.{stream, Takes};
 
-use crate::counts::Counting;
 use crate::fault::TraceFault;
-use crate::input_output::{WriteFault, write_out};
+use cml_stream::Counting;
+use cml_stream::input_output::{WriteFault, write_out};
 use std::alloc::Global;
 use std::io::Write;
 use std::marker::Model;

@@ -8,13 +8,13 @@ ghost use Rattle.cml_trace.specs.Answers.{bad_line};
 ghost use Rattle.cml_trace.specs.Faults.{IsWriteFailure};
 ghost use Rattle.cml_trace.specs.Pages.{Tells, TellsStart};
 ghost use Rattle.cml_trace.specs.Replies as spec;
-ghost use Rattle.cml_trace.specs.Streams.{stream};
+ghost use Rattle.cml_stream.specs.Streams.{stream};
 
-use crate::counts::Counting;
 use crate::fault::TraceFault;
 use crate::page::Page;
 use cml_book::{Committed, Refusal, Reply, Resume};
 use cml_scan::Meet;
+use cml_stream::Counting;
 use cml_value::{FnRef, NackId, Value};
 use std::alloc::{AllocError, Global};
 use std::io::Write;

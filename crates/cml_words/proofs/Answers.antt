@@ -1,21 +1,35 @@
--- How the answer to an error answers the words.
-use Rattle.std.proofs.Common.{◌≡◌, ◌⊎◌, ℕ, List, true, refl, inl, inr, subst}
-use Rattle.clap.specs.Words.{is_simple, is_simple_and_free, IsAmong}
+-- What clap's answer to the commands of the program says of the words.
+use Rattle.std.proofs.Common.{◌≡◌, ◌⊎◌, ◌∙◌, ℕ, List, [], true, refl, sym, ap, inl, inr, subst}
+use Rattle.clap.specs.Words.{App, HasKind, HasMatchesOf, IsAmong, Text, fault_of, is_simple, is_simple_and_free, subcommand_of, subcommand_rows_of}
 use Rattle.clap.proofs.OnLiterals.{clap_on_literals}
+use Rattle.clap.specs.declared.error.Error.{Error}
 use Rattle.clap.specs.declared.error.kind.ErrorKind.{ErrorKind}
 use Rattle.clap.specs.declared.error.kind.ErrorKind.TheVariants.{OutOfMemory}
+use Rattle.clap.specs.declared.parser.matches.ArgMatches.{ArgMatches}
 use Rattle.cml_words.specs.declared.Answer.{Answer}
 use Rattle.cml_words.specs.declared.Answer.TheVariants as answer
 use Rattle.cml_words.specs.Words.{commands, faults, IsAnswer, AnswersError}
 
-pub commands_are_simple : is_simple_and_free commands ≡ true
+commands_are_simple : is_simple_and_free commands ≡ true
 unfolding clap_on_literals
 commands_are_simple = refl
 
-pub commands_are_plain : is_simple commands ≡ true
+commands_are_plain : is_simple commands ≡ true
 unfolding clap_on_literals
 commands_are_plain = refl
 
+-- a parse of these commands that succeeds has nothing wrong with its words, and enters the command that they name
+pub no_fault : (app : App) (words : List Text) → app ≡ commands → (is_simple_and_free app ≡ true → fault_of app words ≡ []) → faults words ≡ []
+no_fault app words same none = ap (λ (a : App). fault_of a words) (sym same) ∙ none (ap is_simple_and_free same ∙ commands_are_simple)
+
+pub named_by : (app : App) (words : List Text) (m : ArgMatches) → app ≡ commands → HasMatchesOf app words m → subcommand_rows_of m ≡ subcommand_of commands words
+named_by app words m same matches = (matches (ap is_simple same ∙ commands_are_plain)).1 ∙ ap (λ (a : App). subcommand_of a words) same
+
+-- and one that fails has a kind that is among their faults
+pub among_faults : (app : App) (words : List Text) (e : Error) → app ≡ commands → (is_simple_and_free app ≡ true → HasKind (fault_of app words) e) → HasKind (faults words) e
+among_faults app words e same fails = subst (λ (a : App). HasKind (fault_of a words) e) same (fails (ap is_simple_and_free same ∙ commands_are_simple))
+
+-- the answer to an error answers the words
 pub IsAnswer-error : (words : List (List ℕ)) (kind : ErrorKind) (a : Answer) → (kind ≡ OutOfMemory) ⊎ IsAmong kind (faults words) → AnswersError kind a → IsAnswer words a
 IsAnswer-error words kind (answer.Task task) among says = absurd says
 IsAnswer-error words kind (answer.Help text) (inl none) (inl help) = cc

@@ -1,2 +1,5 @@
 mod Answers
+mod Entered
+mod Filled
 mod Named
+mod Steps

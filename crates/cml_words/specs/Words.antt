@@ -1,5 +1,7 @@
 -- What the words of the command line are answered.
-use Rattle.std.specs.Prelude.{◌≡◌, ◌≢◌, ◌⊎◌, ℕ, true, Option, Some, List, [], codes, option_map, option_and_then}
+use Rattle.std.specs.Prelude.{◌≡◌, ◌≢◌, ◌⊎◌, ◌&&◌, ℕ, Bool, true, false, Option, Some, None, List, [], codes, is_some, map, option_map, option_and_then}
+use Rattle.std.specs.List.{filter, list_all, list_any}
+use Rattle.std.specs.Str.{bytes_eq}
 use Rattle.clap.specs.Words.{App, Shape, Rule, Row, Text, new_app, new_rule, with_rule, with_subcommand, fault_of, Kinds, IsAmong, first_of, subcommand_of}
 use Rattle.clap.specs.declared.builder.action.ArgAction.TheVariants.{Set}
 use Rattle.clap.specs.declared.error.kind.ErrorKind.{ErrorKind}
@@ -30,6 +32,19 @@ commands =
 -- what may be wrong with the words, the first of which names the program: nothing where they name a command
 abbrev pub faults : List (List ℕ) → Kinds
 faults words = fault_of commands words
+
+-- the name of a command, and those of the arguments that it must be given
+abbrev pub needs_of : Shape → Text × List Text
+needs_of command = (command.name, map (λ argument. argument.id) (filter (λ argument. argument.required) command.rules))
+
+-- the command that was named is the one of this name, and each of these arguments was given a value
+abbrev pub is_met : Text × List Row → Text × List Text → Bool
+is_met found needs = bytes_eq found.0 needs.0 && list_all (λ id. is_some (first_of id found.1)) needs.1
+
+-- a command of the program was named, and was given all that it must be
+abbrev pub is_complete : App → Option (Text × List Row) → Bool
+is_complete app None = false
+is_complete app (Some found) = list_any (is_met found) (map needs_of app.subs)
 
 -- The command that was named, with the values that it was given, is this one, with this file.
 abbrev pub Names : Option (Text × List Row) → Task → Type 0

@@ -1,11 +1,11 @@
 //! What the words of the program's command line ask for.
 #![tactic(auto)]
 
-ghost use Rattle.std.specs.Prelude.{◌≡◌, false, map, IfOk, IfSome};
+ghost use Rattle.std.specs.Prelude.{◌≡◌, false, true, is_some, map, IfOk, Some};
 ghost use Rattle.std.specs.String.{string_bytes};
-ghost use Rattle.clap.specs.Words.{app_of, kind_of, rule_of, shape_of, subcommand_rows_of};
+ghost use Rattle.clap.specs.Words.{app_of, first_of, found_of, kind_of, rows_of, rule_of, shape_of, subcommand_rows_of};
 ghost use Rattle.clap.specs.declared.builder.command.Command.TheViews.{out-Command};
-ghost use Rattle.cml_words.specs.Words.{commands, file_command, file_rule, IsAnswer, AnswersError};
+ghost use Rattle.cml_words.specs.Words.{commands, file_command, file_rule, is_complete, IsAnswer, AnswersError};
 ghost use Rattle.cml_words.specs.Words.{Names};
 
 use clap::error::ErrorKind;
@@ -42,26 +42,36 @@ pub fn read_words<'a>(alloc: Global, words: &'a [String]) -> Result<Answer<'a>, 
     ensures { IfOk result (IsAnswer (map string_bytes words.now)) }
 {
     match command(alloc)?.try_get_matches_from(words) {
-        Ok(matches) => match task_of(&matches) {
-            Some(task) => Ok(Answer::Task(task)),
-            // By clap's rules a command is named, and with the file that it takes; nothing here proves that.
-            None => Err(AllocError),
-        },
+        Ok(matches) => Ok(Answer::Task(task_of(&matches))),
         Err(error) => answer_to_error(alloc, &error),
     }
 }
 
 // The command that the words named, with the file that it takes.
-fn task_of<'a>(matches: &ArgMatches<'a>) -> Option<Task<'a>>
-    ensures { IfSome result (Names (subcommand_rows_of matches.now)) }
+fn task_of<'a>(matches: &ArgMatches<'a>) -> Task<'a>
+    requires { is_complete commands (subcommand_rows_of matches.now) ≡ true }
+    ensures { Names (subcommand_rows_of matches.now) result }
 {
-    let (name, below) = matches.subcommand()?;
+    let Some((name, below)) = matches.subcommand() else {
+        unreachable!()
+    };
     match name {
-        "trace" => Some(Task::Trace),
-        "check" => Some(Task::Check(below.get_str("FILE")?)),
-        "fmt" => Some(Task::Fmt(below.get_str("FILE")?)),
-        _ => None,
+        "trace" => Task::Trace,
+        "check" => Task::Check(given(below, "FILE")),
+        "fmt" => Task::Fmt(given(below, "FILE")),
+        _ => unreachable!(),
     }
+}
+
+// The text that an argument was given.
+fn given<'a>(matches: &ArgMatches<'a>, id: &str) -> &'a str
+    requires { is_some (first_of id.now (rows_of (found_of matches.now))) ≡ true }
+    ensures { first_of id.now (rows_of (found_of matches.now)) ≡ Some result.now }
+{
+    let Some(text) = matches.get_str(id) else {
+        unreachable!()
+    };
+    text
 }
 
 // The text of the error, by what it is: that something is wrong, or help that was asked for.

@@ -1,26 +1,28 @@
-use Rattle.std.proofs.Common.{◌≡◌, ◌∙◌, ap, sym, map, subst}
+use Rattle.std.proofs.Common.{◌∙◌, ap, map, subst}
 use Rattle.std.specs.String.{string_bytes}
 use Rattle.std.proofs.lemmas.Result.{IfOk-weaker}
-use Rattle.clap.specs.Words.{App, is_simple, is_simple_and_free, fault_of, kind_of, HasKind, subcommand_of, subcommand_rows_of}
-use Rattle.cml_words.specs.Words.{commands, Names}
-use Rattle.cml_words.proofs.Answers.{commands_are_simple, commands_are_plain, IsAnswer-error}
+use Rattle.clap.specs.Words.{kind_of}
+use Rattle.cml_words.specs.Words.{commands, is_complete, Names}
+use Rattle.cml_words.proofs.Answers.{among_faults, named_by, no_fault, IsAnswer-error}
+use Rattle.cml_words.proofs.Entered.{commands_complete}
 use Rattle.cml_words.proofs.read_words.Goals as goal
 
-pub returns-in-Some : goal.returns-in-Some
-returns-in-Some c =
+pub task_of-requires : goal.task_of-requires
+task_of-requires c =
     let app = c.in_ok-command.ensures in
     let words = map string_bytes c.args.words.now in
-    let free = ap is_simple_and_free app ∙ commands_are_simple in
-    let plain = ap is_simple app ∙ commands_are_plain in
-    let named : subcommand_rows_of c.in-Ok.matches ≡ subcommand_of commands words =
-    (c.in-Ok.ensures.matches plain).1 ∙ ap (λ (a : App). subcommand_of a words) app in (
-      ap (λ (a : App). fault_of a words) (sym app) ∙ c.in-Ok.ensures.kinds free,
-      subst (λ found. Names found c.in-Some.task) named c.in-Some.ensures,
+    ap (is_complete commands) (named_by _ words c.in-Ok.matches app c.in-Ok.ensures.matches) ∙ commands_complete words (no_fault _ words app c.in-Ok.ensures.kinds)
+
+pub returns-in-Ok : goal.returns-in-Ok
+returns-in-Ok c =
+    let app = c.in_ok-command.ensures in
+    let words = map string_bytes c.args.words.now in (
+      no_fault _ words app c.in-Ok.ensures.kinds,
+      subst (λ found. Names found c.task_of.result) (named_by _ words c.in-Ok.matches app c.in-Ok.ensures.matches) c.task_of.ensures,
     )
 
-pub returns : goal.returns
-returns c =
-    let app = c.in_ok-command.ensures in
-    let free = ap is_simple_and_free app ∙ commands_are_simple in
-    let among = subst (λ (a : App). HasKind (fault_of a (map string_bytes c.args.words.now)) c.in-Err.error) app (c.in-Err.ensures.kinds free) in
-    IfOk-weaker c.answer_to_error.result _ _ (λ a says. IsAnswer-error (map string_bytes c.args.words.now) (kind_of c.in-Err.error) a among says) c.answer_to_error.ensures
+pub returns-in-Err : goal.returns-in-Err
+returns-in-Err c =
+    let words = map string_bytes c.args.words.now in
+    let among = among_faults _ words c.in-Err.error c.in_ok-command.ensures c.in-Err.ensures.kinds in
+    IfOk-weaker c.answer_to_error.result _ _ (λ a says. IsAnswer-error words (kind_of c.in-Err.error) a among says) c.answer_to_error.ensures

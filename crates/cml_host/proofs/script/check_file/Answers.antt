@@ -9,4 +9,4 @@ returns-in-Ok-clause-ran g c =
     file_ran IsChecked checked_whole c.args.name.now (g.S.Store.holds c.args.store.now c.args.name.now) c.in-Ok.text.items c.check_text.result _ _ _
     c.in-Ok.ensures.found
     (subst (λ text. IfOk c.check_text.result (IsChecked text)) same c.check_text.ensures)
-    c.finish.ensures
+    c.finish.ensures.ran

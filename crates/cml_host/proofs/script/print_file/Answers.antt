@@ -9,4 +9,4 @@ returns-in-Ok-clause-ran g c =
     file_ran IsPrinted printed_whole c.args.name.now (g.S.Store.holds c.args.store.now c.args.name.now) c.in-Ok.text.items c.print_text.result _ _ _
     c.in-Ok.ensures.found
     (subst (λ text. IfOk c.print_text.result (IsPrinted text)) same c.print_text.ensures)
-    c.finish.ensures
+    c.finish.ensures.ran

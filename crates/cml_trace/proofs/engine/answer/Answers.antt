@@ -2,7 +2,7 @@ use Rattle.std.proofs.Common.{[], IfOk, OnErr}
 use Rattle.cml_book.specs.Step.{empty_world}
 use Rattle.cml_trace.specs.Answers.{lines}
 use Rattle.cml_trace.specs.Runs.{AreAnswered, AreBegun}
-use Rattle.cml_trace.specs.Streams.{stream}
+use Rattle.cml_stream.specs.Streams.{stream}
 use Rattle.cml_trace.proofs.EngineLemmas.{finish_ok, finish_err}
 use Rattle.cml_trace.proofs.engine.answer.Goals as goal
 

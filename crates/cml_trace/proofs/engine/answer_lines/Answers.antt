@@ -5,7 +5,7 @@ use Rattle.cml_trace.specs.declared.batch.Stop.TheVariants as stop
 use Rattle.cml_trace.specs.Batches.{Gathers}
 use Rattle.cml_trace.specs.Pages.{Tells, TellsStart}
 use Rattle.cml_trace.specs.Replies.{rows_text}
-use Rattle.cml_trace.specs.Streams.{stream}
+use Rattle.cml_stream.specs.Streams.{stream}
 use Rattle.cml_trace.proofs.EngineLemmas.{on_err, Standing-batch, Standing-rows, answered_bad, answered_end, begun_batch, begun_rows, begun_bad, begun_here}
 use Rattle.cml_trace.proofs.engine.answer_lines.Goals as goal
 

@@ -3,7 +3,7 @@ use Rattle.std.specs.List.{flat_map}
 use Rattle.cml_book.specs.declared.command.Reply.{Reply}
 use Rattle.cml_trace.specs.Replies.{reply_text}
 use Rattle.cml_trace.specs.Pages.{TellsStart}
-use Rattle.cml_trace.specs.Streams.{stream}
+use Rattle.cml_stream.specs.Streams.{stream}
 use Rattle.cml_trace.proofs.EngineLemmas.{on_err, begun_stopped}
 use Rattle.cml_trace.proofs.PageLemmas.{TellsStart-all}
 use Rattle.cml_trace.proofs.engine.do_commands.Goals as goal

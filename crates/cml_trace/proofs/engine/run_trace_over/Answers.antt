@@ -1,6 +1,6 @@
 use Rattle.std.proofs.Common.{◌<◌, length, arith}
 use Rattle.cml_trace.specs.Answers.{max_input}
-use Rattle.cml_trace.specs.Streams.{stream}
+use Rattle.cml_stream.specs.Streams.{stream}
 use Rattle.cml_trace.specs.Runs.{Came}
 use Rattle.cml_trace.proofs.EngineLemmas.{begun_long, broken_write}
 use Rattle.cml_trace.proofs.engine.run_trace_over.Goals as goal

@@ -1,7 +1,12 @@
 -- How often a stream is called, and how often that fails.
 use Rattle.std.specs.Prelude.{◌≡◌, ℕ, ◌+◌, ◌*◌, ◌-◌, ◌^◌, min, Result, Ok, Err}
-use Rattle.cml_trace.specs.declared.input_output.ReadFault.{ReadFault}
-use Rattle.cml_trace.specs.declared.input_output.ReadFault.TheVariants as read
+use Rattle.cml_stream.specs.declared.input_output.ReadFault.{ReadFault}
+use Rattle.cml_stream.specs.declared.input_output.ReadFault.TheVariants as read
+
+-- how often a stream was called, and how often that failed
+pub record Calls : Type 0 where
+  pub calls : ℕ
+  pub failed : ℕ
 
 -- one more, where that is a u64; the greatest u64 stays
 abbrev pub counted : ℕ → ℕ

@@ -1,6 +1,7 @@
 -- Streams before and after a call.
-use Rattle.std.specs.Prelude.{◌≡◌, ℕ, List, ◌++◌, Option}
+use Rattle.std.specs.Prelude.{◌≡◌, ◌⊎◌, ℕ, List, ◌++◌, Option}
 use Rattle.std.specs.Io.KnownBytes.{Appends, Consumes, IsAtEnd, Keeps}
+use Rattle.cml_stream.specs.Counts.{Calls}
 
 -- The bytes that a reader has left, or that a writer holds, before and after, where they are known.
 pub record Stream : Type 0 where
@@ -29,3 +30,21 @@ TakesStart output text = (part : List ℕ) × (unwritten : List ℕ) × (text �
 -- nothing was read, or written
 abbrev pub IsUntouched : Stream → Type 0
 IsUntouched s = Keeps s.before s.after
+
+-- The same of a stream whose calls are counted from the beginning on.
+pub record Counted : Type 0 where
+  pub bytes : Stream
+  pub counts : Calls
+
+abbrev pub counted_stream : Option (List ℕ) → Option (List ℕ) → ℕ → ℕ → Counted
+counted_stream before after calls failed =
+    record { bytes = stream before after; counts = record { calls = calls; failed = failed } }
+
+-- the stream was not called
+abbrev pub IsIdle : Counted → Type 0
+IsIdle s = IsUntouched s.bytes × (s.counts.calls ≡ 0) × (s.counts.failed ≡ 0)
+
+-- The text was written; or, exactly where a write failed, a beginning of it, and that write was the only one that failed.
+abbrev pub Says : Counted → List ℕ → Type 0
+Says output text =
+    (Takes output.bytes text × (output.counts.failed ≡ 0)) ⊎ (TakesStart output.bytes text × (output.counts.failed ≡ 1))

@@ -1,7 +1,7 @@
 use Rattle.std.proofs.Common.{rules, ◌≤◌, length, drop, arith, ◌-◌, ◌∙◌, length-take}
 use Rattle.std.proofs.KnownBytes.{Appends-trans}
-use Rattle.cml_trace.proofs.Sent.{sent_more}
-use Rattle.cml_trace.proofs.input_output.write_out.Goals as goal
+use Rattle.cml_stream.proofs.Sent.{sent_more}
+use Rattle.cml_stream.proofs.input_output.write_out.Goals as goal
 
 pub loop-sent-preserved : goal.loop-sent-preserved
 loop-sent-preserved g c =

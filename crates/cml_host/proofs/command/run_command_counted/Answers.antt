@@ -3,30 +3,38 @@ use Rattle.std.specs.String.{string_bytes}
 use Rattle.cml_words.specs.declared.Task.TheVariants.{Trace, Check, Fmt}
 use Rattle.cml_words.specs.declared.Answer.TheVariants as answer
 use Rattle.cml_words.specs.Words.{IsAnswer}
-use Rattle.cml_host.proofs.command.run_command.Goals as goal
+use Rattle.cml_host.proofs.command.run_command_counted.Goals as goal
 
-pub returns-in-Ok-Task-Trace : goal.returns-in-Ok-Task-Trace
-returns-in-Ok-Task-Trace g c =
+pub returns-in-Ok-Task-Trace-clause-ran : goal.returns-in-Ok-Task-Trace-clause-ran
+returns-in-Ok-Task-Trace-clause-ran g c =
     let words = map string_bytes c.args.words.now in
     let is = c.in-Ok-Task-Trace.field-0-is ∙ ap answer.Task c.in-Ok-Task-Trace.field-0-0-is in
-    inl (answer.Task Trace, subst (IsAnswer words) is c.in-Ok-Task-Trace.ensures, (c.trace.ensures, λ name. refl))
+    inl (answer.Task Trace, subst (IsAnswer words) is c.in-Ok-Task-Trace.ensures, (c.trace.ensures.ran, λ name. refl))
 
-pub returns-in-Ok-Task-Check : goal.returns-in-Ok-Task-Check
-returns-in-Ok-Task-Check g c =
+pub returns-in-Ok-Task-Check-clause-ran : goal.returns-in-Ok-Task-Check-clause-ran
+returns-in-Ok-Task-Check-clause-ran g c =
     let words = map string_bytes c.args.words.now in
     let is = c.in-Ok-Task-Check.field-0-is ∙ ap answer.Task c.in-Ok-Task-Check.field-0-0-is in
     inl (
       answer.Task (Check c.in-Ok-Task-Check.name),
       subst (IsAnswer words) is c.in-Ok-Task-Check.ensures,
-      (c.check_file.ensures.ran, search rules, c.check_file.ensures.same),
+      (
+        c.check_file.ensures.ran,
+        (search rules, c.requires.reads.0, c.requires.reads.1),
+        c.check_file.ensures.same,
+      ),
     )
 
-pub returns-in-Ok-Task-Fmt : goal.returns-in-Ok-Task-Fmt
-returns-in-Ok-Task-Fmt g c =
+pub returns-in-Ok-Task-Fmt-clause-ran : goal.returns-in-Ok-Task-Fmt-clause-ran
+returns-in-Ok-Task-Fmt-clause-ran g c =
     let words = map string_bytes c.args.words.now in
     let is = c.in-Ok-Task-Fmt.field-0-is ∙ ap answer.Task c.in-Ok-Task-Fmt.field-0-0-is in
     inl (
       answer.Task (Fmt c.in-Ok-Task-Fmt.name),
       subst (IsAnswer words) is c.in-Ok-Task-Fmt.ensures,
-      (c.print_file.ensures.ran, search rules, c.print_file.ensures.same),
+      (
+        c.print_file.ensures.ran,
+        (search rules, c.requires.reads.0, c.requires.reads.1),
+        c.print_file.ensures.same,
+      ),
     )

@@ -4,7 +4,7 @@ ghost use Rattle.std.specs.Prelude.{◌≡◌, ◌≢◌, ◌<◌, IfOk, OnOk, I
 ghost use Rattle.std.specs.Io.{ReadsAtMost, WritesAtMost};
 ghost use Rattle.std.specs.Io.KnownBytes.{ReadConsumes, WriteAppends};
 ghost use Rattle.std.specs.IoError.{error_kind};
-ghost use Rattle.cml_trace.specs.Counts.{counted};
+ghost use Rattle.cml_stream.specs.Counts.{counted};
 
 use std::io::{ErrorKind, Read, Result as IoResult, Write};
 

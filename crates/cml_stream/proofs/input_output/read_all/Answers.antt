@@ -1,7 +1,7 @@
 use Rattle.std.proofs.Common.{rules, arith, ◌∙◌, inr}
 use Rattle.std.proofs.KnownBytes.{Consumes-trans, Consumes-kept}
-use Rattle.cml_trace.proofs.input_output.read_all.Goals.{in-Ok+in_ok-extend_from_slice-in-Ok, in-Err+else-ne}
-use Rattle.cml_trace.proofs.input_output.read_all.Goals as goal
+use Rattle.cml_stream.proofs.input_output.read_all.Goals.{in-Ok+in_ok-extend_from_slice-in-Ok, in-Err+else-ne}
+use Rattle.cml_stream.proofs.input_output.read_all.Goals as goal
 
 pub loop-preserved : goal.loop-preserved
 loop-preserved g c =

@@ -1,8 +1,8 @@
 //! Bounded reading and plain writing.
 
 ghost use Rattle.std.specs.Prelude.{◌≡◌, ◌⊎◌, ℕ, ◌<◌, ◌≤◌, length, take, IfOk, OnOk, OnErr};
-ghost use Rattle.cml_trace.specs.Counts.{counted, most_reads, HasReadFaults};
-ghost use Rattle.cml_trace.specs.Streams.{stream, Gives, IsSpent, Takes};
+ghost use Rattle.cml_stream.specs.Counts.{counted, most_reads, HasReadFaults};
+ghost use Rattle.cml_stream.specs.Streams.{stream, Gives, IsSpent, Takes};
 
 use crate::counts::Counting;
 use std::alloc::{AllocError, Global};
@@ -25,7 +25,7 @@ pub enum ReadFault {
 
 impl From<AllocError> for ReadFault {
     ghost use Rattle.std.specs.Prelude.{◌≡◌};
-    ghost use Rattle.cml_trace.specs.declared.input_output.ReadFault.TheVariants.{Memory};
+    ghost use Rattle.cml_stream.specs.declared.input_output.ReadFault.TheVariants.{Memory};
 
     ghost from_gives = { λ _ e. e ≡ Memory };
 
