@@ -1,9 +1,12 @@
 //! The rows of the table of communications.
 
-ghost use Rattle.std.specs.Prelude.{◌≡◌};
+ghost use Rattle.std.specs.Prelude.{◌≡◌, ◌++◌, OnOk};
+ghost use Rattle.std.specs.String.{string_bytes};
+ghost use Rattle.cml_scan.specs.Numbers.{numbers_of};
 ghost use Rattle.cml_scan.specs.Scan as spec;
 
 use cml_value::Tid;
+use std::alloc::AllocError;
 
 /// A communication that is possible now.
 #[derive(Clone, Copy, PartialEq, Eq)]
@@ -54,6 +57,26 @@ impl Meet {
         ensures { result ≡ spec.same_row self.now other.now }
     {
         self == other
+    }
+
+    /// Puts the row's threads and leaves behind the text, each behind a space; of a pair the sender
+    /// first.
+    ///
+    /// # Errors
+    /// Want of memory.
+    pub fn push_numbers(&self, text: &mut String) -> Result<(), AllocError>
+        ensures { let numbers = numbers_of self.now in
+            OnOk result (string_bytes text.new ≡ string_bytes text.old ++ numbers) }
+    {
+        match *self {
+            Meet::Single { tid, leaf } => write!(text, " {} {leaf}", tid.0),
+            Meet::Pair {
+                head,
+                head_leaf,
+                other,
+                other_leaf,
+            } => write!(text, " {} {head_leaf} {} {other_leaf}", head.0, other.0),
+        }
     }
 }
 
