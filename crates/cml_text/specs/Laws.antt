@@ -1,8 +1,9 @@
 -- What holds of every text.
-use Rattle.std.specs.Prelude.{◌≡◌, ℕ, ◌≤◌, None, List, length}
+use Rattle.std.specs.Prelude.{◌≡◌, ℕ, ◌≤◌, None, List, ◌∷◌, ◌++◌, length}
 use Rattle.cml_text.specs.Forms.{PlainSexpr, plain_forms, all_without_spans}
-use Rattle.cml_text.specs.Grammar.{IsGrammatical}
+use Rattle.cml_text.specs.Grammar.{HaveNoLineFeed, IsGrammatical}
 use Rattle.cml_text.specs.Limits.{AreWithinLimits}
+use Rattle.cml_text.specs.Lines.{line, lines}
 use Rattle.cml_text.specs.Printed.{printed}
 use Rattle.cml_text.specs.Sizes.{text_limit}
 use Rattle.cml_text.specs.Spans.{AreAtSpans}
@@ -41,3 +42,7 @@ SpelledIsWithinLimits = (text : List ℕ) (forms : List PlainSexpr) → Spells t
 abbrev pub PrintedAgainIsSame : Type 0
 PrintedAgainIsSame = (text : List ℕ) (forms : List PlainSexpr) → Spells text forms → length (printed forms) ≤ text_limit →
     (found : List PlainSexpr) × Spells (printed forms) found × (printed found ≡ printed forms)
+
+-- bytes without a line feed, written as a line in front of a text, are the first line of the whole, and the lines of the text follow
+abbrev pub WrittenLineIsFirst : Type 0
+WrittenLineIsFirst = (bytes text : List ℕ) → HaveNoLineFeed bytes → lines (line bytes ++ text) ≡ bytes ∷ lines text
