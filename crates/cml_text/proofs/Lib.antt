@@ -13,6 +13,8 @@ pub mod RoundLemmas
 pub mod WholeLemmas
 pub mod CutLemmas
 pub mod SpanLemmas
+pub mod ClassLemmas
 pub mod GrammarLemmas
 pub mod GrammarFindLemmas
 pub mod WithinLemmas
+pub mod OneLineLemmas
