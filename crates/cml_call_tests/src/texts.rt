@@ -28,9 +28,11 @@ const PRINTED: [(&str, &str); 13] = [
 ];
 
 // Texts with the first fault of each, and where it stands.
-const FAULTS: [(&[u8], FaultKind, usize); 22] = [
+const FAULTS: [(&[u8], FaultKind, usize); 24] = [
     (b")", FaultKind::Stray, 0),
     (b"\"a\\q\"", FaultKind::Escape, 2),
+    (b"\"\\t\"", FaultKind::Escape, 1),
+    (b"\t\"a\tb\\t\"", FaultKind::Escape, 5),
     (b"\"a\\", FaultKind::Unclosed, 0),
     (b"(\"a", FaultKind::Unclosed, 1),
     (b"+5", FaultKind::Character, 0),

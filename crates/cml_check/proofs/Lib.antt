@@ -7,3 +7,4 @@ pub mod GrowthLemmas
 pub mod StatementWalk
 pub mod FunctionLemmas
 pub mod SameLemmas
+pub mod WordLemmas

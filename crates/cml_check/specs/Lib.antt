@@ -17,3 +17,4 @@ pub mod HeadViews
 pub mod Parts
 pub mod ExpressionParts
 pub mod StatementParts
+pub mod Laws

@@ -6,6 +6,7 @@ mod effect;
 mod expression;
 mod fault;
 mod head;
+pub mod law;
 mod names;
 mod parts;
 mod program;

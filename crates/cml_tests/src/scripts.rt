@@ -87,6 +87,14 @@ const SCRIPTS: &[Script] = &[
         status: 2,
     },
     Script {
+        name: "fmt-escape-of-a-tab",
+        words: "fmt F",
+        text: &[Part::Once("(print \"a\\t\")")],
+        output: "",
+        errors: "text 4 escape at 9\n",
+        status: 2,
+    },
+    Script {
         name: "fmt-least-and-minus-zero",
         words: "fmt F",
         text: &[Part::Once("-9223372036854775808 -0")],

@@ -14,6 +14,7 @@ use Rattle.cml_text.specs.Texts.{words_of}
 use Rattle.cml_text.specs.Grammar.{Ending, whole_text, inside_list, EndsOrDelimits, StandsFor, Gives}
 use Rattle.cml_text.specs.Laws.{SpellsByTheGrammar}
 use Rattle.cml_text.proofs.WordLemmas.{cases_test}
+use Rattle.cml_text.proofs.ClassLemmas.{test_separates, test_delimits, test_undivided, test_numeral, test_name, test_escape}
 use Rattle.cml_text.proofs.LiteralLemmas.{literal_plain, literal_quote, literal_end, literal_lone}
 use Rattle.cml_text.proofs.BeginLemmas.{lexemes-begin, begin_separator, begin_opening, begin_closing, begin_text}
 use Rattle.cml_text.proofs.PrintedLemmas.{Stops}
@@ -120,7 +121,7 @@ found_separator ending at b bytes forms ws is f =
       front = b ∷ f.front;
       rest = f.rest;
       parts = ap (λ t. b ∷ t) f.parts;
-      given = Gives.separator ending at b f.front forms is f.given;
+      given = Gives.separator ending at b f.front forms (test_separates b is) f.given;
       left = ap (λ n. lexemes 0 n f.rest) place ∙ f.left;
       stands = f.stands;
     }
@@ -272,7 +273,7 @@ closed_at (b ∷ c ∷ bytes) content more e =
                   rest = l.rest;
                   parts = ap (λ k. k ∷ c ∷ bytes) same ∙ ap (λ r. 92 ∷ c ∷ r) l.parts;
                   count = omega (arith, l.count, i.1.1.1.1);
-                  stands = subst (StandsFor (92 ∷ c ∷ l.spelling)) (sym i.1.1.1.0) (StandsFor.escape c o.0 l.spelling i.0 o.1.0 l.stands);
+                  stands = subst (StandsFor (92 ∷ c ∷ l.spelling)) (sym i.1.1.1.0) (StandsFor.escape c o.0 l.spelling i.0 (test_escape c o.0 o.1.0) l.stands);
                 }
             | inr t2 ↦ closed_behind b (c ∷ bytes) content more t t2 e (λ inner less is. closed_at (c ∷ bytes) inner less is)
           ]
@@ -350,12 +351,12 @@ negated false e = absurd (false≢true (sym e))
 
 ends_token : (text : List ℕ) → Stops is_token_byte text → EndsOrDelimits text
 ends_token [] stop = tt
-ends_token (b ∷ text) stop = negated (is_delimiter b) stop
+ends_token (b ∷ text) stop = test_delimits b (negated (is_delimiter b) stop)
 
 stops_front : (front behind rest : List ℕ) → front ++ rest ≡ behind → Stops is_token_byte behind → EndsOrDelimits front
 stops_front [] behind rest e stop = tt
 stops_front (b ∷ front) [] rest e stop = absurd (cc)
-stops_front (b ∷ front) (c ∷ behind) rest e stop = let same : b ≡ c = cc in negated (is_delimiter b) (ap is_token_byte same ∙ stop)
+stops_front (b ∷ front) (c ∷ behind) rest e stop = let same : b ≡ c = cc in test_delimits b (negated (is_delimiter b) (ap is_token_byte same ∙ stop))
 
 found_token : (fuel : ℕ) (find : Finder fuel) (ending : Ending) (at : ℕ) (text token behind : List ℕ) (forms : PlainForms) (ws : List Lexeme) → length text ≤ suc fuel → EndsAs ending ws →
     text ≡ token ++ behind → 0 < length token → list_all is_token_byte token ≡ true → Stops is_token_byte behind → TokenIs at token → lexemes 0 at text ≡ words_of forms ++ ws → Found ending at text forms ws
@@ -367,7 +368,7 @@ found_token fuel find ending at text token behind forms ws small end parts some 
     let fewer : length behind ≤ fuel = omega (arith, ap length parts, length-append token behind) in
     let f = find ending (at + length token) behind first.0 ws fewer end first.1.1 in
     found_word ending at (at + length token) text token behind form forms first.0 ws parts refl first.1.0 f
-    (Gives.number ending at token f.front value first.0 (record { undivided = all; ends = stops_front f.front behind f.rest (sym f.parts) stop }) num worth f.given)
+    (Gives.number ending at token f.front value first.0 (record { undivided = test_undivided token all; ends = stops_front f.front behind f.rest (sym f.parts) stop }) (test_numeral token value num worth) f.given)
 found_token fuel find ending at text token behind forms ws small end parts some all stop (a_name named is) e =
     let form : PlainSexpr = plain_name (span_from at (length token)) token in
     let words : leaf form ∷ lexemes 0 (at + length token) behind ≡ words_of forms ++ ws =
@@ -376,7 +377,7 @@ found_token fuel find ending at text token behind forms ws small end parts some 
     let fewer : length behind ≤ fuel = omega (arith, ap length parts, length-append token behind) in
     let f = find ending (at + length token) behind first.0 ws fewer end first.1.1 in
     found_word ending at (at + length token) text token behind form forms first.0 ws parts refl first.1.0 f
-    (Gives.name ending at token f.front first.0 (record { undivided = all; ends = stops_front f.front behind f.rest (sym f.parts) stop }) named f.given)
+    (Gives.name ending at token f.front first.0 (record { undivided = test_undivided token all; ends = stops_front f.front behind f.rest (sym f.parts) stop }) (test_name token named) f.given)
 found_token fuel find ending at text token behind forms ws small end parts some all stop (a_fault fault is) e =
     let words : faulty fault ∷ lexemes 0 (at + length token) behind ≡ words_of forms ++ ws =
     sym (ap (lexemes 0 at) parts ∙ lex_token at token behind some all stop ∙ ap (λ w. w ∷ lexemes 0 (at + length token) behind) is) ∙ e in

@@ -10,9 +10,10 @@ use Rattle.std.proofs.Math.Seq.{drop-append_seam, take-append_seam, drop-append-
 use Rattle.cml_text.specs.Forms.{plain_text, plain_list, PlainForms, forms_and}
 use Rattle.cml_text.specs.Lexemes.{is_separator, is_delimiter, is_comment_byte, is_token_byte, is_number, is_plain, unescaped, closed, with_front, with_escape, literal, Lexeme, opening, closing, leaf, span_from, literal_lexeme, literal_more, beginning, lexemes}
 use Rattle.cml_text.specs.Texts.{words_of}
-use Rattle.cml_text.specs.Grammar.{Ending, whole_text, inside_list, HaveNoLineFeed, EndsOrDelimits, StandsFor, Gives}
+use Rattle.cml_text.specs.Grammar.{Separates, Delimits, Escapes, Ending, whole_text, inside_list, HaveNoLineFeed, EndsOrDelimits, StandsFor, Gives}
 use Rattle.cml_text.proofs.LiteralLemmas.{literal_plain, literal_quote}
 use Rattle.cml_text.proofs.BeginLemmas.{begin_separator, begin_comment, begin_opening, begin_closing, begin_text}
+use Rattle.cml_text.proofs.ClassLemmas.{separates_test, delimits_test, undivided_test, numeral_test, name_test, escape_test}
 use Rattle.cml_text.proofs.PrintedLemmas.{Stops, run-append, IsNumberToken, printed_name}
 use Rattle.cml_text.proofs.LexPrintedLemmas.{begins, begins_alone, lex_token, number_token, name_token}
 
@@ -40,11 +41,11 @@ utf8_behind b text low utf8 = IsUtf8-drop (b ∷ text) 1 utf8 (IsCharBoundary-af
 pub utf8_past : (front : List ℕ) (b : ℕ) (text : List ℕ) → b < 128 → IsUtf8 (front ++ b ∷ text) → IsUtf8 text
 utf8_past front b text low utf8 = utf8_behind b text low (utf8_back front (b ∷ text) low utf8)
 
-delimiter_low : (b : ℕ) → is_delimiter b ≡ true → b < 128
-delimiter_low b is = grind (arith, nat_tests)
+delimiter_low : (b : ℕ) → Delimits b → b < 128
+delimiter_low b is = let e : is_delimiter b ≡ true = delimits_test b is in grind (arith, nat_tests)
 
-pub separator_low : (b : ℕ) → is_separator b ≡ true → b < 128
-separator_low b is = grind (arith, nat_tests)
+pub separator_low : (b : ℕ) → Separates b → b < 128
+separator_low b is = let e : is_separator b ≡ true = separates_test b is in grind (arith, nat_tests)
 
 pub ends_low : (text : List ℕ) → EndsOrDelimits text → BeginsLow text
 ends_low [] ends = tt
@@ -61,7 +62,7 @@ stops_behind inside_list rest is = subst (Stops is_token_byte) (sym is.1) refl
 
 token_stops : (ending : Ending) (text rest : List ℕ) → EndsOrDelimits text → StandsBehind ending rest → Stops is_token_byte (text ++ rest)
 token_stops ending [] rest ends is = stops_behind ending rest is
-token_stops ending (b ∷ text) rest ends is = rw ends refl
+token_stops ending (b ∷ text) rest ends is = rw (delimits_test b ends) refl
 
 -- a comment up to a line feed or the end
 pub lex_comment : (at : ℕ) (bytes rest : List ℕ) → HaveNoLineFeed bytes → Stops is_comment_byte rest → lexemes 0 at (59 ∷ (bytes ++ rest)) ≡ lexemes 0 (at + 1 + length bytes) rest
@@ -76,9 +77,9 @@ plain_byte b quote backslash =
     let f : eqb b 92 ≡ false = grind (arith, nat_tests) in
     rw e (rw f refl)
 
-literal_escapes : (b c : ℕ) (text : List ℕ) → unescaped b ≡ Some c → literal (92 ∷ b ∷ text) ≡ with_front (c ∷ []) 2 (literal text)
+literal_escapes : (b c : ℕ) (text : List ℕ) → Escapes b c → literal (92 ∷ b ∷ text) ≡ with_front (c ∷ []) 2 (literal text)
 unfolding literal
-literal_escapes b c text is = ap (λ o. with_escape o (literal text)) is
+literal_escapes b c text is = ap (λ o. with_escape o (literal text)) (escape_test b c is)
 
 -- a literal is read as what stands between its quotes
 pub literal_read : (spelling content rest : List ℕ) → StandsFor spelling content → literal (spelling ++ 34 ∷ rest) ≡ closed content (length spelling + 1)
@@ -140,7 +141,7 @@ pub lex_given : (rest : List ℕ) (ending : Ending) (at : ℕ) (text : List ℕ)
 lex_given rest ending at text forms (Gives.nothing e n) utf8 is = let z : n ≡ n + 0 = omega arith in ap (λ k. lexemes 0 k rest) z
 lex_given rest ending at text forms (Gives.separator e n b bytes fs sep more) utf8 is =
     let place : n + 1 + length bytes ≡ n + length (b ∷ bytes) = omega arith in
-    begins_alone n b (bytes ++ rest) [] (begin_separator n b (bytes ++ rest) sep) ∙ lex_given rest e (n + 1) bytes fs more (utf8_behind b bytes (separator_low b sep) utf8) is
+    begins_alone n b (bytes ++ rest) [] (begin_separator n b (bytes ++ rest) (separates_test b sep)) ∙ lex_given rest e (n + 1) bytes fs more (utf8_behind b bytes (separator_low b sep) utf8) is
     ∙ ap (λ k. words_of fs ++ lexemes 0 k rest) place
 lex_given rest ending at text forms (Gives.comment e n bytes behind fs none more) utf8 is =
     let place : n + 1 + length bytes + 1 + length behind ≡ n + length (59 ∷ (bytes ++ 10 ∷ behind)) = omega (arith, length-append bytes (10 ∷ behind)) in
@@ -162,12 +163,16 @@ lex_given rest ending at text forms (Gives.literal e n spelling content behind f
     ap (λ t. lexemes 0 n (34 ∷ t)) (append_assoc spelling (34 ∷ behind) rest) ∙ lex_literal n spelling content (behind ++ rest) stands small
     ∙ ap (λ ls. leaf (plain_text (span_from n (1 + length spelling + 1)) content) ∷ ls) (lex_given rest e (n + 1 + length spelling + 1) behind fs more utf8' is)
     ∙ ap (λ k. leaf (plain_text (span_from n (1 + length spelling + 1)) content) ∷ (words_of fs ++ lexemes 0 k rest)) place
-lex_given rest ending at text forms (Gives.number e n token behind value fs tok num worth more) utf8 is =
-    let some : 0 < length token = number_some token num in
-    let number : IsNumberToken token value = record { some = some; bytes = tok.undivided; number = num; worth = worth } in
-    behind_word n (length token) token behind rest _ _ fs refl (lex_token n token (behind ++ rest) some tok.undivided (token_stops e behind rest tok.ends is)) (number_token n token value number)
+lex_given rest ending at text forms (Gives.number e n token behind value fs tok num more) utf8 is =
+    let both = numeral_test token value num in
+    let some : 0 < length token = number_some token both.0 in
+    let bytes = undivided_test token tok.undivided in
+    let number : IsNumberToken token value = record { some = some; bytes = bytes; number = both.0; worth = both.1 } in
+    behind_word n (length token) token behind rest _ _ fs refl (lex_token n token (behind ++ rest) some bytes (token_stops e behind rest tok.ends is)) (number_token n token value number)
     (lex_given rest e (n + length token) behind fs more (utf8_back token behind (ends_low behind tok.ends) utf8) is)
 lex_given rest ending at text forms (Gives.name e n token behind fs tok named more) utf8 is =
-    let name = printed_name token (utf8_front token behind (ends_low behind tok.ends) utf8) named in
-    behind_word n (length token) token behind rest _ _ fs refl (lex_token n token (behind ++ rest) name.some tok.undivided (token_stops e behind rest tok.ends is)) (name_token n token name named)
+    let is_named = name_test token named in
+    let name = printed_name token (utf8_front token behind (ends_low behind tok.ends) utf8) is_named in
+    let bytes = undivided_test token tok.undivided in
+    behind_word n (length token) token behind rest _ _ fs refl (lex_token n token (behind ++ rest) name.some bytes (token_stops e behind rest tok.ends is)) (name_token n token name is_named)
     (lex_given rest e (n + length token) behind fs more (utf8_back token behind (ends_low behind tok.ends) utf8) is)

@@ -160,7 +160,7 @@ mutual
   lex_form at (plain_list span forms) rest proper stop =
       lex_list at span forms rest (lex_members (at + 1) forms (41 ∷ rest) proper refl)
 
-  lex_members : (at : ℕ) (forms : PlainForms) (rest : List ℕ) → AreProper forms → Stops is_token_byte rest →
+  pub lex_members : (at : ℕ) (forms : PlainForms) (rest : List ℕ) → AreProper forms → Stops is_token_byte rest →
       lexemes 0 at (printed_members forms ++ rest) ≡ words_of (placed_members at forms) ++ lexemes 0 (at + length (printed_members forms)) rest
   lex_members at no_forms rest proper stop = let z : at ≡ at + 0 = omega arith in ap (λ n. lexemes 0 n rest) z
   lex_members at (forms_and form forms) rest proper stop =

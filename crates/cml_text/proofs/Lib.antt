@@ -1,3 +1,4 @@
+pub mod LineLemmas
 pub mod WordLemmas
 pub mod LiteralLemmas
 pub mod BeginLemmas
@@ -12,6 +13,8 @@ pub mod RoundLemmas
 pub mod WholeLemmas
 pub mod CutLemmas
 pub mod SpanLemmas
+pub mod ClassLemmas
 pub mod GrammarLemmas
 pub mod GrammarFindLemmas
 pub mod WithinLemmas
+pub mod OneLineLemmas

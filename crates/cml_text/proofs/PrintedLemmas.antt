@@ -46,7 +46,7 @@ digit_token b h = grind (arith, nat_tests)
 digit_no_minus : (b : ℕ) → is_ascii_digit b ≡ true → eqb b 45 ≡ false
 digit_no_minus b h = grind (arith, nat_tests)
 
-digits_numeral : (ds : List ℕ) → 0 < length ds → list_all is_ascii_digit ds ≡ true → (is_number ds ≡ true) × (number_value ds ≡ positive_value (digits_value 10 ds))
+pub digits_numeral : (ds : List ℕ) → 0 < length ds → list_all is_ascii_digit ds ≡ true → (is_number ds ≡ true) × (number_value ds ≡ positive_value (digits_value 10 ds))
 digits_numeral [] some all = absurd (omega arith)
 digits_numeral (d ∷ ds) some all =
     let e : eqb d 45 ≡ false = digit_no_minus d (all_of_both _ _ all).0 in

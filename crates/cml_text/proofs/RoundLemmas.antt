@@ -94,7 +94,7 @@ mutual
   form_utf8 (plain_list span forms) proper =
       IsUtf8-append (40 ∷ []) (printed_members forms ++ 41 ∷ []) (one_ascii 40 (omega arith)) (IsUtf8-append (printed_members forms) (41 ∷ []) (members_utf8 forms proper) (one_ascii 41 (omega arith)))
 
-  members_utf8 : (forms : PlainForms) → AreProper forms → IsUtf8 (printed_members forms)
+  pub members_utf8 : (forms : PlainForms) → AreProper forms → IsUtf8 (printed_members forms)
   members_utf8 no_forms proper = IsUtf8-nil
   members_utf8 (forms_and form forms) proper = IsUtf8-append (printed_form form) (printed_behind forms) (form_utf8 form proper.0) (behind_utf8 forms proper.1)
 
@@ -116,7 +116,7 @@ mutual
   placed_same at (plain_text span content) = refl
   placed_same at (plain_list span forms) = ap (plain_list nowhere) (members_same (at + 1) forms)
 
-  members_same : (at : ℕ) (forms : PlainForms) → all_without_spans (placed_members at forms) ≡ all_without_spans forms
+  pub members_same : (at : ℕ) (forms : PlainForms) → all_without_spans (placed_members at forms) ≡ all_without_spans forms
   members_same at no_forms = refl
   members_same at (forms_and form forms) = let a = placed_same at form in let b = behind_same (at + length (printed_form form)) forms in cc
 
@@ -131,7 +131,7 @@ mutual
   placed_nesting at (plain_text span content) = refl
   placed_nesting at (plain_list span forms) = ap (λ n. n + 1) (members_nesting (at + 1) forms)
 
-  members_nesting : (at : ℕ) (forms : PlainForms) → nesting_of (placed_members at forms) ≡ nesting_of forms
+  pub members_nesting : (at : ℕ) (forms : PlainForms) → nesting_of (placed_members at forms) ≡ nesting_of forms
   members_nesting at no_forms = refl
   members_nesting at (forms_and form forms) = let a = placed_nesting at form in let b = behind_nesting (at + length (printed_form form)) forms in cc
 

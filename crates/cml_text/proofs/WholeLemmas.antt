@@ -124,7 +124,7 @@ closes (leaf form ∷ ws) opens leaves none =
     subst P leaves.0 (closes_form opens ws form (closes ws opens leaves.1 none))
 closes (faulty fault ∷ ws) opens leaves none = absurd (fault_clash (Some fault) fault none refl)
 
-plain_forms-forms_list : (forms : PlainForms) → plain_forms (forms_list forms) ≡ forms
+pub plain_forms-forms_list : (forms : PlainForms) → plain_forms (forms_list forms) ≡ forms
 plain_forms-forms_list no_forms = refl
 plain_forms-forms_list (forms_and form forms) = ap (forms_and form) (plain_forms-forms_list forms)
 

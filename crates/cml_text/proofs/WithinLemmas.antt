@@ -7,31 +7,21 @@ use Rattle.std.proofs.lemmas.Bool.Decides.{nat_tests}
 use Rattle.std.proofs.lemmas.Str.{IsUtf8-append}
 use Rattle.cml_text.specs.Forms.{PlainSexpr, plain_name, plain_int, plain_text, plain_list, PlainForms, no_forms, forms_and, plain_forms, without_spans, all_without_spans}
 use Rattle.cml_text.specs.Lexemes.{unescaped, number_value, negative_value, positive_value}
-use Rattle.cml_text.specs.Grammar.{Ending, StandsFor, Gives, IsGrammatical}
+use Rattle.cml_text.specs.Grammar.{Escapes, Ending, StandsFor, Gives, IsGrammatical}
 use Rattle.cml_text.specs.Limits.{IsSmall, AreProper}
 use Rattle.cml_text.specs.Printed.{printed_form, printed_members, printed_behind, printed}
 use Rattle.cml_text.specs.Laws.{SpelledIsWithinLimits, PrintedAgainIsSame}
-use Rattle.cml_text.proofs.WordLemmas.{cases_test}
+use Rattle.cml_text.proofs.ClassLemmas.{numeral_small, name_test, escape_test}
 use Rattle.cml_text.proofs.LiteralLemmas.{unescaped_low}
 use Rattle.cml_text.proofs.RoundLemmas.{one_ascii, printed_is_read}
 use Rattle.cml_text.proofs.GrammarLemmas.{utf8_front, utf8_back, utf8_behind, utf8_past, separator_low, ends_low}
 use Rattle.cml_text.proofs.GrammarFindLemmas.{spells_by_the_grammar}
 
 -- a byte that makes an escape is ASCII
-escaping_low : (b c : ℕ) → unescaped b ≡ Some c → b < 128
-escaping_low b c is =
-    elim (cases_test (eqb b 34)) [
-      | inl e ↦ grind (arith, nat_tests)
-      | inr e ↦
-          elim (cases_test (eqb b 92)) [
-            | inl e2 ↦ grind (arith, nat_tests)
-            | inr e2 ↦
-                elim (cases_test (eqb b 110)) [
-                  | inl e3 ↦ grind (arith, nat_tests)
-                  | inr e3 ↦ let clash : None ≡ Some c = rw (e, e2, e3) at is in absurd (cc)
-                ]
-          ]
-    ]
+escaping_low : (b c : ℕ) → Escapes b c → b < 128
+escaping_low b c Escapes.to_quote = omega arith
+escaping_low b c Escapes.to_backslash = omega arith
+escaping_low b c Escapes.to_line_feed = omega arith
 
 -- what stands between the quotes is UTF-8, and so is what it stands for, also behind other bytes
 content_utf8 : (front spelling content : List ℕ) → StandsFor spelling content → IsUtf8 (front ++ spelling) → IsUtf8 (front ++ content)
@@ -41,33 +31,7 @@ content_utf8 front spelling content (StandsFor.itself b s c quote backslash more
 content_utf8 front spelling content (StandsFor.escape b d s c is more) utf8 =
     let low : 92 < 128 = omega arith in
     let behind : IsUtf8 s = utf8_behind b s (escaping_low b d is) (utf8_past front 92 (b ∷ s) low utf8) in
-    IsUtf8-append front (d ∷ c) (utf8_front front (92 ∷ b ∷ s) low utf8) (IsUtf8-append (d ∷ []) c (one_ascii d (unescaped_low b d (sym is))) (content_utf8 [] s c more behind))
-
-small_negative : (n : ℕ) → n ≤ 2 ^ 63 → IsSmall (neg_ℤ (pos n))
-small_negative zero small = omega arith
-small_negative (suc n) small = omega arith
-
-negative_small : (n : ℕ) (value : ℤ) → negative_value n ≡ Some value → IsSmall value
-negative_small n value is =
-    elim (cases_test (leb n (2 ^ 63))) [
-      | inl e ↦ let fits : Some (neg_ℤ (pos n)) ≡ Some value = rw e at is in let same : neg_ℤ (pos n) ≡ value = cc in subst IsSmall same (small_negative n (grind (arith, nat_tests)))
-      | inr e ↦ let clash : None ≡ Some value = rw e at is in absurd (cc)
-    ]
-
-positive_small : (n : ℕ) (value : ℤ) → positive_value n ≡ Some value → IsSmall value
-positive_small n value is =
-    elim (cases_test (ltb n (2 ^ 63))) [
-      | inl e ↦ let fits : Some (pos n) ≡ Some value = rw e at is in let same : pos n ≡ value = cc in let small : n < 2 ^ 63 = grind (arith, nat_tests) in subst IsSmall same small
-      | inr e ↦ let clash : None ≡ Some value = rw e at is in absurd (cc)
-    ]
-
-number_small : (token : List ℕ) (value : ℤ) → number_value token ≡ Some value → IsSmall value
-number_small [] value is = let clash : None ≡ Some value = is in absurd (cc)
-number_small (b ∷ bytes) value is =
-    elim (cases_test (eqb b 45)) [
-      | inl e ↦ let worth : negative_value (digits_value 10 bytes) ≡ Some value = rw e at is in negative_small (digits_value 10 bytes) value worth
-      | inr e ↦ let worth : positive_value (digits_value 10 (b ∷ bytes)) ≡ Some value = rw e at is in positive_small (digits_value 10 (b ∷ bytes)) value worth
-    ]
+    IsUtf8-append front (d ∷ c) (utf8_front front (92 ∷ b ∷ s) low utf8) (IsUtf8-append (d ∷ []) c (one_ascii d (unescaped_low b d (sym (escape_test b d is)))) (content_utf8 [] s c more behind))
 
 given_proper : (ending : Ending) (at : ℕ) (text : List ℕ) (forms : PlainForms) → Gives ending at text forms → IsUtf8 text → AreProper forms
 given_proper ending at text forms (Gives.nothing e n) utf8 = tt
@@ -85,10 +49,10 @@ given_proper ending at text forms (Gives.literal e n spelling content behind fs 
       (content_utf8 [] spelling content stands (utf8_front spelling (34 ∷ behind) (omega arith) inner), small),
       given_proper e (n + 1 + length spelling + 1) behind fs more (utf8_past spelling 34 behind (omega arith) inner),
     )
-given_proper ending at text forms (Gives.number e n token behind value fs tok num worth more) utf8 =
-    (number_small token value worth, given_proper e (n + length token) behind fs more (utf8_back token behind (ends_low behind tok.ends) utf8))
+given_proper ending at text forms (Gives.number e n token behind value fs tok num more) utf8 =
+    (numeral_small token value num, given_proper e (n + length token) behind fs more (utf8_back token behind (ends_low behind tok.ends) utf8))
 given_proper ending at text forms (Gives.name e n token behind fs tok named more) utf8 =
-    ((utf8_front token behind (ends_low behind tok.ends) utf8, named), given_proper e (n + length token) behind fs more (utf8_back token behind (ends_low behind tok.ends) utf8))
+    ((utf8_front token behind (ends_low behind tok.ends) utf8, name_test token named), given_proper e (n + length token) behind fs more (utf8_back token behind (ends_low behind tok.ends) utf8))
 
 pub spelled_is_within_limits : SpelledIsWithinLimits
 spelled_is_within_limits text forms spells =

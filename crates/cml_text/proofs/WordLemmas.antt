@@ -49,7 +49,7 @@ both_true : (a b : Bool) → (a && b) ≡ true → (a ≡ true) × (b ≡ true)
 both_true true b h = (refl, h)
 both_true false b h = absurd (false≢true h)
 
-digits_parts : (ds : List ℕ) → are_digits ds ≡ true → (0 < length ds) × (list_all is_ascii_digit ds ≡ true)
+pub digits_parts : (ds : List ℕ) → are_digits ds ≡ true → (0 < length ds) × (list_all is_ascii_digit ds ≡ true)
 digits_parts [] h = absurd (false≢true h)
 digits_parts (d ∷ ds) h = (omega arith, (both_true _ _ h).1)
 

@@ -1,9 +1,10 @@
 -- What holds of every text.
-use Rattle.std.specs.Prelude.{◌≡◌, ℕ, ◌≤◌, None, List, length}
+use Rattle.std.specs.Prelude.{◌≡◌, ℕ, ◌≤◌, None, List, ◌∷◌, ◌++◌, length}
 use Rattle.cml_text.specs.Forms.{PlainSexpr, plain_forms, all_without_spans}
-use Rattle.cml_text.specs.Grammar.{IsGrammatical}
+use Rattle.cml_text.specs.Grammar.{HaveNoLineFeed, IsGrammatical}
 use Rattle.cml_text.specs.Limits.{AreWithinLimits}
-use Rattle.cml_text.specs.Printed.{printed}
+use Rattle.cml_text.specs.Lines.{line, lines}
+use Rattle.cml_text.specs.Printed.{printed, printed_line}
 use Rattle.cml_text.specs.Sizes.{text_limit}
 use Rattle.cml_text.specs.Spans.{AreAtSpans}
 use Rattle.cml_text.specs.Texts.{Spells, fault_of}
@@ -41,3 +42,16 @@ SpelledIsWithinLimits = (text : List ℕ) (forms : List PlainSexpr) → Spells t
 abbrev pub PrintedAgainIsSame : Type 0
 PrintedAgainIsSame = (text : List ℕ) (forms : List PlainSexpr) → Spells text forms → length (printed forms) ≤ text_limit →
     (found : List PlainSexpr) × Spells (printed forms) found × (printed found ≡ printed forms)
+
+-- bytes without a line feed, written as a line in front of a text, are the first line of the whole, and the lines of the text follow
+abbrev pub WrittenLineIsFirst : Type 0
+WrittenLineIsFirst = (bytes text : List ℕ) → HaveNoLineFeed bytes → lines (line bytes ++ text) ≡ bytes ∷ lines text
+
+-- what is printed on one line, of forms within the limits, spells these forms, spans aside, if it is not too long
+abbrev pub PrintedLineIsRead : Type 0
+PrintedLineIsRead = (forms : List PlainSexpr) → AreWithinLimits forms → length (printed_line forms) ≤ text_limit →
+    (found : List PlainSexpr) × Spells (printed_line forms) found × (all_without_spans (plain_forms found) ≡ all_without_spans (plain_forms forms))
+
+-- and no line feed is in it
+abbrev pub PrintedLineIsOneLine : Type 0
+PrintedLineIsOneLine = (forms : List PlainSexpr) → AreWithinLimits forms → HaveNoLineFeed (printed_line forms)

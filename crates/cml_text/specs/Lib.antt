@@ -15,3 +15,5 @@ pub mod Laws
 pub mod Printed
 pub mod Limits
 pub mod Spans
+pub mod Lines
+pub mod Numbers

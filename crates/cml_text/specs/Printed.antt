@@ -1,7 +1,7 @@
 -- How forms are printed.
 use Rattle.std.specs.Prelude.{ℕ, Bool, not, ◌||◌, ◌==◌, if◌then◌else◌, List, [], ◌∷◌, ◌++◌, flat_map}
 use Rattle.std.specs.Fmt.{signed_decimal}
-use Rattle.cml_text.specs.Forms.{PlainSexpr, plain_name, plain_int, plain_text, plain_list, PlainForms, no_forms, forms_and}
+use Rattle.cml_text.specs.Forms.{PlainSexpr, plain_name, plain_int, plain_text, plain_list, PlainForms, no_forms, forms_and, plain_forms}
 
 -- A quote, a backslash and a line feed are printed by escapes, and every other byte of a text as it is.
 abbrev pub escaped : ℕ → List ℕ
@@ -36,3 +36,7 @@ abbrev mutual
 abbrev pub printed : List PlainSexpr → List ℕ
 printed [] = []
 printed (form ∷ forms) = printed_form form ++ 10 ∷ printed forms
+
+-- forms on one line: one space between them, as in a list without its parentheses
+abbrev pub printed_line : List PlainSexpr → List ℕ
+printed_line forms = printed_members (plain_forms forms)

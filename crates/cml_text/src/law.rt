@@ -1,5 +1,5 @@
 //! What holds of every text. Each function does nothing, and its contract is the law.
-ghost use Rattle.cml_text.specs.Laws.{SpellsOneAtMost, SpelledHasNoFault, SpelledOrFaulty, EachAtItsSpan, PrintedIsRead, SpellsByTheGrammar, SpelledIsWithinLimits, PrintedAgainIsSame};
+ghost use Rattle.cml_text.specs.Laws.{SpellsOneAtMost, SpelledHasNoFault, SpelledOrFaulty, EachAtItsSpan, PrintedIsRead, SpellsByTheGrammar, SpelledIsWithinLimits, PrintedAgainIsSame, WrittenLineIsFirst, PrintedLineIsRead, PrintedLineIsOneLine};
 
 /// A text spells at most one list of forms, and only one way: the spans are told too.
 pub fn spells_one_at_most()
@@ -39,4 +39,19 @@ pub fn spelled_is_within_limits()
 /// What was read and printed is read back, if it is not too long, and printed again it is the same text.
 pub fn printed_again_is_same()
     ensures { PrintedAgainIsSame }
+{}
+
+/// What is written as a line in front of a text is the first line of the whole.
+pub fn written_line_is_first()
+    ensures { WrittenLineIsFirst }
+{}
+
+/// What is printed on one line is read back as these forms, spans aside: if they are within the limits and the line is not too long.
+pub fn printed_line_is_read()
+    ensures { PrintedLineIsRead }
+{}
+
+/// What is printed on one line has no line feed in it.
+pub fn printed_line_is_one_line()
+    ensures { PrintedLineIsOneLine }
 {}

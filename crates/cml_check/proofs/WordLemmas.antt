@@ -1,0 +1,69 @@
+-- What the spellings of words name.
+use Rattle.std.proofs.Common.{refl}
+use Rattle.cml_check.specs.declared.word.Word.TheVariants as word
+use Rattle.cml_check.specs.declared.syntax.Constant.TheVariants as constant_of
+use Rattle.cml_check.specs.declared.syntax.Unary.TheVariants as unary_of
+use Rattle.cml_check.specs.declared.syntax.Binary.TheVariants as binary_of
+use Rattle.cml_check.specs.declared.syntax.Act.TheVariants as act_of
+use Rattle.cml_check.specs.declared.syntax.ActOnOne.TheVariants as one_of
+use Rattle.cml_check.specs.declared.syntax.ActOnTwo.TheVariants as two_of
+use Rattle.cml_check.specs.Laws.{SpellingNamesWord}
+
+pub spelling_names_word : SpellingNamesWord
+spelling_names_word word.Fn = refl
+spelling_names_word word.Do = refl
+spelling_names_word word.Let = refl
+spelling_names_word word.Set = refl
+spelling_names_word word.If = refl
+spelling_names_word word.While = refl
+spelling_names_word word.Return = refl
+spelling_names_word word.Call = refl
+spelling_names_word word.Spawn = refl
+spelling_names_word word.Choose = refl
+spelling_names_word word.Wrap = refl
+spelling_names_word word.Guard = refl
+spelling_names_word word.WithNack = refl
+spelling_names_word word.MVar = refl
+spelling_names_word (word.Constant constant_of.True) = refl
+spelling_names_word (word.Constant constant_of.False) = refl
+spelling_names_word (word.Constant constant_of.Unit) = refl
+spelling_names_word (word.Constant constant_of.Never) = refl
+spelling_names_word (word.Unary unary_of.Not) = refl
+spelling_names_word (word.Unary unary_of.Fst) = refl
+spelling_names_word (word.Unary unary_of.Snd) = refl
+spelling_names_word (word.Unary unary_of.Always) = refl
+spelling_names_word (word.Unary unary_of.Recv) = refl
+spelling_names_word (word.Unary unary_of.IGet) = refl
+spelling_names_word (word.Unary unary_of.MTake) = refl
+spelling_names_word (word.Unary unary_of.MGet) = refl
+spelling_names_word (word.Unary unary_of.MailRecv) = refl
+spelling_names_word (word.Unary unary_of.PortRecv) = refl
+spelling_names_word (word.Unary unary_of.Join) = refl
+spelling_names_word (word.Unary unary_of.At) = refl
+spelling_names_word (word.Unary unary_of.After) = refl
+spelling_names_word (word.Binary binary_of.Plus) = refl
+spelling_names_word (word.Binary binary_of.Minus) = refl
+spelling_names_word (word.Binary binary_of.Times) = refl
+spelling_names_word (word.Binary binary_of.Less) = refl
+spelling_names_word (word.Binary binary_of.Equal) = refl
+spelling_names_word (word.Binary binary_of.Pair) = refl
+spelling_names_word (word.Binary binary_of.Send) = refl
+spelling_names_word (word.Binary binary_of.MSwap) = refl
+spelling_names_word (word.Act act_of.Chan) = refl
+spelling_names_word (word.Act act_of.IVar) = refl
+spelling_names_word (word.Act act_of.MVar) = refl
+spelling_names_word (word.Act act_of.Mailbox) = refl
+spelling_names_word (word.Act act_of.MChan) = refl
+spelling_names_word (word.Act act_of.Exit) = refl
+spelling_names_word (word.Act act_of.Yield) = refl
+spelling_names_word (word.Act act_of.OwnThread) = refl
+spelling_names_word (word.Act act_of.Now) = refl
+spelling_names_word (word.ActOnOne one_of.Sync) = refl
+spelling_names_word (word.ActOnOne one_of.MVar) = refl
+spelling_names_word (word.ActOnOne one_of.Port) = refl
+spelling_names_word (word.ActOnOne one_of.Copy) = refl
+spelling_names_word (word.ActOnOne one_of.Print) = refl
+spelling_names_word (word.ActOnTwo two_of.IPut) = refl
+spelling_names_word (word.ActOnTwo two_of.MPut) = refl
+spelling_names_word (word.ActOnTwo two_of.Mail) = refl
+spelling_names_word (word.ActOnTwo two_of.Multicast) = refl
