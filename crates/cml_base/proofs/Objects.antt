@@ -1,8 +1,8 @@
 -- One object of a list is fed, or gives.
-use Rattle.std.proofs.Common.{◌≡◌, ◌<◌, ℕ, zero, suc, List, [], ◌∷◌, length, get_or, map, Some, Result, Ok, Err, refl, arith, ap}
+use Rattle.std.proofs.Common.{◌≡◌, ◌<◌, ℕ, zero, suc, List, [], ◌∷◌, ◌++◌, length, get_or, map, Some, Result, Ok, Err, refl, arith, ap}
 use Rattle.std.specs.Prelude.{slice_get, slice_set, IsTrue, Bool}
 use Rattle.cml_base.specs.Feeds.{PlainRefusal, Feeds, IsAccepted}
-use Rattle.cml_base.specs.Registered.{fed_at, put_back, lit_at}
+use Rattle.cml_base.specs.Registered.{fed_at, put_back, lit_at, KeepsRoom}
 use Rattle.cml_base.specs.declared.source.FeedFault.{FeedFault}
 use Rattle.cml_base.specs.declared.source.FeedFault.TheVariants.{Put, Full, Spent, Memory}
 
@@ -57,3 +57,17 @@ pub lit_bound : {X S : Type 0} (f : X → S) (is_lit : S → Bool) (xs : List X)
 lit_bound f is_lit [] i h = cc
 lit_bound f is_lit (x ∷ xs) zero h = omega arith
 lit_bound f is_lit (x ∷ xs) (suc i) h = (let k : i < length xs = lit_bound f is_lit xs i h in omega arith)
+
+-- one object is written over: where it has room again, the room of all stays
+pub room_after : {K : Type 0} (has_room : K → Bool) (xs : List K) (i : ℕ) (x y : K) → slice_get xs i ≡ Some x → (IsTrue (has_room x) → IsTrue (has_room y)) → KeepsRoom has_room xs (slice_set xs i y)
+room_after has_room [] i x y e kept j h = h
+room_after has_room (z ∷ zs) zero x y e kept zero h = (let same : z ≡ x = cc in kept (rw same at h))
+room_after has_room (z ∷ zs) zero x y e kept (suc j) h = h
+room_after has_room (z ∷ zs) (suc i) x y e kept zero h = h
+room_after has_room (z ∷ zs) (suc i) x y e kept (suc j) h = room_after has_room zs i x y e kept j h
+
+-- one more object behind the others takes no room of theirs
+pub room_before : {K : Type 0} (has_room : K → Bool) (xs ys : List K) → KeepsRoom has_room xs (xs ++ ys)
+room_before has_room [] ys j h = cc
+room_before has_room (x ∷ xs) ys zero h = h
+room_before has_room (x ∷ xs) ys (suc j) h = room_before has_room xs ys j h

@@ -35,6 +35,10 @@ given_at after states id = option_map_or (λ s. slice_set states id (after s)) (
 abbrev pub HasRoomAt : {K : Type 0} → (K → Bool) → List K → ℕ → Type 0
 HasRoomAt has_room objects id = IsTrue (option_map_or has_room (slice_get objects id) false)
 
+-- each object whose next feed took no memory before still takes none
+abbrev pub KeepsRoom : {K : Type 0} → (K → Bool) → List K → List K → Type 0
+KeepsRoom has_room old new = (j : ℕ) → HasRoomAt has_room old j → HasRoomAt has_room new j
+
 -- no other object is touched
 abbrev pub KeepsOthers : {K : Type 0} → List K → List K → ℕ → Type 0
 KeepsOthers old new id = (j : ℕ) → j ≢ id → slice_get new j ≡ slice_get old j

@@ -1,12 +1,12 @@
 //! Objects of one kind by their numbers, with those who wait for them.
 
-ghost use Rattle.std.specs.Prelude.{◌≡◌, ◌↔◌, ◌<◌, ◌++◌, ◌∷◌, ℕ, [], length, map, Contains, AllPairs};
+ghost use Rattle.std.specs.Prelude.{◌≡◌, ◌↔◌, ◌<◌, ◌≤◌, ◌+◌, ◌-◌, ◌++◌, ◌∷◌, ℕ, [], vec_capacity, vec_len, length, map, Contains, AllPairs};
 ghost use Rattle.std.specs.Prelude.{IfOk, IfErr, OnOk, OnErr, IsOk, IsTrue, IfSome, IsSome, IsNone, None, slice_get};
 ghost use Rattle.std.specs.Option.{option_copied, option_map_or};
 ghost use Rattle.cml_value.specs.Value.{unit};
 ghost use Rattle.cml_value.specs.declared.number.Tid.{Tid};
 ghost use Rattle.cml_base.specs.Feeds.{Feeds, WantsNoMemory};
-ghost use Rattle.cml_base.specs.Registered.{lit_at, fed_at, given_at, HasRoomAt, KeepsOthers, AddsWait, RemovesWait, WaitsForLit, ComesBefore};
+ghost use Rattle.cml_base.specs.Registered.{lit_at, fed_at, given_at, HasRoomAt, KeepsRoom, KeepsOthers, AddsWait, RemovesWait, WaitsForLit, ComesBefore};
 
 use crate::source::{FeedFault, Source};
 use cml_value::{Tid, Value};
@@ -60,7 +60,7 @@ impl<K: Source> Register<K> {
         self.objects.len()
     }
 
-    /// One more object, which gets the next number.
+    /// One more object, which gets the next number. It takes up the room of one `make`, where it succeeds, and none of a feed.
     ///
     /// # Errors
     /// Want of memory, but for a `room` before it: the object comes back, and nothing changes.
@@ -72,6 +72,9 @@ impl<K: Source> Register<K> {
         ensures returned { IfErr result (λ fault. fault.value ≡ object) }
         ensures err { OnErr result (self.new.objects ≡ self.old.objects) }
         ensures room { 0 < self.old.room → IsOk result }
+        ensures kept_make { self.old.room ≤ self.new.room + 1 }
+        ensures kept_make_err { OnErr result (self.old.room ≤ self.new.room) }
+        ensures kept_feed { KeepsRoom K.has_room self.old.objects self.new.objects }
     {
         let id = self.objects.len() as u32;
         self.objects.push(object)?;
@@ -108,7 +111,8 @@ impl<K: Source> Register<K> {
         remove_wait(&mut self.waits, ((thread.0, leaf), id));
     }
 
-    /// Makes room: the next `make`, or with a number the next `feed` of that object, takes no memory. No object changes.
+    /// Makes room: the next `make`, or with a number the next `feed` of that object, takes no memory. No object changes, and what
+    /// room there was stays, also at an error.
     ///
     /// # Errors
     /// Want of memory; with a number never, where the kind is `ROOMY`.
@@ -121,7 +125,10 @@ impl<K: Source> Register<K> {
         ensures states { map K.state self.new.objects ≡ map K.state self.old.objects }
         ensures len { length self.new.objects ≡ length self.old.objects }
         ensures others { IfSome id (KeepsOthers self.old.objects self.new.objects) }
+        ensures objects { IsNone id → self.new.objects ≡ self.old.objects }
         ensures waits { self.new.waits ≡ self.old.waits }
+        ensures kept_make { self.old.room ≤ self.new.room }
+        ensures kept_feed { KeepsRoom K.has_room self.old.objects self.new.objects }
     {
         match id {
             None => self.objects.reserve(1),
@@ -129,10 +136,10 @@ impl<K: Source> Register<K> {
         }
     }
 
-    /// Feeds the object of this number.
+    /// Feeds the object of this number. The room of a `make` and of each other object stays.
     ///
     /// # Errors
-    /// As the object refuses it: the feed comes back, and nothing changes.
+    /// As the object refuses it: the feed comes back, and nothing changes; its room stays too.
     pub fn feed(&mut self, id: u32, feed: K::Feed) -> Result<(), FeedFault<K::Feed>>
         requires { id < length self.old.objects }
         ensures states { let old = map K.state self.old.objects in
@@ -143,11 +150,14 @@ impl<K: Source> Register<K> {
         ensures len { length self.new.objects ≡ length self.old.objects }
         ensures others { KeepsOthers self.old.objects self.new.objects id }
         ensures waits { self.new.waits ≡ self.old.waits }
+        ensures kept_make { self.new.room ≡ self.old.room }
+        ensures kept_feed { OnErr result (KeepsRoom K.has_room self.old.objects self.new.objects) }
     {
         feed_object(&mut self.objects, id, feed)
     }
 
-    /// What the object of this number gives for the want. The copy is what it spared for that want. It takes no memory.
+    /// What the object of this number gives for the want. The copy is what it spared for that want. It takes no memory,
+    /// and what room there was stays.
     pub fn give(&mut self, id: u32, want: K::Want, copy: Option<Value>) -> Value
         requires lit { IsTrue (lit_at K.is_lit (map K.state self.old.objects) id) }
         requires spared { copy ≡
@@ -160,6 +170,8 @@ impl<K: Source> Register<K> {
         ensures len { length self.new.objects ≡ length self.old.objects }
         ensures others { KeepsOthers self.old.objects self.new.objects id }
         ensures waits { self.new.waits ≡ self.old.waits }
+        ensures kept_make { self.new.room ≡ self.old.room }
+        ensures kept_feed { KeepsRoom K.has_room self.old.objects self.new.objects }
     {
         give_of(&mut self.objects, id, want, copy)
     }
@@ -220,6 +232,8 @@ fn lit_leaves<K: Source>(
 // Makes room in the object of this number.
 fn room_of<K: Source>(objects: &mut Vec<K>, id: u32) -> Result<(), AllocError>
     requires { id < length objects.old.items }
+    ensures kept { KeepsRoom K.has_room objects.old.items objects.new.items }
+    ensures spare { vec_capacity objects.new - vec_len objects.new ≡ vec_capacity objects.old - vec_len objects.old }
     ensures states { map K.state objects.new.items ≡ map K.state objects.old.items }
     ensures len { length objects.new.items ≡ length objects.old.items }
     ensures others { KeepsOthers objects.old.items objects.new.items id }
@@ -243,6 +257,8 @@ fn feed_object<K: Source>(
     ensures roomy { IsTrue K.ROOMY → WantsNoMemory result }
     ensures len { length objects.new.items ≡ length objects.old.items }
     ensures others { KeepsOthers objects.old.items objects.new.items id }
+    ensures kept { OnErr result (KeepsRoom K.has_room objects.old.items objects.new.items) }
+    ensures spare { vec_capacity objects.new - vec_len objects.new ≡ vec_capacity objects.old - vec_len objects.old }
 {
     let object = &mut objects[id as usize];
     object.feed(feed)
@@ -259,6 +275,8 @@ fn give_of<K: Source>(objects: &mut Vec<K>, id: u32, want: K::Want, copy: Option
         given_at (λ s. K.after s want) (map K.state objects.old.items) id }
     ensures len { length objects.new.items ≡ length objects.old.items }
     ensures others { KeepsOthers objects.old.items objects.new.items id }
+    ensures kept { KeepsRoom K.has_room objects.old.items objects.new.items }
+    ensures spare { vec_capacity objects.new - vec_len objects.new ≡ vec_capacity objects.old - vec_len objects.old }
 {
     let object = &mut objects[id as usize];
     object.give(want, copy)

@@ -1,6 +1,6 @@
 //! What every kind of object that a thread can wait for alone has to promise.
 
-ghost use Rattle.std.specs.Prelude.{◌≡◌, Bool, Option, Result, Ok, IsTrue, IfOk, OnOk, IsOk};
+ghost use Rattle.std.specs.Prelude.{◌≡◌, Bool, Option, Result, Ok, IsTrue, IfOk, OnOk, OnErr, IsOk};
 ghost use Rattle.cml_value.specs.Value.{PlainValue};
 ghost use Rattle.cml_base.specs.Feeds.{PlainRefusal, Feeds, WantsNoMemory};
 
@@ -80,28 +80,31 @@ pub trait Source: Drop {
         requires { IsTrue (is_lit (state self.now)) }
         ensures { IfOk result (λ copy. copy ≡ spared (state self.now) want.now) };
 
-    /// Gives the want its value. It takes no memory.
+    /// Gives the want its value. It takes no memory, and what room there was stays.
     fn give(&mut self, want: Self::Want, copy: Option<Value>) -> Value
         requires lit { IsTrue (is_lit (state self.old)) }
         requires spared { copy ≡ spared (state self.old) want }
         ensures value { result ≡ given (state self.old) want }
-        ensures state { state self.new ≡ after (state self.old) want };
+        ensures state { state self.new ≡ after (state self.old) want }
+        ensures kept { IsTrue (has_room self.old) → IsTrue (has_room self.new) };
 
     /// Changes the object from outside.
     ///
     /// # Errors
-    /// What the kind says, and want of memory; nothing changes.
+    /// What the kind says, and want of memory; nothing changes, and what room there was stays.
     fn feed(&mut self, feed: Self::Feed) -> Result<(), FeedFault<Self::Feed>>
         ensures state { Feeds result (fed (state self.old) feed) feed (state self.old) (state self.new) }
-        ensures room { IsTrue (has_room self.old) → WantsNoMemory result };
+        ensures room { IsTrue (has_room self.old) → WantsNoMemory result }
+        ensures kept { OnErr result (IsTrue (has_room self.old) → IsTrue (has_room self.new)) };
 
-    /// Makes room, so that the next feed takes no memory.
+    /// Makes room, so that the next feed takes no memory. What room there was stays, also at an error.
     ///
     /// # Errors
     /// Want of memory; a kind that is `ROOMY` never answers it.
     fn room(&mut self) -> Result<(), AllocError>
         ensures state { state self.new ≡ state self.old }
         ensures ok { OnOk result (IsTrue (has_room self.new)) }
+        ensures kept { IsTrue (has_room self.old) → IsTrue (has_room self.new) }
         ensures roomy { IsTrue ROOMY → IsOk result };
 
     /// A feed never puts a light out.

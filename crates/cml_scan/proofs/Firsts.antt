@@ -1,11 +1,12 @@
 -- The heads: each place that begins a row, once, in order of first appearance.
-use Rattle.std.proofs.Common.{◌≡◌, ℕ, ◌+◌, ◌<◌, Bool, true, false, not, ◌&&◌, ◌||◌, nat_lt, cond, List, [], ◌∷◌, ◌++◌, map, slice_index_or, refl, ap, sym, ◌∙◌, arith}
-use Rattle.std.specs.Prelude.{AllPairs, Any, Contains, ◌↔◌}
+use Rattle.std.proofs.Common.{◌≡◌, ℕ, ◌+◌, ◌<◌, Bool, true, false, not, ◌&&◌, ◌||◌, nat_lt, cond, List, [], ◌∷◌, ◌++◌, map, length, slice_index_or, Some, refl, ap, sym, ◌∙◌, arith}
+use Rattle.std.specs.Prelude.{AllPairs, Any, Contains, ◌↔◌, slice_get}
 use Rattle.std.specs.List.{list_any}
 use Rattle.std.proofs.lemmas.Bool.Decides.{nat_tests}
+use Rattle.std.proofs.lemmas.Option.{slice_get_within, get_or_from_slice_get}
 use Rattle.std.proofs.lemmas.List.Folds.{list_any-append, Any-from_list_any, list_any-from_Any}
 use Rattle.cml_scan.specs.World.{PlainWorld}
-use Rattle.cml_scan.specs.Scan.{scan, place_of, same_place, firsts_after, heads, partners_of, partners, same_row, has_row}
+use Rattle.cml_scan.specs.Scan.{scan, place_of, same_place, firsts_after, heads_of, heads, partners_of, partners, same_row, has_row}
 use Rattle.cml_scan.specs.Order.{Every, Ascends, first_row}
 use Rattle.cml_scan.specs.declared.meet.Meet.{Meet}
 use Rattle.cml_scan.specs.declared.meet.Place.{Place}
@@ -186,3 +187,32 @@ partners-members w p row = (has, λ h. kept h.0 h.1)
 
     kept : Contains (scan w) row → place_of row ≡ p → Contains (partners w p) row
     kept h is = Contains-has_row (partners w p) row (has_row-partners p row (scan w) ∙ rw (has_row-Contains (scan w) row h, is) (same_self p))
+
+-- no place begins a row where no row is there, and only there
+pub heads-none : (rows : List Meet) → (heads_of rows ≡ []) ↔ (rows ≡ [])
+heads-none [] = (λ e. refl, λ e. refl)
+heads-none (row ∷ rows) = (λ e. cc, λ e. cc)
+
+-- a row that is there gives its place a partner
+some_partner : (p : Place) (rows : List Meet) → list_any (λ row. same_place p (place_of row)) rows ≡ true → 0 < length (partners_of rows p)
+some_partner p [] e = cc
+some_partner p (row ∷ rows) e = at (same_place p (place_of row)) e (some_partner p rows)
+  where
+    at : (b : Bool) → b || list_any (λ r. same_place p (place_of r)) rows ≡ true → (list_any (λ r. same_place p (place_of r)) rows ≡ true → 0 < length (partners_of rows p))
+        → 0 < length (cond b (row ∷ partners_of rows p) (partners_of rows p))
+    at true e more = omega arith
+    at false e more = more e
+
+-- each place that begins a row has a partner
+pub heads-partners : (rows : List Meet) (k : ℕ) (p : Place) → slice_get (heads_of rows) k ≡ Some p → 0 < length (partners_of rows p)
+heads-partners rows k p e =
+    let there : Contains (heads_of rows) p = (k, slice_get_within (heads_of rows) k p e, get_or_from_slice_get (heads_of rows) k p p e) in
+    some_partner p rows (sym (firsts_all p [] (map place_of rows) ∙ any_mapped p rows) ∙ there_any p (heads_of rows) there)
+
+-- a partner of a place is a row that it begins
+pub partners-rows : (rows : List Meet) (p : Place) (j : ℕ) (row : Meet) → slice_get (partners_of rows p) j ≡ Some row → Contains rows row × (place_of row ≡ p)
+partners-rows rows p j row e =
+    let within : j < length (partners_of rows p) = slice_get_within (partners_of rows p) j row e in
+    let is : slice_index_or (partners_of rows p) j row ≡ row = get_or_from_slice_get (partners_of rows p) j row row e in
+    let two = both_true (has_row rows row) (same_place p (place_of row)) (sym (has_row-partners p row rows) ∙ has_row-Contains (partners_of rows p) row (j, within, is)) in
+    (Contains-has_row rows row two.0, sym (same_is p (place_of row) two.1))

@@ -1,12 +1,12 @@
 //! Laws of the definitions, each a function that does nothing and whose contract is the law.
 
 ghost use Rattle.std.specs.Prelude.{◌≡◌, ◌≢◌, ◌↔◌, ◌<◌, ℕ, Bool, not, map, filter, ◌++◌, List};
-ghost use Rattle.std.specs.Prelude.{IsTrue, Any, AllPairs, Contains};
+ghost use Rattle.std.specs.Prelude.{[], length, IsTrue, Any, AllPairs, Contains, Some, slice_get};
 ghost use Rattle.cml_value.specs.Value.{PlainValue, PlainBase, send};
 ghost use Rattle.cml_value.specs.declared.number.Tid.{Tid};
 ghost use Rattle.cml_scan.specs.World.{PlainWorld, pending};
 ghost use Rattle.cml_scan.specs.Light.{lit, light_of, lit_by};
-ghost use Rattle.cml_scan.specs.Scan.{PlainOffer, offers_of, pair, scan, scan_of, place_of, heads, partners, names};
+ghost use Rattle.cml_scan.specs.Scan.{PlainOffer, offers_of, pair, scan, scan_of, place_of, heads_of, heads, partners_of, partners, names};
 ghost use Rattle.cml_scan.specs.Table.{without, AgreeFor, TellsLights};
 ghost use Rattle.cml_scan.specs.Order.{place, row_before, first_row, has_partner, can_take};
 ghost use Rattle.cml_scan.specs.Enabled.{IsEnabled};
@@ -44,6 +44,25 @@ pub fn partners_are_the_rows_of_a_head()
         Contains (partners w p) row ↔ (Contains (scan w) row × (place_of row ≡ p)) }
     ensures order { (w : PlainWorld) (p : Place) →
         AllPairs (λ r s. IsTrue (row_before r s)) (partners w p) }
+{}
+
+/// No place begins a row exactly where no row is there.
+pub fn no_head_where_no_row()
+    ensures { (rows : List Meet) → (heads_of rows ≡ []) ↔ (rows ≡ []) }
+{}
+
+/// Each place that begins a row has a partner.
+pub fn a_head_has_a_partner()
+    ensures { (rows : List Meet) (k : ℕ) (p : Place) →
+        slice_get (heads_of rows) k ≡ Some p → 0 < length (partners_of rows p) }
+{}
+
+/// The row that is picked by a head and one of its partners is among the rows, and begins at that
+/// head.
+pub fn a_picked_row_is_in_the_scan()
+    ensures { (rows : List Meet) (k j : ℕ) (p : Place) (row : Meet) →
+        slice_get (heads_of rows) k ≡ Some p → slice_get (partners_of rows p) j ≡ Some row →
+        Contains rows row × (place_of row ≡ p) }
 {}
 
 /// The scan depends on the pending groups and the lights that their leaves wait for alone.

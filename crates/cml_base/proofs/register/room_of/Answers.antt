@@ -1,6 +1,6 @@
 use Rattle.std.proofs.Common.{◌≡◌, map, Some}
 use Rattle.std.specs.Prelude.{slice_get}
-use Rattle.cml_base.proofs.Objects.{get_there, get-map, map-slice_set, get_other, with_same, get_set_same}
+use Rattle.cml_base.proofs.Objects.{get_there, get-map, map-slice_set, get_other, room_after, with_same, get_set_same}
 use Rattle.cml_base.proofs.register.room_of.Goals as goal
 
 pub returns-clause-states : goal.returns-clause-states
@@ -16,3 +16,10 @@ returns-clause-others g c = λ j h. get_other c.args.objects.now.items c.args.id
 
 pub returns-clause-ok : goal.returns-clause-ok
 returns-clause-ok g c = rw (get_set_same c.args.objects.now.items c.args.id c.room.new.self c.requires) c.room.ensures.ok
+
+pub returns-clause-kept : goal.returns-clause-kept
+returns-clause-kept g c =
+    let objects = c.args.objects.now.items in
+    let x = c.index_mut-object.result.now in
+    let there : slice_get objects c.args.id ≡ Some x = get_there objects c.args.id x c.requires c.index_mut-object.ensures.value in
+    room_after g.K.Source.has_room objects c.args.id x c.room.new.self there c.room.ensures.kept
