@@ -1,5 +1,5 @@
 -- What the grammar gives a text is what its words spell.
-use Rattle.std.proofs.Common.{◌≡◌, ◌≢◌, ℕ, ◌+◌, ◌<◌, ◌≤◌, true, false, eqb, leb, List, [], ◌∷◌, ◌++◌, length, drop, refl, ap, sym, ◌∙◌, subst, arith, Some, append_assoc}
+use Rattle.std.proofs.Common.{◌≡◌, ◌≢◌, ℕ, ◌+◌, ◌<◌, ◌≤◌, true, false, eqb, leb, List, [], ◌∷◌, ◌++◌, length, drop, refl, ap, sym, ◌∙◌, subst, arith, append_assoc}
 use Rattle.std.specs.List.{prefix_len}
 use Rattle.std.specs.Str.{IsCharBoundary, IsUtf8}
 use Rattle.std.proofs.lemmas.Bool.{false≢true}
@@ -8,7 +8,7 @@ use Rattle.std.proofs.lemmas.List.{length-append}
 use Rattle.std.proofs.lemmas.Str.{IsUtf8-take, IsUtf8-drop, IsCharBoundary-after_ascii}
 use Rattle.std.proofs.Math.Seq.{drop-append_seam, take-append_seam, drop-append-add}
 use Rattle.cml_text.specs.Forms.{plain_text, plain_list, PlainForms, forms_and}
-use Rattle.cml_text.specs.Lexemes.{is_separator, is_delimiter, is_comment_byte, is_token_byte, is_number, is_plain, unescaped, closed, with_front, with_escape, literal, Lexeme, opening, closing, leaf, span_from, literal_lexeme, literal_more, beginning, lexemes}
+use Rattle.cml_text.specs.Lexemes.{is_separator, is_delimiter, is_comment_byte, is_token_byte, is_number, is_plain, closed, with_front, with_escape, literal, Lexeme, opening, closing, leaf, span_from, literal_lexeme, literal_more, beginning, lexemes}
 use Rattle.cml_text.specs.Texts.{words_of}
 use Rattle.cml_text.specs.Grammar.{Separates, Delimits, Escapes, Ending, whole_text, inside_list, HaveNoLineFeed, EndsOrDelimits, StandsFor, Gives}
 use Rattle.cml_text.proofs.LiteralLemmas.{literal_plain, literal_quote}

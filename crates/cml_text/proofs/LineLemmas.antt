@@ -6,7 +6,6 @@ use Rattle.std.proofs.lemmas.Bool.{false≢true}
 use Rattle.cml_text.specs.Grammar.{HaveNoLineFeed}
 use Rattle.cml_text.specs.Laws.{WrittenLineIsFirst}
 use Rattle.cml_text.specs.Lines.{line, lines}
-use Rattle.cml_text.proofs.WordLemmas.{cases_test}
 
 is_feed : (b : ℕ) → b ≡ 10 → (b == 10) ≡ true
 is_feed b e = grind (arith, nat_tests)

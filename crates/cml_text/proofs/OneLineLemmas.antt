@@ -1,5 +1,5 @@
 -- What is printed on one line.
-use Rattle.std.proofs.Common.{◌≡◌, ℕ, ◌+◌, ◌≤◌, Bool, true, false, ◌&&◌, eqb, List, [], ◌∷◌, ◌++◌, length, refl, ap, sym, ◌∙◌, arith, inl, inr}
+use Rattle.std.proofs.Common.{◌≡◌, ℕ, ◌+◌, true, eqb, List, [], ◌∷◌, ◌++◌, length, refl, ap, sym, ◌∙◌, arith, inl, inr}
 use Rattle.std.specs.Prelude.{flat_map}
 use Rattle.std.specs.List.{list_all}
 use Rattle.std.specs.Fmt.{signed_decimal}
@@ -9,7 +9,7 @@ use Rattle.std.proofs.lemmas.List.Folds.{list_all-append}
 use Rattle.cml_text.specs.Forms.{PlainSexpr, plain_name, plain_int, plain_text, plain_list, PlainForms, no_forms, forms_and, plain_forms, forms_list, nesting_of, all_without_spans}
 use Rattle.cml_text.specs.Lexemes.{is_token_byte, is_comment_byte, lexemes}
 use Rattle.cml_text.specs.Limits.{IsProper, AreProper}
-use Rattle.cml_text.specs.Printed.{escaped, quoted, printed_form, printed_members, printed_behind, printed_line}
+use Rattle.cml_text.specs.Printed.{escaped, printed_form, printed_members, printed_behind, printed_line}
 use Rattle.cml_text.specs.Texts.{words_of}
 use Rattle.cml_text.specs.Laws.{PrintedLineIsRead, PrintedLineIsOneLine}
 use Rattle.cml_text.proofs.WordLemmas.{cases_test}

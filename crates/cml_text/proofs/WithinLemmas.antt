@@ -1,14 +1,10 @@
 -- What a text spells can be printed and read back.
-use Rattle.std.proofs.Common.{◌≡◌, ℕ, zero, suc, ◌+◌, ◌^◌, ◌<◌, ◌≤◌, eqb, leb, ltb, List, [], ◌∷◌, ◌++◌, length, refl, ap, sym, ◌∙◌, subst, arith, Some, None, append_assoc, inl, inr, ℤ, pos}
-use Rattle.std.specs.Prelude.{neg_ℤ}
+use Rattle.std.proofs.Common.{◌≡◌, ℕ, ◌+◌, ◌<◌, List, [], ◌∷◌, ◌++◌, length, refl, ap, sym, ◌∙◌, subst, arith, append_assoc}
 use Rattle.std.specs.Str.{IsUtf8}
-use Rattle.std.specs.Str.Parse.{digits_value}
-use Rattle.std.proofs.lemmas.Bool.Decides.{nat_tests}
 use Rattle.std.proofs.lemmas.Str.{IsUtf8-append}
 use Rattle.cml_text.specs.Forms.{PlainSexpr, plain_name, plain_int, plain_text, plain_list, PlainForms, no_forms, forms_and, plain_forms, without_spans, all_without_spans}
-use Rattle.cml_text.specs.Lexemes.{unescaped, number_value, negative_value, positive_value}
 use Rattle.cml_text.specs.Grammar.{Escapes, Ending, StandsFor, Gives, IsGrammatical}
-use Rattle.cml_text.specs.Limits.{IsSmall, AreProper}
+use Rattle.cml_text.specs.Limits.{AreProper}
 use Rattle.cml_text.specs.Printed.{printed_form, printed_members, printed_behind, printed}
 use Rattle.cml_text.specs.Laws.{SpelledIsWithinLimits, PrintedAgainIsSame}
 use Rattle.cml_text.proofs.ClassLemmas.{numeral_small, name_test, escape_test}

@@ -1,5 +1,5 @@
 -- The lines of a text, and how lines are written.
-use Rattle.std.specs.Prelude.{◌≡◌, ℕ, ◌==◌, if◌then◌else◌, codes, List, [], ◌∷◌, ◌++◌}
+use Rattle.std.specs.Prelude.{ℕ, ◌==◌, if◌then◌else◌, codes, List, [], ◌∷◌, ◌++◌}
 use Rattle.std.specs.List.{onto_first}
 use Rattle.std.specs.Fmt.{decimal}
 
