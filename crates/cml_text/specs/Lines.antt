@@ -1,15 +1,10 @@
 -- The lines of a text, and how lines are written.
-use Rattle.std.specs.Prelude.{ℕ, ◌==◌, if◌then◌else◌, codes, List, [], ◌∷◌, ◌++◌}
+use Rattle.std.specs.Prelude.{ℕ, ◌==◌, if◌then◌else◌, List, [], ◌∷◌, ◌++◌}
 use Rattle.std.specs.List.{onto_first}
-use Rattle.std.specs.Fmt.{decimal}
 
 -- a line ends with a line feed (10)
 abbrev pub line : List ℕ → List ℕ
 line bytes = bytes ++ 10 ∷ []
-
--- a number behind a space
-abbrev pub spaced : ℕ → List ℕ
-spaced n = codes " " ++ decimal n
 
 -- The lines of a text. A line feed ends a line and begins none: what stands behind the last line feed is a line where something
 -- stands there.

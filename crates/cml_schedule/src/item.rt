@@ -1,0 +1,41 @@
+//! What happens in a run, one item after another.
+
+use crate::size::Size;
+use cml_scan::Meet;
+use cml_value::Tid;
+use std::marker::Model;
+
+/// What happens next in a run.
+#[derive(Clone, Copy, PartialEq, Eq)]
+pub enum Item {
+    /// This thread runs, up to 1,000 steps.
+    Turn(Tid),
+    /// This communication is committed.
+    Meet(Meet),
+    /// This communication is committed, and it is an exchange over a swap channel.
+    Exchange(Meet),
+    /// The time moves to this tick.
+    Clock(u64),
+}
+
+/// A schedule as it was read.
+#[derive(Drop)]
+pub struct Plan {
+    /// How many steps the run may take, from 1 to 1,000,000,000.
+    pub budget: u64,
+    /// The size of the program, where the text says it.
+    pub size: Option<Size>,
+    /// What happens, in its order.
+    pub items: Vec<Item>,
+}
+
+impl Model for Plan {
+    ghost use Rattle.cml_schedule.specs.Plans.{PlainPlan};
+    ghost use Rattle.cml_schedule.specs.Codes.{plan_code};
+
+    ghost Value = { PlainPlan };
+
+    ghost coded = { plan_code };
+
+    ghost view = { λ p. record { budget = p.budget; size = p.size; items = p.items.items } };
+}
