@@ -1,6 +1,7 @@
 -- What a monitor shows of a run.
-use Rattle.std.specs.Prelude.{ℕ, List, ◌++◌, length, codes, [], ◌∷◌}
+use Rattle.std.specs.Prelude.{ℕ, List, ◌++◌, length, codes}
 use Rattle.std.specs.List.{flat_map}
+use Rattle.cml_text.specs.Lines.{line}
 use Rattle.cml_scan.specs.declared.meet.Meet.{Meet}
 use Rattle.cml_scan.specs.Numbers.{spaced, numbers_of}
 
@@ -9,9 +10,6 @@ pub record PlainReport : Type 0 where
   pub at : ℕ
   pub rows : List Meet
   pub waiting : List ℕ
-
-abbrev pub line : List ℕ → List ℕ
-line bytes = bytes ++ 10 ∷ []
 
 -- a row: the threads and leaves, of a pair the head first
 abbrev pub row_line : Meet → List ℕ

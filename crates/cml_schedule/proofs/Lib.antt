@@ -1,3 +1,4 @@
 mod Readings
+mod Letters
 mod Phrases
 mod WrittenLemmas

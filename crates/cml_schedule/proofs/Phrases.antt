@@ -1,11 +1,12 @@
 -- A word with numbers behind it: how it is printed, and what is read of it.
-use Rattle.std.proofs.Common.{◌≡◌, ℕ, ◌+◌, ◌*◌, ◌<◌, ◌≤◌, ◌^◌, ℤ, pos, IsTrue, List, [], ◌∷◌, ◌++◌, length, map, refl, ap, sym, ◌∙◌, arith, codes, append-nil}
+use Rattle.std.proofs.Common.{◌≡◌, ℕ, ◌*◌, ◌<◌, ◌≤◌, ◌^◌, pos, IsTrue, List, [], ◌∷◌, ◌++◌, length, map, refl, ap, subst, arith}
 use Rattle.std.specs.List.{flat_map, AllByRecursion as Each}
 use Rattle.std.specs.Str.{IsUtf8}
 use Rattle.std.specs.Fmt.{decimal}
 use Rattle.std.proofs.lemmas.Fmt.{length-decimal-le}
 use Rattle.std.proofs.lemmas.List.{length-append}
-use Rattle.cml_text.specs.Forms.{PlainSexpr, plain_name, plain_int, plain_text, plain_list, PlainForms, no_forms, forms_and, plain_forms, nowhere, all_without_spans, nesting_of}
+use Rattle.cml_text.specs.declared.sexpr.Span.{Span}
+use Rattle.cml_text.specs.Forms.{PlainSexpr, plain_name, plain_int, plain_forms, nowhere, all_without_spans, nesting_of}
 use Rattle.cml_text.specs.Lexemes.{is_name}
 use Rattle.cml_text.specs.Limits.{AreProper, AreWithinLimits}
 use Rattle.cml_text.specs.Printed.{printed_behind, printed_line}
@@ -18,22 +19,21 @@ abbrev pub phrase : List ℕ → List ℕ → List PlainSexpr
 phrase word ns = plain_name nowhere word ∷ numbers ns
 
 -- these numbers, wherever they stand
-abbrev pub AreAt : List PlainSexpr → List ℕ → Type 0
-AreAt [] [] = Unit {0}
-AreAt (plain_int span (pos n) ∷ forms) (m ∷ ns) = (n ≡ m) × AreAt forms ns
-AreAt _ _ = ⊥
+pub data AreAt : List PlainSexpr → List ℕ → Type 0 where
+  none : AreAt [] []
+  one_more : (span : Span) (n : ℕ) (forms : List PlainSexpr) (ns : List ℕ) → AreAt forms ns → AreAt (plain_int span (pos n) ∷ forms) (n ∷ ns)
 
-abbrev pub IsAt : List PlainSexpr → List ℕ → List ℕ → Type 0
-IsAt (plain_name span bytes ∷ forms) word ns = (bytes ≡ word) × AreAt forms ns
-IsAt _ word ns = ⊥
+-- this word and these numbers, wherever they stand
+pub data IsAt : List PlainSexpr → List ℕ → List ℕ → Type 0 where
+  phrase_at : (span : Span) (word : List ℕ) (forms : List PlainSexpr) (ns : List ℕ) → AreAt forms ns → IsAt (plain_name span word ∷ forms) word ns
 
 are_at : (found : List PlainSexpr) (ns : List ℕ) → all_without_spans (plain_forms found) ≡ all_without_spans (plain_forms (numbers ns)) → AreAt found ns
-are_at [] [] e = tt
+are_at [] [] e = none
 are_at [] (n ∷ ns) e = cc
 are_at (plain_int span (pos m) ∷ found) (n ∷ ns) e =
     let same : m ≡ n = cc in
     let rest : all_without_spans (plain_forms found) ≡ all_without_spans (plain_forms (numbers ns)) = cc in
-    (same, are_at found ns rest)
+    subst (λ (k : ℕ). AreAt (plain_int span (pos m) ∷ found) (k ∷ ns)) same (one_more span m found ns (are_at found ns rest))
 are_at (form ∷ found) [] e = cc
 are_at (form ∷ found) (n ∷ ns) e = cc
 
@@ -42,7 +42,7 @@ is_at [] word ns e = cc
 is_at (plain_name span bytes ∷ found) word ns e =
     let same : bytes ≡ word = cc in
     let rest : all_without_spans (plain_forms found) ≡ all_without_spans (plain_forms (numbers ns)) = cc in
-    (same, are_at found ns rest)
+    subst (λ (w : List ℕ). IsAt (plain_name span bytes ∷ found) w ns) same (phrase_at span bytes found ns (are_at found ns rest))
 is_at (form ∷ found) word ns e = cc
 
 -- how it is printed

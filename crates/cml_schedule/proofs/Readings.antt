@@ -1,5 +1,5 @@
 -- Every text is read in one way.
-use Rattle.std.proofs.Common.{◌≡◌, ℕ, ◌+◌, ◌⊎◌, List, [], ◌∷◌, Option, Some, None, Result, Ok, Err, refl, ap, sym, ◌∙◌, subst, inl, inr}
+use Rattle.std.proofs.Common.{◌≡◌, ℕ, ◌+◌, ◌⊎◌, List, [], ◌∷◌, Option, Some, None, Result, Err, refl, ap, sym, ◌∙◌, subst, inl, inr}
 use Rattle.cml_text.specs.Forms.{PlainSexpr}
 use Rattle.cml_text.specs.Faults.{PlainFault}
 use Rattle.cml_text.specs.Lines.{lines}

@@ -1,5 +1,5 @@
 -- How a schedule is read: line by line, up to the first line that does not fit.
-use Rattle.std.specs.Prelude.{◌≡◌, ◌⊎◌, ℕ, ◌+◌, ◌<◌, ◌≤◌, List, [], ◌∷◌, length, Option, Some, None, Result, Ok, Err}
+use Rattle.std.specs.Prelude.{◌≡◌, ◌⊎◌, ℕ, ◌+◌, ◌<◌, ◌≤◌, List, [], ◌∷◌, length, Some, None, Result, Ok, Err}
 use Rattle.cml_text.specs.Faults.{PlainFault}
 use Rattle.cml_text.specs.Forms.{PlainSexpr}
 use Rattle.cml_text.specs.Lines.{lines}

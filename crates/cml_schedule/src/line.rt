@@ -4,8 +4,8 @@ ghost use Rattle.std.specs.Prelude.{◌≡◌, IfOk};
 ghost use Rattle.cml_schedule.specs.Lines as spec;
 
 use crate::item::{Item, Plan};
-use crate::word::{Word, word_of};
 use crate::size::Size;
+use crate::word::{Word, word_of};
 use cml_scan::Meet;
 use cml_text::{Sexpr, number_from, tick_from};
 use cml_value::Tid;
@@ -23,11 +23,7 @@ pub enum State {
 }
 
 /// How far it was read after a line of these forms, if the line fits.
-pub fn after_line(
-    alloc: Global,
-    state: State,
-    forms: &[Sexpr],
-) -> Result<Option<State>, AllocError>
+pub fn after_line(alloc: Global, state: State, forms: &[Sexpr]) -> Result<Option<State>, AllocError>
     ensures { IfOk result (λ next. next ≡ spec.after_line state forms.now) }
 {
     let [first, behind @ ..] = forms else {
@@ -191,12 +187,7 @@ fn single_from(thread: &Sexpr, leaf: &Sexpr) -> Option<Meet>
     Some(Meet::Single { tid, leaf })
 }
 
-fn pair_from(
-    head: &Sexpr,
-    head_leaf: &Sexpr,
-    other: &Sexpr,
-    other_leaf: &Sexpr,
-) -> Option<Meet>
+fn pair_from(head: &Sexpr, head_leaf: &Sexpr, other: &Sexpr, other_leaf: &Sexpr) -> Option<Meet>
     ensures { result ≡ spec.pair_from head.now head_leaf.now other.now other_leaf.now }
 {
     let head = Tid(number_from(head)?);

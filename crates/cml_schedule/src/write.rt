@@ -24,8 +24,7 @@ pub fn schedule_text(
 {
     let mut text = format!(in alloc;
         "schedule 2 {budget} {} {}\n",
-        size.functions,
-        size.statements
+        size.functions, size.statements
     )?;
     push_items(&mut text, items)?;
     text.push_str("end\n")?;

@@ -1,4 +1,4 @@
-use Rattle.std.proofs.Common.{◌≡◌, ℕ, length, Result}
+use Rattle.std.proofs.Common.{ℕ, length, Result}
 use Rattle.cml_schedule.specs.Plans.{PlainPlan}
 use Rattle.cml_schedule.specs.Reading.{LeadsTo, ReadsAs}
 use Rattle.cml_schedule.proofs.read.read_schedule.Given as goal
