@@ -19,3 +19,4 @@ pub mod GrammarFindLemmas
 pub mod WithinLemmas
 pub mod OneLineLemmas
 pub mod ListLemmas
+pub mod FaultLemmas

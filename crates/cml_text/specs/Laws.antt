@@ -1,7 +1,12 @@
 -- What holds of every text.
-use Rattle.std.specs.Prelude.{◌≡◌, ℕ, ◌+◌, ◌<◌, ◌≤◌, None, List, [], ◌∷◌, ◌++◌, length}
+use Rattle.std.specs.Prelude.{◌≡◌, ◌⊎◌, ℕ, ◌+◌, ◌<◌, ◌≤◌, Some, None, List, [], ◌∷◌, ◌++◌, length}
+use Rattle.std.specs.Str.{IsUtf8}
+use Rattle.cml_text.specs.declared.fault.FaultKind.TheVariants.{Unclosed}
+use Rattle.cml_text.specs.Faults.{PlainFault}
+use Rattle.cml_text.specs.FirstFaults.{CanBeClosed, IsFirstFault}
 use Rattle.cml_text.specs.Forms.{PlainSexpr, plain_list, PlainForms, no_forms, forms_and, plain_forms, nesting_of, nowhere, all_without_spans}
 use Rattle.cml_text.specs.Grammar.{HaveNoLineFeed, IsGrammatical}
+use Rattle.cml_text.specs.Lexemes.{lexemes}
 use Rattle.cml_text.specs.Limits.{AreWithinLimits}
 use Rattle.cml_text.specs.Lines.{line, lines}
 use Rattle.cml_text.specs.Printed.{printed, printed_line}
@@ -70,3 +75,9 @@ abbrev pub AListIsItsForms : Type 0
 AListIsItsForms = (text : List ℕ) (forms : PlainForms) → length text + 3 ≤ text_limit →
     (SpellsAside text forms × (nesting_of forms < nesting_limit) → SpellsAside (in_parentheses text) (forms_and (plain_list nowhere forms) no_forms))
     × (SpellsAside (in_parentheses text) (forms_and (plain_list nowhere forms) no_forms) → SpellsAside text forms × (nesting_of forms < nesting_limit))
+
+-- Of a text that is UTF-8 and not too long, the fault is that of the first word with which, whatever follows, no forms are spelled: the
+-- words before it could still become forms. Or the end is at fault, and only closing parentheses are missing.
+abbrev pub FaultIsFirst : Type 0
+FaultIsFirst = (text : List ℕ) (fault : PlainFault) → length text ≤ text_limit → IsUtf8 text → fault_of text ≡ Some fault →
+    IsFirstFault (lexemes 0 0 text) fault ⊎ (CanBeClosed (lexemes 0 0 text) × (fault.kind ≡ Unclosed))
