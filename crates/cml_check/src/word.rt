@@ -1,6 +1,7 @@
 //! The words that mean something in a script.
 
-ghost use Rattle.std.specs.Prelude.{◌≡◌};
+ghost use Rattle.std.specs.Prelude.{◌≡◌, find};
+ghost use Rattle.std.specs.Str.{bytes_eq};
 ghost use Rattle.cml_check.specs.Words as spec;
 
 use crate::syntax::{Act, ActOnOne, ActOnTwo, Binary, Constant, Unary};
@@ -31,65 +32,6 @@ pub enum Word {
     ActOnOne(ActOnOne),
     ActOnTwo(ActOnTwo),
 }
-
-// Each word once.
-const WORDS: [Word; 55] = [
-    Word::Fn,
-    Word::Do,
-    Word::Let,
-    Word::Set,
-    Word::If,
-    Word::While,
-    Word::Return,
-    Word::Call,
-    Word::Spawn,
-    Word::Choose,
-    Word::Wrap,
-    Word::Guard,
-    Word::WithNack,
-    Word::MVar,
-    Word::Constant(Constant::True),
-    Word::Constant(Constant::False),
-    Word::Constant(Constant::Unit),
-    Word::Constant(Constant::Never),
-    Word::Unary(Unary::Not),
-    Word::Unary(Unary::Fst),
-    Word::Unary(Unary::Snd),
-    Word::Unary(Unary::Always),
-    Word::Unary(Unary::Recv),
-    Word::Unary(Unary::IGet),
-    Word::Unary(Unary::MTake),
-    Word::Unary(Unary::MGet),
-    Word::Unary(Unary::MailRecv),
-    Word::Unary(Unary::PortRecv),
-    Word::Unary(Unary::Join),
-    Word::Unary(Unary::At),
-    Word::Unary(Unary::After),
-    Word::Binary(Binary::Plus),
-    Word::Binary(Binary::Minus),
-    Word::Binary(Binary::Times),
-    Word::Binary(Binary::Less),
-    Word::Binary(Binary::Equal),
-    Word::Binary(Binary::Pair),
-    Word::Binary(Binary::Send),
-    Word::Binary(Binary::MSwap),
-    Word::Act(Act::Chan),
-    Word::Act(Act::IVar),
-    Word::Act(Act::Mailbox),
-    Word::Act(Act::MChan),
-    Word::Act(Act::Exit),
-    Word::Act(Act::Yield),
-    Word::Act(Act::OwnThread),
-    Word::Act(Act::Now),
-    Word::ActOnOne(ActOnOne::Sync),
-    Word::ActOnOne(ActOnOne::Port),
-    Word::ActOnOne(ActOnOne::Copy),
-    Word::ActOnOne(ActOnOne::Print),
-    Word::ActOnTwo(ActOnTwo::IPut),
-    Word::ActOnTwo(ActOnTwo::MPut),
-    Word::ActOnTwo(ActOnTwo::Mail),
-    Word::ActOnTwo(ActOnTwo::Multicast),
-];
 
 impl Word {
     // How the word is spelled.
@@ -206,11 +148,112 @@ fn two_spelling(act: ActOnTwo) -> &'static str
     }
 }
 
+// The words that start with an `a`.
+const STARTING_WITH_A: [Word; 3] = [
+    Word::Unary(Unary::Always),
+    Word::Unary(Unary::At),
+    Word::Unary(Unary::After),
+];
+
+// The words that start with a `c`.
+const STARTING_WITH_C: [Word; 4] = [
+    Word::Call,
+    Word::Choose,
+    Word::Act(Act::Chan),
+    Word::ActOnOne(ActOnOne::Copy),
+];
+
+// The words that start with an `f`.
+const STARTING_WITH_F: [Word; 3] = [
+    Word::Fn,
+    Word::Constant(Constant::False),
+    Word::Unary(Unary::Fst),
+];
+
+// The words that start with an `i`.
+const STARTING_WITH_I: [Word; 4] = [
+    Word::If,
+    Word::Unary(Unary::IGet),
+    Word::Act(Act::IVar),
+    Word::ActOnTwo(ActOnTwo::IPut),
+];
+
+// The words that start with an `m`.
+const STARTING_WITH_M: [Word; 10] = [
+    Word::MVar,
+    Word::Unary(Unary::MTake),
+    Word::Unary(Unary::MGet),
+    Word::Unary(Unary::MailRecv),
+    Word::Binary(Binary::MSwap),
+    Word::Act(Act::Mailbox),
+    Word::Act(Act::MChan),
+    Word::ActOnTwo(ActOnTwo::MPut),
+    Word::ActOnTwo(ActOnTwo::Mail),
+    Word::ActOnTwo(ActOnTwo::Multicast),
+];
+
+// The words that start with an `n`.
+const STARTING_WITH_N: [Word; 3] = [
+    Word::Constant(Constant::Never),
+    Word::Unary(Unary::Not),
+    Word::Act(Act::Now),
+];
+
+// The words that start with a `p`.
+const STARTING_WITH_P: [Word; 4] = [
+    Word::Unary(Unary::PortRecv),
+    Word::Binary(Binary::Pair),
+    Word::ActOnOne(ActOnOne::Port),
+    Word::ActOnOne(ActOnOne::Print),
+];
+
+// The words that start with an `s`.
+const STARTING_WITH_S: [Word; 6] = [
+    Word::Set,
+    Word::Spawn,
+    Word::Unary(Unary::Snd),
+    Word::Binary(Binary::Send),
+    Word::Act(Act::OwnThread),
+    Word::ActOnOne(ActOnOne::Sync),
+];
+
 /// The word that is spelled so, if one is.
 pub fn word_of(name: &str) -> Option<Word>
     ensures { result ≡ spec.word_of name.now }
 {
-    WORDS.iter().copied().find(|word| word.spelling() == name)
+    match name.as_bytes().first().copied() {
+        Some(b'*') => among(name, &[Word::Binary(Binary::Times)]),
+        Some(b'+') => among(name, &[Word::Binary(Binary::Plus)]),
+        Some(b'-') => among(name, &[Word::Binary(Binary::Minus)]),
+        Some(b'<') => among(name, &[Word::Binary(Binary::Less)]),
+        Some(b'=') => among(name, &[Word::Binary(Binary::Equal)]),
+        Some(b'a') => among(name, &STARTING_WITH_A),
+        Some(b'c') => among(name, &STARTING_WITH_C),
+        Some(b'd') => among(name, &[Word::Do]),
+        Some(b'e') => among(name, &[Word::Act(Act::Exit)]),
+        Some(b'f') => among(name, &STARTING_WITH_F),
+        Some(b'g') => among(name, &[Word::Guard]),
+        Some(b'i') => among(name, &STARTING_WITH_I),
+        Some(b'j') => among(name, &[Word::Unary(Unary::Join)]),
+        Some(b'l') => among(name, &[Word::Let]),
+        Some(b'm') => among(name, &STARTING_WITH_M),
+        Some(b'n') => among(name, &STARTING_WITH_N),
+        Some(b'p') => among(name, &STARTING_WITH_P),
+        Some(b'r') => among(name, &[Word::Return, Word::Unary(Unary::Recv)]),
+        Some(b's') => among(name, &STARTING_WITH_S),
+        Some(b't') => among(name, &[Word::Constant(Constant::True)]),
+        Some(b'u') => among(name, &[Word::Constant(Constant::Unit)]),
+        Some(b'w') => among(name, &[Word::While, Word::Wrap, Word::WithNack]),
+        Some(b'y') => among(name, &[Word::Act(Act::Yield)]),
+        _ => None,
+    }
+}
+
+// The first of the words that is spelled so, if one is.
+fn among(name: &str, words: &[Word]) -> Option<Word>
+    ensures { result ≡ find (λ word. bytes_eq (spec.spelling word) name.now) words.now }
+{
+    words.iter().copied().find(|word| word.spelling() == name)
 }
 
 /// The word that the form is, if it is one.

@@ -11,6 +11,7 @@ use Rattle.std.proofs.lemmas.Int.Digits.{digits_value_push}
 use Rattle.std.proofs.lemmas.List.{append-nil, length-append}
 use Rattle.std.proofs.lemmas.List.Elements.{All-nil, All-cons, All-head, All-tail}
 use Rattle.std.proofs.lemmas.List.Folds.{list_all-append}
+use Rattle.std.proofs.lemmas.Str.{chars-nil}
 use Rattle.unicode_ident.specs.Ident.{is_xid_start, is_xid_continue}
 use Rattle.cml_text.specs.Lexemes.{is_separator, is_delimiter, is_token_byte, are_digits, is_number, negative_value, positive_value, number_value, is_operator, is_word, is_name, unescaped}
 use Rattle.cml_text.specs.Limits.{IsSmall}
@@ -314,3 +315,15 @@ test_escape b c h =
                 ]
           ]
     ]
+
+pub numeral_some : (token : List ℕ) (value : ℤ) → IsNumeral token value → 0 < length token
+numeral_some token value (IsNumeral.unsigned ds n is small) = (digits_worth ds n is).some
+numeral_some token value (IsNumeral.behind_minus ds n is small) = omega arith
+
+named_some : (token : List ℕ) → is_name token ≡ true → 0 < length token
+unfolding is_name
+named_some [] h = let none : is_word [] ≡ true = ap is_word (sym chars-nil) ∙ h in absurd (false≢true none)
+named_some (b ∷ token) h = omega arith
+
+pub name_some : (token : List ℕ) → SpellsName token → 0 < length token
+name_some token is = named_some token (name_test token is)

@@ -18,3 +18,5 @@ pub mod GrammarLemmas
 pub mod GrammarFindLemmas
 pub mod WithinLemmas
 pub mod OneLineLemmas
+pub mod ListLemmas
+pub mod FaultLemmas

@@ -51,10 +51,10 @@ lines_whole (b ∷ bs) some none =
     lines_alone b bs none ∙ ap (λ n. (b ∷ bs) ∷ lines (take n (drop (length (b ∷ bs)) (b ∷ bs)))) nothing
 
 -- a byte in front of bytes without a line feed
-first_none : (b : ℕ) (bytes : List ℕ) → HaveNoLineFeed (b ∷ bytes) → b ≢ 10
+pub first_none : (b : ℕ) (bytes : List ℕ) → HaveNoLineFeed (b ∷ bytes) → b ≢ 10
 first_none b bytes none is = let e : (b == 10) ≡ true = is_feed b is in let bad : false ≡ true = rw e at none in absurd (false≢true bad)
 
-behind_none : (b : ℕ) (bytes : List ℕ) → HaveNoLineFeed (b ∷ bytes) → HaveNoLineFeed bytes
+pub behind_none : (b : ℕ) (bytes : List ℕ) → HaveNoLineFeed (b ∷ bytes) → HaveNoLineFeed bytes
 behind_none b bytes none = let e : (b == 10) ≡ false = is_no_feed b (first_none b bytes none) in rw e at none
 
 pub written_line_is_first : WrittenLineIsFirst

@@ -17,14 +17,14 @@ use Rattle.cml_text.proofs.TextLemmas.{not_deep}
 use Rattle.cml_text.proofs.AnswerLemmas.{fault_long, fault_utf8, fault_left, fault_clash}
 
 -- every form among the words is spelled by one word
-abbrev AreLeaves : List Lexeme → Type 0
+abbrev pub AreLeaves : List Lexeme → Type 0
 AreLeaves [] = Unit {0}
 AreLeaves (opening at ∷ rest) = AreLeaves rest
 AreLeaves (closing end ∷ rest) = AreLeaves rest
 AreLeaves (leaf form ∷ rest) = IsLeaf form × AreLeaves rest
 AreLeaves (faulty fault ∷ rest) = AreLeaves rest
 
-leaves-append : (front back : List Lexeme) → AreLeaves front → AreLeaves back → AreLeaves (front ++ back)
+pub leaves-append : (front back : List Lexeme) → AreLeaves front → AreLeaves back → AreLeaves (front ++ back)
 leaves-append [] back p q = q
 leaves-append (opening at ∷ front) back p q = leaves-append front back p q
 leaves-append (closing end ∷ front) back p q = leaves-append front back p q
@@ -72,7 +72,7 @@ beginning_leaf at b bytes =
           ]
     ]
 
-lexemes_leaves : (before at : ℕ) (bytes : List ℕ) → AreLeaves (lexemes before at bytes)
+pub lexemes_leaves : (before at : ℕ) (bytes : List ℕ) → AreLeaves (lexemes before at bytes)
 unfolding lexemes
 lexemes_leaves zero at [] = tt
 lexemes_leaves (suc before) at [] = tt
@@ -81,7 +81,7 @@ lexemes_leaves zero at (b ∷ bytes) =
 lexemes_leaves (suc before) at (b ∷ bytes) = lexemes_leaves before (at + 1) bytes
 
 -- the words are forms, and a closing parenthesis with forms behind it for each open list
-abbrev Closes : List ℕ → List Lexeme → Type 0
+abbrev pub Closes : List ℕ → List Lexeme → Type 0
 Closes [] ws = (forms : PlainForms) × (ws ≡ words_of forms)
 Closes (start ∷ opens) ws = (forms : PlainForms) × ((end : ℕ) × ((rest : List Lexeme) × ((ws ≡ words_of forms ++ closing end ∷ rest) × Closes opens rest)))
 
@@ -107,7 +107,7 @@ closes_opening at opens ws c =
     let P : List Lexeme → Type 0 = λ t. Closes opens t in
     subst P (sym whole) (closes_form opens c.1.1.0 (plain_list span c.0) c.1.1.1.1)
 
-closes : (ws : List Lexeme) (opens : List ℕ) → AreLeaves ws → first_fault ws opens ≡ None → Closes opens ws
+pub closes : (ws : List Lexeme) (opens : List ℕ) → AreLeaves ws → first_fault ws opens ≡ None → Closes opens ws
 closes [] [] leaves none = (no_forms, refl)
 closes [] (start ∷ opens) leaves none = absurd (fault_clash (Some (record { kind = Unclosed; at = start })) (record { kind = Unclosed; at = start }) none refl)
 closes (opening at ∷ ws) opens leaves none =

@@ -1,11 +1,16 @@
 -- What holds of every text.
-use Rattle.std.specs.Prelude.{◌≡◌, ℕ, ◌≤◌, None, List, ◌∷◌, ◌++◌, length}
-use Rattle.cml_text.specs.Forms.{PlainSexpr, plain_forms, all_without_spans}
+use Rattle.std.specs.Prelude.{◌≡◌, ◌⊎◌, ℕ, ◌+◌, ◌<◌, ◌≤◌, Some, None, List, [], ◌∷◌, ◌++◌, length}
+use Rattle.std.specs.Str.{IsUtf8}
+use Rattle.cml_text.specs.declared.fault.FaultKind.TheVariants.{Unclosed}
+use Rattle.cml_text.specs.Faults.{PlainFault}
+use Rattle.cml_text.specs.FirstFaults.{CanBeClosed, IsFirstFault}
+use Rattle.cml_text.specs.Forms.{PlainSexpr, plain_list, PlainForms, no_forms, forms_and, plain_forms, nesting_of, nowhere, all_without_spans}
 use Rattle.cml_text.specs.Grammar.{HaveNoLineFeed, IsGrammatical}
+use Rattle.cml_text.specs.Lexemes.{lexemes}
 use Rattle.cml_text.specs.Limits.{AreWithinLimits}
 use Rattle.cml_text.specs.Lines.{line, lines}
 use Rattle.cml_text.specs.Printed.{printed, printed_line}
-use Rattle.cml_text.specs.Sizes.{text_limit}
+use Rattle.cml_text.specs.Sizes.{text_limit, nesting_limit}
 use Rattle.cml_text.specs.Spans.{AreAtSpans}
 use Rattle.cml_text.specs.Texts.{Spells, fault_of}
 
@@ -55,3 +60,24 @@ PrintedLineIsRead = (forms : List PlainSexpr) → AreWithinLimits forms → leng
 -- and no line feed is in it
 abbrev pub PrintedLineIsOneLine : Type 0
 PrintedLineIsOneLine = (forms : List PlainSexpr) → AreWithinLimits forms → HaveNoLineFeed (printed_line forms)
+
+-- the text spells these forms, spans aside
+abbrev pub SpellsAside : List ℕ → PlainForms → Type 0
+SpellsAside text forms = (found : List PlainSexpr) × Spells text found × (all_without_spans (plain_forms found) ≡ forms)
+
+-- The text between parentheses. A line feed stands behind it, since a text may end with a comment.
+abbrev pub in_parentheses : List ℕ → List ℕ
+in_parentheses text = 40 ∷ (line text ++ 41 ∷ [])
+
+-- A text in parentheses spells the list of these forms exactly where the text alone spells them and they nest one less deep than may
+-- be, spans aside; where there is room for the parentheses.
+abbrev pub AListIsItsForms : Type 0
+AListIsItsForms = (text : List ℕ) (forms : PlainForms) → length text + 3 ≤ text_limit →
+    (SpellsAside text forms × (nesting_of forms < nesting_limit) → SpellsAside (in_parentheses text) (forms_and (plain_list nowhere forms) no_forms))
+    × (SpellsAside (in_parentheses text) (forms_and (plain_list nowhere forms) no_forms) → SpellsAside text forms × (nesting_of forms < nesting_limit))
+
+-- Of a text that is UTF-8 and not too long, the fault is that of the first word with which, whatever follows, no forms are spelled: the
+-- words before it could still become forms. Or the end is at fault, and only closing parentheses are missing.
+abbrev pub FaultIsFirst : Type 0
+FaultIsFirst = (text : List ℕ) (fault : PlainFault) → length text ≤ text_limit → IsUtf8 text → fault_of text ≡ Some fault →
+    IsFirstFault (lexemes 0 0 text) fault ⊎ (CanBeClosed (lexemes 0 0 text) × (fault.kind ≡ Unclosed))

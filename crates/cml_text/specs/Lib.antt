@@ -11,6 +11,7 @@ pub mod Grammar
 pub mod Steps
 pub mod Nests
 pub mod Answers
+pub mod FirstFaults
 pub mod Laws
 pub mod Printed
 pub mod Limits

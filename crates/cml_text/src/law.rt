@@ -1,5 +1,5 @@
 //! What holds of every text. Each function does nothing, and its contract is the law.
-ghost use Rattle.cml_text.specs.Laws.{SpellsOneAtMost, SpelledHasNoFault, SpelledOrFaulty, EachAtItsSpan, PrintedIsRead, SpellsByTheGrammar, SpelledIsWithinLimits, PrintedAgainIsSame, WrittenLineIsFirst, PrintedLineIsRead, PrintedLineIsOneLine};
+ghost use Rattle.cml_text.specs.Laws.{SpellsOneAtMost, SpelledHasNoFault, SpelledOrFaulty, EachAtItsSpan, PrintedIsRead, SpellsByTheGrammar, SpelledIsWithinLimits, PrintedAgainIsSame, WrittenLineIsFirst, PrintedLineIsRead, PrintedLineIsOneLine, AListIsItsForms, FaultIsFirst};
 
 /// A text spells at most one list of forms, and only one way: the spans are told too.
 pub fn spells_one_at_most()
@@ -54,4 +54,14 @@ pub fn printed_line_is_read()
 /// What is printed on one line has no line feed in it.
 pub fn printed_line_is_one_line()
     ensures { PrintedLineIsOneLine }
+{}
+
+/// A text in parentheses spells a list exactly where the text alone spells the list's forms, one less deep than may be.
+pub fn a_list_is_its_forms()
+    ensures { AListIsItsForms }
+{}
+
+/// The fault of a text is that of the first word with which nothing can become forms any more, or only closing parentheses are missing.
+pub fn fault_is_first()
+    ensures { FaultIsFirst }
 {}

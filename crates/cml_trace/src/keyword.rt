@@ -1,6 +1,7 @@
 //! The keywords of a trace.
 
-ghost use Rattle.std.specs.Prelude.{◌≡◌, option_map};
+ghost use Rattle.std.specs.Prelude.{◌≡◌, find, option_map};
+ghost use Rattle.std.specs.Str.{bytes_eq};
 ghost use Rattle.cml_trace.specs.Keywords as spec;
 
 use cml_text::{Sexpr, Shape};
@@ -47,48 +48,6 @@ pub enum Keyword {
     Pair,
     Thread,
 }
-
-// Each keyword once.
-const KEYWORDS: [Keyword; 38] = [
-    Keyword::Spawn,
-    Keyword::Chan,
-    Keyword::IVar,
-    Keyword::MVar,
-    Keyword::Mailbox,
-    Keyword::Mchan,
-    Keyword::Port,
-    Keyword::Copy,
-    Keyword::IPut,
-    Keyword::MPut,
-    Keyword::Mail,
-    Keyword::Multicast,
-    Keyword::Nack,
-    Keyword::Sync,
-    Keyword::Rows,
-    Keyword::Commit,
-    Keyword::End,
-    Keyword::Clock,
-    Keyword::Never,
-    Keyword::Choose,
-    Keyword::Wrap,
-    Keyword::Scope,
-    Keyword::Always,
-    Keyword::Send,
-    Keyword::Recv,
-    Keyword::IGet,
-    Keyword::MTake,
-    Keyword::MGet,
-    Keyword::MSwap,
-    Keyword::MailRecv,
-    Keyword::PortRecv,
-    Keyword::Join,
-    Keyword::At,
-    Keyword::After,
-    Keyword::True,
-    Keyword::False,
-    Keyword::Pair,
-    Keyword::Thread,
-];
 
 impl Keyword {
     /// How the keyword is spelled.
@@ -138,11 +97,59 @@ impl Keyword {
     }
 }
 
+// The keywords that start with an `m`.
+const STARTING_WITH_M: [Keyword; 10] = [
+    Keyword::MVar,
+    Keyword::Mailbox,
+    Keyword::Mchan,
+    Keyword::MPut,
+    Keyword::Mail,
+    Keyword::Multicast,
+    Keyword::MTake,
+    Keyword::MGet,
+    Keyword::MSwap,
+    Keyword::MailRecv,
+];
+
 /// The keyword that is spelled so, if one is.
 pub fn keyword_of(name: &str) -> Option<Keyword>
     ensures { result ≡ spec.keyword_of name.now }
 {
-    KEYWORDS
+    match name.as_bytes().first().copied() {
+        Some(b'a') => among(name, &[Keyword::Always, Keyword::At, Keyword::After]),
+        Some(b'c') => among(
+            name,
+            &[
+                Keyword::Chan,
+                Keyword::Copy,
+                Keyword::Commit,
+                Keyword::Clock,
+                Keyword::Choose,
+            ],
+        ),
+        Some(b'e') => among(name, &[Keyword::End]),
+        Some(b'f') => among(name, &[Keyword::False]),
+        Some(b'i') => among(name, &[Keyword::IVar, Keyword::IPut, Keyword::IGet]),
+        Some(b'j') => among(name, &[Keyword::Join]),
+        Some(b'm') => among(name, &STARTING_WITH_M),
+        Some(b'n') => among(name, &[Keyword::Nack, Keyword::Never]),
+        Some(b'p') => among(name, &[Keyword::Port, Keyword::PortRecv, Keyword::Pair]),
+        Some(b'r') => among(name, &[Keyword::Rows, Keyword::Recv]),
+        Some(b's') => among(
+            name,
+            &[Keyword::Spawn, Keyword::Sync, Keyword::Scope, Keyword::Send],
+        ),
+        Some(b't') => among(name, &[Keyword::True, Keyword::Thread]),
+        Some(b'w') => among(name, &[Keyword::Wrap]),
+        _ => None,
+    }
+}
+
+// The first of the keywords that is spelled so, if one is.
+fn among(name: &str, keywords: &[Keyword]) -> Option<Keyword>
+    ensures { result ≡ find (λ keyword. bytes_eq (spec.spelling keyword) name.now) keywords.now }
+{
+    keywords
         .iter()
         .copied()
         .find(|keyword| keyword.spelling() == name)

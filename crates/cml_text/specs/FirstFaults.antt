@@ -1,0 +1,36 @@
+-- What the first fault of a text is, said of its words as a whole.
+use Rattle.std.specs.Prelude.{◌≡◌, ℕ, ◌-◌, ◌≤◌, List, [], ◌∷◌, ◌++◌, map}
+use Rattle.cml_text.specs.declared.fault.FaultKind.TheVariants.{Stray, Deep}
+use Rattle.cml_text.specs.Sizes.{nesting_limit}
+use Rattle.cml_text.specs.Faults.{PlainFault}
+use Rattle.cml_text.specs.Forms.{PlainForms, nesting_of}
+use Rattle.cml_text.specs.Lexemes.{Lexeme, opening, closing, leaf, faulty}
+use Rattle.cml_text.specs.Texts.{words_of}
+
+-- with closing parentheses behind them, or as they are, the words spell forms
+pub record CanBeClosed (words : List Lexeme) : Type 0 where
+  pub ends : List ℕ
+  pub forms : PlainForms
+  pub spelled : words ++ map closing ends ≡ words_of forms
+  pub shallow : nesting_of forms ≤ nesting_limit
+
+-- whatever stands behind them, the words spell no forms
+abbrev pub CannotGoOn : List Lexeme → Type 0
+CannotGoOn words = (rest : List Lexeme) (forms : PlainForms) → nesting_of forms ≤ nesting_limit → words ++ rest ≡ words_of forms → ⊥
+
+-- The fault is this word's: a parenthesis that opens a list too deep, one that closes nothing, or what is no word.
+abbrev pub IsAtFault : Lexeme → PlainFault → Type 0
+IsAtFault (opening at) fault = fault ≡ record { kind = Deep; at = at }
+IsAtFault (closing end) fault = fault ≡ record { kind = Stray; at = end - 1 }
+IsAtFault (leaf form) fault = ⊥
+IsAtFault (faulty found) fault = fault ≡ found
+
+-- What stands before the word at fault could still become forms, and with it nothing can.
+pub record IsFirstFault (words : List Lexeme) (fault : PlainFault) : Type 0 where
+  pub before : List Lexeme
+  pub word : Lexeme
+  pub behind : List Lexeme
+  pub parts : words ≡ before ++ word ∷ behind
+  pub begun : CanBeClosed before
+  pub refused : CannotGoOn (before ++ word ∷ [])
+  pub is : IsAtFault word fault
