@@ -1,8 +1,8 @@
 //! A message to every port of a multicast channel.
 
-ghost use Rattle.std.specs.Prelude.{◌≡◌, ◌<◌, false, length, replicate, IfOk, OnOk, All, AllPairs};
+ghost use Rattle.std.specs.Prelude.{◌≡◌, ◌<◌, ◌≤◌, false, length, replicate, IfOk, OnOk, OnErr, All, AllPairs};
 ghost use Rattle.cml_base.specs.Feeds.{Feeds};
-ghost use Rattle.cml_base.specs.Registered.{HasRoomAt, KeepsOthers};
+ghost use Rattle.cml_base.specs.Registered.{HasRoomAt, KeepsRoom, KeepsOthers};
 ghost use Rattle.cml_queues.specs.Queues.{is_full_at, added_at};
 ghost use Rattle.cml_queues.specs.Posts.{numbers, unread, port_has_room, any_is_full as spec_any_is_full, posted, post_outcome, says_full};
 
@@ -15,7 +15,8 @@ use std::alloc::{AllocError, Global};
 /// Puts the message behind the unread ones of every port of the channel, or of none. A channel without ports drops it.
 ///
 /// # Errors
-/// `Full` where any of the ports is full, and want of memory: the message comes back, and nothing changes.
+/// `Full` where any of the ports is full, and want of memory: the message comes back, and nothing changes. What room there was
+/// stays.
 pub fn post(
     alloc: Global,
     channel: &Multicast,
@@ -28,6 +29,8 @@ pub fn post(
         Feeds result outcome message old (unread ports.new.objects) }
     ensures len { length ports.new.objects ≡ length ports.old.objects }
     ensures waits { ports.new.waits ≡ ports.old.waits }
+    ensures kept_make { ports.old.room ≤ ports.new.room }
+    ensures kept_feed { OnErr result (KeepsRoom port_has_room ports.old.objects ports.new.objects) }
 {
     match prepare(alloc, channel, ports, &message) {
         Ok(copies) => {
@@ -52,7 +55,7 @@ pub enum PostFault {
 /// `deliver` takes no memory, so that between the two a table can be told which ports get their first message.
 ///
 /// # Errors
-/// `Full` exactly where any of the ports is full, and want of memory.
+/// `Full` exactly where any of the ports is full, and want of memory. What room there was stays.
 pub fn prepare(
     alloc: Global,
     channel: &Multicast,
@@ -69,6 +72,8 @@ pub fn prepare(
     ensures unread { unread ports.new.objects ≡ unread ports.old.objects }
     ensures len { length ports.new.objects ≡ length ports.old.objects }
     ensures waits { ports.new.waits ≡ ports.old.waits }
+    ensures kept_make { ports.old.room ≤ ports.new.room }
+    ensures kept_feed { KeepsRoom port_has_room ports.old.objects ports.new.objects }
 {
     let ids = channel.ports();
     if any_is_full(ports, ids) {
@@ -94,6 +99,7 @@ pub fn deliver(channel: &Multicast, ports: &mut Register<Port>, message: &Value,
         ≡ posted message.now (numbers channel.now.ports) (unread ports.old.objects) }
     ensures len { length ports.new.objects ≡ length ports.old.objects }
     ensures waits { ports.new.waits ≡ ports.old.waits }
+    ensures kept_make { ports.new.room ≡ ports.old.room }
 {
     feed_all(ports, channel.ports(), message, copies);
 }
@@ -137,6 +143,8 @@ fn make_room(ports: &mut Register<Port>, ids: &[PortId]) -> Result<(), AllocErro
     requires once { AllPairs (λ a b. a.0 < b.0) ids.now }
     ensures unread { unread ports.new.objects ≡ unread ports.old.objects }
     ensures waits { ports.new.waits ≡ ports.old.waits }
+    ensures kept_make { ports.old.room ≤ ports.new.room }
+    ensures kept_feed { KeepsRoom port_has_room ports.old.objects ports.new.objects }
     ensures len { length ports.new.objects ≡ length ports.old.objects }
     ensures ok { OnOk result (All (λ id. HasRoomAt port_has_room ports.new.objects id.0) ids.now) }
 {
@@ -157,6 +165,7 @@ fn feed_all(ports: &mut Register<Port>, ids: &[PortId], message: &Value, mut cop
         ≡ posted message.now (numbers ids.now) (unread ports.old.objects) }
     ensures len { length ports.new.objects ≡ length ports.old.objects }
     ensures waits { ports.new.waits ≡ ports.old.waits }
+    ensures kept_make { ports.new.room ≡ ports.old.room }
 {
     for id in ids {
         let Some(copy) = copies.pop() else {
@@ -175,6 +184,7 @@ fn feed_one(ports: &mut Register<Port>, id: PortId, message: Value)
     ensures len { length ports.new.objects ≡ length ports.old.objects }
     ensures others { KeepsOthers ports.old.objects ports.new.objects id.0 }
     ensures waits { ports.new.waits ≡ ports.old.waits }
+    ensures kept_make { ports.new.room ≡ ports.old.room }
 {
     let _ = ports.feed(id.0, message);
 }

@@ -1,6 +1,6 @@
 //! Multicast channels.
 
-ghost use Rattle.std.specs.Prelude.{◌≡◌, ◌<◌, ◌++◌, ◌∷◌, [], OnOk, OnErr, IsOk, All, AllPairs};
+ghost use Rattle.std.specs.Prelude.{◌≡◌, ◌<◌, ◌≤◌, ◌+◌, ◌++◌, ◌∷◌, [], OnOk, OnErr, IsOk, All, AllPairs};
 
 use cml_value::PortId;
 use std::alloc::{AllocError, Global};
@@ -44,24 +44,27 @@ impl Multicast {
     /// One more port, of a number above those of the others.
     ///
     /// # Errors
-    /// Want of memory, but for a `room` before it: nothing changes.
+    /// Want of memory, but for a `room` before it: nothing changes, and what room there was stays.
     pub fn add(&mut self, port: PortId) -> Result<(), AllocError>
         requires { All (λ other. other.0 < port.0) self.old.ports }
         ensures ok { OnOk result (self.new.ports ≡ self.old.ports ++ port ∷ []) }
         ensures err { OnErr result (self.new.ports ≡ self.old.ports) }
         ensures room { 0 < self.old.room → IsOk result }
+        ensures kept { self.old.room ≤ self.new.room + 1 }
+        ensures kept_err { OnErr result (self.old.room ≤ self.new.room) }
     {
         self.ports.push(port)?;
         Ok(())
     }
 
-    /// Makes room: the next `add` takes no memory.
+    /// Makes room: the next `add` takes no memory. What room there was stays, also at an error.
     ///
     /// # Errors
     /// Want of memory.
     pub fn room(&mut self) -> Result<(), AllocError>
         ensures ports { self.new.ports ≡ self.old.ports }
         ensures ok { OnOk result (0 < self.new.room) }
+        ensures kept { self.old.room ≤ self.new.room }
     {
         self.ports.reserve(1)
     }

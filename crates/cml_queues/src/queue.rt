@@ -1,6 +1,6 @@
 //! Values in the order in which they came.
 
-ghost use Rattle.std.specs.Prelude.{◌≡◌, ◌<◌, [], drop, replicate, IsTrue, IfOk, OnOk};
+ghost use Rattle.std.specs.Prelude.{◌≡◌, ◌<◌, ◌≤◌, [], drop, IsTrue, IfOk, OnOk, OnErr};
 ghost use Rattle.cml_base.specs.Feeds.{Feeds, WantsNoMemory};
 ghost use Rattle.cml_queues.specs.Queues.{is_filled, is_at_limit, first_of, queued};
 
@@ -66,6 +66,7 @@ impl Queue {
     pub(crate) fn push(&mut self, value: Value) -> Result<(), FeedFault<Value>>
         ensures items { Feeds result (queued self.old.items value) value self.old.items self.new.items }
         ensures room { 0 < self.old.room → WantsNoMemory result }
+        ensures kept { OnErr result (self.old.room ≤ self.new.room) }
     {
         if self.is_full() {
             return Err(FeedFault::Full(value));
@@ -81,6 +82,7 @@ impl Queue {
         requires { IsTrue (is_filled self.old.items) }
         ensures value { result ≡ first_of self.old.items }
         ensures rest { self.new.items ≡ drop 1 self.old.items }
+        ensures kept { self.old.room ≤ self.new.room }
     {
         self.items.pop_front().unwrap()
     }
@@ -89,6 +91,7 @@ impl Queue {
     pub(crate) fn reserve(&mut self) -> Result<(), AllocError>
         ensures items { self.new.items ≡ self.old.items }
         ensures room { OnOk result (0 < self.new.room) }
+        ensures kept { self.old.room ≤ self.new.room }
     {
         self.items.reserve(1)
     }

@@ -15,6 +15,7 @@ loop-id-preserved c =
       left = rw (c.feed_one.ensures.unread, h.1) (rw (drop_more ids i none c.loop-id-test.true) at c.loop-id.invariant.left);
       copied = (let e : length ids - (i + 1) ≡ length ids - i - 1 = omega arith in rw e h.0);
       waits = search rules;
+      spare = search rules;
       len = search rules;
       room = λ k a b. rw (c.feed_one.ensures.others (get_or ids k none).0 (apart k a b)) (c.loop-id.invariant.room k (omega arith) b);
       open_left = λ k a b. full_same c.loop-id.ports.objects c.feed_one.new.ports.objects (get_or ids k none).0 (c.feed_one.ensures.others (get_or ids k none).0 (apart k a b)) ∙ c.loop-id.invariant.open_left k (omega arith) b;

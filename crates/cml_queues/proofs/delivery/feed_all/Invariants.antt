@@ -11,6 +11,7 @@ invariant-loop-id l =
       left : posted l.message (numbers (drop l.id-index l.ids)) (unread l.ports.objects) ≡ posted l.message (numbers l.ids) (unread l.initial.ports.objects);
       copied : l.copies.items ≡ replicate (length l.ids - l.id-index) l.message;
       waits : l.ports.waits ≡ l.initial.ports.waits;
+      spare : l.ports.room ≡ l.initial.ports.room;
       len : length l.ports.objects ≡ length l.initial.ports.objects;
       room : (k : ℕ) → l.id-index ≤ k → k < length l.ids → HasRoomAt port_has_room l.ports.objects (get_or l.ids k none).0;
       open_left : (k : ℕ) → l.id-index ≤ k → k < length l.ids → is_full_at (unread l.ports.objects) (get_or l.ids k none).0 ≡ false;
