@@ -21,7 +21,11 @@ mod machines;
 #[cfg(test)]
 mod making;
 #[cfg(test)]
+mod reports;
+#[cfg(test)]
 mod scans;
+#[cfg(test)]
+mod schedules;
 #[cfg(test)]
 mod tables;
 #[cfg(test)]
