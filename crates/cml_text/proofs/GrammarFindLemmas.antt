@@ -126,7 +126,7 @@ found_separator ending at b bytes forms ws is f =
       stands = f.stands;
     }
 
-line_feed : (b : ℕ) → is_comment_byte b ≡ false → b ≡ 10
+pub line_feed : (b : ℕ) → is_comment_byte b ≡ false → b ≡ 10
 line_feed b e = grind (arith, nat_tests)
 
 found_last_comment : (ending : Ending) (at : ℕ) (text bytes : List ℕ) (forms : PlainForms) (ws : List Lexeme) → text ≡ 59 ∷ (bytes ++ []) → list_all is_comment_byte bytes ≡ true →
@@ -220,12 +220,12 @@ found_list fuel find ending at text bytes forms ws small end is e =
     (subst P (sym (append_assoc m.front (41 ∷ []) f.front)) (Gives.list ending at m.front f.front l.members l.others m.given f.given))
 
 -- What a closed literal stands for.
-record ClosedAt (bytes content : List ℕ) (more : ℕ) : Type 0 where
-  spelling : List ℕ
-  rest : List ℕ
-  parts : bytes ≡ spelling ++ 34 ∷ rest
-  count : more ≡ length spelling + 1
-  stands : StandsFor spelling content
+pub record ClosedAt (bytes content : List ℕ) (more : ℕ) : Type 0 where
+  pub spelling : List ℕ
+  pub rest : List ℕ
+  pub parts : bytes ≡ spelling ++ 34 ∷ rest
+  pub count : more ≡ length spelling + 1
+  pub stands : StandsFor spelling content
 
 closed_quote : (b : ℕ) (bytes content : List ℕ) (more : ℕ) → eqb b 34 ≡ true → literal (b ∷ bytes) ≡ closed content more → ClosedAt (b ∷ bytes) content more
 closed_quote b bytes content more is e =
@@ -251,7 +251,7 @@ closed_behind b bytes content more t t2 e go =
       stands = subst (StandsFor (b ∷ l.spelling)) (sym i.1.1.1.0) (StandsFor.itself b l.spelling i.0 quote backslash l.stands);
     }
 
-closed_at : (bytes content : List ℕ) (more : ℕ) → literal bytes ≡ closed content more → ClosedAt bytes content more
+pub closed_at : (bytes content : List ℕ) (more : ℕ) → literal bytes ≡ closed content more → ClosedAt bytes content more
 closed_at [] content more e = let clash : endless ≡ closed content more = sym (literal_end [] refl) ∙ e in absurd (cc)
 closed_at (b ∷ []) content more e =
     elim (cases_test (eqb b 34)) [
@@ -431,15 +431,15 @@ find zero ending at (b ∷ bytes) forms ws small end e = absurd (omega arith)
 find (suc fuel) ending at (b ∷ bytes) forms ws small end e =
     found_first fuel (λ ending' at' text' forms' ws' small' end' e'. find fuel ending' at' text' forms' ws' small' end' e') ending at b bytes forms ws small end e
 
-given_whole : (text : List ℕ) (forms : PlainForms) → lexemes 0 0 text ≡ words_of forms → Gives whole_text 0 text forms
-given_whole text forms e =
+pub given_forms : (text : List ℕ) (forms : PlainForms) → lexemes 0 0 text ≡ words_of forms → Gives whole_text 0 text forms
+given_forms text forms e =
     let f = find (length text) whole_text 0 text forms [] (omega arith) refl (e ∙ sym (append-nil (words_of forms))) in
     let P : List ℕ → Type 0 = λ t. Gives whole_text 0 t forms in
     subst P (sym (f.parts ∙ ap (λ t. f.front ++ t) f.stands ∙ append-nil f.front)) f.given
 
 pub spells_by_the_grammar : SpellsByTheGrammar
 spells_by_the_grammar text forms = (
-  λ spells. record { short = spells.short; utf8 = spells.utf8; given = given_whole text (plain_forms forms) spells.spelled; shallow = spells.shallow },
+  λ spells. record { short = spells.short; utf8 = spells.utf8; given = given_forms text (plain_forms forms) spells.spelled; shallow = spells.shallow },
   λ is.
       let none : words_of (plain_forms forms) ++ lexemes 0 (0 + length text) [] ≡ words_of (plain_forms forms) =
       ap (λ ls. words_of (plain_forms forms) ++ ls) (no_words (0 + length text)) ∙ append-nil (words_of (plain_forms forms)) in

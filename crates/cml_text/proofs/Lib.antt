@@ -20,3 +20,4 @@ pub mod WithinLemmas
 pub mod OneLineLemmas
 pub mod ListLemmas
 pub mod FaultLemmas
+pub mod PrefixLemmas

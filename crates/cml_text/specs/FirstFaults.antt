@@ -1,9 +1,10 @@
 -- What the first fault of a text is, said of its words as a whole.
-use Rattle.std.specs.Prelude.{◌≡◌, ℕ, ◌-◌, ◌≤◌, List, [], ◌∷◌, ◌++◌, map}
-use Rattle.cml_text.specs.declared.fault.FaultKind.TheVariants.{Stray, Deep}
+use Rattle.std.specs.Prelude.{◌≡◌, ◌⊎◌, ℕ, ◌-◌, ◌<◌, ◌≤◌, List, [], ◌∷◌, ◌++◌, length, map}
+use Rattle.cml_text.specs.declared.fault.FaultKind.TheVariants.{Stray, Escape, Deep}
 use Rattle.cml_text.specs.Sizes.{nesting_limit}
 use Rattle.cml_text.specs.Faults.{PlainFault}
 use Rattle.cml_text.specs.Forms.{PlainForms, nesting_of}
+use Rattle.cml_text.specs.Grammar.{whole_text, Gives}
 use Rattle.cml_text.specs.Lexemes.{Lexeme, opening, closing, leaf, faulty}
 use Rattle.cml_text.specs.Texts.{words_of}
 
@@ -34,3 +35,18 @@ pub record IsFirstFault (words : List Lexeme) (fault : PlainFault) : Type 0 wher
   pub begun : CanBeClosed before
   pub refused : CannotGoOn (before ++ word ∷ [])
   pub is : IsAtFault word fault
+
+-- With a closing parenthesis for each list that is open, the grammar gives the text forms, which are not too deep.
+pub record CanBeCompleted (text : List ℕ) : Type 0 where
+  pub opens : List ℕ
+  pub forms : PlainForms
+  pub given : Gives whole_text 0 (text ++ map (λ start. 41) opens) forms
+  pub shallow : nesting_of forms ≤ nesting_limit
+
+-- The text goes on so far before the word at fault: the fault stands right behind, or in the text literal that begins there.
+pub record StandsBefore (text : List ℕ) (fault : PlainFault) : Type 0 where
+  pub front : List ℕ
+  pub behind : List ℕ
+  pub parts : text ≡ front ++ behind
+  pub begun : CanBeCompleted front
+  pub place : (fault.at ≡ length front) ⊎ ((fault.kind ≡ Escape) × (length front < fault.at))

@@ -1,9 +1,9 @@
 -- What holds of every text.
-use Rattle.std.specs.Prelude.{◌≡◌, ◌⊎◌, ℕ, ◌+◌, ◌<◌, ◌≤◌, Some, None, List, [], ◌∷◌, ◌++◌, length}
+use Rattle.std.specs.Prelude.{◌≡◌, ◌≢◌, ◌⊎◌, ℕ, ◌+◌, ◌<◌, ◌≤◌, Some, None, List, [], ◌∷◌, ◌++◌, length}
 use Rattle.std.specs.Str.{IsUtf8}
 use Rattle.cml_text.specs.declared.fault.FaultKind.TheVariants.{Unclosed}
 use Rattle.cml_text.specs.Faults.{PlainFault}
-use Rattle.cml_text.specs.FirstFaults.{CanBeClosed, IsFirstFault}
+use Rattle.cml_text.specs.FirstFaults.{CanBeClosed, IsFirstFault, StandsBefore}
 use Rattle.cml_text.specs.Forms.{PlainSexpr, plain_list, PlainForms, no_forms, forms_and, plain_forms, nesting_of, nowhere, all_without_spans}
 use Rattle.cml_text.specs.Grammar.{HaveNoLineFeed, IsGrammatical}
 use Rattle.cml_text.specs.Lexemes.{lexemes}
@@ -81,3 +81,8 @@ AListIsItsForms = (text : List ℕ) (forms : PlainForms) → length text + 3 ≤
 abbrev pub FaultIsFirst : Type 0
 FaultIsFirst = (text : List ℕ) (fault : PlainFault) → length text ≤ text_limit → IsUtf8 text → fault_of text ≡ Some fault →
     IsFirstFault (lexemes 0 0 text) fault ⊎ (CanBeClosed (lexemes 0 0 text) × (fault.kind ≡ Unclosed))
+
+-- What stands before a fault could still become forms: closing parentheses make it a text of the grammar. A fault at the end aside.
+abbrev pub BeforeFaultIsBegun : Type 0
+BeforeFaultIsBegun = (text : List ℕ) (fault : PlainFault) → length text ≤ text_limit → IsUtf8 text → fault_of text ≡ Some fault → fault.kind ≢ Unclosed →
+    StandsBefore text fault

@@ -1,5 +1,5 @@
 //! What holds of every text. Each function does nothing, and its contract is the law.
-ghost use Rattle.cml_text.specs.Laws.{SpellsOneAtMost, SpelledHasNoFault, SpelledOrFaulty, EachAtItsSpan, PrintedIsRead, SpellsByTheGrammar, SpelledIsWithinLimits, PrintedAgainIsSame, WrittenLineIsFirst, PrintedLineIsRead, PrintedLineIsOneLine, AListIsItsForms, FaultIsFirst};
+ghost use Rattle.cml_text.specs.Laws.{SpellsOneAtMost, SpelledHasNoFault, SpelledOrFaulty, EachAtItsSpan, PrintedIsRead, SpellsByTheGrammar, SpelledIsWithinLimits, PrintedAgainIsSame, WrittenLineIsFirst, PrintedLineIsRead, PrintedLineIsOneLine, AListIsItsForms, FaultIsFirst, BeforeFaultIsBegun};
 
 /// A text spells at most one list of forms, and only one way: the spans are told too.
 pub fn spells_one_at_most()
@@ -64,4 +64,9 @@ pub fn a_list_is_its_forms()
 /// The fault of a text is that of the first word with which nothing can become forms any more, or only closing parentheses are missing.
 pub fn fault_is_first()
     ensures { FaultIsFirst }
+{}
+
+/// What stands before a fault of a text could still become forms, a fault at the end aside.
+pub fn before_fault_is_begun()
+    ensures { BeforeFaultIsBegun }
 {}
