@@ -1,11 +1,12 @@
 -- What a book keeps at all times.
-use Rattle.std.specs.Prelude.{ℕ, ◌≡◌, ◌+◌, ◌*◌, ◌≤◌, ◌==◌, Bool, true, false, not, List, length, All, Option, Some, slice_get, count_by}
+use Rattle.std.specs.Prelude.{ℕ, ◌≡◌, ◌+◌, ◌*◌, ◌≤◌, ◌==◌, Bool, true, false, not, List, [], length, All, Option, Some, slice_get, count_by}
 use Rattle.std.specs.List.{flat_map, filter_map}
 use Rattle.cml_value.specs.Group.{PlainGroup, scopes, nacks_of, leaf_count}
 use Rattle.cml_group.specs.LaidOut.{max_leaves}
 use Rattle.cml_scan.specs.World.{PlainThread, PlainNack, fresh_of, live, PlainWorld, PlainEntry, pending, pending_from}
 use Rattle.cml_scan.specs.Table.{TellsLights}
 use Rattle.cml_value.specs.Value.{PlainBase, at_tick}
+use Rattle.cml_base.specs.Registered.{PlainWait}
 use Rattle.cml_signal.specs.Clocks.{leaves_at}
 use Rattle.cml_scan.specs.Light.{light as light_seen}
 use Rattle.cml_scan.specs.declared.object.Light.{Light}
@@ -64,6 +65,14 @@ times_awaited t bs = count_by (awaits_tick t) bs
 pub record Counts (threads : List PlainThread) (waited : List (ℕ × ℕ)) : Type 0 where
   pub counted : (t : ℕ) → leaves_at waited t ≡ times_awaited t (bases_awaited (pending_from 0 threads))
   pub narrow : All (λ e. leaf_count e.group ≤ max_leaves) (pending_from 0 threads)
+
+-- The registers were told no waiters: who waits for which object is the table's knowledge alone.
+pub record AreUntold (ivars mvars mailboxes ports nacks : List PlainWait) : Type 0 where
+  pub untold_ivars : ivars ≡ []
+  pub untold_mvars : mvars ≡ []
+  pub untold_mailboxes : mailboxes ≡ []
+  pub untold_ports : ports ≡ []
+  pub untold_nacks : nacks ≡ []
 
 -- each of these nacks is live, and named once
 pub record AreLive (ks : List ℕ) (ns : List PlainNack) : Type 0 where

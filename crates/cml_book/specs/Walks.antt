@@ -1,6 +1,7 @@
 -- What a thread and its group are asked before it waits.
 use Rattle.std.specs.Prelude.{ℕ, Bool, true, false, not, nat_lt, Option, None, slice_get}
 use Rattle.std.specs.List.{list_any}
+use Rattle.std.specs.Option.{option_map_or}
 use Rattle.cml_value.specs.Group.{PlainGroup, bases, leaf_count, group_fits}
 use Rattle.cml_group.specs.LaidOut.{max_leaves}
 use Rattle.cml_scan.specs.World.{PlainThread, running, PlainWorld}
@@ -14,6 +15,10 @@ use Rattle.cml_book.specs.Sync.{group_exists}
 abbrev pub runs : PlainThread → Bool
 runs running = true
 runs _ = false
+
+-- there is a thread of this number, and it runs
+abbrev pub is_running : PlainWorld → ℕ → Bool
+is_running w t = option_map_or runs (slice_get w.threads t) false
 
 -- the first refusal of a wait but the last one, which speaks of the nacks of the scopes
 abbrev pub shape_refusal : PlainWorld → ℕ → PlainGroup → Option Refusal

@@ -14,6 +14,8 @@ ghost use Rattle.cml_book.specs.Commit as commit_spec;
 ghost use Rattle.cml_book.specs.Commit.{is_reading};
 ghost use Rattle.cml_book.specs.Clock as clock_spec;
 ghost use Rattle.cml_book.specs.Clock.{IsAlarm};
+ghost use Rattle.cml_book.specs.Walks.{is_running};
+ghost use Rattle.cml_book.specs.Entering.{max_tick};
 
 use crate::command::{Committed, Resume};
 use crate::lights::Arrival;
@@ -216,9 +218,10 @@ impl<T: Table> Book<T> {
         &self.table
     }
 
-    /// The time.
+    /// The time, which is at most 2^62.
     pub fn now(&self) -> u64
-        ensures { result ≡ self.now.tick }
+        ensures time { result ≡ self.now.tick }
+        ensures limit { result ≤ max_tick }
     {
         self.state.now()
     }
@@ -244,6 +247,20 @@ impl<T: Table> Book<T> {
         ensures { result.0 ≡ length self.now.nacks }
     {
         self.state.next_nack()
+    }
+
+    /// Whether there is such a thread, and it runs.
+    pub fn is_running(&self, thread: Tid) -> bool
+        ensures { result ≡ is_running self.now thread.0 }
+    {
+        self.state.is_running(thread)
+    }
+
+    /// How many threads are pending. It takes no memory, and looks at each thread once.
+    pub fn pending_count(&self) -> usize
+        ensures { result ≡ length (pending self.now) }
+    {
+        self.state.pending_count()
     }
 
     /// The pending threads, ascending.

@@ -47,6 +47,7 @@ pub(crate) fn feed<K: Source<Feed = Value>, T: Table>(
     ensures back { IfErr result (λ back. back ≡ value) }
     ensures entries { T.entries table.new ≡ T.entries table.old }
     ensures len { length objects.new.objects ≡ length objects.old.objects }
+    ensures waits { objects.new.waits ≡ objects.old.waits }
 {
     let Ok(()) = objects.room(Some(id)) else {
         return Err(value);

@@ -63,7 +63,8 @@ fn push_light(lights: &mut Vec<Light>, nack: NackId, is_lost: bool)
 pub fn settle(cells: &mut Register<NackCell>, flat: &Flat, leaf: usize)
     requires leaf { leaf < leaf_count flat.now }
     requires alive { AreLive (nacks_of (scopes flat.now)) cells.old.objects }
-    ensures { cells.new.objects ≡ settled leaf flat.now cells.old.objects }
+    ensures objects { cells.new.objects ≡ settled leaf flat.now cells.old.objects }
+    ensures waits { cells.new.waits ≡ cells.old.waits }
 {
     let nacks = flat.scopes();
     for i in 0..nacks.len() {
@@ -73,7 +74,8 @@ pub fn settle(cells: &mut Register<NackCell>, flat: &Flat, leaf: usize)
 
 fn settle_one(cells: &mut Register<NackCell>, nack: NackId, is_lost: bool)
     requires { slice_get cells.old.objects nack.0 ≡ Some live }
-    ensures { cells.new.objects ≡ slice_set cells.old.objects nack.0 (if is_lost then fired else held) }
+    ensures objects { cells.new.objects ≡ slice_set cells.old.objects nack.0 (if is_lost then fired else held) }
+    ensures waits { cells.new.waits ≡ cells.old.waits }
 {
     if (nack.0 as usize) < cells.len() {
         let befalls = if is_lost {
@@ -88,7 +90,8 @@ fn settle_one(cells: &mut Register<NackCell>, nack: NackId, is_lost: bool)
 /// Makes these nacks live.
 pub fn enter(cells: &mut Register<NackCell>, nacks: &[NackId])
     requires { AreFresh (numbers nacks.now) cells.old.objects }
-    ensures { cells.new.objects ≡ with_each (numbers nacks.now) live cells.old.objects }
+    ensures objects { cells.new.objects ≡ with_each (numbers nacks.now) live cells.old.objects }
+    ensures waits { cells.new.waits ≡ cells.old.waits }
 {
     for nack in nacks {
         enter_one(cells, *nack);
@@ -97,7 +100,8 @@ pub fn enter(cells: &mut Register<NackCell>, nacks: &[NackId])
 
 fn enter_one(cells: &mut Register<NackCell>, nack: NackId)
     requires { is_fresh (slice_get cells.old.objects nack.0) ≡ true }
-    ensures { cells.new.objects ≡ slice_set cells.old.objects nack.0 live }
+    ensures objects { cells.new.objects ≡ slice_set cells.old.objects nack.0 live }
+    ensures waits { cells.new.waits ≡ cells.old.waits }
 {
     if (nack.0 as usize) < cells.len() {
         let _ = cells.feed(nack.0, NackFeed::Enter);

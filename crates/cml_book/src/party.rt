@@ -197,8 +197,9 @@ fn release(threads: &mut Vec<Thread>, clock: &mut Clock, thread: Tid) -> Flat
 // Makes the nacks of the group live that the thread waits on, if it does.
 fn enter_all(cells: &mut Register<NackCell>, threads: &Vec<Thread>, thread: Tid)
     requires { AreFresh (nacks_of (scopes (awaited (slice_get threads.now.items thread.0)))) cells.old.objects }
-    ensures { cells.new.objects
+    ensures objects { cells.new.objects
         ≡ with_each (nacks_of (scopes (awaited (slice_get threads.now.items thread.0)))) live cells.old.objects }
+    ensures waits { cells.new.waits ≡ cells.old.waits }
 {
     let Some(found) = threads.get(thread.0 as usize) else {
         return;

@@ -188,6 +188,7 @@ fn add_port<T: Table>(
     ensures housed { ArePorts channels.new.items homes.new.items (length ports.new.objects) }
     ensures few { length ports.new.objects ≤ max_objects }
     ensures len { length channels.new.items ≡ length channels.old.items }
+    ensures waits { ports.new.waits ≡ ports.old.waits }
 {
     let id = PortId(ports.len() as u32);
     let Ok(()) = room_at(channels, channel) else {
@@ -261,6 +262,7 @@ fn send<T: Table>(
     ensures err_told { OnErr result ((l : Light) → T.is_lit table.new l ≡ T.is_lit table.old l) }
     ensures entries { T.entries table.new ≡ T.entries table.old }
     ensures len { length ports.new.objects ≡ length ports.old.objects }
+    ensures waits { ports.new.waits ≡ ports.old.waits }
 {
     let copies = prepare(alloc, channel, ports, message)?;
     let Ok(()) = tell_first(alloc, table, ports, channel.ports()) else {

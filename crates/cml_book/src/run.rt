@@ -11,8 +11,11 @@ use cml_scan::Table;
 use std::alloc::Global;
 
 impl<T: Table> Book<T> {
-    // One command. A refusal is a reply.
-    fn perform(&mut self, alloc: Global, command: Command) -> Result<Reply, Returned<Command>>
+    /// The reply to one command, as `run` replies to each of a list. A refusal is a reply.
+    ///
+    /// # Errors
+    /// Want of memory: the command comes back, and nothing changes.
+    pub fn perform(&mut self, alloc: Global, command: Command) -> Result<Reply, Returned<Command>>
         ensures { DoesWith result command (Ok (spec.step self.old command)) self.old self.new }
     {
         match command {

@@ -3,18 +3,20 @@
 ghost use Rattle.std.specs.Prelude.{◌≡◌, ◌≢◌, ◌≤◌, Some, Err, IfOk, IfSome, IfNone, ℕ, length, map, slice_get, slice_set};
 ghost use Rattle.cml_scan.specs.World.{running, ended, pending};
 ghost use Rattle.cml_scan.specs.Light.{light_of};
+ghost use Rattle.cml_book.specs.Entering.{max_tick};
 ghost use Rattle.cml_book.specs.Outcomes as spec;
 ghost use Rattle.cml_book.specs.Outcomes.{Does, with_thread};
 ghost use Rattle.cml_book.specs.Spawn.{spawn as spawned};
 ghost use Rattle.cml_book.specs.MakeChan.{make_chan as made};
 ghost use Rattle.cml_book.specs.Nack.{nack as nack_made};
 ghost use Rattle.cml_book.specs.Clock.{IsAlarm};
+ghost use Rattle.cml_book.specs.Walks.{is_running};
 
 use crate::book::{MAX_OBJECTS, MAX_THREADS};
 use crate::marks::Marks;
 use crate::refusal::{Fault, Refusal};
 use crate::seen::{has_fired, ivar_is_full, mailbox_has_item, mvar_is_full, port_has_item};
-use crate::thread::{Thread, pending_threads};
+use crate::thread::{Thread, pending_count, pending_threads};
 use cml_base::Register;
 use cml_queues::{Mailbox, Multicast, Port};
 use cml_scan::{Light, Lights};
@@ -44,11 +46,12 @@ pub struct State {
 }
 
 impl Model for State {
-    ghost use Rattle.std.specs.Prelude.{◌≡◌, length};
+    ghost use Rattle.std.specs.Prelude.{◌≡◌, ◌≤◌, length};
     ghost use Rattle.cml_scan.specs.World.{PlainWorld};
     ghost use Rattle.cml_scan.specs.Codes.{world_code};
     ghost use Rattle.cml_book.specs.Views.{queues_of, ports_of};
-    ghost use Rattle.cml_book.specs.Keeping.{AreFew, Counts};
+    ghost use Rattle.cml_book.specs.Keeping.{AreFew, Counts, AreUntold};
+    ghost use Rattle.cml_book.specs.Entering.{max_tick};
     ghost use Rattle.cml_book.specs.Homes.{ArePorts};
 
     ghost Value = { PlainWorld };
@@ -72,7 +75,9 @@ impl Model for State {
         (length s.mailboxes.objects) (length s.mchans.items) (length s.ports.objects) (length s.nacks.objects)
         × (s.marks ≡ length s.nacks.objects)
         × ArePorts s.mchans.items s.homes.items (length s.ports.objects)
-        × Counts s.threads.items s.clock.waited };
+        × Counts s.threads.items s.clock.waited
+        × AreUntold s.ivars.waits s.mvars.waits s.mailboxes.waits s.ports.waits s.nacks.waits
+        × (s.clock.tick ≤ max_tick) };
 }
 
 impl State {
@@ -97,9 +102,10 @@ impl State {
         }
     }
 
-    /// The time.
+    /// The time, which is at most 2^62.
     pub fn now(&self) -> u64
-        ensures { result ≡ self.now.tick }
+        ensures time { result ≡ self.now.tick }
+        ensures limit { result ≤ max_tick }
     {
         self.clock.now()
     }
@@ -127,6 +133,23 @@ impl State {
     {
         let next = self.nacks.len();
         NackId(next as u32)
+    }
+
+    /// Whether there is such a thread, and it runs.
+    pub fn is_running(&self, thread: Tid) -> bool
+        ensures { result ≡ is_running self.now thread.0 }
+    {
+        match self.threads.get(thread.0 as usize) {
+            Some(found) => found.is_running(),
+            None => false,
+        }
+    }
+
+    /// How many threads are pending.
+    pub fn pending_count(&self) -> usize
+        ensures { result ≡ length (pending self.now) }
+    {
+        pending_count(&self.threads)
     }
 
     /// The pending threads, ascending.
@@ -199,9 +222,10 @@ impl State {
         put(&mut self.threads, thread, Thread::ended());
     }
 
-    /// The clock comes to this tick.
+    /// The clock comes to this tick, which is at most 2^62.
     pub fn advance(&mut self, to: u64)
-        requires { self.old.tick ≤ to }
+        requires later { self.old.tick ≤ to }
+        requires limit { to ≤ max_tick }
         ensures { self.new ≡ record self.old { tick = to } }
     {
         self.clock.advance(to);

@@ -121,3 +121,16 @@ pub fn pending_threads(alloc: Global, threads: &[Thread]) -> Result<Vec<Tid>, Al
     }
     Ok(tids)
 }
+
+/// How many threads are pending.
+pub fn pending_count(threads: &[Thread]) -> usize
+    ensures { result ≡ length (pending_from 0 threads.now) }
+{
+    let mut count = 0;
+    for i in 0..threads.len() {
+        if threads[i].flat().is_some() {
+            count += 1;
+        }
+    }
+    count
+}

@@ -15,5 +15,5 @@ loop-nack-preserved c =
     let k = slice_index_or ks i (record { 0 = 0 }) in
     let fresh = subst (λ xs. AreFresh (numbers xs) c.loop-nack.cells.objects) found c.loop-nack.invariant.fresh in
     let leads = ap (λ xs. with_each (numbers xs) live c.loop-nack.cells.objects) (sym found) ∙ c.loop-nack.invariant.leads in
-    rw (add-one, c.enter_one.ensures)
-    (record { leads = leads; fresh = rest_fresh k.0 (numbers (drop (suc i) ks)) c.loop-nack.cells.objects live fresh })
+    rw (add-one, c.enter_one.ensures.objects)
+    (record { leads = leads; fresh = rest_fresh k.0 (numbers (drop (suc i) ks)) c.loop-nack.cells.objects live fresh; waits = c.enter_one.ensures.waits ∙ c.loop-nack.invariant.waits })

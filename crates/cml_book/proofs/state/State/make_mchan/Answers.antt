@@ -28,6 +28,8 @@ invariant_of-self-2 c =
       c.self.invariant.1,
       ports_stay s.mchans.items c.push_reserved.new.self.items s.homes.items _ c.self.invariant.2 more,
       c.self.invariant.3,
+      c.self.invariant.4,
+      c.self.invariant.5,
     )
 
 pub returns-clause-kept : goal.returns-clause-kept

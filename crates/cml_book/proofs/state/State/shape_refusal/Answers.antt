@@ -16,7 +16,7 @@ returns-then-not-all_bases-2 c =
     let g = c.args.group.now in
     let exists : group_exists w g ≡ true = rw (sym c.all_bases.ensures ∙ c.if-not-all_bases.false, sym c.all_nacks.ensures ∙ c.if-not-all_nacks.false) refl in
     let far : list_any (is_far w.tick) (bases g) ≡ true =
-    ap (λ t. list_any (is_far t) (bases g)) (sym c.now.ensures) ∙ any_far c.now.result (bases g) ∙ ap not (sym c.all_bases-2.ensures ∙ c.if-not-all_bases-2.true) in
+    ap (λ t. list_any (is_far t) (bases g)) (sym c.now.ensures.time) ∙ any_far c.now.result (bases g) ∙ ap not (sym c.all_bases-2.ensures ∙ c.if-not-all_bases-2.true) in
     sym (past_four (thread_refusal (slice_get w.threads c.args.thread.0)) (group_exists w g) (nat_lt max_leaves (leaf_count g)) (group_fits g) (list_any (is_far w.tick) (bases g)) _
     (sym c.thread_refusal.ensures ∙ c.in_default.is) exists (sym c.has_few_leaves.ensures ∙ c.if-not-has_few_leaves.false) (sym c.fits.ensures ∙ c.if-not-fits.false) far)
 
@@ -26,6 +26,6 @@ returns c =
     let g = c.args.group.now in
     let exists : group_exists w g ≡ true = rw (sym c.all_bases.ensures ∙ c.if-not-all_bases.false, sym c.all_nacks.ensures ∙ c.if-not-all_nacks.false) refl in
     let far : list_any (is_far w.tick) (bases g) ≡ _ =
-    ap (λ t. list_any (is_far t) (bases g)) (sym c.now.ensures) ∙ any_far c.now.result (bases g) ∙ ap not (sym c.all_bases-2.ensures ∙ c.if-not-all_bases-2.false) in
+    ap (λ t. list_any (is_far t) (bases g)) (sym c.now.ensures.time) ∙ any_far c.now.result (bases g) ∙ ap not (sym c.all_bases-2.ensures ∙ c.if-not-all_bases-2.false) in
     sym (past_four (thread_refusal (slice_get w.threads c.args.thread.0)) (group_exists w g) (nat_lt max_leaves (leaf_count g)) (group_fits g) (list_any (is_far w.tick) (bases g)) _
     (sym c.thread_refusal.ensures ∙ c.in_default.is) exists (sym c.has_few_leaves.ensures ∙ c.if-not-has_few_leaves.false) (sym c.fits.ensures ∙ c.if-not-fits.false) far)

@@ -1,4 +1,4 @@
-use Rattle.std.proofs.Common.{ap, length, length-set, ◌∙◌, arith}
+use Rattle.std.proofs.Common.{rules, ap, length, length-set, ◌∙◌, arith}
 use Rattle.cml_book.proofs.Awaited.{counts_few, counts-wait}
 use Rattle.cml_book.proofs.state.State.wait.Goals as goal
 
@@ -12,4 +12,6 @@ invariant_of-self-2 c =
       c.self.invariant.1,
       c.self.invariant.2,
       rw (c.put.ensures, c.pending.ensures) (counts-wait c.self.inside.threads.items c.args.thread.0 c.args.flat c.self.inside.clock.waited c.count_ticks.new.clock.waited (rw (← c.self.view_is) at c.requires) c.count_ticks.ensures.few c.in-Ok.ensures.ok c.self.invariant.3),
+      c.self.invariant.4,
+      search rules,
     )
