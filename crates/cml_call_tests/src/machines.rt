@@ -52,11 +52,11 @@ const SCRIPTS: [(&str, &str); 71] = [
     // an ask at the thousandth step, and one behind it
     (
         "(fn main () (let x 498) (let y x) (while (< 0 x) (set x (- x 1))) (yield))",
-        "1000 turn, 1 end",
+        "1000 yield, 1 end",
     ),
     (
         "(fn main () (let x 498) (let y x) (let z y) (while (< 0 x) (set x (- x 1))) (yield))",
-        "1000 nothing, 1 turn, 1 end",
+        "1000 nothing, 1 yield, 1 end",
     ),
     // the end
     ("(fn main ())", "1 end"),
@@ -76,7 +76,7 @@ const SCRIPTS: [(&str, &str); 71] = [
         "2 sync, 2 end",
     ),
     // what a thread asks
-    ("(fn main () (yield))", "1 turn, 1 end"),
+    ("(fn main () (yield))", "1 yield, 1 end"),
     (
         "(fn f (x y) (print (- x y))) (fn main () (let t (spawn f 9 2)) (print t))",
         "1 spawn 0, 1 print (thread 1), 1 end then 1 print 7, 1 end",
@@ -121,12 +121,12 @@ const SCRIPTS: [(&str, &str); 71] = [
     ),
     (
         "(fn main () (let x (yield)) (print x))",
-        "1 turn, 1 print (), 1 end",
+        "1 yield, 1 print (), 1 end",
     ),
     // conditions and loops
     (
         "(fn main () (let x 1) (let x (+ x 1)) (if (= x 2) (do (yield)) (do (exit))))",
-        "4 turn, 1 end",
+        "4 yield, 1 end",
     ),
     (
         "(fn main () (let x 1) (if (< x 1) (do (yield)) (do (exit))))",
@@ -343,7 +343,7 @@ fn program_of(rt: &(impl Abort + AllocGlobal), script: &str) -> Prog {
 fn said(ask: &Ask) -> (&str, Option<u32>, Option<&Value>) {
     match ask {
         Ask::Nothing => ("nothing", None, None),
-        Ask::Turn => ("turn", None, None),
+        Ask::Yield => ("yield", None, None),
         Ask::Spawn(f) => ("spawn", Some(f.func()), None),
         Ask::MakeChan => ("chan", None, None),
         Ask::MakeIVar => ("ivar", None, None),
@@ -374,7 +374,7 @@ fn value_for(ask: &Ask) -> Option<ValueKind>
         IfSome result (λ kind. value_agrees fs (plain_value kind) ≡ true) }
 {
     match ask {
-        Ask::Turn
+        Ask::Yield
         | Ask::IPut(_, _)
         | Ask::MPut(_, _)
         | Ask::Mail(_, _)

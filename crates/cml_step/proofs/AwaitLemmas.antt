@@ -22,13 +22,13 @@ use Rattle.cml_step.specs.Asks.{PlainAsk}
 use Rattle.cml_step.specs.Forced.{given}
 use Rattle.cml_step.specs.Answers as await
 use Rattle.cml_step.specs.Answers.{PlainAwait, awaited, awaited_by, answer_to}
-use Rattle.cml_step.specs.Steps.{PlainTurn, goes_on, asks, fails, ◌>>=◌, has_room, pushed, delivered, act_step, one_step, two_step, effect_step, source_step, statement_step, call_step, force_step, wraps_step, next}
+use Rattle.cml_step.specs.Steps.{PlainStep, goes_on, asks, fails, ◌>>=◌, has_room, pushed, delivered, act_step, one_step, two_step, effect_step, source_step, statement_step, call_step, force_step, wraps_step, next}
 use Rattle.cml_step.specs.Slices.{PlainSlice, carried, sliced_from}
 
-abbrev Waits : PlainTurn → Type 0
-Waits turn = awaited turn.term ≡ answer_to turn.ask
+abbrev Waits : PlainStep → Type 0
+Waits step = awaited step.term ≡ answer_to step.ask
 
-bind : {A : Type 0} (r : Found A) (go : A → PlainTurn) → ((x : A) → Waits (go x)) → Waits (r >>= go)
+bind : {A : Type 0} (r : Found A) (go : A → PlainStep) → ((x : A) → Waits (go x)) → Waits (r >>= go)
 bind (Ok x) go h = h x
 bind (Err why) go h = refl
 
@@ -118,7 +118,7 @@ wraps_waits p [] v t = delivered_waits v t
 wraps_waits p (f ∷ fs) v t = pushed_waits (call_of p (given f v)) (wraps fs v ∷ t) (begun_runs p (given f v) (wraps fs v ∷ t))
 
 next_waits : (p : Program) (self : ℕ) (t : Term) → awaited t ≡ await.nothing → Waits (next p self t)
-next_waits p self [] h = h
+next_waits p self [] h = refl
 next_waits p self (call left vars runs ∷ below) h = call_waits p self left vars below
 next_waits p self (call left vars drops ∷ below) h = h
 next_waits p self (call left vars (gives x) ∷ below) h = h

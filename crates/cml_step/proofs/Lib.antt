@@ -11,4 +11,7 @@ pub mod SliceLemmas
 pub mod QuietLemmas
 pub mod AwaitLemmas
 pub mod AnswerLemmas
+pub mod ShortLemmas
+pub mod NackLemmas
+pub mod LeafLemmas
 mod Worked

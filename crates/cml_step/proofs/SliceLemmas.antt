@@ -7,14 +7,14 @@ use Rattle.cml_step.specs.Terms.{Program, Term}
 use Rattle.cml_step.specs.Asks as ask
 use Rattle.cml_step.specs.Asks.{PlainAsk}
 use Rattle.cml_step.specs.AskViews.{plain_ask}
-use Rattle.cml_step.specs.Steps.{PlainTurn, goes_on, asks, fails, next}
+use Rattle.cml_step.specs.Steps.{PlainStep, goes_on, asks, fails, next}
 use Rattle.cml_step.specs.Slices.{PlainSlice, carried, sliced_from, GoesIn}
 
 stops : (go : Term → PlainSlice) (n : ℕ) (a : Ask) (t : Term) → (a ≡ asks_of.Nothing → ⊥) → carried go n (plain_ask a) t ≡ record { ask = plain_ask a; end = t; steps = n }
 stops go n asks_of.Nothing t h = absurd (h refl)
 stops go n _ t h = refl
 
-one_step : (p : Program) (self k n : ℕ) (t : Term) (u : PlainTurn) → next p self t ≡ u →
+one_step : (p : Program) (self k n : ℕ) (t : Term) (u : PlainStep) → next p self t ≡ u →
     sliced_from p self (suc k) n t ≡ carried (λ v. sliced_from p self k (n + 1) v) (n + 1) u.ask u.term
 unfolding sliced_from
 one_step p self k n t u e = ap (λ d. carried (λ v. sliced_from p self k (n + 1) v) (n + 1) d.ask d.term) e
@@ -78,3 +78,25 @@ slice_skips p self k n m t u goes within = ap (λ j. sliced_from p self j m t) (
   where
     rest : (k n m : ℕ) → n ≤ k - m → k - m ≡ n + (k - (m + n))
     rest k n m h = omega (arith, h)
+
+-- a slice takes the steps before it and more, at most as many as are left
+abbrev Counts : ℕ → ℕ → ℕ → Type 0
+Counts least most steps = (least ≤ steps) × (steps ≤ most)
+
+carried_counts : (go : Term → PlainSlice) (least most n : ℕ) (a : PlainAsk) (t : Term) → Counts least most n → ((u : Term) → Counts least most (go u).steps) → Counts least most (carried go n a t).steps
+carried_counts go least most n ask.nothing t h g = g t
+carried_counts go least most n _ t h g = h
+
+counts_on : (p : Program) (self left n : ℕ) (t : Term) → Counts n (n + left) (sliced_from p self left n t).steps
+unfolding sliced_from
+counts_on p self zero n t = (omega arith, omega arith)
+counts_on p self (suc left) n t =
+    carried_counts (λ u. sliced_from p self left (n + 1) u) n (n + suc left) (n + 1) (next p self t).ask (next p self t).term (omega arith, omega arith)
+    (λ u. let r = counts_on p self left (n + 1) u in (omega (arith, r.0), omega (arith, r.1)))
+
+-- where a step is left, one is taken
+pub slice_counts : (p : Program) (self left n : ℕ) (t : Term) → Counts (n + 1) (n + suc left) (sliced_from p self (suc left) n t).steps
+unfolding sliced_from
+slice_counts p self left n t =
+    carried_counts (λ u. sliced_from p self left (n + 1) u) (n + 1) (n + suc left) (n + 1) (next p self t).ask (next p self t).term (omega arith, omega arith)
+    (λ u. let r = counts_on p self left (n + 1) u in (r.0, omega (arith, r.1)))

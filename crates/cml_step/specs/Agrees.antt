@@ -3,6 +3,7 @@
 use Rattle.std.specs.Prelude.{ℕ, ◌+◌, Bool, true, ◌&&◌, List, [], ◌∷◌, Option, Some, None}
 use Rattle.cml_value.specs.Value.{PlainValue, pair, event, PlainValues, no_values, values_and, PlainFunction, function}
 use Rattle.cml_value.specs.Value.{PlainBase, always, send, mswap, PlainEvent, never, leaf, choose, wrap, guard, with_nack, scope, PlainEvents, no_events, events_and}
+use Rattle.cml_value.specs.Group.{PlainLeaf}
 use Rattle.cml_check.specs.Heads.{takes}
 use Rattle.cml_group.specs.Force.{event_of}
 use Rattle.cml_step.specs.Asks as ask
@@ -54,6 +55,10 @@ all_agree arities (v ∷ vs) = value_agrees arities v && all_agree arities vs
 abbrev pub functions_agree : List ℕ → List PlainFunction → Bool
 functions_agree arities [] = true
 functions_agree arities (f ∷ fs) = function_agrees arities 1 f && functions_agree arities fs
+
+-- a leaf of a group: its base event, and the functions of the wraps that its value goes through
+abbrev pub leaf_agrees : List ℕ → PlainLeaf → Bool
+leaf_agrees arities l = base_agrees arities l.base && functions_agree arities l.wraps
 
 -- what a thread is answered agrees with the program: the value, and the functions of the wraps that it goes through
 abbrev pub answer_agrees : List ℕ → PlainAnswer → Bool

@@ -1,8 +1,8 @@
 -- What becomes of a thread that is answered. To answer it is no step.
-use Rattle.std.specs.Prelude.{ℕ, true, false, ◌∷◌, Option, Some, None}
+use Rattle.std.specs.Prelude.{ℕ, ◌+◌, ◌≤◌, true, false, ◌∷◌, length, Option, Some, None}
 use Rattle.cml_value.specs.Value.{guard, scope, PlainEvent}
 use Rattle.cml_group.specs.Force.{PlainAsk as PlainPlace, calls, needs_nack, unforced, replaced, given_nack}
-use Rattle.cml_step.specs.Terms.{Program, runs, drops, gives, call, force, wraps, Term, call_of}
+use Rattle.cml_step.specs.Terms.{Program, runs, drops, gives, call, force, wraps, Term, max_entries, call_of}
 use Rattle.cml_step.specs.Asks as ask
 use Rattle.cml_step.specs.Asks.{PlainAsk, PlainAnswer, a_value, a_nack, a_commit}
 use Rattle.cml_step.specs.Steps.{filled}
@@ -25,6 +25,15 @@ awaited (call left variables drops ∷ below) = value
 awaited (call left variables (gives x) ∷ below) = value
 awaited (force e true ∷ below) = awaited_by (unforced e)
 awaited term = nothing
+
+-- how many entries the answer puts on the stack beside those that are there: for a nack the call of the withNack's function
+abbrev pub entries_to_come : PlainAwait → ℕ
+entries_to_come nack = 1
+entries_to_come _ = 0
+
+-- a stack has at most 1,024 entries, also once the thread is answered
+abbrev pub IsShort : Term → Type 0
+IsShort term = length term + entries_to_come (awaited term) ≤ max_entries
 
 -- what a thread waits for that has asked this
 abbrev pub answer_to : PlainAsk → PlainAwait

@@ -7,7 +7,7 @@ use Rattle.cml_value.specs.Codes.{value_code, function_code}
 use Rattle.cml_value.specs.GroupCodes.{group_code}
 use Rattle.cml_step.specs.declared.fault.Fault.{Fault}
 use Rattle.cml_step.specs.declared.fault.Fault.TheVariants as fault_of
-use Rattle.cml_step.specs.Asks.{PlainAsk, nothing, turn, spawn, make_chan, make_ivar, make_mvar, make_mailbox, make_mchan, make_port, copy_port, iput, mput, mail, multicast, print, now, fresh_nack, sync, end, fault}
+use Rattle.cml_step.specs.Asks.{PlainAsk, nothing, yield, spawn, make_chan, make_ivar, make_mvar, make_mailbox, make_mchan, make_port, copy_port, iput, mput, mail, multicast, print, now, fresh_nack, sync, end, fault}
 
 abbrev pub fault_number : Fault → ℕ
 fault_number fault_of.Kind = 0
@@ -39,7 +39,7 @@ fault_code = code_by ℕ coded_ℕ fault_number fault_by fault_back
 
 abbrev pub ask_gv : PlainAsk → Gv
 ask_gv nothing = gcons (gnum 0) gnil
-ask_gv turn = gcons (gnum 1) gnil
+ask_gv yield = gcons (gnum 1) gnil
 ask_gv (spawn f) = gcons (gnum 2) (function_code.code f)
 ask_gv make_chan = gcons (gnum 3) gnil
 ask_gv make_ivar = gcons (gnum 4) gnil
@@ -64,7 +64,7 @@ heads m n x y p = cc
 
 pub ask_gv_inj : (x y : PlainAsk) → ask_gv x ≡ ask_gv y → x ≡ y
 ask_gv_inj nothing nothing p = refl
-ask_gv_inj turn turn p = refl
+ask_gv_inj yield yield p = refl
 ask_gv_inj (spawn f) (spawn g) p = let e = function_code.inj f g (cc) in cc
 ask_gv_inj make_chan make_chan p = refl
 ask_gv_inj make_ivar make_ivar p = refl

@@ -1,11 +1,11 @@
 -- What an ask of `src/` is seen as.
-use Rattle.cml_step.specs.Asks.{PlainAsk, nothing, turn, spawn, make_chan, make_ivar, make_mvar, make_mailbox, make_mchan, make_port, copy_port, iput, mput, mail, multicast, print, now, fresh_nack, sync, end, fault}
+use Rattle.cml_step.specs.Asks.{PlainAsk, nothing, yield, spawn, make_chan, make_ivar, make_mvar, make_mailbox, make_mchan, make_port, copy_port, iput, mput, mail, multicast, print, now, fresh_nack, sync, end, fault}
 use Rattle.cml_step.specs.declared.ask.Ask.{Ask}
 use Rattle.cml_step.specs.declared.ask.Ask.TheVariants as asks
 
 abbrev pub plain_ask : Ask → PlainAsk
 plain_ask asks.Nothing = nothing
-plain_ask asks.Turn = turn
+plain_ask asks.Yield = yield
 plain_ask (asks.Spawn f) = spawn f
 plain_ask asks.MakeChan = make_chan
 plain_ask asks.MakeIVar = make_ivar

@@ -7,7 +7,7 @@ use Rattle.cml_step.specs.declared.fault.Fault.{Fault}
 -- Objects and threads stand by their numbers. A thread that asks nothing goes on, one that ends or is at fault has nothing to ask.
 pub data PlainAsk : Type 0 where
   nothing : PlainAsk
-  turn : PlainAsk
+  yield : PlainAsk
   spawn : PlainFunction → PlainAsk
   make_chan : PlainAsk
   make_ivar : PlainAsk

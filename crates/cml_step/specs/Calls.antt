@@ -16,7 +16,7 @@ use Rattle.cml_step.specs.Variables.{bound}
 use Rattle.cml_step.specs.Places.{left_at}
 use Rattle.cml_step.specs.Terms.{Program, PlainWait, runs, drops, gives, PlainEntry, call, force, Term, call_of}
 use Rattle.cml_step.specs.AskViews.{plain_ask}
-use Rattle.cml_step.specs.Steps.{PlainTurn, goes_on, asks, ends, fails, pushed, delivered}
+use Rattle.cml_step.specs.Steps.{PlainStep, goes_on, asks, ends, fails, pushed, delivered}
 
 abbrev pub wait_of : List Name → Wait → PlainWait
 wait_of names wait.Runs = runs
@@ -63,22 +63,22 @@ DidAgrees fs (Ok (did.Asks a)) = ask_agrees fs (plain_ask a) ≡ true
 DidAgrees fs _ = Unit {0}
 
 -- What a call did in its step is what the step comes to, where the call stands for this entry then, whatever stands beneath.
-abbrev pub MovesTo : List (PlainItem ℕ) → Result Did Stop → PlainEntry → Term → PlainTurn → Type 0
-MovesTo p (Ok did.Goes) new below turn = turn ≡ goes_on (new ∷ below)
-MovesTo p (Ok (did.Calls g args)) new below turn = turn ≡ pushed (call_of (text_of p) (function g (values args.items))) (new ∷ below)
-MovesTo p (Ok (did.Forces e)) new below turn = turn ≡ pushed (force e false) (new ∷ below)
-MovesTo p (Ok (did.Returns v)) new below turn = turn ≡ delivered v below
-MovesTo p (Ok (did.Asks a)) new below turn = turn ≡ asks (plain_ask a) (new ∷ below)
-MovesTo p (Ok did.Ends) new below turn = turn ≡ ends
-MovesTo p (Err (stop.Fault why)) new below turn = turn ≡ fails why
-MovesTo p (Err stop.Memory) new below turn = Unit {0}
+abbrev pub MovesTo : List (PlainItem ℕ) → Result Did Stop → PlainEntry → Term → PlainStep → Type 0
+MovesTo p (Ok did.Goes) new below step = step ≡ goes_on (new ∷ below)
+MovesTo p (Ok (did.Calls g args)) new below step = step ≡ pushed (call_of (text_of p) (function g (values args.items))) (new ∷ below)
+MovesTo p (Ok (did.Forces e)) new below step = step ≡ pushed (force e false) (new ∷ below)
+MovesTo p (Ok (did.Returns v)) new below step = step ≡ delivered v below
+MovesTo p (Ok (did.Asks a)) new below step = step ≡ asks (plain_ask a) (new ∷ below)
+MovesTo p (Ok did.Ends) new below step = step ≡ ends
+MovesTo p (Err (stop.Fault why)) new below step = step ≡ fails why
+MovesTo p (Err stop.Memory) new below step = Unit {0}
 
 -- the same of a call of the function f
-abbrev pub Moves : List (PlainItem ℕ) → PlainItem ℕ → Result Did Stop → Call → Term → PlainTurn → Type 0
-Moves p f r new below turn = MovesTo p r (entry_for f new) below turn
+abbrev pub Moves : List (PlainItem ℕ) → PlainItem ℕ → Result Did Stop → Call → Term → PlainStep → Type 0
+Moves p f r new below step = MovesTo p r (entry_for f new) below step
 
 -- what a call of the machine has found to ask is what the step comes to
-abbrev pub Asks : Result Ask Stop → Term → PlainTurn → Type 0
-Asks (Ok a) term turn = turn ≡ asks (plain_ask a) term
-Asks (Err (stop.Fault why)) term turn = turn ≡ fails why
-Asks (Err stop.Memory) term turn = Unit {0}
+abbrev pub Asks : Result Ask Stop → Term → PlainStep → Type 0
+Asks (Ok a) term step = step ≡ asks (plain_ask a) term
+Asks (Err (stop.Fault why)) term step = step ≡ fails why
+Asks (Err stop.Memory) term step = Unit {0}

@@ -20,3 +20,4 @@ pub mod MachineCodes
 pub mod AskCodes
 pub mod Rans
 pub mod AnswerViews
+pub mod Nacks

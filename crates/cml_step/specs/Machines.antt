@@ -9,6 +9,7 @@ use Rattle.cml_step.specs.declared.call.Wait.{Wait}
 use Rattle.cml_step.specs.declared.entry.Entry.{Entry}
 use Rattle.cml_step.specs.declared.entry.Entry.TheVariants as entry
 use Rattle.cml_step.specs.Agrees.{value_agrees, all_agree, event_agrees, functions_agree}
+use Rattle.cml_step.specs.Answers.{IsShort}
 use Rattle.cml_step.specs.Calls.{placed_in, WaitFits}
 use Rattle.cml_step.specs.Terms.{PlainEntry, Term}
 use Rattle.cml_step.specs.Terms as term
@@ -76,8 +77,9 @@ AllHeldFit p [] = Unit {0}
 AllHeldFit p (h ∷ []) = HeldFits p h
 AllHeldFit p (h ∷ g ∷ hs) = HeldFitsBeneath p h × AllHeldFit p (g ∷ hs)
 
--- A machine fits a program: the program is in order, each call is one of a function of it, and all values, events and functions that
--- the machine holds agree with it.
+-- A machine fits a program: the program is in order, each call is one of a function of it, all values, events and functions that the
+-- machine holds agree with it, and its stack has at most 1,024 entries, also once it is answered.
 pub record Fits (p : List (PlainItem ℕ)) (m : PlainMachine) : Type 0 where
   pub order : InOrder p
   pub stack : AllHeldFit p m.stack
+  pub short : IsShort (machine_term p m)

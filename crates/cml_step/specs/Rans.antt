@@ -1,5 +1,5 @@
 -- A slice that was run.
-use Rattle.std.specs.Prelude.{◌≡◌, ℕ, List, true, refl}
+use Rattle.std.specs.Prelude.{◌≡◌, ◌≤◌, ℕ, List, true, refl}
 use Rattle.std.specs.Coded.{Coded, code_by, coded×, coded_ℕ, coded_list}
 use Rattle.cml_check.specs.Syntax.{PlainFunction as PlainItem}
 use Rattle.cml_check.specs.SyntaxCodes.{function_code}
@@ -11,7 +11,7 @@ use Rattle.cml_step.specs.Asks.{PlainAsk}
 use Rattle.cml_step.specs.Calls.{text_of}
 use Rattle.cml_step.specs.MachineCodes.{machine_code}
 use Rattle.cml_step.specs.Machines.{PlainMachine, machine_term, Fits}
-use Rattle.cml_step.specs.Slices.{sliced}
+use Rattle.cml_step.specs.Slices.{max_steps, sliced}
 
 -- the program, the machine at the start and at the end, what it asks there, and the number of steps
 pub record PlainRan : Type 0 where
@@ -21,11 +21,13 @@ pub record PlainRan : Type 0 where
   pub ask : PlainAsk
   pub steps : ℕ
 
--- Where the slice ends, what is asked there and how many steps it took are the meaning's answer for the program and the start. The
--- machine is the same thread's, it fits the program again, it waits for the answer to what it asks, and what it asks agrees with the
--- program.
+-- Where the slice ends, what is asked there and how many steps it took are the meaning's answer for the program and the start. It took
+-- one step at least and 1,000 at most. The machine is the same thread's, it fits the program again, it waits for the answer to what it
+-- asks, and what it asks agrees with the program.
 pub record IsSlice (r : PlainRan) : Type 0 where
   pub meant : sliced (text_of r.program) r.start.thread (machine_term r.program r.start) ≡ record { ask = r.ask; end = machine_term r.program r.end; steps = r.steps }
+  pub some : 1 ≤ r.steps
+  pub few : r.steps ≤ max_steps
   pub thread : r.end.thread ≡ r.start.thread
   pub fits : Fits r.program r.end
   pub awaits : awaited (machine_term r.program r.end) ≡ answer_to r.ask

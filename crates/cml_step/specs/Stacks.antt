@@ -11,7 +11,7 @@ use Rattle.cml_step.specs.declared.entry.Entry.{Entry}
 use Rattle.cml_step.specs.Terms.{PlainEntry, Term}
 use Rattle.cml_step.specs.AskViews.{plain_ask}
 use Rattle.cml_step.specs.Agrees.{ask_agrees}
-use Rattle.cml_step.specs.Steps.{PlainTurn, asks, fails}
+use Rattle.cml_step.specs.Steps.{PlainStep, asks, fails}
 use Rattle.cml_step.specs.Machines.{plain_held, held_entry, held_on, IsCallOf, AreWrapsOf, HeldFits, HeldFitsBeneath, AllHeldFit}
 
 abbrev pub entry_view : List (PlainItem ℕ) → Entry → PlainEntry
@@ -45,11 +45,11 @@ abbrev pub StackFits : List (PlainItem ℕ) → List Entry → Type 0
 StackFits p es = AllHeldFit p (map plain_held es)
 
 -- what a step of the machine came to
-abbrev pub Turns : List (PlainItem ℕ) → Result Ask Stop → PlainTurn → List Entry → Type 0
-Turns p (Ok a) turn es = turn ≡ asks (plain_ask a) (term_of p es)
-Turns p (Err (stop.Fault why)) turn es = turn ≡ fails why
-Turns p (Err stop.Memory) turn es = Unit {0}
+abbrev pub IsStep : List (PlainItem ℕ) → Result Ask Stop → PlainStep → List Entry → Type 0
+IsStep p (Ok a) step es = step ≡ asks (plain_ask a) (term_of p es)
+IsStep p (Err (stop.Fault why)) step es = step ≡ fails why
+IsStep p (Err stop.Memory) step es = Unit {0}
 
-abbrev pub TurnFits : List (PlainItem ℕ) → Result Ask Stop → List Entry → Type 0
-TurnFits p (Ok a) es = StackFits p es × (ask_agrees (arities p) (plain_ask a) ≡ true)
-TurnFits p (Err e) es = Unit {0}
+abbrev pub StepFits : List (PlainItem ℕ) → Result Ask Stop → List Entry → Type 0
+StepFits p (Ok a) es = StackFits p es × (ask_agrees (arities p) (plain_ask a) ≡ true)
+StepFits p (Err e) es = Unit {0}

@@ -24,32 +24,32 @@ use Rattle.cml_step.specs.Asks.{PlainAsk}
 use Rattle.cml_step.specs.Forced.{group_of, given}
 
 -- what a step comes to: what the thread asks, and its term
-pub record PlainTurn : Type 0 where
+pub record PlainStep : Type 0 where
   pub ask : PlainAsk
   pub term : Term
 
-abbrev pub goes_on : Term → PlainTurn
+abbrev pub goes_on : Term → PlainStep
 goes_on term = record { ask = ask.nothing; term = term }
 
-abbrev pub asks : PlainAsk → Term → PlainTurn
+abbrev pub asks : PlainAsk → Term → PlainStep
 asks what term = record { ask = what; term = term }
 
-abbrev pub ends : PlainTurn
+abbrev pub ends : PlainStep
 ends = record { ask = ask.end; term = [] }
 
-abbrev pub fails : Fault → PlainTurn
+abbrev pub fails : Fault → PlainStep
 fails why = record { ask = ask.fault why; term = [] }
 
 -- a fault in a part of a step ends the thread
 infixl 10 ◌>>=◌
-abbrev pub ◌>>=◌ : {A : Type 0} → Found A → (A → PlainTurn) → PlainTurn
+abbrev pub ◌>>=◌ : {A : Type 0} → Found A → (A → PlainStep) → PlainStep
 (Ok x) >>= go = go x
 (Err why) >>= go = fails why
 
 abbrev pub has_room : Term → Bool
 has_room term = nat_lt (length term) max_entries
 
-abbrev pub pushed : PlainEntry → Term → PlainTurn
+abbrev pub pushed : PlainEntry → Term → PlainStep
 pushed entry term = if has_room term then goes_on (entry ∷ term) else fails Stack
 
 -- the variables, where the value has come that was waited for
@@ -58,12 +58,12 @@ filled (gives x) v variables = assigned variables x v
 filled wait v variables = variables
 
 -- The event that a guard's or a withNack's function has answered takes its place, and the whole is measured.
-abbrev pub forced_on : PlainEvent → Term → PlainTurn
+abbrev pub forced_on : PlainEvent → Term → PlainStep
 forced_on e below = if event_fits e then goes_on (force e false ∷ below) else fails Deep
 
 -- A value is delivered to what waits beneath: a call, an event that is being forced, or wraps in progress. With nothing beneath the
 -- thread has ended.
-abbrev pub delivered : PlainValue → Term → PlainTurn
+abbrev pub delivered : PlainValue → Term → PlainStep
 delivered v [] = ends
 delivered v (call left variables wait ∷ below) = goes_on (call left (filled wait v variables) runs ∷ below)
 delivered v (force e asked ∷ below) = do
@@ -72,18 +72,18 @@ delivered v (force e asked ∷ below) = do
 delivered v (wraps fs w ∷ below) = goes_on (wraps fs v ∷ below)
 
 -- an effect without a value; the thread's own number is known, so `self` asks nothing
-abbrev pub act_step : ℕ → Act → Term → PlainTurn
+abbrev pub act_step : ℕ → Act → Term → PlainStep
 act_step self act_of.Chan term = asks ask.make_chan term
 act_step self act_of.IVar term = asks ask.make_ivar term
 act_step self act_of.MVar term = asks (ask.make_mvar None) term
 act_step self act_of.Mailbox term = asks ask.make_mailbox term
 act_step self act_of.MChan term = asks ask.make_mchan term
 act_step self act_of.Exit term = ends
-act_step self act_of.Yield term = asks ask.turn term
+act_step self act_of.Yield term = asks ask.yield term
 act_step self act_of.OwnThread term = delivered (thread self) term
 act_step self act_of.Now term = asks ask.now term
 
-abbrev pub one_step : ActOnOne → PlainValue → Term → PlainTurn
+abbrev pub one_step : ActOnOne → PlainValue → Term → PlainStep
 one_step one_of.Sync v term = do
   e ← event_of v
   pushed (force e false) term
@@ -96,7 +96,7 @@ one_step one_of.Copy v term = do
   asks (ask.copy_port p) term
 one_step one_of.Print v term = asks (ask.print v) term
 
-abbrev pub two_step : ActOnTwo → PlainValue → PlainValue → Term → PlainTurn
+abbrev pub two_step : ActOnTwo → PlainValue → PlainValue → Term → PlainStep
 two_step two_of.IPut v w term = do
   i ← ivar_of v
   asks (ask.iput i w) term
@@ -111,7 +111,7 @@ two_step two_of.Multicast v w term = do
   asks (ask.multicast x w) term
 
 -- an effect of the thread of this number, where the call that waits for its answer is already on top of the term
-abbrev pub effect_step : Program → ℕ → Variables → PlainEffect Name → Term → PlainTurn
+abbrev pub effect_step : Program → ℕ → Variables → PlainEffect Name → Term → PlainStep
 effect_step p self variables (act a) term = act_step self a term
 effect_step p self variables (act_on_one a e) term = do
   v ← evaluate (value_of variables) e
@@ -127,14 +127,14 @@ effect_step p self variables (syntax.spawn f es) term = do
   vs ← evaluate_all (value_of variables) es
   asks (ask.spawn (function f (values vs))) term
 
-abbrev pub source_step : Program → ℕ → Name → PlainSource Name → PlainStmts Name → Variables → Term → PlainTurn
+abbrev pub source_step : Program → ℕ → Name → PlainSource Name → PlainStmts Name → Variables → Term → PlainStep
 source_step p self x (value e) left variables below = do
   v ← evaluate (value_of variables) e
   goes_on (call left (assigned variables x v) runs ∷ below)
 source_step p self x (effect f) left variables below = effect_step p self variables f (call left variables (gives x) ∷ below)
 
 -- the first of a call's statements, where these are left behind it
-abbrev pub statement_step : Program → ℕ → PlainStmt Name → PlainStmts Name → Variables → Term → PlainTurn
+abbrev pub statement_step : Program → ℕ → PlainStmt Name → PlainStmts Name → Variables → Term → PlainStep
 statement_step p self (let_be x source) left variables below = source_step p self x source left variables below
 statement_step p self (set_to x e) left variables below = source_step p self x (value e) left variables below
 statement_step p self (just_do f) left variables below = effect_step p self variables f (call left variables drops ∷ below)
@@ -151,25 +151,26 @@ statement_step p self (return_with e) left variables below = do
   delivered v below
 
 -- a call without statements left answers unit
-abbrev pub call_step : Program → ℕ → PlainStmts Name → Variables → Term → PlainTurn
+abbrev pub call_step : Program → ℕ → PlainStmts Name → Variables → Term → PlainStep
 call_step p self no_stmts variables below = delivered unit below
 call_step p self (stmts_and s left) variables below = statement_step p self s left variables below
 
 -- The leftmost outermost of the guards and withNacks is next: a guard's function is called, a withNack's needs a fresh nack. With
 -- neither left the event is ready to be synchronized on.
-abbrev pub force_step : Program → Option PlainPlace → PlainEvent → Term → PlainTurn
+abbrev pub force_step : Program → Option PlainPlace → PlainEvent → Term → PlainStep
 force_step p (Some (calls f)) e below = pushed (call_of p f) (force e false ∷ below)
 force_step p (Some (needs_nack f)) e below = if has_room (force e false ∷ below) then asks ask.fresh_nack (force e true ∷ below) else fails Stack
 force_step p None e below = asks (ask.sync (group_of e)) (force e true ∷ below)
 
 -- the functions of wraps are called one after the other, each with its captured values and the value that has come so far
-abbrev pub wraps_step : Program → List PlainFunction → PlainValue → Term → PlainTurn
+abbrev pub wraps_step : Program → List PlainFunction → PlainValue → Term → PlainStep
 wraps_step p [] v below = delivered v below
 wraps_step p (f ∷ fs) v below = pushed (call_of p (given f v)) (wraps fs v ∷ below)
 
--- a step of the thread of this number; one that has ended, or waits for an answer, takes none
-abbrev pub next : Program → ℕ → Term → PlainTurn
+-- A step of the thread of this number. One that waits for an answer stays as it is, and one that has ended ends again.
+abbrev pub next : Program → ℕ → Term → PlainStep
 next p self (call left variables runs ∷ below) = call_step p self left variables below
 next p self (force e false ∷ below) = force_step p (unforced e) e below
 next p self (wraps fs v ∷ below) = wraps_step p fs v below
+next p self [] = ends
 next p self term = goes_on term

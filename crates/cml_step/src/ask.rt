@@ -9,7 +9,7 @@ pub enum Ask {
     /// Nothing: the thread goes on.
     Nothing,
     /// That others go first.
-    Turn,
+    Yield,
     /// A thread that begins with a call of this function.
     Spawn(FnRef),
     /// A channel.

@@ -424,7 +424,7 @@ fn asked(act: Act) -> Did
         Act::Mailbox => Did::Asks(Ask::MakeMailbox),
         Act::MChan => Did::Asks(Ask::MakeMchan),
         Act::Exit => Did::Ends,
-        Act::Yield | Act::OwnThread => Did::Asks(Ask::Turn),
+        Act::Yield | Act::OwnThread => Did::Asks(Ask::Yield),
         Act::Now => Did::Asks(Ask::Now),
     }
 }

@@ -1,8 +1,6 @@
 //! A thread of a script.
 
 ghost use Rattle.std.specs.Prelude.{◌≡◌, ℕ, List, [], ◌∷◌, true, Some, IfOk, IfErr, OnOk, OnErr, ◌↔◌, IsTrue, map};
-ghost use Rattle.cml_value.specs.Value.{PlainFunction, guard, scope};
-ghost use Rattle.cml_group.specs.Force.{calls, needs_nack, unforced, replaced, given_nack, AwaitsNack};
 ghost use Rattle.cml_check.specs.Syntax.{PlainFunction as PlainItem};
 ghost use Rattle.cml_check.specs.InOrder.{InOrder, arities};
 ghost use Rattle.cml_step.specs.Agrees.{ask_agrees, answer_agrees, function_agrees, value_agrees};
@@ -11,19 +9,20 @@ ghost use Rattle.cml_step.specs.Answers.{awaited, answered as plain_answered};
 ghost use Rattle.cml_step.specs.AnswerViews.{plain_answer, Awaits, IsNack};
 ghost use Rattle.cml_step.specs.AskViews.{plain_ask};
 ghost use Rattle.cml_step.specs.Asks.{a_value, a_nack, a_commit};
-ghost use Rattle.cml_step.specs.Calls.{text_of, entry_of};
+ghost use Rattle.cml_step.specs.Calls.{text_of};
 ghost use Rattle.cml_step.specs.Machines.{plain_held, machine_term, Fits};
+ghost use Rattle.cml_step.specs.Nacks.{nack_given, IsNackRoom};
 ghost use Rattle.cml_step.specs.Slices.{sliced};
-ghost use Rattle.cml_step.specs.Stacks.{CallFits, StackFits, term_of};
+ghost use Rattle.cml_step.specs.Stacks.{StackFits, term_of};
 ghost use Rattle.cml_step.specs.Terms.{call_of};
 
 use crate::answer::Answer;
 use crate::ask::Ask;
-use crate::call::{Call, fill};
+use crate::call::fill;
 use crate::entry::{Entry, Wraps, begin, copy_entry, same_stack};
-use crate::turns::{MAX_STEPS, run};
+use crate::nack::{NackRoom, nacked};
+use crate::steps::{MAX_STEPS, run};
 use cml_check::Prog;
-use cml_group::Forcing;
 use cml_value::{FnRef, NackId, Tid, Value};
 use std::alloc::{AllocError, AllocFailed, Global};
 use std::marker::Model;
@@ -97,28 +96,6 @@ fn give_value(stack: &mut Vec<Entry>, value: Value)
             drop(other);
         }
     }
-}
-
-// The event with its nack, and the call of the withNack's function.
-fn nacked(alloc: Global, forcing: &Forcing, nack: NackId) -> Result<(Forcing, Call), AllocError>
-    requires { AwaitsNack forcing.now }
-    ensures event { IfOk result (λ both. (f : PlainFunction) →
-        unforced forcing.now ≡ Some (needs_nack f)
-        → both.0 ≡ replaced (scope nack.0 (guard (given_nack nack.0 f))) forcing.now) }
-    ensures next { IfOk result (λ both. (f : PlainFunction) →
-        unforced forcing.now ≡ Some (needs_nack f)
-        → unforced both.0 ≡ Some (calls (given_nack nack.0 f))) }
-    ensures term { IfOk result (λ both. (f : PlainFunction) (p : List (PlainItem ℕ)) →
-        unforced forcing.now ≡ Some (needs_nack f)
-        → entry_of p both.1 ≡ call_of (text_of p) (given_nack nack.0 f)) }
-    ensures fits { IfOk result (λ both. (f : PlainFunction) (p : List (PlainItem ℕ)) →
-        unforced forcing.now ≡ Some (needs_nack f)
-        → function_agrees (arities p) 0 (given_nack nack.0 f) ≡ true → CallFits p both.1) }
-{
-    let mut next = forcing.copy(alloc)?;
-    let function = next.answer_nack(alloc, nack)?;
-    let call = begin(alloc, &function)?;
-    Ok((next, call))
 }
 
 // The nack comes that the event on top waits for: the withNack's function is called.
@@ -208,6 +185,14 @@ impl Machine {
         }
     }
 
+    /// The thread of this number once it has ended. It takes no memory.
+    pub fn ended(alloc: Global, thread: Tid) -> Machine
+        ensures { result ≡ record { thread = thread.0; stack = [] } }
+    {
+        let stack = Vec::new(alloc);
+        Machine { thread, stack }
+    }
+
     /// The number of the thread.
     pub fn thread(&self) -> Tid
         ensures { result.0 ≡ self.now.thread }
@@ -239,6 +224,7 @@ impl Machine {
     // A slice of steps: what is asked in the end, and how many they were.
     pub(crate) fn run(&mut self, alloc: Global, program: &Prog) -> Result<(Ask, u32), AllocError>
         requires fits { Fits program.now self.old }
+        requires awaits { awaited (machine_term program.now self.old) ≡ answers.nothing }
         ensures meant { IfOk result (λ r.
             sliced (text_of program.now) self.old.thread (machine_term program.now self.old)
             ≡ record {
@@ -251,7 +237,64 @@ impl Machine {
             ask_agrees (arities program.now) (plain_ask r.0) ≡ true) }
         ensures thread { self.new.thread ≡ self.old.thread }
     {
-        run(alloc, self.thread, program, &mut self.stack, MAX_STEPS)
+        let (ask, steps) = run(alloc, self.thread, program, &mut self.stack, MAX_STEPS)?;
+        Ok((ask, steps))
+    }
+
+    /// Room for the answer of this nack, so that [`answered_nack`](Machine::answered_nack) takes no memory.
+    ///
+    /// # Errors
+    /// Want of memory.
+    pub fn reserve_nack(&self, alloc: Global, nack: NackId) -> Result<NackRoom, AllocError>
+        requires { Awaits self.now (a_nack nack.0) }
+        ensures room { IfOk result (λ r. IsNackRoom self.now r) }
+        ensures nack { IfOk result (λ r. r.nack ≡ nack) }
+    {
+        let stack = Vec::with_capacity(alloc, self.stack.len() + 1)?;
+        match self.stack.last() {
+            Some(Entry::Force(forcing, _)) => {
+                let (event, call) = nacked(alloc, forcing, nack)?;
+                Ok(NackRoom {
+                    nack,
+                    event,
+                    call,
+                    stack,
+                })
+            }
+            // A nack is awaited, so an event is on top.
+            _ => Err(AllocError),
+        }
+    }
+
+    /// The thread once it is answered by the nack that there is room for. It takes no memory.
+    pub fn answered_nack(self, room: NackRoom) -> Machine
+        requires { IsNackRoom self room }
+        ensures machine { result ≡ nack_given room self }
+        ensures meant { (p : List (PlainItem ℕ)) → Fits p self → machine_term p result
+            ≡ plain_answered (text_of p) (a_nack room.nack.0) (machine_term p self) }
+        ensures fits { (p : List (PlainItem ℕ)) → Fits p self → Fits p result }
+        ensures awaits { (p : List (PlainItem ℕ)) → Fits p self →
+            awaited (machine_term p self) ≡ answers.nack
+            → awaited (machine_term p result) ≡ answers.nothing }
+        ensures thread { result.thread ≡ self.thread }
+    {
+        let mut machine = self;
+        let Some(top) = machine.stack.pop() else {
+            drop(room);
+            return machine;
+        };
+        drop(top);
+        let mut stack = room.stack;
+        match stack.append(&mut machine.stack) {
+            Ok(()) => {
+                stack.push_reserved(Entry::Force(room.event, false));
+                stack.push_reserved(Entry::Call(room.call));
+                machine.stack = stack;
+                machine
+            }
+            // There is room for all entries.
+            Err(_) => unreachable!(),
+        }
     }
 
     /// The thread once it is answered. Only the answer to a withNack, whose function is called then, takes memory.

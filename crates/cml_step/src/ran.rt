@@ -12,6 +12,7 @@ ghost use Rattle.cml_step.specs.declared.ran.SliceFault.TheVariants as slice_fau
 
 use crate::ask::Ask;
 use crate::machine::Machine;
+use crate::slices::{Slice, run_slice};
 use cml_check::Prog;
 use std::alloc::{AllocError, Global};
 use std::fmt;
@@ -69,29 +70,24 @@ impl Model for Ran {
 }
 
 // A slice of the machine, and the program once more.
-fn sliced(
-    alloc: Global,
-    program: &Prog,
-    machine: &Machine,
-) -> Result<(Prog, Machine, Ask, u32), AllocError>
+fn slice_with(alloc: Global, program: &Prog, machine: &Machine) -> Result<(Prog, Slice), AllocError>
     requires fits { Fits program.now machine.now }
-    requires runs { awaited (machine_term program.now machine.now) ≡ answers.nothing }
+    requires awaits { awaited (machine_term program.now machine.now) ≡ answers.nothing }
     ensures program { IfOk result (λ r. r.0 ≡ program.now) }
     ensures slice { IfOk result (λ r. IsSlice (record {
       program = program.now;
       start = machine.now;
-      end = r.1;
-      ask = plain_ask r.2;
-      steps = r.3;
+      end = r.1.end;
+      ask = plain_ask r.1.ask;
+      steps = r.1.steps;
     })) }
 {
-    let mut end = machine.copy(alloc)?;
-    let (ask, steps) = end.run(alloc, program)?;
+    let slice = run_slice(alloc, program, machine)?;
     let shared = program.copy()?;
-    Ok((shared, end, ask, steps))
+    Ok((shared, slice))
 }
 
-/// Runs a slice of the thread: its steps up to the first that asks, ends or is at fault, and at most [`MAX_STEPS`](crate::MAX_STEPS).
+/// Runs a slice of the thread as [`run_slice`] does, and keeps with it what it was a slice of.
 ///
 /// # Errors
 /// Want of memory, with the machine.
@@ -103,8 +99,8 @@ pub fn slice(alloc: Global, program: &Prog, machine: Machine) -> Result<Ran, Sli
     ensures meant { IfOk result (λ ran. IsSlice ran) }
     ensures err { IfErr result (λ fault. fault ≡ slice_fault.Memory machine) }
 {
-    match sliced(alloc, program, &machine) {
-        Ok((program, end, ask, steps)) => Ok(Ran {
+    match slice_with(alloc, program, &machine) {
+        Ok((program, Slice { end, ask, steps })) => Ok(Ran {
             program,
             start: machine,
             end,

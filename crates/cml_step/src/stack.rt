@@ -10,9 +10,9 @@ ghost use Rattle.cml_group.specs.Force.{AwaitsEvent, unforced, calls, event_of a
 ghost use Rattle.cml_step.specs.AskViews.{plain_ask};
 ghost use Rattle.cml_step.specs.Forced.{group_of, given};
 ghost use Rattle.cml_step.specs.Steps as steps;
-ghost use Rattle.cml_step.specs.Steps.{PlainTurn};
+ghost use Rattle.cml_step.specs.Steps.{PlainStep};
 ghost use Rattle.cml_step.specs.Calls.{text_of, entry_of, MovesTo, DidAgrees};
-ghost use Rattle.cml_step.specs.Stacks.{entry_view, term_of, EntryFits, EachBeneath, StackFits, Turns, TurnFits, CallFits, WrapsFit};
+ghost use Rattle.cml_step.specs.Stacks.{entry_view, term_of, EntryFits, EachBeneath, StackFits, IsStep, StepFits, CallFits, WrapsFit};
 
 use crate::ask::Ask;
 use crate::call::{Call, Did, Wait, call_step, fill};
@@ -30,10 +30,10 @@ const MAX_ENTRIES: usize = 1024;
 // The entry on top, if there is room.
 #[tactic(auto, using(crate::proofs::StackLemmas::term_pushed, crate::proofs::StackLemmas::term_length, crate::proofs::StackLemmas::fits_pushed))]
 fn push(entry: Entry, below: &mut Vec<Entry>) -> Result<Ask, Stop>
-    ensures turns { (p : List (PlainItem ℕ)) → Turns p result
+    ensures meant { (p : List (PlainItem ℕ)) → IsStep p result
         (steps.pushed (entry_view p entry) (term_of p below.old.items)) below.new.items }
     ensures fits { (p : List (PlainItem ℕ)) → EntryFits p entry
-        → EachBeneath p below.old.items → TurnFits p result below.new.items }
+        → EachBeneath p below.old.items → StepFits p result below.new.items }
 {
     if below.len() >= MAX_ENTRIES {
         return Err(Stop::Fault(Fault::Stack));
@@ -54,11 +54,11 @@ fn push_call(
     requires agrees { let f = function func (values args.items) in
         function_agrees (arities program.now) 0 f ≡ true }
     requires beneath { EachBeneath program.now below.old.items }
-    ensures turns { let f = function func (values args.items) in
+    ensures meant { let f = function func (values args.items) in
         let entry = call_of (text_of program.now) f in
-        Turns program.now result
+        IsStep program.now result
         (steps.pushed entry (term_of program.now below.old.items)) below.new.items }
-    ensures fits { TurnFits program.now result below.new.items }
+    ensures fits { StepFits program.now result below.new.items }
 {
     let call = Call {
         func,
@@ -79,10 +79,10 @@ fn push_function(
 ) -> Result<Ask, Stop>
     requires agrees { function_agrees (arities program.now) 0 f.now ≡ true }
     requires beneath { EachBeneath program.now below.old.items }
-    ensures turns { let entry = call_of (text_of program.now) f.now in
-        Turns program.now result
+    ensures meant { let entry = call_of (text_of program.now) f.now in
+        IsStep program.now result
         (steps.pushed entry (term_of program.now below.old.items)) below.new.items }
-    ensures fits { TurnFits program.now result below.new.items }
+    ensures fits { StepFits program.now result below.new.items }
 {
     let args = copies(alloc, f.args())?;
     push_call(alloc, program, f.func(), args, below)
@@ -99,10 +99,10 @@ fn deliver_to_call(
     requires fits { CallFits program.now call }
     requires agrees { value_agrees (arities program.now) value ≡ true }
     requires beneath { EachBeneath program.now below.old.items }
-    ensures turns { Turns program.now result
+    ensures meant { IsStep program.now result
         (steps.delivered value
         (entry_of program.now call ∷ term_of program.now below.old.items)) below.new.items }
-    ensures fits { TurnFits program.now result below.new.items }
+    ensures fits { StepFits program.now result below.new.items }
 {
     let _f = program.function(call.func);
     let mut call = call;
@@ -124,10 +124,10 @@ fn deliver_to_force(
     requires awaits { AwaitsEvent forcing }
     requires agrees { value_agrees (arities program.now) value ≡ true }
     requires beneath { EachBeneath program.now below.old.items }
-    ensures turns { (asked : Bool) → Turns program.now result
+    ensures meant { (asked : Bool) → IsStep program.now result
         (steps.delivered value
         (force forcing asked ∷ term_of program.now below.old.items)) below.new.items }
-    ensures fits { TurnFits program.now result below.new.items }
+    ensures fits { StepFits program.now result below.new.items }
 {
     let answer = event_of(&value)?;
     drop(value);
@@ -159,10 +159,10 @@ fn deliver_to_wraps(
     requires fits { WrapsFit program.now wraps }
     requires agrees { value_agrees (arities program.now) value ≡ true }
     requires beneath { EachBeneath program.now below.old.items }
-    ensures turns { Turns program.now result
+    ensures meant { IsStep program.now result
         (steps.delivered value
         (entry_view program.now (Entry.Wraps wraps) ∷ term_of program.now below.old.items)) below.new.items }
-    ensures fits { TurnFits program.now result below.new.items }
+    ensures fits { StepFits program.now result below.new.items }
 {
     let left = wraps.left;
     below.push(Entry::Wraps(Wraps { left, value }))?;
@@ -174,9 +174,9 @@ fn deliver_to_wraps(
 fn deliver(alloc: Global, program: &Prog, value: Value, below: &mut Vec<Entry>) -> Result<Ask, Stop>
     requires agrees { value_agrees (arities program.now) value ≡ true }
     requires beneath { EachBeneath program.now below.old.items }
-    ensures turns { Turns program.now result
+    ensures meant { IsStep program.now result
         (steps.delivered value (term_of program.now below.old.items)) below.new.items }
-    ensures fits { TurnFits program.now result below.new.items }
+    ensures fits { StepFits program.now result below.new.items }
 {
     match below.pop() {
         None => {
@@ -217,10 +217,10 @@ fn after_call(
     requires fits { CallFits program.now call }
     requires did { DidAgrees (arities program.now) (Ok did) }
     requires beneath { EachBeneath program.now below.old.items }
-    ensures turns { (turn : PlainTurn) → MovesTo program.now (Ok did)
-        (entry_of program.now call) (term_of program.now below.old.items) turn
-        → Turns program.now result turn below.new.items }
-    ensures fits { TurnFits program.now result below.new.items }
+    ensures meant { (step : PlainStep) → MovesTo program.now (Ok did)
+        (entry_of program.now call) (term_of program.now below.old.items) step
+        → IsStep program.now result step below.new.items }
+    ensures fits { StepFits program.now result below.new.items }
 {
     match did {
         Did::Goes => {
@@ -263,11 +263,11 @@ fn step_call(
     requires fits { CallFits program.now call }
     requires runs { call.wait ≡ Wait.Runs }
     requires beneath { EachBeneath program.now below.old.items }
-    ensures turns { let before = entry_of program.now call in
-        Turns program.now result
+    ensures meant { let before = entry_of program.now call in
+        IsStep program.now result
         (steps.next (text_of program.now) thread.0
         (before ∷ term_of program.now below.old.items)) below.new.items }
-    ensures fits { TurnFits program.now result below.new.items }
+    ensures fits { StepFits program.now result below.new.items }
 {
     let f = program.function(call.func);
     let mut call = call;
@@ -287,10 +287,10 @@ fn call_guard(
     requires fits { event_agrees (arities program.now) forcing ≡ true }
     requires calls { unforced forcing ≡ Some (calls f) }
     requires beneath { EachBeneath program.now below.old.items }
-    ensures turns { Turns program.now result
+    ensures meant { IsStep program.now result
         (steps.next (text_of program.now) 0
         (force forcing false ∷ term_of program.now below.old.items)) below.new.items }
-    ensures fits { TurnFits program.now result below.new.items }
+    ensures fits { StepFits program.now result below.new.items }
 {
     below.push(Entry::Force(forcing, false))?;
     push_function(alloc, program, &f, below)
@@ -302,9 +302,9 @@ fn ask_for(program: &Prog, forcing: Forcing, ask: Ask, below: &mut Vec<Entry>) -
     requires fits { event_agrees (arities program.now) forcing ≡ true }
     requires agrees { ask_agrees (arities program.now) (plain_ask ask) ≡ true }
     requires beneath { EachBeneath program.now below.old.items }
-    ensures turns { Turns program.now result (steps.asks (plain_ask ask)
+    ensures meant { IsStep program.now result (steps.asks (plain_ask ask)
         (force forcing true ∷ term_of program.now below.old.items)) below.new.items }
-    ensures fits { TurnFits program.now result below.new.items }
+    ensures fits { StepFits program.now result below.new.items }
 {
     below.push(Entry::Force(forcing, true))?;
     Ok(ask)
@@ -332,10 +332,10 @@ fn step_force(
 ) -> Result<Ask, Stop>
     requires fits { event_agrees (arities program.now) forcing ≡ true }
     requires beneath { EachBeneath program.now below.old.items }
-    ensures turns { Turns program.now result
+    ensures meant { IsStep program.now result
         (steps.next (text_of program.now) 0
         (force forcing false ∷ term_of program.now below.old.items)) below.new.items }
-    ensures fits { TurnFits program.now result below.new.items }
+    ensures fits { StepFits program.now result below.new.items }
 {
     match forcing.next()? {
         Next::Call(f) => call_guard(alloc, program, forcing, f, below),
@@ -363,10 +363,10 @@ fn last_call(
     requires takes { function_agrees (arities program.now) 1 f.now ≡ true }
     requires agrees { value_agrees (arities program.now) value ≡ true }
     requires beneath { EachBeneath program.now below.old.items }
-    ensures turns { let entry = call_of (text_of program.now) (given f.now value) in
-        Turns program.now result
+    ensures meant { let entry = call_of (text_of program.now) (given f.now value) in
+        IsStep program.now result
         (steps.pushed entry (term_of program.now below.old.items)) below.new.items }
-    ensures fits { TurnFits program.now result below.new.items }
+    ensures fits { StepFits program.now result below.new.items }
 {
     let mut args = copies(alloc, f.args())?;
     args.push(value)?;
@@ -383,11 +383,11 @@ fn step_wraps(
 ) -> Result<Ask, Stop>
     requires fits { WrapsFit program.now wraps }
     requires beneath { EachBeneath program.now below.old.items }
-    ensures turns { Turns program.now result
+    ensures meant { IsStep program.now result
         (steps.next (text_of program.now) 0
         (entry_view program.now (Entry.Wraps wraps)
         ∷ term_of program.now below.old.items)) below.new.items }
-    ensures fits { TurnFits program.now result below.new.items }
+    ensures fits { StepFits program.now result below.new.items }
 {
     let mut left = wraps.left;
     let value = wraps.value;
@@ -418,11 +418,11 @@ fn step_if_runs(
 ) -> Result<Ask, Stop>
     requires fits { CallFits program.now call }
     requires beneath { EachBeneath program.now below.old.items }
-    ensures turns { let before = entry_of program.now call in
-        Turns program.now result
+    ensures meant { let before = entry_of program.now call in
+        IsStep program.now result
         (steps.next (text_of program.now) thread.0
         (before ∷ term_of program.now below.old.items)) below.new.items }
-    ensures fits { TurnFits program.now result below.new.items }
+    ensures fits { StepFits program.now result below.new.items }
 {
     match call.wait {
         Wait::Runs => step_call(alloc, thread, program, call, below),
@@ -442,13 +442,13 @@ pub(crate) fn step(
     stack: &mut Vec<Entry>,
 ) -> Result<Ask, Stop>
     requires { StackFits program.now stack.old.items }
-    ensures turns { Turns program.now result
+    ensures meant { IsStep program.now result
         (steps.next (text_of program.now) thread.0 (term_of program.now stack.old.items))
         stack.new.items }
-    ensures fits { TurnFits program.now result stack.new.items }
+    ensures fits { StepFits program.now result stack.new.items }
 {
     match stack.pop() {
-        None => Ok(Ask::Nothing),
+        None => Ok(Ask::End),
         Some(Entry::Call(call)) => step_if_runs(alloc, thread, program, call, stack),
         Some(Entry::Force(forcing, false)) => step_force(alloc, program, forcing, stack),
         Some(Entry::Force(forcing, true)) => {

@@ -4,7 +4,7 @@ use Rattle.cml_step.specs.Agrees.{function_agrees}
 use Rattle.cml_step.specs.Terms.{call_of}
 use Rattle.cml_step.specs.Steps.{pushed}
 use Rattle.cml_step.specs.Calls.{text_of}
-use Rattle.cml_step.specs.Stacks.{Turns, term_of}
+use Rattle.cml_step.specs.Stacks.{IsStep, term_of}
 use Rattle.cml_step.proofs.ForceLemmas.{given_is, given_agrees_last}
 use Rattle.cml_step.proofs.stack.last_call.Goals as goal
 
@@ -16,10 +16,10 @@ push_call-requires-clause-agrees c =
     (c.in_ok-push.ensures.items ∙ ap (λ vs. vs ++ c.args.value ∷ []) c.in_ok-args.ensures)))
     ∙ given_agrees_last (arities c.args.program.now) c.args.f.now c.args.value c.requires.takes c.requires.agrees
 
-pub returns-clause-turns : goal.returns-clause-turns
-returns-clause-turns c =
-    subst (λ g. Turns c.args.program.now c.push_call.result (pushed (call_of (text_of c.args.program.now) g) (term_of c.args.program.now c.args.below.now.items)) c.push_call.new.below.items)
+pub returns-clause-meant : goal.returns-clause-meant
+returns-clause-meant c =
+    subst (λ g. IsStep c.args.program.now c.push_call.result (pushed (call_of (text_of c.args.program.now) g) (term_of c.args.program.now c.args.below.now.items)) c.push_call.new.below.items)
     (sym
     (given_is c.args.f.now c.func.result c.args-2.result.now c.push.new.self.items c.args.value c.func.ensures c.args-2.ensures
     (c.in_ok-push.ensures.items ∙ ap (λ vs. vs ++ c.args.value ∷ []) c.in_ok-args.ensures)))
-    c.push_call.ensures.turns
+    c.push_call.ensures.meant

@@ -2,15 +2,15 @@ use Rattle.std.proofs.Common.{refl, subst}
 use Rattle.cml_step.specs.declared.call.Wait.TheVariants as wait
 use Rattle.cml_step.specs.declared.call.Call.{Call}
 use Rattle.cml_step.specs.Steps.{pushed}
-use Rattle.cml_step.specs.Stacks.{Turns, term_of}
+use Rattle.cml_step.specs.Stacks.{IsStep, term_of}
 use Rattle.cml_step.proofs.StackLemmas.{begun, begun_fits}
 use Rattle.cml_step.proofs.stack.push_call.Goals as goal
 
-pub returns-clause-turns : goal.returns-clause-turns
-returns-clause-turns c =
+pub returns-clause-meant : goal.returns-clause-meant
+returns-clause-meant c =
     let call : Call = record { func = c.args.func; path = c.new.result; at = 0; slots = c.args.args; wait = wait.Runs } in
-    subst (λ e. Turns c.args.program.now c.push.result (pushed e (term_of c.args.program.now c.args.below.now.items)) c.push.new.below.items)
-    (begun c.args.program.now c.args.args.items call c.new.ensures.items refl refl refl) (c.push.ensures.turns c.args.program.now)
+    subst (λ e. IsStep c.args.program.now c.push.result (pushed e (term_of c.args.program.now c.args.below.now.items)) c.push.new.below.items)
+    (begun c.args.program.now c.args.args.items call c.new.ensures.items refl refl refl) (c.push.ensures.meant c.args.program.now)
 
 pub returns-clause-fits : goal.returns-clause-fits
 returns-clause-fits c =

@@ -11,10 +11,10 @@ after_call-requires-clause-fits c =
     moved_fits c.args.program.now c.function-f.result.now c.args.call c.call_step.new.call c.requires.fits.there c.function-f.ensures.found c.call_step.ensures.same
     c.call_step.ensures.agree c.call_step.ensures.waits
 
-pub returns-clause-turns : goal.returns-clause-turns
-returns-clause-turns c =
+pub returns-clause-meant : goal.returns-clause-meant
+returns-clause-meant c =
     let below : Term = term_of c.args.program.now c.args.below.now.items in
-    c.after_call.ensures.turns (next (text_of c.args.program.now) c.args.thread.0 (entry_of c.args.program.now c.args.call ∷ below))
+    c.after_call.ensures.meant (next (text_of c.args.program.now) c.args.thread.0 (entry_of c.args.program.now c.args.call ∷ below))
     (subst
     (λ (e : PlainEntry). MovesTo c.args.program.now (Ok c.in_ok-did.did) e below (next (text_of c.args.program.now) c.args.thread.0 (entry_of c.args.program.now c.args.call ∷ below)))
     (sym (entry_is c.args.program.now c.function-f.result.now c.args.call c.call_step.new.call c.requires.fits.there c.function-f.ensures.found c.call_step.ensures.same))

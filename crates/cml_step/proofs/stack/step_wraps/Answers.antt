@@ -6,7 +6,7 @@ use Rattle.cml_step.specs.Terms.{call_of, wraps}
 use Rattle.cml_step.specs.Forced.{given}
 use Rattle.cml_step.specs.Steps.{pushed}
 use Rattle.cml_step.specs.Calls.{text_of}
-use Rattle.cml_step.specs.Stacks.{Turns, term_of, EachBeneath}
+use Rattle.cml_step.specs.Stacks.{IsStep, term_of, EachBeneath}
 use Rattle.cml_step.proofs.StackLemmas.{next_wrap, wraps_popped, beneath_pushed, pushed_is}
 use Rattle.cml_step.proofs.stack.step_wraps.Goals as goal
 
@@ -24,13 +24,13 @@ last_call-requires-clause-beneath c =
       value = ap (value_agrees (arities c.args.program.now)) c.in_ok-so_far-in-Some.ensures ∙ c.requires.fits.value;
     }))
 
-pub returns-in_ok-push-in-Some-clause-turns : goal.returns-in_ok-push-in-Some-clause-turns
-returns-in_ok-push-in-Some-clause-turns c =
-    subst (λ t. Turns c.args.program.now c.last_call.result t c.last_call.new.below.items)
+pub returns-in_ok-push-in-Some-clause-meant : goal.returns-in_ok-push-in-Some-clause-meant
+returns-in_ok-push-in-Some-clause-meant c =
+    subst (λ t. IsStep c.args.program.now c.last_call.result t c.last_call.new.below.items)
     (ap (pushed (call_of (text_of c.args.program.now) (given c.in-Some.f c.args.wraps.value)))
     (pushed_is c.args.program.now c.args.below.now.items _ (entry.Wraps (record { left = c.pop.new.self; value = c.in_ok-so_far-in-Some.so_far })) c.in_ok-push-in-Some.ensures.items
     ∙ ap (λ v. wraps (reverse c.pop.new.self.items) v ∷ term_of c.args.program.now c.args.below.now.items) c.in_ok-so_far-in-Some.ensures)
     ∙ sym
     (next_wrap (text_of c.args.program.now) 0 c.args.wraps.left.items c.pop.new.self.items c.in-Some.f c.args.wraps.value (term_of c.args.program.now c.args.below.now.items)
     c.in-Some.ensures.items))
-    c.last_call.ensures.turns
+    c.last_call.ensures.meant

@@ -2,7 +2,7 @@ use Rattle.std.proofs.Common.{◌≡◌, ◌≤◌, ◌-◌}
 use Rattle.cml_step.specs.Slices.{sliced_from}
 use Rattle.cml_step.specs.Calls.{text_of}
 use Rattle.cml_step.specs.Stacks.{term_of, StackFits}
-use Rattle.cml_step.proofs.turns.run.Given as goal
+use Rattle.cml_step.proofs.steps.run.Given as goal
 
 abbrev pub invariant-loop-done : goal.invariant-loop-done
 invariant-loop-done l = record {

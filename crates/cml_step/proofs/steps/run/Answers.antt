@@ -4,7 +4,7 @@ use Rattle.cml_step.specs.Steps.{next, asks}
 use Rattle.cml_step.specs.Calls.{text_of}
 use Rattle.cml_step.specs.Stacks.{term_of}
 use Rattle.cml_step.proofs.SliceLemmas.{slice_on, slice_asks, slice_over, slice_skips}
-use Rattle.cml_step.proofs.turns.run.Goals as goal
+use Rattle.cml_step.proofs.steps.run.Goals as goal
 
 pub returns-in_default : goal.returns-in_default
 returns-in_default c =
@@ -15,7 +15,7 @@ returns-in_default c =
       meant =
           c.loop-done.invariant.left
           ∙ slice_skips (text_of p) c.args.thread.0 c.args.most n c.loop-done.done (term_of p c.loop-done.stack.items) (term_of p c.quiet_steps.new.stack.items) (c.in_ok-done.ensures.goes c.args.thread.0) c.in_ok-done.ensures.within
-          ∙ slice_asks (text_of p) c.args.thread.0 c.args.most (c.loop-done.done + n) (term_of p c.quiet_steps.new.stack.items) (term_of p c.turn.new.stack.items) c.in_ok-ask.ask lower c.in_ok-ask.ensures.turns c.in_default.not-Nothing;
+          ∙ slice_asks (text_of p) c.args.thread.0 c.args.most (c.loop-done.done + n) (term_of p c.quiet_steps.new.stack.items) (term_of p c.step_or_fault.new.stack.items) c.in_ok-ask.ask lower c.in_ok-ask.ensures.meant c.in_default.not-Nothing;
       fits = c.in_ok-ask.ensures.fits;
       agrees = c.in_ok-ask.ensures.agrees;
     }
@@ -31,8 +31,8 @@ loop-done-preserved c =
       left =
           c.loop-done.invariant.left
           ∙ slice_skips (text_of p) c.args.thread.0 c.args.most n c.loop-done.done (term_of p c.loop-done.stack.items) (term_of p c.quiet_steps.new.stack.items) (c.in_ok-done.ensures.goes c.args.thread.0) c.in_ok-done.ensures.within
-          ∙ slice_on (text_of p) c.args.thread.0 c.args.most (c.loop-done.done + n) (term_of p c.quiet_steps.new.stack.items) (term_of p c.turn.new.stack.items) lower
-          (subst (λ a. next (text_of p) c.args.thread.0 (term_of p c.quiet_steps.new.stack.items) ≡ asks (plain_ask a) (term_of p c.turn.new.stack.items)) c.in-Nothing.is c.in_ok-ask.ensures.turns);
+          ∙ slice_on (text_of p) c.args.thread.0 c.args.most (c.loop-done.done + n) (term_of p c.quiet_steps.new.stack.items) (term_of p c.step_or_fault.new.stack.items) lower
+          (subst (λ a. next (text_of p) c.args.thread.0 (term_of p c.quiet_steps.new.stack.items) ≡ asks (plain_ask a) (term_of p c.step_or_fault.new.stack.items)) c.in-Nothing.is c.in_ok-ask.ensures.meant);
     }
 
 pub returns-then-done-most : goal.returns-then-done-most

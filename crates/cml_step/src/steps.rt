@@ -22,14 +22,14 @@ use std::alloc::{AllocError, Global};
 pub const MAX_STEPS: u32 = 1000;
 
 // One step, where a fault is an ask of a thread that has ended.
-fn turn(
+fn step_or_fault(
     alloc: Global,
     thread: Tid,
     program: &Prog,
     stack: &mut Vec<Entry>,
 ) -> Result<Ask, AllocError>
     requires { StackFits program.now stack.old.items }
-    ensures turns { IfOk result (λ a.
+    ensures meant { IfOk result (λ a.
         next (text_of program.now) thread.0 (term_of program.now stack.old.items)
         ≡ asks (plain_ask a) (term_of program.now stack.new.items)) }
     ensures fits { IfOk result (λ _. StackFits program.now stack.new.items) }
@@ -78,7 +78,7 @@ pub(crate) fn run(
         if done == most {
             return Ok((Ask::Nothing, done));
         }
-        match turn(alloc, thread, program, stack)? {
+        match step_or_fault(alloc, thread, program, stack)? {
             Ask::Nothing => done += 1,
             ask => return Ok((ask, done + 1)),
         }
