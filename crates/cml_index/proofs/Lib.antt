@@ -6,3 +6,4 @@ pub mod Scopes
 mod Pairs
 mod Receivers
 mod Seeking
+mod Others

@@ -1,6 +1,10 @@
 -- The leaves that begin a row, and what a search among some leaves answers.
 use Rattle.std.specs.Prelude.{ℕ, ◌≡◌, ◌+◌, ◌*◌, ◌<◌, ◌≤◌, Bool, List, Some, map, length, slice_get}
 use Rattle.cml_value.specs.Group.{bases}
+use Rattle.cml_value.specs.Value.{PlainBase}
+use Rattle.cml_scan.specs.declared.meet.Meet.{Meet}
+use Rattle.cml_scan.specs.declared.meet.Meet.TheVariants.{Pair}
+use Rattle.cml_scan.specs.declared.meet.Place.{Place}
 use Rattle.cml_scan.specs.Light.{lit_by}
 use Rattle.cml_scan.specs.World.{PlainEntry}
 use Rattle.cml_scan.specs.Scan.{PlainOffer}
@@ -11,6 +15,14 @@ use Rattle.cml_index.specs.declared.heads.HeadKind.TheVariants.{Alone, Met}
 use Rattle.cml_index.specs.declared.heads.Sought.{Sought}
 use Rattle.cml_index.specs.declared.heads.Sought.TheVariants.{Found, Left}
 use Rattle.cml_index.specs.Posts.{told}
+
+-- the leaf at a place, if it waits for this
+abbrev pub offer_at : Place → PlainBase → PlainOffer
+offer_at p b = record { thread = p.tid.0; leaf = p.leaf; base = b }
+
+-- the row of the leaf at one place with the one at another
+abbrev pub pair_of : Place → Place → Meet
+pair_of p q = Pair p.tid p.leaf q.tid q.leaf
 
 -- The leaf is one of those that are sought: it can be taken alone, or one of these leaves can meet it.
 abbrev pub is_sought : HeadKind → List (Slot × Bool) → List PlainOffer → PlainOffer → Bool

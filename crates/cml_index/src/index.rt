@@ -11,8 +11,7 @@ ghost use Rattle.cml_index.specs.Posts as spec;
 use crate::flags::is_lit_by;
 use crate::lanes::Lanes;
 use crate::state::{self, Core};
-use crate::table::offers;
-use crate::{heads, partners};
+use crate::{heads, partners, rows};
 use cml_channel::Tally;
 use cml_scan::{Light, Meet, Place};
 use cml_value::{Base, BaseKind, Group, Tid};
@@ -204,8 +203,7 @@ impl OfferIndex {
         ensures { IfOk result (λ rows. rows.items
             ≡ scan_of self.now.entries (spec.told self.now.flags)) }
     {
-        let offers = offers(alloc, &self.core.entries)?;
-        cml_scan::rows(alloc, &offers, &self.core)
+        rows::all_rows(alloc, &self.core, &mut Tally::new())
     }
 }
 

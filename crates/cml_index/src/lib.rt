@@ -8,6 +8,7 @@ mod index;
 mod lanes;
 mod nacks;
 mod partners;
+mod rows;
 mod runs;
 mod slot;
 mod state;
