@@ -7,3 +7,6 @@ mod Pairs
 mod Receivers
 mod Seeking
 mod Others
+mod Kept
+mod Beside
+mod Counted

@@ -1,5 +1,10 @@
 -- The leaves that begin a row, and what a search among some leaves answers.
-use Rattle.std.specs.Prelude.{ℕ, ◌≡◌, ◌+◌, ◌*◌, ◌<◌, ◌≤◌, Bool, List, Some, map, length, slice_get}
+use Rattle.std.specs.Prelude.{ℕ, ◌≡◌, ◌+◌, ◌*◌, ◌<◌, ◌≤◌, Bool, true, false, List, Option, Some, None, map, filter, length, slice_get}
+use Rattle.std.specs.List.{list_any}
+use Rattle.cml_value.specs.declared.number.Tid.{Tid}
+use Rattle.cml_channel.specs.Lanes.{is_others}
+use Rattle.cml_index.specs.declared.slot.Slot.TheVariants.{Side}
+use Rattle.cml_index.specs.Slots.{lane_of}
 use Rattle.cml_value.specs.Group.{bases}
 use Rattle.cml_value.specs.Value.{PlainBase}
 use Rattle.cml_scan.specs.declared.meet.Meet.{Meet}
@@ -14,7 +19,7 @@ use Rattle.cml_index.specs.declared.heads.HeadKind.{HeadKind}
 use Rattle.cml_index.specs.declared.heads.HeadKind.TheVariants.{Alone, Met}
 use Rattle.cml_index.specs.declared.heads.Sought.{Sought}
 use Rattle.cml_index.specs.declared.heads.Sought.TheVariants.{Found, Left}
-use Rattle.cml_index.specs.Posts.{told}
+use Rattle.cml_index.specs.Posts.{told, slot_of}
 
 -- the leaf at a place, if it waits for this
 abbrev pub offer_at : Place → PlainBase → PlainOffer
@@ -38,3 +43,16 @@ IsAnswer (Left more) k os = k ≡ length os + more
 abbrev pub EndsThere : Sought → PlainEntry → ℕ → ℕ → Type 0
 EndsThere (Found p) e old new = (p.tid.0 ≡ e.thread) × (p.leaf < length (bases e.group)) × (new ≤ old + 3 * (p.leaf + 1))
 EndsThere (Left more) e old new = new ≤ old + 3 * length (bases e.group)
+
+-- The offer has one of another thread beside it, where the thread is known of which all of these are, if they are of one alone.
+abbrev pub is_beside : Option Tid → Place → Bool
+is_beside (Some tid) q = is_others tid q
+is_beside None q = true
+
+-- those of the heads that have an offer of another thread among these
+abbrev pub met_among : List Place → List Place → List Place
+met_among others heads = filter (λ q. list_any (is_others q.tid) others) heads
+
+-- the leaves that stand first on the channel of this number and have a partner there
+abbrev pub heads_on : List PlainOffer → ℕ → List Place
+heads_on os n = met_among (lane_of slot_of (Side false n) os) (lane_of slot_of (Side true n) os)

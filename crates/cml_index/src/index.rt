@@ -15,7 +15,7 @@ use crate::{heads, partners, rows};
 use cml_channel::Tally;
 use cml_scan::{Light, Meet, Place};
 use cml_value::{Base, BaseKind, Group, Tid};
-use indexmap::IndexMap;
+use indexmap::{IndexMap, IndexSet};
 use std::alloc::{AllocError, Global};
 use std::marker::Model;
 
@@ -35,7 +35,7 @@ impl Model for OfferIndex {
 
     ghost view = { λ x. record { entries = x.core.entries.items; flags = x.core.flags.entries } };
 
-    ghost invariant = { λ x. IsIndexed x.core.entries.items x.core.lanes.by_slot
+    ghost invariant = { λ x. IsIndexed x.core.entries.items x.core.lanes.by_slot x.core.live
         x.core.flags.entries x.core.leaves x.core.lit };
 }
 
@@ -48,6 +48,7 @@ impl OfferIndex {
             core: Core {
                 entries: Vec::new(alloc),
                 lanes: Lanes::new(alloc),
+                live: IndexSet::new(alloc),
                 flags: IndexMap::new(alloc),
                 leaves: 0,
                 lit: 0,

@@ -13,6 +13,7 @@ ghost use Rattle.cml_index.specs.Posts as spec;
 
 use crate::entry::Entry;
 use crate::flags::is_lit_by;
+use crate::heads::head_count;
 use crate::lanes::Lanes;
 use crate::slot::Slot;
 use crate::state::Core;
@@ -66,7 +67,7 @@ fn push_slot(
     head: Place,
     tally: &mut Tally,
 ) -> Result<(), AllocError>
-    requires { spec.IsIndexed core.now.entries.items core.now.lanes.by_slot
+    requires { spec.IsIndexed core.now.entries.items core.now.lanes.by_slot core.now.live
         core.now.flags.entries core.now.leaves core.now.lit }
     ensures { IfOk result (λ _. rows.new.items ≡ rows.old.items
         ++ map (pair_of head) (others head.tid (lane_of spec.slot_of slot (offers_of core.now.entries.items)))) }
@@ -85,7 +86,7 @@ fn push_pairs(
     base: &Base,
     tally: &mut Tally,
 ) -> Result<(), AllocError>
-    requires { spec.IsIndexed core.now.entries.items core.now.lanes.by_slot
+    requires { spec.IsIndexed core.now.entries.items core.now.lanes.by_slot core.now.live
         core.now.flags.entries core.now.leaves core.now.lit }
     ensures { IfOk result (λ _. rows.new.items
         ≡ rows.old.items ++ pairs_with (offers_of core.now.entries.items) (offer_at head base.now)) }
@@ -98,7 +99,7 @@ fn push_pairs(
 
 // Puts the rows of the thread's leaves with others behind those that stand there.
 fn push_pairs_of(rows: &mut Vec<Meet>, core: &Core, entry: &Entry, tally: &mut Tally) -> Result<(), AllocError>
-    requires { spec.IsIndexed core.now.entries.items core.now.lanes.by_slot
+    requires { spec.IsIndexed core.now.entries.items core.now.lanes.by_slot core.now.live
         core.now.flags.entries core.now.leaves core.now.lit }
     ensures { IfOk result (λ _. rows.new.items ≡ rows.old.items
         ++ flat_map (pairs_with (offers_of core.now.entries.items))
@@ -130,14 +131,17 @@ fn push_singles_of(rows: &mut Vec<Meet>, core: &Core, entry: &Entry, tally: &mut
     Ok(())
 }
 
-// All rows, in order.
+// All rows, in order. Where there is no head, no leaf is looked at but two offers of each channel on both sides of which some stand.
 pub(crate) fn all_rows(alloc: Global, core: &Core, tally: &mut Tally) -> Result<Vec<Meet>, AllocError>
-    requires { spec.IsIndexed core.now.entries.items core.now.lanes.by_slot
+    requires { spec.IsIndexed core.now.entries.items core.now.lanes.by_slot core.now.live
         core.now.flags.entries core.now.leaves core.now.lit }
     ensures { IfOk result (λ rows. rows.items
         ≡ scan_of core.now.entries.items (spec.told core.now.flags.entries)) }
 {
     let _leaves = core.leaves;
+    if head_count(core, tally) == 0 {
+        return Ok(Vec::new(alloc));
+    }
     let mut rows = Vec::new(alloc);
     for entry in &core.entries {
         push_singles_of(&mut rows, core, entry, tally)?;

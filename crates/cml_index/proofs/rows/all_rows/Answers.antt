@@ -5,9 +5,9 @@ use Rattle.std.proofs.lemmas.List.Concat.{flat_map-append}
 use Rattle.cml_value.specs.Group.{bases}
 use Rattle.cml_scan.specs.World.{PlainEntry}
 use Rattle.cml_scan.specs.Light.{lit_by}
-use Rattle.cml_scan.specs.Scan.{PlainOffer, single, pairs_with, offers_of, leaves_from}
+use Rattle.cml_scan.specs.Scan.{PlainOffer, single, pairs_with, offers_of, leaves_from, scan_of}
 use Rattle.cml_index.specs.Posts as spec
-use Rattle.cml_index.proofs.Seeking.{offers_step, sought_step}
+use Rattle.cml_index.proofs.Seeking.{offers_step, sought_step, no_rows}
 use Rattle.cml_index.proofs.rows.all_rows.Goals as goal
 
 pub loop-entry-preserved : goal.loop-entry-preserved
@@ -37,3 +37,6 @@ loop-head-preserved c =
     let step : flat_map f (offers_of (drop at es)) ≡ here ++ later =
     ap (flat_map f) (offers_step es at e within is) ∙ flat_map-append f (leaves_from e.thread 0 (bases e.group)) (offers_of (drop (at + 1) es)) in
     ap (λ xs. xs ++ later) c.in_ok-push_pairs_of.ensures ∙ append_assoc c.loop-head.rows.items here later ∙ ap (λ ys. c.loop-head.rows.items ++ ys) (sym step) ∙ c.loop-head.invariant
+
+pub returns-then-head_count-eq0 : goal.returns-then-head_count-eq0
+returns-then-head_count-eq0 c = c.new.ensures.items ∙ sym (no_rows (scan_of c.args.core.now.entries.items (spec.told c.args.core.now.flags.entries)) (sym c.head_count.ensures.count ∙ c.if-head_count-eq0.true))
