@@ -1,5 +1,5 @@
 -- Which offers have one of another thread beside them in a lane.
-use Rattle.std.proofs.Common.{◌≡◌, ℕ, zero, suc, ◌+◌, ◌*◌, ◌-◌, ◌<◌, ◌^◌, Bool, true, false, not, nat_eq, nat_lt, cond, ◌||◌, List, [], ◌∷◌, length, get_or, Option, Some, None, refl, ap, sym, subst, ◌∙◌, arith}
+use Rattle.std.proofs.Common.{◌≡◌, ℕ, zero, suc, ◌+◌, ◌*◌, ◌-◌, ◌<◌, ◌^◌, Bool, true, false, not, nat_eq, nat_lt, List, [], ◌∷◌, length, get_or, Option, Some, None, refl, ap, sym, subst, ◌∙◌, arith}
 use Rattle.std.specs.Prelude.{slice_get}
 use Rattle.std.specs.List.{filter, list_any}
 use Rattle.std.proofs.lemmas.Bool.Decides.{nat_tests}
@@ -7,7 +7,7 @@ use Rattle.std.proofs.lemmas.Nat.{pow_pos, pow-add}
 use Rattle.cml_value.specs.declared.number.Tid.{Tid}
 use Rattle.cml_scan.specs.declared.meet.Place.{Place}
 use Rattle.std.proofs.lemmas.List.Folds.{list_any_at}
-use Rattle.cml_scan.specs.Order.{before, before_numbers, Every, Ascends}
+use Rattle.cml_scan.specs.Order.{before, before_numbers, Ascends}
 use Rattle.cml_channel.specs.Lanes.{is_others}
 use Rattle.cml_index.proofs.Lit.{at_place}
 use Rattle.cml_index.specs.Heads.{is_beside, met_among}

@@ -1,5 +1,5 @@
 -- The channels on both sides of which offers stand, when runs come or go.
-use Rattle.std.proofs.Common.{◌≡◌, ℕ, Bool, true, false, not, ◌&&◌, ◌||◌, nat_eq, nat_lt, cond, List, [], ◌∷◌, ◌++◌, drop, length, ◌+◌, ◌<◌, ◌≤◌, refl, ap, sym, subst, ◌∙◌, arith}
+use Rattle.std.proofs.Common.{◌≡◌, ℕ, Bool, true, false, ◌&&◌, ◌||◌, nat_eq, nat_lt, List, ◌++◌, length, ◌+◌, ◌≤◌, refl, ap, sym, ◌∙◌, arith}
 use Rattle.std.specs.List.{filter}
 use Rattle.std.proofs.lemmas.List.{length-append}
 use Rattle.cml_value.specs.declared.number.Tid.{Tid}
@@ -8,11 +8,8 @@ use Rattle.cml_scan.specs.Order.{before, Every, Ascends}
 use Rattle.cml_channel.specs.Lanes.{is_others, run, with_run}
 use Rattle.cml_index.proofs.Walks.{with_none}
 use Rattle.std.proofs.lemmas.Bool.Decides.{nat_tests}
-use Rattle.cml_index.specs.declared.slot.Slot.{Slot}
-use Rattle.cml_index.specs.declared.slot.Slot.TheVariants.{Side, Waiters}
-use Rattle.cml_index.specs.Slot.{same_slot}
-use Rattle.cml_index.specs.Slots.{has_run}
-use Rattle.cml_index.specs.Live.{is_side, has_side}
+use Rattle.cml_index.specs.declared.slot.Slot.TheVariants.{Side}
+use Rattle.cml_index.specs.Live.{is_side}
 
 -- a side is one of the channel of its number
 pub side_is : (h : Bool) (m n : ℕ) → is_side (Side h m) n ≡ nat_eq m n

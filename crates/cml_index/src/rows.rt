@@ -40,7 +40,12 @@ pub(crate) fn other_in(lane: &Lane, tid: Tid, own: usize, j: usize, tally: &mut 
 }
 
 // Puts the rows of the head with the offers in the lane that are of other threads behind those that stand there.
-fn push_lane(rows: &mut Vec<Meet>, head: Place, lane: &Lane, tally: &mut Tally) -> Result<(), AllocError>
+fn push_lane(
+    rows: &mut Vec<Meet>,
+    head: Place,
+    lane: &Lane,
+    tally: &mut Tally,
+) -> Result<(), AllocError>
     requires { Ascends before lane.now.places }
     ensures { IfOk result (λ _. rows.new.items
         ≡ rows.old.items ++ map (pair_of head) (others head.tid lane.now.places)) }
@@ -98,7 +103,12 @@ fn push_pairs(
 }
 
 // Puts the rows of the thread's leaves with others behind those that stand there.
-fn push_pairs_of(rows: &mut Vec<Meet>, core: &Core, entry: &Entry, tally: &mut Tally) -> Result<(), AllocError>
+fn push_pairs_of(
+    rows: &mut Vec<Meet>,
+    core: &Core,
+    entry: &Entry,
+    tally: &mut Tally,
+) -> Result<(), AllocError>
     requires { spec.IsIndexed core.now.entries.items core.now.lanes.by_slot core.now.live
         core.now.flags.entries core.now.leaves core.now.lit }
     ensures { IfOk result (λ _. rows.new.items ≡ rows.old.items
@@ -113,7 +123,12 @@ fn push_pairs_of(rows: &mut Vec<Meet>, core: &Core, entry: &Entry, tally: &mut T
 }
 
 // Puts the rows of the thread's leaves that can be taken alone behind those that stand there.
-fn push_singles_of(rows: &mut Vec<Meet>, core: &Core, entry: &Entry, tally: &mut Tally) -> Result<(), AllocError>
+fn push_singles_of(
+    rows: &mut Vec<Meet>,
+    core: &Core,
+    entry: &Entry,
+    tally: &mut Tally,
+) -> Result<(), AllocError>
     ensures { IfOk result (λ _. rows.new.items ≡ rows.old.items
         ++ map single (filter (λ o. lit_by (spec.told core.now.flags.entries) o.base)
         (leaves_from entry.now.thread 0 (bases entry.now.group)))) }
@@ -132,7 +147,11 @@ fn push_singles_of(rows: &mut Vec<Meet>, core: &Core, entry: &Entry, tally: &mut
 }
 
 // All rows, in order. Where there is no head, no leaf is looked at but two offers of each channel on both sides of which some stand.
-pub(crate) fn all_rows(alloc: Global, core: &Core, tally: &mut Tally) -> Result<Vec<Meet>, AllocError>
+pub(crate) fn all_rows(
+    alloc: Global,
+    core: &Core,
+    tally: &mut Tally,
+) -> Result<Vec<Meet>, AllocError>
     requires { spec.IsIndexed core.now.entries.items core.now.lanes.by_slot core.now.live
         core.now.flags.entries core.now.leaves core.now.lit }
     ensures { IfOk result (λ rows. rows.items

@@ -1,4 +1,4 @@
-use Rattle.std.proofs.Common.{◌≡◌, ◌<◌, ◌≤◌, ◌+◌, ◌*◌, length, Some, None, ap, sym, subst, ◌∙◌, arith}
+use Rattle.std.proofs.Common.{◌≡◌, ◌<◌, length, Some, None, ap, sym, subst, ◌∙◌, arith}
 use Rattle.cml_scan.specs.declared.meet.Place.{Place}
 use Rattle.std.specs.List.{list_any}
 use Rattle.cml_channel.specs.Lanes.{is_others}

@@ -1,4 +1,4 @@
-use Rattle.std.proofs.Common.{[], length, ap, sym, ◌∙◌}
+use Rattle.std.proofs.Common.{[], length, ap, sym}
 use Rattle.std.specs.Option.{option_map_or}
 use Rattle.cml_channel.specs.Lanes.{PlainLane}
 use Rattle.cml_index.specs.Slots.{lane_at}

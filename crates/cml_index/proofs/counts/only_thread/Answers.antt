@@ -1,4 +1,4 @@
-use Rattle.std.proofs.Common.{◌≡◌, ◌-◌, get_or, length, ap, sym, ◌∙◌, arith}
+use Rattle.std.proofs.Common.{◌≡◌, ◌-◌, get_or, length, ap, sym, ◌∙◌}
 use Rattle.cml_scan.specs.declared.meet.Place.{Place}
 use Rattle.cml_channel.specs.Lanes.{is_others}
 use Rattle.cml_index.proofs.Beside.{alone, several}

@@ -1,4 +1,4 @@
-use Rattle.std.proofs.Common.{◌≡◌, ◌∙◌, ◌+◌, ◌≤◌, true, false, nat_eq, drop, arith}
+use Rattle.std.proofs.Common.{◌+◌, true, false, nat_eq, drop, arith}
 use Rattle.indexmap.specs.IndexSet.{contains}
 use Rattle.cml_index.specs.declared.slot.Slot.TheVariants.{Side}
 use Rattle.cml_index.specs.Slot.{same_slot}

@@ -1,4 +1,4 @@
-use Rattle.std.proofs.Common.{◌≡◌, ◌≤◌, ◌+◌, ℕ, drop, true, false, nat_eq}
+use Rattle.std.proofs.Common.{◌≡◌, ◌≤◌, ◌+◌, ℕ, drop, false, nat_eq}
 use Rattle.indexmap.specs.IndexMap.{index_map_len}
 use Rattle.indexmap.specs.IndexSet.{contains, spare}
 use Rattle.cml_index.specs.Live as spec

@@ -1,4 +1,4 @@
-use Rattle.std.proofs.Common.{◌≡◌, ℕ, zero, suc, List, [], ◌∷◌, refl, ◌<◌, ◌+◌, true, false, nat_lt, get_or, length, ap, sym, ◌∙◌, arith}
+use Rattle.std.proofs.Common.{◌≡◌, ℕ, zero, suc, List, [], ◌∷◌, refl, ◌<◌, true, false, nat_lt, get_or, length, ap, sym, ◌∙◌, arith}
 use Rattle.cml_scan.specs.declared.meet.Place.{Place}
 use Rattle.cml_index.proofs.Parted.{lt_is, ge_is}
 use Rattle.cml_index.proofs.Others.{other_before, other_behind}

@@ -1,4 +1,4 @@
-use Rattle.std.proofs.Common.{◌≡◌, ◌+◌, ◌-◌, ◌≤◌, length, arith}
+use Rattle.std.proofs.Common.{◌≤◌, length, arith}
 use Rattle.cml_channel.specs.Lanes.{is_others, others}
 use Rattle.cml_index.proofs.Parted.{filter_fewer}
 use Rattle.cml_index.proofs.rows.push_lane.Goals as goal

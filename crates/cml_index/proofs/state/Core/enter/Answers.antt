@@ -59,8 +59,8 @@ add_all-requires-clause-was c n e =
     let up : (k : Slot) → Ascends before (lane_at lanes k) = λ k. subst (Ascends before) (sym (c.requires.indexed.placed k)) (lane-ascends spec.slot_of k es c.requires.indexed.sorted) in
     let new_ : (k : Slot) → Every (is_others tid) (lane_at lanes k) = λ k. subst (Every (is_others tid)) (sym (c.requires.indexed.placed k)) (lane_others spec.slot_of k tid es away) in
     let same : (k : Slot) → has_run c.runs-2.result.now.entries k ≡ false → lane_at after k ≡ lane_at lanes k = λ k off.
-        let none : run_in c.runs-2.result.now k ≡ [] = ap (λ r. option_map_or (λ (v : Vec ℕ Global). v.items) r []) (no_run c.runs-2.result.now.entries k off) in
-        c.come.ensures.lanes k ∙ ap (λ ls. with_run tid ls (lane_at lanes k)) (c.runs.ensures.runs k ∙ sym (c.runs-2.ensures.runs k) ∙ none) ∙ with_none tid (lane_at lanes k) (up k) (new_ k) in
+    let none : run_in c.runs-2.result.now k ≡ [] = ap (λ r. option_map_or (λ (v : Vec ℕ Global). v.items) r []) (no_run c.runs-2.result.now.entries k off) in
+    c.come.ensures.lanes k ∙ ap (λ ls. with_run tid ls (lane_at lanes k)) (c.runs.ensures.runs k ∙ sym (c.runs-2.ensures.runs k) ∙ none) ∙ with_none tid (lane_at lanes k) (up k) (new_ k) in
     let off = no_side (has_run c.runs-2.result.now.entries (Side true n)) (has_run c.runs-2.result.now.entries (Side false n)) e in
     c.requires.indexed.sides n ∙ ap (λ ps. nat_lt 0 (length ps) && nat_lt 0 (length (lane_at lanes (Side false n)))) (sym (same (Side true n) off.0)) ∙ ap (λ ps. nat_lt 0 (length (lane_at after (Side true n))) && nat_lt 0 (length ps)) (sym (same (Side false n) off.1))
 
@@ -75,9 +75,9 @@ add_all-requires-clause-under c n dark =
     let up : (k : Slot) → Ascends before (lane_at lanes k) = λ k. subst (Ascends before) (sym (c.requires.indexed.placed k)) (lane-ascends spec.slot_of k es c.requires.indexed.sorted) in
     let new_ : (k : Slot) → Every (is_others tid) (lane_at lanes k) = λ k. subst (Every (is_others tid)) (sym (c.requires.indexed.placed k)) (lane_others spec.slot_of k tid es away) in
     let more : (k : Slot) → length (lane_at lanes k) ≤ length (lane_at after k) = λ k.
-        let few : length (lane_at lanes k) ≤ length (with_run tid (run_in c.runs.result.now k) (lane_at lanes k)) = with_longer tid (run_in c.runs.result.now k) (lane_at lanes k) (up k) (new_ k) in
-        let same : length (lane_at after k) ≡ length (with_run tid (run_in c.runs.result.now k) (lane_at lanes k)) = ap length (c.come.ensures.lanes k) in
-        omega (arith, few, same) in
+    let few : length (lane_at lanes k) ≤ length (with_run tid (run_in c.runs.result.now k) (lane_at lanes k)) = with_longer tid (run_in c.runs.result.now k) (lane_at lanes k) (up k) (new_ k) in
+    let same : length (lane_at after k) ≡ length (with_run tid (run_in c.runs.result.now k) (lane_at lanes k)) = ap length (c.come.ensures.lanes k) in
+    omega (arith, few, same) in
     c.requires.indexed.sides n ∙ filled_more (length (lane_at lanes (Side true n))) (length (lane_at lanes (Side false n))) (length (lane_at after (Side true n))) (length (lane_at after (Side false n))) (more (Side true n)) (more (Side false n)) dark
 
 pub returns-clause-entries : goal.returns-clause-entries

@@ -73,9 +73,9 @@ cut_all-requires-clause-was c n e =
     let lanes = c.args.self.now.lanes.by_slot in
     let after = c.go.new.self.by_slot in
     let same : (k : Slot) → has_run c.runs-2.result.now.entries k ≡ false → lane_at after k ≡ lane_at lanes k = λ k off.
-        let none : run_in c.runs-2.result.now k ≡ [] = ap (λ r. option_map_or (λ (v : Vec ℕ Global). v.items) r []) (no_run c.runs-2.result.now.entries k off) in
-        let zero_ : length (filter (is_own c.args.tid) (lane_at lanes k)) ≡ 0 = ap (λ ps. length (filter (is_own c.args.tid) ps)) (c.requires.indexed.placed k) ∙ sym (left_lane spec.slot_of k c.args.tid es d own thread) ∙ ap length (sym (c.runs-2.ensures.runs k) ∙ none) in
-        c.go.ensures.lanes k ∙ others_all c.args.tid (lane_at lanes k) zero_ in
+    let none : run_in c.runs-2.result.now k ≡ [] = ap (λ r. option_map_or (λ (v : Vec ℕ Global). v.items) r []) (no_run c.runs-2.result.now.entries k off) in
+    let zero_ : length (filter (is_own c.args.tid) (lane_at lanes k)) ≡ 0 = ap (λ ps. length (filter (is_own c.args.tid) ps)) (c.requires.indexed.placed k) ∙ sym (left_lane spec.slot_of k c.args.tid es d own thread) ∙ ap length (sym (c.runs-2.ensures.runs k) ∙ none) in
+    c.go.ensures.lanes k ∙ others_all c.args.tid (lane_at lanes k) zero_ in
     let off = no_side (has_run c.runs-2.result.now.entries (Side true n)) (has_run c.runs-2.result.now.entries (Side false n)) e in
     c.requires.indexed.sides n ∙ ap (λ ps. nat_lt 0 (length ps) && nat_lt 0 (length (lane_at lanes (Side false n)))) (sym (same (Side true n) off.0)) ∙ ap (λ ps. nat_lt 0 (length (lane_at after (Side true n))) && nat_lt 0 (length ps)) (sym (same (Side false n) off.1))
 
@@ -84,9 +84,9 @@ cut_all-requires-clause-over c n on =
     let lanes = c.args.self.now.lanes.by_slot in
     let after = c.go.new.self.by_slot in
     let fewer : (k : Slot) → length (lane_at after k) ≤ length (lane_at lanes k) = λ k.
-        let few : length (others c.args.tid (lane_at lanes k)) ≤ length (lane_at lanes k) = filter_fewer (is_others c.args.tid) (lane_at lanes k) in
-        let same : length (lane_at after k) ≡ length (others c.args.tid (lane_at lanes k)) = ap length (c.go.ensures.lanes k) in
-        omega (arith, few, same) in
+    let few : length (others c.args.tid (lane_at lanes k)) ≤ length (lane_at lanes k) = filter_fewer (is_others c.args.tid) (lane_at lanes k) in
+    let same : length (lane_at after k) ≡ length (others c.args.tid (lane_at lanes k)) = ap length (c.go.ensures.lanes k) in
+    omega (arith, few, same) in
     c.requires.indexed.sides n ∙ filled_less (length (lane_at lanes (Side true n))) (length (lane_at lanes (Side false n))) (length (lane_at after (Side true n))) (length (lane_at after (Side false n))) (fewer (Side true n)) (fewer (Side false n)) on
 
 pub returns-clause-entries : goal.returns-clause-entries
