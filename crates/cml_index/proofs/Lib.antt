@@ -6,3 +6,7 @@ pub mod Scopes
 mod Pairs
 mod Receivers
 mod Seeking
+mod Others
+mod Kept
+mod Beside
+mod Counted

@@ -1,6 +1,6 @@
 -- How many leaves can be taken alone, when a light is told.
-use Rattle.std.proofs.Common.{◌≡◌, ℕ, zero, suc, ◌<◌, take, get_or, ◌+◌, Bool, true, false, not, ◌||◌, cond, List, [], ◌∷◌, length, Option, Some, None, refl, ap, sym, subst, ◌∙◌, arith}
-use Rattle.std.specs.List.{filter}
+use Rattle.std.proofs.Common.{◌≡◌, ℕ, zero, suc, ◌<◌, take, get_or, ◌+◌, Bool, true, false, not, ◌&&◌, ◌||◌, nat_eq, nat_lt, cond, List, [], ◌∷◌, length, Option, Some, None, refl, ap, sym, subst, ◌∙◌, arith}
+use Rattle.std.specs.List.{filter, list_any}
 use Rattle.std.specs.Prelude.{OnOk, Result, Ok, Err, option_map}
 use Rattle.std.proofs.lemmas.List.{length-map, take_more}
 use Rattle.std.proofs.lemmas.List.Folds.{list_any-append}
@@ -12,13 +12,14 @@ use Rattle.cml_scan.specs.Table.{same_light, has_light}
 use Rattle.cml_scan.specs.declared.object.Light.{Light}
 use Rattle.cml_scan.proofs.Telling.{same_light_is, same_light_self, light_eq}
 use Rattle.cml_index.specs.Slot.{slot_of_either}
-use Rattle.cml_index.specs.declared.slot.Slot.TheVariants.{Waiters}
+use Rattle.cml_index.specs.declared.slot.Slot.TheVariants.{Side, Waiters}
 use Rattle.cml_channel.specs.Sides.{channel_of, is_sender, side_in}
 use Rattle.cml_channel.specs.declared.channel.ChannelSide.{ChannelSide}
 use Rattle.cml_index.specs.Slots.{is_slot, lane_of, lane_at}
 use Rattle.cml_index.specs.Posts.{slot_of, told, is_named, slot_of_nack, nacks_in, IsIndexed}
 use Rattle.cml_index.specs.declared.slot.Slot.{Slot}
 use Rattle.indexmap.specs.IndexMap.{IndexMap}
+use Rattle.indexmap.specs.IndexSet.{IndexSet}
 use Rattle.cml_channel.specs.Lanes.{PlainLane}
 use Rattle.cml_scan.specs.World.{PlainEntry}
 use Rattle.cml_scan.proofs.Ordered.{Every-weaker}
@@ -139,13 +140,14 @@ retold_same l lit old new changed is was told m = at (same_light l m) refl
     at false h = told m ∙ ap (λ s. cond s lit (old m)) h
 
 -- nothing was told of any light, and no place is lost
-pub still_indexed : {S T : Type 0} (es : List PlainEntry) (lanes : IndexMap Slot PlainLane S) (after : IndexMap Slot PlainLane T) (old new : List (Slot × Bool)) (leaves lit : ℕ)
-    → IsIndexed es lanes old leaves lit → ((k : Slot) → lane_at after k ≡ lane_at lanes k) → ((m : Light) → told new m ≡ told old m) → ((k : Slot) → is_named old k ≡ true → is_named new k ≡ true)
-    → IsIndexed es after new leaves lit
-still_indexed es lanes after old new leaves lit x same told_ kept =
+pub still_indexed : {S T U V : Type 0} (es : List PlainEntry) (lanes : IndexMap Slot PlainLane S) (after : IndexMap Slot PlainLane T) (live : IndexSet ℕ U) (live_after : IndexSet ℕ V) (old new : List (Slot × Bool)) (leaves lit : ℕ)
+    → IsIndexed es lanes live old leaves lit → ((k : Slot) → lane_at after k ≡ lane_at lanes k) → live_after.keys ≡ live.keys → ((m : Light) → told new m ≡ told old m) → ((k : Slot) → is_named old k ≡ true → is_named new k ≡ true)
+    → IsIndexed es after live_after new leaves lit
+still_indexed es lanes after live live_after old new leaves lit x same same_live told_ kept =
     record {
       sorted = x.sorted;
       placed = λ k. same k ∙ x.placed k;
+      sides = λ n. ap (list_any (nat_eq n)) same_live ∙ x.sides n ∙ ap (λ ps. nat_lt 0 (length ps) && nat_lt 0 (length (lane_at lanes (Side false n)))) (sym (same (Side true n))) ∙ ap (λ ps. nat_lt 0 (length (lane_at after (Side true n))) && nat_lt 0 (length ps)) (sym (same (Side false n)));
       all = x.all;
       alone = x.alone ∙ sym (ap length (told_same (told old) (told new) told_ (offers_of es)));
       named = Every-weaker (λ k. is_named old (slot_of_nack k)) (λ k. is_named new (slot_of_nack k)) (nacks_in es) (λ k h. kept (slot_of_nack k) h) x.named;

@@ -7,8 +7,6 @@ use Rattle.std.proofs.lemmas.Bool.Decides.{nat_tests}
 use Rattle.cml_value.specs.Value.{PlainBase}
 use Rattle.cml_value.specs.declared.number.Tid.{Tid}
 use Rattle.cml_scan.specs.declared.object.Light.{Light}
-use Rattle.cml_scan.specs.declared.meet.Meet.{Meet}
-use Rattle.cml_scan.specs.declared.meet.Meet.TheVariants.{Pair}
 use Rattle.cml_scan.specs.declared.meet.Place.{Place}
 use Rattle.cml_scan.specs.Light.{light}
 use Rattle.cml_scan.specs.Scan.{PlainOffer, meets, can_meet, pair, pairs_with}
@@ -19,6 +17,7 @@ use Rattle.cml_index.specs.declared.slot.Slot.{Slot}
 use Rattle.cml_index.specs.declared.slot.Slot.TheVariants.{Side, Waiters}
 use Rattle.cml_index.specs.Slot.{slot_of_either, met_slot, slot_by, met_by}
 use Rattle.cml_index.specs.Slots.{is_slot, lane_of}
+use Rattle.cml_index.specs.Heads.{pair_of}
 
 -- an offer in the one lane meets one in the other
 abbrev pub meets_in : Option Slot → Option Slot → Bool
@@ -80,10 +79,6 @@ meets_by_lanes {S = S} side_of key_of is_head do_meet law sides b c = sides b c 
     at (Some s) (Some t) = two s t (is_head s) refl
     at (Some s) None = alone s (is_head s) (light c)
     at None y = refl
-
--- the row of the leaf at one place and the one at another
-abbrev pub pair_of : Place → Place → Meet
-pair_of p q = Pair p.tid p.leaf q.tid q.leaf
 
 -- the rows that a leaf begins with others are those with the offers of other threads in the lane that it meets
 pub pairs_there : (slot met : PlainBase → Option Slot) → ((b c : PlainBase) → meets b c ≡ meets_in (met b) (slot c)) → (p : Place) (b : PlainBase) (k : Slot) → met b ≡ Some k → (os : List PlainOffer)

@@ -18,8 +18,9 @@ use Rattle.cml_channel.specs.Sides.{channel_of, is_sender, meet, side_in}
 use Rattle.cml_channel.specs.SideLaws as channels
 use Rattle.cml_index.specs.declared.slot.Slot.{Slot}
 use Rattle.cml_index.specs.Slots.{lane_of}
+use Rattle.cml_index.specs.Heads.{pair_of}
 use Rattle.cml_index.specs.Posts.{slot_of, slot_met, rows_at}
-use Rattle.cml_index.proofs.Pairs.{meets_in, sides_meet, meets_by_lanes, pair_of, pairs_there, no_pairs, leaf_with, any_in, partner_there}
+use Rattle.cml_index.proofs.Pairs.{meets_in, sides_meet, meets_by_lanes, pairs_there, no_pairs, leaf_with, any_in, partner_there}
 
 -- two base events meet as their sides of channels do
 as_sides : (b c : PlainBase) → meets b c ≡ sides_meet is_sender meet (side_in b) (side_in c)

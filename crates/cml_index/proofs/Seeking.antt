@@ -10,6 +10,7 @@ use Rattle.cml_value.specs.Group.{bases}
 use Rattle.cml_scan.specs.World.{PlainEntry}
 use Rattle.cml_scan.specs.Scan.{PlainOffer, leaves_from, offers_of, scan_of, heads_of}
 use Rattle.cml_scan.specs.Order.{IsSorted, place, before, before_numbers, has_partner}
+use Rattle.cml_scan.specs.declared.meet.Meet.{Meet}
 use Rattle.cml_scan.specs.declared.meet.Place.{Place}
 use Rattle.cml_scan.proofs.Partners.{scan_of-heads}
 use Rattle.cml_index.specs.declared.slot.Slot.{Slot}
@@ -176,3 +177,8 @@ few_behind p (x ∷ xs) (suc i) e up within is own low =
     let counted : length (filter f (mine ++ offers_of xs)) ≡ length (filter f (offers_of xs)) = ap length rest in
     let k = few_behind p xs i e up.1 inside is own low in
     omega (arith, counted, k)
+
+-- where there is no head there is no row
+pub no_rows : (rows : List Meet) → length (heads_of rows) ≡ 0 → rows ≡ []
+no_rows [] e = refl
+no_rows (row ∷ rows) e = absurd (omega (arith, e))

@@ -1,6 +1,15 @@
 -- The leaves that begin a row, and what a search among some leaves answers.
-use Rattle.std.specs.Prelude.{ℕ, ◌≡◌, ◌+◌, ◌*◌, ◌<◌, ◌≤◌, Bool, List, Some, map, length, slice_get}
+use Rattle.std.specs.Prelude.{ℕ, ◌≡◌, ◌+◌, ◌*◌, ◌<◌, ◌≤◌, Bool, true, false, List, Option, Some, None, map, filter, length, slice_get}
+use Rattle.std.specs.List.{list_any}
+use Rattle.cml_value.specs.declared.number.Tid.{Tid}
+use Rattle.cml_channel.specs.Lanes.{is_others}
+use Rattle.cml_index.specs.declared.slot.Slot.TheVariants.{Side}
+use Rattle.cml_index.specs.Slots.{lane_of}
 use Rattle.cml_value.specs.Group.{bases}
+use Rattle.cml_value.specs.Value.{PlainBase}
+use Rattle.cml_scan.specs.declared.meet.Meet.{Meet}
+use Rattle.cml_scan.specs.declared.meet.Meet.TheVariants.{Pair}
+use Rattle.cml_scan.specs.declared.meet.Place.{Place}
 use Rattle.cml_scan.specs.Light.{lit_by}
 use Rattle.cml_scan.specs.World.{PlainEntry}
 use Rattle.cml_scan.specs.Scan.{PlainOffer}
@@ -10,7 +19,15 @@ use Rattle.cml_index.specs.declared.heads.HeadKind.{HeadKind}
 use Rattle.cml_index.specs.declared.heads.HeadKind.TheVariants.{Alone, Met}
 use Rattle.cml_index.specs.declared.heads.Sought.{Sought}
 use Rattle.cml_index.specs.declared.heads.Sought.TheVariants.{Found, Left}
-use Rattle.cml_index.specs.Posts.{told}
+use Rattle.cml_index.specs.Posts.{told, slot_of}
+
+-- the leaf at a place, if it waits for this
+abbrev pub offer_at : Place → PlainBase → PlainOffer
+offer_at p b = record { thread = p.tid.0; leaf = p.leaf; base = b }
+
+-- the row of the leaf at one place with the one at another
+abbrev pub pair_of : Place → Place → Meet
+pair_of p q = Pair p.tid p.leaf q.tid q.leaf
 
 -- The leaf is one of those that are sought: it can be taken alone, or one of these leaves can meet it.
 abbrev pub is_sought : HeadKind → List (Slot × Bool) → List PlainOffer → PlainOffer → Bool
@@ -26,3 +43,16 @@ IsAnswer (Left more) k os = k ≡ length os + more
 abbrev pub EndsThere : Sought → PlainEntry → ℕ → ℕ → Type 0
 EndsThere (Found p) e old new = (p.tid.0 ≡ e.thread) × (p.leaf < length (bases e.group)) × (new ≤ old + 3 * (p.leaf + 1))
 EndsThere (Left more) e old new = new ≤ old + 3 * length (bases e.group)
+
+-- The offer has one of another thread beside it, where the thread is known of which all of these are, if they are of one alone.
+abbrev pub is_beside : Option Tid → Place → Bool
+is_beside (Some tid) q = is_others tid q
+is_beside None q = true
+
+-- those of the heads that have an offer of another thread among these
+abbrev pub met_among : List Place → List Place → List Place
+met_among others heads = filter (λ q. list_any (is_others q.tid) others) heads
+
+-- the leaves that stand first on the channel of this number and have a partner there
+abbrev pub heads_on : List PlainOffer → ℕ → List Place
+heads_on os n = met_among (lane_of slot_of (Side false n) os) (lane_of slot_of (Side true n) os)

@@ -6,6 +6,8 @@ use Rattle.std.specs.Coded.{Coded, code_by, coded×, coded_list, coded_bool}
 use Rattle.std.specs.Prelude.{refl}
 use Rattle.std.specs.declared.alloc.Global.{Global}
 use Rattle.indexmap.specs.IndexMap.{IndexMap, index_map_len}
+use Rattle.indexmap.specs.IndexSet.{IndexSet}
+use Rattle.cml_index.specs.Live.{AreLive}
 use base.Stored.{Gv, gnum, gcons}
 use Rattle.cml_value.specs.Value.{PlainBase}
 use Rattle.cml_value.specs.Group.{PlainGroup, bases, scopes, nacks_of}
@@ -73,11 +75,12 @@ is_named flags k = is_some (lookup (same_slot k) flags)
 abbrev pub slot_of_nack : ℕ → Slot
 slot_of_nack k = Waiters (Nack (record { 0 = k }))
 
--- The threads ascend; each lane has the offers that stand in it; all leaves, and those that can be taken alone, are counted; and each
+-- The threads ascend; each lane has the offers that stand in it; the channels on both sides of which offers stand are there; all leaves, and those that can be taken alone, are counted; and each
 -- nack that can fire with a pending group has its place among the lights.
-pub record IsIndexed {S : Type 0} (entries : List PlainEntry) (lanes : IndexMap Slot PlainLane S) (flags : List (Slot × Bool)) (leaves lit : ℕ) : Type 0 where
+pub record IsIndexed {S T : Type 0} (entries : List PlainEntry) (lanes : IndexMap Slot PlainLane S) (live : IndexSet ℕ T) (flags : List (Slot × Bool)) (leaves lit : ℕ) : Type 0 where
   pub sorted : IsSorted entries
   pub placed : AreLanes slot_of lanes (offers_of entries)
+  pub sides : AreLive lanes live
   pub all : leaves ≡ length (offers_of entries)
   pub alone : lit ≡ length (lit_offers flags entries)
   pub named : Every (λ k. is_named flags (slot_of_nack k)) (nacks_in entries)

@@ -11,6 +11,7 @@ ghost use Rattle.cml_index.specs.Slots.{lane_of};
 ghost use Rattle.cml_index.specs.Heads.{is_sought, IsAnswer, EndsThere};
 ghost use Rattle.cml_index.specs.Posts as spec;
 
+use crate::counts::count_met;
 use crate::entry::Entry;
 use crate::flags::is_lit_by;
 use crate::lanes::Lanes;
@@ -40,7 +41,7 @@ enum Sought {
 
 // Whether a thread other than this one has an offer in the lane.
 fn has_other(core: &Core, slot: Slot, tid: Tid, tally: &mut Tally) -> bool
-    requires { spec.IsIndexed core.now.entries.items core.now.lanes.by_slot
+    requires { spec.IsIndexed core.now.entries.items core.now.lanes.by_slot core.now.live
         core.now.flags.entries core.now.leaves core.now.lit }
     ensures value { result ≡ list_any (is_others tid)
         (lane_of spec.slot_of slot (offers_of core.now.entries.items)) }
@@ -54,7 +55,7 @@ fn has_other(core: &Core, slot: Slot, tid: Tid, tally: &mut Tally) -> bool
 
 // Whether a leaf of the thread that waits for this has a partner.
 fn is_met(core: &Core, tid: Tid, base: &Base, tally: &mut Tally) -> bool
-    requires { spec.IsIndexed core.now.entries.items core.now.lanes.by_slot
+    requires { spec.IsIndexed core.now.entries.items core.now.lanes.by_slot core.now.live
         core.now.flags.entries core.now.leaves core.now.lit }
     ensures value { (leaf : ℕ) → result ≡ has_partner (offers_of core.now.entries.items)
         (record { thread = tid.0; leaf = leaf; base = base.now }) }
@@ -68,7 +69,7 @@ fn is_met(core: &Core, tid: Tid, base: &Base, tally: &mut Tally) -> bool
 
 // Whether a leaf of the thread that waits for this is one of those that are sought: it is looked at, and its light or two offers.
 fn is_head(core: &Core, kind: HeadKind, tid: Tid, base: &Base, tally: &mut Tally) -> bool
-    requires { spec.IsIndexed core.now.entries.items core.now.lanes.by_slot
+    requires { spec.IsIndexed core.now.entries.items core.now.lanes.by_slot core.now.live
         core.now.flags.entries core.now.leaves core.now.lit }
     ensures value { (leaf : ℕ) → result
         ≡ is_sought kind core.now.flags.entries (offers_of core.now.entries.items)
@@ -82,44 +83,9 @@ fn is_head(core: &Core, kind: HeadKind, tid: Tid, base: &Base, tally: &mut Tally
     }
 }
 
-// How many leaves of the thread have a partner.
-fn count_in(core: &Core, entry: &Entry, tally: &mut Tally) -> usize
-    requires { spec.IsIndexed core.now.entries.items core.now.lanes.by_slot
-        core.now.flags.entries core.now.leaves core.now.lit }
-    ensures count { result
-        ≡ length (filter (is_sought Met core.now.flags.entries (offers_of core.now.entries.items))
-        (leaves_from entry.now.thread 0 (bases entry.now.group))) }
-    ensures cost { tally.new ≤ tally.old + 3 * length (bases entry.now.group) }
-{
-    let mut count = 0;
-    for base in entry.bases() {
-        if is_head(core, HeadKind::Met, entry.tid(), base, tally) {
-            count += 1;
-        }
-    }
-    count
-}
-
-// How many leaves have a partner.
-fn count_met(core: &Core, tally: &mut Tally) -> usize
-    requires { spec.IsIndexed core.now.entries.items core.now.lanes.by_slot
-        core.now.flags.entries core.now.leaves core.now.lit }
-    ensures count { result
-        ≡ length (filter (is_sought Met core.now.flags.entries (offers_of core.now.entries.items))
-        (offers_of core.now.entries.items)) }
-    ensures cost { tally.new ≤ tally.old + 3 * length (offers_of core.now.entries.items) }
-{
-    let _leaves = core.leaves;
-    let mut count = 0;
-    for entry in &core.entries {
-        count += count_in(core, entry, tally);
-    }
-    count
-}
-
 // Passes by so many of the leaves of the thread that are sought.
 fn seek_in(core: &Core, kind: HeadKind, entry: &Entry, k: usize, tally: &mut Tally) -> Sought
-    requires { spec.IsIndexed core.now.entries.items core.now.lanes.by_slot
+    requires { spec.IsIndexed core.now.entries.items core.now.lanes.by_slot core.now.live
         core.now.flags.entries core.now.leaves core.now.lit }
     ensures value { IsAnswer result k
         (filter (is_sought kind core.now.flags.entries (offers_of core.now.entries.items))
@@ -141,7 +107,7 @@ fn seek_in(core: &Core, kind: HeadKind, entry: &Entry, k: usize, tally: &mut Tal
 
 // The leaf at this place among those that are sought.
 fn seek(core: &Core, kind: HeadKind, k: usize, tally: &mut Tally) -> Place
-    requires indexed { spec.IsIndexed core.now.entries.items core.now.lanes.by_slot
+    requires indexed { spec.IsIndexed core.now.entries.items core.now.lanes.by_slot core.now.live
         core.now.flags.entries core.now.leaves core.now.lit }
     requires within { k < length (filter
         (is_sought kind core.now.flags.entries (offers_of core.now.entries.items))
@@ -166,7 +132,7 @@ fn seek(core: &Core, kind: HeadKind, k: usize, tally: &mut Tally) -> Place
 
 // How many heads there are.
 pub(crate) fn head_count(core: &Core, tally: &mut Tally) -> usize
-    requires { spec.IsIndexed core.now.entries.items core.now.lanes.by_slot
+    requires { spec.IsIndexed core.now.entries.items core.now.lanes.by_slot core.now.live
         core.now.flags.entries core.now.leaves core.now.lit }
     ensures count { result ≡ length (heads_of
         (scan_of core.now.entries.items (spec.told core.now.flags.entries))) }
@@ -178,7 +144,7 @@ pub(crate) fn head_count(core: &Core, tally: &mut Tally) -> usize
 
 // The head at this place in their order.
 pub(crate) fn head(core: &Core, k: usize, tally: &mut Tally) -> Place
-    requires indexed { spec.IsIndexed core.now.entries.items core.now.lanes.by_slot
+    requires indexed { spec.IsIndexed core.now.entries.items core.now.lanes.by_slot core.now.live
         core.now.flags.entries core.now.leaves core.now.lit }
     requires within { k < length (heads_of
         (scan_of core.now.entries.items (spec.told core.now.flags.entries))) }

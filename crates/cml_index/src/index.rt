@@ -11,12 +11,11 @@ ghost use Rattle.cml_index.specs.Posts as spec;
 use crate::flags::is_lit_by;
 use crate::lanes::Lanes;
 use crate::state::{self, Core};
-use crate::table::offers;
-use crate::{heads, partners};
+use crate::{heads, partners, rows};
 use cml_channel::Tally;
 use cml_scan::{Light, Meet, Place};
 use cml_value::{Base, BaseKind, Group, Tid};
-use indexmap::IndexMap;
+use indexmap::{IndexMap, IndexSet};
 use std::alloc::{AllocError, Global};
 use std::marker::Model;
 
@@ -36,7 +35,7 @@ impl Model for OfferIndex {
 
     ghost view = { λ x. record { entries = x.core.entries.items; flags = x.core.flags.entries } };
 
-    ghost invariant = { λ x. IsIndexed x.core.entries.items x.core.lanes.by_slot
+    ghost invariant = { λ x. IsIndexed x.core.entries.items x.core.lanes.by_slot x.core.live
         x.core.flags.entries x.core.leaves x.core.lit };
 }
 
@@ -49,6 +48,7 @@ impl OfferIndex {
             core: Core {
                 entries: Vec::new(alloc),
                 lanes: Lanes::new(alloc),
+                live: IndexSet::new(alloc),
                 flags: IndexMap::new(alloc),
                 leaves: 0,
                 lit: 0,
@@ -204,8 +204,7 @@ impl OfferIndex {
         ensures { IfOk result (λ rows. rows.items
             ≡ scan_of self.now.entries (spec.told self.now.flags)) }
     {
-        let offers = offers(alloc, &self.core.entries)?;
-        cml_scan::rows(alloc, &offers, &self.core)
+        rows::all_rows(alloc, &self.core, &mut Tally::new())
     }
 }
 

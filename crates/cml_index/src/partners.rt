@@ -16,7 +16,7 @@ use cml_value::{Base, Tid};
 
 // How many offers in the lane are of other threads than this one.
 fn others_count(core: &Core, slot: Slot, tid: Tid, tally: &mut Tally) -> usize
-    requires { spec.IsIndexed core.now.entries.items core.now.lanes.by_slot
+    requires { spec.IsIndexed core.now.entries.items core.now.lanes.by_slot core.now.live
         core.now.flags.entries core.now.leaves core.now.lit }
     ensures count { result ≡ length (others tid
         (lane_of spec.slot_of slot (offers_of core.now.entries.items))) }
@@ -31,7 +31,7 @@ fn others_count(core: &Core, slot: Slot, tid: Tid, tally: &mut Tally) -> usize
 
 // The offer at this place among those in the lane that are of other threads than this one.
 fn other_at(core: &Core, slot: Slot, tid: Tid, j: usize, tally: &mut Tally) -> Place
-    requires indexed { spec.IsIndexed core.now.entries.items core.now.lanes.by_slot
+    requires indexed { spec.IsIndexed core.now.entries.items core.now.lanes.by_slot core.now.live
         core.now.flags.entries core.now.leaves core.now.lit }
     requires within { j < length (others tid
         (lane_of spec.slot_of slot (offers_of core.now.entries.items))) }
@@ -48,7 +48,7 @@ fn other_at(core: &Core, slot: Slot, tid: Tid, j: usize, tally: &mut Tally) -> P
 
 // How many rows the leaf begins that waits for this.
 fn count_at(core: &Core, head: Place, base: &Base, tally: &mut Tally) -> usize
-    requires { spec.IsIndexed core.now.entries.items core.now.lanes.by_slot
+    requires { spec.IsIndexed core.now.entries.items core.now.lanes.by_slot core.now.live
         core.now.flags.entries core.now.leaves core.now.lit }
     ensures count { result ≡ length (spec.rows_at (spec.told core.now.flags.entries)
         (offers_of core.now.entries.items) head base.now) }
@@ -69,7 +69,7 @@ fn count_at(core: &Core, head: Place, base: &Base, tally: &mut Tally) -> usize
 
 // The row at this place among those that the leaf begins that waits for this.
 fn row_at(core: &Core, head: Place, base: &Base, j: usize, tally: &mut Tally) -> Meet
-    requires indexed { spec.IsIndexed core.now.entries.items core.now.lanes.by_slot
+    requires indexed { spec.IsIndexed core.now.entries.items core.now.lanes.by_slot core.now.live
         core.now.flags.entries core.now.leaves core.now.lit }
     requires within { j < length (spec.rows_at (spec.told core.now.flags.entries)
         (offers_of core.now.entries.items) head base.now) }
@@ -97,7 +97,7 @@ fn row_at(core: &Core, head: Place, base: &Base, j: usize, tally: &mut Tally) ->
 
 // How many rows begin with the head.
 pub(crate) fn partner_count(core: &Core, head: Place, tally: &mut Tally) -> usize
-    requires { spec.IsIndexed core.now.entries.items core.now.lanes.by_slot
+    requires { spec.IsIndexed core.now.entries.items core.now.lanes.by_slot core.now.live
         core.now.flags.entries core.now.leaves core.now.lit }
     ensures count { result ≡ length (partners_of
         (scan_of core.now.entries.items (spec.told core.now.flags.entries)) head) }
@@ -112,7 +112,7 @@ pub(crate) fn partner_count(core: &Core, head: Place, tally: &mut Tally) -> usiz
 
 // The row at this place among those that begin with the head.
 pub(crate) fn partner(core: &Core, head: Place, j: usize, tally: &mut Tally) -> Meet
-    requires indexed { spec.IsIndexed core.now.entries.items core.now.lanes.by_slot
+    requires indexed { spec.IsIndexed core.now.entries.items core.now.lanes.by_slot core.now.live
         core.now.flags.entries core.now.leaves core.now.lit }
     requires within { j < length (partners_of
         (scan_of core.now.entries.items (spec.told core.now.flags.entries)) head) }

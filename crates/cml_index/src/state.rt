@@ -11,6 +11,7 @@ ghost use Rattle.cml_scan.specs.Order.{IsSorted, Every, base_at as scan_base_at}
 ghost use Rattle.cml_scan.specs.Table.{without, with_entry, IsThere, same_light};
 ghost use Rattle.cml_scan.specs.World.{PlainEntry};
 ghost use Rattle.cml_index.specs.declared.slot.Slot.{Slot};
+ghost use Rattle.indexmap.specs.IndexSet.{spare};
 ghost use Rattle.cml_index.specs.Posts as spec;
 ghost use Rattle.cml_index.specs.declared.slot.Slot.TheVariants.{Waiters};
 ghost use Rattle.cml_index.specs.Slots.{lane_at, room_at, leaves_at};
@@ -18,6 +19,7 @@ ghost use Rattle.cml_index.specs.Slots.{lane_at, room_at, leaves_at};
 use crate::entry::Entry;
 use crate::flags::{Flags, count_lit, flip};
 use crate::lanes::Lanes;
+use crate::live::{Live, add_all, cut_all};
 use crate::nacks::reserve_nacks;
 use crate::slot::Slot;
 use cml_channel::{Channels, Tally};
@@ -25,12 +27,13 @@ use cml_scan::{Light, Place};
 use cml_value::{Base, Tid};
 use std::alloc::{AllocError, Global};
 
-// The pending threads, ascending; the lanes of their offers; what was told of lights; and how many leaves there are, and how
+// The pending threads, ascending; the lanes of their offers; the channels on both sides of which offers stand; what was told of lights; and how many leaves there are, and how
 // many of them can be taken alone.
 #[derive(Drop)]
 pub(crate) struct Core {
     pub(crate) entries: Vec<Entry>,
     pub(crate) lanes: Lanes<Channels>,
+    pub(crate) live: Live,
     pub(crate) flags: Flags,
     pub(crate) leaves: usize,
     pub(crate) lit: usize,
@@ -57,11 +60,11 @@ pub(crate) fn find(entries: &[Entry], tid: Tid) -> usize
 impl Core {
     // The thread goes, and its offers with it. It takes no memory.
     pub(crate) fn leave(&mut self, tid: Tid, tally: &mut Tally)
-        requires indexed { spec.IsIndexed self.old.entries.items self.old.lanes.by_slot
+        requires indexed { spec.IsIndexed self.old.entries.items self.old.lanes.by_slot self.old.live
             self.old.flags.entries self.old.leaves self.old.lit }
         requires there { IsThere self.old.entries.items tid }
         ensures entries { self.new.entries.items ≡ without (tid ∷ []) self.old.entries.items }
-        ensures indexed { spec.IsIndexed self.new.entries.items self.new.lanes.by_slot
+        ensures indexed { spec.IsIndexed self.new.entries.items self.new.lanes.by_slot self.new.live
             self.new.flags.entries self.new.leaves self.new.lit }
         ensures flags { self.new.flags ≡ self.old.flags }
         ensures room { (k : Slot) →
@@ -75,6 +78,7 @@ impl Core {
         ensures lighter { self.new.leaves ≤ self.old.leaves }
         ensures fewer { vec_len self.new.entries ≤ vec_len self.old.entries }
         ensures capacity { vec_capacity self.old.entries ≤ vec_capacity self.new.entries }
+        ensures seats { spare self.old.live ≤ spare self.new.live }
     {
         let at = find(&self.entries, tid);
         let entry = self.entries.remove(at);
@@ -82,17 +86,18 @@ impl Core {
         self.lit -= lit;
         self.leaves -= entry.bases().len();
         self.lanes.go(tid, entry.runs(), tally);
+        cut_all(&mut self.live, &self.lanes, entry.runs());
         drop(entry);
     }
 
     // These threads go. It takes no memory.
     pub(crate) fn leave_all(&mut self, gone: &[Tid], tally: &mut Tally)
-        requires indexed { spec.IsIndexed self.old.entries.items self.old.lanes.by_slot
+        requires indexed { spec.IsIndexed self.old.entries.items self.old.lanes.by_slot self.old.live
             self.old.flags.entries self.old.leaves self.old.lit }
         requires there { All (IsThere self.old.entries.items) gone.now }
         requires once { AllPairs (λ a b. a.0 ≢ b.0) gone.now }
         ensures entries { self.new.entries.items ≡ without gone.now self.old.entries.items }
-        ensures indexed { spec.IsIndexed self.new.entries.items self.new.lanes.by_slot
+        ensures indexed { spec.IsIndexed self.new.entries.items self.new.lanes.by_slot self.new.live
             self.new.flags.entries self.new.leaves self.new.lit }
         ensures flags { self.new.flags ≡ self.old.flags }
         ensures room { (k : Slot) →
@@ -106,6 +111,7 @@ impl Core {
         ensures lighter { self.new.leaves ≤ self.old.leaves }
         ensures fewer { vec_len self.new.entries ≤ vec_len self.old.entries }
         ensures capacity { vec_capacity self.old.entries ≤ vec_capacity self.new.entries }
+        ensures seats { spare self.old.live ≤ spare self.new.live }
     {
         for tid in gone {
             self.leave(*tid, tally);
@@ -115,9 +121,9 @@ impl Core {
     // Makes room for a thread that will come: its lanes, its seat, and a place among the lights for each nack of its scopes. At want
     // of memory, which is answered also where the leaves would be too many to count, nothing was told.
     pub(crate) fn make_places(&mut self, alloc: Global, entry: &Entry) -> Result<(), AllocError>
-        requires indexed { spec.IsIndexed self.old.entries.items self.old.lanes.by_slot
+        requires indexed { spec.IsIndexed self.old.entries.items self.old.lanes.by_slot self.old.live
             self.old.flags.entries self.old.leaves self.old.lit }
-        ensures indexed { spec.IsIndexed self.new.entries.items self.new.lanes.by_slot
+        ensures indexed { spec.IsIndexed self.new.entries.items self.new.lanes.by_slot self.new.live
             self.new.flags.entries self.new.leaves self.new.lit }
         ensures entries { self.new.entries.items ≡ self.old.entries.items }
         ensures leaves { self.new.leaves ≡ self.old.leaves }
@@ -128,6 +134,7 @@ impl Core {
         ensures kept { (k : Slot) → spec.is_named self.old.flags.entries k ≡ true →
             spec.is_named self.new.flags.entries k ≡ true }
         ensures seat { OnOk result (vec_len self.new.entries < vec_capacity self.new.entries) }
+        ensures seats { OnOk result (length (bases entry.now.group) ≤ spare self.new.live) }
         ensures small { OnOk result
             (self.new.leaves + length (bases entry.now.group) ≤ usize.MAX) }
         ensures room { OnOk result ((k : Slot) →
@@ -142,22 +149,24 @@ impl Core {
         }
         self.entries.reserve(1)?;
         self.lanes.make_room(alloc, entry.runs())?;
+        self.live.reserve(entry.bases().len())?;
         reserve_nacks(&mut self.flags, alloc, entry.group())
     }
 
     // Tells of the light: one is examined. One that is told to be lit has its place. It takes no memory.
     pub(crate) fn tell(&mut self, light: Light, lit: bool, tally: &mut Tally)
-        requires indexed { spec.IsIndexed self.old.entries.items self.old.lanes.by_slot
+        requires indexed { spec.IsIndexed self.old.entries.items self.old.lanes.by_slot self.old.live
             self.old.flags.entries self.old.leaves self.old.lit }
         requires there { lit ≡ true →
             spec.is_named self.old.flags.entries (Waiters light) ≡ true }
         ensures told { (m : Light) → spec.told self.new.flags.entries m
             ≡ (if same_light light m then lit else spec.told self.old.flags.entries m) }
-        ensures indexed { spec.IsIndexed self.new.entries.items self.new.lanes.by_slot
+        ensures indexed { spec.IsIndexed self.new.entries.items self.new.lanes.by_slot self.new.live
             self.new.flags.entries self.new.leaves self.new.lit }
         ensures entries { self.new.entries ≡ self.old.entries }
         ensures lanes { self.new.lanes.by_slot ≡ self.old.lanes.by_slot }
         ensures leaves { self.new.leaves ≡ self.old.leaves }
+        ensures live { self.new.live ≡ self.old.live }
         ensures kept { (k : Slot) → spec.is_named self.old.flags.entries k ≡ true →
             spec.is_named self.new.flags.entries k ≡ true }
         ensures cost { tally.new ≤ tally.old + 1 }
@@ -175,10 +184,11 @@ impl Core {
 
     // The thread comes, and its offers with it. There is room for it, and the nacks of its scopes have their places.
     pub(crate) fn enter(&mut self, entry: Entry, tally: &mut Tally)
-        requires indexed { spec.IsIndexed self.old.entries.items self.old.lanes.by_slot
+        requires indexed { spec.IsIndexed self.old.entries.items self.old.lanes.by_slot self.old.live
             self.old.flags.entries self.old.leaves self.old.lit }
         requires new { All (λ e. e.thread ≢ entry.thread) self.old.entries.items }
         requires seat { vec_len self.old.entries < vec_capacity self.old.entries }
+        requires seats { length (bases entry.group) ≤ spare self.old.live }
         requires small { self.old.leaves + length (bases entry.group) ≤ usize.MAX }
         requires room { (k : Slot) → length (leaves_at k 0 (map spec.slot_of (bases entry.group)))
             ≤ room_at self.old.lanes.by_slot k }
@@ -186,7 +196,7 @@ impl Core {
             (nacks_of (scopes entry.group)) }
         ensures entries { self.new.entries.items ≡ with_entry entry self.old.entries.items }
         ensures leaves { self.new.leaves ≡ self.old.leaves + length (bases entry.group) }
-        ensures indexed { spec.IsIndexed self.new.entries.items self.new.lanes.by_slot
+        ensures indexed { spec.IsIndexed self.new.entries.items self.new.lanes.by_slot self.new.live
             self.new.flags.entries self.new.leaves self.new.lit }
         ensures flags { self.new.flags ≡ self.old.flags }
         ensures cost { (digits : ℕ) →
@@ -198,6 +208,7 @@ impl Core {
         self.leaves += entry.bases().len();
         self.lit += lit;
         self.lanes.come(entry.tid(), entry.runs(), tally);
+        add_all(&mut self.live, &self.lanes, entry.runs());
         insert_in_room(&mut self.entries, at, entry);
     }
 }

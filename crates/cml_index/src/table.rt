@@ -1,36 +1,13 @@
 //! The index as a table of communications.
 
-ghost use Rattle.std.specs.Prelude.{◌≡◌, ◌++◌, true, IfOk};
-ghost use Rattle.cml_scan.specs.Scan as scan_spec;
+ghost use Rattle.std.specs.Prelude.{true};
 ghost use Rattle.cml_index.specs.Posts as spec;
 
-use crate::entry::Entry;
-use crate::flags::is_lit;
 use crate::index::OfferIndex;
-use crate::state::Core;
 use cml_channel::Tally;
-use cml_scan::{Light, Lights, Meet, Offer, Place, Table};
+use cml_scan::{Light, Meet, Place, Table};
 use cml_value::{Group, Tid};
 use std::alloc::{AllocError, Global};
-
-impl Lights for Core {
-    ghost is_lit = { λ core. spec.told core.flags.entries };
-
-    fn is_lit(&self, light: Light) -> bool {
-        is_lit(&self.flags, light)
-    }
-}
-
-// The leaves of these threads, by thread and leaf.
-pub(crate) fn offers(alloc: Global, entries: &[Entry]) -> Result<Vec<Offer>, AllocError>
-    ensures { IfOk result (λ offers. offers.items ≡ scan_spec.offers_of entries.now) }
-{
-    let mut offers = Vec::new(alloc);
-    for entry in entries {
-        cml_scan::push_offers(alloc, &mut offers, entry.tid(), entry.group())?;
-    }
-    Ok(offers)
-}
 
 impl Table for OfferIndex {
     ghost entries = { λ told. told.entries };

@@ -5,8 +5,8 @@ use Rattle.std.proofs.lemmas.Option.{slice_get-map}
 use Rattle.std.proofs.lemmas.List.{length-map}
 use Rattle.cml_scan.specs.Light.{lit_by}
 use Rattle.cml_scan.specs.Scan.{offers_of}
+use Rattle.cml_index.specs.Heads.{pair_of}
 use Rattle.cml_index.specs.Posts as spec
-use Rattle.cml_index.proofs.Pairs.{pair_of}
 use Rattle.cml_index.proofs.Receivers.{rows_some, rows_none}
 use Rattle.cml_index.proofs.partners.row_at.Goals as goal
 

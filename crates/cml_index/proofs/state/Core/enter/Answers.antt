@@ -1,4 +1,4 @@
-use Rattle.std.proofs.Common.{◌≡◌, ◌≤◌, ◌+◌, ◌*◌, ◌∙◌, ◌++◌, ◌∷◌, length, drop, nat_eq, nat_lt, not, map, ap, sym, subst, arith}
+use Rattle.std.proofs.Common.{◌≡◌, ℕ, true, false, [], ◌&&◌, ◌≤◌, ◌+◌, ◌*◌, ◌∙◌, ◌++◌, ◌∷◌, length, drop, nat_eq, nat_lt, not, map, ap, sym, subst, arith}
 use Rattle.std.specs.List.{insert, filter}
 use Rattle.cml_value.specs.Group.{bases}
 use Rattle.cml_scan.specs.World.{PlainEntry}
@@ -8,7 +8,14 @@ use Rattle.cml_scan.specs.Light.{lit_by}
 use Rattle.cml_scan.specs.Order.{IsSorted, Every, Ascends, before}
 use Rattle.cml_scan.proofs.Ordered.{sorted_with}
 use Rattle.cml_channel.specs.Lanes.{is_others, with_run}
-use Rattle.cml_index.specs.Slots.{lane_at, lane_of, leaves_at}
+use Rattle.std.specs.Prelude.{Vec}
+use Rattle.std.specs.Option.{option_map_or}
+use Rattle.std.specs.declared.alloc.Global.{Global}
+use Rattle.cml_index.specs.declared.slot.Slot.{Slot}
+use Rattle.cml_index.specs.declared.slot.Slot.TheVariants.{Side}
+use Rattle.cml_index.specs.Slots.{lane_at, lane_of, leaves_at, run_in, has_run}
+use Rattle.cml_index.proofs.Walks.{no_run, with_none}
+use Rattle.cml_index.proofs.Kept.{no_side, filled_more, with_longer}
 use Rattle.cml_index.specs.Posts as spec
 use Rattle.cml_index.proofs.Parted.{all_apart, between, lane_others, lane-ascends, leaves_at-ascend, came_lane, came_count, came_all, nacks_with, move_cost, filter_fewer}
 use Rattle.cml_index.proofs.state.Core.enter.Goals as goal
@@ -41,6 +48,38 @@ insert_in_room-requires-clause-within c =
     let fewer : spec.count_below c.args.entry.thread es ≤ length es = filter_fewer (λ (e : PlainEntry). nat_lt e.thread c.args.entry.thread) es in
     omega (arith, at, fewer)
 
+pub add_all-requires-clause-was : goal.add_all-requires-clause-was
+add_all-requires-clause-was c n e =
+    let es = c.args.self.now.entries.items in
+    let lanes = c.args.self.now.lanes.by_slot in
+    let after = c.come.new.self.by_slot in
+    let tid = c.tid-2.result in
+    let apart = all_apart c.args.entry.thread es c.requires.new in
+    let away = subst (λ t. Every (λ (e : PlainEntry). not (nat_eq t e.thread)) es) (sym c.tid-2.ensures) apart in
+    let up : (k : Slot) → Ascends before (lane_at lanes k) = λ k. subst (Ascends before) (sym (c.requires.indexed.placed k)) (lane-ascends spec.slot_of k es c.requires.indexed.sorted) in
+    let new_ : (k : Slot) → Every (is_others tid) (lane_at lanes k) = λ k. subst (Every (is_others tid)) (sym (c.requires.indexed.placed k)) (lane_others spec.slot_of k tid es away) in
+    let same : (k : Slot) → has_run c.runs-2.result.now.entries k ≡ false → lane_at after k ≡ lane_at lanes k = λ k off.
+    let none : run_in c.runs-2.result.now k ≡ [] = ap (λ r. option_map_or (λ (v : Vec ℕ Global). v.items) r []) (no_run c.runs-2.result.now.entries k off) in
+    c.come.ensures.lanes k ∙ ap (λ ls. with_run tid ls (lane_at lanes k)) (c.runs.ensures.runs k ∙ sym (c.runs-2.ensures.runs k) ∙ none) ∙ with_none tid (lane_at lanes k) (up k) (new_ k) in
+    let off = no_side (has_run c.runs-2.result.now.entries (Side true n)) (has_run c.runs-2.result.now.entries (Side false n)) e in
+    c.requires.indexed.sides n ∙ ap (λ ps. nat_lt 0 (length ps) && nat_lt 0 (length (lane_at lanes (Side false n)))) (sym (same (Side true n) off.0)) ∙ ap (λ ps. nat_lt 0 (length (lane_at after (Side true n))) && nat_lt 0 (length ps)) (sym (same (Side false n) off.1))
+
+pub add_all-requires-clause-under : goal.add_all-requires-clause-under
+add_all-requires-clause-under c n dark =
+    let es = c.args.self.now.entries.items in
+    let lanes = c.args.self.now.lanes.by_slot in
+    let after = c.come.new.self.by_slot in
+    let tid = c.tid-2.result in
+    let apart = all_apart c.args.entry.thread es c.requires.new in
+    let away = subst (λ t. Every (λ (e : PlainEntry). not (nat_eq t e.thread)) es) (sym c.tid-2.ensures) apart in
+    let up : (k : Slot) → Ascends before (lane_at lanes k) = λ k. subst (Ascends before) (sym (c.requires.indexed.placed k)) (lane-ascends spec.slot_of k es c.requires.indexed.sorted) in
+    let new_ : (k : Slot) → Every (is_others tid) (lane_at lanes k) = λ k. subst (Every (is_others tid)) (sym (c.requires.indexed.placed k)) (lane_others spec.slot_of k tid es away) in
+    let more : (k : Slot) → length (lane_at lanes k) ≤ length (lane_at after k) = λ k.
+    let few : length (lane_at lanes k) ≤ length (with_run tid (run_in c.runs.result.now k) (lane_at lanes k)) = with_longer tid (run_in c.runs.result.now k) (lane_at lanes k) (up k) (new_ k) in
+    let same : length (lane_at after k) ≡ length (with_run tid (run_in c.runs.result.now k) (lane_at lanes k)) = ap length (c.come.ensures.lanes k) in
+    omega (arith, few, same) in
+    c.requires.indexed.sides n ∙ filled_more (length (lane_at lanes (Side true n))) (length (lane_at lanes (Side false n))) (length (lane_at after (Side true n))) (length (lane_at after (Side false n))) (more (Side true n)) (more (Side false n)) dark
+
 pub returns-clause-entries : goal.returns-clause-entries
 returns-clause-entries c =
     let es = c.args.self.now.entries.items in
@@ -66,6 +105,7 @@ returns-clause-indexed c =
       placed = λ k. c.come.ensures.lanes k ∙ ap (λ ls. with_run c.tid-2.result ls (lane_at c.args.self.now.lanes.by_slot k)) (c.runs.ensures.runs k)
           ∙ ap (with_run c.tid-2.result (leaves_at k 0 (map spec.slot_of (bases e.group)))) (c.requires.indexed.placed k)
           ∙ came_lane spec.slot_of k c.tid-2.result e es c.tid-2.ensures ∙ ap (λ xs. lane_of spec.slot_of k (offers_of xs)) (sym after);
+      sides = c.add_all.ensures;
       all = omega (arith, many, count, now, c.requires.indexed.all);
       alone = omega (arith, many_lit, count_lit, now_lit, c.requires.indexed.alone);
       named = subst (λ xs. Every (λ k. spec.is_named c.args.self.now.flags.entries (spec.slot_of_nack k)) (spec.nacks_in xs)) (sym after) (nacks_with (λ k. spec.is_named c.args.self.now.flags.entries (spec.slot_of_nack k)) e es c.requires.indexed.named c.requires.named);

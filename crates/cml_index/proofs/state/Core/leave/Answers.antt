@@ -1,4 +1,4 @@
-use Rattle.std.proofs.Common.{◌≡◌, ◌≤◌, ◌-◌, ◌+◌, ◌*◌, ◌∙◌, [], ◌∷◌, length, get_or, nat_eq, not, ap, sym, subst, arith}
+use Rattle.std.proofs.Common.{◌≡◌, ℕ, true, false, ◌&&◌, nat_lt, ◌≤◌, ◌-◌, ◌+◌, ◌*◌, ◌∙◌, [], ◌∷◌, length, get_or, nat_eq, not, ap, sym, subst, arith}
 use Rattle.std.specs.List.{remove, filter}
 use Rattle.cml_value.specs.Group.{bases}
 use Rattle.cml_scan.specs.World.{PlainEntry}
@@ -8,7 +8,14 @@ use Rattle.cml_scan.specs.Light.{lit_by}
 use Rattle.cml_scan.specs.Order.{IsSorted, Every}
 use Rattle.cml_scan.proofs.Ordered.{sorted_without}
 use Rattle.cml_channel.specs.Lanes.{is_own, is_others, others}
-use Rattle.cml_index.specs.Slots.{lane_at, lane_of}
+use Rattle.std.specs.Prelude.{Vec}
+use Rattle.std.specs.Option.{option_map_or}
+use Rattle.std.specs.declared.alloc.Global.{Global}
+use Rattle.cml_index.specs.declared.slot.Slot.{Slot}
+use Rattle.cml_index.specs.declared.slot.Slot.TheVariants.{Side}
+use Rattle.cml_index.specs.Slots.{lane_at, lane_of, run_in, has_run}
+use Rattle.cml_index.proofs.Walks.{no_run, others_all}
+use Rattle.cml_index.proofs.Kept.{no_side, filled_less}
 use Rattle.cml_index.specs.Posts as spec
 use Rattle.cml_index.proofs.Parted.{owned, there_any, gone_one, left_lane, left_rest, left_count, left_all, nacks_left, move_cost, filter_fewer}
 use Rattle.cml_index.proofs.state.Core.leave.Goals as goal
@@ -54,6 +61,34 @@ go-requires c k =
     let thread : d.thread ≡ c.args.tid.0 = ap (λ (e : PlainEntry). e.thread) entry ∙ o.thread in
     ap length (c.runs.ensures.runs k) ∙ left_lane spec.slot_of k c.args.tid es d own thread ∙ ap (λ ps. length (filter (is_own c.args.tid) ps)) (sym (c.requires.indexed.placed k))
 
+pub cut_all-requires-clause-was : goal.cut_all-requires-clause-was
+cut_all-requires-clause-was c n e =
+    let es = c.args.self.now.entries.items in
+    let d = c.remove-entry.result in
+    let o = owned c.args.tid.0 es d c.requires.indexed.sorted (there_any c.args.tid.0 es c.requires.there) in
+    let at = c.find-at.ensures ∙ ap (spec.count_below c.args.tid.0) c.deref.ensures.value in
+    let entry : d ≡ get_or es (spec.count_below c.args.tid.0 es) d = c.remove-entry.ensures.value ∙ ap (λ n. get_or es n d) at in
+    let own : filter (λ e. nat_eq c.args.tid.0 e.thread) es ≡ d ∷ [] = o.own ∙ ap (λ x. x ∷ []) (sym entry) in
+    let thread : d.thread ≡ c.args.tid.0 = ap (λ (e : PlainEntry). e.thread) entry ∙ o.thread in
+    let lanes = c.args.self.now.lanes.by_slot in
+    let after = c.go.new.self.by_slot in
+    let same : (k : Slot) → has_run c.runs-2.result.now.entries k ≡ false → lane_at after k ≡ lane_at lanes k = λ k off.
+    let none : run_in c.runs-2.result.now k ≡ [] = ap (λ r. option_map_or (λ (v : Vec ℕ Global). v.items) r []) (no_run c.runs-2.result.now.entries k off) in
+    let zero_ : length (filter (is_own c.args.tid) (lane_at lanes k)) ≡ 0 = ap (λ ps. length (filter (is_own c.args.tid) ps)) (c.requires.indexed.placed k) ∙ sym (left_lane spec.slot_of k c.args.tid es d own thread) ∙ ap length (sym (c.runs-2.ensures.runs k) ∙ none) in
+    c.go.ensures.lanes k ∙ others_all c.args.tid (lane_at lanes k) zero_ in
+    let off = no_side (has_run c.runs-2.result.now.entries (Side true n)) (has_run c.runs-2.result.now.entries (Side false n)) e in
+    c.requires.indexed.sides n ∙ ap (λ ps. nat_lt 0 (length ps) && nat_lt 0 (length (lane_at lanes (Side false n)))) (sym (same (Side true n) off.0)) ∙ ap (λ ps. nat_lt 0 (length (lane_at after (Side true n))) && nat_lt 0 (length ps)) (sym (same (Side false n) off.1))
+
+pub cut_all-requires-clause-over : goal.cut_all-requires-clause-over
+cut_all-requires-clause-over c n on =
+    let lanes = c.args.self.now.lanes.by_slot in
+    let after = c.go.new.self.by_slot in
+    let fewer : (k : Slot) → length (lane_at after k) ≤ length (lane_at lanes k) = λ k.
+    let few : length (others c.args.tid (lane_at lanes k)) ≤ length (lane_at lanes k) = filter_fewer (is_others c.args.tid) (lane_at lanes k) in
+    let same : length (lane_at after k) ≡ length (others c.args.tid (lane_at lanes k)) = ap length (c.go.ensures.lanes k) in
+    omega (arith, few, same) in
+    c.requires.indexed.sides n ∙ filled_less (length (lane_at lanes (Side true n))) (length (lane_at lanes (Side false n))) (length (lane_at after (Side true n))) (length (lane_at after (Side false n))) (fewer (Side true n)) (fewer (Side false n)) on
+
 pub returns-clause-entries : goal.returns-clause-entries
 returns-clause-entries c =
     let es = c.args.self.now.entries.items in
@@ -84,6 +119,7 @@ returns-clause-indexed c =
     record {
       sorted = subst IsSorted (sym without_) (sorted_without (c.args.tid ∷ []) es c.requires.indexed.sorted);
       placed = λ k. c.go.ensures.lanes k ∙ ap (others c.args.tid) (c.requires.indexed.placed k) ∙ sym (left_rest spec.slot_of k c.args.tid es) ∙ ap (λ xs. lane_of spec.slot_of k (offers_of xs)) (sym rest);
+      sides = c.cut_all.ensures.live;
       all = omega (arith, many, count, after, c.requires.indexed.all);
       alone = omega (arith, many_lit, count_lit, after_lit, c.requires.indexed.alone);
       named = subst (λ xs. Every (λ k. spec.is_named c.args.self.now.flags.entries (spec.slot_of_nack k)) (spec.nacks_in xs)) (sym rest) (nacks_left (λ k. spec.is_named c.args.self.now.flags.entries (spec.slot_of_nack k)) (λ e. not (nat_eq c.args.tid.0 e.thread)) es c.requires.indexed.named);

@@ -4,7 +4,7 @@ use Rattle.cml_index.proofs.Going.{there_still, without_more, without_none}
 use Rattle.cml_index.proofs.state.Core.leave_all.Goals as goal
 
 pub loop-tid-init : goal.loop-tid-init
-loop-tid-init c = record { entries = without_none c.args.self.now.entries.items; indexed = c.requires.indexed; flags = Rattle.std.proofs.Common.refl; room = λ k. omega arith; shorter = λ k. omega arith; cost = λ digits few. omega arith; lighter = omega arith; fewer = omega arith; capacity = omega arith }
+loop-tid-init c = record { entries = without_none c.args.self.now.entries.items; indexed = c.requires.indexed; flags = Rattle.std.proofs.Common.refl; room = λ k. omega arith; shorter = λ k. omega arith; cost = λ digits few. omega arith; lighter = omega arith; fewer = omega arith; capacity = omega arith; seats = omega arith }
 
 pub leave-requires-clause-there : goal.leave-requires-clause-there
 leave-requires-clause-there c =
@@ -26,4 +26,5 @@ loop-tid-preserved c =
       lighter = omega (arith, c.loop-tid.invariant.lighter, c.leave.ensures.lighter);
       fewer = omega (arith, c.loop-tid.invariant.fewer, c.leave.ensures.fewer);
       capacity = omega (arith, c.loop-tid.invariant.capacity, c.leave.ensures.capacity);
+      seats = omega (arith, c.loop-tid.invariant.seats, c.leave.ensures.seats);
     }

@@ -1,5 +1,6 @@
 use Rattle.std.proofs.Common.{◌≡◌, ◌≤◌, ◌<◌, ◌+◌, ◌*◌, ◌^◌, ℕ, length, take, vec_len}
 use Rattle.std.specs.Vec.{vec_capacity}
+use Rattle.indexmap.specs.IndexSet.{spare}
 use Rattle.cml_scan.specs.Table.{without}
 use Rattle.cml_index.specs.declared.slot.Slot.{Slot}
 use Rattle.cml_index.specs.Slots.{lane_at, room_at}
@@ -10,7 +11,7 @@ use Rattle.cml_index.proofs.state.Core.leave_all.Given as goal
 abbrev pub invariant-loop-tid : goal.invariant-loop-tid
 invariant-loop-tid l = record {
   entries : l.self.entries.items ≡ without (take l.tid-index l.gone) l.fn.self.entries.items;
-  indexed : spec.IsIndexed l.self.entries.items l.self.lanes.by_slot l.self.flags.entries l.self.leaves l.self.lit;
+  indexed : spec.IsIndexed l.self.entries.items l.self.lanes.by_slot l.self.live l.self.flags.entries l.self.leaves l.self.lit;
   flags : l.self.flags ≡ l.fn.self.flags;
   room : (k : Slot) → room_at l.fn.self.lanes.by_slot k ≤ room_at l.self.lanes.by_slot k;
   shorter : (k : Slot) → length (lane_at l.self.lanes.by_slot k) ≤ length (lane_at l.fn.self.lanes.by_slot k);
@@ -18,4 +19,5 @@ invariant-loop-tid l = record {
   lighter : l.self.leaves ≤ l.fn.self.leaves;
   fewer : vec_len l.self.entries ≤ vec_len l.fn.self.entries;
   capacity : vec_capacity l.fn.self.entries ≤ vec_capacity l.self.entries;
+  seats : spare l.fn.self.live ≤ spare l.self.live;
 }

@@ -4,8 +4,8 @@ use Rattle.cml_index.proofs.state.Core.leave_only.Goals as goal
 
 pub returns-in_err-reserve_lights-clause-indexed : goal.returns-in_err-reserve_lights-clause-indexed
 returns-in_err-reserve_lights-clause-indexed c =
-    still_indexed c.args.self.now.entries.items c.args.self.now.lanes.by_slot c.args.self.now.lanes.by_slot c.args.self.now.flags.entries c.reserve_lights.new.flags.entries c.args.self.now.leaves c.args.self.now.lit c.requires.indexed (λ k. refl) c.reserve_lights.ensures.told c.reserve_lights.ensures.kept
+    still_indexed c.args.self.now.entries.items c.args.self.now.lanes.by_slot c.args.self.now.lanes.by_slot c.args.self.now.live c.args.self.now.live c.args.self.now.flags.entries c.reserve_lights.new.flags.entries c.args.self.now.leaves c.args.self.now.lit c.requires.indexed (λ k. refl) refl c.reserve_lights.ensures.told c.reserve_lights.ensures.kept
 
-pub turn-requires-clause-indexed : goal.turn-requires-clause-indexed
-turn-requires-clause-indexed c =
-    still_indexed c.args.self.now.entries.items c.args.self.now.lanes.by_slot c.args.self.now.lanes.by_slot c.args.self.now.flags.entries c.reserve_lights.new.flags.entries c.args.self.now.leaves c.args.self.now.lit c.requires.indexed (λ k. refl) c.reserve_lights.ensures.told c.reserve_lights.ensures.kept
+pub tell_and_leave-requires-clause-indexed : goal.tell_and_leave-requires-clause-indexed
+tell_and_leave-requires-clause-indexed c =
+    still_indexed c.args.self.now.entries.items c.args.self.now.lanes.by_slot c.args.self.now.lanes.by_slot c.args.self.now.live c.args.self.now.live c.args.self.now.flags.entries c.reserve_lights.new.flags.entries c.args.self.now.leaves c.args.self.now.lit c.requires.indexed (λ k. refl) refl c.reserve_lights.ensures.told c.reserve_lights.ensures.kept

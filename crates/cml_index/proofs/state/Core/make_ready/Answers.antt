@@ -8,7 +8,7 @@ use Rattle.cml_index.proofs.state.Core.make_ready.Goals as goal
 
 pub returns-clause-indexed : goal.returns-clause-indexed
 returns-clause-indexed c =
-    still_indexed c.make_places.new.self.entries.items c.make_places.new.self.lanes.by_slot c.make_places.new.self.lanes.by_slot c.make_places.new.self.flags.entries c.reserve_lights.new.flags.entries c.make_places.new.self.leaves c.make_places.new.self.lit c.make_places.ensures.indexed (λ k. refl) c.reserve_lights.ensures.told c.reserve_lights.ensures.kept
+    still_indexed c.make_places.new.self.entries.items c.make_places.new.self.lanes.by_slot c.make_places.new.self.lanes.by_slot c.make_places.new.self.live c.make_places.new.self.live c.make_places.new.self.flags.entries c.reserve_lights.new.flags.entries c.make_places.new.self.leaves c.make_places.new.self.lit c.make_places.ensures.indexed (λ k. refl) refl c.reserve_lights.ensures.told c.reserve_lights.ensures.kept
 
 pub returns-clause-named : goal.returns-clause-named
 returns-clause-named c =

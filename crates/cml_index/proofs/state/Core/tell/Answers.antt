@@ -42,6 +42,7 @@ returns-then-lit-clause-indexed c =
     record {
       sorted = c.requires.indexed.sorted;
       placed = c.requires.indexed.placed;
+      sides = c.requires.indexed.sides;
       all = c.requires.indexed.all;
       alone = omega (arith, waiters, many, c.requires.indexed.alone);
       named = Every-weaker (λ k. spec.is_named c.args.self.now.flags.entries (spec.slot_of_nack k)) (λ k. spec.is_named c.flip.new.flags.entries (spec.slot_of_nack k)) (spec.nacks_in c.args.self.now.entries.items) (λ k h. c.flip.ensures.kept (spec.slot_of_nack k) h) c.requires.indexed.named;
@@ -58,6 +59,7 @@ returns-else-lit-clause-indexed c =
     record {
       sorted = c.requires.indexed.sorted;
       placed = c.requires.indexed.placed;
+      sides = c.requires.indexed.sides;
       all = c.requires.indexed.all;
       alone = omega (arith, waiters, many, c.requires.indexed.alone);
       named = Every-weaker (λ k. spec.is_named c.args.self.now.flags.entries (spec.slot_of_nack k)) (λ k. spec.is_named c.flip.new.flags.entries (spec.slot_of_nack k)) (spec.nacks_in c.args.self.now.entries.items) (λ k h. c.flip.ensures.kept (spec.slot_of_nack k) h) c.requires.indexed.named;
@@ -71,6 +73,7 @@ returns-else-flip-clause-indexed c =
     record {
       sorted = c.requires.indexed.sorted;
       placed = c.requires.indexed.placed;
+      sides = c.requires.indexed.sides;
       all = c.requires.indexed.all;
       alone = c.requires.indexed.alone ∙ sym (ap length (told_same old new (retold_same c.args.light c.args.lit old new c.flip.result c.if-flip.false c.flip.ensures.changed c.flip.ensures.told) os));
       named = Every-weaker (λ k. spec.is_named c.args.self.now.flags.entries (spec.slot_of_nack k)) (λ k. spec.is_named c.flip.new.flags.entries (spec.slot_of_nack k)) (spec.nacks_in c.args.self.now.entries.items) (λ k h. c.flip.ensures.kept (spec.slot_of_nack k) h) c.requires.indexed.named;

@@ -18,6 +18,7 @@ loop-light-preserved c =
       indexed = c.tell.ensures.indexed;
       entries = c.tell.ensures.entries ∙ c.loop-light.invariant.entries;
       lanes = c.tell.ensures.lanes ∙ c.loop-light.invariant.lanes;
+      live = c.tell.ensures.live ∙ c.loop-light.invariant.live;
       leaves = c.tell.ensures.leaves ∙ c.loop-light.invariant.leaves;
       kept = λ k h. c.tell.ensures.kept k (c.loop-light.invariant.kept k h);
       cost = omega (arith, c.tell.ensures.cost, c.loop-light.invariant.cost);

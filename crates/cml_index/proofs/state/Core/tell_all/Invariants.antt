@@ -9,10 +9,11 @@ use Rattle.cml_index.proofs.state.Core.tell_all.Given as goal
 abbrev pub invariant-loop-light : goal.invariant-loop-light
 invariant-loop-light l = record {
   told : (m : Light) → spec.told l.self.flags.entries m ≡ (if has_light (take l.light-index l.lights) m then l.lit else spec.told l.fn.self.flags.entries m);
-  indexed : spec.IsIndexed l.self.entries.items l.self.lanes.by_slot l.self.flags.entries l.self.leaves l.self.lit;
+  indexed : spec.IsIndexed l.self.entries.items l.self.lanes.by_slot l.self.live l.self.flags.entries l.self.leaves l.self.lit;
   entries : l.self.entries ≡ l.fn.self.entries;
   lanes : l.self.lanes.by_slot ≡ l.fn.self.lanes.by_slot;
   leaves : l.self.leaves ≡ l.fn.self.leaves;
+  live : l.self.live ≡ l.fn.self.live;
   kept : (k : Slot) → spec.is_named l.fn.self.flags.entries k ≡ true → spec.is_named l.self.flags.entries k ≡ true;
   cost : l.tally ≤ l.fn.tally + l.light-index;
 }

@@ -7,6 +7,7 @@ ghost use Rattle.cml_scan.specs.declared.object.Light.{Light};
 ghost use Rattle.cml_scan.specs.Order.{Every};
 ghost use Rattle.cml_scan.specs.Table.{without, with_entry, IsThere, has_light, lit_after};
 ghost use Rattle.cml_index.specs.declared.slot.Slot.{Slot};
+ghost use Rattle.indexmap.specs.IndexSet.{spare};
 ghost use Rattle.cml_index.specs.Posts as spec;
 ghost use Rattle.cml_index.specs.declared.slot.Slot.TheVariants.{Waiters};
 ghost use Rattle.cml_index.specs.Slots.{lane_at, room_at, leaves_at};
@@ -22,17 +23,18 @@ use std::alloc::{AllocError, Global};
 impl Core {
     // Tells the same of these lights. It takes no memory.
     fn tell_all(&mut self, lights: &[Light], lit: bool, tally: &mut Tally)
-        requires indexed { spec.IsIndexed self.old.entries.items self.old.lanes.by_slot
+        requires indexed { spec.IsIndexed self.old.entries.items self.old.lanes.by_slot self.old.live
             self.old.flags.entries self.old.leaves self.old.lit }
         requires there { lit ≡ true →
             Every (λ l. spec.is_named self.old.flags.entries (Waiters l)) lights.now }
         ensures told { (m : Light) → spec.told self.new.flags.entries m
             ≡ (if has_light lights.now m then lit else spec.told self.old.flags.entries m) }
-        ensures indexed { spec.IsIndexed self.new.entries.items self.new.lanes.by_slot
+        ensures indexed { spec.IsIndexed self.new.entries.items self.new.lanes.by_slot self.new.live
             self.new.flags.entries self.new.leaves self.new.lit }
         ensures entries { self.new.entries ≡ self.old.entries }
         ensures lanes { self.new.lanes.by_slot ≡ self.old.lanes.by_slot }
         ensures leaves { self.new.leaves ≡ self.old.leaves }
+        ensures live { self.new.live ≡ self.old.live }
         ensures kept { (k : Slot) → spec.is_named self.old.flags.entries k ≡ true →
             spec.is_named self.new.flags.entries k ≡ true }
         ensures cost { tally.new ≤ tally.old + length lights.now }
@@ -43,13 +45,13 @@ impl Core {
     }
 
     // Tells of the lights, which have their places where they are told to be lit, and then the threads go. It takes no memory.
-    fn turn(&mut self, gone: &[Tid], lit: &[Light], unlit: &[Light], tally: &mut Tally)
-        requires indexed { spec.IsIndexed self.old.entries.items self.old.lanes.by_slot
+    fn tell_and_leave(&mut self, gone: &[Tid], lit: &[Light], unlit: &[Light], tally: &mut Tally)
+        requires indexed { spec.IsIndexed self.old.entries.items self.old.lanes.by_slot self.old.live
             self.old.flags.entries self.old.leaves self.old.lit }
         requires there { All (IsThere self.old.entries.items) gone.now }
         requires once { AllPairs (λ a b. a.0 ≢ b.0) gone.now }
         requires named { Every (λ l. spec.is_named self.old.flags.entries (Waiters l)) lit.now }
-        ensures indexed { spec.IsIndexed self.new.entries.items self.new.lanes.by_slot
+        ensures indexed { spec.IsIndexed self.new.entries.items self.new.lanes.by_slot self.new.live
             self.new.flags.entries self.new.leaves self.new.lit }
         ensures entries { self.new.entries.items ≡ without gone.now self.old.entries.items }
         ensures told { (l : Light) → spec.told self.new.flags.entries l
@@ -67,6 +69,7 @@ impl Core {
         ensures leaves { self.new.leaves ≤ self.old.leaves }
         ensures fewer { vec_len self.new.entries ≤ vec_len self.old.entries }
         ensures capacity { vec_capacity self.old.entries ≤ vec_capacity self.new.entries }
+        ensures seats { spare self.old.live ≤ spare self.new.live }
     {
         self.tell_all(unlit, false, tally);
         self.tell_all(lit, true, tally);
@@ -81,11 +84,11 @@ impl Core {
         unlit: &[Light],
         tally: &mut Tally,
     ) -> Result<(), AllocError>
-        requires indexed { spec.IsIndexed self.old.entries.items self.old.lanes.by_slot
+        requires indexed { spec.IsIndexed self.old.entries.items self.old.lanes.by_slot self.old.live
             self.old.flags.entries self.old.leaves self.old.lit }
         requires there { All (IsThere self.old.entries.items) gone.now }
         requires once { AllPairs (λ a b. a.0 ≢ b.0) gone.now }
-        ensures indexed { spec.IsIndexed self.new.entries.items self.new.lanes.by_slot
+        ensures indexed { spec.IsIndexed self.new.entries.items self.new.lanes.by_slot self.new.live
             self.new.flags.entries self.new.leaves self.new.lit }
         ensures ok { OnOk result
             (self.new.entries.items ≡ without gone.now self.old.entries.items) }
@@ -103,7 +106,7 @@ impl Core {
             + self.old.leaves * (digits + 2) + (length lit.now + length unlit.now)) }
     {
         reserve_lights(&mut self.flags, lit)?;
-        self.turn(gone, lit, unlit, tally);
+        self.tell_and_leave(gone, lit, unlit, tally);
         Ok(())
     }
 
@@ -118,12 +121,12 @@ impl Core {
         unlit: &[Light],
         tally: &mut Tally,
     ) -> Result<(), AllocError>
-        requires indexed { spec.IsIndexed self.old.entries.items self.old.lanes.by_slot
+        requires indexed { spec.IsIndexed self.old.entries.items self.old.lanes.by_slot self.old.live
             self.old.flags.entries self.old.leaves self.old.lit }
         requires there { All (IsThere self.old.entries.items) gone.now }
         requires once { AllPairs (λ a b. a.0 ≢ b.0) gone.now }
         requires new { All (λ e. e.thread ≢ tid.0) self.old.entries.items }
-        ensures indexed { spec.IsIndexed self.new.entries.items self.new.lanes.by_slot
+        ensures indexed { spec.IsIndexed self.new.entries.items self.new.lanes.by_slot self.new.live
             self.new.flags.entries self.new.leaves self.new.lit }
         ensures ok { OnOk result (self.new.entries.items
             ≡ with_entry (record { thread = tid.0; group = group.now })
@@ -145,16 +148,16 @@ impl Core {
             drop(entry);
             return Err(AllocError);
         };
-        self.turn(gone, lit, unlit, tally);
+        self.tell_and_leave(gone, lit, unlit, tally);
         self.enter(entry, tally);
         Ok(())
     }
 
     // Makes room for the entry that will come, and for the lights that will be told to be lit. Nothing was told.
     fn make_ready(&mut self, alloc: Global, entry: &Entry, lit: &[Light]) -> Result<(), AllocError>
-        requires indexed { spec.IsIndexed self.old.entries.items self.old.lanes.by_slot
+        requires indexed { spec.IsIndexed self.old.entries.items self.old.lanes.by_slot self.old.live
             self.old.flags.entries self.old.leaves self.old.lit }
-        ensures indexed { spec.IsIndexed self.new.entries.items self.new.lanes.by_slot
+        ensures indexed { spec.IsIndexed self.new.entries.items self.new.lanes.by_slot self.new.live
             self.new.flags.entries self.new.leaves self.new.lit }
         ensures entries { self.new.entries.items ≡ self.old.entries.items }
         ensures leaves { self.new.leaves ≡ self.old.leaves }
@@ -163,6 +166,7 @@ impl Core {
         ensures told { (m : Light) →
             spec.told self.new.flags.entries m ≡ spec.told self.old.flags.entries m }
         ensures seat { OnOk result (vec_len self.new.entries < vec_capacity self.new.entries) }
+        ensures seats { OnOk result (length (bases entry.now.group) ≤ spare self.new.live) }
         ensures small { OnOk result
             (self.new.leaves + length (bases entry.now.group) ≤ usize.MAX) }
         ensures room { OnOk result ((k : Slot) →

@@ -4,7 +4,7 @@ use Rattle.cml_scan.specs.Table.{IsThere}
 use Rattle.cml_scan.proofs.Ordered.{Every-weaker}
 use Rattle.cml_index.specs.declared.slot.Slot.TheVariants.{Waiters}
 use Rattle.cml_index.specs.Posts as spec
-use Rattle.cml_index.proofs.state.Core.turn.Goals as goal
+use Rattle.cml_index.proofs.state.Core.tell_and_leave.Goals as goal
 
 pub tell_all-requires-2-clause-there : goal.tell_all-requires-2-clause-there
 tell_all-requires-2-clause-there c = λ on. Every-weaker (λ l. spec.is_named c.args.self.now.flags.entries (Waiters l)) (λ l. spec.is_named c.tell_all.new.self.flags.entries (Waiters l)) c.args.lit.now (λ l h. c.tell_all.ensures.kept (Waiters l) h) c.requires.named

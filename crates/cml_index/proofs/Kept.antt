@@ -1,0 +1,88 @@
+-- The channels on both sides of which offers stand, when runs come or go.
+use Rattle.std.proofs.Common.{◌≡◌, ℕ, Bool, true, false, ◌&&◌, ◌||◌, nat_eq, nat_lt, List, ◌++◌, length, ◌+◌, ◌≤◌, refl, ap, sym, ◌∙◌, arith}
+use Rattle.std.specs.List.{filter}
+use Rattle.std.proofs.lemmas.List.{length-append}
+use Rattle.cml_value.specs.declared.number.Tid.{Tid}
+use Rattle.cml_scan.specs.declared.meet.Place.{Place}
+use Rattle.cml_scan.specs.Order.{before, Every, Ascends}
+use Rattle.cml_channel.specs.Lanes.{is_others, run, with_run}
+use Rattle.cml_index.proofs.Walks.{with_none}
+use Rattle.std.proofs.lemmas.Bool.Decides.{nat_tests}
+use Rattle.cml_index.specs.declared.slot.Slot.TheVariants.{Side}
+use Rattle.cml_index.specs.Live.{is_side}
+
+-- a side is one of the channel of its number
+pub side_is : (h : Bool) (m n : ℕ) → is_side (Side h m) n ≡ nat_eq m n
+side_is true m n = at (nat_eq n m) refl
+  where
+    turned : (n m : ℕ) → nat_eq n m ≡ nat_eq m n
+    turned n m = grind (arith, nat_tests)
+
+    at : (b : Bool) → nat_eq n m ≡ b → b || false ≡ nat_eq m n
+    at true e = sym e ∙ turned n m
+    at false e = sym e ∙ turned n m
+side_is false m n = turned n m
+  where
+    turned : (n m : ℕ) → nat_eq n m ≡ nat_eq m n
+    turned n m = grind (arith, nat_tests)
+
+-- a channel is touched by one of the runs from one on where it is by that one or by a later one
+pub sides_left : (here_t here_f later_t later_f left_t left_f : Bool) → left_t ≡ here_t || later_t → left_f ≡ here_f || later_f → left_t || left_f ≡ (here_t || here_f) || (later_t || later_f)
+sides_left true true lt lf a b e f = rw e refl
+sides_left true false lt lf a b e f = rw e refl
+sides_left false true true lf a b e f = rw e refl
+sides_left false true false lf a b e f = rw (e, f) refl
+sides_left false false lt lf a b e f = rw (e, f) refl
+
+-- a channel is kept right when one more of the runs is done, where it was not there without need
+pub cut_more : (here later left old new on : Bool) → left ≡ here || later → later ≡ false → (here ≡ true → new ≡ old && on) → (here ≡ false → new ≡ old) → (left ≡ false → old ≡ on) → (on ≡ true → old ≡ true) → new ≡ on
+cut_more true later left old new on e f one two was over = one refl ∙ at old on over
+  where
+    at : (a b : Bool) → (b ≡ true → a ≡ true) → a && b ≡ b
+    at true b over = refl
+    at false true over = over refl
+    at false false over = refl
+cut_more false later left old new on e f one two was over = two refl ∙ was (e ∙ f)
+
+pub add_more : (here later left old new on : Bool) → left ≡ here || later → later ≡ false → (here ≡ true → new ≡ old || on) → (here ≡ false → new ≡ old) → (left ≡ false → old ≡ on) → (on ≡ false → old ≡ false) → new ≡ on
+add_more true later left old new on e f one two was under = one refl ∙ at old on under
+  where
+    at : (a b : Bool) → (b ≡ false → a ≡ false) → a || b ≡ b
+    at true true under = refl
+    at true false under = under refl
+    at false b under = refl
+add_more false later left old new on e f one two was under = two refl ∙ was (e ∙ f)
+
+-- one that is there with need stays
+pub cut_over : (here old new on : Bool) → (here ≡ true → new ≡ old && on) → (here ≡ false → new ≡ old) → (on ≡ true → old ≡ true) → on ≡ true → new ≡ true
+cut_over true old new on one two over is = one refl ∙ rw (over is, is) refl
+cut_over false old new on one two over is = two refl ∙ over is
+
+-- one that is not there without need is not put in
+pub add_under : (here old new on : Bool) → (here ≡ true → new ≡ old || on) → (here ≡ false → new ≡ old) → (on ≡ false → old ≡ false) → on ≡ false → new ≡ false
+add_under true old new on one two under is = one refl ∙ rw (under is, is) refl
+add_under false old new on one two under is = two refl ∙ under is
+
+-- no run is that of either side
+pub no_side : (a b : Bool) → a || b ≡ false → (a ≡ false) × (b ≡ false)
+no_side true b e = cc
+no_side false b e = (refl, e)
+
+-- a lane that only loses offers is filled only where it was
+pub filled_less : (a b c d : ℕ) → c ≤ a → d ≤ b → nat_lt 0 c && nat_lt 0 d ≡ true → nat_lt 0 a && nat_lt 0 b ≡ true
+filled_less a b c d x y e = grind (arith, nat_tests)
+
+-- a lane that only gets offers is filled where it was
+pub filled_more : (a b c d : ℕ) → a ≤ c → b ≤ d → nat_lt 0 c && nat_lt 0 d ≡ false → nat_lt 0 a && nat_lt 0 b ≡ false
+filled_more a b c d x y e = grind (arith, nat_tests)
+
+-- a lane is no shorter with the offers of one more thread
+pub with_longer : (tid : Tid) (leaves : List ℕ) (ps : List Place) → Ascends before ps → Every (is_others tid) ps → length ps ≤ length (with_run tid leaves ps)
+with_longer tid leaves ps up away =
+    let low = filter (λ (q : Place). nat_lt q.tid.0 tid.0) ps in
+    let high = filter (λ (q : Place). nat_lt tid.0 q.tid.0) ps in
+    let whole : length (low ++ high) ≡ length ps = ap length (with_none tid ps up away) in
+    let a : length (low ++ high) ≡ length low + length high = length-append low high in
+    let b : length (low ++ (run tid leaves ++ high)) ≡ length low + length (run tid leaves ++ high) = length-append low (run tid leaves ++ high) in
+    let c : length (run tid leaves ++ high) ≡ length (run tid leaves) + length high = length-append (run tid leaves) high in
+    omega (arith, whole, a, b, c)

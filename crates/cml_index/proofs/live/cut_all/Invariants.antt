@@ -1,0 +1,12 @@
+use Rattle.std.proofs.Common.{◌≡◌, ◌≤◌, ℕ, drop, true, false, nat_eq}
+use Rattle.indexmap.specs.IndexSet.{contains, spare}
+use Rattle.cml_index.specs.Live as spec
+use Rattle.cml_index.proofs.live.cut_all.Given as goal
+
+-- the channels are right that no run touches that is left
+abbrev pub invariant-loop-i : goal.invariant-loop-i
+invariant-loop-i l = record {
+  was : (n : ℕ) → spec.has_side (drop l.i l.runs.entries) n ≡ false → contains nat_eq l.live n ≡ spec.is_live l.lanes.by_slot n;
+  over : (n : ℕ) → spec.is_live l.lanes.by_slot n ≡ true → contains nat_eq l.live n ≡ true;
+  room : spare l.fn.live ≤ spare l.live;
+}

@@ -1,0 +1,172 @@
+//! All rows: those of the leaves that can be taken alone, and then those of each leaf that meets a lane.
+
+ghost use Rattle.std.specs.Prelude.{◌≡◌, ◌≤◌, ◌<◌, ◌+◌, ◌++◌, length, map, filter, slice_index_or, IfOk};
+ghost use Rattle.std.specs.List.{flat_map};
+ghost use Rattle.cml_value.specs.Group.{bases};
+ghost use Rattle.cml_scan.specs.Light.{lit_by};
+ghost use Rattle.cml_scan.specs.Order.{Ascends, before};
+ghost use Rattle.cml_scan.specs.Scan.{single, pairs_with, offers_of, leaves_from, scan_of};
+ghost use Rattle.cml_channel.specs.Lanes.{others};
+ghost use Rattle.cml_index.specs.Heads.{pair_of, offer_at};
+ghost use Rattle.cml_index.specs.Slots.{lane_of};
+ghost use Rattle.cml_index.specs.Posts as spec;
+
+use crate::entry::Entry;
+use crate::flags::is_lit_by;
+use crate::heads::head_count;
+use crate::lanes::Lanes;
+use crate::slot::Slot;
+use crate::state::Core;
+use cml_channel::{Channels, Lane, Tally};
+use cml_scan::{Meet, Place};
+use cml_value::{Base, Tid};
+use std::alloc::{AllocError, Global};
+
+// The offer at this place among those in the lane that are not the thread's, which has so many there: two looks.
+pub(crate) fn other_in(lane: &Lane, tid: Tid, own: usize, j: usize, tally: &mut Tally) -> Place
+    requires sorted { Ascends before lane.now.places }
+    requires own { own + length (others tid lane.now.places) ≡ length lane.now.places }
+    requires within { j < length (others tid lane.now.places) }
+    ensures value { result ≡ slice_index_or (others tid lane.now.places) j result }
+    ensures cost { tally.new ≤ tally.old + 2 }
+{
+    let _len = lane.len();
+    let place = lane.look(j, tally);
+    if place.tid.0 < tid.0 {
+        place
+    } else {
+        lane.look(j + own, tally)
+    }
+}
+
+// Puts the rows of the head with the offers in the lane that are of other threads behind those that stand there.
+fn push_lane(
+    rows: &mut Vec<Meet>,
+    head: Place,
+    lane: &Lane,
+    tally: &mut Tally,
+) -> Result<(), AllocError>
+    requires { Ascends before lane.now.places }
+    ensures { IfOk result (λ _. rows.new.items
+        ≡ rows.old.items ++ map (pair_of head) (others head.tid lane.now.places)) }
+{
+    let count = lane.others_count(head.tid, tally);
+    let own = lane.len() - count;
+    for j in 0..count {
+        let other = other_in(lane, head.tid, own, j, tally);
+        rows.push(Meet::Pair {
+            head: head.tid,
+            head_leaf: head.leaf,
+            other: other.tid,
+            other_leaf: other.leaf,
+        })?;
+    }
+    Ok(())
+}
+
+// Puts the rows of the head with the offers in the lane of this slot that are of other threads behind those that stand there.
+fn push_slot(
+    rows: &mut Vec<Meet>,
+    core: &Core,
+    slot: Slot,
+    head: Place,
+    tally: &mut Tally,
+) -> Result<(), AllocError>
+    requires { spec.IsIndexed core.now.entries.items core.now.lanes.by_slot core.now.live
+        core.now.flags.entries core.now.leaves core.now.lit }
+    ensures { IfOk result (λ _. rows.new.items ≡ rows.old.items
+        ++ map (pair_of head) (others head.tid (lane_of spec.slot_of slot (offers_of core.now.entries.items)))) }
+{
+    match core.lanes.by_slot.get(&slot) {
+        Some(lane) => push_lane(rows, head, lane, tally),
+        None => Ok(()),
+    }
+}
+
+// Puts the rows that the leaf begins with others, where it waits for this, behind those that stand there.
+fn push_pairs(
+    rows: &mut Vec<Meet>,
+    core: &Core,
+    head: Place,
+    base: &Base,
+    tally: &mut Tally,
+) -> Result<(), AllocError>
+    requires { spec.IsIndexed core.now.entries.items core.now.lanes.by_slot core.now.live
+        core.now.flags.entries core.now.leaves core.now.lit }
+    ensures { IfOk result (λ _. rows.new.items
+        ≡ rows.old.items ++ pairs_with (offers_of core.now.entries.items) (offer_at head base.now)) }
+{
+    match Lanes::<Channels>::met_by(base) {
+        Some(slot) => push_slot(rows, core, slot, head, tally),
+        None => Ok(()),
+    }
+}
+
+// Puts the rows of the thread's leaves with others behind those that stand there.
+fn push_pairs_of(
+    rows: &mut Vec<Meet>,
+    core: &Core,
+    entry: &Entry,
+    tally: &mut Tally,
+) -> Result<(), AllocError>
+    requires { spec.IsIndexed core.now.entries.items core.now.lanes.by_slot core.now.live
+        core.now.flags.entries core.now.leaves core.now.lit }
+    ensures { IfOk result (λ _. rows.new.items ≡ rows.old.items
+        ++ flat_map (pairs_with (offers_of core.now.entries.items))
+        (leaves_from entry.now.thread 0 (bases entry.now.group))) }
+{
+    for (leaf, base) in entry.bases().iter().enumerate() {
+        tally.add();
+        push_pairs(rows, core, entry.place(leaf), base, tally)?;
+    }
+    Ok(())
+}
+
+// Puts the rows of the thread's leaves that can be taken alone behind those that stand there.
+fn push_singles_of(
+    rows: &mut Vec<Meet>,
+    core: &Core,
+    entry: &Entry,
+    tally: &mut Tally,
+) -> Result<(), AllocError>
+    ensures { IfOk result (λ _. rows.new.items ≡ rows.old.items
+        ++ map single (filter (λ o. lit_by (spec.told core.now.flags.entries) o.base)
+        (leaves_from entry.now.thread 0 (bases entry.now.group)))) }
+{
+    for (leaf, base) in entry.bases().iter().enumerate() {
+        tally.add();
+        if is_lit_by(&core.flags, base, tally) {
+            let place = entry.place(leaf);
+            rows.push(Meet::Single {
+                tid: place.tid,
+                leaf: place.leaf,
+            })?;
+        }
+    }
+    Ok(())
+}
+
+// All rows, in order. Where there is no head, no leaf is looked at but two offers of each channel on both sides of which some stand.
+pub(crate) fn all_rows(
+    alloc: Global,
+    core: &Core,
+    tally: &mut Tally,
+) -> Result<Vec<Meet>, AllocError>
+    requires { spec.IsIndexed core.now.entries.items core.now.lanes.by_slot core.now.live
+        core.now.flags.entries core.now.leaves core.now.lit }
+    ensures { IfOk result (λ rows. rows.items
+        ≡ scan_of core.now.entries.items (spec.told core.now.flags.entries)) }
+{
+    let _leaves = core.leaves;
+    if head_count(core, tally) == 0 {
+        return Ok(Vec::new(alloc));
+    }
+    let mut rows = Vec::new(alloc);
+    for entry in &core.entries {
+        push_singles_of(&mut rows, core, entry, tally)?;
+    }
+    for head in &core.entries {
+        push_pairs_of(&mut rows, core, head, tally)?;
+    }
+    Ok(rows)
+}
