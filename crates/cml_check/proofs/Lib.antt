@@ -8,3 +8,4 @@ pub mod StatementWalk
 pub mod FunctionLemmas
 pub mod SameLemmas
 pub mod WordLemmas
+pub mod SizeLemmas

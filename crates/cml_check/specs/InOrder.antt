@@ -5,6 +5,7 @@ use Rattle.cml_check.specs.Syntax.{PlainEffect, act, act_on_one, act_on_two, cal
 use Rattle.cml_check.specs.Syntax.{Name, PlainStmt, let_be, set_to, just_do, if_so, while_so, return_with, PlainStmts, no_stmts, stmts_and, PlainFunction}
 use Rattle.cml_check.specs.Names.{AreDistinct}
 use Rattle.cml_check.specs.Heads.{takes, numbered}
+use Rattle.cml_check.specs.Sizes.{statements_of, size_of, IsWithinSize}
 
 abbrev pub exprs_count : {V : Type 0} → PlainExprs V → ℕ
 exprs_count no_exprs = 0
@@ -69,8 +70,11 @@ InOrder functions = All (FunctionFits (arities functions)) functions
 abbrev pub names_of : List (PlainFunction ℕ) → List Name
 names_of functions = map (λ f. f.name) functions
 
--- a program: each function is in order, and the one of this number is `main`, which takes no value
-pub record IsProgram (main : ℕ) (functions : List (PlainFunction ℕ)) : Type 0 where
+-- a program of that many statements: each function is in order, the one of this number is `main`, which takes no value, and neither
+-- limit is passed
+pub record IsProgram (main statements : ℕ) (functions : List (PlainFunction ℕ)) : Type 0 where
   pub order : InOrder functions
   pub found : numbered (names_of functions) (codes "main") ≡ Some main
   pub takes : takes (arities functions) main 0 ≡ true
+  pub counted : statements ≡ statements_of functions
+  pub within : IsWithinSize (size_of functions)

@@ -12,6 +12,7 @@ pub mod Heads
 pub mod Expressions
 pub mod Statements
 pub mod Shape
+pub mod Sizes
 pub mod InOrder
 pub mod HeadViews
 pub mod Parts

@@ -1,12 +1,14 @@
 //! From the forms of a script to its program.
 
-ghost use Rattle.std.specs.Prelude.{◌≡◌, IfOk, length, map};
+ghost use Rattle.std.specs.Prelude.{◌≡◌, ◌≤◌, IfOk, length, map};
 ghost use Rattle.cml_check.specs.Syntax.{written};
 ghost use Rattle.cml_check.specs.Checked.{Gives};
-ghost use Rattle.cml_check.specs.Heads.{arities_of};
+ghost use Rattle.cml_check.specs.Heads.{arities_of, function_limit};
 ghost use Rattle.cml_check.specs.HeadViews.{plain_head};
 ghost use Rattle.cml_check.specs.InOrder.{InOrder, FunctionFits, arities, names_of};
 ghost use Rattle.cml_check.specs.Shape.{shape, function_by, functions_in};
+ghost use Rattle.cml_check.specs.Sizes.{statements_of};
+ghost use Rattle.cml_check.specs.Statements.{statement_limit};
 
 use crate::fault::CheckFault;
 use crate::head::{Head, Heads, heads_of, main_function};
@@ -25,26 +27,28 @@ pub fn check(alloc: Global, forms: &[Sexpr]) -> Result<Prog, CheckFault>
 {
     let heads = heads_of(alloc, forms)?;
     let main = main_function(&heads)?;
-    let functions = functions(alloc, &heads)?;
-    Ok(Prog::new(alloc, functions, main)?)
+    let (functions, statements) = functions(alloc, &heads)?;
+    Ok(Prog::new(alloc, functions, main, statements)?)
 }
 
-// The functions of these heads.
-fn functions(alloc: Global, heads: &Heads<'_>) -> Result<Vec<Function>, CheckFault>
+// The functions of these heads, and how many statements they have.
+fn functions(alloc: Global, heads: &Heads<'_>) -> Result<(Vec<Function>, u32), CheckFault>
     ensures gives { let found = functions_in heads.now 0 heads.now in
-        Gives (λ functions. map written functions.items) result found }
-    ensures order { IfOk result (λ functions. InOrder functions.items) }
-    ensures arities { IfOk result (λ functions.
-        arities functions.items ≡ arities_of heads.now) }
-    ensures names { IfOk result (λ functions.
-        names_of functions.items ≡ map (λ head. head.name) heads.now) }
+        Gives (λ made. map written made.0.items) result found }
+    ensures order { IfOk result (λ made. InOrder made.0.items) }
+    ensures arities { IfOk result (λ made. arities made.0.items ≡ arities_of heads.now) }
+    ensures names { IfOk result (λ made.
+        names_of made.0.items ≡ map (λ head. head.name) heads.now) }
+    ensures counted { IfOk result (λ made. made.1 ≡ statements_of made.0.items) }
+    ensures functions { IfOk result (λ made. length made.0.items ≤ function_limit) }
+    ensures statements { IfOk result (λ made. made.1 ≤ statement_limit) }
 {
     let mut items = Vec::new(alloc);
     let mut statements = 0;
     for head in heads.as_slice() {
         items.push(function(alloc, heads, head, &mut statements)?)?;
     }
-    Ok(items)
+    Ok((items, statements as u32))
 }
 
 // The function of a head, where the script had that many statements so far.

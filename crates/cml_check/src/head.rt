@@ -1,10 +1,10 @@
 //! The heads of a script's items: which functions there are.
 
-ghost use Rattle.std.specs.Prelude.{◌≡◌, ◌<◌, List, [], codes, length, IfSome, IfOk, true, Some};
+ghost use Rattle.std.specs.Prelude.{◌≡◌, ◌<◌, ◌≤◌, List, [], codes, length, IfSome, IfOk, true, Some};
 ghost use Rattle.cml_text.specs.Forms.{plain_forms, span_of};
 ghost use Rattle.cml_check.specs.Checked.{Gives};
 ghost use Rattle.cml_check.specs.Heads as spec;
-ghost use Rattle.cml_check.specs.Heads.{arities_of, number_of, takes, place_of, heads_from};
+ghost use Rattle.cml_check.specs.Heads.{arities_of, function_limit, number_of, takes, place_of, heads_from};
 ghost use Rattle.cml_check.specs.HeadViews.{plain_head, plain_heads};
 ghost use Rattle.cml_check.specs.declared.word.Word.TheVariants as words;
 
@@ -71,7 +71,8 @@ impl<'a> Heads<'a> {
 
     /// The heads, in the order of the items.
     pub fn as_slice(&self) -> &[Head<'a>]
-        ensures { plain_heads result.now ≡ self.now }
+        ensures heads { plain_heads result.now ≡ self.now }
+        ensures few { length self.now ≤ function_limit }
     {
         self.items.as_slice()
     }

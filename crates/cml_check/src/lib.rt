@@ -11,6 +11,7 @@ mod names;
 mod parts;
 mod program;
 mod same;
+mod size;
 mod statement;
 mod syntax;
 mod word;
@@ -18,6 +19,7 @@ mod word;
 pub use checker::check;
 pub use fault::{CheckFault, CheckKind};
 pub use program::{Function, Prog};
+pub use size::Size;
 pub use syntax::{
     Act, ActOnOne, ActOnTwo, Binary, Block, Constant, Effect, Expr, ExprKind, Exprs, Source, Stmt,
     StmtKind, Unary,

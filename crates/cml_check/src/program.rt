@@ -4,7 +4,9 @@ ghost use Rattle.std.specs.Prelude.{◌≡◌, ◌<◌, ◌≤◌, IfOk, Some, t
 ghost use Rattle.std.specs.String.{string_bytes};
 ghost use Rattle.cml_check.specs.Heads.{numbered, takes};
 ghost use Rattle.cml_check.specs.InOrder.{InOrder, IsProgram, FunctionFits, arities, names_of};
+ghost use Rattle.cml_check.specs.Sizes.{size_of, IsWithinSize};
 
+use crate::size::Size;
 use crate::syntax::Block;
 use std::alloc::{AllocError, Global};
 use std::marker::Model;
@@ -42,6 +44,7 @@ impl Model for Function {
 pub struct Prog {
     shared: Arc<Vec<Function>>,
     main: u32,
+    statements: u32,
 }
 
 impl Model for Prog {
@@ -58,21 +61,26 @@ impl Model for Prog {
 
     ghost view = { λ a. a.shared.value.items };
 
-    ghost invariant = { λ a. IsProgram a.main a.shared.value.items };
+    ghost invariant = { λ a. IsProgram a.main a.statements a.shared.value.items };
 }
 
 impl Prog {
-    /// A program of these functions, of which the one of this number is `main`.
+    /// A program of these functions, of which the one of this number is `main`, and which have that many statements.
     pub(crate) fn new(
         alloc: Global,
         functions: Vec<Function>,
         main: u32,
+        statements: u32,
     ) -> Result<Prog, AllocError>
-        requires { IsProgram main functions.items }
+        requires { IsProgram main statements functions.items }
         ensures { IfOk result (λ program. program ≡ functions.items) }
     {
         let shared = Arc::new(alloc, functions)?;
-        Ok(Prog { shared, main })
+        Ok(Prog {
+            shared,
+            main,
+            statements,
+        })
     }
 
     /// The number of `main`, with which a program begins. It takes no value.
@@ -89,6 +97,18 @@ impl Prog {
         ensures order { InOrder self.now }
     {
         self.shared.len()
+    }
+
+    /// How many functions there are, and how many statements: at most 1,024 and 4,096.
+    pub fn size(&self) -> Size
+        ensures size { result ≡ size_of self.now }
+        ensures limits { IsWithinSize result }
+    {
+        let statements = self.statements;
+        Size {
+            functions: self.functions() as u32,
+            statements,
+        }
     }
 
     /// How many parameters the function of this number has, if it is there.
@@ -125,6 +145,7 @@ impl Prog {
         Ok(Prog {
             shared,
             main: self.main,
+            statements: self.statements,
         })
     }
 }

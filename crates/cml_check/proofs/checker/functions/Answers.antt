@@ -8,15 +8,19 @@ use Rattle.cml_check.specs.Heads.{arities_of}
 use Rattle.cml_check.specs.InOrder.{FunctionFits, arities}
 use Rattle.cml_check.specs.Shape.{functions_in}
 use Rattle.cml_check.proofs.FunctionLemmas.{front_nil, function-fails, function-next, function-end, arities-next, arities-end, names-next, names-end}
+use Rattle.cml_check.specs.HeadViews.{plain_head}
+use Rattle.cml_check.proofs.SizeLemmas.{count-next}
 use Rattle.cml_check.proofs.checker.functions.Goals as goal
 
 pub loop-head-init : goal.loop-head-init
 loop-head-init c = record {
-  whole = c.as_slice-head-items.ensures;
-  left = rw (c.new-items.ensures.items, c.as_slice-head-items.ensures) (front_nil (functions_in c.args.heads.now 0 c.args.heads.now));
+  whole = c.as_slice-head-items.ensures.heads;
+  left = rw (c.new-items.ensures.items, c.as_slice-head-items.ensures.heads) (front_nil (functions_in c.args.heads.now 0 c.args.heads.now));
+  counted = rw (c.new-items.ensures.items) refl;
+  few = omega arith;
   fits = rw (c.new-items.ensures.items) (λ k d lt. absurd (omega arith));
-  named = rw (c.new-items.ensures.items, c.as_slice-head-items.ensures) refl;
-  same = rw (c.new-items.ensures.items, c.as_slice-head-items.ensures) refl;
+  named = rw (c.new-items.ensures.items, c.as_slice-head-items.ensures.heads) refl;
+  same = rw (c.new-items.ensures.items, c.as_slice-head-items.ensures.heads) refl;
 }
 
 pub returns-in_err-function-clause-gives : goal.returns-in_err-function-clause-gives
@@ -29,7 +33,11 @@ pub loop-head-preserved : goal.loop-head-preserved
 loop-head-preserved c =
     let next = function-next c.args.heads.now c.loop-head.statements c.function.new.count c.as_slice-head-items.result.now c.loop-head.head-index c.head-item.result (map written c.loop-head.items.items) (written c.in_ok-function.field-0) _
     c.loop-head-test.true c.head-item.is c.loop-head.invariant.left c.in_ok-function.ensures.gives in
+    let count = count-next c.args.heads.now (plain_head c.head-item.result) c.loop-head.statements c.function.new.count c.loop-head.items.items c.in_ok-function.field-0
+    c.in_ok-function.ensures.gives c.loop-head.invariant.counted c.loop-head.invariant.few in
     record {
+      counted = rw c.in_ok-push.ensures.items count.0;
+      few = count.1;
       whole = c.loop-head.invariant.whole;
       left = rw (c.in_ok-push.ensures.items, map_push written c.loop-head.items.items c.in_ok-function.field-0) next;
       fits = rw c.in_ok-push.ensures.items (All-push (FunctionFits (arities_of c.args.heads.now)) c.loop-head.items.items c.in_ok-function.field-0 c.loop-head.invariant.fits c.in_ok-function.ensures.fits);
