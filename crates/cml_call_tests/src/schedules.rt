@@ -1,8 +1,9 @@
 //! What schedules are written as, read as and refused.
 
 use crate::making::MEMORY;
+use cml_check::Size;
 use cml_scan::Meet;
-use cml_schedule::{Item, Plan, ScheduleFault, Size, read_schedule, schedule_text};
+use cml_schedule::{Item, Plan, ScheduleFault, read_schedule, schedule_text};
 use cml_value::Tid;
 use std::process::Abort;
 use std::rt::HostRuntime;

@@ -5,7 +5,7 @@ use Rattle.std.proofs.Common.{ap, ◌∙◌}
 use base.Stored.{Gv, gnum, gcons}
 use Rattle.cml_scan.specs.declared.meet.Meet.{Meet}
 use Rattle.cml_scan.specs.declared.meet.Meet.TheVariants.{Single, Pair}
-use Rattle.cml_schedule.specs.declared.size.Size.{Size}
+use Rattle.cml_check.specs.declared.size.Size.{Size}
 use Rattle.cml_schedule.specs.declared.item.Item.{Item}
 use Rattle.cml_schedule.specs.declared.item.Item.TheVariants as item
 use Rattle.cml_schedule.specs.Plans.{PlainPlan}

@@ -3,7 +3,8 @@ use Rattle.std.specs.Prelude.{◌≡◌, ℕ, ◌<◌, ◌≤◌, ◌^◌, List,
 use Rattle.std.specs.List.{All}
 use Rattle.cml_scan.specs.declared.meet.Meet.{Meet}
 use Rattle.cml_scan.specs.declared.meet.Meet.TheVariants.{Single, Pair}
-use Rattle.cml_schedule.specs.declared.size.Size.{Size}
+use Rattle.cml_check.specs.declared.size.Size.{Size}
+use Rattle.cml_check.specs.Sizes.{IsWithinSize}
 use Rattle.cml_schedule.specs.declared.item.Item.{Item}
 use Rattle.cml_schedule.specs.declared.item.Item.TheVariants as item
 use Rattle.cml_schedule.specs.Plans.{PlainPlan}
@@ -44,8 +45,7 @@ IsWritable (item.Clock tick) = tick < 2 ^ 63
 pub record IsHeadOf (budget : ℕ) (size : Size) : Type 0 where
   pub some : 1 ≤ budget
   pub most : budget ≤ 1000000000
-  pub functions : (1 ≤ size.functions) × (size.functions ≤ 1024)
-  pub statements : size.statements ≤ 4096
+  pub size : IsWithinSize size
 
 -- what is written of such a budget, such a size and such items is read as just these
 abbrev pub WrittenIsRead : Type 0

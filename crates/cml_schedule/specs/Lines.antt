@@ -5,7 +5,7 @@ use Rattle.cml_text.specs.Forms.{PlainSexpr}
 use Rattle.cml_text.specs.Numbers.{number_from, tick_from}
 use Rattle.cml_scan.specs.declared.meet.Meet.{Meet}
 use Rattle.cml_scan.specs.declared.meet.Meet.TheVariants.{Single, Pair}
-use Rattle.cml_schedule.specs.declared.size.Size.{Size}
+use Rattle.cml_check.specs.declared.size.Size.{Size}
 use Rattle.cml_schedule.specs.declared.item.Item.{Item}
 use Rattle.cml_schedule.specs.declared.item.Item.TheVariants as item
 use Rattle.cml_schedule.specs.declared.word.Word.{Word}

@@ -4,7 +4,7 @@ use Rattle.std.specs.List.{flat_map}
 use Rattle.cml_text.specs.Lines.{line}
 use Rattle.cml_scan.specs.Numbers.{spaced, numbers_of}
 use Rattle.cml_scan.specs.declared.meet.Meet.{Meet}
-use Rattle.cml_schedule.specs.declared.size.Size.{Size}
+use Rattle.cml_check.specs.declared.size.Size.{Size}
 use Rattle.cml_schedule.specs.declared.item.Item.{Item}
 use Rattle.cml_schedule.specs.declared.item.Item.TheVariants as item
 

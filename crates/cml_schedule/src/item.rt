@@ -1,6 +1,6 @@
 //! What happens in a run, one item after another.
 
-use crate::size::Size;
+use cml_check::Size;
 use cml_scan::Meet;
 use cml_value::Tid;
 use std::marker::Model;

@@ -6,12 +6,10 @@ mod item;
 pub mod law;
 mod line;
 mod read;
-mod size;
 mod word;
 mod write;
 
 pub use fault::ScheduleFault;
 pub use item::{Item, Plan};
 pub use read::read_schedule;
-pub use size::Size;
 pub use write::schedule_text;

@@ -4,8 +4,8 @@ ghost use Rattle.std.specs.Prelude.{◌≡◌, IfOk};
 ghost use Rattle.cml_schedule.specs.Lines as spec;
 
 use crate::item::{Item, Plan};
-use crate::size::Size;
 use crate::word::{Word, word_of};
+use cml_check::Size;
 use cml_scan::Meet;
 use cml_text::{Sexpr, number_from, tick_from};
 use cml_value::Tid;

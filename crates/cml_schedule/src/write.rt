@@ -6,7 +6,7 @@ ghost use Rattle.std.specs.String.{string_bytes};
 ghost use Rattle.cml_schedule.specs.Written as spec;
 
 use crate::item::Item;
-use crate::size::Size;
+use cml_check::Size;
 use cml_scan::Meet;
 use std::alloc::{AllocError, Global};
 

@@ -5,7 +5,9 @@ use Rattle.std.specs.Fmt.{decimal}
 use Rattle.cml_value.specs.Value.{PlainValues, no_values, values_and, PlainFunction, function}
 use Rattle.cml_value.specs.Show.{shown}
 use Rattle.cml_scan.specs.declared.meet.Meet.{Meet}
-use Rattle.cml_scan.specs.declared.meet.Meet.TheVariants.{Single, Pair}
+use Rattle.cml_scan.specs.Numbers.{numbers_of}
+pub use Rattle.cml_scan.specs.Numbers.{spaced}
+pub use Rattle.cml_text.specs.Lines.{line}
 use Rattle.cml_book.specs.Resumes.{PlainResume}
 use Rattle.cml_book.specs.Refusals.{number_of, name_of}
 use Rattle.cml_book.specs.declared.refusal.Refusal.{Refusal}
@@ -13,18 +15,9 @@ use Rattle.cml_book.specs.declared.command.Committed.{Committed}
 use Rattle.cml_book.specs.declared.command.Reply.{Reply}
 use Rattle.cml_book.specs.declared.command.Reply.TheVariants as reply
 
--- a line ends with a line feed (10)
-abbrev pub line : List ℕ → List ℕ
-line text = text ++ 10 ∷ []
-
--- a number behind a space
-abbrev pub spaced : ℕ → List ℕ
-spaced n = codes " " ++ decimal n
-
 -- a row: the threads and leaves, of a pair the sender first
 abbrev pub row_line : Meet → List ℕ
-row_line (Single t n) = line (codes "row" ++ spaced t.0 ++ spaced n)
-row_line (Pair h i o j) = line (codes "row" ++ spaced h.0 ++ spaced i ++ spaced o.0 ++ spaced j)
+row_line row = line (codes "row" ++ numbers_of row)
 
 -- how many rows there are, and each on a line
 abbrev pub rows_text : List Meet → List ℕ

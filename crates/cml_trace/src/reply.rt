@@ -112,15 +112,9 @@ fn push_row(text: &mut String, row: &Meet) -> Result<(), AllocError>
     ensures { let line = spec.row_line row.now in
         OnOk result (string_bytes text.new ≡ string_bytes text.old ++ line) }
 {
-    match *row {
-        Meet::Single { tid, leaf } => writeln!(text, "row {} {leaf}", tid.0),
-        Meet::Pair {
-            head,
-            head_leaf,
-            other,
-            other_leaf,
-        } => writeln!(text, "row {} {head_leaf} {} {other_leaf}", head.0, other.0),
-    }
+    text.push_str("row")?;
+    row.push_numbers(text)?;
+    text.push_str("\n")
 }
 
 fn push_refusal(text: &mut String, why: Refusal) -> Result<(), AllocError>
