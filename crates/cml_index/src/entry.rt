@@ -18,11 +18,17 @@ use std::marker::Model;
 
 // A pending thread, with its group.
 #[derive(Drop)]
-pub(crate) struct Entry {
+struct Post {
     tid: Tid,
     group: Group,
     bases: Vec<Base>,
     runs: Runs,
+}
+
+// A pending thread, with its group. It is 8 bytes long, since all entries behind it are moved when one comes or goes.
+#[derive(Drop)]
+pub(crate) struct Entry {
+    post: Box<Post>,
 }
 
 impl Model for Entry {
@@ -34,9 +40,9 @@ impl Model for Entry {
 
     ghost coded = { entry_code };
 
-    ghost view = { λ e. record { thread = e.tid.0; group = e.group } };
+    ghost view = { λ e. record { thread = e.post.value.tid.0; group = e.post.value.group } };
 
-    ghost invariant = { λ e. IsPost e.group e.bases.items e.runs };
+    ghost invariant = { λ e. IsPost e.post.value.group e.post.value.bases.items e.post.value.runs };
 }
 
 // The lanes of these base events.
@@ -67,24 +73,27 @@ impl Entry {
         let slots = slots(alloc, &bases)?;
         let runs = runs(alloc, &slots)?;
         let group = group.copy()?;
-        Ok(Entry {
+        let post = Post {
             tid,
             group,
             bases,
             runs,
+        };
+        Ok(Entry {
+            post: Box::new(alloc, post)?,
         })
     }
 
     pub(crate) fn tid(&self) -> Tid
         ensures { result.0 ≡ self.now.thread }
     {
-        self.tid
+        self.post.tid
     }
 
     pub(crate) fn group(&self) -> &Group
         ensures { result.now ≡ self.now.group }
     {
-        &self.group
+        &self.post.group
     }
 
     // The place of the leaf.
@@ -92,9 +101,9 @@ impl Entry {
         requires { leaf < length (bases self.now.group) }
         ensures { result ≡ record { tid = record { 0 = self.now.thread }; leaf = leaf } }
     {
-        let _bases = &self.bases;
+        let _bases = &self.post.bases;
         Place {
-            tid: self.tid,
+            tid: self.post.tid,
             leaf: leaf as u32,
         }
     }
@@ -103,7 +112,7 @@ impl Entry {
     pub(crate) fn bases(&self) -> &[Base]
         ensures { result.now ≡ bases self.now.group }
     {
-        &self.bases
+        &self.post.bases
     }
 
     // The leaves by their lanes.
@@ -112,7 +121,7 @@ impl Entry {
             ≡ leaves_at k 0 (map spec.slot_of (bases self.now.group)) }
         ensures few { index_map_len result.now ≤ length (bases self.now.group) }
     {
-        let _bases = &self.bases;
-        &self.runs
+        let _bases = &self.post.bases;
+        &self.post.runs
     }
 }
