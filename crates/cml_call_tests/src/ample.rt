@@ -58,7 +58,10 @@ fn a_wait_with_a_scope_enters(rt: HostRuntime) {
 fn a_read_of_a_variable_is_taken(rt: HostRuntime) {
     let mut book = book_of(&rt, 1);
     assert!(rt; book.make_ivar() == Ok(IVarId(0)));
-    assert!(rt; book.iput(rt.alloc(), IVarId(0), value(&rt, "1 2 pair")).is_ok());
+    assert!(rt;
+        book.iput(rt.alloc(), IVarId(0), value(&rt, "1 2 pair"))
+            .is_ok()
+    );
     wait(&rt, &mut book, 0, "0 iget");
     takes(&rt, &mut book, "1 2 pair");
     let held = Some(value(&rt, "7"));
@@ -87,7 +90,10 @@ fn a_copied_port_has_the_message(rt: HostRuntime) {
     let mut book = book_of(&rt, 1);
     assert!(rt; book.make_mchan(rt.alloc()) == Ok(McastId(0)));
     assert!(rt; book.make_port(rt.alloc(), McastId(0)) == Ok(PortId(0)));
-    assert!(rt; book.multicast(rt.alloc(), McastId(0), value(&rt, "4")).is_ok());
+    assert!(rt;
+        book.multicast(rt.alloc(), McastId(0), value(&rt, "4"))
+            .is_ok()
+    );
     assert!(rt; book.copy_port(rt.alloc(), PortId(0)) == Ok(PortId(1)));
     wait(&rt, &mut book, 0, "1 port_recv");
     takes(&rt, &mut book, "4");
@@ -126,7 +132,10 @@ fn a_thousand_commands_are_done_and_one_more(rt: HostRuntime) {
     let replies = book.run(rt.alloc(), commands).ok().expect(&rt, MEMORY);
     assert!(rt; replies.len() == 1_000);
     drop(replies);
-    let reply = book.perform(rt.alloc(), Command::Spawn).ok().expect(&rt, MEMORY);
+    let reply = book
+        .perform(rt.alloc(), Command::Spawn)
+        .ok()
+        .expect(&rt, MEMORY);
     assert!(rt; matches!(reply, Reply::Thread(Tid(500))));
     drop(reply);
     assert!(rt; book.is_running(Tid(500)));
@@ -156,7 +165,10 @@ fn a_register_takes_waits(rt: HostRuntime) {
     let waiters = register.lit_waiters(rt.alloc()).expect(&rt, MEMORY);
     assert!(rt; waiters.len() == 100);
     drop(waiters);
-    let spared = register.get(0).expect(&rt, "a variable").spare(&MVarWant::Get);
+    let spared = register
+        .get(0)
+        .expect(&rt, "a variable")
+        .spare(&MVarWant::Get);
     assert!(rt; spared.is_ok());
     drop(spared);
     drop(register);
