@@ -21,3 +21,4 @@ pub mod ObjectLemmas
 pub mod PortLemmas
 pub mod PortSteps
 pub mod PostedLights
+pub mod Running

@@ -23,5 +23,6 @@ pub mod Parties
 pub mod Marks
 pub mod Threads
 pub mod Walks
+pub mod Running
 pub mod Views
 pub mod Codes

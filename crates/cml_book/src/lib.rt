@@ -5,6 +5,7 @@ mod book;
 mod command;
 mod entering;
 mod feeding;
+pub mod law;
 mod lights;
 mod marks;
 mod nacks;
