@@ -148,11 +148,11 @@ head_read budget size head _ (phrase_at _ _ _ _ (one_more a _ _ _ (one_more b _ 
     let s = size.statements in
     let some = head.some in
     let most = head.most in
-    let functions = head.size.1 in
-    let statements = head.size.2 in
+    let functions = head.within.1 in
+    let statements = head.within.2 in
     let money : number_within 1 1000000000 (plain_int b (pos budget)) ≡ Some budget =
     ap (within 1 1000000000) (number_is budget (omega (arith, most))) ∙ within_is 1 1000000000 budget some most in
-    let fs : number_within 1 1024 (plain_int c (pos f)) ≡ Some f = ap (within 1 1024) (number_is f (omega (arith, functions))) ∙ within_is 1 1024 f head.size.0 functions in
+    let fs : number_within 1 1024 (plain_int c (pos f)) ≡ Some f = ap (within 1 1024) (number_is f (omega (arith, functions))) ∙ within_is 1 1024 f head.within.0 functions in
     let ss : number_within 0 4096 (plain_int d (pos s)) ≡ Some s = ap (within 0 4096) (number_is s (omega (arith, statements))) ∙ within_is 0 4096 s (omega arith) statements in
     let sized : size_from (plain_int c (pos f)) (plain_int d (pos s)) ≡ Some size =
     both_are (λ f t. record { functions = f; statements = t }) (number_within 1 1024 (plain_int c (pos f))) (number_within 0 4096 (plain_int d (pos s))) f s fs ss in
@@ -229,8 +229,8 @@ written_is_read laws budget size items head all =
     let plan : PlainPlan = record { budget = budget; size = Some size; items = [] } in
     let ns = 2 ∷ budget ∷ size.functions ∷ size.statements ∷ [] in
     let most = head.most in
-    let functions = head.size.1 in
-    let statements = head.size.2 in
+    let functions = head.within.1 in
+    let statements = head.within.2 in
     let small : Each (λ n. n < 2 ^ 63) ns = (omega arith, (omega (arith, most), (omega (arith, functions), (omega (arith, statements), tt)))) in
     let fit = fits laws Opening (Reading plan) (codes "schedule") ns schedule_word small (omega arith) (head_read budget size head) in
     let rest = flat_map item_line items ++ line (codes "end") in

@@ -45,7 +45,7 @@ IsWritable (item.Clock tick) = tick < 2 ^ 63
 pub record IsHeadOf (budget : ℕ) (size : Size) : Type 0 where
   pub some : 1 ≤ budget
   pub most : budget ≤ 1000000000
-  pub size : IsWithinSize size
+  pub within : IsWithinSize size
 
 -- what is written of such a budget, such a size and such items is read as just these
 abbrev pub WrittenIsRead : Type 0
