@@ -208,15 +208,3 @@ count-next heads head count new fs f is so le =
       h.0 ∙ ap (λ n. count + n) same ∙ ap (λ n. n + stmts_count f.body) so ∙ sym (sum_by_push (λ (f : PlainFunction ℕ). stmts_count f.body) fs f),
       h.1 le,
     )
-
--- there are as many functions as heads
-pub as_many : (fs : List (PlainFunction ℕ)) (heads : List PlainHead) → arities fs ≡ arities_of heads → length fs ≡ length heads
-as_many fs heads same = sym (length-map fs (λ f. f.arity)) ∙ ap length same ∙ length-map heads (λ head. length head.parameters)
-
--- a program has a function, since it has `main`
-some_function : (fs : List (PlainFunction ℕ)) (main : ℕ) → numbered (names_of fs) (codes "main") ≡ Some main → 1 ≤ length fs
-some_function [] main h = absurd (none-some main h)
-some_function (f ∷ fs) main h = omega arith
-
-pub is_within : (fs : List (PlainFunction ℕ)) (main : ℕ) → numbered (names_of fs) (codes "main") ≡ Some main → length fs ≤ 1024 → statements_of fs ≤ 4096 → IsWithinSize (size_of fs)
-is_within fs main found few le = (some_function fs main found, few, le)
