@@ -1,10 +1,8 @@
 -- The statements that are counted while they are read are those of the program.
-use Rattle.std.proofs.Common.{◌≡◌, ℕ, ◌+◌, ◌<◌, ◌≤◌, Bool, true, false, cond, List, [], ◌∷◌, ◌++◌, length, map, Option, Some, None, Ok, Err, refl, sym, ap, subst, ◌∙◌, arith, nat_lt, codes}
-use Rattle.std.specs.Prelude.{if◌then◌else◌, sum_by}
+use Rattle.std.proofs.Common.{◌≡◌, ℕ, ◌+◌, ◌<◌, ◌≤◌, Bool, true, false, List, [], ◌∷◌, ◌++◌, length, Option, Some, None, Ok, Err, refl, sym, ap, subst, ◌∙◌, arith, nat_lt}
+use Rattle.std.specs.Prelude.{if◌then◌else◌}
 use Rattle.std.proofs.lemmas.Bool.{ltb-true}
-use Rattle.std.proofs.lemmas.List.{length-map}
 use Rattle.std.proofs.lemmas.List.Sums.{sum_by_push}
-use Rattle.std.proofs.lemmas.Option.{none-some}
 use Rattle.cml_text.specs.declared.sexpr.Span.{Span}
 use Rattle.cml_text.specs.Forms.{PlainSexpr, plain_name, plain_int, plain_text, plain_list, PlainForms, no_forms, forms_and, span_of}
 use Rattle.cml_check.specs.declared.fault.CheckKind.TheVariants.{Limit}
@@ -15,12 +13,11 @@ use Rattle.cml_check.specs.Syntax.{Name, PlainExpr, PlainStmt, let_be, set_to, j
 use Rattle.cml_check.specs.Checked.{Checked, ◌>>=◌, fault_at}
 use Rattle.cml_check.specs.Words.{word_from}
 use Rattle.cml_check.specs.Names.{variable_in, free_name}
-use Rattle.cml_check.specs.Heads.{PlainHead, numbered, arities_of}
+use Rattle.cml_check.specs.Heads.{PlainHead}
 use Rattle.cml_check.specs.Expressions.{expr_in}
 use Rattle.cml_check.specs.Statements.{effect_in, source_in, counted, stmt_in, stmt_by, block_in, behind_do, stmts_in}
 use Rattle.cml_check.specs.Shape.{function_by}
-use Rattle.cml_check.specs.InOrder.{arities, names_of}
-use Rattle.cml_check.specs.Sizes.{stmt_count, stmts_count, statements_of, size_of, IsWithinSize}
+use Rattle.cml_check.specs.Sizes.{stmt_count, stmts_count, statements_of}
 
 -- from a count on: the statements were counted, and no limit was passed
 abbrev Counts : ℕ → Checked (PlainStmts Name × Scope) → Type 0
@@ -109,6 +106,7 @@ done heads scope span first forms = past scope.statements (effect_in heads scope
 
 mutual
   unfolding stmt_in stmt_by block_in stmts_in
+
   stmt_counts : (heads : List PlainHead) (scope : Scope) (form : PlainSexpr) → CountsOne scope.statements (stmt_in heads scope form)
   stmt_counts heads scope (plain_name span name) = tt
   stmt_counts heads scope (plain_int span z) = tt
@@ -203,20 +201,7 @@ pub count-next : (heads : List PlainHead) (head : PlainHead) (count new : ℕ) (
     count ≡ statements_of fs → count ≤ 4096 → (new ≡ statements_of (fs ++ f ∷ [])) × (new ≤ 4096)
 count-next heads head count new fs f is so le =
     let h : CountsFunction count (Ok (written f, new)) = subst (CountsFunction count) is (function_counts heads count head) in
-    let same = stmts_same _ f.body in
-    (
+    let same = stmts_same _ f.body in (
       h.0 ∙ ap (λ n. count + n) same ∙ ap (λ n. n + stmts_count f.body) so ∙ sym (sum_by_push (λ (f : PlainFunction ℕ). stmts_count f.body) fs f),
       h.1 le,
     )
-
--- there are as many functions as heads
-pub as_many : (fs : List (PlainFunction ℕ)) (heads : List PlainHead) → arities fs ≡ arities_of heads → length fs ≡ length heads
-as_many fs heads same = sym (length-map fs (λ f. f.arity)) ∙ ap length same ∙ length-map heads (λ head. length head.parameters)
-
--- a program has a function, since it has `main`
-some_function : (fs : List (PlainFunction ℕ)) (main : ℕ) → numbered (names_of fs) (codes "main") ≡ Some main → 1 ≤ length fs
-some_function [] main h = absurd (none-some main h)
-some_function (f ∷ fs) main h = omega arith
-
-pub is_within : (fs : List (PlainFunction ℕ)) (main : ℕ) → numbered (names_of fs) (codes "main") ≡ Some main → length fs ≤ 1024 → statements_of fs ≤ 4096 → IsWithinSize (size_of fs)
-is_within fs main found few le = (some_function fs main found, few, le)
