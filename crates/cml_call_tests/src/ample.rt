@@ -165,10 +165,9 @@ fn a_register_takes_waits(rt: HostRuntime) {
     let waiters = register.lit_waiters(rt.alloc()).expect(&rt, MEMORY);
     assert!(rt; waiters.len() == 100);
     drop(waiters);
-    let spared = register
-        .get(0)
-        .expect(&rt, "a variable")
-        .spare(&MVarWant::Get);
+    let variable = register.get(0).expect(&rt, "a variable");
+    assert!(rt; variable.lit());
+    let spared = variable.spare(&MVarWant::Get);
     assert!(rt; spared.is_ok());
     drop(spared);
     drop(register);
