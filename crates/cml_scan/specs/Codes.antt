@@ -1,7 +1,7 @@
--- Codes of the world and of its parts: trees of numbers from which they can be read back. The toolchain asks for them; no rule speaks of them.
+-- Codes of the world, of its parts and of rows: trees of numbers from which they can be read back. The toolchain asks for them; no rule speaks of them.
 use Rattle.std.specs.Prelude.{◌≡◌, ℕ, List, Option, refl}
 use Rattle.std.specs.Coded.{Coded, code_by, coded×, coded_list, coded_option, coded_ℕ}
-use Rattle.std.proofs.Common.{ap}
+use Rattle.std.proofs.Common.{ap, ◌∙◌}
 use base.Stored.{Gv, gnum, gcons}
 use Rattle.cml_value.specs.Value.{PlainValue, PlainBase}
 use Rattle.cml_value.specs.Codes.{value_code, base_code}
@@ -9,6 +9,8 @@ use Rattle.cml_value.specs.Group.{PlainGroup}
 use Rattle.cml_value.specs.GroupCodes.{group_code}
 use Rattle.cml_scan.specs.World.{PlainThread, running, pending_on, ended, PlainNack, fresh_of, live, fired, held, PlainWorld, PlainEntry}
 use Rattle.cml_scan.specs.Scan.{PlainOffer}
+use Rattle.cml_scan.specs.declared.meet.Meet.{Meet}
+use Rattle.cml_scan.specs.declared.meet.Meet.TheVariants.{Single, Pair}
 use Rattle.cml_scan.specs.declared.object.Light.{Light}
 use Rattle.cml_scan.specs.declared.object.Light.TheVariants as of
 
@@ -83,6 +85,26 @@ offer_code = code_by (ℕ × (ℕ × PlainBase)) (coded× coded_ℕ (coded× cod
 
 abbrev pub entry_code : Coded PlainEntry
 entry_code = code_by (ℕ × PlainGroup) (coded× coded_ℕ group_code) (λ e. (e.thread, e.group)) (λ p. record { thread = p.0; group = p.1 }) (λ _. refl)
+
+abbrev pub meet_gv : Meet → Gv
+meet_gv (Single t n) = gcons (gnum t.0) (gnum n)
+meet_gv (Pair h i o j) = gcons (gcons (gnum h.0) (gnum i)) (gcons (gnum o.0) (gnum j))
+
+pub meet_gv_inj : (x y : Meet) → meet_gv x ≡ meet_gv y → x ≡ y
+meet_gv_inj (Single t n) (Single u m) p =
+    let e : t.0 ≡ u.0 = cc in
+    let f : n ≡ m = cc in
+    ap (λ k. Single (record { 0 = k }) n) e ∙ ap (λ k. Single u k) f
+meet_gv_inj (Pair h i o j) (Pair k l q m) p =
+    let a : h.0 ≡ k.0 = cc in
+    let b : i ≡ l = cc in
+    let c : o.0 ≡ q.0 = cc in
+    let d : j ≡ m = cc in
+    ap (λ n. Pair (record { 0 = n }) i o j) a ∙ ap (λ n. Pair k n o j) b ∙ ap (λ n. Pair k l (record { 0 = n }) j) c ∙ ap (λ n. Pair k l q n) d
+meet_gv_inj _ _ p = cc
+
+abbrev pub meet_code : Coded Meet
+meet_code = record { code = meet_gv; inj = meet_gv_inj }
 
 abbrev pub light_gv : Light → Gv
 light_gv (of.IVar i) = gcons (gnum 0) (gnum i.0)

@@ -8,7 +8,8 @@ use Rattle.cml_trace.specs.declared.keyword.Keyword.{Keyword}
 use Rattle.cml_trace.specs.declared.keyword.Keyword.TheVariants as keyword
 use Rattle.cml_trace.specs.Keywords.{keyword_of, head_of}
 use Rattle.cml_trace.specs.Given.{both, all_of}
-use Rattle.cml_trace.specs.ValueForms.{number_from, tick_from, value_from, number_and_value}
+use Rattle.cml_text.specs.Numbers.{number_from, tick_from}
+use Rattle.cml_trace.specs.ValueForms.{value_from, number_and_value}
 
 -- the base events that name one channel, variable, queue, thread or nack, by their keywords
 abbrev pub naming : Keyword → Option (ℕ → PlainBase)

@@ -15,7 +15,8 @@ use Rattle.cml_trace.specs.declared.order.Order.TheVariants as order
 use Rattle.cml_trace.specs.Keywords.{head_of}
 use Rattle.cml_trace.specs.Given.{both}
 use Rattle.cml_value.specs.Value.{PlainValue}
-use Rattle.cml_trace.specs.ValueForms.{number_from, tick_from, value_from, number_and_value}
+use Rattle.cml_text.specs.Numbers.{number_from, tick_from}
+use Rattle.cml_trace.specs.ValueForms.{value_from, number_and_value}
 use Rattle.cml_trace.specs.GroupForms.{group_from}
 
 -- a row of one leaf: its thread and its number

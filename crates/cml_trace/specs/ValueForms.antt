@@ -1,36 +1,13 @@
 -- The values that forms of a trace are: a number, a text, true and false, (), and the lists that pairs, threads and objects are
 -- printed as.
-use Rattle.std.specs.Prelude.{ℕ, ℤ, List, [], ◌∷◌, pos, negsuc, nat_lt, if◌then◌else◌, true, false, Option, Some, None}
+use Rattle.std.specs.Prelude.{ℕ, List, [], ◌∷◌, true, false, Option, Some, None}
 use Rattle.cml_value.specs.Value.{PlainValue, unit, int, truth, text, pair, thread, chan, ivar, mvar, mailbox, mchan, port}
 use Rattle.cml_text.specs.Forms.{PlainSexpr, plain_name, plain_int, plain_text, plain_list, no_forms, forms_and}
+use Rattle.cml_text.specs.Numbers.{number_from}
 use Rattle.cml_trace.specs.declared.keyword.Keyword.{Keyword}
 use Rattle.cml_trace.specs.declared.keyword.Keyword.TheVariants as keyword
 use Rattle.cml_trace.specs.Keywords.{keyword_of, keyword_from}
 use Rattle.cml_trace.specs.Given.{both}
-
--- every number of a thread, an object, a nack, a leaf or a function is below this
-abbrev pub number_limit : ℕ
-number_limit = 4294967296
-
--- the number that an integer is, if it is one
-abbrev pub number_by : ℤ → Option ℕ
-number_by (pos n) = if nat_lt n number_limit then Some n else None
-number_by (negsuc n) = None
-
--- the number that the form is, if it is one
-abbrev pub number_from : PlainSexpr → Option ℕ
-number_from (plain_int span z) = number_by z
-number_from _ = None
-
--- the tick or the delay that an integer is: it is not below 0
-abbrev pub tick_by : ℤ → Option ℕ
-tick_by (pos n) = Some n
-tick_by (negsuc n) = None
-
--- the tick or the delay that the form is, if it is one
-abbrev pub tick_from : PlainSexpr → Option ℕ
-tick_from (plain_int span z) = tick_by z
-tick_from _ = None
 
 -- the truth value that a keyword is, if it is one
 abbrev pub truth_of : Option Keyword → Option PlainValue

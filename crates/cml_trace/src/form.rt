@@ -5,29 +5,9 @@ ghost use Rattle.cml_trace.specs.ValueForms as spec;
 ghost use Rattle.cml_trace.specs.Given.{all_of};
 
 use crate::keyword::{Keyword, keyword_from, keyword_of};
-use cml_text::{Sexpr, Shape};
+use cml_text::{Sexpr, Shape, number_from};
 use cml_value::{ChanId, IVarId, MVarId, MboxId, McastId, PortId, Tid, Value, ValueKind};
 use std::alloc::{AllocError, Global};
-
-/// The number of a thread, an object, a nack, a leaf or a function that the form is, if it is one.
-pub fn number_from(form: &Sexpr) -> Option<u32>
-    ensures { result ≡ spec.number_from form.now }
-{
-    match form.shape() {
-        Shape::Int(z) => u32::try_from(z).ok(),
-        _ => None,
-    }
-}
-
-/// The tick or the delay that the form is, if it is one.
-pub fn tick_from(form: &Sexpr) -> Option<u64>
-    ensures { result ≡ spec.tick_from form.now }
-{
-    match form.shape() {
-        Shape::Int(z) => u64::try_from(z).ok(),
-        _ => None,
-    }
-}
 
 /// The value that the form is, if it is one.
 pub fn value_from(alloc: Global, form: &Sexpr) -> Result<Option<Value>, AllocError>

@@ -3,14 +3,14 @@
 ghost use Rattle.std.specs.Prelude.{◌≡◌, ◌<◌, map, IfOk, IfSome, IfNone, option_map};
 ghost use Rattle.cml_value.specs.Group as plain;
 ghost use Rattle.cml_text.specs.Forms.{plain_forms, nesting, nesting_of};
+ghost use Rattle.cml_text.specs.Numbers as number_spec;
 ghost use Rattle.cml_trace.specs.Keywords as keyword_spec;
 ghost use Rattle.cml_trace.specs.Given.{both};
-ghost use Rattle.cml_trace.specs.ValueForms as value_spec;
 ghost use Rattle.cml_trace.specs.GroupForms as spec;
 
-use crate::form::{number_and_value, number_from, tick_from, value_from, values_from};
+use crate::form::{number_and_value, value_from, values_from};
 use crate::keyword::{Keyword, head_of, keyword_from};
-use cml_text::{Sexpr, Shape};
+use cml_text::{Sexpr, Shape, number_from, tick_from};
 use cml_value::{
     Base, BaseKind, ChanId, FnRef, Group, GroupKind, IVarId, MVarId, MboxId, NackId, PortId, Tid,
     Value,
@@ -101,7 +101,7 @@ fn scope_from(
     number: &Sexpr,
     inner: Option<Group>,
 ) -> Result<Option<Group>, AllocError>
-    ensures { let nack = value_spec.number_from number.now in
+    ensures { let nack = number_spec.number_from number.now in
         IfOk result (λ group. group ≡ both plain.scope nack inner) }
 {
     let Some(nack) = number_from(number) else {

@@ -3,12 +3,12 @@
 ghost use Rattle.std.specs.Prelude.{◌≡◌, IfOk};
 ghost use Rattle.cml_trace.specs.Orders as spec;
 
-use crate::form::{number_and_value, number_from, tick_from, value_from};
+use crate::form::{number_and_value, value_from};
 use crate::group::group_from;
 use crate::keyword::{Keyword, head_of};
 use cml_book::Command;
 use cml_scan::Meet;
-use cml_text::Sexpr;
+use cml_text::{Sexpr, number_from, tick_from};
 use cml_value::{IVarId, MVarId, MboxId, McastId, PortId, Tid, Value};
 use std::alloc::{AllocError, Global};
 
