@@ -10,10 +10,12 @@ use Rattle.cml_text.specs.Forms.{PlainSexpr}
 use Rattle.cml_text.specs.Sizes.{text_limit}
 use Rattle.cml_text.specs.Steps.{IsFault}
 use Rattle.cml_text.specs.Texts.{Spells, fault_of}
-use Rattle.cml_host.specs.Scripts.{IsChecked, IsPrinted, IsFaulty, FileRan, SaidRan, Told}
+use Rattle.cml_host.specs.Checked.{IsChecked}
+use Rattle.cml_host.specs.Formatted.{IsPrinted}
+use Rattle.cml_host.specs.Said.{IsFaulty, FileRan, SaidRan, Told}
 use Rattle.cml_host.specs.Stores.{Content, unknown, nothing, bytes, IsLoaded}
-use Rattle.cml_host.specs.declared.script.Said.{Said}
-use Rattle.cml_host.specs.declared.script.Said.TheVariants.{Written, Refused}
+use Rattle.cml_host.specs.declared.said.Said.{Said}
+use Rattle.cml_host.specs.declared.said.Said.TheVariants.{Written, Refused}
 use Rattle.cml_stream.specs.Streams.{Counted}
 
 -- a fault that was read is told

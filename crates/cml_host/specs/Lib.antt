@@ -1,4 +1,7 @@
 pub mod Stores
 pub mod Written
-pub mod Scripts
+pub mod Said
+pub mod Checked
+pub mod Formatted
+pub mod Traced
 pub mod Statuses

@@ -1,22 +1,19 @@
--- How the program ends: its status, and what it says of a fault.
-use Rattle.std.specs.Prelude.{◌≡◌, ◌⊎◌, ℕ, List, Ok, Err, codes}
+-- What the program does about its words, and with which status it ends.
+use Rattle.std.specs.Prelude.{◌≡◌, ◌⊎◌, ℕ, List, codes}
 use Rattle.std.specs.String.{string_bytes}
 use Rattle.cml_words.specs.declared.Task.TheVariants.{Trace, Check, Fmt}
 use Rattle.cml_words.specs.declared.Answer.{Answer}
 use Rattle.cml_words.specs.declared.Answer.TheVariants as answer
 use Rattle.cml_words.specs.Words.{IsAnswer}
-use Rattle.cml_trace.specs.declared.fault.TraceEnd.{TraceEnd}
-use Rattle.cml_trace.specs.declared.fault.TraceEnd.TheVariants.{Done, Bad, TooLong}
-use Rattle.cml_trace.specs.declared.fault.TraceFault.{TraceFault}
-use Rattle.cml_trace.specs.declared.fault.TraceFault.TheVariants.{Read, Turns, Write, Memory}
-use Rattle.cml_trace.specs.Faults.{HasCause}
 use Rattle.cml_trace.specs.Replies.{line}
 use Rattle.cml_stream.specs.Counts.{Calls}
 use Rattle.cml_stream.specs.Streams.{Counted, Stream, IsIdle, Says}
 use Rattle.cml_host.specs.Stores.{Shelf, IsUnchanged}
-use Rattle.cml_host.specs.Scripts.{FileRan, IsChecked, IsPrinted}
+use Rattle.cml_host.specs.Checked.{IsChecked}
+use Rattle.cml_host.specs.Formatted.{IsPrinted}
+use Rattle.cml_host.specs.Said.{FileRan}
+use Rattle.cml_host.specs.Traced.{TraceRan}
 use Rattle.cml_host.specs.Written.{TextRan}
-use Rattle.cml_trace.specs.Runs.{IsAnswered, IsBroken}
 
 -- What stands round a run of the program, before and after: its input, its output, what it says its errors to, and its store.
 pub record Surroundings : Type 0 where
@@ -24,35 +21,6 @@ pub record Surroundings : Type 0 where
   pub output : Counted
   pub errors : Counted
   pub store : Shelf
-
--- 0 where all was done, 2 where the trace has a bad line or is too long
-abbrev pub status_of : TraceEnd → ℕ
-status_of Done = 0
-status_of (Bad n) = 2
-status_of TooLong = 2
-
--- 1 where the input or the output is at fault, 5 where memory ran out
-abbrev pub fault_status : TraceFault → ℕ
-fault_status Read = 1
-fault_status Turns = 1
-fault_status Write = 1
-fault_status Memory = 5
-
--- the line that tells of the fault
-abbrev pub fault_line : TraceFault → List ℕ
-fault_line Read = line (codes "cannot read input")
-fault_line Turns = line (codes "cannot read input")
-fault_line Write = line (codes "cannot write output")
-fault_line Memory = line (codes "memory")
-
--- The trace on the input was answered, and no call of its streams failed; or not to its end, for a fault that has its cause in these calls,
--- and the errors tell of it.
-abbrev pub TraceRan : Counted → Counted → Counted → ℕ → Type 0
-TraceRan input output errors status =
-    ((end : TraceEnd) × IsAnswered input.bytes output.bytes end × HasCause (Ok end) input.counts output.counts
-    × (status ≡ status_of end) × IsIdle errors)
-    ⊎ ((fault : TraceFault) × IsBroken input.bytes output.bytes fault × HasCause (Err fault) input.counts output.counts
-    × (status ≡ fault_status fault) × Says errors (fault_line fault))
 
 -- nothing was saved in the store
 abbrev pub SavesNothing : Surroundings → Type 0

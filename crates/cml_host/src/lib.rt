@@ -1,11 +1,14 @@
 //! The program: what the words of its command line ask for, over any input, output and store.
 #![tactic(auto)]
 
+mod check;
 mod command;
 mod file;
+mod fmt;
 mod output;
-mod script;
+mod said;
 mod store;
+mod trace;
 
 pub use command::{run_command, run_command_counted};
 pub use file::{load_from, save_to};

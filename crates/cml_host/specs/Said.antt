@@ -1,60 +1,27 @@
--- The commands `check` and `fmt`: what they say of the text of a file, and how they end.
-use Rattle.std.specs.Prelude.{◌≡◌, ◌⊎◌, ℕ, List, ◌++◌, length, Some, Result, Ok, Err, codes}
-use Rattle.std.specs.Fmt.{decimal}
+-- What the commands that read a file say of its text, and how they end.
+use Rattle.std.specs.Prelude.{◌≡◌, ◌⊎◌, ℕ, List, ◌++◌, Some, Result, Ok, Err, codes}
 use Rattle.std.specs.String.{string_bytes}
 use Rattle.std.specs.declared.alloc.AllocError.{AllocError}
 use Rattle.cml_text.specs.Faults as text
-use Rattle.cml_text.specs.Forms.{PlainSexpr}
-use Rattle.cml_text.specs.Printed.{printed}
-use Rattle.cml_text.specs.Texts.{Spells, fault_of}
+use Rattle.cml_text.specs.Texts.{fault_of}
 use Rattle.cml_text.specs.declared.fault.TextFault.{TextFault}
 use Rattle.cml_text.specs.declared.fault.TextFault.TheVariants as text_fault
-use Rattle.cml_check.specs.Faults as script
-use Rattle.cml_check.specs.Shape.{shape}
-use Rattle.cml_check.specs.Syntax.{Name, PlainFunction}
-use Rattle.cml_check.specs.declared.fault.CheckFault.TheVariants as check_fault
 use Rattle.cml_host.specs.Stores.{Content, unknown, nothing, bytes, MayBeRefused}
 use Rattle.cml_host.specs.Written.{TextRan}
-use Rattle.cml_host.specs.declared.script.Said.{Said}
-use Rattle.cml_host.specs.declared.script.Said.TheVariants.{Written, Refused}
+use Rattle.cml_host.specs.declared.said.Said.{Said}
+use Rattle.cml_host.specs.declared.said.Said.TheVariants.{Written, Refused}
 use Rattle.cml_trace.specs.Replies.{line}
 use Rattle.cml_stream.specs.Streams.{Counted, IsIdle, Says}
 
--- the line that tells of a fault of a text, and of a fault of a script
+-- the line that tells of a fault of a text
 abbrev pub text_line : text.PlainFault → List ℕ
 text_line fault = line (text.fault_line (text_fault.At fault.kind fault.at))
-
-abbrev pub script_line : script.PlainCheckFault → List ℕ
-script_line fault = line (script.fault_line (check_fault.At fault.kind fault.at))
-
--- The forms are a program, and how many functions it has is written; or they are none, and their first fault is told.
-abbrev pub IsShaped : List PlainSexpr → Said → Type 0
-IsShaped forms (Written all) =
-    (program : List (PlainFunction Name)) × (shape forms ≡ Ok program)
-    × (string_bytes all ≡ line (codes "ok functions " ++ decimal (length program)))
-IsShaped forms (Refused all) =
-    (fault : script.PlainCheckFault) × (shape forms ≡ Err fault) × (string_bytes all ≡ script_line fault)
 
 -- the text has a fault, which is told
 abbrev pub IsFaulty : List ℕ → Said → Type 0
 IsFaulty given (Written all) = ⊥
 IsFaulty given (Refused all) =
     (fault : text.PlainFault) × (fault_of given ≡ Some fault) × (string_bytes all ≡ text_line fault)
-
--- `check`: the text spells forms, and of these it is said whether they are a program; or it has a fault
-abbrev pub IsChecked : List ℕ → Said → Type 0
-IsChecked given said =
-    ((forms : List PlainSexpr) × Spells given forms × IsShaped forms said) ⊎ IsFaulty given said
-
--- these forms are written
-abbrev pub IsWritten : List PlainSexpr → Said → Type 0
-IsWritten forms (Written all) = string_bytes all ≡ printed forms
-IsWritten forms (Refused all) = ⊥
-
--- `fmt`: the text spells forms, and these are written, each on a line; or it has a fault
-abbrev pub IsPrinted : List ℕ → Said → Type 0
-IsPrinted given said =
-    ((forms : List PlainSexpr) × Spells given forms × IsWritten forms said) ⊎ IsFaulty given said
 
 -- What was said: it went to the output; or the text was refused.
 abbrev pub IsSaid : Said → Counted → Counted → ℕ → Type 0

@@ -1,8 +1,8 @@
 use Rattle.std.proofs.Common.{rules, ◌≡◌, inl, inr, subst}
 use Rattle.std.proofs.lemmas.Result.{IfOk-weaker}
-use Rattle.cml_host.specs.Scripts.{IsShaped}
+use Rattle.cml_host.specs.Checked.{IsShaped}
 use Rattle.cml_host.proofs.TextLemmas.{faulty}
-use Rattle.cml_host.proofs.script.check_text.Goals as goal
+use Rattle.cml_host.proofs.check.check_text.Goals as goal
 
 pub returns-in-Ok : goal.returns-in-Ok
 returns-in-Ok c =

@@ -1,7 +1,7 @@
 use Rattle.std.proofs.Common.{rules, ◌≡◌, IfOk, subst}
-use Rattle.cml_host.specs.Scripts.{IsChecked}
+use Rattle.cml_host.specs.Checked.{IsChecked}
 use Rattle.cml_host.proofs.TextLemmas.{file_ran, checked_whole}
-use Rattle.cml_host.proofs.script.check_file.Goals as goal
+use Rattle.cml_host.proofs.check.check_file.Goals as goal
 
 pub returns-in-Ok-clause-ran : goal.returns-in-Ok-clause-ran
 returns-in-Ok-clause-ran g c =

@@ -1,7 +1,7 @@
 use Rattle.std.proofs.Common.{rules, ◌≡◌, ◌++◌, List, ℕ, codes, inl, refl, subst}
 use Rattle.cml_trace.specs.Replies.{line}
 use Rattle.cml_stream.specs.Streams.{counted_stream, Says}
-use Rattle.cml_host.proofs.script.refuse_file.Goals as goal
+use Rattle.cml_host.proofs.said.refuse_file.Goals as goal
 
 pub returns-clause-refused : goal.returns-clause-refused
 returns-clause-refused g c =

@@ -2,7 +2,7 @@ use Rattle.std.proofs.Common.{rules, ◌≡◌, ◌∙◌, ap, inl, inr}
 use Rattle.std.proofs.lemmas.Result.{IfOk-weaker}
 use Rattle.cml_text.specs.Printed.{printed}
 use Rattle.cml_host.proofs.TextLemmas.{faulty}
-use Rattle.cml_host.proofs.script.print_text.Goals as goal
+use Rattle.cml_host.proofs.fmt.print_text.Goals as goal
 
 pub returns-in_ok-print-in-Ok : goal.returns-in_ok-print-in-Ok
 returns-in_ok-print-in-Ok c =

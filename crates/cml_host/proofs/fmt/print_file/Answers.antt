@@ -1,7 +1,7 @@
 use Rattle.std.proofs.Common.{rules, ◌≡◌, IfOk, subst}
-use Rattle.cml_host.specs.Scripts.{IsPrinted}
+use Rattle.cml_host.specs.Formatted.{IsPrinted}
 use Rattle.cml_host.proofs.TextLemmas.{file_ran, printed_whole}
-use Rattle.cml_host.proofs.script.print_file.Goals as goal
+use Rattle.cml_host.proofs.fmt.print_file.Goals as goal
 
 pub returns-in-Ok-clause-ran : goal.returns-in-Ok-clause-ran
 returns-in-Ok-clause-ran g c =

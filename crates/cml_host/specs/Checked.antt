@@ -1,0 +1,31 @@
+-- The command `check`: what it says of the text of a file.
+use Rattle.std.specs.Prelude.{◌≡◌, ◌⊎◌, ℕ, List, ◌++◌, length, Ok, Err, codes}
+use Rattle.std.specs.Fmt.{decimal}
+use Rattle.std.specs.String.{string_bytes}
+use Rattle.cml_text.specs.Forms.{PlainSexpr}
+use Rattle.cml_text.specs.Texts.{Spells}
+use Rattle.cml_check.specs.Faults as script
+use Rattle.cml_check.specs.Shape.{shape}
+use Rattle.cml_check.specs.Syntax.{Name, PlainFunction}
+use Rattle.cml_check.specs.declared.fault.CheckFault.TheVariants as check_fault
+use Rattle.cml_host.specs.Said.{IsFaulty}
+use Rattle.cml_host.specs.declared.said.Said.{Said}
+use Rattle.cml_host.specs.declared.said.Said.TheVariants.{Written, Refused}
+use Rattle.cml_trace.specs.Replies.{line}
+
+-- the line that tells of a fault of a script
+abbrev pub script_line : script.PlainCheckFault → List ℕ
+script_line fault = line (script.fault_line (check_fault.At fault.kind fault.at))
+
+-- The forms are a program, and how many functions it has is written; or they are none, and their first fault is told.
+abbrev pub IsShaped : List PlainSexpr → Said → Type 0
+IsShaped forms (Written all) =
+    (program : List (PlainFunction Name)) × (shape forms ≡ Ok program)
+    × (string_bytes all ≡ line (codes "ok functions " ++ decimal (length program)))
+IsShaped forms (Refused all) =
+    (fault : script.PlainCheckFault) × (shape forms ≡ Err fault) × (string_bytes all ≡ script_line fault)
+
+-- `check`: the text spells forms, and of these it is said whether they are a program; or it has a fault
+abbrev pub IsChecked : List ℕ → Said → Type 0
+IsChecked given said =
+    ((forms : List PlainSexpr) × Spells given forms × IsShaped forms said) ⊎ IsFaulty given said

@@ -1,0 +1,39 @@
+-- The command `trace`: its status, and what it says of a fault.
+use Rattle.std.specs.Prelude.{◌≡◌, ◌⊎◌, ℕ, List, Ok, Err, codes}
+use Rattle.cml_trace.specs.declared.fault.TraceEnd.{TraceEnd}
+use Rattle.cml_trace.specs.declared.fault.TraceEnd.TheVariants.{Done, Bad, TooLong}
+use Rattle.cml_trace.specs.declared.fault.TraceFault.{TraceFault}
+use Rattle.cml_trace.specs.declared.fault.TraceFault.TheVariants.{Read, Turns, Write, Memory}
+use Rattle.cml_trace.specs.Faults.{HasCause}
+use Rattle.cml_trace.specs.Replies.{line}
+use Rattle.cml_trace.specs.Runs.{IsAnswered, IsBroken}
+use Rattle.cml_stream.specs.Streams.{Counted, IsIdle, Says}
+
+-- 0 where all was done, 2 where the trace has a bad line or is too long
+abbrev pub status_of : TraceEnd → ℕ
+status_of Done = 0
+status_of (Bad n) = 2
+status_of TooLong = 2
+
+-- 1 where the input or the output is at fault, 5 where memory ran out
+abbrev pub fault_status : TraceFault → ℕ
+fault_status Read = 1
+fault_status Turns = 1
+fault_status Write = 1
+fault_status Memory = 5
+
+-- the line that tells of the fault
+abbrev pub fault_line : TraceFault → List ℕ
+fault_line Read = line (codes "cannot read input")
+fault_line Turns = line (codes "cannot read input")
+fault_line Write = line (codes "cannot write output")
+fault_line Memory = line (codes "memory")
+
+-- The trace on the input was answered, and no call of its streams failed; or not to its end, for a fault that has its cause in these calls,
+-- and the errors tell of it.
+abbrev pub TraceRan : Counted → Counted → Counted → ℕ → Type 0
+TraceRan input output errors status =
+    ((end : TraceEnd) × IsAnswered input.bytes output.bytes end × HasCause (Ok end) input.counts output.counts
+    × (status ≡ status_of end) × IsIdle errors)
+    ⊎ ((fault : TraceFault) × IsBroken input.bytes output.bytes fault × HasCause (Err fault) input.counts output.counts
+    × (status ≡ fault_status fault) × Says errors (fault_line fault))

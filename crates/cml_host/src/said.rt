@@ -1,0 +1,85 @@
+//! What the commands that read a file share: what they say of its text, and how they end.
+
+ghost use Rattle.std.specs.Prelude.{◌≡◌, IfOk};
+ghost use Rattle.cml_host.specs.Said.{SaidRan, RefusedRan, Told};
+ghost use Rattle.cml_host.specs.Stores.{Content, MayBeRefused};
+ghost use Rattle.cml_host.specs.declared.store.StoreFault.TheVariants.{Refused};
+ghost use Rattle.cml_stream.specs.Streams.{counted_stream};
+
+use crate::output::{say, send_text};
+use crate::store::StoreFault;
+use cml_stream::Counting;
+use cml_text::TextFault;
+use std::alloc::{AllocError, Global};
+use std::io::Write;
+
+/// The most bytes of a text.
+pub const TEXT_LIMIT: usize = 1_048_576;
+
+/// What a command says of a text.
+#[derive(Drop)]
+pub enum Said {
+    /// This goes to the output.
+    Written(String),
+    /// The text is refused, and this goes to the errors.
+    Refused(String),
+}
+
+/// What is said of a text with this fault.
+pub fn refuse_text(alloc: Global, fault: TextFault) -> Result<Said, AllocError>
+    ensures { IfOk result (Told fault) }
+{
+    if matches!(fault, TextFault::Memory) {
+        return Err(AllocError);
+    }
+    Ok(Said::Refused(format!(in alloc; "{fault}\n")?))
+}
+
+/// Writes what was said, or that memory ran out.
+pub fn finish<O: Write, E: Write>(
+    said: Result<Said, AllocError>,
+    out: &mut Counting<'_, O>,
+    err: &mut Counting<'_, E>,
+) -> u8
+    requires fresh { (out.old.calls ≡ 0) × (out.old.failed ≡ 0) × (err.old.calls ≡ 0) × (err.old.failed ≡ 0) }
+    ensures ran { let output = counted_stream (O.contents out.old.stream.now) (O.contents out.new.stream.now) out.new.calls out.new.failed in
+        let errors = counted_stream (E.contents err.old.stream.now) (E.contents err.new.stream.now) err.new.calls err.new.failed in
+        SaidRan said output errors result }
+    ensures same_out { out.new.stream.ghost_name ≡ out.old.stream.ghost_name }
+    ensures same_err { err.new.stream.ghost_name ≡ err.old.stream.ghost_name }
+{
+    match said {
+        Ok(Said::Written(text)) => send_text(text.as_bytes(), out, err),
+        Ok(Said::Refused(line)) => {
+            say(err, line.as_bytes());
+            2
+        }
+        Err(AllocError) => {
+            say(err, b"memory\n");
+            5
+        }
+    }
+}
+
+/// Says that the file can't be read, or that memory ran out.
+pub fn refuse_file<E: Write>(
+    alloc: Global,
+    name: &str,
+    fault: StoreFault,
+    err: &mut Counting<'_, E>,
+) -> u8
+    requires fresh { err.old.failed ≡ 0 }
+    ensures refused { let errors = counted_stream (E.contents err.old.stream.now) (E.contents err.new.stream.now) err.new.calls err.new.failed in
+        (content : Content) → (fault ≡ Refused → MayBeRefused content) →
+        RefusedRan content name.now errors result }
+    ensures same_err { err.new.stream.ghost_name ≡ err.old.stream.ghost_name }
+{
+    if matches!(fault, StoreFault::Refused)
+        && let Ok(line) = format!(in alloc; "cannot read {name}\n")
+    {
+        say(err, line.as_bytes());
+        return 1;
+    }
+    say(err, b"memory\n");
+    5
+}

@@ -1,0 +1,74 @@
+//! The command `trace`: the replies to the commands on the input.
+
+ghost use Rattle.std.specs.Prelude.{◌≡◌, ◌≤◌};
+ghost use Rattle.cml_host.specs.Traced as spec;
+ghost use Rattle.cml_host.specs.Traced.{TraceRan};
+ghost use Rattle.cml_stream.specs.Counts.{most_reads};
+ghost use Rattle.cml_stream.specs.Streams.{counted_stream};
+ghost use Rattle.cml_trace.specs.Answers.{max_input};
+
+use crate::output::say;
+use cml_stream::Counting;
+use cml_trace::{TraceEnd, TraceFault, run_trace};
+use std::alloc::Global;
+use std::io::{Read, Write};
+
+/// Answers the trace on the input.
+pub fn trace<R: Read, O: Write, E: Write>(
+    alloc: Global,
+    input: &mut Counting<'_, R>,
+    out: &mut Counting<'_, O>,
+    err: &mut Counting<'_, E>,
+) -> u8
+    requires reads { (input.old.calls ≡ 0) × (input.old.failed ≡ 0) }
+    requires writes { (out.old.calls ≡ 0) × (out.old.failed ≡ 0) }
+    requires complaints { (err.old.calls ≡ 0) × (err.old.failed ≡ 0) }
+    ensures ran { let given = counted_stream (R.remaining input.old.stream.now) (R.remaining input.new.stream.now) input.new.calls input.new.failed in
+        let output = counted_stream (O.contents out.old.stream.now) (O.contents out.new.stream.now) out.new.calls out.new.failed in
+        let errors = counted_stream (E.contents err.old.stream.now) (E.contents err.new.stream.now) err.new.calls err.new.failed in
+        TraceRan given output errors result }
+    ensures most { input.new.calls ≤ most_reads max_input }
+    ensures same_in { input.new.stream.ghost_name ≡ input.old.stream.ghost_name }
+    ensures same_out { out.new.stream.ghost_name ≡ out.old.stream.ghost_name }
+    ensures same_err { err.new.stream.ghost_name ≡ err.old.stream.ghost_name }
+{
+    match run_trace(alloc, input, out) {
+        Ok(end) => status_of(end),
+        Err(fault) => {
+            say(err, fault_line(fault).as_bytes());
+            fault_status(fault)
+        }
+    }
+}
+
+fn status_of(end: TraceEnd) -> u8
+    ensures { result ≡ spec.status_of end }
+{
+    match end {
+        TraceEnd::Done => 0,
+        TraceEnd::Bad(_) => 2,
+        TraceEnd::TooLong => 2,
+    }
+}
+
+fn fault_status(fault: TraceFault) -> u8
+    ensures { result ≡ spec.fault_status fault }
+{
+    match fault {
+        TraceFault::Read => 1,
+        TraceFault::Turns => 1,
+        TraceFault::Write => 1,
+        TraceFault::Memory => 5,
+    }
+}
+
+fn fault_line(fault: TraceFault) -> &'static str
+    ensures { result.now ≡ spec.fault_line fault }
+{
+    match fault {
+        TraceFault::Read => "cannot read input\n",
+        TraceFault::Turns => "cannot read input\n",
+        TraceFault::Write => "cannot write output\n",
+        TraceFault::Memory => "memory\n",
+    }
+}
