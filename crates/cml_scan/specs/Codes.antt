@@ -59,24 +59,26 @@ queues_code = coded_list (coded_list value_code)
 abbrev pub world_code : Coded PlainWorld
 world_code =
     code_by
-    (List PlainThread × (ℕ × (Variables × (Variables × (Queues × (List (List ℕ) × (Queues × (List PlainNack × ℕ))))))))
+    (List PlainThread × (ℕ × (ℕ × (Variables × (Variables × (Queues × (List (List ℕ) × (Queues × (List PlainNack × ℕ)))))))))
     (coded× (coded_list thread_code)
+    (coded× coded_ℕ
     (coded× coded_ℕ
     (coded× variables_code
     (coded× variables_code
-    (coded× queues_code (coded× (coded_list (coded_list coded_ℕ)) (coded× queues_code (coded× (coded_list nack_code) coded_ℕ))))))))
-    (λ w. (w.threads, (w.channels, (w.ivars, (w.mvars, (w.mailboxes, (w.mchans, (w.ports, (w.nacks, w.tick)))))))))
+    (coded× queues_code (coded× (coded_list (coded_list coded_ℕ)) (coded× queues_code (coded× (coded_list nack_code) coded_ℕ)))))))))
+    (λ w. (w.threads, (w.channels, (w.swaps, (w.ivars, (w.mvars, (w.mailboxes, (w.mchans, (w.ports, (w.nacks, w.tick))))))))))
     (λ p.
     record {
       threads = p.0;
       channels = p.1.0;
-      ivars = p.1.1.0;
-      mvars = p.1.1.1.0;
-      mailboxes = p.1.1.1.1.0;
-      mchans = p.1.1.1.1.1.0;
-      ports = p.1.1.1.1.1.1.0;
-      nacks = p.1.1.1.1.1.1.1.0;
-      tick = p.1.1.1.1.1.1.1.1;
+      swaps = p.1.1.0;
+      ivars = p.1.1.1.0;
+      mvars = p.1.1.1.1.0;
+      mailboxes = p.1.1.1.1.1.0;
+      mchans = p.1.1.1.1.1.1.0;
+      ports = p.1.1.1.1.1.1.1.0;
+      nacks = p.1.1.1.1.1.1.1.1.0;
+      tick = p.1.1.1.1.1.1.1.1.1;
     })
     (λ _. refl)
 

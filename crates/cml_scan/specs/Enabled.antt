@@ -1,6 +1,6 @@
 -- Which communications Concurrent ML allows, said of one row at a time, by what the threads wait on.
-use Rattle.std.specs.Prelude.{ℕ, ◌≡◌, ◌≢◌, true, Option, Some, None, slice_get}
-use Rattle.cml_value.specs.Value.{PlainValue, PlainBase, send, recv}
+use Rattle.std.specs.Prelude.{ℕ, ◌≡◌, ◌≢◌, ◌<◌, ◌⊎◌, true, Option, Some, None, slice_get}
+use Rattle.cml_value.specs.Value.{PlainValue, PlainBase, send, recv, swap}
 use Rattle.cml_value.specs.Group.{bases}
 use Rattle.cml_value.specs.declared.number.Tid.{Tid}
 use Rattle.cml_scan.specs.World.{PlainThread, running, pending_on, ended, PlainWorld}
@@ -19,9 +19,17 @@ leaf_of (Some ended) leaf = None
 abbrev pub WaitsFor : PlainWorld → Tid → ℕ → PlainBase → Type 0
 WaitsFor w tid leaf b = leaf_of (slice_get w.threads tid.0) leaf ≡ Some b
 
--- One leaf alone is enabled where its base event is lit. Two leaves are enabled where they are of two different threads, and the
--- first sends on a channel on which the second receives.
+-- the first sends on a channel on which the second receives, and they are of two different threads
+abbrev pub IsSent : PlainWorld → Tid → ℕ → Tid → ℕ → Type 0
+IsSent w head head_leaf other other_leaf =
+    (c : ℕ) × (v : PlainValue) × WaitsFor w head head_leaf (send c v) × WaitsFor w other other_leaf (recv c) × (head.0 ≢ other.0)
+
+-- both swap on one swap channel, the first in the lower thread
+abbrev pub IsSwapped : PlainWorld → Tid → ℕ → Tid → ℕ → Type 0
+IsSwapped w head head_leaf other other_leaf =
+    (s : ℕ) × (v u : PlainValue) × WaitsFor w head head_leaf (swap s v) × WaitsFor w other other_leaf (swap s u) × (head.0 < other.0)
+
+-- One leaf alone is enabled where its base event is lit, and two where a value is sent from one to the other, or is swapped.
 abbrev pub IsEnabled : PlainWorld → Meet → Type 0
 IsEnabled w (Single tid leaf) = (b : PlainBase) × WaitsFor w tid leaf b × (lit w b ≡ true)
-IsEnabled w (Pair head head_leaf other other_leaf) =
-    (c : ℕ) × (v : PlainValue) × WaitsFor w head head_leaf (send c v) × WaitsFor w other other_leaf (recv c) × (head.0 ≢ other.0)
+IsEnabled w (Pair head head_leaf other other_leaf) = IsSent w head head_leaf other other_leaf ⊎ IsSwapped w head head_leaf other other_leaf

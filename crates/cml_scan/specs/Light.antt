@@ -1,6 +1,6 @@
 -- Which base events can be taken alone. Such a base is lit, and whether it is depends on the state of one object at most.
 use Rattle.std.specs.Prelude.{Bool, true, false, nat_le, ◌||◌, List, [], ◌∷◌, Option, Some, None, slice_get}
-use Rattle.cml_value.specs.Value.{PlainValue, PlainBase, always, send, recv, iget, mtake, mget, mswap, mail_recv, port_recv, join, at_tick, after_ticks, nack}
+use Rattle.cml_value.specs.Value.{PlainValue, PlainBase, always, send, recv, swap, iget, mtake, mget, mswap, mail_recv, port_recv, join, at_tick, after_ticks, nack}
 use Rattle.cml_scan.specs.World.{PlainThread, running, pending_on, ended, PlainNack, fresh_of, live, fired, held, PlainWorld}
 use Rattle.cml_scan.specs.declared.object.Light.{Light}
 use Rattle.cml_scan.specs.declared.object.Light.TheVariants as of
@@ -34,11 +34,12 @@ has_fired (Some held) = false
 
 -- Whether the base can be taken alone. An alwaysEvt always can; a variable's base where the variable is full; a receive from a
 -- mailbox or a port where it has an item; a join where the thread has ended; an atTimeEvt from its tick on; a nack event where
--- the nack has fired. A send and a receive on a channel need a partner and never can. An after never stands in a pending group.
+-- the nack has fired. A send and a receive on a channel and a swap need a partner and never can. An after never stands in a pending group.
 abbrev pub lit : PlainWorld → PlainBase → Bool
 lit w (always v) = true
 lit w (send c v) = false
 lit w (recv c) = false
+lit w (swap s v) = false
 lit w (iget i) = is_full (slice_get w.ivars i)
 lit w (mtake m) = is_full (slice_get w.mvars m)
 lit w (mget m) = is_full (slice_get w.mvars m)
@@ -55,6 +56,7 @@ abbrev pub light : PlainBase → Option Light
 light (always v) = None
 light (send c v) = None
 light (recv c) = None
+light (swap s v) = None
 light (iget i) = Some (of.IVar (record { 0 = i }))
 light (mtake m) = Some (of.MVar (record { 0 = m }))
 light (mget m) = Some (of.MVar (record { 0 = m }))

@@ -3,7 +3,7 @@ use Rattle.std.specs.Prelude.{ℕ, ◌+◌, ◌≡◌, ◌==◌, Bool, true, fal
 use Rattle.std.specs.List.{list_any}
 use Rattle.cml_value.specs.Value.{PlainBase}
 use Rattle.cml_scan.specs.World.{PlainEntry}
-use Rattle.cml_scan.specs.Scan.{PlainOffer, receives_on, meets, can_meet, place_of, same_place}
+use Rattle.cml_scan.specs.Scan.{PlainOffer, receives_on, swaps_on, do_meet, can_meet, place_of, same_place}
 use Rattle.cml_scan.specs.declared.meet.Meet.{Meet}
 use Rattle.cml_scan.specs.declared.meet.Meet.TheVariants.{Single, Pair}
 use Rattle.cml_scan.specs.declared.meet.Place.{Place}
@@ -51,11 +51,11 @@ abbrev pub lit_at : (PlainBase → Bool) → Option PlainBase → Bool
 lit_at is_lit None = false
 lit_at is_lit (Some b) = is_lit b
 
--- the base events there meet, and are of two threads
+-- the base events there, of these threads, communicate, the first as the head
 abbrev pub meet_at : ℕ → ℕ → Option PlainBase → Option PlainBase → Bool
 meet_at head other None c = false
 meet_at head other (Some b) None = false
-meet_at head other (Some b) (Some c) = not (head == other) && meets b c
+meet_at head other (Some b) (Some c) = do_meet head b other c
 
 -- whether a row is possible, by the base events at its places
 abbrev pub row_at : (PlainBase → Bool) → (Place → Option PlainBase) → Meet → Bool
@@ -66,7 +66,11 @@ row_at is_lit at (Pair head head_leaf other other_leaf) = meet_at head.0 other.0
 abbrev pub can_take : ℕ → ℕ → PlainOffer → Bool
 can_take thread c o = not (thread == o.thread) && receives_on c o.base
 
--- whether one of these leaves can meet this one
+-- whether this leaf swaps on the swap channel, for a thread above this one
+abbrev pub can_swap : ℕ → ℕ → PlainOffer → Bool
+can_swap thread s o = nat_lt thread o.thread && swaps_on s o.base
+
+-- whether one of these leaves can meet this one, which is the head
 abbrev pub has_partner : List PlainOffer → PlainOffer → Bool
 has_partner offers head = list_any (can_meet head) offers
 

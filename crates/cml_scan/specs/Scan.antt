@@ -1,7 +1,7 @@
 -- Which communications are possible now, and in which order they are listed.
-use Rattle.std.specs.Prelude.{ℕ, ◌+◌, ◌==◌, Bool, false, not, ◌&&◌, ◌||◌, if◌then◌else◌, List, [], ◌∷◌, ◌++◌, map, filter}
+use Rattle.std.specs.Prelude.{ℕ, ◌+◌, ◌==◌, Bool, false, not, nat_lt, ◌&&◌, ◌||◌, if◌then◌else◌, List, [], ◌∷◌, ◌++◌, map, filter}
 use Rattle.std.specs.List.{flat_map, list_any}
-use Rattle.cml_value.specs.Value.{PlainBase, send, recv}
+use Rattle.cml_value.specs.Value.{PlainBase, always, send, recv, swap, iget, mtake, mget, mswap, mail_recv, port_recv, join, at_tick, after_ticks, nack}
 use Rattle.cml_value.specs.Group.{bases}
 use Rattle.cml_value.specs.declared.number.Tid.{Tid}
 use Rattle.cml_scan.specs.World.{PlainWorld, PlainEntry, pending}
@@ -31,14 +31,37 @@ abbrev pub receives_on : ℕ → PlainBase → Bool
 receives_on c (recv d) = c == d
 receives_on c _ = false
 
--- The first sends and the second receives, on one channel (Reppy's matching of sendEvt and recvEvt). The sender is the head.
+-- the base swaps on this swap channel
+abbrev pub swaps_on : ℕ → PlainBase → Bool
+swaps_on s (swap r v) = s == r
+swaps_on s _ = false
+
+-- Whether the two are the sides of one communication, the first as its head: the first sends and the second receives, on one
+-- channel (Reppy's matching of sendEvt and recvEvt), or both swap on one swap channel (a rule of this project's own).
 abbrev pub meets : PlainBase → PlainBase → Bool
 meets (send c v) b = receives_on c b
-meets _ b = false
+meets (swap s v) b = swaps_on s b
+meets (always v) b = false
+meets (recv c) b = false
+meets (iget i) b = false
+meets (mtake m) b = false
+meets (mget m) b = false
+meets (mswap m v) b = false
+meets (mail_recv m) b = false
+meets (port_recv p) b = false
+meets (join t) b = false
+meets (at_tick t) b = false
+meets (after_ticks d) b = false
+meets (nack k) b = false
 
--- Two leaves can communicate where they meet and are of two different threads: no synchronization matches itself.
+-- Whether two leaves of these threads with these base events communicate, the first as the head. They are of two different threads:
+-- no synchronization matches itself. Where each of the two could be the head, as of two swaps, the one in the lower thread is.
+abbrev pub do_meet : ℕ → PlainBase → ℕ → PlainBase → Bool
+do_meet head b other c = not (head == other) && (meets b c && (not (meets c b) || nat_lt head other))
+
+-- whether two leaves communicate, the first as the head
 abbrev pub can_meet : PlainOffer → PlainOffer → Bool
-can_meet head other = not (head.thread == other.thread) && meets head.base other.base
+can_meet head other = do_meet head.thread head.base other.thread other.base
 
 -- a leaf that is taken alone, and two that communicate, as rows of the table
 abbrev pub single : PlainOffer → Meet
@@ -63,7 +86,7 @@ scan w = rows_of (lit w) (offers_of (pending w))
 abbrev pub scan_of : List PlainEntry → (Light → Bool) → List Meet
 scan_of entries told = rows_of (lit_by told) (offers_of entries)
 
--- the place that begins a row: its only leaf, or the sender
+-- the place that begins a row: its only leaf, or the head
 abbrev pub place_of : Meet → Place
 place_of (Single tid leaf) = record { tid = tid; leaf = leaf }
 place_of (Pair head head_leaf other other_leaf) = record { tid = head; leaf = head_leaf }

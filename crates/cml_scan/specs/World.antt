@@ -15,6 +15,8 @@ pub record PlainWorld : Type 0 where
   pub threads : List PlainThread
   -- how many channels there are; a channel holds nothing
   pub channels : ℕ
+  -- how many swap channels there are; one holds nothing
+  pub swaps : ℕ
   -- a variable's value, if it is full
   pub ivars : List (Option PlainValue)
   pub mvars : List (Option PlainValue)

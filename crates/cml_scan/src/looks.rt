@@ -11,7 +11,11 @@ pub fn light(base: &Base) -> Option<Light>
     ensures { result ≡ spec.light base.now }
 {
     match base.kind() {
-        BaseKind::Always(_) | BaseKind::Send(_, _) | BaseKind::Recv(_) | BaseKind::After(_) => None,
+        BaseKind::Always(_)
+        | BaseKind::Send(_, _)
+        | BaseKind::Recv(_)
+        | BaseKind::Swap(_, _)
+        | BaseKind::After(_) => None,
         BaseKind::IGet(i) => Some(Light::IVar(*i)),
         BaseKind::MTake(m) | BaseKind::MGet(m) | BaseKind::MSwap(m, _) => Some(Light::MVar(*m)),
         BaseKind::MailRecv(b) => Some(Light::Mbox(*b)),

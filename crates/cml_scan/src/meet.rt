@@ -16,7 +16,7 @@ pub enum Meet {
         tid: Tid,
         leaf: u32,
     },
-    /// Two leaves of two threads, of which the head is the sender.
+    /// Two leaves of two threads, of which the head is the sender, or of two swaps the one in the lower thread.
     Pair {
         head: Tid,
         head_leaf: u32,
@@ -59,7 +59,7 @@ impl Meet {
         self == other
     }
 
-    /// Puts the row's threads and leaves behind the text, each behind a space; of a pair the sender
+    /// Puts the row's threads and leaves behind the text, each behind a space; of a pair the head
     /// first.
     ///
     /// # Errors

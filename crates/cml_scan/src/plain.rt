@@ -57,21 +57,24 @@ fn is_lit_by<L: Lights>(lights: &L, base: &Base) -> bool
     }
 }
 
-// Whether the first sends what the second receives.
+// Whether the two are the sides of one communication, the first as its head.
 fn meets(head: &Base, other: &Base) -> bool
     ensures { result ≡ spec.meets head.now other.now }
 {
     match (head.kind(), other.kind()) {
         (BaseKind::Send(c, _), BaseKind::Recv(d)) => c == d,
+        (BaseKind::Swap(s, _), BaseKind::Swap(r, _)) => s == r,
         _ => false,
     }
 }
 
-// Whether the two leaves are of two threads, and the first sends what the second receives.
+// Whether the two leaves communicate, the first as the head.
 fn can_meet(head: &Offer, other: &Offer) -> bool
     ensures { result ≡ spec.can_meet head.now other.now }
 {
-    head.tid != other.tid && meets(&head.base, &other.base)
+    head.tid != other.tid
+        && meets(&head.base, &other.base)
+        && (!meets(&other.base, &head.base) || head.tid.0 < other.tid.0)
 }
 
 // Puts the rows that this leaf heads behind those that stand there.

@@ -35,6 +35,8 @@ pub struct World {
     pub threads: Vec<ThreadState>,
     /// How many channels there are.
     pub channels: u32,
+    /// How many swap channels there are.
+    pub swaps: u32,
     /// The value of each I-variable, if it is full.
     pub ivars: Vec<Option<Value>>,
     /// The value of each M-variable, if it is full.
@@ -65,6 +67,7 @@ impl Model for World {
     ghost view = { λ w. record {
       threads = map thread_of w.threads.items;
       channels = w.channels;
+      swaps = w.swaps;
       ivars = w.ivars.items;
       mvars = w.mvars.items;
       mailboxes = lists_of w.mailboxes.items;
@@ -80,11 +83,12 @@ impl World {
 
     /// The world with nothing in it, at time 0.
     pub fn new(alloc: Global) -> World
-        ensures { result ≡ record { threads = []; channels = 0; ivars = []; mvars = []; mailboxes = []; mchans = []; ports = []; nacks = []; tick = 0 } }
+        ensures { result ≡ record { threads = []; channels = 0; swaps = 0; ivars = []; mvars = []; mailboxes = []; mchans = []; ports = []; nacks = []; tick = 0 } }
     {
         World {
             threads: Vec::new(alloc),
             channels: 0,
+            swaps: 0,
             ivars: Vec::new(alloc),
             mvars: Vec::new(alloc),
             mailboxes: Vec::new(alloc),

@@ -3,8 +3,8 @@ use Rattle.std.specs.Prelude.{◌≡◌, ℕ, refl}
 use Rattle.std.specs.Coded.{Coded, coded_ℕ, coded_ℤ, coded_bool, coded_list}
 use Rattle.std.proofs.Common.{arith}
 use base.Stored.{Gv, gnil, gnum, gcons}
-use Rattle.cml_value.specs.Value.{PlainValue, unit, int, truth, text, pair, thread, chan, ivar, mvar, mailbox, mchan, port, event, PlainValues, no_values, values_and, PlainFunction, function}
-use Rattle.cml_value.specs.Value.{PlainBase, always, send, recv, iget, mtake, mget, mswap, mail_recv, port_recv, join, at_tick, after_ticks, nack}
+use Rattle.cml_value.specs.Value.{PlainValue, unit, int, truth, text, pair, thread, chan, swapchan, ivar, mvar, mailbox, mchan, port, event, PlainValues, no_values, values_and, PlainFunction, function}
+use Rattle.cml_value.specs.Value.{PlainBase, always, send, recv, swap, iget, mtake, mget, mswap, mail_recv, port_recv, join, at_tick, after_ticks, nack}
 use Rattle.cml_value.specs.Value.{PlainEvent, never, leaf, choose, wrap, guard, with_nack, scope, PlainEvents, no_events, events_and}
 
 abbrev mutual
@@ -22,6 +22,7 @@ abbrev mutual
   value_gv (mchan a) = gcons (gnum 10) (gnum a)
   value_gv (port a) = gcons (gnum 11) (gnum a)
   value_gv (event a) = gcons (gnum 12) (event_gv a)
+  value_gv (swapchan a) = gcons (gnum 13) (gnum a)
 
   pub values_gv : PlainValues → Gv
   values_gv no_values = gnil
@@ -44,6 +45,7 @@ abbrev mutual
   base_gv (at_tick a) = gcons (gnum 10) (gnum a)
   base_gv (after_ticks a) = gcons (gnum 11) (gnum a)
   base_gv (nack a) = gcons (gnum 12) (gnum a)
+  base_gv (swap a b) = gcons (gnum 13) (gcons (gnum a) (value_gv b))
 
   pub event_gv : PlainEvent → Gv
   event_gv never = gcons (gnum 0) gnil
@@ -76,6 +78,7 @@ mutual
   value_gv_inj (mchan a) (mchan c) p = cc
   value_gv_inj (port a) (port c) p = cc
   value_gv_inj (event a) (event c) p = let e0 = event_gv_inj a c (cc) in cc
+  value_gv_inj (swapchan a) (swapchan c) p = cc
   value_gv_inj _ _ p = absurd (omega (arith, heads _ _ _ _ p))
 
   pub values_gv_inj : (x y : PlainValues) → values_gv x ≡ values_gv y → x ≡ y
@@ -100,6 +103,7 @@ mutual
   base_gv_inj (at_tick a) (at_tick c) p = cc
   base_gv_inj (after_ticks a) (after_ticks c) p = cc
   base_gv_inj (nack a) (nack c) p = cc
+  base_gv_inj (swap a b) (swap c d) p = let e1 = value_gv_inj b d (cc) in cc
   base_gv_inj _ _ p = absurd (omega (arith, heads _ _ _ _ p))
 
   pub event_gv_inj : (x y : PlainEvent) → event_gv x ≡ event_gv y → x ≡ y

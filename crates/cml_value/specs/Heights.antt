@@ -1,7 +1,7 @@
 -- How far the parts of a value lie below it in memory, by which a walk through it is seen to end. No rule speaks of it.
 use Rattle.std.specs.Prelude.{ℕ, ◌+◌, max}
 use Rattle.cml_value.specs.Value.{PlainValue, pair, event, PlainValues, no_values, values_and, PlainFunction, function}
-use Rattle.cml_value.specs.Value.{PlainBase, always, send, mswap, PlainEvent, never, leaf, choose, wrap, guard, with_nack, scope, PlainEvents, no_events, events_and}
+use Rattle.cml_value.specs.Value.{PlainBase, always, send, swap, mswap, PlainEvent, never, leaf, choose, wrap, guard, with_nack, scope, PlainEvents, no_events, events_and}
 
 abbrev mutual
   pub value_height : PlainValue → ℕ
@@ -19,6 +19,7 @@ abbrev mutual
   pub base_height : PlainBase → ℕ
   base_height (always v) = value_height v + 1
   base_height (send c v) = value_height v + 1
+  base_height (swap s v) = value_height v + 1
   base_height (mswap m v) = value_height v + 1
   base_height _ = 0
 

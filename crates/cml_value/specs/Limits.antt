@@ -1,7 +1,7 @@
 -- How deep a value, a base event or an event nests, and of how many nodes it is made.
 use Rattle.std.specs.Prelude.{ℕ, ◌+◌, max, Bool, nat_le, ◌&&◌}
 use Rattle.cml_value.specs.Value.{PlainValue, pair, event, PlainValues, no_values, values_and, PlainFunction, function}
-use Rattle.cml_value.specs.Value.{PlainBase, always, send, mswap, PlainEvent, never, leaf, choose, wrap, guard, with_nack, scope, PlainEvents, no_events, events_and}
+use Rattle.cml_value.specs.Value.{PlainBase, always, send, swap, mswap, PlainEvent, never, leaf, choose, wrap, guard, with_nack, scope, PlainEvents, no_events, events_and}
 
 -- The depth: 1 for what has no parts, as a choice of nothing, else one more than the deepest part. An event value counts as its
 -- event, a leaf as its base event, and a function as the values that it has captured.
@@ -21,6 +21,7 @@ abbrev mutual
   pub base_depth : PlainBase → ℕ
   base_depth (always v) = value_depth v + 1
   base_depth (send c v) = value_depth v + 1
+  base_depth (swap s v) = value_depth v + 1
   base_depth (mswap m v) = value_depth v + 1
   base_depth _ = 1
 
@@ -55,6 +56,7 @@ abbrev mutual
   pub base_nodes : PlainBase → ℕ
   base_nodes (always v) = value_nodes v + 1
   base_nodes (send c v) = value_nodes v + 1
+  base_nodes (swap s v) = value_nodes v + 1
   base_nodes (mswap m v) = value_nodes v + 1
   base_nodes _ = 1
 

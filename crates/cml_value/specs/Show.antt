@@ -2,7 +2,7 @@
 use Rattle.std.specs.Prelude.{ℕ, Bool, true, false, ◌==◌, if◌then◌else◌, List, [], ◌∷◌, ◌++◌, codes}
 use Rattle.std.specs.List.{flat_map}
 use Rattle.std.specs.Fmt.{decimal, signed_decimal}
-use Rattle.cml_value.specs.Value.{PlainValue, unit, int, truth, text, pair, thread, chan, ivar, mvar, mailbox, mchan, port, event}
+use Rattle.cml_value.specs.Value.{PlainValue, unit, int, truth, text, pair, thread, chan, swapchan, ivar, mvar, mailbox, mchan, port, event}
 
 -- a quote (34), a backslash (92) and a line feed (10) are written with a backslash before them, the last one as the letter n;
 -- every other byte is written as it is
@@ -34,6 +34,7 @@ shown (text bytes) = literal bytes
 shown (pair a b) = codes "(pair " ++ shown a ++ codes " " ++ shown b ++ codes ")"
 shown (thread n) = shown_number (codes "thread") n
 shown (chan n) = shown_number (codes "chan") n
+shown (swapchan n) = shown_number (codes "swapchan") n
 shown (ivar n) = shown_number (codes "ivar") n
 shown (mvar n) = shown_number (codes "mvar") n
 shown (mailbox n) = shown_number (codes "mailbox") n

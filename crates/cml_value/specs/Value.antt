@@ -2,8 +2,8 @@
 use Rattle.std.specs.Prelude.{ℕ, ℤ, Bool, List, [], ◌∷◌}
 
 mutual
-  -- a value of a program: a text by its UTF-8 bytes; by its number a thread, a channel, an I-variable, an M-variable, a mailbox,
-  -- a multicast channel (mchan) or a port of one
+  -- a value of a program: a text by its UTF-8 bytes; by its number a thread, a channel, a swap channel, an I-variable,
+  -- an M-variable, a mailbox, a multicast channel (mchan) or a port of one
   pub data PlainValue : Type 0 where
     unit : PlainValue
     int : ℤ → PlainValue
@@ -12,6 +12,7 @@ mutual
     pair : PlainValue → PlainValue → PlainValue
     thread : ℕ → PlainValue
     chan : ℕ → PlainValue
+    swapchan : ℕ → PlainValue
     ivar : ℕ → PlainValue
     mvar : ℕ → PlainValue
     mailbox : ℕ → PlainValue
@@ -29,11 +30,13 @@ mutual
     function : ℕ → PlainValues → PlainFunction
 
   -- a base event: what one leaf of an event waits for (Reppy's alwaysEvt, sendEvt, recvEvt, iGetEvt, mTakeEvt,
-  -- mGetEvt, mSwapEvt, recvEvt of a mailbox and of a port, joinEvt, atTimeEvt, timeOutEvt, and a nack event)
+  -- mGetEvt, mSwapEvt, recvEvt of a mailbox and of a port, joinEvt, atTimeEvt, timeOutEvt, and a nack event; and a swap,
+  -- which is this project's own: two threads that offer one on a swap channel exchange their values)
   pub data PlainBase : Type 0 where
     always : PlainValue → PlainBase
     send : ℕ → PlainValue → PlainBase
     recv : ℕ → PlainBase
+    swap : ℕ → PlainValue → PlainBase
     iget : ℕ → PlainBase
     mtake : ℕ → PlainBase
     mget : ℕ → PlainBase

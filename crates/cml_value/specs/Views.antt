@@ -1,7 +1,7 @@
 -- What each struct of `src/` is seen as, from its fields. The parts are seen already.
 use Rattle.std.specs.Arc.{arc_str_bytes}
-use Rattle.cml_value.specs.Value.{PlainValue, unit, int, truth, text, pair, thread, chan, ivar, mvar, mailbox, mchan, port, event}
-use Rattle.cml_value.specs.Value.{PlainBase, always, send, recv, iget, mtake, mget, mswap, mail_recv, port_recv, join, at_tick, after_ticks, nack}
+use Rattle.cml_value.specs.Value.{PlainValue, unit, int, truth, text, pair, thread, chan, swapchan, ivar, mvar, mailbox, mchan, port, event}
+use Rattle.cml_value.specs.Value.{PlainBase, always, send, recv, swap, iget, mtake, mget, mswap, mail_recv, port_recv, join, at_tick, after_ticks, nack}
 use Rattle.cml_value.specs.Value.{PlainEvent, never, leaf, choose, wrap, guard, with_nack, scope, events}
 use Rattle.cml_value.specs.declared.value.ValueKind.{ValueKind}
 use Rattle.cml_value.specs.declared.value.ValueKind.TheVariants as value_kind
@@ -18,6 +18,7 @@ plain_value (value_kind.Text s) = text (arc_str_bytes s)
 plain_value (value_kind.Pair p) = pair p.value.0 p.value.1
 plain_value (value_kind.Thread t) = thread t.0
 plain_value (value_kind.Chan c) = chan c.0
+plain_value (value_kind.Swap s) = swapchan s.0
 plain_value (value_kind.IVar i) = ivar i.0
 plain_value (value_kind.MVar m) = mvar m.0
 plain_value (value_kind.Mailbox b) = mailbox b.0
@@ -29,6 +30,7 @@ abbrev pub plain_base : BaseKind → PlainBase
 plain_base (base_kind.Always v) = always v
 plain_base (base_kind.Send c v) = send c.0 v
 plain_base (base_kind.Recv c) = recv c.0
+plain_base (base_kind.Swap s v) = swap s.0 v
 plain_base (base_kind.IGet i) = iget i.0
 plain_base (base_kind.MTake m) = mtake m.0
 plain_base (base_kind.MGet m) = mget m.0

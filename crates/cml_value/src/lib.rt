@@ -8,6 +8,6 @@ mod number;
 mod value;
 
 pub use group::{Group, GroupKind};
-pub use number::{ChanId, IVarId, MVarId, MboxId, McastId, NackId, PortId, Tid};
+pub use number::{ChanId, IVarId, MVarId, MboxId, McastId, NackId, PortId, SwapId, Tid};
 pub use value::limits::{MAX_DEPTH, MAX_NODES};
 pub use value::{Base, BaseKind, Event, EventKind, FnRef, Value, ValueKind};

@@ -8,6 +8,10 @@ pub struct Tid(pub u32);
 #[derive(Clone, Copy, PartialEq, Eq, Hash)]
 pub struct ChanId(pub u32);
 
+/// The number of a swap channel.
+#[derive(Clone, Copy, PartialEq, Eq, Hash)]
+pub struct SwapId(pub u32);
+
 /// The number of an I-variable.
 #[derive(Clone, Copy, PartialEq, Eq, Hash)]
 pub struct IVarId(pub u32);

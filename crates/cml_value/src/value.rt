@@ -7,7 +7,7 @@ pub mod limits;
 mod same;
 mod show;
 
-use crate::number::{ChanId, IVarId, MVarId, MboxId, McastId, NackId, PortId, Tid};
+use crate::number::{ChanId, IVarId, MVarId, MboxId, McastId, NackId, PortId, SwapId, Tid};
 use std::alloc::{AllocError, AllocFailed, Global};
 use std::marker::Model;
 use std::sync::{Arc, ArcStr};
@@ -37,6 +37,8 @@ pub enum ValueKind {
     Thread(Tid),
     /// A channel.
     Chan(ChanId),
+    /// A swap channel.
+    Swap(SwapId),
     /// An I-variable.
     IVar(IVarId),
     /// An M-variable.
@@ -76,6 +78,8 @@ pub enum BaseKind {
     Send(ChanId, Value),
     /// A sender on the channel.
     Recv(ChanId),
+    /// Another thread that swaps on the swap channel: it is given the value, and its own is given back.
+    Swap(SwapId, Value),
     /// The value of the I-variable, which stays.
     IGet(IVarId),
     /// The value of the M-variable, which it empties.
@@ -282,6 +286,7 @@ impl Value {
             ValueKind::Pair(p) => ValueKind::Pair(Arc::try_clone(p)?),
             ValueKind::Thread(t) => ValueKind::Thread(*t),
             ValueKind::Chan(c) => ValueKind::Chan(*c),
+            ValueKind::Swap(s) => ValueKind::Swap(*s),
             ValueKind::IVar(i) => ValueKind::IVar(*i),
             ValueKind::MVar(m) => ValueKind::MVar(*m),
             ValueKind::Mailbox(b) => ValueKind::Mailbox(*b),
@@ -372,6 +377,7 @@ impl Base {
             BaseKind::Always(v) => BaseKind::Always(v.copy()?),
             BaseKind::Send(c, v) => BaseKind::Send(*c, v.copy()?),
             BaseKind::Recv(c) => BaseKind::Recv(*c),
+            BaseKind::Swap(s, v) => BaseKind::Swap(*s, v.copy()?),
             BaseKind::IGet(i) => BaseKind::IGet(*i),
             BaseKind::MTake(m) => BaseKind::MTake(*m),
             BaseKind::MGet(m) => BaseKind::MGet(*m),

@@ -128,9 +128,10 @@ impl Base {
         ensures { result ≡ min (base_depth self.now) u64.MAX }
     {
         match &self.kind {
-            BaseKind::Always(v) | BaseKind::Send(_, v) | BaseKind::MSwap(_, v) => {
-                v.depth().saturating_add(1)
-            }
+            BaseKind::Always(v)
+            | BaseKind::Send(_, v)
+            | BaseKind::Swap(_, v)
+            | BaseKind::MSwap(_, v) => { v.depth().saturating_add(1) }
             _ => 1,
         }
     }
@@ -141,9 +142,10 @@ impl Base {
         ensures { result ≡ min (base_nodes self.now) u64.MAX }
     {
         match &self.kind {
-            BaseKind::Always(v) | BaseKind::Send(_, v) | BaseKind::MSwap(_, v) => {
-                v.nodes().saturating_add(1)
-            }
+            BaseKind::Always(v)
+            | BaseKind::Send(_, v)
+            | BaseKind::Swap(_, v)
+            | BaseKind::MSwap(_, v) => { v.nodes().saturating_add(1) }
             _ => 1,
         }
     }
@@ -159,9 +161,10 @@ impl Base {
             return None;
         }
         match &self.kind {
-            BaseKind::Always(v) | BaseKind::Send(_, v) | BaseKind::MSwap(_, v) => {
-                v.spend(depth - 1, budget - 1)
-            }
+            BaseKind::Always(v)
+            | BaseKind::Send(_, v)
+            | BaseKind::Swap(_, v)
+            | BaseKind::MSwap(_, v) => { v.spend(depth - 1, budget - 1) }
             _ => Some(budget - 1),
         }
     }

@@ -20,6 +20,7 @@ impl Value {
                 matches!(&other.kind, ValueKind::Pair(q) if p.0.same(&q.0) && p.1.same(&q.1)),
             ValueKind::Thread(x) => matches!(&other.kind, ValueKind::Thread(y) if x.0 == y.0),
             ValueKind::Chan(x) => matches!(&other.kind, ValueKind::Chan(y) if x.0 == y.0),
+            ValueKind::Swap(x) => matches!(&other.kind, ValueKind::Swap(y) if x.0 == y.0),
             ValueKind::IVar(x) => matches!(&other.kind, ValueKind::IVar(y) if x.0 == y.0),
             ValueKind::MVar(x) => matches!(&other.kind, ValueKind::MVar(y) if x.0 == y.0),
             ValueKind::Mailbox(x) => matches!(&other.kind, ValueKind::Mailbox(y) if x.0 == y.0),
@@ -63,6 +64,8 @@ impl Base {
             BaseKind::Send(c, v) =>
                 matches!(&other.kind, BaseKind::Send(d, w) if c.0 == d.0 && v.same(w)),
             BaseKind::Recv(c) => matches!(&other.kind, BaseKind::Recv(d) if c.0 == d.0),
+            BaseKind::Swap(x, v) =>
+                matches!(&other.kind, BaseKind::Swap(y, w) if x.0 == y.0 && v.same(w)),
             BaseKind::IGet(x) => matches!(&other.kind, BaseKind::IGet(y) if x.0 == y.0),
             BaseKind::MTake(x) => matches!(&other.kind, BaseKind::MTake(y) if x.0 == y.0),
             BaseKind::MGet(x) => matches!(&other.kind, BaseKind::MGet(y) if x.0 == y.0),

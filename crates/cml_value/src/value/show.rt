@@ -39,6 +39,7 @@ impl Value {
             }
             ValueKind::Thread(t) => push_number(out, "thread", t.0),
             ValueKind::Chan(c) => push_number(out, "chan", c.0),
+            ValueKind::Swap(s) => push_number(out, "swapchan", s.0),
             ValueKind::IVar(i) => push_number(out, "ivar", i.0),
             ValueKind::MVar(m) => push_number(out, "mvar", m.0),
             ValueKind::Mailbox(b) => push_number(out, "mailbox", b.0),
