@@ -65,7 +65,7 @@ or_false false = refl
 
 -- By the laws of one kind: whether two of its sides meet, the first as the head, by their places.
 module _ {S : Type 0} (kind : Pairing) (key_of : S → ℕ) (is_head : S → Bool) (meet : S → S → Bool) (lane : Bool) (is : one_lane kind ≡ lane)
-  (meeting : (s t : S) → IsTrue (meet s t) ↔ ((key_of s ≡ key_of t) × (IsTrue lane ⊎ (is_head s ≢ is_head t)))) (leading : (s : S) → IsTrue lane → IsTrue (is_head s)) where
+    (meeting : (s t : S) → IsTrue (meet s t) ↔ ((key_of s ≡ key_of t) × (IsTrue lane ⊎ (is_head s ≢ is_head t)))) (leading : (s : S) → IsTrue lane → IsTrue (is_head s)) where
   abbrev place_of : S → SidePlace
   place_of s = record { object = record { kind = kind; number = key_of s }; heads = is_head s }
 
@@ -130,22 +130,24 @@ no_two (send c v) s e = refl
 no_two (recv c) s e = refl
 no_two _ s e = cc
 
+abbrev sent_place : Option ChannelSide → Option SidePlace
+sent_place x = placed Channel channels.channel_of channels.is_sender x
+
+abbrev swap_place : Option SwapSide → Option SidePlace
+swap_place x = placed Swap swaps.channel_of swaps.heads x
+
 -- The law of all kinds: two base events are the sides of one communication, the first as its head, exactly where their places say so.
 pub meets_by_place : (b c : PlainBase) → meets b c ≡ leads_by (side_place b) (side_place c)
 meets_by_place b c =
     as_sides b c
-    ∙ rw (led_by_place Channel channels.channel_of channels.is_sender channels.meet false refl channel_laws.meeting-law channel_laws.leading-law (channels.side_in b) (channels.side_in c),
-      led_by_place Swap swaps.channel_of swaps.heads swaps.meet true refl swap_laws.meeting-law swap_laws.leading-law (swaps.side_in b) (swaps.side_in c))
+    ∙ rw (
+      led_by_place Channel channels.channel_of channels.is_sender channels.meet false refl channel_laws.meeting-law channel_laws.leading-law (channels.side_in b) (channels.side_in c),
+      led_by_place Swap swaps.channel_of swaps.heads swaps.meet true refl swap_laws.meeting-law swap_laws.leading-law (swaps.side_in b) (swaps.side_in c),
+    )
     (at (channels.side_in b) (channels.side_in c) (swaps.side_in b) (swaps.side_in c) (no_two b) (no_two c))
   where
-    abbrev sent : Option ChannelSide → Option SidePlace
-    sent x = placed Channel channels.channel_of channels.is_sender x
-
-    abbrev swapped : Option SwapSide → Option SidePlace
-    swapped x = placed Swap swaps.channel_of swaps.heads x
-
     at : (x y : Option ChannelSide) (z w : Option SwapSide) → ((s : ChannelSide) → x ≡ Some s → z ≡ None) → ((s : ChannelSide) → y ≡ Some s → w ≡ None)
-        → leads_by (sent x) (sent y) || leads_by (swapped z) (swapped w) ≡ leads_by (option_or (sent x) (swapped z)) (option_or (sent y) (swapped w))
+        → leads_by (sent_place x) (sent_place y) || leads_by (swap_place z) (swap_place w) ≡ leads_by (option_or (sent_place x) (swap_place z)) (option_or (sent_place y) (swap_place w))
     at (Some s) y (Some z) w f g = let no_ : Some z ≡ None = f s refl in cc
     at x (Some t) z (Some w) f g = let no_ : Some w ≡ None = g t refl in cc
     at (Some s) (Some t) None None f g = or_false _
@@ -163,12 +165,6 @@ led_to tid q None t = false
 pub do_meet_by_place : (tid : Tid) (b : PlainBase) (q : Place) (c : PlainBase) → do_meet tid.0 b q.tid.0 c ≡ led_to tid q (side_place b) (side_place c)
 do_meet_by_place tid b q c = rw (meets_by_place b c, meets_by_place c b) (at (side_place b) (side_place c))
   where
-    t : ℕ
-    t = tid.0
-
-    u : ℕ
-    u = q.tid.0
-
     -- where the first leads the second, the second leads the first exactly in a kind with one lane
     back : (x y : SidePlace) → leads x y ≡ true → leads y x ≡ one_lane x.object.kind
     back x y e =
@@ -184,21 +180,21 @@ do_meet_by_place tid b q c = rw (meets_by_place b c, meets_by_place c b) (at (si
         on_ false true e = cc
         on_ false false e = refl
 
-    chosen : (k : Pairing) → not (nat_eq t u) && (not (one_lane k) || nat_lt t u) ≡ is_of (whom k tid) q
-    chosen Channel = both t u
+    chosen : (k : Pairing) → not (nat_eq tid.0 q.tid.0) && (not (one_lane k) || nat_lt tid.0 q.tid.0) ≡ is_of (whom k tid) q
+    chosen Channel = both tid.0 q.tid.0
       where
-        both : (t u : ℕ) → not (nat_eq t u) && true ≡ not (nat_eq t u)
+        both : (t u : ℕ) → not (nat_eq t u) && (true || nat_lt t u) ≡ not (nat_eq t u)
         both t u = grind (arith, nat_tests)
-    chosen Swap = both t u
+    chosen Swap = both tid.0 q.tid.0
       where
         both : (t u : ℕ) → not (nat_eq t u) && nat_lt t u ≡ nat_lt t u
         both t u = grind (arith, nat_tests)
 
-    at : (x y : Option SidePlace) → not (nat_eq t u) && (leads_by x y && (not (leads_by y x) || nat_lt t u)) ≡ led_to tid q x y
-    at None y = and_false (not (nat_eq t u))
-    at (Some x) None = and_false (not (nat_eq t u))
+    at : (x y : Option SidePlace) → not (nat_eq tid.0 q.tid.0) && (leads_by x y && (not (leads_by y x) || nat_lt tid.0 q.tid.0)) ≡ led_to tid q x y
+    at None y = and_false (not (nat_eq tid.0 q.tid.0))
+    at (Some x) None = and_false (not (nat_eq tid.0 q.tid.0))
     at (Some x) (Some y) = led (leads x y) refl
       where
-        led : (b : Bool) → leads x y ≡ b → not (nat_eq t u) && (b && (not (leads y x) || nat_lt t u)) ≡ b && is_of (whom x.object.kind tid) q
+        led : (b : Bool) → leads x y ≡ b → not (nat_eq tid.0 q.tid.0) && (b && (not (leads y x) || nat_lt tid.0 q.tid.0)) ≡ b && is_of (whom x.object.kind tid) q
         led true e = rw (back x y e) (chosen x.object.kind)
-        led false e = and_false (not (nat_eq t u))
+        led false e = and_false (not (nat_eq tid.0 q.tid.0))

@@ -90,8 +90,9 @@ pub fn meets(head: &Base, other: &Base) -> bool
     ensures { result ≡ meets_in_scan head.now other.now }
 {
     match (place(head), place(other)) {
-        (Some(s), Some(t)) =>
-            s.heads && s.object == t.object && t.heads == s.object.kind.one_lane(),
+        (Some(s), Some(t)) => s.heads
+            && s.object == t.object
+            && t.heads == s.object.kind.one_lane(),
         _ => false,
     }
 }
