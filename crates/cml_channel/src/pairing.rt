@@ -1,0 +1,131 @@
+//! The kinds of objects over which two threads meet. Here they are listed; what is said of each kind is said by its `Paired`.
+
+ghost use Rattle.std.specs.Prelude.{◌≡◌, true, if◌then◌else◌, option_map};
+ghost use Rattle.cml_scan.specs.Scan.{meets, do_meet as do_meet_in_scan};
+ghost use Rattle.cml_channel.specs.Handed.{handed};
+ghost use Rattle.cml_channel.specs.Pairings as spec;
+
+use crate::channel::Channels;
+use crate::lane::Whom;
+use crate::swap::SwapChannels;
+use cml_base::Paired;
+use cml_value::{Base, Tid, Value};
+
+/// A kind of object over which two threads meet.
+#[derive(Clone, Copy, PartialEq, Eq, Hash)]
+pub enum Pairing {
+    /// A channel: a sender and a receiver meet.
+    Channel,
+    /// A swap channel: any two swaps meet.
+    Swap,
+}
+
+/// An object over which two threads meet.
+#[derive(Clone, Copy, PartialEq, Eq, Hash)]
+pub struct PairedId {
+    /// Its kind.
+    pub kind: Pairing,
+    /// Its number among those of its kind.
+    pub number: u32,
+}
+
+/// Where an offer stands that two threads can meet by.
+#[derive(Clone, Copy)]
+pub struct SidePlace {
+    /// The object.
+    pub object: PairedId,
+    /// Whether it can stand first.
+    pub heads: bool,
+}
+
+impl Pairing {
+    /// Whether the sides of an object of the kind are alike, so that any two of them meet.
+    pub fn one_lane(self) -> bool
+        ensures { result ≡ spec.one_lane self }
+    {
+        match self {
+            Pairing::Channel => Channels::ONE_LANE,
+            Pairing::Swap => SwapChannels::ONE_LANE,
+        }
+    }
+
+    /// Whom an offer of the thread meets that stands first, in the lane of those whom it can meet.
+    pub fn whom(self, tid: Tid) -> Whom
+        ensures { result ≡ spec.whom self tid }
+    {
+        if self.one_lane() {
+            Whom::Above(tid)
+        } else {
+            Whom::Others(tid)
+        }
+    }
+}
+
+// The place of the side that the base event is, if it is one of this kind.
+fn place_in<P: Paired>(kind: Pairing, base: &Base) -> Option<SidePlace>
+    ensures { result ≡ spec.placed kind P.key_of P.is_head (P.side_of base.now) }
+{
+    match P::place(base) {
+        Some((number, heads)) => Some(SidePlace {
+            object: PairedId { kind, number },
+            heads,
+        }),
+        None => None,
+    }
+}
+
+/// The place of the side that the base event is. `None`: it is none of an object over which two threads meet.
+pub fn place(base: &Base) -> Option<SidePlace>
+    ensures { result ≡ spec.side_place base.now }
+{
+    match place_in::<Channels>(Pairing::Channel, base) {
+        Some(place) => Some(place),
+        None => place_in::<SwapChannels>(Pairing::Swap, base),
+    }
+}
+
+impl SidePlace {
+    // Whether offers at the two places are the sides of one communication, the first as its head: the first can stand first, and the
+    // second stands with those whom it meets.
+    fn leads(&self, other: &SidePlace) -> bool
+        ensures { result ≡ spec.leads self.now other.now }
+    {
+        self.heads && self.object == other.object && self.object.kind.one_lane() == other.heads
+    }
+}
+
+/// Whether leaves of the two threads that wait for these communicate, the first as the head.
+#[tactic(auto, using(crate::proofs::Pairs::do_meet_by_place))]
+pub fn do_meet(head: Tid, first: &Base, other: Tid, second: &Base) -> bool
+    ensures { result ≡ do_meet_in_scan head.0 first.now other.0 second.now }
+{
+    match (place(first), place(second)) {
+        (Some(s), Some(t)) => s.leads(&t) && s.object.kind.whom(head).is(other),
+        _ => false,
+    }
+}
+
+// What the two are given that meet in this kind.
+fn hands_in<P: Paired>(head: Base, other: Base) -> (Value, Value)
+    requires { spec.do_meet_in P.do_meet (P.side_of head) (P.side_of other) ≡ true }
+    ensures { spec.HandedIn P.handed (P.side_of head) (P.side_of other) result }
+{
+    match (P::side(head), P::side(other)) {
+        (Some(first), Some(second)) => P::hands(first, second),
+        _ => unreachable!(),
+    }
+}
+
+/// What the threads of two base events that meet are given, the head's first: each gets what the other hands over.
+pub fn hands(head: Base, other: Base) -> (Value, Value)
+    requires { meets head other ≡ true }
+    ensures { result ≡ (handed other, handed head) }
+{
+    match place(&head) {
+        Some(place) => match place.object.kind {
+            Pairing::Channel => hands_in::<Channels>(head, other),
+            Pairing::Swap => hands_in::<SwapChannels>(head, other),
+        },
+        None => unreachable!(),
+    }
+}
