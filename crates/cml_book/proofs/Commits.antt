@@ -1,5 +1,5 @@
 -- The parties of a row that is in the table, and what taking it does.
-use Rattle.std.proofs.Common.{◌≡◌, ◌≢◌, ℕ, ◌+◌, ◌*◌, ◌<◌, ◌≤◌, Bool, true, false, ◌||◌, nat_eq, cond, List, [], ◌∷◌, ◌++◌, length, map, refl, ap, sym, subst, ◌∙◌, arith, zero, suc, Option, Some, None, Ok, Err, slice_index_or, zero-add}
+use Rattle.std.proofs.Common.{◌≡◌, ◌≢◌, ℕ, ◌+◌, ◌*◌, ◌<◌, ◌≤◌, Bool, true, false, not, ◌&&◌, ◌||◌, nat_eq, nat_lt, cond, List, [], ◌∷◌, ◌++◌, length, map, refl, ap, sym, subst, ◌∙◌, arith, zero, suc, Option, Some, None, Ok, Err, slice_index_or, zero-add}
 use Rattle.std.specs.Prelude.{All, AllPairs, Contains, slice_get}
 use Rattle.std.specs.List.{filter, flat_map, cons_option}
 use Rattle.std.specs.Option.{option_copied, option_and_then, option_map}
@@ -7,22 +7,24 @@ use Rattle.std.specs.Borrow.{Bor}
 use Rattle.std.proofs.lemmas.Bool.Decides.{nat_tests}
 use Rattle.std.proofs.lemmas.List.{length-map, map-append}
 use Rattle.std.proofs.lemmas.List.Elements.{All-nil, All-cons, All-head, All-tail, All-map, All-weaker, Contains-append_left, Contains-append_right}
-use Rattle.cml_value.specs.Value.{PlainValue, unit, PlainBase, always, send, recv, mtake, mail_recv, port_recv, PlainFunction}
+use Rattle.cml_value.specs.Value.{PlainValue, PlainBase, always, mtake, mail_recv, port_recv, PlainFunction}
 use Rattle.cml_value.specs.Group.{PlainGroup, PlainLeaf, PlainScope, bases, leaves, leaf_count, scopes, nacks_of, lies_outside, lost}
 use Rattle.cml_value.specs.declared.number.Tid.{Tid}
 use Rattle.cml_group.specs.Leaves.{pick, leaf_base}
 use Rattle.cml_scan.specs.World.{PlainThread, running, pending_on, ended, PlainWorld, PlainEntry, pending, pending_from}
 use Rattle.cml_scan.specs.Light.{light, has_item, lit}
-use Rattle.cml_scan.specs.Scan.{scan, scan_of, has_row, is_among}
+use Rattle.cml_channel.specs.Handed.{handed}
+use Rattle.cml_scan.specs.Scan.{scan, scan_of, has_row, is_among, meets, do_meet}
 use Rattle.cml_scan.specs.Table.{IsThere, without, has_light, lit_after, nacks_among, IsNackOf}
 use Rattle.cml_scan.specs.Enabled.{leaf_of}
+use Rattle.cml_scan.specs.Order.{meet_at}
 use Rattle.cml_scan.specs.declared.object.Light.{Light}
 use Rattle.cml_scan.specs.declared.object.Light.TheVariants as of
 use Rattle.cml_scan.specs.declared.meet.Meet.{Meet}
 use Rattle.cml_scan.specs.declared.meet.Meet.TheVariants.{Single, Pair}
 use Rattle.cml_scan.proofs.Told.{scan_of-told}
-use Rattle.cml_scan.proofs.Enabling.{scan-members, Contains-has_row}
-use Rattle.cml_book.specs.Commit.{awaited, group_awaited, base_awaited, base_or_unit, wraps_or_none, commit, after, hands, given, taken, copied, rest_of, released, resume, sent}
+use Rattle.cml_scan.proofs.Enabling.{scan-members, Contains-has_row, has_row-scan}
+use Rattle.cml_book.specs.Commit.{awaited, group_awaited, base_awaited, base_or_unit, wraps_or_none, commit, after, hands, given, taken, copied, rest_of, released, resume}
 use Rattle.cml_book.specs.Threads.{flat_of}
 use Rattle.cml_book.specs.Keeping.{Room, Fits, Keeps, AreLive, nack_light, lights_in, times_awaited}
 use Rattle.cml_book.specs.Clock.{bases_awaited}
@@ -106,24 +108,41 @@ single_party w es told room t n k h =
     let e = (scan-members w (Single t n)).0 (Contains-has_row (scan w) (Single t n) h) in
     (e.0, party_of w es told room t.0 n e.0 k e.1, e.2)
 
--- the two parties of a pair, which differ
+-- the two parties of a pair, which differ, and whose base events meet
 pub record Parties (w : PlainWorld) (room : Room) (h : Tid) (i : ℕ) (o : Tid) (j : ℕ) : Type 0 where
-  pub channel : ℕ
-  pub value : PlainValue
-  pub sender : Party w room h.0 i (send channel value)
-  pub receiver : Party w room o.0 j (recv channel)
+  pub base : PlainBase
+  pub other_base : PlainBase
+  pub head : Party w room h.0 i base
+  pub other : Party w room o.0 j other_base
+  pub meet : meets base other_base ≡ true
   pub differ : h.0 ≢ o.0
 
 pub pair_parties : (w : PlainWorld) (es : List PlainEntry) (told : Light → Bool) (room : Room) (h : Tid) (i : ℕ) (o : Tid) (j : ℕ) → Keeps w es told room → has_row (scan w) (Pair h i o j) ≡ true → Parties w room h i o j
-pair_parties w es told room h i o j k has =
-    let e = (scan-members w (Pair h i o j)).0 (Contains-has_row (scan w) (Pair h i o j) has) in
-    record {
-      channel = e.0;
-      value = e.1;
-      sender = party_of w es told room h.0 i (send e.0 e.1) k e.2;
-      receiver = party_of w es told room o.0 j (recv e.0) k e.3;
-      differ = e.4;
-    }
+pair_parties w es told room h i o j k has = at (leaf_of (slice_get w.threads h.0) i) (leaf_of (slice_get w.threads o.0) j) refl refl (sym (has_row-scan w (Pair h i o j)) ∙ has)
+  where
+    both : (a b c : Bool) → not a && (b && c) ≡ true → (a ≡ false) × (b ≡ true)
+    both false true c e = (refl, refl)
+    both false false c e = cc
+    both true b c e = cc
+
+    apart : (m n : ℕ) → nat_eq m n ≡ false → m ≢ n
+    apart m n e = grind (arith, nat_tests)
+
+    at : (p q : Option PlainBase) → leaf_of (slice_get w.threads h.0) i ≡ p → leaf_of (slice_get w.threads o.0) j ≡ q
+        → meet_at h.0 o.0 (leaf_of (slice_get w.threads h.0) i) (leaf_of (slice_get w.threads o.0) j) ≡ true → Parties w room h i o j
+    at None q is be e = (let no : meet_at h.0 o.0 None (leaf_of (slice_get w.threads o.0) j) ≡ true = rw is at e in cc)
+    at (Some b) None is be e = (let no : meet_at h.0 o.0 (Some b) None ≡ true = rw (is, be) at e in cc)
+    at (Some b) (Some d) is be e =
+        let yes_ : do_meet h.0 b o.0 d ≡ true = rw (is, be) at e in
+        let e = both (nat_eq h.0 o.0) (meets b d) (not (meets d b) || nat_lt h.0 o.0) yes_ in
+        record {
+          base = b;
+          other_base = d;
+          head = party_of w es told room h.0 i b k is;
+          other = party_of w es told room o.0 j d k be;
+          meet = e.1;
+          differ = apart h.0 o.0 e.0;
+        }
 
 -- the group that a call finds
 pub flat_is : (r : Option (Bor PlainGroup)) (f : Bor PlainGroup) (w : PlainWorld) (t : ℕ) (g : PlainGroup) → option_copied r ≡ option_and_then flat_of (slice_get w.threads t) → slice_get w.threads t ≡ Some (pending_on g) → r ≡ Some f → f.now ≡ g
@@ -315,7 +334,7 @@ single_returns w t n b ws v fs w1 w2 r has picked one value two lost made =
     let head : r ≡ resume w t.0 n (given w (base_awaited w t.0 n)) = made ∙ rw (own, wraps, lost) refl in
     commit_is w (Single t n) has ∙ rw (world, head) refl
 
--- the receiver waits still, once the sender has gone on
+-- the other party waits still, once the head has gone on
 pub second_waits : (w : PlainWorld) (es : List PlainEntry) (told : Light → Bool) (room : Room) (h : Tid) (i : ℕ) (o : Tid) (j : ℕ) (a g : PlainGroup) (w1 : PlainWorld)
     → Keeps w es told room → slice_get w.threads h.0 ≡ Some (pending_on a) → slice_get w.threads o.0 ≡ Some (pending_on g) → h.0 ≢ o.0 → j < leaf_count g
     → w1 ≡ released w h.0 i → WaitsOn w1.threads w1.nacks o.0 j (group_awaited w1 o.0)
@@ -325,7 +344,7 @@ second_waits w es told room h i o j a g w1 k first second differ within one =
     let alive : AreLive (nacks_of (scopes g)) (released w h.0 i).nacks = record { each = λ n. let x = nacks-resume n 0 o.0 (released w h.0 i).threads g waits in let y = k1.nacks_live n in omega arith } in
     rw (one, waits) (record { waits = waits; within = within; alive = alive })
 
--- what a book keeps when a sender and a receiver have gone on
+-- what a book keeps when both parties have gone on
 pub keeps_pair : (w : PlainWorld) (es : List PlainEntry) (told : Light → Bool) (room : Room) (h : Tid) (i : ℕ) (o : Tid) (j : ℕ) (a g : PlainGroup) (es' : List PlainEntry) (told' : Light → Bool) (w1 w2 : PlainWorld) (lit unlit : List Light) (room' : Room)
     → Keeps w es told room → slice_get w.threads h.0 ≡ Some (pending_on a) → slice_get w.threads o.0 ≡ Some (pending_on g) → h.0 ≢ o.0
     → w1 ≡ released w h.0 i → w2 ≡ released w1 o.0 j
@@ -353,12 +372,22 @@ keeps_pair w es told room h i o j a g es' told' w1 w2 lit unlit room' k first se
     (right_pair r2 all (bases a) (bases g) counts) in
     rw (both, size) (keeps_same r2 (without (o ∷ []) (without (h ∷ []) es)) told' room es' told' (gone ∙ sym (without_two h o es)) (λ l. refl) k3)
 
+-- the base events with which both parties have gone on meet
+pub chosen_meet : (w : PlainWorld) (room : Room) (h : Tid) (i : ℕ) (o : Tid) (j : ℕ) (b d : PlainBase) (ws us : List PlainFunction) (w1 : PlainWorld) → Parties w room h i o j → w1 ≡ released w h.0 i
+    → pick (group_awaited w h.0) i ≡ Some (record { base = b; wraps = ws }) → pick (group_awaited w1 o.0) j ≡ Some (record { base = d; wraps = us }) → meets b d ≡ true
+chosen_meet w room h i o j b d ws us w1 p one picked1 picked2 =
+    let group1 : group_awaited w h.0 ≡ p.head.group = ap awaited p.head.waits in
+    let group2 : group_awaited w1 o.0 ≡ p.other.group = ap (λ (x : PlainWorld). group_awaited x o.0) one ∙ ap awaited (get-set_other w.threads h.0 o.0 running p.differ) ∙ ap awaited p.other.waits in
+    let base1 : b ≡ p.base = sym (ap base_or_unit picked1) ∙ ap (λ g. base_or_unit (pick g i)) group1 ∙ p.head.base_is in
+    let base2 : d ≡ p.other_base = sym (ap base_or_unit picked2) ∙ ap (λ g. base_or_unit (pick g j)) group2 ∙ p.other.base_is in
+    rw (base1, base2) p.meet
+
 -- what the call for a pair answers
 pub pair_returns : (w : PlainWorld) (h : Tid) (i : ℕ) (o : Tid) (j : ℕ) (b d : PlainBase) (ws us : List PlainFunction) (v u : PlainValue) (fs es : List ℕ) (w1 w2 : PlainWorld) (r q : PlainResume)
     → has_row (scan w) (Pair h i o j) ≡ true → h.0 ≢ o.0 → w1 ≡ released w h.0 i → w2 ≡ released w1 o.0 j
     → pick (group_awaited w h.0) i ≡ Some (record { base = b; wraps = ws }) → fs ≡ lost (group_awaited w h.0) i
     → pick (group_awaited w1 o.0) j ≡ Some (record { base = d; wraps = us }) → es ≡ lost (group_awaited w1 o.0) j
-    → u ≡ unit → v ≡ sent b
+    → u ≡ handed d → v ≡ handed b
     → r ≡ record { thread = h.0; value = u; wraps = ws; fired = fs } → q ≡ record { thread = o.0; value = v; wraps = us; fired = es }
     → commit w (Pair h i o j) ≡ Ok (w2, record { head = r; partner = Some q })
 pair_returns w h i o j b d ws us v u fs es w1 w2 r q has differ one two picked1 lost1 picked2 lost2 head_value value made1 made2 =
@@ -366,10 +395,11 @@ pair_returns w h i o j b d ws us v u fs es w1 w2 r q has differ one two picked1 
     let own2 = subst (λ x. pick x j ≡ Some (record { base = d; wraps = us })) group2 picked2 in
     let world : w2 ≡ after w (Pair h i o j) = two ∙ ap (λ x. released x o.0 j) one in
     let base : b ≡ base_awaited w h.0 i = sym (ap base_or_unit picked1) in
+    let other_base : d ≡ base_awaited w o.0 j = sym (ap base_or_unit own2) in
     let wraps1 : ws ≡ wraps_or_none (pick (group_awaited w h.0) i) = sym (ap wraps_or_none picked1) in
     let wraps2 : us ≡ wraps_or_none (pick (group_awaited w o.0) j) = sym (ap wraps_or_none own2) in
-    let head : r ≡ resume w h.0 i unit = made1 ∙ rw (head_value, wraps1, lost1) refl in
-    let partner : q ≡ resume w o.0 j (sent (base_awaited w h.0 i)) = made2 ∙ rw (value, base, wraps2, lost2, group2) refl in
+    let head : r ≡ resume w h.0 i (handed (base_awaited w o.0 j)) = made1 ∙ rw (head_value, other_base, wraps1, lost1) refl in
+    let partner : q ≡ resume w o.0 j (handed (base_awaited w h.0 i)) = made2 ∙ rw (value, base, wraps2, lost2, group2) refl in
     commit_is w (Pair h i o j) has ∙ rw (world, head, partner) refl
 
 pub told_two : (before pushed more told : List Light) (flat1 flat2 a g : PlainGroup) (i j : ℕ) → before ≡ [] → flat1 ≡ a → flat2 ≡ g → pushed ≡ before ++ map nack_light (lost flat1 i)

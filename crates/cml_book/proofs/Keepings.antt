@@ -7,6 +7,7 @@ use Rattle.std.proofs.lemmas.List.Elements.{All-cons, All-append, All-filter, Al
 use Rattle.cml_value.specs.Group.{PlainGroup, scopes, nacks_of, lost, bases}
 use Rattle.cml_value.specs.declared.number.Tid.{Tid}
 use Rattle.cml_value.specs.declared.number.ChanId.{ChanId}
+use Rattle.cml_value.specs.declared.number.SwapId.{SwapId}
 use Rattle.cml_value.specs.declared.number.NackId.{NackId}
 use Rattle.cml_scan.specs.World.{PlainThread, running, pending_on, ended, fresh_of, PlainWorld, PlainEntry, pending}
 use Rattle.cml_scan.specs.Light.{has_ended, has_fired, light, light_of, is_told}
@@ -20,6 +21,7 @@ use Rattle.cml_book.specs.declared.refusal.Fault.TheVariants.{Refused, Memory}
 use Rattle.cml_book.specs.Outcomes.{Outcome, refuse_if, refuse_by, thread_refusal, with_thread, Does, max_threads, max_objects}
 use Rattle.cml_book.specs.Spawn.{spawn}
 use Rattle.cml_book.specs.MakeChan.{make_chan}
+use Rattle.cml_book.specs.MakeSwap.{make_swap}
 use Rattle.cml_book.specs.Nack.{nack}
 use Rattle.cml_book.specs.Sync.{times_named, waiting}
 use Rattle.cml_book.specs.Commit.{released, settled}
@@ -94,6 +96,25 @@ module _ (w : PlainWorld) (es : List PlainEntry) (told : Light → Bool) (room :
       })
     where
       same : (l : Light) → told l ≡ light_of w l → told l ≡ light_of (record w { channels = w.channels + 1 }) l
+      same (of.Joined t) h = h
+      same _ h = h
+
+  -- a new swap channel
+  pub keeps_swap : (r : Result SwapId Fault) (w' : PlainWorld) → Does r (make_swap w) w w' → Keeps w es told room → Keeps w' es told room
+  keeps_swap (Err (Refused why)) w' d k = rw d.1 k
+  keeps_swap (Err Memory) w' d k = rw d.1 k
+  keeps_swap (Ok s) w' d k =
+      let e = not_refused (nat_le max_objects w.swaps) _ _ _ d in
+      let new : w' ≡ record w { swaps = w.swaps + 1 } = sym (ap (λ (o : Outcome SwapId). next_of w o) e) in
+      rw new
+      (record {
+        told_groups = k.told_groups;
+        told_lights = agree_still (pending w) told told (light_of w) (light_of (record w { swaps = w.swaps + 1 })) same k.told_lights;
+        nacks_live = k.nacks_live;
+        roomy = k.roomy;
+      })
+    where
+      same : (l : Light) → told l ≡ light_of w l → told l ≡ light_of (record w { swaps = w.swaps + 1 }) l
       same (of.Joined t) h = h
       same _ h = h
 

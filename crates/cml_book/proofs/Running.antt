@@ -30,6 +30,7 @@ use Rattle.cml_book.specs.Running.{runs_after, is_party}
 use Rattle.cml_book.specs.Entering.{entered, max_tick}
 use Rattle.cml_book.specs.Spawn.{spawn}
 use Rattle.cml_book.specs.MakeChan.{make_chan}
+use Rattle.cml_book.specs.MakeSwap.{make_swap}
 use Rattle.cml_book.specs.MakeObjects.{held_fits, make_ivar, make_mvar, make_mailbox, make_mchan}
 use Rattle.cml_book.specs.MakePort.{ports_at, make_port, copy_port}
 use Rattle.cml_book.specs.Put.{iput, mput}
@@ -152,6 +153,7 @@ committed w (Pair h i o j) t e =
 pub runs-step : (w : PlainWorld) (c : Command) (t : ℕ) → is_running (step w c).0 t ≡ runs_after (step w c).1 c t (is_running w t)
 runs-step w command.Spawn t = (let h : Follows command.Spawn w t reply.Thread (spawn w) = unless_if (nat_le max_threads (length w.threads)) _ _ (λ _. record { stays = made w.threads t }) in h.stays)
 runs-step w command.MakeChan t = (let h : Follows command.MakeChan w t reply.Chan (make_chan w) = unless_if (nat_le max_objects w.channels) _ _ (λ _. record { stays = refl }) in h.stays)
+runs-step w command.MakeSwap t = (let h : Follows command.MakeSwap w t reply.Swap (make_swap w) = unless_if (nat_le max_objects w.swaps) _ _ (λ _. record { stays = refl }) in h.stays)
 runs-step w command.MakeIVar t = (let h : Follows command.MakeIVar w t reply.IVar (make_ivar w) = unless_if (nat_le max_objects (length w.ivars)) _ _ (λ _. record { stays = refl }) in h.stays)
 runs-step w (command.MakeMVar v) t = (let h : Follows (command.MakeMVar v) w t reply.MVar (make_mvar w v) = unless_if (not (held_fits v)) _ _ (λ _. unless_if (nat_le max_objects (length w.mvars)) _ _ (λ _. record { stays = refl })) in h.stays)
 runs-step w command.MakeMailbox t = (let h : Follows command.MakeMailbox w t reply.Mailbox (make_mailbox w) = unless_if (nat_le max_objects (length w.mailboxes)) _ _ (λ _. record { stays = refl }) in h.stays)

@@ -1,7 +1,8 @@
 -- The command that takes a row.
 use Rattle.std.specs.Prelude.{ℕ, Bool, true, false, not, List, [], ◌∷◌, Option, Some, None, Ok, slice_get, slice_set}
-use Rattle.cml_value.specs.Value.{PlainValue, PlainFunction, unit, PlainBase, always, send, iget, mtake, mget, mswap, mail_recv, port_recv}
+use Rattle.cml_value.specs.Value.{PlainValue, PlainFunction, unit, PlainBase, always, iget, mtake, mget, mswap, mail_recv, port_recv}
 use Rattle.cml_value.specs.Group.{PlainGroup, never, PlainLeaf, leaves, scopes, nacks_of, lost}
+use Rattle.cml_channel.specs.Handed.{handed}
 use Rattle.cml_scan.specs.World.{PlainThread, running, pending_on, PlainNack, fired, held, PlainWorld}
 use Rattle.cml_scan.specs.Scan.{scan, has_row}
 use Rattle.cml_scan.specs.declared.meet.Meet.{Meet}
@@ -93,11 +94,6 @@ abbrev pub is_reading : PlainWorld → Meet → Bool
 is_reading w (Single t n) = is_read (base_awaited w t.0 n)
 is_reading w (Pair h i o j) = false
 
--- the value that a send hands over
-abbrev pub sent : PlainBase → PlainValue
-sent (send c v) = v
-sent _ = unit
-
 -- a party goes on with this value, from this leaf of its group
 abbrev pub resume : PlainWorld → ℕ → ℕ → PlainValue → PlainResume
 resume w t n v = record {
@@ -107,11 +103,13 @@ resume w t n v = record {
   fired = lost (group_awaited w t) n;
 }
 
--- What the parties of a row get: the sender unit, the receiver the sent value (Reppy's sendEvt and recvEvt), and a single the value
--- of its base event.
+-- What the parties of a row get: each of a pair what the other hands over, and a single the value of its base event.
 abbrev pub hands : PlainWorld → Meet → Committed
 hands w (Single t n) = record { head = resume w t.0 n (given w (base_awaited w t.0 n)); partner = None }
-hands w (Pair h i o j) = record { head = resume w h.0 i unit; partner = Some (resume w o.0 j (sent (base_awaited w h.0 i))) }
+hands w (Pair h i o j) = record {
+  head = resume w h.0 i (handed (base_awaited w o.0 j));
+  partner = Some (resume w o.0 j (handed (base_awaited w h.0 i)));
+}
 
 -- The nacks after the leaf of this number was chosen from the group: of its scopes' nacks those that the leaf fires have fired, and the
 -- others are held (Reppy's withNack).

@@ -42,9 +42,10 @@ is_so true b = b
 is_so false b = not b
 
 -- no more threads, objects and nacks exist than are allowed
-pub record AreFew (threads channels ivars mvars mailboxes mchans ports nacks : ℕ) : Type 0 where
+pub record AreFew (threads channels swaps ivars mvars mailboxes mchans ports nacks : ℕ) : Type 0 where
   pub few_threads : threads ≤ max_threads
   pub few_channels : channels ≤ max_objects
+  pub few_swaps : swaps ≤ max_objects
   pub few_ivars : ivars ≤ max_objects
   pub few_mvars : mvars ≤ max_objects
   pub few_mailboxes : mailboxes ≤ max_objects

@@ -4,6 +4,7 @@ pub mod Resumes
 pub mod Outcomes
 pub mod Spawn
 pub mod MakeChan
+pub mod MakeSwap
 pub mod MakeObjects
 pub mod MakePort
 pub mod Put
@@ -12,6 +13,7 @@ pub mod Multicast
 pub mod Nack
 pub mod Sync
 pub mod Commit
+pub mod Swaps
 pub mod End
 pub mod Clock
 pub mod Step

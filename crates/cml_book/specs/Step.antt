@@ -11,6 +11,7 @@ use Rattle.cml_book.specs.declared.command.Reply.TheVariants as reply
 use Rattle.cml_book.specs.Outcomes.{Outcome}
 use Rattle.cml_book.specs.Spawn.{spawn}
 use Rattle.cml_book.specs.MakeChan.{make_chan}
+use Rattle.cml_book.specs.MakeSwap.{make_swap}
 use Rattle.cml_book.specs.MakeObjects.{make_ivar, make_mvar, make_mailbox, make_mchan}
 use Rattle.cml_book.specs.MakePort.{make_port, copy_port}
 use Rattle.cml_book.specs.Put.{iput, mput}
@@ -31,6 +32,7 @@ answered reply_for w (Err why) = (w, reply.Refused why)
 abbrev pub step : PlainWorld → Command → PlainWorld × Reply
 step w command.Spawn = answered reply.Thread w (spawn w)
 step w command.MakeChan = answered reply.Chan w (make_chan w)
+step w command.MakeSwap = answered reply.Swap w (make_swap w)
 step w command.MakeIVar = answered reply.IVar w (make_ivar w)
 step w (command.MakeMVar v) = answered reply.MVar w (make_mvar w v)
 step w command.MakeMailbox = answered reply.Mailbox w (make_mailbox w)
@@ -67,7 +69,7 @@ pub record HasStopped (commands : List Command) (replies : List Reply) (left : L
 
 -- the world in which nothing is, at time 0
 abbrev pub empty_world : PlainWorld
-empty_world = record { threads = []; channels = 0; ivars = []; mvars = []; mailboxes = []; mchans = []; ports = []; nacks = []; tick = 0 }
+empty_world = record { threads = []; channels = 0; swaps = 0; ivars = []; mvars = []; mailboxes = []; mchans = []; ports = []; nacks = []; tick = 0 }
 
 -- a refusal is a reply; for want of memory the command comes back
 abbrev pub refused_reply : Fault → Command → Result Reply (Returned Command)

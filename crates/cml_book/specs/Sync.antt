@@ -1,7 +1,7 @@
 -- The command by which a thread waits on a group.
 use Rattle.std.specs.Prelude.{ℕ, ◌==◌, Bool, true, false, not, ◌&&◌, nat_lt, List, [], ◌∷◌, length, Option, Some, None, Ok, slice_get, slice_set, count_by}
 use Rattle.std.specs.List.{list_all, list_any}
-use Rattle.cml_value.specs.Value.{PlainBase, always, send, recv, iget, mtake, mget, mswap, mail_recv, port_recv, join, at_tick, after_ticks, nack}
+use Rattle.cml_value.specs.Value.{PlainBase, always, send, recv, swap, iget, mtake, mget, mswap, mail_recv, port_recv, join, at_tick, after_ticks, nack}
 use Rattle.cml_value.specs.Group.{PlainGroup, bases, leaf_count, scopes, nacks_of, group_fits}
 use Rattle.cml_group.specs.LaidOut.{max_leaves}
 use Rattle.cml_scan.specs.World.{pending_on, PlainNack, live, PlainWorld}
@@ -21,6 +21,7 @@ abbrev pub base_exists : PlainWorld → PlainBase → Bool
 base_exists w (always v) = true
 base_exists w (send c v) = nat_lt c w.channels
 base_exists w (recv c) = nat_lt c w.channels
+base_exists w (swap s v) = nat_lt s w.swaps
 base_exists w (iget i) = nat_lt i (length w.ivars)
 base_exists w (mtake m) = nat_lt m (length w.mvars)
 base_exists w (mget m) = nat_lt m (length w.mvars)

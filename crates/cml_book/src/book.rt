@@ -7,11 +7,13 @@ ghost use Rattle.cml_book.specs.Step.{empty_world};
 ghost use Rattle.cml_book.specs.Outcomes.{Does};
 ghost use Rattle.cml_book.specs.Spawn.{spawn as spawned};
 ghost use Rattle.cml_book.specs.MakeChan.{make_chan as made};
+ghost use Rattle.cml_book.specs.MakeSwap.{make_swap as swap_made};
 ghost use Rattle.cml_book.specs.Nack as nack_spec;
 ghost use Rattle.cml_book.specs.Sync as sync_spec;
 ghost use Rattle.cml_book.specs.End as end_spec;
 ghost use Rattle.cml_book.specs.Commit as commit_spec;
 ghost use Rattle.cml_book.specs.Commit.{is_reading};
+ghost use Rattle.cml_book.specs.Swaps as swaps_spec;
 ghost use Rattle.cml_book.specs.Clock as clock_spec;
 ghost use Rattle.cml_book.specs.Clock.{IsAlarm};
 ghost use Rattle.cml_book.specs.Walks.{is_running};
@@ -20,12 +22,12 @@ ghost use Rattle.cml_book.specs.Entering.{max_tick};
 use crate::command::{Committed, Resume};
 use crate::lights::Arrival;
 use crate::nacks::{make_room, push_lights};
-use crate::party::sent;
 use crate::refusal::{Fault, Refusal};
 use crate::state::State;
 use crate::walk::MAX_TICK;
+use cml_channel::hands;
 use cml_scan::{Light, Meet, Table};
-use cml_value::{ChanId, Group, NackId, Tid, Value, ValueKind};
+use cml_value::{ChanId, Group, NackId, SwapId, Tid};
 use std::alloc::{AllocError, Global};
 use std::marker::Model;
 
@@ -100,6 +102,17 @@ impl<T: Table> Book<T> {
         ensures sure { result ≢ Err Fault.Memory }
     {
         self.state.make_chan()
+    }
+
+    /// Makes a swap channel.
+    ///
+    /// # Errors
+    /// Refused where there are 65,536 of them.
+    pub fn make_swap(&mut self) -> Result<SwapId, Fault>
+        ensures step { Does result (swap_made self.old) self.old self.new }
+        ensures sure { result ≢ Err Fault.Memory }
+    {
+        self.state.make_swap()
     }
 
     /// Makes a fresh nack for the thread.
@@ -207,6 +220,26 @@ impl<T: Table> Book<T> {
                 other,
                 other_leaf,
             } => self.commit_pair(alloc, head, head_leaf, other, other_leaf),
+        }
+    }
+
+    /// Whether the row is in the table, and both its leaves are swaps. It takes no memory.
+    pub fn swaps(&self, row: &Meet) -> bool
+        ensures { result ≡ swaps_spec.swaps self.now row.now }
+    {
+        if !self.table.has(row) {
+            return false;
+        }
+        match row {
+            Meet::Single { .. } => false,
+            Meet::Pair {
+                head,
+                head_leaf,
+                other,
+                other_leaf,
+            } => {
+                self.state.swaps_at(*head, *head_leaf) && self.state.swaps_at(*other, *other_leaf)
+            }
         }
     }
 
@@ -320,18 +353,18 @@ impl<T: Table> Book<T> {
         ensures step { Does result (commit_spec.commit self.old (Meet.Pair head head_leaf other other_leaf)) self.old self.new }
         ensures sure { IsTrue T.SURE → result ≢ Err Fault.Memory }
     {
-        let Some(sender) = self.state.waiting(head) else {
+        let Some(first) = self.state.waiting(head) else {
             unreachable!();
         };
-        let Some(receiver) = self.state.waiting(other) else {
+        let Some(second) = self.state.waiting(other) else {
             unreachable!();
         };
-        push_lights(&mut self.lit, sender, head_leaf as usize);
-        push_lights(&mut self.lit, receiver, other_leaf as usize);
+        push_lights(&mut self.lit, first, head_leaf as usize);
+        push_lights(&mut self.lit, second, other_leaf as usize);
         self.state
-            .push_left_ticks(&mut self.unlit, sender, Some(receiver));
+            .push_left_ticks(&mut self.unlit, first, Some(second));
         self.state
-            .push_left_ticks(&mut self.unlit, receiver, Some(sender));
+            .push_left_ticks(&mut self.unlit, second, Some(first));
         let gone = [head, other];
         let changed = self
             .table
@@ -339,20 +372,21 @@ impl<T: Table> Book<T> {
         self.lit.clear();
         self.unlit.clear();
         changed?;
-        let sender = self.state.go_on(head, head_leaf);
-        let receiver = self.state.go_on(other, other_leaf);
+        let first = self.state.go_on(head, head_leaf);
+        let second = self.state.go_on(other, other_leaf);
+        let (to_head, to_other) = hands(first.base, second.base);
         Ok(Committed {
             head: Resume {
                 tid: head,
-                value: Value::new(ValueKind::Unit),
-                wraps: sender.wraps,
-                fired: sender.lost,
+                value: to_head,
+                wraps: first.wraps,
+                fired: first.lost,
             },
             partner: Some(Resume {
                 tid: other,
-                value: sent(sender.base),
-                wraps: receiver.wraps,
-                fired: receiver.lost,
+                value: to_other,
+                wraps: second.wraps,
+                fired: second.lost,
             }),
         })
     }

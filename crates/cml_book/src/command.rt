@@ -3,7 +3,7 @@
 use crate::refusal::Refusal;
 use cml_scan::Meet;
 use cml_value::{
-    ChanId, FnRef, Group, IVarId, MVarId, MboxId, McastId, NackId, PortId, Tid, Value,
+    ChanId, FnRef, Group, IVarId, MVarId, MboxId, McastId, NackId, PortId, SwapId, Tid, Value,
 };
 use std::marker::Model;
 
@@ -32,12 +32,12 @@ impl Model for Resume {
     ghost view = { λ r. record { thread = r.tid.0; value = r.value; wraps = r.wraps.items; fired = map (λ k. k.0) r.fired.items } };
 }
 
-/// What the parties of a committed row get, the head first: of a pair, the sender.
+/// What the parties of a committed row get, the head first.
 #[derive(Drop)]
 pub struct Committed {
-    /// The party that begins the row: of a pair, the sender.
+    /// The party that begins the row: of a pair the sender, or of two swaps the lower thread.
     pub head: Resume,
-    /// The receiver of a pair.
+    /// The other party of a pair.
     pub partner: Option<Resume>,
 }
 
@@ -48,6 +48,8 @@ pub enum Command {
     Spawn,
     /// Makes a channel.
     MakeChan,
+    /// Makes a swap channel.
+    MakeSwap,
     /// Makes an empty I-variable.
     MakeIVar,
     /// Makes an M-variable that holds this value, or an empty one.
@@ -87,6 +89,8 @@ pub enum Reply {
     Thread(Tid),
     /// A channel was made.
     Chan(ChanId),
+    /// A swap channel was made.
+    Swap(SwapId),
     /// An I-variable was made.
     IVar(IVarId),
     /// An M-variable was made.

@@ -10,10 +10,11 @@ ghost use Rattle.cml_scan.specs.World.{running, pending_on, live};
 ghost use Rattle.cml_book.specs.Outcomes.{with_thread};
 ghost use Rattle.cml_book.specs.Sync.{with_each};
 ghost use Rattle.cml_book.specs.Commit as spec;
-ghost use Rattle.cml_book.specs.Commit.{awaited, group_awaited, released, copied, is_read};
+ghost use Rattle.cml_book.specs.Commit.{awaited, base_awaited, group_awaited, released, copied, is_read};
 ghost use Rattle.cml_book.specs.Keeping.{AreFresh, Counts};
 ghost use Rattle.cml_book.specs.Leaving.{can_give, put_out};
 ghost use Rattle.cml_book.specs.Parties.{WaitsOn};
+ghost use Rattle.cml_book.specs.Swaps.{is_swap};
 ghost use Rattle.cml_book.specs.Threads.{flat_of};
 
 use crate::nacks::{enter, settle};
@@ -71,6 +72,17 @@ impl State {
             Some(found) => found.flat(),
             None => None,
         }
+    }
+
+    /// Whether the thread waits, and swaps at this leaf of its group.
+    pub fn swaps_at(&self, thread: Tid, leaf: u32) -> bool
+        ensures { result ≡ is_swap (base_awaited self.now thread.0 leaf) }
+    {
+        let Some(flat) = self.waiting(thread) else {
+            return false;
+        };
+        let place = leaf as usize;
+        place < flat.len() && matches!(flat.leaf(place).kind(), BaseKind::Swap(_, _))
     }
 
     /// The thread goes on from this leaf of its group, whose nacks are settled.
@@ -206,15 +218,5 @@ fn enter_all(cells: &mut Register<NackCell>, threads: &Vec<Thread>, thread: Tid)
     };
     if let Some(flat) = found.flat() {
         enter(cells, flat.scopes());
-    }
-}
-
-/// The value that a send hands over.
-pub fn sent(base: Base) -> Value
-    ensures { result ≡ spec.sent base }
-{
-    match base.into_kind() {
-        BaseKind::Send(_, value) => value,
-        _ => Value::new(ValueKind::Unit),
     }
 }

@@ -27,6 +27,10 @@ impl<T: Table> Book<T> {
                 Ok(channel) => Ok(Reply::Chan(channel)),
                 Err(fault) => refused(fault, Command::MakeChan),
             },
+            Command::MakeSwap => match self.make_swap() {
+                Ok(channel) => Ok(Reply::Swap(channel)),
+                Err(fault) => refused(fault, Command::MakeSwap),
+            },
             Command::Nack(owner) => match self.nack(owner) {
                 Ok(nack) => Ok(Reply::Nack(nack)),
                 Err(fault) => refused(fault, Command::Nack(owner)),

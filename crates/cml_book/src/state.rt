@@ -8,6 +8,7 @@ ghost use Rattle.cml_book.specs.Outcomes as spec;
 ghost use Rattle.cml_book.specs.Outcomes.{Does, with_thread};
 ghost use Rattle.cml_book.specs.Spawn.{spawn as spawned};
 ghost use Rattle.cml_book.specs.MakeChan.{make_chan as made};
+ghost use Rattle.cml_book.specs.MakeSwap.{make_swap as swap_made};
 ghost use Rattle.cml_book.specs.Nack.{nack as nack_made};
 ghost use Rattle.cml_book.specs.Clock.{IsAlarm};
 ghost use Rattle.cml_book.specs.Walks.{is_running};
@@ -22,7 +23,7 @@ use cml_queues::{Mailbox, Multicast, Port};
 use cml_scan::{Light, Lights};
 use cml_signal::{Clock, NackCell};
 use cml_syncvar::{IVar, MVar};
-use cml_value::{ChanId, McastId, NackId, Tid};
+use cml_value::{ChanId, McastId, NackId, SwapId, Tid};
 use std::alloc::{AllocError, Global};
 use std::marker::Model;
 
@@ -31,6 +32,7 @@ use std::marker::Model;
 pub struct State {
     pub(crate) threads: Vec<Thread>,
     pub(crate) channels: u32,
+    pub(crate) swaps: u32,
     pub(crate) ivars: Register<IVar>,
     pub(crate) mvars: Register<MVar>,
     pub(crate) mailboxes: Register<Mailbox>,
@@ -61,6 +63,7 @@ impl Model for State {
     ghost view = { λ s. record {
       threads = s.threads.items;
       channels = s.channels;
+      swaps = s.swaps;
       ivars = s.ivars.objects;
       mvars = s.mvars.objects;
       mailboxes = queues_of s.mailboxes.objects;
@@ -71,7 +74,7 @@ impl Model for State {
     } };
 
     ghost invariant = { λ s.
-        AreFew (length s.threads.items) s.channels (length s.ivars.objects) (length s.mvars.objects)
+        AreFew (length s.threads.items) s.channels s.swaps (length s.ivars.objects) (length s.mvars.objects)
         (length s.mailboxes.objects) (length s.mchans.items) (length s.ports.objects) (length s.nacks.objects)
         × (s.marks ≡ length s.nacks.objects)
         × ArePorts s.mchans.items s.homes.items (length s.ports.objects)
@@ -90,6 +93,7 @@ impl State {
         State {
             threads: Vec::new(alloc),
             channels: 0,
+            swaps: 0,
             ivars: Register::new(alloc),
             mvars: Register::new(alloc),
             mailboxes: Register::new(alloc),
@@ -182,6 +186,19 @@ impl State {
         }
         let channel = ChanId(self.channels);
         self.channels += 1;
+        Ok(channel)
+    }
+
+    /// Makes a swap channel.
+    pub fn make_swap(&mut self) -> Result<SwapId, Fault>
+        ensures step { Does result (swap_made self.old) self.old self.new }
+        ensures sure { result ≢ Err Fault.Memory }
+    {
+        if self.swaps as usize >= MAX_OBJECTS {
+            return Err(Fault::Refused(Refusal::Full));
+        }
+        let channel = SwapId(self.swaps);
+        self.swaps += 1;
         Ok(channel)
     }
 

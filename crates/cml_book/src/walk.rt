@@ -113,6 +113,7 @@ impl BaseTest for State {
             BaseKind::Always(_) | BaseKind::At(_) | BaseKind::After(_) => true,
             BaseKind::Send(c, _) => c.0 < self.channels,
             BaseKind::Recv(c) => c.0 < self.channels,
+            BaseKind::Swap(s, _) => s.0 < self.swaps,
             BaseKind::IGet(i) => (i.0 as usize) < self.ivars.len(),
             BaseKind::MTake(m) => (m.0 as usize) < self.mvars.len(),
             BaseKind::MGet(m) => (m.0 as usize) < self.mvars.len(),

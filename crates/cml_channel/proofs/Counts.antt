@@ -11,7 +11,8 @@ use Rattle.cml_scan.specs.Order.{before, before_numbers, Every, Ascends}
 use Rattle.cml_scan.proofs.Ordered.{Every-append, Every-filter, Every-passes}
 use Rattle.cml_channel.specs.declared.lane.Bound.{Bound}
 use Rattle.cml_channel.specs.declared.lane.Bound.TheVariants.{Below, UpTo}
-use Rattle.cml_channel.specs.Lanes.{under, is_own, is_others, others, run, with_run}
+use Rattle.cml_channel.specs.declared.lane.Whom.TheVariants.{Above}
+use Rattle.cml_channel.specs.Lanes.{under, is_own, is_others, others, is_of, those, run, with_run}
 
 -- how many offers stand below the bound
 abbrev pub count_under : Bound → List Place → ℕ
@@ -310,3 +311,43 @@ first_tells tid ps d some away = list_any_at (is_others tid) ps 0 d some (other 
 pub written : {X : Type 0} (n : ℕ) (xs ys : List X) → n ≡ length xs → take n (xs ++ ys) ≡ xs
 written n [] ys e = rw e refl
 written n (x ∷ xs) ys e = rw e (ap (λ zs. x ∷ zs) (written (length xs) xs ys refl))
+
+-- the offers of the threads above one
+
+is_above : (a t : ℕ) → nat_lt t a ≡ not (nat_le a t)
+is_above a t = grind (arith, nat_tests)
+
+-- they are those that do not stand below it or at it
+above_are : (tid : Tid) (ps : List Place) → those (Above tid) ps ≡ filter (λ q. not (under (UpTo tid) q)) ps
+above_are tid ps = ap (λ (f : Place → Bool). filter f ps) (λ i q. is_above q.tid.0 tid.0 i)
+
+pub record AreAbove (tid : Tid) (ps : List Place) : Type 0 where
+  pub high : count_under (UpTo tid) ps ≤ length ps
+  pub many : length (those (Above tid) ps) + count_under (UpTo tid) ps ≡ length ps
+
+pub above_many : (tid : Tid) (ps : List Place) → AreAbove tid ps
+above_many tid ps =
+    let both : count_under (UpTo tid) ps + length (filter (λ q. not (under (UpTo tid) q)) ps) ≡ length ps = length-filter_both (under (UpTo tid)) (λ q. not (under (UpTo tid) q)) (λ _. refl) ps in
+    let same : length (those (Above tid) ps) ≡ length (filter (λ q. not (under (UpTo tid) q)) ps) = ap length (above_are tid ps) in
+    record { high = omega (arith, both); many = omega (arith, both, same) }
+
+pub above_at : (tid : Tid) (ps : List Place) (j : ℕ) (d : Place) → Ascends before ps → get_or (those (Above tid) ps) j d ≡ get_or ps (count_under (UpTo tid) ps + j) d
+above_at tid ps j d up =
+    ap (λ qs. get_or qs j d) (above_are tid ps)
+    ∙ ap (λ qs. get_or qs j d) (sym (split (UpTo tid) ps up).back)
+    ∙ get_or-drop (count_under (UpTo tid) ps) ps j d
+
+-- whether there are any, the last offer tells
+pub last_above : (tid : Tid) (ps : List Place) (e : Place) → Ascends before ps → 0 < length ps → nat_lt tid.0 (get_or ps (length ps - 1) e).tid.0 ≡ list_any (is_of (Above tid)) ps
+last_above tid ps e up some = at (nat_lt tid.0 (get_or ps (length ps - 1) e).tid.0) refl
+  where
+    low : (a t : ℕ) → nat_lt t a ≡ false → nat_le a t ≡ true
+    low a t e = grind (arith, nat_tests)
+
+    at : (b : Bool) → nat_lt tid.0 (get_or ps (length ps - 1) e).tid.0 ≡ b → b ≡ list_any (is_of (Above tid)) ps
+    at true yes_ = sym (list_any_at (is_of (Above tid)) ps (length ps - 1) e (omega arith) yes_)
+    at false no_ =
+        let high : length ps - 1 < count_under (UpTo tid) ps = (counted (UpTo tid) ps (length ps - 1) e up (omega arith)).below (low (get_or ps (length ps - 1) e).tid.0 tid.0 no_) in
+        let m = above_many tid ps in
+        let none : length (those (Above tid) ps) ≡ 0 = omega (arith, m.many, high) in
+        sym (any_none (is_of (Above tid)) ps (nil_from_length (those (Above tid) ps) none))

@@ -19,10 +19,13 @@ pub enum ChannelSide {
 pub struct Channels;
 
 impl Paired for Channels {
+    ghost use Rattle.std.specs.Prelude.{false};
     ghost use Rattle.cml_channel.specs.Sides.{channel_of, is_sender, handed_by, meet, side_in};
-    ghost use Rattle.cml_channel.specs.SideLaws.{sides_meet};
+    ghost use Rattle.cml_channel.specs.SideLaws.{sides_meet, sides_lead};
 
     type Side = ChannelSide;
+
+    ghost ONE_LANE = { false };
 
     ghost key_of = { channel_of };
 
@@ -33,6 +36,8 @@ impl Paired for Channels {
     ghost do_meet = { meet };
 
     ghost side_of = { side_in };
+
+    const ONE_LANE: bool = false;
 
     fn key(side: &ChannelSide) -> u32 {
         match side {
@@ -61,6 +66,14 @@ impl Paired for Channels {
         (handed(second), to_second)
     }
 
+    fn side(base: Base) -> Option<ChannelSide> {
+        match base.into_kind() {
+            BaseKind::Send(c, v) => Some(ChannelSide::Send(c, v)),
+            BaseKind::Recv(c) => Some(ChannelSide::Recv(c)),
+            _ => None,
+        }
+    }
+
     fn place(base: &Base) -> Option<(u32, bool)> {
         match base.kind() {
             BaseKind::Send(c, _) => Some((c.0, true)),
@@ -70,6 +83,8 @@ impl Paired for Channels {
     }
 
     ghost meeting = { sides_meet };
+
+    ghost leading = { sides_lead };
 }
 
 // What the side hands to the one that it meets.

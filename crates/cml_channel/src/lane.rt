@@ -13,6 +13,15 @@ use cml_value::Tid;
 use std::alloc::{AllocError, Global};
 use std::marker::Model;
 
+/// Whose offers in a lane are meant.
+#[derive(Clone, Copy)]
+pub enum Whom {
+    /// Those of other threads than this one.
+    Others(Tid),
+    /// Those of the threads above this one.
+    Above(Tid),
+}
+
 // Where a search in a lane ends.
 #[derive(Clone, Copy)]
 enum Bound {
@@ -90,36 +99,57 @@ impl Lane {
         low
     }
 
-    /// How many offers are of other threads than this one.
-    pub fn others_count(&self, tid: Tid, tally: &mut Tally) -> usize
-        ensures count { result ≡ length (spec.others tid self.now.places) }
+    /// How many offers are of threads below this one.
+    pub fn below_count(&self, tid: Tid, tally: &mut Tally) -> usize
+        ensures count { result ≡ length (filter (λ q. nat_lt q.tid.0 tid.0) self.now.places) }
+        ensures cost { (digits : ℕ) → length self.now.places < 2 ^ digits → tally.new ≤ tally.old + digits }
+    {
+        self.count_under(Bound::Below(tid), tally)
+    }
+
+    /// How many offers are of those that are meant.
+    pub fn others_count(&self, whom: Whom, tally: &mut Tally) -> usize
+        ensures count { result ≡ length (spec.those whom self.now.places) }
         ensures cost { (digits : ℕ) → length self.now.places < 2 ^ digits →
             tally.new ≤ tally.old + 2 * digits }
     {
         let _ = &self.places;
-        let low = self.count_under(Bound::Below(tid), tally);
-        let high = self.count_under(Bound::UpTo(tid), tally);
-        low + (self.len() - high)
+        match whom {
+            Whom::Others(tid) => {
+                let low = self.count_under(Bound::Below(tid), tally);
+                let high = self.count_under(Bound::UpTo(tid), tally);
+                low + (self.len() - high)
+            }
+            Whom::Above(tid) => self.len() - self.count_under(Bound::UpTo(tid), tally),
+        }
     }
 
-    /// The offer at this place among those of other threads than this one.
-    pub fn other(&self, tid: Tid, j: usize, tally: &mut Tally) -> Place
-        requires { j < length (spec.others tid self.now.places) }
-        ensures value { result ≡ slice_index_or (spec.others tid self.now.places) j result }
+    /// The offer at this place among those that are meant.
+    pub fn other(&self, whom: Whom, j: usize, tally: &mut Tally) -> Place
+        requires { j < length (spec.those whom self.now.places) }
+        ensures value { result ≡ slice_index_or (spec.those whom self.now.places) j result }
         ensures cost { (digits : ℕ) → length self.now.places < 2 ^ digits →
             tally.new ≤ tally.old + (2 * digits + 1) }
     {
         let _ = &self.places;
         let _len = self.len();
-        let low = self.count_under(Bound::Below(tid), tally);
-        let high = self.count_under(Bound::UpTo(tid), tally);
-        let k = if j < low { j } else { high + (j - low) };
-        self.look(k, tally)
+        match whom {
+            Whom::Others(tid) => {
+                let low = self.count_under(Bound::Below(tid), tally);
+                let high = self.count_under(Bound::UpTo(tid), tally);
+                let k = if j < low { j } else { high + (j - low) };
+                self.look(k, tally)
+            }
+            Whom::Above(tid) => {
+                let high = self.count_under(Bound::UpTo(tid), tally);
+                self.look(high + j, tally)
+            }
+        }
     }
 
-    /// Whether a thread other than this one has an offer.
-    pub fn has_other(&self, tid: Tid, tally: &mut Tally) -> bool
-        ensures value { result ≡ list_any (spec.is_others tid) self.now.places }
+    /// Whether there is an offer of those that are meant.
+    pub fn has_other(&self, whom: Whom, tally: &mut Tally) -> bool
+        ensures value { result ≡ list_any (spec.is_of whom) self.now.places }
         ensures cost { tally.new ≤ tally.old + 2 }
     {
         let _ = &self.places;
@@ -127,12 +157,17 @@ impl Lane {
         if len == 0 {
             return false;
         }
-        let first = self.look(0, tally);
-        if first.tid.0 != tid.0 {
-            return true;
-        }
         let last = self.look(len - 1, tally);
-        last.tid.0 != tid.0
+        match whom {
+            Whom::Others(tid) => {
+                let first = self.look(0, tally);
+                if first.tid.0 != tid.0 {
+                    return true;
+                }
+                last.tid.0 != tid.0
+            }
+            Whom::Above(tid) => tid.0 < last.tid.0,
+        }
     }
 
     /// Makes room for this many more offers.

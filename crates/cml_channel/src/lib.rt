@@ -1,10 +1,14 @@
-//! Channels, as objects over which two threads meet, and lanes of the offers that wait on one side.
+//! Channels and swap channels, as objects over which two threads meet, and lanes of the offers that wait on one side.
 #![tactic(auto)]
 
 mod channel;
 mod lane;
+mod pairing;
+mod swap;
 mod tally;
 
 pub use channel::{ChannelSide, Channels};
-pub use lane::Lane;
+pub use lane::{Lane, Whom};
+pub use pairing::{PairedId, Pairing, SidePlace, hands, meets, place};
+pub use swap::{SwapChannels, SwapSide};
 pub use tally::Tally;

@@ -37,7 +37,7 @@ mutual
 
   groups_back : (gs : PlainGroups) → groups_of (events_of gs) ≡ gs
   groups_back no_groups = refl
-  groups_back (groups_and g gs) = let a = group_back g in let b = groups_back gs in cc
+  groups_back (groups_and g gs) = ap (λ x. groups_and x (groups_of (events_of gs))) (group_back g) ∙ ap (groups_and g) (groups_back gs)
 
 abbrev listed : PlainEvents → List PlainEvent
 listed no_events = []

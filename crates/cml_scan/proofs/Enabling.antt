@@ -1,13 +1,15 @@
 -- The rows of the scan of a world are those that are enabled in it.
-use Rattle.std.proofs.Common.{◌≡◌, ◌≢◌, ℕ, zero, suc, ◌+◌, Bool, true, false, not, ◌&&◌, nat_eq, List, [], ◌∷◌, ◌++◌, Option, Some, None, refl, ap, sym, ◌∙◌, arith}
-use Rattle.std.specs.Prelude.{slice_get, ◌↔◌, Contains}
+use Rattle.std.proofs.Common.{◌≡◌, ◌≢◌, ℕ, zero, suc, ◌+◌, ◌<◌, Bool, true, false, not, ◌&&◌, nat_eq, nat_lt, List, [], ◌∷◌, ◌++◌, Option, Some, None, inl, inr, refl, ap, sym, ◌∙◌, arith}
+use Rattle.std.specs.Prelude.{slice_get, ◌↔◌, ◌⊎◌, Contains}
+use Rattle.std.proofs.Math.Logic.{⊎_elim}
 use Rattle.std.proofs.lemmas.Bool.Decides.{nat_tests}
 use Rattle.std.proofs.lemmas.List.Folds.{Any-from_list_any, list_any-from_Any}
-use Rattle.cml_value.specs.Value.{PlainValue, PlainBase, send, recv}
+use Rattle.cml_value.specs.Value.{PlainValue, PlainBase, send, recv, swap}
 use Rattle.cml_value.specs.Group.{bases}
+use Rattle.cml_value.specs.declared.number.Tid.{Tid}
 use Rattle.cml_scan.specs.World.{PlainThread, running, pending_on, ended, PlainWorld, pending_from, pending}
 use Rattle.cml_scan.specs.Light.{lit}
-use Rattle.cml_scan.specs.Scan.{PlainOffer, leaves_from, offers_of, meets, receives_on, scan, same_row, has_row}
+use Rattle.cml_scan.specs.Scan.{PlainOffer, leaves_from, offers_of, receives_on, swaps_on, do_meet, scan, same_row, has_row}
 use Rattle.cml_scan.specs.Order.{base_at, lit_at, meet_at, row_at}
 use Rattle.cml_scan.specs.Enabled.{leaf_of, IsEnabled}
 use Rattle.cml_scan.specs.declared.meet.Meet.{Meet}
@@ -16,6 +18,7 @@ use Rattle.cml_scan.specs.declared.meet.Place.{Place}
 use Rattle.cml_scan.proofs.Ordered.{over_all, pending_past, offers_ascend, pending_sorted}
 use Rattle.cml_scan.proofs.Found.{not_later}
 use Rattle.cml_scan.proofs.Members.{has_found}
+use Rattle.cml_scan.proofs.Meeting.{do_meet-send, do_meet-swap}
 
 -- the leaves of other threads, and a thread's own
 pub other_leaves : (p : Place) (u l : ℕ) (bs : List PlainBase) (rest : List PlainOffer) → nat_eq p.tid.0 u ≡ false → base_at p (leaves_from u l bs ++ rest) ≡ base_at p rest
@@ -62,21 +65,21 @@ lit_is : (f : PlainBase → Bool) (ob : Option PlainBase) → (lit_at f ob ≡ t
 lit_is f None = (λ e. cc, λ h. cc)
 lit_is f (Some b) = (λ e. (b, refl, e), λ h. let same : b ≡ h.0 = cc in rw same h.2)
 
-receives_is : (c : ℕ) (b : PlainBase) → receives_on c b ≡ true → b ≡ recv c
-receives_is c (recv d) e = let same : c ≡ d = eq c d e in ap recv (sym same)
-  where
-    eq : (c d : ℕ) → nat_eq c d ≡ true → c ≡ d
-    eq c d e = grind (arith, nat_tests)
-receives_is c _ e = cc
-
-meets_is : (b d : PlainBase) → meets b d ≡ true → (c : ℕ) × (v : PlainValue) × (b ≡ send c v) × (d ≡ recv c)
-meets_is (send c v) d e = (c, v, refl, receives_is c d e)
-meets_is _ d e = cc
-
 pub both_true : (a b : Bool) → a && b ≡ true → (a ≡ true) × (b ≡ true)
 both_true true true e = (refl, refl)
 both_true true false e = cc
 both_true false b e = cc
+
+same_number : (a b : ℕ) → nat_eq a b ≡ true → a ≡ b
+same_number a b e = grind (arith, nat_tests)
+
+receives_is : (c : ℕ) (b : PlainBase) → receives_on c b ≡ true → b ≡ recv c
+receives_is c (recv d) e = ap recv (sym (same_number c d e))
+receives_is c _ e = cc
+
+swaps_is : (s : ℕ) (b : PlainBase) → swaps_on s b ≡ true → (v : PlainValue) × (b ≡ swap s v)
+swaps_is s (swap r v) e = (v, ap (λ n. swap n v) (sym (same_number s r e)))
+swaps_is s _ e = cc
 
 differ : (a b : ℕ) → not (nat_eq a b) ≡ true → a ≢ b
 differ a b e = λ same. let h : nat_eq a b ≡ true = eq a b same in let k : not (nat_eq a b) ≡ false = ap not h in cc
@@ -90,16 +93,46 @@ unlike a b h = grind (arith, nat_tests)
 alike : (a : ℕ) → nat_eq a a ≡ true
 alike a = grind (arith, nat_tests)
 
-meet_is : (a b : ℕ) (oc od : Option PlainBase) → (meet_at a b oc od ≡ true) ↔ ((c : ℕ) × (v : PlainValue) × (oc ≡ Some (send c v)) × (od ≡ Some (recv c)) × (a ≢ b))
-meet_is a b None od = (λ e. cc, λ h. cc)
-meet_is a b (Some x) None = (λ e. cc, λ h. cc)
-meet_is a b (Some x) (Some y) = (found, made)
-  where
-    found : meet_at a b (Some x) (Some y) ≡ true → (c : ℕ) × (v : PlainValue) × (Some x ≡ Some (send c v)) × (Some y ≡ Some (recv c)) × (a ≢ b)
-    found e = let two = both_true (not (nat_eq a b)) (meets x y) e in let m = meets_is x y two.1 in (m.0, m.1, ap Some m.2, ap Some m.3, differ a b two.0)
+is_less : (a b : ℕ) → nat_lt a b ≡ true → a < b
+is_less a b e = grind (arith, nat_tests)
 
-    made : ((c : ℕ) × (v : PlainValue) × (Some x ≡ Some (send c v)) × (Some y ≡ Some (recv c)) × (a ≢ b)) → meet_at a b (Some x) (Some y) ≡ true
-    made h = let e : x ≡ send h.0 h.1 = let t = h.2 in cc in let f : y ≡ recv h.0 = let t = h.3 in cc in rw (e, f, unlike a b h.4, alike h.0) refl
+less_is : (a b : ℕ) → a < b → nat_lt a b ≡ true
+less_is a b h = grind (arith, nat_tests)
+
+-- what stands at two places is a send and a receive on one channel, of two threads
+abbrev AreSent : ℕ → ℕ → Option PlainBase → Option PlainBase → Type 0
+AreSent a b oc od = (c : ℕ) × (v : PlainValue) × (oc ≡ Some (send c v)) × (od ≡ Some (recv c)) × (a ≢ b)
+
+-- what stands there are swaps on one swap channel, the first in the lower thread
+abbrev AreSwapped : ℕ → ℕ → Option PlainBase → Option PlainBase → Type 0
+AreSwapped a b oc od = (s : ℕ) × (v u : PlainValue) × (oc ≡ Some (swap s v)) × (od ≡ Some (swap s u)) × (a < b)
+
+meet_found : (a b : ℕ) (x y : PlainBase) → do_meet a x b y ≡ true → AreSent a b (Some x) (Some y) ⊎ AreSwapped a b (Some x) (Some y)
+meet_found a b (send c v) y e =
+    let two = both_true (not (nat_eq a b)) (receives_on c y) (sym (do_meet-send a b c v y) ∙ e) in
+    inl (c, v, refl, ap Some (receives_is c y two.1), differ a b two.0)
+meet_found a b (swap s v) y e =
+    let two = both_true (nat_lt a b) (swaps_on s y) (sym (do_meet-swap a b s v y) ∙ e) in
+    let other = swaps_is s y two.1 in
+    inr (s, v, other.0, refl, ap Some other.1, is_less a b two.0)
+meet_found a b _ y e = let two = both_true (not (nat_eq a b)) false e in cc
+
+sent_meet : (a b : ℕ) (x y : PlainBase) → AreSent a b (Some x) (Some y) → do_meet a x b y ≡ true
+sent_meet a b x y h =
+    let e : x ≡ send h.0 h.1 = let t = h.2 in cc in
+    let f : y ≡ recv h.0 = let t = h.3 in cc in
+    rw (e, f) (do_meet-send a b h.0 h.1 (recv h.0) ∙ rw (unlike a b h.4, alike h.0) refl)
+
+swapped_meet : (a b : ℕ) (x y : PlainBase) → AreSwapped a b (Some x) (Some y) → do_meet a x b y ≡ true
+swapped_meet a b x y h =
+    let e : x ≡ swap h.0 h.1 = let t = h.3 in cc in
+    let f : y ≡ swap h.0 h.2 = let t = h.4 in cc in
+    rw (e, f) (do_meet-swap a b h.0 h.1 (swap h.0 h.2) ∙ rw (less_is a b h.5, alike h.0) refl)
+
+meet_is : (a b : ℕ) (oc od : Option PlainBase) → (meet_at a b oc od ≡ true) ↔ (AreSent a b oc od ⊎ AreSwapped a b oc od)
+meet_is a b None od = (λ e. cc, λ h. ⊎_elim (λ s. cc) (λ s. cc) h)
+meet_is a b (Some x) None = (λ e. cc, λ h. ⊎_elim (λ s. cc) (λ s. cc) h)
+meet_is a b (Some x) (Some y) = (meet_found a b x y, λ h. ⊎_elim (sent_meet a b x y) (swapped_meet a b x y) h)
 
 row_is : (w : PlainWorld) (row : Meet) → (row_at (lit w) (λ p. leaf_of (slice_get w.threads p.tid.0) p.leaf) row ≡ true) ↔ IsEnabled w row
 row_is w (Single t l) = lit_is (lit w) (leaf_of (slice_get w.threads t.0) l)
@@ -155,3 +188,20 @@ has_row-Contains rows row h = list_any-from_Any (same_row row) rows (h.0, row, h
 pub scan-members : (w : PlainWorld) (row : Meet) → Contains (scan w) row ↔ IsEnabled w row
 scan-members w row =
     (λ h. (row_is w row).0 (sym (has_row-scan w row) ∙ has_row-Contains (scan w) row h), λ e. Contains-has_row (scan w) row (has_row-scan w row ∙ (row_is w row).1 e))
+
+-- two leaves stand in one row at most
+pub scan-one_way : (w : PlainWorld) (h o : Tid) (k m : ℕ) → Contains (scan w) (Pair h k o m) → Contains (scan w) (Pair o m h k) → ⊥
+scan-one_way w h o k m one two =
+    one_way h.0 o.0 (leaf_of (slice_get w.threads h.0) k) (leaf_of (slice_get w.threads o.0) m) ((scan-members w (Pair h k o m)).0 one) ((scan-members w (Pair o m h k)).0 two)
+  where
+    one_way : (a b : ℕ) (oc od : Option PlainBase) → AreSent a b oc od ⊎ AreSwapped a b oc od → AreSent b a od oc ⊎ AreSwapped b a od oc → ⊥
+    one_way a b oc od h k = ⊎_elim (λ s. ⊎_elim (λ r. sent_sent s r) (λ r. sent_swapped s r) k) (λ s. ⊎_elim (λ r. sent_swapped r s) (λ r. swapped s r) k) h
+      where
+        sent_sent : {a b : ℕ} {oc od : Option PlainBase} → AreSent a b oc od → AreSent b a od oc → ⊥
+        sent_sent s r = let e = s.2 in let f = r.3 in cc
+
+        sent_swapped : {a b : ℕ} {oc od : Option PlainBase} → AreSent a b oc od → AreSwapped b a od oc → ⊥
+        sent_swapped s r = let e = s.2 in let f = r.4 in cc
+
+        swapped : {a b : ℕ} {oc od : Option PlainBase} → AreSwapped a b oc od → AreSwapped b a od oc → ⊥
+        swapped s r = let e = s.5 in let f = r.5 in omega arith

@@ -5,6 +5,7 @@ pub mod Leaving
 pub mod Ordered
 pub mod Found
 pub mod Members
+pub mod Meeting
 pub mod Enabling
 pub mod Heads
 pub mod Ordering

@@ -70,7 +70,7 @@ can_take thread c o = not (thread == o.thread) && receives_on c o.base
 abbrev pub can_swap : ℕ → ℕ → PlainOffer → Bool
 can_swap thread s o = nat_lt thread o.thread && swaps_on s o.base
 
--- whether one of these leaves can meet this one
+-- whether one of these leaves can meet this one, which is the head
 abbrev pub has_partner : List PlainOffer → PlainOffer → Bool
 has_partner offers head = list_any (can_meet head) offers
 

@@ -59,6 +59,7 @@ meets (nack k) b = false
 abbrev pub do_meet : ℕ → PlainBase → ℕ → PlainBase → Bool
 do_meet head b other c = not (head == other) && (meets b c && (not (meets c b) || nat_lt head other))
 
+-- whether two leaves communicate, the first as the head
 abbrev pub can_meet : PlainOffer → PlainOffer → Bool
 can_meet head other = do_meet head.thread head.base other.thread other.base
 

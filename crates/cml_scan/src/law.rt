@@ -1,17 +1,18 @@
 //! Laws of the definitions, each a function that does nothing and whose contract is the law.
 
-ghost use Rattle.std.specs.Prelude.{◌≡◌, ◌≢◌, ◌↔◌, ◌<◌, ℕ, Bool, not, map, filter, ◌++◌, List};
+ghost use Rattle.std.specs.Prelude.{◌≡◌, ◌≢◌, ◌↔◌, ◌<◌, ℕ, Bool, true, not, nat_lt, map, filter, ◌++◌, List};
 ghost use Rattle.std.specs.Prelude.{[], length, IsTrue, Any, AllPairs, Contains, Some, slice_get};
-ghost use Rattle.cml_value.specs.Value.{PlainValue, PlainBase, send};
+ghost use Rattle.cml_value.specs.Value.{PlainValue, PlainBase, send, swap};
 ghost use Rattle.cml_value.specs.declared.number.Tid.{Tid};
 ghost use Rattle.cml_scan.specs.World.{PlainWorld, pending};
 ghost use Rattle.cml_scan.specs.Light.{lit, light_of, lit_by};
-ghost use Rattle.cml_scan.specs.Scan.{PlainOffer, offers_of, pair, scan, scan_of, place_of, heads_of, heads, partners_of, partners, names};
+ghost use Rattle.cml_scan.specs.Scan.{PlainOffer, offers_of, meets, can_meet, pair, scan, scan_of, place_of, heads_of, heads, partners_of, partners, names};
 ghost use Rattle.cml_scan.specs.Table.{without, AgreeFor, TellsLights};
-ghost use Rattle.cml_scan.specs.Order.{place, row_before, first_row, has_partner, can_take};
+ghost use Rattle.cml_scan.specs.Order.{place, row_before, first_row, has_partner, can_take, can_swap};
 ghost use Rattle.cml_scan.specs.Enabled.{IsEnabled};
 ghost use Rattle.cml_scan.specs.declared.object.Light.{Light};
 ghost use Rattle.cml_scan.specs.declared.meet.Meet.{Meet};
+ghost use Rattle.cml_scan.specs.declared.meet.Meet.TheVariants.{Pair};
 ghost use Rattle.cml_scan.specs.declared.meet.Place.{Place};
 
 /// A row is in the scan exactly where its leaves are enabled.
@@ -88,8 +89,32 @@ pub fn partners_of_a_send()
         ≡ map (pair head) (filter (can_take head.thread c) (offers_of (pending w))) }
 {}
 
-/// The heads are the lit leaves, and then the sends that have a partner.
-pub fn heads_are_lit_leaves_and_sends()
+/// The partners of a leaf that swaps are the swaps of its swap channel in the threads above its own, by thread and leaf.
+pub fn partners_of_a_swap()
+    ensures { (w : PlainWorld) (head : PlainOffer) (s : ℕ) (v : PlainValue) →
+        Contains (offers_of (pending w)) head → head.base ≡ swap s v →
+        partners w (place head)
+        ≡ map (pair head) (filter (can_swap head.thread s) (offers_of (pending w))) }
+{}
+
+/// Of two leaves of two threads that are the sides of one communication exactly one is the head, and
+/// where each could be, as of two swaps, it is the one in the lower thread.
+pub fn one_of_two_leaves_is_the_head()
+    ensures one { (a b : PlainOffer) →
+        meets a.base b.base ≡ true → a.thread ≢ b.thread → can_meet b a ≡ not (can_meet a b) }
+    ensures lower { (a b : PlainOffer) →
+        meets a.base b.base ≡ true → meets b.base a.base ≡ true →
+        can_meet a b ≡ nat_lt a.thread b.thread }
+{}
+
+/// No two leaves stand in two rows, once with the one and once with the other as the head.
+pub fn two_leaves_are_listed_once()
+    ensures { (w : PlainWorld) (a b : Tid) (i j : ℕ) →
+        Contains (scan w) (Pair a i b j) → Contains (scan w) (Pair b j a i) → ⊥ }
+{}
+
+/// The heads are the lit leaves, and then those that are the head of a pair.
+pub fn heads_are_lit_leaves_and_those_that_meet()
     ensures { (w : PlainWorld) → let leaves = offers_of (pending w) in
         heads w ≡ map place (filter (λ o. lit w o.base) leaves)
         ++ map place (filter (has_partner leaves) leaves) }

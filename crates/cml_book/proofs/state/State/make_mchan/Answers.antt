@@ -18,6 +18,7 @@ invariant_of-self-2 c =
       record {
         few_threads = few.few_threads;
         few_channels = few.few_channels;
+        few_swaps = few.few_swaps;
         few_ivars = few.few_ivars;
         few_mvars = few.few_mvars;
         few_mailboxes = few.few_mailboxes;
