@@ -6,7 +6,7 @@ use cml_text::read;
 use std::process::Abort;
 
 // Scripts that are programs, and the number of parameters of each function.
-const PROGRAMS: [(&str, &[u32]); 12] = [
+const PROGRAMS: [(&str, &[u32]); 13] = [
     ("(fn main ())", &[0]),
     (
         "(fn add (a b) (return (+ a b))) (fn give (c) (sync (send c 41))) (fn main () (let c (chan)) (spawn give c) (let x (sync (wrap (recv c) add 1))) (print x))",
@@ -40,13 +40,17 @@ const PROGRAMS: [(&str, &[u32]); 12] = [
         &[0, 0],
     ),
     (
-        "(fn swap (swapchan) (print swapchan)) (fn main ())",
+        "(fn other (s) (let y (sync (swap s 2))) (print y)) (fn main () (let s (swapchan)) (spawn other s) (let x (sync (swap s 1))) (print x))",
         &[1, 0],
+    ),
+    (
+        "(fn main () (swapchan) (sync (choose (swap 1 2) (swap unit never) (after 3))))",
+        &[0],
     ),
 ];
 
 // Scripts with the first fault of each, and where it stands.
-const FAULTS: [(&str, CheckKind, usize); 48] = [
+const FAULTS: [(&str, CheckKind, usize); 57] = [
     ("(fn main () (foo))", CheckKind::Form, 12),
     (
         "(fn f () (return 1)) (fn f () (return 2)) (fn main ())",
@@ -67,6 +71,19 @@ const FAULTS: [(&str, CheckKind, usize); 48] = [
     ("(fn f (a 5))", CheckKind::Form, 9),
     ("(fn f (a b a))", CheckKind::Form, 11),
     ("(fn f (let))", CheckKind::Form, 7),
+    (
+        "(fn swap (swapchan) (print swapchan)) (fn main () (call swap 1))",
+        CheckKind::Form,
+        4,
+    ),
+    ("(fn f (swapchan))", CheckKind::Form, 7),
+    ("(fn f (a swap))", CheckKind::Form, 9),
+    ("(fn main () (let swap 1))", CheckKind::Form, 17),
+    ("(fn main () (print swapchan))", CheckKind::Form, 19),
+    ("(fn main () (swapchan 1))", CheckKind::Form, 12),
+    ("(fn main () (sync (swap 1)))", CheckKind::Form, 18),
+    ("(fn main () (sync (swap 1 2 3)))", CheckKind::Form, 18),
+    ("(fn main () (print (swapchan)))", CheckKind::Form, 19),
     ("(fn f (a a)) (fn f ())", CheckKind::Form, 9),
     ("(fn f ()) (fn f (a a))", CheckKind::Form, 19),
     ("(fn main () (let x))", CheckKind::Form, 12),

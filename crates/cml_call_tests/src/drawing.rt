@@ -5,7 +5,7 @@ use cml_book::Command;
 use cml_scan::Meet;
 use cml_value::{
     Base, BaseKind, ChanId, FnRef, Group, GroupKind, IVarId, MVarId, MboxId, McastId, NackId,
-    PortId, Tid, Value, ValueKind,
+    PortId, SwapId, Tid, Value, ValueKind,
 };
 use rand_core::Rng;
 use rand_pcg::Pcg32;
@@ -46,9 +46,9 @@ fn soon(random: &mut Pcg32, now: u64) -> u64 {
     now.saturating_add(u64::from(object(random)))
 }
 
-// A base event. Those of channels come more often.
+// A base event. Those over which two threads meet come more often.
 fn base(random: &mut Pcg32, seen: &Seen) -> Base {
-    Base::new(match random.next_u32() % 16 {
+    Base::new(match random.next_u32() % 18 {
         0 => BaseKind::Always(number(random)),
         1 => BaseKind::IGet(IVarId(object(random))),
         2 => BaseKind::MTake(MVarId(object(random))),
@@ -63,7 +63,9 @@ fn base(random: &mut Pcg32, seen: &Seen) -> Base {
         11 | 12 => BaseKind::Send(ChanId(object(random)), number(random)),
         13 => BaseKind::Send(ChanId(0), number(random)),
         14 => BaseKind::Recv(ChanId(0)),
-        _ => BaseKind::Recv(ChanId(object(random))),
+        15 => BaseKind::Recv(ChanId(object(random))),
+        16 => BaseKind::Swap(SwapId(0), number(random)),
+        _ => BaseKind::Swap(SwapId(object(random)), number(random)),
     })
 }
 
@@ -107,16 +109,17 @@ fn object_command(random: &mut Pcg32) -> Command {
     }
 }
 
-/// A command that makes something, of eight.
+/// A command that makes something, of nine.
 pub fn making(kind: u32) -> Command {
-    match kind % 8 {
+    match kind % 9 {
         0 => Command::MakeChan,
-        1 => Command::MakeIVar,
-        2 => Command::MakeMVar(None),
-        3 => Command::MakeMVar(Some(Value::new(ValueKind::Unit))),
-        4 => Command::MakeMailbox,
-        5 => Command::MakeMChan,
-        6 => Command::MakePort(McastId(0)),
+        1 => Command::MakeSwap,
+        2 => Command::MakeIVar,
+        3 => Command::MakeMVar(None),
+        4 => Command::MakeMVar(Some(Value::new(ValueKind::Unit))),
+        5 => Command::MakeMailbox,
+        6 => Command::MakeMChan,
+        7 => Command::MakePort(McastId(0)),
         _ => Command::Spawn,
     }
 }

@@ -17,7 +17,7 @@ use cml_step::{Answer, Ask, Machine, slice};
 use cml_text::read;
 use cml_value::{
     Base, BaseKind, ChanId, FnRef, Group, GroupKind, IVarId, MVarId, MboxId, McastId, NackId,
-    PortId, Tid, Value, ValueKind,
+    PortId, SwapId, Tid, Value, ValueKind,
 };
 use std::process::Abort;
 
@@ -28,10 +28,14 @@ const ADDITION: &str =
 const CANCELLED: &str =
     "(fn watch (n) (sync n) (print \"cancelled\")) (fn branch (c n) (spawn watch n) (return (recv c))) (fn main () (let c (chan)) (let x (sync (choose (withnack branch c) (always 7)))) (print x))";
 
+// Two threads that exchange values.
+const SWAPPED: &str =
+    "(fn other (s) (let y (sync (swap s 2))) (print y)) (fn main () (let s (swapchan)) (spawn other s) (let x (sync (swap s 1))) (print x))";
+
 // A script, and for each slice of its thread 0 how many steps it takes and what it asks; behind `then` the same of the thread that it
 // spawns. That is thread 1, each new object is number 0, and the tick is 5. A synchronization is committed by the last leaf of its
 // group, which gets 41 where it receives something; one without leaves waits for ever. A thread is watched for six slices.
-const SCRIPTS: [(&str, &str); 71] = [
+const SCRIPTS: [(&str, &str); 77] = [
     (
         ADDITION,
         "1 chan, 1 spawn 1, 2 sync, 4 print 42, 1 end then 2 sync, 2 end",
@@ -39,6 +43,10 @@ const SCRIPTS: [(&str, &str); 71] = [
     (
         CANCELLED,
         "1 chan, 2 nack, 1 spawn 0, 2 sync, 2 print 7, 1 end then 2 sync, 2 print \"cancelled\", 1 end",
+    ),
+    (
+        SWAPPED,
+        "1 swapchan, 1 spawn 0, 2 sync, 2 print 41, 1 end then 2 sync, 2 print 41, 1 end",
     ),
     // slices of 1,000 steps, without end
     (
@@ -92,6 +100,10 @@ const SCRIPTS: [(&str, &str); 71] = [
     (
         "(fn main () (let c (chan)) (print c))",
         "1 chan, 1 print (chan 0), 1 end",
+    ),
+    (
+        "(fn main () (let s (swapchan)) (print s))",
+        "1 swapchan, 1 print (swapchan 0), 1 end",
     ),
     (
         "(fn main () (let i (ivar)) (iput i 1))",
@@ -182,6 +194,15 @@ const SCRIPTS: [(&str, &str); 71] = [
         "2 kind",
     ),
     ("(fn main () (sync (choose never (iget 1))))", "1 kind"),
+    ("(fn main () (sync (swap 5 1)))", "1 kind"),
+    (
+        "(fn main () (let c (chan)) (sync (swap c 1)))",
+        "1 chan, 1 kind",
+    ),
+    (
+        "(fn main () (let s (swapchan)) (sync (send s 1)))",
+        "1 swapchan, 1 kind",
+    ),
     ("(fn main () (sync 5))", "1 kind"),
     ("(fn main () (if 5 (do) (do)))", "1 kind"),
     ("(fn main () (while 5))", "1 kind"),
@@ -198,6 +219,7 @@ const SCRIPTS: [(&str, &str); 71] = [
         "1 overflow",
     ),
     ("(fn main () (sync (choose 1 (at -1))))", "1 range"),
+    ("(fn main () (sync (swap 5 (at -1))))", "1 range"),
     ("(fn main () (iput 5 (after -1)))", "1 range"),
     // numbers
     (
@@ -271,10 +293,11 @@ const SCRIPTS: [(&str, &str); 71] = [
 ];
 
 // A script, and the groups that its thread 0 synchronizes on, and then the thread that it spawns, by the words of `making`.
-const GROUPS: [(&str, &str); 21] = [
+const GROUPS: [(&str, &str); 22] = [
     (ADDITION, "0 recv 1 1 0 function wrap 0 41 send"),
     // the branch of the nack, and the value at once; and the other thread, which waits until the branch is cancelled
     (CANCELLED, "0 recv 0 scope 7 always 2 choose 0 nack"),
+    (SWAPPED, "0 1 swap 0 2 swap"),
     ("(fn main () (sync never))", "never"),
     ("(fn main () (sync (always \"a\")))", "\"a\" always"),
     (
@@ -346,6 +369,7 @@ fn said(ask: &Ask) -> (&str, Option<u32>, Option<&Value>) {
         Ask::Yield => ("yield", None, None),
         Ask::Spawn(f) => ("spawn", Some(f.func()), None),
         Ask::MakeChan => ("chan", None, None),
+        Ask::MakeSwap => ("swapchan", None, None),
         Ask::MakeIVar => ("ivar", None, None),
         Ask::MakeMVar(None) => ("mvar", None, None),
         Ask::MakeMVar(Some(v)) => ("mvar", None, Some(v)),
@@ -382,6 +406,7 @@ fn value_for(ask: &Ask) -> Option<ValueKind>
         | Ask::Print(_) => Some(ValueKind::Unit),
         Ask::Spawn(_) => Some(ValueKind::Thread(Tid(1))),
         Ask::MakeChan => Some(ValueKind::Chan(ChanId(0))),
+        Ask::MakeSwap => Some(ValueKind::Swap(SwapId(0))),
         Ask::MakeIVar => Some(ValueKind::IVar(IVarId(0))),
         Ask::MakeMVar(_) => Some(ValueKind::MVar(MVarId(0))),
         Ask::MakeMailbox => Some(ValueKind::Mailbox(MboxId(0))),

@@ -7,7 +7,7 @@ use crate::words::{Word, word_of};
 use cml_text::{Sexpr, Shape, read};
 use cml_value::{
     Base, BaseKind, ChanId, Event, EventKind, FnRef, Group, GroupKind, IVarId, MVarId, MboxId,
-    McastId, NackId, PortId, Tid, Value, ValueKind,
+    McastId, NackId, PortId, SwapId, Tid, Value, ValueKind,
 };
 use std::process::Abort;
 
@@ -50,6 +50,7 @@ fn object(word: Word, n: u32) -> Option<ValueKind> {
     match word {
         Word::Thread => Some(ValueKind::Thread(Tid(n))),
         Word::Chan => Some(ValueKind::Chan(ChanId(n))),
+        Word::SwapChan => Some(ValueKind::Swap(SwapId(n))),
         Word::IVar => Some(ValueKind::IVar(IVarId(n))),
         Word::MVar => Some(ValueKind::MVar(MVarId(n))),
         Word::Mailbox => Some(ValueKind::Mailbox(MboxId(n))),
@@ -125,7 +126,7 @@ impl Made {
             Word::Wrap => self.wrap(rt),
             Word::Guard | Word::WithNack => self.guard(rt, word),
             Word::Scope => self.scope(rt),
-            Word::Always | Word::Send | Word::MSwap => self.give(rt, word),
+            Word::Always | Word::Send | Word::Swap | Word::MSwap => self.give(rt, word),
             _ => self.name(rt, word),
         }
     }
@@ -253,6 +254,7 @@ impl Made {
         let kind = match word {
             Word::Always => BaseKind::Always(value),
             Word::Send => BaseKind::Send(ChanId(self.number(rt)), value),
+            Word::Swap => BaseKind::Swap(SwapId(self.number(rt)), value),
             _ => BaseKind::MSwap(MVarId(self.number(rt)), value),
         };
         self.leaf(rt, kind);

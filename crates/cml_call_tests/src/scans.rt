@@ -12,7 +12,7 @@ const FRESH: NackState = NackState::Fresh(Tid(0));
 
 // What the threads do, the value of M-variable 0, what has become of nack 0, the time, and the rows, each as `thread.leaf`, a pair
 // with a dash.
-const WORLDS: [(&str, Option<i64>, NackState, u64, &str); 16] = [
+const WORLDS: [(&str, Option<i64>, NackState, u64, &str); 22] = [
     ("0 5 send / 0 recv", None, FRESH, 0, "0.0-1.0 "),
     ("running / running", None, FRESH, 0, ""),
     ("0 1 send 0 recv 2 choose", None, FRESH, 0, ""),
@@ -22,6 +22,25 @@ const WORLDS: [(&str, Option<i64>, NackState, u64, &str); 16] = [
         FRESH,
         0,
         "0.0-1.1 1.0-0.1 ",
+    ),
+    // two swaps on one swap channel, of two threads, the lower one first; a channel of the same number is another thing
+    ("0 5 swap / 0 6 swap", None, FRESH, 0, "0.0-1.0 "),
+    ("0 5 swap / 1 6 swap", None, FRESH, 0, ""),
+    ("0 5 swap 0 6 swap 2 choose", None, FRESH, 0, ""),
+    ("0 5 swap / 0 recv / 0 6 send", None, FRESH, 0, "2.0-1.0 "),
+    (
+        "0 1 swap 0 2 swap 2 choose / running / 0 3 swap",
+        None,
+        FRESH,
+        0,
+        "0.0-2.0 0.1-2.0 ",
+    ),
+    (
+        "0 1 swap 0 2 swap 2 choose / 0 3 swap / 0 4 swap",
+        None,
+        FRESH,
+        0,
+        "0.0-1.0 0.0-2.0 0.1-1.0 0.1-2.0 1.0-2.0 ",
     ),
     (
         "0 mtake / 0 mtake / 0 mget",
@@ -56,10 +75,11 @@ const WORLDS: [(&str, Option<i64>, NackState, u64, &str); 16] = [
 ];
 
 // Base events with their lights.
-const LIGHTS: [(&str, Option<Light>); 13] = [
+const LIGHTS: [(&str, Option<Light>); 14] = [
     ("1 always", None),
     ("1 1 send", None),
     ("2 recv", None),
+    ("2 1 swap", None),
     ("11 after", None),
     ("3 iget", Some(Light::IVar(IVarId(3)))),
     ("4 mtake", Some(Light::MVar(MVarId(4)))),
@@ -84,7 +104,7 @@ fn int(z: i64) -> Value {
     Value::new(ValueKind::Int(z))
 }
 
-// Threads that do this, and one channel.
+// Threads that do this, one channel and one swap channel.
 fn world(rt: &(impl Abort + AllocGlobal), threads: &str) -> World {
     let mut world = World::new(rt.alloc());
     for text in threads.split(" / ") {
@@ -92,6 +112,7 @@ fn world(rt: &(impl Abort + AllocGlobal), threads: &str) -> World {
         world.threads.push(thread).expect(rt, MEMORY);
     }
     world.channels = 1;
+    world.swaps = 1;
     world
 }
 

@@ -10,7 +10,7 @@ use cml_channel::Tally;
 use cml_index::OfferIndex;
 use cml_kept::KeptRows;
 use cml_scan::{Light, Meet, Place, Table};
-use cml_value::{Base, BaseKind, ChanId, Group, GroupKind, Tid, Value, ValueKind};
+use cml_value::{Base, BaseKind, ChanId, Group, GroupKind, SwapId, Tid, Value, ValueKind};
 use rand_core::SeedableRng;
 use rand_pcg::Pcg32;
 use std::alloc::{AllocError, Global};
@@ -21,8 +21,9 @@ use std::process::Abort;
 struct Books {
     plain: Book<KeptRows>,
     index: Book<OfferIndex>,
-    // How many rows were committed.
+    // How many rows were committed, and how many of them were swaps.
     committed: u32,
+    swapped: u32,
 }
 
 // The rows that the table lists, head by head.
@@ -76,6 +77,7 @@ fn same_reply(one: &Reply, other: &Reply) -> bool {
     match (one, other) {
         (Reply::Thread(x), Reply::Thread(y)) => x == y,
         (Reply::Chan(x), Reply::Chan(y)) => x == y,
+        (Reply::Swap(x), Reply::Swap(y)) => x == y,
         (Reply::IVar(x), Reply::IVar(y)) => x == y,
         (Reply::MVar(x), Reply::MVar(y)) => x == y,
         (Reply::Mailbox(x), Reply::Mailbox(y)) => x == y,
@@ -109,17 +111,29 @@ impl Books {
             plain: Book::new(rt.alloc(), KeptRows::new(rt.alloc())),
             index: Book::new(rt.alloc(), OfferIndex::new(rt.alloc())),
             committed: 0,
+            swapped: 0,
         }
     }
 
     // Both make three things of each kind and more threads.
     fn begin(&mut self, rt: &(impl Abort + AllocGlobal)) {
-        for kind in 0..24 {
+        for kind in 0..27 {
             let one = reply_of(rt, &mut self.plain, making(kind));
             let other = reply_of(rt, &mut self.index, making(kind));
             assert!(rt; same_reply(&one, &other));
             drop(one);
             drop(other);
+        }
+    }
+
+    // Both books say the same of whether the command commits a swap.
+    fn count_swap(&mut self, rt: &impl Abort, command: &Command) {
+        if let Command::Commit(row) = command {
+            let swaps = self.plain.swaps(row);
+            assert!(rt; self.index.swaps(row) == swaps);
+            if swaps {
+                self.swapped = self.swapped.saturating_add(1);
+            }
         }
     }
 
@@ -135,6 +149,7 @@ impl Books {
         let mut again = random.clone().expect(rt, MEMORY);
         let first = draw(rt, random, &seen, rows.as_slice());
         let second = draw(rt, &mut again, &seen, rows.as_slice());
+        self.count_swap(rt, &first);
         let one = reply_of(rt, &mut self.plain, first);
         let other = reply_of(rt, &mut self.index, second);
         assert!(rt; same_reply(&one, &other));
@@ -157,21 +172,21 @@ fn random_commands(rt: HostRuntime) {
         books.step(&rt, &mut random);
     }
     assert!(rt; books.committed > 400);
+    assert!(rt; books.swapped > 40);
     drop(random);
     drop(books);
 }
 
-// A group of so many sends on channel 0, or of so many receives.
-fn offers(rt: &(impl Abort + AllocGlobal), count: u32, sends: bool) -> Group {
+// A group of so many leaves that wait in this one way.
+fn offers(rt: &(impl Abort + AllocGlobal), count: u32, kind: BaseKind) -> Group {
+    let base = Base::new(kind);
     let mut members = Vec::new(rt.alloc());
     for _ in 0..count {
-        let base = match sends {
-            true => BaseKind::Send(ChanId(0), Value::new(ValueKind::Unit)),
-            false => BaseKind::Recv(ChanId(0)),
-        };
-        let leaf = Group::new(GroupKind::Leaf(Base::new(base)));
+        let copy = base.copy().expect(rt, MEMORY);
+        let leaf = Group::new(GroupKind::Leaf(copy));
         members.push(leaf).expect(rt, MEMORY);
     }
+    drop(base);
     Group::choose(rt.alloc(), members).expect(rt, MEMORY)
 }
 
@@ -186,8 +201,9 @@ fn come<T: Table>(rt: &(impl Abort + AllocGlobal), book: &mut Book<T>, count: u3
 // So many threads offer so many sends each, and then as many that many receives, all on one channel.
 fn crowd<T: Table>(rt: &(impl Abort + AllocGlobal), book: &mut Book<T>, threads: u32, leaves: u32) {
     assert!(rt; book.make_chan() == Ok(ChanId(0)));
-    let sends = offers(rt, leaves, true);
-    let receives = offers(rt, leaves, false);
+    let unit = Value::new(ValueKind::Unit);
+    let sends = offers(rt, leaves, BaseKind::Send(ChanId(0), unit));
+    let receives = offers(rt, leaves, BaseKind::Recv(ChanId(0)));
     come(rt, book, threads, &sends);
     come(rt, book, threads, &receives);
     drop(sends);
@@ -272,6 +288,71 @@ fn looks_among_a_million_rows(rt: HostRuntime) {
     drop(tally);
     let committed = book.commit(rt.alloc(), row).expect(&rt, "a row");
     assert!(rt; book.table().looks <= 24);
+    drop(committed);
+    drop(book);
+}
+
+// 4,000 threads offer 256 swaps each, all on one swap channel. The binary digits of 1,024,000 are 20.
+fn swap_crowd(rt: &(impl Abort + AllocGlobal)) -> Book<Counted> {
+    let table = Counted {
+        index: OfferIndex::new(rt.alloc()),
+        looks: 0,
+    };
+    let mut book = Book::new(rt.alloc(), table);
+    assert!(rt; book.make_swap() == Ok(SwapId(0)));
+    let unit = Value::new(ValueKind::Unit);
+    let swaps = offers(rt, 256, BaseKind::Swap(SwapId(0), unit));
+    come(rt, &mut book, 4_000, &swaps);
+    drop(swaps);
+    book
+}
+
+// Two swaps of these threads.
+fn swap_row(head: u32, other: u32) -> Meet {
+    Meet::Pair {
+        head: Tid(head),
+        head_leaf: 7,
+        other: Tid(other),
+        other_leaf: 255,
+    }
+}
+
+#[test]
+fn looks_among_a_million_swaps(rt: HostRuntime) {
+    let book = swap_crowd(&rt);
+    let index = &book.table().index;
+    let mut tally = Tally::new();
+    assert!(rt; index.has_tallied(&swap_row(500, 1_500), &mut tally));
+    assert!(rt; !index.has_tallied(&swap_row(1_500, 500), &mut tally));
+    assert!(rt; !index.has_tallied(&swap_row(500, 500), &mut tally));
+    assert!(rt; tally.looks() <= 3 * 42);
+    let place = swap_row(500, 1_500).place();
+    let mut tally = Tally::new();
+    let partners = index.partner_count_tallied(place, &mut tally);
+    assert!(rt; partners == 3_499 * 256);
+    assert!(rt; tally.looks() <= 42);
+    let mut tally = Tally::new();
+    let last = index.partner_tallied(place, partners - 1, &mut tally);
+    assert!(rt; last == swap_row(500, 3_999));
+    assert!(rt; tally.looks() <= 42);
+    let mut tally = Tally::new();
+    assert!(rt; index.head_count_tallied(&mut tally) == 3_999 * 256);
+    assert!(rt; tally.looks() <= 3 * 1_024_000);
+    drop(tally);
+    drop(book);
+}
+
+#[test]
+fn a_swap_of_a_million_is_taken(rt: HostRuntime) {
+    let mut book = swap_crowd(&rt);
+    let head = book.table().head(3_999 * 256 - 1);
+    assert!(rt; book.table().partner_count(head) == 256);
+    let row = book.table().partner(head, 255);
+    assert!(rt; book.swaps(&row));
+    let committed = book.commit(rt.alloc(), row).expect(&rt, "a row");
+    assert!(rt; book.table().looks <= 2 * 256 * 22);
+    assert!(rt; committed.head.tid == Tid(3_998));
+    assert!(rt; committed.partner.is_some());
     drop(committed);
     drop(book);
 }

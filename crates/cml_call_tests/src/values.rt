@@ -8,7 +8,7 @@ use cml_value::{
 use std::process::Abort;
 
 // A value with its depth, its nodes and its text, each counted or written by hand.
-const VALUES: [(&str, u64, u64, &str); 28] = [
+const VALUES: [(&str, u64, u64, &str); 29] = [
     ("unit", 1, 1, "()"),
     ("0", 1, 1, "0"),
     ("-1", 1, 1, "-1"),
@@ -18,6 +18,7 @@ const VALUES: [(&str, u64, u64, &str); 28] = [
     ("false", 1, 1, "false"),
     ("0 thread", 1, 1, "(thread 0)"),
     ("1 chan", 1, 1, "(chan 1)"),
+    ("4294967295 swapchan", 1, 1, "(swapchan 4294967295)"),
     ("22 ivar", 1, 1, "(ivar 22)"),
     ("333 mvar", 1, 1, "(mvar 333)"),
     ("65535 mailbox", 1, 1, "(mailbox 65535)"),
@@ -60,7 +61,7 @@ const VALUES: [(&str, u64, u64, &str); 28] = [
 ];
 
 // An event that is a group too, with its depth and its nodes.
-const EVENTS: [(&str, u64, u64); 14] = [
+const EVENTS: [(&str, u64, u64); 15] = [
     ("never", 1, 1),
     ("0 recv", 1, 1),
     ("4294967295 at", 1, 1),
@@ -68,6 +69,7 @@ const EVENTS: [(&str, u64, u64); 14] = [
     ("unit always", 2, 2),
     ("1 2 pair always", 3, 4),
     ("0 1 2 pair send", 3, 4),
+    ("0 1 2 pair swap", 3, 4),
     ("0 1 2 pair mswap", 3, 4),
     ("0 choose", 1, 1),
     ("never 0 1 send 2 choose", 3, 4),
@@ -77,15 +79,15 @@ const EVENTS: [(&str, u64, u64); 14] = [
     ("never 0 1 send 2 choose 3 scope 0 0 function wrap", 5, 6),
 ];
 
-// 62 values of which no two are the same, each by the words from the one before it on.
+// 67 values of which no two are the same, each by the words from the one before it on.
 const APART: &str = r#"
-    unit 0 -9223372036854775808 9223372036854775807 false true 0 thread 0 chan 1 chan 0 ivar 0 mvar 0 mailbox
+    unit 0 -9223372036854775808 9223372036854775807 false true 0 thread 0 chan 1 chan 0 swapchan 1 swapchan 0 ivar 0 mvar 0 mailbox
     0 mchan 0 port "" "a" "A"
     ; an accented letter, and the same letter with an accent of its own
     "é" "é" 1 2 pair 1 3 pair 2 1 pair
     ; events, by their base events
     unit always event 0 always event 0 0 send event 0 1 send event 1 0 send event 0 recv event 1 recv event
-    0 iget event 0 mtake event 0 mget event 0 0 mswap event 0 unit mswap event 0 mail_recv event
+    0 0 swap event 0 1 swap event 1 0 swap event 0 iget event 0 mtake event 0 mget event 0 0 mswap event 0 unit mswap event 0 mail_recv event
     0 port_recv event 0 join event 0 at event 4294967295 at event 0 after event 0 nack event 1 nack event
     ; by their functions
     0 0 function guard event 0 1 function guard event 1 1 0 function guard event 2 1 0 function guard event
@@ -160,7 +162,7 @@ fn events_by_hand(rt: HostRuntime) {
 #[test]
 fn no_two_values(rt: HostRuntime) {
     let made = make(&rt, APART);
-    assert!(rt; made.values.len() == 62);
+    assert!(rt; made.values.len() == 67);
     for (i, one) in made.values.iter().enumerate() {
         for (j, other) in made.values.iter().enumerate() {
             let copy = other.copy().expect(&rt, MEMORY);

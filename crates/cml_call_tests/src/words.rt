@@ -14,6 +14,7 @@ pub enum Word {
     Event,
     Thread,
     Chan,
+    SwapChan,
     IVar,
     MVar,
     Mailbox,
@@ -25,6 +26,7 @@ pub enum Word {
     Always,
     Send,
     Recv,
+    Swap,
     IGet,
     MTake,
     MGet,
@@ -45,7 +47,7 @@ pub enum Word {
     Scope,
 }
 
-const WORDS: [(&str, Word); 33] = [
+const WORDS: [(&str, Word); 35] = [
     ("unit", Word::Unit),
     ("true", Word::True),
     ("false", Word::False),
@@ -54,6 +56,7 @@ const WORDS: [(&str, Word); 33] = [
     ("event", Word::Event),
     ("thread", Word::Thread),
     ("chan", Word::Chan),
+    ("swapchan", Word::SwapChan),
     ("ivar", Word::IVar),
     ("mvar", Word::MVar),
     ("mailbox", Word::Mailbox),
@@ -64,6 +67,7 @@ const WORDS: [(&str, Word); 33] = [
     ("always", Word::Always),
     ("send", Word::Send),
     ("recv", Word::Recv),
+    ("swap", Word::Swap),
     ("iget", Word::IGet),
     ("mtake", Word::MTake),
     ("mget", Word::MGet),

@@ -82,10 +82,11 @@ binary_number binary_of.Less = 3
 binary_number binary_of.Equal = 4
 binary_number binary_of.Pair = 5
 binary_number binary_of.Send = 6
-binary_number binary_of.MSwap = 7
+binary_number binary_of.Swap = 7
+binary_number binary_of.MSwap = 8
 
 abbrev pub binary_by : ℕ → Binary
-binary_by n = get_or (binary_of.Plus ∷ binary_of.Minus ∷ binary_of.Times ∷ binary_of.Less ∷ binary_of.Equal ∷ binary_of.Pair ∷ binary_of.Send ∷ binary_of.MSwap ∷ []) n binary_of.Plus
+binary_by n = get_or (binary_of.Plus ∷ binary_of.Minus ∷ binary_of.Times ∷ binary_of.Less ∷ binary_of.Equal ∷ binary_of.Pair ∷ binary_of.Send ∷ binary_of.Swap ∷ binary_of.MSwap ∷ []) n binary_of.Plus
 
 pub binary_back : (x : Binary) → binary_by (binary_number x) ≡ x
 binary_back binary_of.Plus = refl
@@ -95,6 +96,7 @@ binary_back binary_of.Less = refl
 binary_back binary_of.Equal = refl
 binary_back binary_of.Pair = refl
 binary_back binary_of.Send = refl
+binary_back binary_of.Swap = refl
 binary_back binary_of.MSwap = refl
 
 abbrev pub binary_code : Coded Binary
@@ -102,20 +104,22 @@ binary_code = code_by ℕ coded_ℕ binary_number binary_by binary_back
 
 abbrev pub act_number : Act → ℕ
 act_number act_of.Chan = 0
-act_number act_of.IVar = 1
-act_number act_of.MVar = 2
-act_number act_of.Mailbox = 3
-act_number act_of.MChan = 4
-act_number act_of.Exit = 5
-act_number act_of.Yield = 6
-act_number act_of.OwnThread = 7
-act_number act_of.Now = 8
+act_number act_of.SwapChan = 1
+act_number act_of.IVar = 2
+act_number act_of.MVar = 3
+act_number act_of.Mailbox = 4
+act_number act_of.MChan = 5
+act_number act_of.Exit = 6
+act_number act_of.Yield = 7
+act_number act_of.OwnThread = 8
+act_number act_of.Now = 9
 
 abbrev pub act_by : ℕ → Act
-act_by n = get_or (act_of.Chan ∷ act_of.IVar ∷ act_of.MVar ∷ act_of.Mailbox ∷ act_of.MChan ∷ act_of.Exit ∷ act_of.Yield ∷ act_of.OwnThread ∷ act_of.Now ∷ []) n act_of.Chan
+act_by n = get_or (act_of.Chan ∷ act_of.SwapChan ∷ act_of.IVar ∷ act_of.MVar ∷ act_of.Mailbox ∷ act_of.MChan ∷ act_of.Exit ∷ act_of.Yield ∷ act_of.OwnThread ∷ act_of.Now ∷ []) n act_of.Chan
 
 pub act_back : (x : Act) → act_by (act_number x) ≡ x
 act_back act_of.Chan = refl
+act_back act_of.SwapChan = refl
 act_back act_of.IVar = refl
 act_back act_of.MVar = refl
 act_back act_of.Mailbox = refl

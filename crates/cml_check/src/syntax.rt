@@ -43,6 +43,7 @@ pub enum Binary {
     Equal,
     Pair,
     Send,
+    Swap,
     MSwap,
 }
 
@@ -50,6 +51,7 @@ pub enum Binary {
 #[derive(Clone, Copy, PartialEq, Eq)]
 pub enum Act {
     Chan,
+    SwapChan,
     IVar,
     /// An M-variable that is empty.
     MVar,

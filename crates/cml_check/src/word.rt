@@ -105,6 +105,7 @@ fn binary_spelling(binary: Binary) -> &'static str
         Binary::Equal => "=",
         Binary::Pair => "pair",
         Binary::Send => "send",
+        Binary::Swap => "swap",
         Binary::MSwap => "mswap",
     }
 }
@@ -114,6 +115,7 @@ fn act_spelling(act: Act) -> &'static str
 {
     match act {
         Act::Chan => "chan",
+        Act::SwapChan => "swapchan",
         Act::IVar => "ivar",
         Act::MVar => "mvar",
         Act::Mailbox => "mailbox",
@@ -208,11 +210,13 @@ const STARTING_WITH_P: [Word; 4] = [
 ];
 
 // The words that start with an `s`.
-const STARTING_WITH_S: [Word; 6] = [
+const STARTING_WITH_S: [Word; 8] = [
     Word::Set,
     Word::Spawn,
     Word::Unary(Unary::Snd),
     Word::Binary(Binary::Send),
+    Word::Binary(Binary::Swap),
+    Word::Act(Act::SwapChan),
     Word::Act(Act::OwnThread),
     Word::ActOnOne(ActOnOne::Sync),
 ];

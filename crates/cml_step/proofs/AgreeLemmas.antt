@@ -19,7 +19,7 @@ use Rattle.std.specs.declared.vec.Vec.{Vec}
 use Rattle.std.proofs.lemmas.Bool.{and_parts, and_from}
 use Rattle.cml_step.specs.declared.fault.Stop.{Stop}
 use Rattle.cml_step.specs.Faults.{Found, ◌>>=◌, Gives}
-use Rattle.cml_step.specs.Kinds.{number_of, truth_of, first_of, second_of, thread_of, chan_of, ivar_of, mvar_of, mailbox_of, port_of, event_of}
+use Rattle.cml_step.specs.Kinds.{number_of, truth_of, first_of, second_of, thread_of, chan_of, swapchan_of, ivar_of, mvar_of, mailbox_of, port_of, event_of}
 use Rattle.cml_step.specs.Operators.{constant_value, ticks_of, built, is_number, in_range, base_value, unary_value, binary_value, events_of, choose_value, wrap_value, guard_value, nack_value}
 use Rattle.cml_step.specs.Variables.{slot_value}
 use Rattle.cml_step.specs.Evaluate.{evaluate, evaluate_all}
@@ -103,6 +103,7 @@ binary_agrees fs binary_of.Less v w h g = two_numbers fs v w _ (λ x y. refl)
 binary_agrees fs binary_of.Equal v w h g = refl
 binary_agrees fs binary_of.Pair v w h g = built_agrees fs (pair v w) (and_from _ _ h g)
 binary_agrees fs binary_of.Send v w h g = then_agrees fs (chan_of v) _ (λ c _. built_agrees fs (event (leaf (value.send c w))) g)
+binary_agrees fs binary_of.Swap v w h g = then_agrees fs (swapchan_of v) _ (λ s _. built_agrees fs (event (leaf (value.swap s w))) g)
 binary_agrees fs binary_of.MSwap v w h g = then_agrees fs (mvar_of v) _ (λ m _. built_agrees fs (event (leaf (value.mswap m w))) g)
 
 pub event_of_agrees : (fs : List ℕ) (v : PlainValue) (e : PlainEvent) → value_agrees fs v ≡ true → event_of v ≡ Ok e → event_agrees fs e ≡ true

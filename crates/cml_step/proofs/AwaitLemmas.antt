@@ -59,6 +59,7 @@ delivered_waits v (wraps fs w ∷ below) = refl
 
 act_waits : (self : ℕ) (a : Act) (t : Term) → awaited t ≡ await.value → Waits (act_step self a t)
 act_waits self act_of.Chan t h = h
+act_waits self act_of.SwapChan t h = h
 act_waits self act_of.IVar t h = h
 act_waits self act_of.MVar t h = h
 act_waits self act_of.Mailbox t h = h

@@ -79,6 +79,7 @@ act_short : (self : ℕ) (a : Act) (t : Term) → length t ≤ max_entries → I
 act_short self act_of.Exit t h = omega arith
 act_short self act_of.OwnThread t h = delivered_short (thread self) t h
 act_short self act_of.Chan t h = asked_short t h
+act_short self act_of.SwapChan t h = asked_short t h
 act_short self act_of.IVar t h = asked_short t h
 act_short self act_of.MVar t h = asked_short t h
 act_short self act_of.Mailbox t h = asked_short t h

@@ -1,19 +1,19 @@
 -- Scripts worked by hand: what each slice asks, and how many steps it takes. No call of this crate is about them.
 use Rattle.std.proofs.Common.{◌≡◌, ℕ, List, [], ◌∷◌, refl}
 use Rattle.std.specs.Prelude.{codes, pos}
-use Rattle.cml_value.specs.Value.{PlainValue, unit, int, text, thread, chan, event, function, values, recv, send, always, nack}
+use Rattle.cml_value.specs.Value.{PlainValue, unit, int, text, thread, chan, swapchan, event, function, values, recv, send, swap, always, nack}
 use Rattle.cml_value.specs.Value as event_of
 use Rattle.cml_value.specs.Group.{leaf, choose, wrap, scope, groups}
 use Rattle.cml_check.specs.declared.syntax.Constant.TheVariants.{True}
 use Rattle.cml_check.specs.declared.syntax.Unary.TheVariants.{Recv, Always}
-use Rattle.cml_check.specs.declared.syntax.Binary.TheVariants.{Plus, Send}
-use Rattle.cml_check.specs.declared.syntax.Act.TheVariants.{Chan}
+use Rattle.cml_check.specs.declared.syntax.Binary.TheVariants.{Plus, Send, Swap}
+use Rattle.cml_check.specs.declared.syntax.Act.TheVariants.{Chan, SwapChan}
 use Rattle.cml_check.specs.declared.syntax.ActOnOne.TheVariants.{Sync, Print}
 use Rattle.cml_check.specs.Syntax.{PlainFunction as PlainItem, Name, PlainExpr, constant, number, variable, unary, binary, exprs, act, act_on_one, value, effect, let_be, just_do, while_so, return_with, PlainStmt, stmts}
 use Rattle.cml_check.specs.Syntax as syntax
-use Rattle.cml_step.specs.declared.fault.Fault.TheVariants.{Deep, Stack}
+use Rattle.cml_step.specs.declared.fault.Fault.TheVariants.{Kind, Deep, Stack}
 use Rattle.cml_step.specs.Terms.{Program, call_of}
-use Rattle.cml_step.specs.Asks.{PlainAsk, nothing, spawn, make_chan, print, fresh_nack, sync, end, fault, a_value, a_nack, a_commit}
+use Rattle.cml_step.specs.Asks.{PlainAsk, nothing, spawn, make_chan, make_swap, print, fresh_nack, sync, end, fault, a_value, a_nack, a_commit}
 use Rattle.cml_step.specs.Slices.{PlainSlice, sliced, sliced_from}
 use Rattle.cml_step.specs.Answers.{answered}
 
@@ -87,6 +87,58 @@ prints_the_sum = refl
 pub main_ends : told main_4 ≡ (end, 1)
 unfolding sliced_from
 main_ends = refl
+
+-- (fn other (s) (let y (sync (swap s 2))) (print y))
+-- (fn main () (let s (swapchan)) (spawn other s) (let x (sync (swap s 1))) (print x))
+abbrev exchange : Program
+exchange =
+    item (codes "s" ∷ codes "y" ∷ []) 1
+    (let_be (codes "y") (effect (act_on_one Sync (binary Swap (named (codes "s")) (number (pos 2))))) ∷ just_do (act_on_one Print (named (codes "y"))) ∷ [])
+    ∷ item (codes "s" ∷ codes "x" ∷ []) 0
+    (let_be (codes "s") (effect (act SwapChan)) ∷ just_do (syntax.spawn 0 (exprs (named (codes "s") ∷ [])))
+    ∷ let_be (codes "x") (effect (act_on_one Sync (binary Swap (named (codes "s")) (number (pos 1))))) ∷ just_do (act_on_one Print (named (codes "x"))) ∷ [])
+    ∷ []
+
+abbrev swapper_0 : PlainSlice
+swapper_0 = sliced exchange 0 (call_of exchange (function 1 (values [])) ∷ [])
+
+abbrev swapper_1 : PlainSlice
+swapper_1 = sliced exchange 0 (answered exchange (a_value (swapchan 0)) swapper_0.end)
+
+abbrev swapper_2 : PlainSlice
+swapper_2 = sliced exchange 0 (answered exchange (a_value (thread 1)) swapper_1.end)
+
+abbrev other_0 : PlainSlice
+other_0 = sliced exchange 1 (call_of exchange (function 0 (values (swapchan 0 ∷ []))) ∷ [])
+
+pub asks_a_swap_channel : told swapper_0 ≡ (make_swap, 1)
+unfolding sliced_from
+asks_a_swap_channel = refl
+
+pub hands_it_on : told swapper_1 ≡ (spawn (function 0 (values (swapchan 0 ∷ []))), 1)
+unfolding sliced_from
+hands_it_on = refl
+
+pub offers_its_value : told swapper_2 ≡ (sync (leaf (swap 0 (int (pos 1)))), 2)
+unfolding sliced_from
+offers_its_value = refl
+
+pub the_other_offers_too : told other_0 ≡ (sync (leaf (swap 0 (int (pos 2)))), 2)
+unfolding sliced_from
+the_other_offers_too = refl
+
+pub main_gets_the_others : told (sliced exchange 0 (answered exchange (a_commit (int (pos 2)) []) swapper_2.end)) ≡ (print (int (pos 2)), 2)
+unfolding sliced_from
+main_gets_the_others = refl
+
+pub the_other_gets_mains : told (sliced exchange 1 (answered exchange (a_commit (int (pos 1)) []) other_0.end)) ≡ (print (int (pos 1)), 2)
+unfolding sliced_from
+the_other_gets_mains = refl
+
+-- a channel is no swap channel
+pub swaps_on_no_channel : told (sliced exchange 1 (call_of exchange (function 0 (values (chan 0 ∷ []))) ∷ [])) ≡ (fault Kind, 1)
+unfolding sliced_from
+swaps_on_no_channel = refl
 
 -- (fn main () (while true))
 abbrev spinning : Program

@@ -2,7 +2,7 @@
 -- values as its place asks. Here `arities` says how many parameters each function of the program has.
 use Rattle.std.specs.Prelude.{ℕ, ◌+◌, Bool, true, ◌&&◌, List, [], ◌∷◌, Option, Some, None}
 use Rattle.cml_value.specs.Value.{PlainValue, pair, event, PlainValues, no_values, values_and, PlainFunction, function}
-use Rattle.cml_value.specs.Value.{PlainBase, always, send, mswap, PlainEvent, never, leaf, choose, wrap, guard, with_nack, scope, PlainEvents, no_events, events_and}
+use Rattle.cml_value.specs.Value.{PlainBase, always, send, recv, swap, iget, mtake, mget, mswap, mail_recv, port_recv, join, at_tick, after_ticks, nack, PlainEvent, never, leaf, choose, wrap, guard, with_nack, scope, PlainEvents, no_events, events_and}
 use Rattle.cml_value.specs.Group.{PlainLeaf}
 use Rattle.cml_check.specs.Heads.{takes}
 use Rattle.cml_group.specs.Force.{event_of}
@@ -30,8 +30,18 @@ abbrev mutual
   pub base_agrees : List ℕ → PlainBase → Bool
   base_agrees arities (always v) = value_agrees arities v
   base_agrees arities (send c v) = value_agrees arities v
+  base_agrees arities (recv c) = true
+  base_agrees arities (swap s v) = value_agrees arities v
+  base_agrees arities (iget i) = true
+  base_agrees arities (mtake m) = true
+  base_agrees arities (mget m) = true
   base_agrees arities (mswap m v) = value_agrees arities v
-  base_agrees arities _ = true
+  base_agrees arities (mail_recv b) = true
+  base_agrees arities (port_recv p) = true
+  base_agrees arities (join t) = true
+  base_agrees arities (at_tick t) = true
+  base_agrees arities (after_ticks d) = true
+  base_agrees arities (nack k) = true
 
   pub event_agrees : List ℕ → PlainEvent → Bool
   event_agrees arities never = true
@@ -72,12 +82,24 @@ maybe_agrees arities (Some v) = value_agrees arities v
 maybe_agrees arities None = true
 
 abbrev pub ask_agrees : List ℕ → PlainAsk → Bool
+ask_agrees arities ask.nothing = true
+ask_agrees arities ask.yield = true
 ask_agrees arities (ask.spawn f) = function_agrees arities 0 f
+ask_agrees arities ask.make_chan = true
+ask_agrees arities ask.make_swap = true
+ask_agrees arities ask.make_ivar = true
 ask_agrees arities (ask.make_mvar v) = maybe_agrees arities v
+ask_agrees arities ask.make_mailbox = true
+ask_agrees arities ask.make_mchan = true
+ask_agrees arities (ask.make_port x) = true
+ask_agrees arities (ask.copy_port p) = true
 ask_agrees arities (ask.iput i v) = value_agrees arities v
 ask_agrees arities (ask.mput m v) = value_agrees arities v
 ask_agrees arities (ask.mail b v) = value_agrees arities v
 ask_agrees arities (ask.multicast x v) = value_agrees arities v
 ask_agrees arities (ask.print v) = value_agrees arities v
+ask_agrees arities ask.now = true
+ask_agrees arities ask.fresh_nack = true
 ask_agrees arities (ask.sync g) = event_agrees arities (event_of g)
-ask_agrees arities _ = true
+ask_agrees arities ask.end = true
+ask_agrees arities (ask.fault why) = true

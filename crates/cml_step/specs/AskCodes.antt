@@ -7,7 +7,7 @@ use Rattle.cml_value.specs.Codes.{value_code, function_code}
 use Rattle.cml_value.specs.GroupCodes.{group_code}
 use Rattle.cml_step.specs.declared.fault.Fault.{Fault}
 use Rattle.cml_step.specs.declared.fault.Fault.TheVariants as fault_of
-use Rattle.cml_step.specs.Asks.{PlainAsk, nothing, yield, spawn, make_chan, make_ivar, make_mvar, make_mailbox, make_mchan, make_port, copy_port, iput, mput, mail, multicast, print, now, fresh_nack, sync, end, fault}
+use Rattle.cml_step.specs.Asks.{PlainAsk, nothing, yield, spawn, make_chan, make_swap, make_ivar, make_mvar, make_mailbox, make_mchan, make_port, copy_port, iput, mput, mail, multicast, print, now, fresh_nack, sync, end, fault}
 
 abbrev pub fault_number : Fault → ℕ
 fault_number fault_of.Kind = 0
@@ -42,22 +42,23 @@ ask_gv nothing = gcons (gnum 0) gnil
 ask_gv yield = gcons (gnum 1) gnil
 ask_gv (spawn f) = gcons (gnum 2) (function_code.code f)
 ask_gv make_chan = gcons (gnum 3) gnil
-ask_gv make_ivar = gcons (gnum 4) gnil
-ask_gv (make_mvar v) = gcons (gnum 5) ((coded_option value_code).code v)
-ask_gv make_mailbox = gcons (gnum 6) gnil
-ask_gv make_mchan = gcons (gnum 7) gnil
-ask_gv (make_port n) = gcons (gnum 8) (gnum n)
-ask_gv (copy_port n) = gcons (gnum 9) (gnum n)
-ask_gv (iput n v) = gcons (gnum 10) (gcons (gnum n) (value_code.code v))
-ask_gv (mput n v) = gcons (gnum 11) (gcons (gnum n) (value_code.code v))
-ask_gv (mail n v) = gcons (gnum 12) (gcons (gnum n) (value_code.code v))
-ask_gv (multicast n v) = gcons (gnum 13) (gcons (gnum n) (value_code.code v))
-ask_gv (print v) = gcons (gnum 14) (value_code.code v)
-ask_gv now = gcons (gnum 15) gnil
-ask_gv fresh_nack = gcons (gnum 16) gnil
-ask_gv (sync g) = gcons (gnum 17) (group_code.code g)
-ask_gv end = gcons (gnum 18) gnil
-ask_gv (fault why) = gcons (gnum 19) (fault_code.code why)
+ask_gv make_swap = gcons (gnum 4) gnil
+ask_gv make_ivar = gcons (gnum 5) gnil
+ask_gv (make_mvar v) = gcons (gnum 6) ((coded_option value_code).code v)
+ask_gv make_mailbox = gcons (gnum 7) gnil
+ask_gv make_mchan = gcons (gnum 8) gnil
+ask_gv (make_port n) = gcons (gnum 9) (gnum n)
+ask_gv (copy_port n) = gcons (gnum 10) (gnum n)
+ask_gv (iput n v) = gcons (gnum 11) (gcons (gnum n) (value_code.code v))
+ask_gv (mput n v) = gcons (gnum 12) (gcons (gnum n) (value_code.code v))
+ask_gv (mail n v) = gcons (gnum 13) (gcons (gnum n) (value_code.code v))
+ask_gv (multicast n v) = gcons (gnum 14) (gcons (gnum n) (value_code.code v))
+ask_gv (print v) = gcons (gnum 15) (value_code.code v)
+ask_gv now = gcons (gnum 16) gnil
+ask_gv fresh_nack = gcons (gnum 17) gnil
+ask_gv (sync g) = gcons (gnum 18) (group_code.code g)
+ask_gv end = gcons (gnum 19) gnil
+ask_gv (fault why) = gcons (gnum 20) (fault_code.code why)
 
 heads : (m n : ℕ) (x y : Gv) → gcons (gnum m) x ≡ gcons (gnum n) y → m ≡ n
 heads m n x y p = cc
@@ -67,6 +68,7 @@ ask_gv_inj nothing nothing p = refl
 ask_gv_inj yield yield p = refl
 ask_gv_inj (spawn f) (spawn g) p = let e = function_code.inj f g (cc) in cc
 ask_gv_inj make_chan make_chan p = refl
+ask_gv_inj make_swap make_swap p = refl
 ask_gv_inj make_ivar make_ivar p = refl
 ask_gv_inj (make_mvar v) (make_mvar w) p = let e = (coded_option value_code).inj v w (cc) in cc
 ask_gv_inj make_mailbox make_mailbox p = refl

@@ -1,5 +1,5 @@
 -- What an ask of `src/` is seen as.
-use Rattle.cml_step.specs.Asks.{PlainAsk, nothing, yield, spawn, make_chan, make_ivar, make_mvar, make_mailbox, make_mchan, make_port, copy_port, iput, mput, mail, multicast, print, now, fresh_nack, sync, end, fault}
+use Rattle.cml_step.specs.Asks.{PlainAsk, nothing, yield, spawn, make_chan, make_swap, make_ivar, make_mvar, make_mailbox, make_mchan, make_port, copy_port, iput, mput, mail, multicast, print, now, fresh_nack, sync, end, fault}
 use Rattle.cml_step.specs.declared.ask.Ask.{Ask}
 use Rattle.cml_step.specs.declared.ask.Ask.TheVariants as asks
 
@@ -8,6 +8,7 @@ plain_ask asks.Nothing = nothing
 plain_ask asks.Yield = yield
 plain_ask (asks.Spawn f) = spawn f
 plain_ask asks.MakeChan = make_chan
+plain_ask asks.MakeSwap = make_swap
 plain_ask asks.MakeIVar = make_ivar
 plain_ask (asks.MakeMVar v) = make_mvar v
 plain_ask asks.MakeMailbox = make_mailbox

@@ -10,6 +10,7 @@ pub data PlainAsk : Type 0 where
   yield : PlainAsk
   spawn : PlainFunction → PlainAsk
   make_chan : PlainAsk
+  make_swap : PlainAsk
   make_ivar : PlainAsk
   make_mvar : Option PlainValue → PlainAsk
   make_mailbox : PlainAsk

@@ -1,6 +1,6 @@
 -- What kind a value is of. Where a step asks for one kind, a value of another is at fault.
 use Rattle.std.specs.Prelude.{ℕ, ℤ, Bool, Ok, Err}
-use Rattle.cml_value.specs.Value.{PlainValue, int, truth, pair, thread, chan, ivar, mvar, mailbox, mchan, port, event, PlainEvent}
+use Rattle.cml_value.specs.Value.{PlainValue, int, truth, pair, thread, chan, swapchan, ivar, mvar, mailbox, mchan, port, event, PlainEvent}
 use Rattle.cml_step.specs.declared.fault.Fault.TheVariants.{Kind}
 use Rattle.cml_step.specs.Faults.{Found}
 
@@ -27,6 +27,10 @@ thread_of _ = Err Kind
 abbrev pub chan_of : PlainValue → Found ℕ
 chan_of (chan n) = Ok n
 chan_of _ = Err Kind
+
+abbrev pub swapchan_of : PlainValue → Found ℕ
+swapchan_of (swapchan n) = Ok n
+swapchan_of _ = Err Kind
 
 abbrev pub ivar_of : PlainValue → Found ℕ
 ivar_of (ivar n) = Ok n

@@ -8,12 +8,12 @@ use Rattle.cml_check.specs.declared.syntax.Unary.TheVariants as unary_of
 use Rattle.cml_check.specs.declared.syntax.Binary.{Binary}
 use Rattle.cml_check.specs.declared.syntax.Binary.TheVariants as binary_of
 use Rattle.cml_value.specs.Value.{PlainValue, unit, int, truth, pair, event, PlainFunction}
-use Rattle.cml_value.specs.Value.{PlainBase, always, send, recv, iget, mtake, mget, mswap, mail_recv, port_recv, join, at_tick, after_ticks}
+use Rattle.cml_value.specs.Value.{PlainBase, always, send, recv, swap, iget, mtake, mget, mswap, mail_recv, port_recv, join, at_tick, after_ticks}
 use Rattle.cml_value.specs.Value.{PlainEvent, never, leaf, choose, wrap, guard, with_nack, events}
 use Rattle.cml_value.specs.Limits.{value_fits}
 use Rattle.cml_step.specs.declared.fault.Fault.TheVariants.{Overflow, Range, Deep}
 use Rattle.cml_step.specs.Faults.{Found, ◌>>=◌}
-use Rattle.cml_step.specs.Kinds.{number_of, truth_of, first_of, second_of, thread_of, chan_of, ivar_of, mvar_of, mailbox_of, port_of, event_of}
+use Rattle.cml_step.specs.Kinds.{number_of, truth_of, first_of, second_of, thread_of, chan_of, swapchan_of, ivar_of, mvar_of, mailbox_of, port_of, event_of}
 use Rattle.cml_step.specs.Same.{are_same}
 
 -- a pair or an event that was just built, if it is within the limits of depth and of nodes
@@ -114,6 +114,9 @@ binary_value binary_of.Pair v w = built (pair v w)
 binary_value binary_of.Send v w = do
   c ← chan_of v
   base_value (send c w)
+binary_value binary_of.Swap v w = do
+  s ← swapchan_of v
+  base_value (swap s w)
 binary_value binary_of.MSwap v w = do
   m ← mvar_of v
   base_value (mswap m w)

@@ -74,6 +74,7 @@ delivered v (wraps fs w ∷ below) = goes_on (wraps fs v ∷ below)
 -- an effect without a value; the thread's own number is known, so `self` asks nothing
 abbrev pub act_step : ℕ → Act → Term → PlainStep
 act_step self act_of.Chan term = asks ask.make_chan term
+act_step self act_of.SwapChan term = asks ask.make_swap term
 act_step self act_of.IVar term = asks ask.make_ivar term
 act_step self act_of.MVar term = asks (ask.make_mvar None) term
 act_step self act_of.Mailbox term = asks ask.make_mailbox term

@@ -14,6 +14,8 @@ pub enum Ask {
     Spawn(FnRef),
     /// A channel.
     MakeChan,
+    /// A swap channel.
+    MakeSwap,
     /// An I-variable.
     MakeIVar,
     /// An M-variable, and what it holds from the beginning.

@@ -419,6 +419,7 @@ fn asked(act: Act) -> Did
 {
     match act {
         Act::Chan => Did::Asks(Ask::MakeChan),
+        Act::SwapChan => Did::Asks(Ask::MakeSwap),
         Act::IVar => Did::Asks(Ask::MakeIVar),
         Act::MVar => Did::Asks(Ask::MakeMVar(None)),
         Act::Mailbox => Did::Asks(Ask::MakeMailbox),

@@ -5,7 +5,9 @@ ghost use Rattle.cml_step.specs.Faults.{Gives};
 ghost use Rattle.cml_step.specs.Kinds as spec;
 
 use crate::fault::{Fault, Stop};
-use cml_value::{ChanId, Event, IVarId, MVarId, MboxId, McastId, PortId, Tid, Value, ValueKind};
+use cml_value::{
+    ChanId, Event, IVarId, MVarId, MboxId, McastId, PortId, SwapId, Tid, Value, ValueKind,
+};
 
 /// The number that a value is.
 pub(crate) fn number_of(value: &Value) -> Result<i64, Stop>
@@ -73,6 +75,16 @@ pub(crate) fn chan_of(value: &Value) -> Result<ChanId, Stop>
 {
     match value.kind() {
         ValueKind::Chan(c) => Ok(*c),
+        _ => Err(Stop::Fault(Fault::Kind)),
+    }
+}
+
+/// The swap channel that a value is.
+pub(crate) fn swapchan_of(value: &Value) -> Result<SwapId, Stop>
+    ensures { Gives (λ s. s.0) result (spec.swapchan_of value.now) }
+{
+    match value.kind() {
+        ValueKind::Swap(s) => Ok(*s),
         _ => Err(Stop::Fault(Fault::Kind)),
     }
 }

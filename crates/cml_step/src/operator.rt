@@ -9,8 +9,8 @@ ghost use Rattle.cml_step.specs.Same.{are_same};
 
 use crate::fault::{Fault, Stop};
 use crate::kind::{
-    chan_of, first_of, ivar_of, mailbox_of, mvar_of, number_of, port_of, second_of, thread_of,
-    truth_of,
+    chan_of, first_of, ivar_of, mailbox_of, mvar_of, number_of, port_of, second_of, swapchan_of,
+    thread_of, truth_of,
 };
 use cml_check::{Binary, Constant, Unary};
 use cml_value::{Base, BaseKind, Event, EventKind, Value, ValueKind};
@@ -164,6 +164,10 @@ pub(crate) fn binary_value(
         Binary::Send => {
             let channel = chan_of(&first)?;
             base_value(alloc, BaseKind::Send(channel, second))
+        }
+        Binary::Swap => {
+            let channel = swapchan_of(&first)?;
+            base_value(alloc, BaseKind::Swap(channel, second))
         }
         Binary::MSwap => {
             let variable = mvar_of(&first)?;

@@ -78,8 +78,8 @@ const CASES: &[Case] = &[
     },
     Case {
         name: "values-of-every-kind",
-        input: "spawn\nspawn\nchan\nsync 1 (recv 0)\nsync 0 (send 0 ())\ncommit 0 0 1 0\nsync 1 (recv 0)\nsync 0 (send 0 true)\ncommit 0 0 1 0\nsync 1 (recv 0)\nsync 0 (send 0 false)\ncommit 0 0 1 0\nsync 1 (recv 0)\nsync 0 (send 0 -7)\ncommit 0 0 1 0\nsync 1 (recv 0)\nsync 0 (send 0 \"a \\\"text\\\" of\\ntwo lines\")\ncommit 0 0 1 0\nsync 1 (recv 0)\nsync 0 (send 0 (pair (pair 1 \"one\") ()))\ncommit 0 0 1 0\nsync 1 (recv 0)\nsync 0 (send 0 (thread 1))\ncommit 0 0 1 0\nsync 1 (recv 0)\nsync 0 (send 0 (chan 0))\ncommit 0 0 1 0\nsync 1 (recv 0)\nsync 0 (send 0 (ivar 2))\ncommit 0 0 1 0\nsync 1 (recv 0)\nsync 0 (send 0 (mvar 3))\ncommit 0 0 1 0\nsync 1 (recv 0)\nsync 0 (send 0 (mailbox 4))\ncommit 0 0 1 0\nsync 1 (recv 0)\nsync 0 (send 0 (mchan 5))\ncommit 0 0 1 0\nsync 1 (recv 0)\nsync 0 (send 0 (port 4294967295))\ncommit 0 0 1 0\n",
-        output: "thread 0\nthread 1\nchan 0\nok\nok\nresume 0 ()\nresume 1 ()\nfired\nok\nok\nresume 0 ()\nresume 1 true\nfired\nok\nok\nresume 0 ()\nresume 1 false\nfired\nok\nok\nresume 0 ()\nresume 1 -7\nfired\nok\nok\nresume 0 ()\nresume 1 \"a \\\"text\\\" of\\ntwo lines\"\nfired\nok\nok\nresume 0 ()\nresume 1 (pair (pair 1 \"one\") ())\nfired\nok\nok\nresume 0 ()\nresume 1 (thread 1)\nfired\nok\nok\nresume 0 ()\nresume 1 (chan 0)\nfired\nok\nok\nresume 0 ()\nresume 1 (ivar 2)\nfired\nok\nok\nresume 0 ()\nresume 1 (mvar 3)\nfired\nok\nok\nresume 0 ()\nresume 1 (mailbox 4)\nfired\nok\nok\nresume 0 ()\nresume 1 (mchan 5)\nfired\nok\nok\nresume 0 ()\nresume 1 (port 4294967295)\nfired\n",
+        input: "spawn\nspawn\nchan\nsync 1 (recv 0)\nsync 0 (send 0 ())\ncommit 0 0 1 0\nsync 1 (recv 0)\nsync 0 (send 0 true)\ncommit 0 0 1 0\nsync 1 (recv 0)\nsync 0 (send 0 false)\ncommit 0 0 1 0\nsync 1 (recv 0)\nsync 0 (send 0 -7)\ncommit 0 0 1 0\nsync 1 (recv 0)\nsync 0 (send 0 \"a \\\"text\\\" of\\ntwo lines\")\ncommit 0 0 1 0\nsync 1 (recv 0)\nsync 0 (send 0 (pair (pair 1 \"one\") ()))\ncommit 0 0 1 0\nsync 1 (recv 0)\nsync 0 (send 0 (thread 1))\ncommit 0 0 1 0\nsync 1 (recv 0)\nsync 0 (send 0 (chan 0))\ncommit 0 0 1 0\nsync 1 (recv 0)\nsync 0 (send 0 (ivar 2))\ncommit 0 0 1 0\nsync 1 (recv 0)\nsync 0 (send 0 (mvar 3))\ncommit 0 0 1 0\nsync 1 (recv 0)\nsync 0 (send 0 (mailbox 4))\ncommit 0 0 1 0\nsync 1 (recv 0)\nsync 0 (send 0 (mchan 5))\ncommit 0 0 1 0\nsync 1 (recv 0)\nsync 0 (send 0 (port 4294967295))\ncommit 0 0 1 0\nsync 1 (recv 0)\nsync 0 (send 0 (swapchan 6))\ncommit 0 0 1 0\n",
+        output: "thread 0\nthread 1\nchan 0\nok\nok\nresume 0 ()\nresume 1 ()\nfired\nok\nok\nresume 0 ()\nresume 1 true\nfired\nok\nok\nresume 0 ()\nresume 1 false\nfired\nok\nok\nresume 0 ()\nresume 1 -7\nfired\nok\nok\nresume 0 ()\nresume 1 \"a \\\"text\\\" of\\ntwo lines\"\nfired\nok\nok\nresume 0 ()\nresume 1 (pair (pair 1 \"one\") ())\nfired\nok\nok\nresume 0 ()\nresume 1 (thread 1)\nfired\nok\nok\nresume 0 ()\nresume 1 (chan 0)\nfired\nok\nok\nresume 0 ()\nresume 1 (ivar 2)\nfired\nok\nok\nresume 0 ()\nresume 1 (mvar 3)\nfired\nok\nok\nresume 0 ()\nresume 1 (mailbox 4)\nfired\nok\nok\nresume 0 ()\nresume 1 (mchan 5)\nfired\nok\nok\nresume 0 ()\nresume 1 (port 4294967295)\nfired\nok\nok\nresume 0 ()\nresume 1 (swapchan 6)\nfired\n",
         status: 0,
     },
     Case {
@@ -167,6 +167,42 @@ const CASES: &[Case] = &[
         status: 0,
     },
     Case {
+        name: "swap-rows",
+        input: "spawn\nspawn\nspawn\nswapchan\nsync 2 (swap 0 \"c\")\nsync 0 (choose (swap 0 \"a\") (swap 0 \"x\"))\nrows\nsync 1 (swap 0 \"b\")\nrows\ncommit 1 0 0 0\ncommit 0 1 2 0\nrows\n",
+        output: "thread 0\nthread 1\nthread 2\nswapchan 0\nok\nok\nrows 2\nrow 0 0 2 0\nrow 0 1 2 0\nok\nrows 5\nrow 0 0 1 0\nrow 0 0 2 0\nrow 0 1 1 0\nrow 0 1 2 0\nrow 1 0 2 0\nrefused 5 row\nresume 0 \"c\"\nresume 2 \"x\"\nfired\nrows 0\n",
+        status: 0,
+    },
+    Case {
+        name: "swaps-of-other-channels",
+        input: "spawn\nspawn\nchan\nswapchan\nswapchan\nsync 0 (choose (swap 0 1) (send 0 2))\nsync 1 (choose (swap 1 3) (recv 0))\nrows\ncommit 0 0 1 0\n",
+        output: "thread 0\nthread 1\nchan 0\nswapchan 0\nswapchan 1\nok\nok\nrows 1\nrow 0 1 1 1\nrefused 5 row\n",
+        status: 0,
+    },
+    Case {
+        name: "swap-through-wraps-and-nacks",
+        input: "spawn\nspawn\nswapchan\nnack 0\nnack 1\nsync 0 (choose (wrap (swap 0 \"a\") 5) (scope 0 never))\nsync 1 (choose (scope 1 never) (wrap (wrap (swap 0 \"b\") 6 1) 7))\nrows\ncommit 0 0 1 0\n",
+        output: "thread 0\nthread 1\nswapchan 0\nnack 0\nnack 1\nok\nok\nrows 1\nrow 0 0 1 0\nresume 0 \"b\" (5)\nresume 1 \"a\" (6 1) (7)\nfired 0 1\n",
+        status: 0,
+    },
+    Case {
+        name: "swap-taken-once",
+        input: "spawn\nspawn\nspawn\nswapchan\nsync 0 (swap 0 0)\nsync 1 (swap 0 1)\nsync 2 (swap 0 2)\ncommit 1 0 2 0\nrows\ncommit 0 0 1 0\nsync 2 (swap 0 (swapchan 0))\nrows\ncommit 0 0 2 0\n",
+        output: "thread 0\nthread 1\nthread 2\nswapchan 0\nok\nok\nok\nresume 1 2\nresume 2 1\nfired\nrows 0\nrefused 5 row\nok\nrows 1\nrow 0 0 2 0\nresume 0 (swapchan 0)\nresume 2 0\nfired\n",
+        status: 0,
+    },
+    Case {
+        name: "swaps-of-wrong-shape",
+        input: "swapchan\nspawn\nsync 0 (swap 0)\n",
+        output: "swapchan 0\nthread 0\nbad 3\n",
+        status: 2,
+    },
+    Case {
+        name: "swap-channel-of-wrong-shape",
+        input: "swapchan 0\n",
+        output: "bad 1\n",
+        status: 2,
+    },
+    Case {
         name: "timeouts-and-clock",
         input: "spawn\nspawn\nclock 5\nsync 0 (after 10)\nclock 14\nrows\nclock 15\nrows\nsync 1 (after 0)\nrows\nclock 3\n",
         output: "thread 0\nthread 1\nok\nok\nok\nrows 0\nok\nrows 1\nrow 0 0\nok\nrows 2\nrow 0 0\nrow 1 0\nrefused 6 clock\n",
@@ -192,8 +228,8 @@ const CASES: &[Case] = &[
     },
     Case {
         name: "missing-objects",
-        input: "port 0\ncopy 0\niput 0 1\nmput 0 1\nmail 0 1\nmulticast 0 1\nspawn\nsync 0 (iget 0)\nsync 0 (mtake 0)\nsync 0 (mget 0)\nsync 0 (mswap 0 1)\nsync 0 (mailrecv 0)\nsync 0 (portrecv 0)\nsync 0 (join 1)\n",
-        output: "refused 3 object\nrefused 3 object\nrefused 3 object\nrefused 3 object\nrefused 3 object\nrefused 3 object\nthread 0\nrefused 3 object\nrefused 3 object\nrefused 3 object\nrefused 3 object\nrefused 3 object\nrefused 3 object\nrefused 3 object\n",
+        input: "port 0\ncopy 0\niput 0 1\nmput 0 1\nmail 0 1\nmulticast 0 1\nspawn\nsync 0 (iget 0)\nsync 0 (mtake 0)\nsync 0 (mget 0)\nsync 0 (mswap 0 1)\nsync 0 (mailrecv 0)\nsync 0 (portrecv 0)\nsync 0 (join 1)\nsync 0 (swap 0 1)\n",
+        output: "refused 3 object\nrefused 3 object\nrefused 3 object\nrefused 3 object\nrefused 3 object\nrefused 3 object\nthread 0\nrefused 3 object\nrefused 3 object\nrefused 3 object\nrefused 3 object\nrefused 3 object\nrefused 3 object\nrefused 3 object\nrefused 3 object\n",
         status: 0,
     },
     Case {

@@ -59,6 +59,18 @@ const EXAMPLES: &[Case] = &[
         status: 0,
     },
     Case {
+        name: "swap",
+        input: "; Two threads meet on a swap channel: each offers a value, and gets the other's. Thread 1 is there first.\nspawn\nspawn\nswapchan\nsync 1 (swap 0 \"from thread 1\")\nrows\n; Now both are there. The lower thread begins the row.\nsync 0 (swap 0 \"from thread 0\")\nrows\ncommit 0 0 1 0\nrows\n",
+        output: "thread 0\nthread 1\nswapchan 0\nok\nrows 0\nok\nrows 1\nrow 0 0 1 0\nresume 0 \"from thread 1\"\nresume 1 \"from thread 0\"\nfired\nrows 0\n",
+        status: 0,
+    },
+    Case {
+        name: "swap-or-time-out",
+        input: "; One choice: a swap with whoever comes, or 10 ticks from now on.\nspawn\nspawn\nswapchan\nsync 0 (choose (swap 0 \"mine\") (wrap (after 10) 1 \"timed out\"))\nclock 9\nrows\n; Nobody came, and the time is up.\nclock 10\nrows\ncommit 0 1\n; Thread 0 offers its value again, and now thread 1 comes in time.\nsync 0 (choose (swap 0 \"mine\") (wrap (after 10) 1 \"timed out\"))\nsync 1 (swap 0 \"yours\")\nrows\ncommit 0 0 1 0\nrows\n",
+        output: "thread 0\nthread 1\nswapchan 0\nok\nok\nrows 0\nok\nrows 1\nrow 0 1\nresume 0 () (1 \"timed out\")\nfired\nok\nok\nrows 1\nrow 0 0 1 0\nresume 0 \"yours\"\nresume 1 \"mine\"\nfired\nrows 0\n",
+        status: 0,
+    },
+    Case {
         name: "time-out",
         input: "; One choice: a message on channel 0, or 10 ticks from now on.\nspawn\nchan\nclock 100\nsync 0 (choose (recv 0) (wrap (after 10) 1 \"timed out\"))\nclock 109\nrows\n; Nobody sent, and the time is up.\nclock 110\nrows\ncommit 0 1\n",
         output: "thread 0\nchan 0\nok\nok\nok\nrows 0\nok\nrows 1\nrow 0 1\nresume 0 () (1 \"timed out\")\nfired\n",

@@ -12,6 +12,15 @@ const VARIABLES: &[Long] = &[
         status: 0,
     },
     Long {
+        name: "swap-channel-limit",
+        input: &[Part::Times("swapchan\n", 65_537)],
+        output: &[
+            Part::Each("swapchan", 65_536),
+            Part::Once("refused 10 full\n"),
+        ],
+        status: 0,
+    },
+    Long {
         name: "ivar-limit",
         input: &[Part::Times("ivar\n", 65_537)],
         output: &[Part::Each("ivar", 65_536), Part::Once("refused 10 full\n")],
@@ -160,6 +169,30 @@ const OTHERS: &[Long] = &[
             Part::Once("\n"),
         ],
         output: &[Part::Once("refused 8 deep\n")],
+        status: 0,
+    },
+    Long {
+        name: "swapped-value-depth-63",
+        input: &[
+            Part::Once("spawn\nswapchan\nsync 0 (swap 0 "),
+            Part::Times("(pair ", 62),
+            Part::Once("1"),
+            Part::Times(" 1)", 62),
+            Part::Once(")\n"),
+        ],
+        output: &[Part::Once("thread 0\nswapchan 0\nok\n")],
+        status: 0,
+    },
+    Long {
+        name: "swapped-value-depth-64",
+        input: &[
+            Part::Once("spawn\nswapchan\nsync 0 (swap 0 "),
+            Part::Times("(pair ", 63),
+            Part::Once("1"),
+            Part::Times(" 1)", 63),
+            Part::Once(")\n"),
+        ],
+        output: &[Part::Once("thread 0\nswapchan 0\nrefused 8 deep\n")],
         status: 0,
     },
     Long {

@@ -215,12 +215,22 @@ const SCRIPTS: &[Script] = &[
         status: 2,
     },
     Script {
-        name: "swap-words-free-before",
+        name: "swaps-in-a-script",
         words: "check F",
-        text: &[Part::Once("(fn swap (swapchan) (print swapchan)) (fn main () (call swap 1))")],
+        text: &[Part::Once(
+            "(fn other (s) (let y (sync (swap s 2))) (print y)) (fn main () (let s (swapchan)) (spawn other s) (let x (sync (swap s 1))) (print x))",
+        )],
         output: "ok functions 2\n",
         errors: "",
         status: 0,
+    },
+    Script {
+        name: "swap-words-reserved",
+        words: "check F",
+        text: &[Part::Once("(fn swap (swapchan) (print swapchan)) (fn main () (call swap 1))")],
+        output: "",
+        errors: "check 1 form at 4\n",
+        status: 2,
     },
     Script {
         name: "text-unclosed-inner-check",

@@ -1,11 +1,12 @@
 -- What the spellings of keywords name.
 use Rattle.std.proofs.Common.{refl}
-use Rattle.cml_trace.specs.declared.keyword.Keyword.TheVariants.{Spawn, Chan, IVar, MVar, Mailbox, Mchan, Port, Copy, IPut, MPut, Mail, Multicast, Nack, Sync, Rows, Commit, End, Clock, Never, Choose, Wrap, Scope, Always, Send, Recv, IGet, MTake, MGet, MSwap, MailRecv, PortRecv, Join, At, After, True, False, Pair, Thread}
+use Rattle.cml_trace.specs.declared.keyword.Keyword.TheVariants.{Spawn, Chan, SwapChan, IVar, MVar, Mailbox, Mchan, Port, Copy, IPut, MPut, Mail, Multicast, Nack, Sync, Rows, Commit, End, Clock, Never, Choose, Wrap, Scope, Always, Send, Recv, Swap, IGet, MTake, MGet, MSwap, MailRecv, PortRecv, Join, At, After, True, False, Pair, Thread}
 use Rattle.cml_trace.specs.Laws.{SpellingNamesKeyword}
 
 pub spelling_names_keyword : SpellingNamesKeyword
 spelling_names_keyword Spawn = refl
 spelling_names_keyword Chan = refl
+spelling_names_keyword SwapChan = refl
 spelling_names_keyword IVar = refl
 spelling_names_keyword MVar = refl
 spelling_names_keyword Mailbox = refl
@@ -29,6 +30,7 @@ spelling_names_keyword Scope = refl
 spelling_names_keyword Always = refl
 spelling_names_keyword Send = refl
 spelling_names_keyword Recv = refl
+spelling_names_keyword Swap = refl
 spelling_names_keyword IGet = refl
 spelling_names_keyword MTake = refl
 spelling_names_keyword MGet = refl

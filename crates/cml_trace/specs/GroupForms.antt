@@ -1,7 +1,8 @@
 -- The groups that forms of a trace are: never, (choose G*), (wrap G F V*), (scope N G), and the base events (always V), (send C V),
--- (recv C), (iget I), (mtake M), (mget M), (mswap M V), (mailrecv B), (portrecv P), (join T), (at K), (after K) and (nack N).
+-- (recv C), (swap X V), (iget I), (mtake M), (mget M), (mswap M V), (mailrecv B), (portrecv P), (join T), (at K), (after K) and
+-- (nack N).
 use Rattle.std.specs.Prelude.{ℕ, List, [], ◌∷◌, drop, map, Option, Some, None, option_map, option_and_then}
-use Rattle.cml_value.specs.Value.{PlainValue, values, PlainFunction, function, PlainBase, always, send, recv, iget, mtake, mget, mswap, mail_recv, port_recv, join, at_tick, after_ticks, nack}
+use Rattle.cml_value.specs.Value.{PlainValue, values, PlainFunction, function, PlainBase, always, send, recv, swap, iget, mtake, mget, mswap, mail_recv, port_recv, join, at_tick, after_ticks, nack}
 use Rattle.cml_value.specs.Group.{PlainGroup, never, leaf, choose, wrap, scope, groups}
 use Rattle.cml_text.specs.Forms.{PlainSexpr, plain_name, plain_list, PlainForms, no_forms, forms_and, forms_list}
 use Rattle.cml_trace.specs.declared.keyword.Keyword.{Keyword}
@@ -23,9 +24,10 @@ naming keyword.Join = Some join
 naming keyword.Nack = Some nack
 naming _ = None
 
--- those that name a channel or a variable and hand over a value
+-- those that name a channel, a swap channel or a variable and hand over a value
 abbrev pub giving : Keyword → Option (ℕ → PlainValue → PlainBase)
 giving keyword.Send = Some send
+giving keyword.Swap = Some swap
 giving keyword.MSwap = Some mswap
 giving _ = None
 
@@ -55,6 +57,7 @@ always_by _ = None
 abbrev pub base_by : Keyword → List PlainSexpr → Option PlainBase
 base_by keyword.Always forms = always_by forms
 base_by keyword.Send forms = giving_by keyword.Send forms
+base_by keyword.Swap forms = giving_by keyword.Swap forms
 base_by keyword.MSwap forms = giving_by keyword.MSwap forms
 base_by keyword.At forms = timing_by keyword.At forms
 base_by keyword.After forms = timing_by keyword.After forms

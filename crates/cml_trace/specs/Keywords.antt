@@ -3,12 +3,13 @@ use Rattle.std.specs.Prelude.{ℕ, List, [], ◌∷◌, codes, find, Option, Non
 use Rattle.std.specs.Str.{bytes_eq}
 use Rattle.cml_text.specs.Forms.{PlainSexpr, plain_name}
 use Rattle.cml_trace.specs.declared.keyword.Keyword.{Keyword}
-use Rattle.cml_trace.specs.declared.keyword.Keyword.TheVariants.{Spawn, Chan, IVar, MVar, Mailbox, Mchan, Port, Copy, IPut, MPut, Mail, Multicast, Nack, Sync, Rows, Commit, End, Clock, Never, Choose, Wrap, Scope, Always, Send, Recv, IGet, MTake, MGet, MSwap, MailRecv, PortRecv, Join, At, After, True, False, Pair, Thread}
+use Rattle.cml_trace.specs.declared.keyword.Keyword.TheVariants.{Spawn, Chan, SwapChan, IVar, MVar, Mailbox, Mchan, Port, Copy, IPut, MPut, Mail, Multicast, Nack, Sync, Rows, Commit, End, Clock, Never, Choose, Wrap, Scope, Always, Send, Recv, Swap, IGet, MTake, MGet, MSwap, MailRecv, PortRecv, Join, At, After, True, False, Pair, Thread}
 
 -- how each keyword is spelled
 abbrev pub spelling : Keyword → List ℕ
 spelling Spawn = codes "spawn"
 spelling Chan = codes "chan"
+spelling SwapChan = codes "swapchan"
 spelling IVar = codes "ivar"
 spelling MVar = codes "mvar"
 spelling Mailbox = codes "mailbox"
@@ -32,6 +33,7 @@ spelling Scope = codes "scope"
 spelling Always = codes "always"
 spelling Send = codes "send"
 spelling Recv = codes "recv"
+spelling Swap = codes "swap"
 spelling IGet = codes "iget"
 spelling MTake = codes "mtake"
 spelling MGet = codes "mget"
@@ -49,10 +51,10 @@ spelling Thread = codes "thread"
 -- each keyword once
 abbrev pub all_keywords : List Keyword
 all_keywords =
-    Spawn ∷ Chan ∷ IVar ∷ MVar ∷ Mailbox ∷ Mchan ∷
+    Spawn ∷ Chan ∷ SwapChan ∷ IVar ∷ MVar ∷ Mailbox ∷ Mchan ∷
     Port ∷ Copy ∷ IPut ∷ MPut ∷ Mail ∷ Multicast ∷
     Nack ∷ Sync ∷ Rows ∷ Commit ∷ End ∷ Clock ∷
-    Never ∷ Choose ∷ Wrap ∷ Scope ∷ Always ∷ Send ∷ Recv ∷
+    Never ∷ Choose ∷ Wrap ∷ Scope ∷ Always ∷ Send ∷ Recv ∷ Swap ∷
     IGet ∷ MTake ∷ MGet ∷ MSwap ∷ MailRecv ∷ PortRecv ∷ Join ∷ At ∷ After ∷
     True ∷ False ∷ Pair ∷ Thread ∷ []
 

@@ -1,5 +1,5 @@
--- What a line of a trace asks for: rows, or one of the commands spawn, chan, ivar, mvar, mvar V, mailbox, mchan, port X, copy P, iput I V,
--- mput M V, mail B V, multicast X V, nack T, sync T G, commit T L, commit T L U M, end T, clock K.
+-- What a line of a trace asks for: rows, or one of the commands spawn, chan, swapchan, ivar, mvar, mvar V, mailbox, mchan, port X, copy P,
+-- iput I V, mput M V, mail B V, multicast X V, nack T, sync T G, commit T L, commit T L U M, end T, clock K.
 use Rattle.std.specs.Prelude.{◌≡◌, ◌⊎◌, ℕ, List, [], ◌∷◌, Option, Some, None, option_map, option_and_then}
 use Rattle.cml_scan.specs.declared.meet.Meet.{Meet}
 use Rattle.cml_scan.specs.declared.meet.Meet.TheVariants.{Single, Pair}
@@ -35,6 +35,7 @@ place t n = both (λ thread leaf. (thread, leaf)) (number_from t) (number_from n
 abbrev pub making : Keyword → Option Command
 making keyword.Spawn = Some command.Spawn
 making keyword.Chan = Some command.MakeChan
+making keyword.SwapChan = Some command.MakeSwap
 making keyword.IVar = Some command.MakeIVar
 making keyword.Mailbox = Some command.MakeMailbox
 making keyword.Mchan = Some command.MakeMChan

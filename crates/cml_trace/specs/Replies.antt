@@ -15,7 +15,7 @@ use Rattle.cml_book.specs.declared.command.Committed.{Committed}
 use Rattle.cml_book.specs.declared.command.Reply.{Reply}
 use Rattle.cml_book.specs.declared.command.Reply.TheVariants as reply
 
--- a row: the threads and leaves, of a pair the sender first
+-- a row: the threads and leaves, of a pair the head first
 abbrev pub row_line : Meet → List ℕ
 row_line row = line (codes "row" ++ numbers_of row)
 
@@ -59,6 +59,7 @@ refused_line why = line (codes "refused" ++ spaced (number_of why) ++ codes " " 
 abbrev pub reply_text : Reply → List ℕ
 reply_text (reply.Thread t) = line (codes "thread" ++ spaced t.0)
 reply_text (reply.Chan c) = line (codes "chan" ++ spaced c.0)
+reply_text (reply.Swap s) = line (codes "swapchan" ++ spaced s.0)
 reply_text (reply.IVar i) = line (codes "ivar" ++ spaced i.0)
 reply_text (reply.MVar m) = line (codes "mvar" ++ spaced m.0)
 reply_text (reply.Mailbox b) = line (codes "mailbox" ++ spaced b.0)

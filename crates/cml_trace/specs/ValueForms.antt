@@ -1,7 +1,7 @@
 -- The values that forms of a trace are: a number, a text, true and false, (), and the lists that pairs, threads and objects are
 -- printed as.
 use Rattle.std.specs.Prelude.{ℕ, List, [], ◌∷◌, true, false, Option, Some, None}
-use Rattle.cml_value.specs.Value.{PlainValue, unit, int, truth, text, pair, thread, chan, ivar, mvar, mailbox, mchan, port}
+use Rattle.cml_value.specs.Value.{PlainValue, unit, int, truth, text, pair, thread, chan, swapchan, ivar, mvar, mailbox, mchan, port}
 use Rattle.cml_text.specs.Forms.{PlainSexpr, plain_name, plain_int, plain_text, plain_list, no_forms, forms_and}
 use Rattle.cml_text.specs.Numbers.{number_from}
 use Rattle.cml_trace.specs.declared.keyword.Keyword.{Keyword}
@@ -19,6 +19,7 @@ truth_of _ = None
 abbrev pub object_by : Keyword → ℕ → Option PlainValue
 object_by keyword.Thread n = Some (thread n)
 object_by keyword.Chan n = Some (chan n)
+object_by keyword.SwapChan n = Some (swapchan n)
 object_by keyword.IVar n = Some (ivar n)
 object_by keyword.MVar n = Some (mvar n)
 object_by keyword.Mailbox n = Some (mailbox n)

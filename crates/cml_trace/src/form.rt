@@ -6,7 +6,7 @@ ghost use Rattle.cml_trace.specs.Given.{all_of};
 
 use crate::keyword::{Keyword, keyword_from, keyword_of};
 use cml_text::{Sexpr, Shape, number_from};
-use cml_value::{ChanId, IVarId, MVarId, MboxId, McastId, PortId, Tid, Value, ValueKind};
+use cml_value::{ChanId, IVarId, MVarId, MboxId, McastId, PortId, SwapId, Tid, Value, ValueKind};
 use std::alloc::{AllocError, Global};
 
 /// The value that the form is, if it is one.
@@ -103,6 +103,7 @@ fn object_from(kind: Option<Keyword>, number: Option<u32>) -> Option<Value>
     let kind = match kind? {
         Keyword::Thread => ValueKind::Thread(Tid(n)),
         Keyword::Chan => ValueKind::Chan(ChanId(n)),
+        Keyword::SwapChan => ValueKind::Swap(SwapId(n)),
         Keyword::IVar => ValueKind::IVar(IVarId(n)),
         Keyword::MVar => ValueKind::MVar(MVarId(n)),
         Keyword::Mailbox => ValueKind::Mailbox(MboxId(n)),

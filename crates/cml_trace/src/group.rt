@@ -12,8 +12,8 @@ use crate::form::{number_and_value, value_from, values_from};
 use crate::keyword::{Keyword, head_of, keyword_from};
 use cml_text::{Sexpr, Shape, number_from, tick_from};
 use cml_value::{
-    Base, BaseKind, ChanId, FnRef, Group, GroupKind, IVarId, MVarId, MboxId, NackId, PortId, Tid,
-    Value,
+    Base, BaseKind, ChanId, FnRef, Group, GroupKind, IVarId, MVarId, MboxId, NackId, PortId,
+    SwapId, Tid, Value,
 };
 use std::alloc::{AllocError, Global};
 
@@ -145,7 +145,7 @@ fn base_by(alloc: Global, keyword: Keyword, forms: &[Sexpr]) -> Result<Option<Ba
 {
     match keyword {
         Keyword::Always => always_by(alloc, forms),
-        Keyword::Send | Keyword::MSwap => giving_by(alloc, keyword, forms),
+        Keyword::Send | Keyword::Swap | Keyword::MSwap => giving_by(alloc, keyword, forms),
         Keyword::At | Keyword::After => Ok(timing_by(keyword, forms)),
         _ => Ok(naming_by(keyword, forms)),
     }
@@ -163,7 +163,7 @@ fn always_by(alloc: Global, forms: &[Sexpr]) -> Result<Option<Base>, AllocError>
     }
 }
 
-// The base event that names a channel or a variable and hands over a value.
+// The base event that names a channel, a swap channel or a variable and hands over a value.
 fn giving_by(alloc: Global, keyword: Keyword, forms: &[Sexpr]) -> Result<Option<Base>, AllocError>
     ensures { IfOk result (λ base. base ≡ spec.giving_by keyword forms.now) }
 {
@@ -178,6 +178,7 @@ fn giving(keyword: Keyword, n: u32, value: Value) -> Option<Base>
 {
     match keyword {
         Keyword::Send => Some(Base::new(BaseKind::Send(ChanId(n), value))),
+        Keyword::Swap => Some(Base::new(BaseKind::Swap(SwapId(n), value))),
         Keyword::MSwap => Some(Base::new(BaseKind::MSwap(MVarId(n), value))),
         _ => None,
     }

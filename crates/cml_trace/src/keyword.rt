@@ -11,6 +11,7 @@ use cml_text::{Sexpr, Shape};
 pub enum Keyword {
     Spawn,
     Chan,
+    SwapChan,
     IVar,
     MVar,
     Mailbox,
@@ -34,6 +35,7 @@ pub enum Keyword {
     Always,
     Send,
     Recv,
+    Swap,
     IGet,
     MTake,
     MGet,
@@ -57,6 +59,7 @@ impl Keyword {
         match self {
             Keyword::Spawn => "spawn",
             Keyword::Chan => "chan",
+            Keyword::SwapChan => "swapchan",
             Keyword::IVar => "ivar",
             Keyword::MVar => "mvar",
             Keyword::Mailbox => "mailbox",
@@ -80,6 +83,7 @@ impl Keyword {
             Keyword::Always => "always",
             Keyword::Send => "send",
             Keyword::Recv => "recv",
+            Keyword::Swap => "swap",
             Keyword::IGet => "iget",
             Keyword::MTake => "mtake",
             Keyword::MGet => "mget",
@@ -137,7 +141,14 @@ pub fn keyword_of(name: &str) -> Option<Keyword>
         Some(b'r') => among(name, &[Keyword::Rows, Keyword::Recv]),
         Some(b's') => among(
             name,
-            &[Keyword::Spawn, Keyword::Sync, Keyword::Scope, Keyword::Send],
+            &[
+                Keyword::Spawn,
+                Keyword::SwapChan,
+                Keyword::Sync,
+                Keyword::Scope,
+                Keyword::Send,
+                Keyword::Swap,
+            ],
         ),
         Some(b't') => among(name, &[Keyword::True, Keyword::Thread]),
         Some(b'w') => among(name, &[Keyword::Wrap]),

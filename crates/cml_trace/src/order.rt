@@ -86,6 +86,7 @@ fn making_by(keyword: Keyword, forms: &[Sexpr]) -> Option<Command>
     match keyword {
         Keyword::Spawn => Some(Command::Spawn),
         Keyword::Chan => Some(Command::MakeChan),
+        Keyword::SwapChan => Some(Command::MakeSwap),
         Keyword::IVar => Some(Command::MakeIVar),
         Keyword::Mailbox => Some(Command::MakeMailbox),
         Keyword::Mchan => Some(Command::MakeMChan),

@@ -51,6 +51,7 @@ fn push_reply(alloc: Global, text: &mut String, reply: &Reply) -> Result<(), All
     match reply {
         Reply::Thread(thread) => writeln!(text, "thread {}", thread.0),
         Reply::Chan(channel) => writeln!(text, "chan {}", channel.0),
+        Reply::Swap(channel) => writeln!(text, "swapchan {}", channel.0),
         Reply::IVar(variable) => writeln!(text, "ivar {}", variable.0),
         Reply::MVar(variable) => writeln!(text, "mvar {}", variable.0),
         Reply::Mailbox(mailbox) => writeln!(text, "mailbox {}", mailbox.0),
