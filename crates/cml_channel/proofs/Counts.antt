@@ -351,3 +351,10 @@ last_above tid ps e up some = at (nat_lt tid.0 (get_or ps (length ps - 1) e).tid
         let m = above_many tid ps in
         let none : length (those (Above tid) ps) ≡ 0 = omega (arith, m.many, high) in
         sym (any_none (is_of (Above tid)) ps (nil_from_length (those (Above tid) ps) none))
+
+-- the same, where so many of the offers are not of those threads
+pub above_behind : (tid : Tid) (ps : List Place) (own j : ℕ) (d : Place) → Ascends before ps → own + length (those (Above tid) ps) ≡ length ps → get_or (those (Above tid) ps) j d ≡ get_or ps (own + j) d
+above_behind tid ps own j d up rest =
+    let m = above_many tid ps in
+    let same : count_under (UpTo tid) ps ≡ own = omega (arith, m.many, rest) in
+    above_at tid ps j d up ∙ ap (λ n. get_or ps (n + j) d) same

@@ -1,1 +1,2 @@
-mod Counts
+pub mod Counts
+pub mod Pairs

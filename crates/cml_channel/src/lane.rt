@@ -22,6 +22,18 @@ pub enum Whom {
     Above(Tid),
 }
 
+impl Whom {
+    /// Whether the offers of this thread are meant.
+    pub fn is(self, other: Tid) -> bool
+        ensures { (leaf : ℕ) → result ≡ spec.is_of self (record { tid = other; leaf = leaf }) }
+    {
+        match self {
+            Whom::Others(tid) => tid.0 != other.0,
+            Whom::Above(tid) => tid.0 < other.0,
+        }
+    }
+}
+
 // Where a search in a lane ends.
 #[derive(Clone, Copy)]
 enum Bound {

@@ -9,6 +9,6 @@ mod tally;
 
 pub use channel::{ChannelSide, Channels};
 pub use lane::{Lane, Whom};
-pub use pairing::{PairedId, Pairing, SidePlace, hands, meets, place};
+pub use pairing::{PairedId, Pairing, SidePlace, do_meet, hands, place};
 pub use swap::{SwapChannels, SwapSide};
 pub use tally::Tally;

@@ -1,7 +1,7 @@
 //! The kinds of objects over which two threads meet. Here they are listed; what is said of each kind is said by its `Paired`.
 
 ghost use Rattle.std.specs.Prelude.{◌≡◌, true, if◌then◌else◌, option_map};
-ghost use Rattle.cml_scan.specs.Scan.{meets as meets_in_scan};
+ghost use Rattle.cml_scan.specs.Scan.{meets, do_meet as do_meet_in_scan};
 ghost use Rattle.cml_channel.specs.Handed.{handed};
 ghost use Rattle.cml_channel.specs.Pairings as spec;
 
@@ -84,14 +84,23 @@ pub fn place(base: &Base) -> Option<SidePlace>
     }
 }
 
-/// Whether the two base events are the sides of one communication, the first as its head: both are sides of one object, the
-/// first heads, and the second does not, but in a kind with one lane.
-pub fn meets(head: &Base, other: &Base) -> bool
-    ensures { result ≡ meets_in_scan head.now other.now }
+impl SidePlace {
+    // Whether offers at the two places are the sides of one communication, the first as its head: the first can stand first, and the
+    // second stands with those whom it meets.
+    fn leads(&self, other: &SidePlace) -> bool
+        ensures { result ≡ spec.leads self.now other.now }
+    {
+        self.heads && self.object == other.object && self.object.kind.one_lane() == other.heads
+    }
+}
+
+/// Whether leaves of the two threads that wait for these communicate, the first as the head.
+#[tactic(auto, using(crate::proofs::Pairs::do_meet_by_place))]
+pub fn do_meet(head: Tid, first: &Base, other: Tid, second: &Base) -> bool
+    ensures { result ≡ do_meet_in_scan head.0 first.now other.0 second.now }
 {
-    match (place(head), place(other)) {
-        (Some(s), Some(t)) =>
-            s.heads && s.object == t.object && t.heads == s.object.kind.one_lane(),
+    match (place(first), place(second)) {
+        (Some(s), Some(t)) => s.leads(&t) && s.object.kind.whom(head).is(other),
         _ => false,
     }
 }
@@ -109,7 +118,7 @@ fn hands_in<P: Paired>(head: Base, other: Base) -> (Value, Value)
 
 /// What the threads of two base events that meet are given, the head's first: each gets what the other hands over.
 pub fn hands(head: Base, other: Base) -> (Value, Value)
-    requires { meets_in_scan head other ≡ true }
+    requires { meets head other ≡ true }
     ensures { result ≡ (handed other, handed head) }
 {
     match place(&head) {

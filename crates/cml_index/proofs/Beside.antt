@@ -8,7 +8,10 @@ use Rattle.cml_value.specs.declared.number.Tid.{Tid}
 use Rattle.cml_scan.specs.declared.meet.Place.{Place}
 use Rattle.std.proofs.lemmas.List.Folds.{list_any_at}
 use Rattle.cml_scan.specs.Order.{before, before_numbers, Ascends}
+use Rattle.cml_channel.specs.declared.lane.Whom.{Whom}
+use Rattle.cml_channel.specs.declared.lane.Whom.TheVariants.{Others, Above}
 use Rattle.cml_channel.specs.Lanes.{is_others}
+use Rattle.cml_channel.proofs.Counts.{last_above}
 use Rattle.cml_index.proofs.Lit.{at_place}
 use Rattle.cml_index.specs.Heads.{is_beside, met_among}
 
@@ -71,17 +74,21 @@ several ps d e up some apart q = at (nat_eq (get_or ps 0 d).tid.0 q.tid.0) refl
     at false f = list_any_at (is_others q.tid) ps 0 d some (other_here (get_or ps 0 d).tid.0 q.tid.0 f)
 
 -- the heads that have an offer of another thread among the others, where that is known
-pub among_is : (rs hs : List Place) (o : Option Tid) → ((q : Place) → list_any (is_others q.tid) rs ≡ is_beside o q) → met_among rs hs ≡ filter (is_beside o) hs
+pub among_is : (rs hs : List Place) (o : Option Tid) → ((q : Place) → list_any (is_others q.tid) rs ≡ is_beside o q) → met_among Others rs hs ≡ filter (is_beside o) hs
 among_is rs hs o same = ap (λ (f : Place → Bool). filter f hs) (λ i q. same q i)
 
 pub all_stay : (hs : List Place) → filter (is_beside None) hs ≡ hs
 all_stay [] = refl
 all_stay (h ∷ hs) = ap (λ ps. h ∷ ps) (all_stay hs)
 
-pub none_among : (rs hs : List Place) → length rs ≡ 0 → length (met_among rs hs) ≡ 0
-none_among (r ∷ rs) hs e = absurd (omega (arith, e))
-none_among [] [] e = refl
-none_among [] (h ∷ hs) e = none_among [] hs e
+pub none_among : (meets : Tid → Whom) (rs hs : List Place) → length rs ≡ 0 → length (met_among meets rs hs) ≡ 0
+none_among meets (r ∷ rs) hs e = absurd (omega (arith, e))
+none_among meets [] [] e = refl
+none_among meets [] (h ∷ hs) e = none_among meets [] hs e
+
+-- those that have one of a thread above their own beside them are those of the threads below the last one
+pub above_among : (ps hs : List Place) (e : Place) → Ascends before ps → 0 < length ps → met_among Above ps hs ≡ filter (λ q. nat_lt q.tid.0 (get_or ps (length ps - 1) e).tid.0) hs
+above_among ps hs e up some = ap (λ (f : Place → Bool). filter f hs) (λ i q. sym (last_above q.tid ps e up some) i)
 
 pub power_above : (n : ℕ) → n < 2 ^ n
 power_above zero = pow_pos zero
@@ -92,12 +99,12 @@ power_above (suc n) =
     subst (λ m. m < 2 ^ m) (sym s) (omega (arith, k, p))
 
 -- what a place of a list holds
-pub got : (ns : List ℕ) (i m : ℕ) → slice_get ns i ≡ Some m → get_or ns i m ≡ m
+pub got : {X : Type 0} (ns : List X) (i : ℕ) (m : X) → slice_get ns i ≡ Some m → get_or ns i m ≡ m
 got [] i m e = cc
 got (n ∷ ns) zero m e = cc
 got (n ∷ ns) (suc i) m e = got ns i m e
 
-pub within : (ns : List ℕ) (i m : ℕ) → slice_get ns i ≡ Some m → i < length ns
+pub within : {X : Type 0} (ns : List X) (i : ℕ) (m : X) → slice_get ns i ≡ Some m → i < length ns
 within [] i m e = cc
 within (n ∷ ns) zero m e = omega arith
 within (n ∷ ns) (suc i) m e = let k = within ns i m e in omega (arith, k)

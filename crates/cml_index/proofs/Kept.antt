@@ -1,32 +1,28 @@
--- The channels on both sides of which offers stand, when runs come or go.
-use Rattle.std.proofs.Common.{◌≡◌, ℕ, Bool, true, false, ◌&&◌, ◌||◌, nat_eq, nat_lt, List, ◌++◌, length, ◌+◌, ◌≤◌, refl, ap, sym, ◌∙◌, arith}
+-- The objects on which two threads may meet, when runs come or go.
+use Rattle.std.proofs.Common.{◌≡◌, ℕ, Bool, true, false, ◌&&◌, ◌||◌, nat_lt, List, ◌++◌, length, ◌+◌, ◌≤◌, refl, ap, sym, ◌∙◌, arith}
 use Rattle.std.specs.List.{filter}
 use Rattle.std.proofs.lemmas.List.{length-append}
 use Rattle.cml_value.specs.declared.number.Tid.{Tid}
 use Rattle.cml_scan.specs.declared.meet.Place.{Place}
 use Rattle.cml_scan.specs.Order.{before, Every, Ascends}
 use Rattle.cml_channel.specs.Lanes.{is_others, run, with_run}
-use Rattle.cml_index.proofs.Walks.{with_none}
+use Rattle.cml_channel.specs.Pairings.{same_object, one_lane}
+use Rattle.cml_channel.specs.declared.pairing.PairedId.{PairedId}
+use Rattle.cml_index.proofs.Walks.{with_none, same_object-turned}
 use Rattle.std.proofs.lemmas.Bool.Decides.{nat_tests}
 use Rattle.cml_index.specs.declared.slot.Slot.TheVariants.{Side}
 use Rattle.cml_index.specs.Live.{is_side}
 
--- a side is one of the channel of its number
-pub side_is : (h : Bool) (m n : ℕ) → is_side (Side h m) n ≡ nat_eq m n
-side_is true m n = at (nat_eq n m) refl
+-- a side is one of its object
+pub side_is : (h : Bool) (m n : PairedId) → is_side (Side h m) n ≡ same_object m n
+side_is true m n = at (same_object n m) refl
   where
-    turned : (n m : ℕ) → nat_eq n m ≡ nat_eq m n
-    turned n m = grind (arith, nat_tests)
+    at : (b : Bool) → same_object n m ≡ b → b || false ≡ same_object m n
+    at true e = sym e ∙ same_object-turned n m
+    at false e = sym e ∙ same_object-turned n m
+side_is false m n = same_object-turned n m
 
-    at : (b : Bool) → nat_eq n m ≡ b → b || false ≡ nat_eq m n
-    at true e = sym e ∙ turned n m
-    at false e = sym e ∙ turned n m
-side_is false m n = turned n m
-  where
-    turned : (n m : ℕ) → nat_eq n m ≡ nat_eq m n
-    turned n m = grind (arith, nat_tests)
-
--- a channel is touched by one of the runs from one on where it is by that one or by a later one
+-- an object is touched by one of the runs from one on where it is by that one or by a later one
 pub sides_left : (here_t here_f later_t later_f left_t left_f : Bool) → left_t ≡ here_t || later_t → left_f ≡ here_f || later_f → left_t || left_f ≡ (here_t || here_f) || (later_t || later_f)
 sides_left true true lt lf a b e f = rw e refl
 sides_left true false lt lf a b e f = rw e refl
@@ -34,7 +30,7 @@ sides_left false true true lf a b e f = rw e refl
 sides_left false true false lf a b e f = rw (e, f) refl
 sides_left false false lt lf a b e f = rw (e, f) refl
 
--- a channel is kept right when one more of the runs is done, where it was not there without need
+-- an object is kept right when one more of the runs is done, where it was not there without need
 pub cut_more : (here later left old new on : Bool) → left ≡ here || later → later ≡ false → (here ≡ true → new ≡ old && on) → (here ≡ false → new ≡ old) → (left ≡ false → old ≡ on) → (on ≡ true → old ≡ true) → new ≡ on
 cut_more true later left old new on e f one two was over = one refl ∙ at old on over
   where
@@ -67,6 +63,14 @@ add_under false old new on one two under is = two refl ∙ under is
 pub no_side : (a b : Bool) → a || b ≡ false → (a ≡ false) × (b ≡ false)
 no_side true b e = cc
 no_side false b e = (refl, e)
+
+-- what holds of both sides of an object holds of that of those whom its heads meet
+pub of_met : (h : Bool → Type 0) (n : PairedId) → h true → h false → h (one_lane n.kind)
+of_met h n yes_ no_ = at (one_lane n.kind)
+  where
+    at : (b : Bool) → h b
+    at true = yes_
+    at false = no_
 
 -- a lane that only loses offers is filled only where it was
 pub filled_less : (a b c d : ℕ) → c ≤ a → d ≤ b → nat_lt 0 c && nat_lt 0 d ≡ true → nat_lt 0 a && nat_lt 0 b ≡ true

@@ -1,20 +1,21 @@
 -- How many leaves can be taken alone, when a light is told.
-use Rattle.std.proofs.Common.{◌≡◌, ℕ, zero, suc, ◌<◌, take, get_or, ◌+◌, Bool, true, false, not, ◌&&◌, ◌||◌, nat_eq, nat_lt, cond, List, [], ◌∷◌, length, Option, Some, None, refl, ap, sym, subst, ◌∙◌, arith}
+use Rattle.std.proofs.Common.{◌≡◌, ℕ, zero, suc, ◌<◌, take, get_or, ◌+◌, Bool, true, false, not, ◌&&◌, ◌||◌, nat_lt, cond, List, [], ◌∷◌, length, Option, Some, None, refl, ap, sym, subst, ◌∙◌, arith}
 use Rattle.std.specs.List.{filter, list_any}
 use Rattle.std.specs.Prelude.{OnOk, Result, Ok, Err, option_map}
 use Rattle.std.proofs.lemmas.List.{length-map, take_more}
 use Rattle.std.proofs.lemmas.List.Folds.{list_any-append}
-use Rattle.cml_value.specs.Value.{PlainBase, always, send, recv}
+use Rattle.cml_value.specs.Value.{PlainBase, always, send, recv, swap}
 use Rattle.cml_scan.specs.Light.{light, is_always, is_told, lit_by}
 use Rattle.cml_scan.specs.Scan.{PlainOffer, offers_of}
 use Rattle.cml_scan.specs.Order.{place, Every}
 use Rattle.cml_scan.specs.Table.{same_light, has_light}
 use Rattle.cml_scan.specs.declared.object.Light.{Light}
 use Rattle.cml_scan.proofs.Telling.{same_light_is, same_light_self, light_eq}
-use Rattle.cml_index.specs.Slot.{slot_of_either}
+use Rattle.cml_index.specs.Slot.{slot_by, met_lane}
 use Rattle.cml_index.specs.declared.slot.Slot.TheVariants.{Side, Waiters}
-use Rattle.cml_channel.specs.Sides.{channel_of, is_sender, side_in}
-use Rattle.cml_channel.specs.declared.channel.ChannelSide.{ChannelSide}
+use Rattle.cml_channel.specs.Pairings.{side_place, same_object}
+use Rattle.cml_channel.specs.declared.pairing.PairedId.{PairedId}
+use Rattle.cml_channel.specs.declared.pairing.SidePlace.{SidePlace}
 use Rattle.cml_index.specs.Slots.{is_slot, lane_of, lane_at}
 use Rattle.cml_index.specs.Posts.{slot_of, told, is_named, slot_of_nack, nacks_in, IsIndexed}
 use Rattle.cml_index.specs.declared.slot.Slot.{Slot}
@@ -29,17 +30,18 @@ abbrev pub light_is : Light → Option Light → Bool
 light_is l None = false
 light_is l (Some m) = same_light l m
 
--- a side of a channel has no light
-side_dark : (b : PlainBase) (s : ChannelSide) → side_in b ≡ Some s → light b ≡ None
+-- a side over which threads meet has no light
+side_dark : (b : PlainBase) (s : SidePlace) → side_place b ≡ Some s → light b ≡ None
 side_dark (send c v) s e = refl
 side_dark (recv c) s e = refl
+side_dark (swap c v) s e = refl
 side_dark _ s e = cc
 
 -- a base event stands in the lane of the light that it looks at
 slot_light : (l : Light) (b : PlainBase) → is_slot (Waiters l) (slot_of b) ≡ light_is l (light b)
-slot_light l b = at (side_in b) refl (light b) refl
+slot_light l b = at (side_place b) refl (light b) refl
   where
-    at : (s : Option ChannelSide) → side_in b ≡ s → (m : Option Light) → light b ≡ m → is_slot (Waiters l) (slot_of_either channel_of is_sender s b) ≡ light_is l m
+    at : (s : Option SidePlace) → side_place b ≡ s → (m : Option Light) → light b ≡ m → is_slot (Waiters l) (slot_by s b) ≡ light_is l m
     at (Some s) e None f = refl
     at (Some s) e (Some m) f = let none : light b ≡ None = side_dark b s e in cc
     at None e None f = ap (λ o. is_slot (Waiters l) (option_map Waiters o)) f
@@ -140,14 +142,14 @@ retold_same l lit old new changed is was told m = at (same_light l m) refl
     at false h = told m ∙ ap (λ s. cond s lit (old m)) h
 
 -- nothing was told of any light, and no place is lost
-pub still_indexed : {S T U V : Type 0} (es : List PlainEntry) (lanes : IndexMap Slot PlainLane S) (after : IndexMap Slot PlainLane T) (live : IndexSet ℕ U) (live_after : IndexSet ℕ V) (old new : List (Slot × Bool)) (leaves lit : ℕ)
+pub still_indexed : {S T U V : Type 0} (es : List PlainEntry) (lanes : IndexMap Slot PlainLane S) (after : IndexMap Slot PlainLane T) (live : IndexSet PairedId U) (live_after : IndexSet PairedId V) (old new : List (Slot × Bool)) (leaves lit : ℕ)
     → IsIndexed es lanes live old leaves lit → ((k : Slot) → lane_at after k ≡ lane_at lanes k) → live_after.keys ≡ live.keys → ((m : Light) → told new m ≡ told old m) → ((k : Slot) → is_named old k ≡ true → is_named new k ≡ true)
     → IsIndexed es after live_after new leaves lit
 still_indexed es lanes after live live_after old new leaves lit x same same_live told_ kept =
     record {
       sorted = x.sorted;
       placed = λ k. same k ∙ x.placed k;
-      sides = λ n. ap (list_any (nat_eq n)) same_live ∙ x.sides n ∙ ap (λ ps. nat_lt 0 (length ps) && nat_lt 0 (length (lane_at lanes (Side false n)))) (sym (same (Side true n))) ∙ ap (λ ps. nat_lt 0 (length (lane_at after (Side true n))) && nat_lt 0 (length ps)) (sym (same (Side false n)));
+      sides = λ n. ap (list_any (same_object n)) same_live ∙ x.sides n ∙ ap (λ ps. nat_lt 0 (length ps) && nat_lt 0 (length (lane_at lanes (met_lane n)))) (sym (same (Side true n))) ∙ ap (λ ps. nat_lt 0 (length (lane_at after (Side true n))) && nat_lt 0 (length ps)) (sym (same (met_lane n)));
       all = x.all;
       alone = x.alone ∙ sym (ap length (told_same (told old) (told new) told_ (offers_of es)));
       named = Every-weaker (λ k. is_named old (slot_of_nack k)) (λ k. is_named new (slot_of_nack k)) (nacks_in es) (λ k h. kept (slot_of_nack k) h) x.named;

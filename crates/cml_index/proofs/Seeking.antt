@@ -9,7 +9,7 @@ use Rattle.cml_value.specs.Value.{PlainBase}
 use Rattle.cml_value.specs.Group.{bases}
 use Rattle.cml_scan.specs.World.{PlainEntry}
 use Rattle.cml_scan.specs.Scan.{PlainOffer, leaves_from, offers_of, scan_of, heads_of}
-use Rattle.cml_scan.specs.Order.{IsSorted, place, before, before_numbers, has_partner}
+use Rattle.cml_scan.specs.Order.{IsSorted, place, before, before_numbers}
 use Rattle.cml_scan.specs.declared.meet.Meet.{Meet}
 use Rattle.cml_scan.specs.declared.meet.Place.{Place}
 use Rattle.cml_scan.proofs.Partners.{scan_of-heads}
@@ -17,11 +17,13 @@ use Rattle.cml_index.specs.declared.slot.Slot.{Slot}
 use Rattle.cml_index.specs.declared.heads.HeadKind.TheVariants.{Alone, Met}
 use Rattle.cml_scan.specs.Light.{lit_by}
 use Rattle.cml_index.specs.Heads.{is_sought}
-use Rattle.cml_index.specs.Posts.{told, slot_of, slot_met}
+use Rattle.cml_channel.specs.declared.lane.Whom.{Whom}
+use Rattle.cml_index.specs.Slot.{met_by}
+use Rattle.cml_index.specs.Posts.{told}
 use Rattle.cml_index.proofs.Parted.{leaves_all, filter_fewer}
 use Rattle.cml_index.proofs.Lit.{at_place}
-use Rattle.cml_index.proofs.Pairs.{leaf_with, partner_there}
-use Rattle.cml_index.proofs.Receivers.{met_there, met_dark}
+use Rattle.cml_index.proofs.Pairs.{any_by, partner_met}
+use Rattle.cml_index.proofs.Receivers.{met_dark}
 
 -- what is found in the first of two lists is found in both
 pub found_first : {X : Type 0} (xs ys : List X) (k : ℕ) (x : X) → slice_get xs k ≡ Some x → slice_get (xs ++ ys) k ≡ Some x
@@ -94,11 +96,11 @@ both_fewer f g apart (x ∷ xs) = at (f x) (g x) (apart x) (both_fewer f g apart
 
 -- no leaf can be taken alone and has a partner
 pub never_both : (flags : List (Slot × Bool)) (os : List PlainOffer) (o : PlainOffer) → is_sought Alone flags os o ≡ true → is_sought Met flags os o ≡ false
-never_both flags os o e = at (slot_met o.base) refl
+never_both flags os o e = partner_met os (record { 0 = o.thread }) o.leaf o.base ∙ at (met_by o.base (record { 0 = o.thread })) refl
   where
-    at : (m : Option Slot) → slot_met o.base ≡ m → has_partner os (leaf_with (record { 0 = o.thread }) o.leaf o.base) ≡ false
-    at (Some k) f = let dark : lit_by (told flags) o.base ≡ false = met_dark (told flags) o.base k f in cc
-    at None f = partner_there slot_of slot_met met_there os (record { 0 = o.thread }) o.leaf o.base None f
+    at : (m : Option (Slot × Whom)) → met_by o.base (record { 0 = o.thread }) ≡ m → any_by os m ≡ false
+    at (Some m) f = let dark : lit_by (told flags) o.base ≡ false = met_dark (told flags) o.base (record { 0 = o.thread }) m f in cc
+    at None f = refl
 
 -- the heads are those that can be taken alone, and then those that have a partner
 pub heads_are : (flags : List (Slot × Bool)) (es : List PlainEntry) → IsSorted es

@@ -12,6 +12,9 @@ use Rattle.cml_scan.specs.declared.meet.Place.{Place}
 use Rattle.cml_scan.specs.Order.{before, before_numbers, Every, Ascends}
 use Rattle.cml_scan.proofs.Telling.{same_light_is, same_light_self, light_eq}
 use Rattle.cml_channel.specs.Lanes.{is_own, is_others, others, with_run}
+use Rattle.cml_channel.specs.Pairings.{same_object}
+use Rattle.cml_channel.specs.declared.pairing.PairedId.{PairedId}
+use Rattle.cml_channel.proofs.Pairs.{same_object_is, same_object_self}
 use Rattle.cml_index.specs.declared.slot.Slot.{Slot}
 use Rattle.cml_index.specs.declared.slot.Slot.TheVariants.{Side, Waiters}
 use Rattle.cml_index.specs.Slot.{same_slot}
@@ -21,31 +24,30 @@ use Rattle.cml_index.specs.Slots.{has_run}
 
 pub same_slot_is : (a b : Slot) → same_slot a b ≡ true → a ≡ b
 same_slot_is (Side h n) (Side g m) e =
-    let both = and_parts (beq h g) (nat_eq n m) e in
+    let both = and_parts (beq h g) (same_object n m) e in
     let heads : h ≡ g = same_bool h g both.0 in
-    let number : n ≡ m = same_number n m both.1 in
-    λ i. Side (heads i) (number i)
+    let object : n ≡ m = same_object_is n m both.1 in
+    λ i. Side (heads i) (object i)
   where
     same_bool : (h g : Bool) → beq h g ≡ true → h ≡ g
     same_bool true true e = refl
     same_bool false false e = refl
     same_bool _ _ e = cc
-
-    same_number : (n m : ℕ) → nat_eq n m ≡ true → n ≡ m
-    same_number n m e = grind (arith, nat_tests)
 same_slot_is (Waiters l) (Waiters m) e = ap Waiters (same_light_is l m (sym (light_eq l m) ∙ e))
 same_slot_is _ _ e = cc
 
 pub same_slot_self : (a : Slot) → same_slot a a ≡ true
-same_slot_self (Side true n) = alike n
-  where
-    alike : (n : ℕ) → nat_eq n n ≡ true
-    alike n = grind (arith, nat_tests)
-same_slot_self (Side false n) = alike n
-  where
-    alike : (n : ℕ) → nat_eq n n ≡ true
-    alike n = grind (arith, nat_tests)
+same_slot_self (Side true n) = same_object_self n
+same_slot_self (Side false n) = same_object_self n
 same_slot_self (Waiters l) = light_eq l l ∙ same_light_self l
+
+pub same_object-turned : (a b : PairedId) → same_object a b ≡ same_object b a
+same_object-turned a b = at (same_object a b) (same_object b a) refl refl
+  where
+    at : (s t : Bool) → same_object a b ≡ s → same_object b a ≡ t → s ≡ t
+    at true t e f = let same : a ≡ b = same_object_is a b e in sym (subst (λ x. same_object b x ≡ true) (sym same) (same_object_self b)) ∙ f
+    at false true e f = let same : b ≡ a = same_object_is b a f in sym e ∙ subst (λ x. same_object a x ≡ true) (sym same) (same_object_self a)
+    at false false e f = refl
 
 -- the runs from one on are that one and the later ones
 pub runs_left : {V : Type 0} (es : List (Slot × V)) (i : ℕ) (slot : Slot) (v : V) (k : Slot) → slice_get es i ≡ Some (slot, v) → has_run (drop i es) k ≡ same_slot k slot || has_run (drop (suc i) es) k

@@ -1,8 +1,11 @@
 -- The leaves that begin a row, and what a search among some leaves answers.
-use Rattle.std.specs.Prelude.{ℕ, ◌≡◌, ◌+◌, ◌*◌, ◌<◌, ◌≤◌, Bool, true, false, List, Option, Some, None, map, filter, length, slice_get}
+use Rattle.std.specs.Prelude.{ℕ, ◌≡◌, ◌+◌, ◌*◌, ◌<◌, ◌≤◌, Bool, true, List, Option, Some, None, map, filter, length, slice_get}
 use Rattle.std.specs.List.{list_any}
 use Rattle.cml_value.specs.declared.number.Tid.{Tid}
-use Rattle.cml_channel.specs.Lanes.{is_others}
+use Rattle.cml_channel.specs.Lanes.{is_others, is_of}
+use Rattle.cml_channel.specs.Pairings.{whom}
+use Rattle.cml_channel.specs.declared.lane.Whom.{Whom}
+use Rattle.cml_channel.specs.declared.pairing.PairedId.{PairedId}
 use Rattle.cml_index.specs.declared.slot.Slot.TheVariants.{Side}
 use Rattle.cml_index.specs.Slots.{lane_of}
 use Rattle.cml_value.specs.Group.{bases}
@@ -19,6 +22,7 @@ use Rattle.cml_index.specs.declared.heads.HeadKind.{HeadKind}
 use Rattle.cml_index.specs.declared.heads.HeadKind.TheVariants.{Alone, Met}
 use Rattle.cml_index.specs.declared.heads.Sought.{Sought}
 use Rattle.cml_index.specs.declared.heads.Sought.TheVariants.{Found, Left}
+use Rattle.cml_index.specs.Slot.{met_lane}
 use Rattle.cml_index.specs.Posts.{told, slot_of}
 
 -- the leaf at a place, if it waits for this
@@ -49,10 +53,10 @@ abbrev pub is_beside : Option Tid → Place → Bool
 is_beside (Some tid) q = is_others tid q
 is_beside None q = true
 
--- those of the heads that have an offer of another thread among these
-abbrev pub met_among : List Place → List Place → List Place
-met_among others heads = filter (λ q. list_any (is_others q.tid) others) heads
+-- those of the heads that have an offer among these of those whom they meet
+abbrev pub met_among : (Tid → Whom) → List Place → List Place → List Place
+met_among meets others heads = filter (λ q. list_any (is_of (meets q.tid)) others) heads
 
--- the leaves that stand first on the channel of this number and have a partner there
-abbrev pub heads_on : List PlainOffer → ℕ → List Place
-heads_on os n = met_among (lane_of slot_of (Side false n) os) (lane_of slot_of (Side true n) os)
+-- the leaves that can stand first on the object and have a partner there
+abbrev pub heads_on : List PlainOffer → PairedId → List Place
+heads_on os n = met_among (whom n.kind) (lane_of slot_of (met_lane n) os) (lane_of slot_of (Side true n) os)

@@ -23,21 +23,20 @@ use Rattle.cml_value.specs.declared.number.Tid.{Tid}
 use Rattle.std.specs.Borrow.{Bor}
 use Rattle.cml_scan.specs.declared.object.Light.{Light}
 use Rattle.cml_scan.specs.declared.object.Light.TheVariants.{Nack}
-use Rattle.cml_channel.specs.Sides.{channel_of, is_sender, side_in}
+use Rattle.cml_channel.specs.declared.pairing.Pairing.{Pairing}
+use Rattle.cml_channel.specs.declared.pairing.Pairing.TheVariants.{Channel, Swap}
+use Rattle.cml_channel.specs.declared.pairing.PairedId.{PairedId}
 use Rattle.cml_index.specs.declared.slot.Slot.{Slot}
 use Rattle.cml_index.specs.declared.slot.Slot.TheVariants.{Side, Waiters}
-use Rattle.cml_index.specs.Slot.{same_slot, slot_by, met_by}
+use Rattle.cml_channel.specs.Pairings.{side_place}
+use Rattle.cml_index.specs.Slot.{same_slot, slot_by}
 use Rattle.cml_index.specs.Slots.{leaves_at, run_in, lane_of, AreLanes}
 use Rattle.std.specs.List.{flat_map}
 use Rattle.cml_channel.specs.Lanes.{PlainLane}
 
--- the lane of a base event, where channels are the objects over which two threads meet
+-- the lane of a base event: that of its side, where it is a side of an object over which two threads meet, or that of its light
 abbrev pub slot_of : PlainBase → Option Slot
-slot_of b = slot_by side_in channel_of is_sender b
-
--- the lane of those whom a base event meets, where it stands first
-abbrev pub slot_met : PlainBase → Option Slot
-slot_met b = met_by side_in channel_of is_sender b
+slot_of b = slot_by (side_place b) b
 
 -- The rows that the leaf at a place begins, if it waits for this: its own, where it can be taken alone, and those with its partners.
 abbrev pub rows_at : (Light → Bool) → List PlainOffer → Place → PlainBase → List Meet
@@ -75,9 +74,9 @@ is_named flags k = is_some (lookup (same_slot k) flags)
 abbrev pub slot_of_nack : ℕ → Slot
 slot_of_nack k = Waiters (Nack (record { 0 = k }))
 
--- The threads ascend; each lane has the offers that stand in it; the channels on both sides of which offers stand are there; all leaves, and those that can be taken alone, are counted; and each
+-- The threads ascend; each lane has the offers that stand in it; the objects are there on which offers stand that can stand first, and offers whom these could meet; all leaves, and those that can be taken alone, are counted; and each
 -- nack that can fire with a pending group has its place among the lights.
-pub record IsIndexed {S T : Type 0} (entries : List PlainEntry) (lanes : IndexMap Slot PlainLane S) (live : IndexSet ℕ T) (flags : List (Slot × Bool)) (leaves lit : ℕ) : Type 0 where
+pub record IsIndexed {S T : Type 0} (entries : List PlainEntry) (lanes : IndexMap Slot PlainLane S) (live : IndexSet PairedId T) (flags : List (Slot × Bool)) (leaves lit : ℕ) : Type 0 where
   pub sorted : IsSorted entries
   pub placed : AreLanes slot_of lanes (offers_of entries)
   pub sides : AreLive lanes live
@@ -102,12 +101,26 @@ abbrev pub count_below : ℕ → List PlainEntry → ℕ
 count_below thread entries = length (filter (λ e. nat_lt e.thread thread) entries)
 
 -- The codes of the above: trees of numbers from which they can be read back. The toolchain asks for them; no rule speaks of them.
+abbrev pub kind_gv : Pairing → ℕ
+kind_gv Channel = 0
+kind_gv Swap = 1
+
+pub kind_gv_inj : (a b : Pairing) → kind_gv a ≡ kind_gv b → a ≡ b
+kind_gv_inj Channel Channel p = refl
+kind_gv_inj Swap Swap p = refl
+kind_gv_inj Channel Swap p = cc
+kind_gv_inj Swap Channel p = cc
+
 abbrev pub slot_gv : Slot → Gv
-slot_gv (Side heads number) = gcons (gnum 0) (gcons (coded_bool.code heads) (gnum number))
+slot_gv (Side heads object) = gcons (gnum 0) (gcons (coded_bool.code heads) (gcons (gnum (kind_gv object.kind)) (gnum object.number)))
 slot_gv (Waiters light) = gcons (gnum 1) (light_code.code light)
 
 pub slot_gv_inj : (a b : Slot) → slot_gv a ≡ slot_gv b → a ≡ b
-slot_gv_inj (Side h n) (Side g m) p = let heads : h ≡ g = coded_bool.inj h g cc in let number : n ≡ m = cc in λ i. Side (heads i) (number i)
+slot_gv_inj (Side h n) (Side g m) p =
+    let heads : h ≡ g = coded_bool.inj h g cc in
+    let kind : n.kind ≡ m.kind = kind_gv_inj n.kind m.kind cc in
+    let number : n.number ≡ m.number = cc in
+    λ i. Side (heads i) (record { kind = kind i; number = number i })
 slot_gv_inj (Waiters l) (Waiters m) p = let same : l ≡ m = light_code.inj l m cc in λ i. Waiters (same i)
 slot_gv_inj _ _ p = cc
 

@@ -1,7 +1,12 @@
--- The lane in which an offer stands.
-use Rattle.std.specs.Prelude.{ℕ, Bool, false, if◌then◌else◌, Option, Some, None, option_map}
+-- The lane in which an offer stands, and the lane of those whom it meets.
+use Rattle.std.specs.Prelude.{Bool, if◌then◌else◌, Option, Some, None, option_map}
 use Rattle.cml_value.specs.Value.{PlainBase}
+use Rattle.cml_value.specs.declared.number.Tid.{Tid}
 use Rattle.cml_scan.specs.Light.{light}
+use Rattle.cml_channel.specs.declared.lane.Whom.{Whom}
+use Rattle.cml_channel.specs.declared.pairing.PairedId.{PairedId}
+use Rattle.cml_channel.specs.declared.pairing.SidePlace.{SidePlace}
+use Rattle.cml_channel.specs.Pairings.{one_lane, side_place, whom}
 use Rattle.cml_index.specs.declared.slot.Slot.{Slot}
 use Rattle.cml_index.specs.declared.slot.Slot.TheVariants.{Side, Waiters}
 use Rattle.cml_index.specs.contracts.slot.SlotPartialEq.TheImpl as derived
@@ -10,18 +15,18 @@ use Rattle.cml_index.specs.contracts.slot.SlotPartialEq.TheImpl as derived
 abbrev pub same_slot : Slot → Slot → Bool
 same_slot = derived.ghosts.eq
 
-abbrev pub slot_of_either : {S : Type 0} → (S → ℕ) → (S → Bool) → Option S → PlainBase → Option Slot
-slot_of_either key_of is_head (Some side) b = Some (Side (is_head side) (key_of side))
-slot_of_either key_of is_head None b = option_map Waiters (light b)
+abbrev pub slot_by : Option SidePlace → PlainBase → Option Slot
+slot_by (Some side) b = Some (Side side.heads side.object)
+slot_by None b = option_map Waiters (light b)
 
--- the lane of a base event: that of its side, where it is a side of an object over which two threads meet, or that of its light
-abbrev pub slot_by : {S : Type 0} → (PlainBase → Option S) → (S → ℕ) → (S → Bool) → PlainBase → Option Slot
-slot_by side_of key_of is_head b = slot_of_either key_of is_head (side_of b) b
+-- the lane of those whom an offer meets that stands first on the object: the other side, or, where all sides are alike, its own
+abbrev pub met_lane : PairedId → Slot
+met_lane object = Side (one_lane object.kind) object
 
-abbrev pub met_slot : {S : Type 0} → (S → ℕ) → (S → Bool) → Option S → Option Slot
-met_slot key_of is_head (Some side) = if is_head side then Some (Side false (key_of side)) else None
-met_slot key_of is_head None = None
+abbrev pub met_at : Option SidePlace → Tid → Option (Slot × Whom)
+met_at (Some side) tid = if side.heads then Some (met_lane side.object, whom side.object.kind tid) else None
+met_at None tid = None
 
--- the lane of those whom a base event meets, where it is a side that stands first
-abbrev pub met_by : {S : Type 0} → (PlainBase → Option S) → (S → ℕ) → (S → Bool) → PlainBase → Option Slot
-met_by side_of key_of is_head b = met_slot key_of is_head (side_of b)
+-- the lane of those whom a base event of the thread meets, where it is a side that can stand first, and which of them
+abbrev pub met_by : PlainBase → Tid → Option (Slot × Whom)
+met_by b tid = met_at (side_place b) tid

@@ -1,4 +1,4 @@
-//! How many leaves have a partner, channel by channel.
+//! How many leaves have a partner, object by object.
 
 ghost use Rattle.std.specs.Prelude.{◌≡◌, ◌≤◌, ◌<◌, ◌+◌, ◌*◌, true, false, length, filter, slice_get, Some};
 ghost use Rattle.std.specs.List.{list_any};
@@ -7,6 +7,7 @@ ghost use Rattle.cml_scan.specs.declared.meet.Place.{Place};
 ghost use Rattle.cml_scan.specs.Order.{Ascends, before};
 ghost use Rattle.cml_scan.specs.Scan.{offers_of};
 ghost use Rattle.cml_channel.specs.Lanes.{is_others};
+ghost use Rattle.cml_channel.specs.declared.lane.Whom.TheVariants.{Others, Above};
 ghost use Rattle.cml_index.specs.declared.heads.HeadKind.TheVariants.{Met};
 ghost use Rattle.cml_index.specs.declared.slot.Slot.TheVariants.{Side};
 ghost use Rattle.cml_index.specs.Slots.{lane_at};
@@ -16,7 +17,7 @@ ghost use Rattle.cml_index.specs.Posts as spec;
 use crate::live::Live;
 use crate::slot::Slot;
 use crate::state::Core;
-use cml_channel::{Lane, Tally};
+use cml_channel::{Lane, PairedId, Tally, Whom};
 use cml_value::Tid;
 
 // The thread of which all offers in the lane are, if they are of one alone: two looks.
@@ -39,7 +40,7 @@ fn only_thread(lane: &Lane, tally: &mut Tally) -> Option<Tid>
 // How many of the heads have an offer of another thread among the others.
 fn count_among(heads: &Lane, others: &Lane, tally: &mut Tally) -> usize
     requires sorted { Ascends before others.now.places }
-    ensures count { result ≡ length (met_among others.now.places heads.now.places) }
+    ensures count { result ≡ length (met_among Others others.now.places heads.now.places) }
     ensures cost { tally.new ≤ tally.old
         + 3 * (length heads.now.places + length others.now.places) }
 {
@@ -47,7 +48,7 @@ fn count_among(heads: &Lane, others: &Lane, tally: &mut Tally) -> usize
         return 0;
     }
     match only_thread(others, tally) {
-        Some(tid) => heads.others_count(tid, tally),
+        Some(tid) => heads.others_count(Whom::Others(tid), tally),
         None => heads.len(),
     }
 }
@@ -56,7 +57,7 @@ fn count_among(heads: &Lane, others: &Lane, tally: &mut Tally) -> usize
 fn count_beside(core: &Core, heads: &Lane, slot: Slot, tally: &mut Tally) -> usize
     requires { Ascends before (lane_at core.now.lanes.by_slot slot) }
     ensures count { result
-        ≡ length (met_among (lane_at core.now.lanes.by_slot slot) heads.now.places) }
+        ≡ length (met_among Others (lane_at core.now.lanes.by_slot slot) heads.now.places) }
     ensures cost { tally.new ≤ tally.old
         + 3 * (length heads.now.places + length (lane_at core.now.lanes.by_slot slot)) }
 {
@@ -66,37 +67,57 @@ fn count_beside(core: &Core, heads: &Lane, slot: Slot, tally: &mut Tally) -> usi
     }
 }
 
-// How many leaves on the channel have a partner.
-fn count_on(core: &Core, number: u32, tally: &mut Tally) -> usize
+// How many of the offers have one of a thread above their own beside them in the lane: one look at the last, and a search.
+fn count_below(lane: &Lane, tally: &mut Tally) -> usize
+    requires { Ascends before lane.now.places }
+    ensures count { result ≡ length (met_among Above lane.now.places lane.now.places) }
+    ensures cost { tally.new ≤ tally.old + 3 * length lane.now.places }
+{
+    let len = lane.len();
+    if len == 0 {
+        return 0;
+    }
+    let last = lane.look(len - 1, tally);
+    lane.below_count(last.tid, tally)
+}
+
+// How many leaves on the object have a partner that they head.
+fn count_on(core: &Core, object: PairedId, tally: &mut Tally) -> usize
     requires { spec.IsIndexed core.now.entries.items core.now.lanes.by_slot core.now.live
         core.now.flags.entries core.now.leaves core.now.lit }
-    ensures count { result ≡ length (heads_on (offers_of core.now.entries.items) number) }
+    ensures count { result ≡ length (heads_on (offers_of core.now.entries.items) object) }
     ensures cost { tally.new ≤ tally.old
-        + 3 * (length (lane_at core.now.lanes.by_slot (Side true number))
-        + length (lane_at core.now.lanes.by_slot (Side false number))) }
+        + 3 * (length (lane_at core.now.lanes.by_slot (Side true object))
+        + length (lane_at core.now.lanes.by_slot (Side false object))) }
 {
-    let others = Slot::Side {
-        heads: false,
-        number,
-    };
     let slot = Slot::Side {
         heads: true,
-        number,
+        object,
     };
     match core.lanes.by_slot.get(&slot) {
-        Some(heads) => count_beside(core, heads, others, tally),
+        Some(heads) => {
+            if object.kind.one_lane() {
+                count_below(heads, tally)
+            } else {
+                let others = Slot::Side {
+                    heads: false,
+                    object,
+                };
+                count_beside(core, heads, others, tally)
+            }
+        }
         None => 0,
     }
 }
 
-// The channel at this place among those on both sides of which offers stand.
-fn number_at(live: &Live, i: usize) -> u32
+// The object at this place among the live ones.
+fn object_at(live: &Live, i: usize) -> PairedId
     requires { i < index_set_len live.now }
     ensures { slice_get live.now.keys i ≡ Some result }
 {
     let _len = live.len();
     match live.get_index(i) {
-        Some(number) => *number,
+        Some(object) => *object,
         None => unreachable!(),
     }
 }
@@ -113,7 +134,7 @@ pub(crate) fn count_met(core: &Core, tally: &mut Tally) -> usize
     let _leaves = core.leaves;
     let mut count = 0;
     for i in 0..core.live.len() {
-        count += count_on(core, number_at(&core.live, i), tally);
+        count += count_on(core, object_at(&core.live, i), tally);
     }
     count
 }

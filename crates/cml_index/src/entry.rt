@@ -7,10 +7,8 @@ ghost use Rattle.cml_index.specs.declared.slot.Slot.{Slot};
 ghost use Rattle.cml_index.specs.Posts as spec;
 ghost use Rattle.cml_index.specs.Slots.{run_in, leaves_at};
 
-use crate::lanes::Lanes;
 use crate::runs::{Runs, runs};
 use crate::slot::Slot;
-use cml_channel::Channels;
 use cml_scan::{Place, leaf_bases};
 use cml_value::{Base, Group, Tid};
 use std::alloc::{AllocError, Global};
@@ -51,7 +49,7 @@ fn slots(alloc: Global, bases: &[Base]) -> Result<Vec<Option<Slot>>, AllocError>
 {
     let mut slots = Vec::new(alloc);
     for base in bases {
-        slots.push(Lanes::<Channels>::of(base))?;
+        slots.push(Slot::of(base))?;
     }
     Ok(slots)
 }

@@ -5,7 +5,7 @@ ghost use Rattle.std.specs.List.{list_any};
 ghost use Rattle.cml_value.specs.Group.{bases};
 ghost use Rattle.cml_scan.specs.Order.{before, place, has_partner};
 ghost use Rattle.cml_scan.specs.Scan.{PlainOffer, scan_of, heads_of, offers_of, leaves_from};
-ghost use Rattle.cml_channel.specs.Lanes.{is_others};
+ghost use Rattle.cml_channel.specs.Lanes.{is_of};
 ghost use Rattle.cml_index.specs.declared.heads.HeadKind.TheVariants.{Met};
 ghost use Rattle.cml_index.specs.Slots.{lane_of};
 ghost use Rattle.cml_index.specs.Heads.{is_sought, IsAnswer, EndsThere};
@@ -14,10 +14,9 @@ ghost use Rattle.cml_index.specs.Posts as spec;
 use crate::counts::count_met;
 use crate::entry::Entry;
 use crate::flags::is_lit_by;
-use crate::lanes::Lanes;
-use crate::slot::Slot;
+use crate::slot::{Slot, met_by};
 use crate::state::Core;
-use cml_channel::{Channels, Tally};
+use cml_channel::{Tally, Whom};
 use cml_scan::Place;
 use cml_value::{Base, Tid};
 
@@ -39,16 +38,16 @@ enum Sought {
     Left(usize),
 }
 
-// Whether a thread other than this one has an offer in the lane.
-fn has_other(core: &Core, slot: Slot, tid: Tid, tally: &mut Tally) -> bool
+// Whether there is an offer in the lane of those that are meant.
+fn has_other(core: &Core, slot: Slot, whom: Whom, tally: &mut Tally) -> bool
     requires { spec.IsIndexed core.now.entries.items core.now.lanes.by_slot core.now.live
         core.now.flags.entries core.now.leaves core.now.lit }
-    ensures value { result ≡ list_any (is_others tid)
+    ensures value { result ≡ list_any (is_of whom)
         (lane_of spec.slot_of slot (offers_of core.now.entries.items)) }
     ensures cost { tally.new ≤ tally.old + 2 }
 {
     match core.lanes.by_slot.get(&slot) {
-        Some(lane) => lane.has_other(tid, tally),
+        Some(lane) => lane.has_other(whom, tally),
         None => false,
     }
 }
@@ -61,8 +60,8 @@ fn is_met(core: &Core, tid: Tid, base: &Base, tally: &mut Tally) -> bool
         (record { thread = tid.0; leaf = leaf; base = base.now }) }
     ensures cost { tally.new ≤ tally.old + 2 }
 {
-    match Lanes::<Channels>::met_by(base) {
-        Some(slot) => has_other(core, slot, tid, tally),
+    match met_by(base, tid) {
+        Some((slot, whom)) => has_other(core, slot, whom, tally),
         None => false,
     }
 }

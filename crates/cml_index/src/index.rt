@@ -4,7 +4,7 @@ ghost use Rattle.std.specs.Prelude.{◌≡◌, ◌≢◌, ◌≤◌, ◌<◌, �
 ghost use Rattle.cml_scan.specs.declared.object.Light.{Light};
 ghost use Rattle.cml_scan.specs.Light.{lit_by};
 ghost use Rattle.cml_scan.specs.Order.{before, place, lit_at, meet_at, base_at};
-ghost use Rattle.cml_scan.specs.Scan.{meets, scan_of, has_row, offers_of, heads_of, partners_of};
+ghost use Rattle.cml_scan.specs.Scan.{scan_of, has_row, offers_of, heads_of, partners_of};
 ghost use Rattle.cml_scan.specs.Table.{changed, lit_after, IsThere, IsNew, AreApart, IsNackOf, nacks_among};
 ghost use Rattle.cml_index.specs.Posts as spec;
 
@@ -12,15 +12,15 @@ use crate::flags::is_lit_by;
 use crate::lanes::Lanes;
 use crate::state::{self, Core};
 use crate::{heads, partners, rows};
-use cml_channel::Tally;
+use cml_channel::{Tally, do_meet};
 use cml_scan::{Light, Meet, Place};
-use cml_value::{Base, BaseKind, Group, Tid};
+use cml_value::{Group, Tid};
 use indexmap::{IndexMap, IndexSet};
 use std::alloc::{AllocError, Global};
 use std::marker::Model;
 
-/// A table of communications that keeps no list of rows: two lanes of offers for each channel, one of those who wait for each light,
-/// and the pending groups. How long a change takes does not depend on how many rows there are.
+/// A table of communications that keeps no list of rows: two lanes of offers for each channel, one for each swap channel, one of those
+/// who wait for each light, and the pending groups. How long a change takes does not depend on how many rows there are.
 #[derive(Drop)]
 pub struct OfferIndex {
     core: Core,
@@ -119,7 +119,7 @@ impl OfferIndex {
         let first = state::base_at(&self.core.entries, head, tally);
         let second = state::base_at(&self.core.entries, other, tally);
         match (first, second) {
-            (Some(b), Some(c)) => head.tid.0 != other.tid.0 && do_meet(b, c),
+            (Some(b), Some(c)) => do_meet(head.tid, b, other.tid, c),
             _ => false,
         }
     }
@@ -205,15 +205,5 @@ impl OfferIndex {
             ≡ scan_of self.now.entries (spec.told self.now.flags)) }
     {
         rows::all_rows(alloc, &self.core, &mut Tally::new())
-    }
-}
-
-// Whether the first sends what the second receives.
-fn do_meet(head: &Base, other: &Base) -> bool
-    ensures { result ≡ meets head.now other.now }
-{
-    match (head.kind(), other.kind()) {
-        (BaseKind::Send(c, _), BaseKind::Recv(d)) => c.0 == d.0,
-        _ => false,
     }
 }

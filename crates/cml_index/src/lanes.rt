@@ -5,60 +5,29 @@ ghost use Rattle.indexmap.specs.IndexMap.{index_map_len};
 ghost use Rattle.cml_scan.specs.Order.{Every, Ascends, before};
 ghost use Rattle.cml_channel.specs.Lanes.{is_own, is_others, others, with_run};
 ghost use Rattle.cml_index.specs.declared.slot.Slot.{Slot};
-ghost use Rattle.cml_index.specs.Slot.{same_slot, slot_by, met_by};
+ghost use Rattle.cml_index.specs.Slot.{same_slot};
 ghost use Rattle.cml_index.specs.Slots as spec;
 
 use crate::runs::{Runs, run_at};
 use crate::slot::Slot;
-use cml_base::Paired;
 use cml_channel::{Lane, Tally};
-use cml_scan::light;
-use cml_value::{Base, Tid};
+use cml_value::Tid;
 use indexmap::IndexMap;
 use std::alloc::{AllocError, Global};
-use std::marker::PhantomData;
 
-// The lanes: one for each side of each object of the kind over which two threads meet, and one for each light.
+// The lanes: one for each side of each object over which two threads meet, and one for each light.
 #[derive(Drop)]
-pub(crate) struct Lanes<P: Paired> {
+pub(crate) struct Lanes {
     pub(crate) by_slot: IndexMap<Slot, Lane>,
-    kind: PhantomData<P>,
 }
 
-impl<P: Paired> Lanes<P> {
+impl Lanes {
     // No lane was made yet.
-    pub(crate) fn new(alloc: Global) -> Lanes<P>
+    pub(crate) fn new(alloc: Global) -> Lanes
         ensures { result.by_slot.entries ≡ [] }
     {
         Lanes {
             by_slot: IndexMap::new(alloc),
-            kind: PhantomData,
-        }
-    }
-
-    // The lane in which an offer of the base event stands. One that is always enabled, or never, stands in none.
-    pub(crate) fn of(base: &Base) -> Option<Slot>
-        ensures { result ≡ slot_by P.side_of P.key_of P.is_head base.now }
-    {
-        match P::place(base) {
-            Some((number, heads)) => Some(Slot::Side { heads, number }),
-            None => match light(base) {
-                Some(light) => Some(Slot::Waiters(light)),
-                None => None,
-            },
-        }
-    }
-
-    // The lane of those whom an offer of the base event meets, where it stands first.
-    pub(crate) fn met_by(base: &Base) -> Option<Slot>
-        ensures { result ≡ met_by P.side_of P.key_of P.is_head base.now }
-    {
-        match P::place(base) {
-            Some((number, true)) => Some(Slot::Side {
-                heads: false,
-                number,
-            }),
-            _ => None,
         }
     }
 

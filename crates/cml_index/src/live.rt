@@ -1,99 +1,98 @@
-//! The channels on both sides of which offers stand.
+//! The objects over which two threads may meet: those on which offers stand that can stand first, and offers whom these could meet.
 
-ghost use Rattle.std.specs.Prelude.{◌≡◌, ◌≤◌, ◌<◌, ◌+◌, ◌&&◌, ◌||◌, ℕ, true, false, nat_eq};
+ghost use Rattle.std.specs.Prelude.{◌≡◌, ◌≤◌, ◌<◌, ◌+◌, ◌&&◌, ◌||◌, true, false};
 ghost use Rattle.indexmap.specs.IndexMap.{index_map_len};
 ghost use Rattle.indexmap.specs.IndexSet.{contains, spare};
+ghost use Rattle.cml_channel.specs.Pairings.{same_object};
+ghost use Rattle.cml_channel.specs.declared.pairing.PairedId.{PairedId};
 ghost use Rattle.cml_index.specs.Live as spec;
 
 use crate::lanes::Lanes;
 use crate::runs::{Runs, run_at};
 use crate::slot::Slot;
-use cml_channel::Channels;
+use cml_channel::PairedId;
 use indexmap::IndexSet;
 
-// The numbers of the channels on both sides of which offers stand.
-pub(crate) type Live = IndexSet<u32>;
+// These objects.
+pub(crate) type Live = IndexSet<PairedId>;
 
-// Whether offers stand on both sides of the channel.
-fn is_live(lanes: &Lanes<Channels>, number: u32) -> bool
-    ensures { result ≡ spec.is_live lanes.now.by_slot number }
+// Whether offers stand on the object that can stand first, and offers whom these could meet.
+fn is_live(lanes: &Lanes, object: PairedId) -> bool
+    ensures { result ≡ spec.is_live lanes.now.by_slot object }
 {
     let heads = lanes.len(Slot::Side {
         heads: true,
-        number,
+        object,
     });
-    let others = lanes.len(Slot::Side {
-        heads: false,
-        number,
-    });
+    let others = lanes.len(Slot::met_on(object));
     0 < heads && 0 < others
 }
 
-// Takes the channel out where offers stand on both its sides no more.
-fn cut(live: &mut Live, lanes: &Lanes<Channels>, number: u32)
-    ensures here { contains nat_eq live.new number
-        ≡ (contains nat_eq live.old number && spec.is_live lanes.now.by_slot number) }
-    ensures elsewhere { (n : ℕ) → nat_eq number n ≡ false →
-        contains nat_eq live.new n ≡ contains nat_eq live.old n }
+// Takes the object out where it is live no more.
+fn cut(live: &mut Live, lanes: &Lanes, object: PairedId)
+    ensures here { contains same_object live.new object
+        ≡ (contains same_object live.old object && spec.is_live lanes.now.by_slot object) }
+    ensures elsewhere { (n : PairedId) → same_object object n ≡ false →
+        contains same_object live.new n ≡ contains same_object live.old n }
     ensures room { spare live.old ≤ spare live.new }
 {
-    if !is_live(lanes, number) {
-        live.swap_remove(&number);
+    if !is_live(lanes, object) {
+        live.swap_remove(&object);
     }
 }
 
-// Puts the channel in, for which there is room, where offers stand on both its sides.
-fn add(live: &mut Live, lanes: &Lanes<Channels>, number: u32)
+// Puts the object in, for which there is room, where it is live.
+fn add(live: &mut Live, lanes: &Lanes, object: PairedId)
     requires { 0 < spare live.old }
-    ensures here { contains nat_eq live.new number
-        ≡ (contains nat_eq live.old number || spec.is_live lanes.now.by_slot number) }
-    ensures elsewhere { (n : ℕ) → nat_eq number n ≡ false →
-        contains nat_eq live.new n ≡ contains nat_eq live.old n }
+    ensures here { contains same_object live.new object
+        ≡ (contains same_object live.old object || spec.is_live lanes.now.by_slot object) }
+    ensures elsewhere { (n : PairedId) → same_object object n ≡ false →
+        contains same_object live.new n ≡ contains same_object live.old n }
     ensures room { spare live.old ≤ spare live.new + 1 }
 {
-    if is_live(lanes, number) {
-        match live.insert(number) {
+    if is_live(lanes, object) {
+        match live.insert(object) {
             Ok(_) => {}
             Err(_) => unreachable!(),
         }
     }
 }
 
-// Takes the channel of which the slot is a side out where offers stand on both its sides no more.
-fn cut_at(live: &mut Live, lanes: &Lanes<Channels>, slot: Slot)
-    ensures here { (n : ℕ) → spec.is_side slot n ≡ true → contains nat_eq live.new n
-        ≡ (contains nat_eq live.old n && spec.is_live lanes.now.by_slot n) }
-    ensures elsewhere { (n : ℕ) → spec.is_side slot n ≡ false →
-        contains nat_eq live.new n ≡ contains nat_eq live.old n }
+// Takes the object of which the slot is a side out where it is live no more.
+fn cut_at(live: &mut Live, lanes: &Lanes, slot: Slot)
+    ensures here { (n : PairedId) → spec.is_side slot n ≡ true → contains same_object live.new n
+        ≡ (contains same_object live.old n && spec.is_live lanes.now.by_slot n) }
+    ensures elsewhere { (n : PairedId) → spec.is_side slot n ≡ false →
+        contains same_object live.new n ≡ contains same_object live.old n }
     ensures room { spare live.old ≤ spare live.new }
 {
     match slot {
-        Slot::Side { number, .. } => cut(live, lanes, number),
+        Slot::Side { object, .. } => cut(live, lanes, object),
         Slot::Waiters(_) => {}
     }
 }
 
-// Puts the channel of which the slot is a side in, for which there is room, where offers stand on both its sides.
-fn add_at(live: &mut Live, lanes: &Lanes<Channels>, slot: Slot)
+// Puts the object of which the slot is a side in, for which there is room, where it is live.
+fn add_at(live: &mut Live, lanes: &Lanes, slot: Slot)
     requires { 0 < spare live.old }
-    ensures here { (n : ℕ) → spec.is_side slot n ≡ true → contains nat_eq live.new n
-        ≡ (contains nat_eq live.old n || spec.is_live lanes.now.by_slot n) }
-    ensures elsewhere { (n : ℕ) → spec.is_side slot n ≡ false →
-        contains nat_eq live.new n ≡ contains nat_eq live.old n }
+    ensures here { (n : PairedId) → spec.is_side slot n ≡ true → contains same_object live.new n
+        ≡ (contains same_object live.old n || spec.is_live lanes.now.by_slot n) }
+    ensures elsewhere { (n : PairedId) → spec.is_side slot n ≡ false →
+        contains same_object live.new n ≡ contains same_object live.old n }
     ensures room { spare live.old ≤ spare live.new + 1 }
 {
     match slot {
-        Slot::Side { number, .. } => add(live, lanes, number),
+        Slot::Side { object, .. } => add(live, lanes, object),
         Slot::Waiters(_) => {}
     }
 }
 
-// Keeps the channels where these runs have gone from their lanes. It takes no memory.
-pub(crate) fn cut_all(live: &mut Live, lanes: &Lanes<Channels>, runs: &Runs)
-    requires was { (n : ℕ) → spec.has_side runs.now.entries n ≡ false →
-        contains nat_eq live.old n ≡ spec.is_live lanes.now.by_slot n }
-    requires over { (n : ℕ) → spec.is_live lanes.now.by_slot n ≡ true →
-        contains nat_eq live.old n ≡ true }
+// Keeps the live objects where these runs have gone from their lanes. It takes no memory.
+pub(crate) fn cut_all(live: &mut Live, lanes: &Lanes, runs: &Runs)
+    requires was { (n : PairedId) → spec.has_side runs.now.entries n ≡ false →
+        contains same_object live.old n ≡ spec.is_live lanes.now.by_slot n }
+    requires over { (n : PairedId) → spec.is_live lanes.now.by_slot n ≡ true →
+        contains same_object live.old n ≡ true }
     ensures live { spec.AreLive lanes.now.by_slot live.new }
     ensures room { spare live.old ≤ spare live.new }
 {
@@ -103,13 +102,13 @@ pub(crate) fn cut_all(live: &mut Live, lanes: &Lanes<Channels>, runs: &Runs)
     }
 }
 
-// Keeps the channels where these runs have come to their lanes, for each of which there is room. It takes no memory.
-pub(crate) fn add_all(live: &mut Live, lanes: &Lanes<Channels>, runs: &Runs)
+// Keeps the live objects where these runs have come to their lanes, for each of which there is room. It takes no memory.
+pub(crate) fn add_all(live: &mut Live, lanes: &Lanes, runs: &Runs)
     requires room { index_map_len runs.now ≤ spare live.old }
-    requires was { (n : ℕ) → spec.has_side runs.now.entries n ≡ false →
-        contains nat_eq live.old n ≡ spec.is_live lanes.now.by_slot n }
-    requires under { (n : ℕ) → spec.is_live lanes.now.by_slot n ≡ false →
-        contains nat_eq live.old n ≡ false }
+    requires was { (n : PairedId) → spec.has_side runs.now.entries n ≡ false →
+        contains same_object live.old n ≡ spec.is_live lanes.now.by_slot n }
+    requires under { (n : PairedId) → spec.is_live lanes.now.by_slot n ≡ false →
+        contains same_object live.old n ≡ false }
     ensures { spec.AreLive lanes.now.by_slot live.new }
 {
     for i in 0..runs.len() {

@@ -2,46 +2,45 @@
 
 ghost use Rattle.std.specs.Prelude.{◌≡◌, ◌≤◌, ◌<◌, ◌+◌, ◌*◌, ◌^◌, ℕ, length, slice_get, slice_index_or, Some, None};
 ghost use Rattle.cml_scan.specs.Scan.{scan_of, partners_of, offers_of};
-ghost use Rattle.cml_channel.specs.Lanes.{others};
+ghost use Rattle.cml_channel.specs.Lanes.{those};
 ghost use Rattle.cml_index.specs.Slots.{lane_of};
 ghost use Rattle.cml_index.specs.Posts as spec;
 
 use crate::flags::is_lit_by;
-use crate::lanes::Lanes;
-use crate::slot::Slot;
+use crate::slot::{Slot, met_by};
 use crate::state::{Core, base_at};
-use cml_channel::{Channels, Tally};
+use cml_channel::{Tally, Whom};
 use cml_scan::{Meet, Place};
-use cml_value::{Base, Tid};
+use cml_value::Base;
 
-// How many offers in the lane are of other threads than this one.
-fn others_count(core: &Core, slot: Slot, tid: Tid, tally: &mut Tally) -> usize
+// How many offers in the lane are of those that are meant.
+fn others_count(core: &Core, slot: Slot, whom: Whom, tally: &mut Tally) -> usize
     requires { spec.IsIndexed core.now.entries.items core.now.lanes.by_slot core.now.live
         core.now.flags.entries core.now.leaves core.now.lit }
-    ensures count { result ≡ length (others tid
+    ensures count { result ≡ length (those whom
         (lane_of spec.slot_of slot (offers_of core.now.entries.items))) }
     ensures cost { (digits : ℕ) → spec.HasDigits core.now.entries.items digits →
         tally.new ≤ tally.old + 2 * digits }
 {
     match core.lanes.by_slot.get(&slot) {
-        Some(lane) => lane.others_count(tid, tally),
+        Some(lane) => lane.others_count(whom, tally),
         None => 0,
     }
 }
 
-// The offer at this place among those in the lane that are of other threads than this one.
-fn other_at(core: &Core, slot: Slot, tid: Tid, j: usize, tally: &mut Tally) -> Place
+// The offer at this place among those in the lane that are meant.
+fn other_at(core: &Core, slot: Slot, whom: Whom, j: usize, tally: &mut Tally) -> Place
     requires indexed { spec.IsIndexed core.now.entries.items core.now.lanes.by_slot core.now.live
         core.now.flags.entries core.now.leaves core.now.lit }
-    requires within { j < length (others tid
+    requires within { j < length (those whom
         (lane_of spec.slot_of slot (offers_of core.now.entries.items))) }
-    ensures value { slice_get (others tid (lane_of spec.slot_of slot
+    ensures value { slice_get (those whom (lane_of spec.slot_of slot
         (offers_of core.now.entries.items))) j ≡ Some result }
     ensures cost { (digits : ℕ) → spec.HasDigits core.now.entries.items digits →
         tally.new ≤ tally.old + (2 * digits + 1) }
 {
     match core.lanes.by_slot.get(&slot) {
-        Some(lane) => lane.other(tid, j, tally),
+        Some(lane) => lane.other(whom, j, tally),
         None => unreachable!(),
     }
 }
@@ -55,8 +54,8 @@ fn count_at(core: &Core, head: Place, base: &Base, tally: &mut Tally) -> usize
     ensures cost { (digits : ℕ) → spec.HasDigits core.now.entries.items digits →
         tally.new ≤ tally.old + (2 * digits + 1) }
 {
-    match Lanes::<Channels>::met_by(base) {
-        Some(slot) => others_count(core, slot, head.tid, tally),
+    match met_by(base, head.tid) {
+        Some((slot, whom)) => others_count(core, slot, whom, tally),
         None => {
             if is_lit_by(&core.flags, base, tally) {
                 1
@@ -78,9 +77,9 @@ fn row_at(core: &Core, head: Place, base: &Base, j: usize, tally: &mut Tally) ->
     ensures cost { (digits : ℕ) → spec.HasDigits core.now.entries.items digits →
         tally.new ≤ tally.old + (2 * digits + 1) }
 {
-    match Lanes::<Channels>::met_by(base) {
-        Some(slot) => {
-            let other = other_at(core, slot, head.tid, j, tally);
+    match met_by(base, head.tid) {
+        Some((slot, whom)) => {
+            let other = other_at(core, slot, whom, j, tally);
             Meet::Pair {
                 head: head.tid,
                 head_leaf: head.leaf,

@@ -6,7 +6,7 @@ ghost use Rattle.cml_value.specs.Group.{bases};
 ghost use Rattle.cml_scan.specs.Light.{lit_by};
 ghost use Rattle.cml_scan.specs.Order.{Ascends, before};
 ghost use Rattle.cml_scan.specs.Scan.{single, pairs_with, offers_of, leaves_from, scan_of};
-ghost use Rattle.cml_channel.specs.Lanes.{others};
+ghost use Rattle.cml_channel.specs.Lanes.{those};
 ghost use Rattle.cml_index.specs.Heads.{pair_of, offer_at};
 ghost use Rattle.cml_index.specs.Slots.{lane_of};
 ghost use Rattle.cml_index.specs.Posts as spec;
@@ -14,46 +14,51 @@ ghost use Rattle.cml_index.specs.Posts as spec;
 use crate::entry::Entry;
 use crate::flags::is_lit_by;
 use crate::heads::head_count;
-use crate::lanes::Lanes;
-use crate::slot::Slot;
+use crate::slot::{Slot, met_by};
 use crate::state::Core;
-use cml_channel::{Channels, Lane, Tally};
+use cml_channel::{Lane, Tally, Whom};
 use cml_scan::{Meet, Place};
-use cml_value::{Base, Tid};
+use cml_value::Base;
 use std::alloc::{AllocError, Global};
 
-// The offer at this place among those in the lane that are not the thread's, which has so many there: two looks.
-pub(crate) fn other_in(lane: &Lane, tid: Tid, own: usize, j: usize, tally: &mut Tally) -> Place
+// The offer at this place among those in the lane that are meant, where so many are not: two looks.
+pub(crate) fn other_in(lane: &Lane, whom: Whom, own: usize, j: usize, tally: &mut Tally) -> Place
     requires sorted { Ascends before lane.now.places }
-    requires own { own + length (others tid lane.now.places) ≡ length lane.now.places }
-    requires within { j < length (others tid lane.now.places) }
-    ensures value { result ≡ slice_index_or (others tid lane.now.places) j result }
+    requires own { own + length (those whom lane.now.places) ≡ length lane.now.places }
+    requires within { j < length (those whom lane.now.places) }
+    ensures value { result ≡ slice_index_or (those whom lane.now.places) j result }
     ensures cost { tally.new ≤ tally.old + 2 }
 {
     let _len = lane.len();
-    let place = lane.look(j, tally);
-    if place.tid.0 < tid.0 {
-        place
-    } else {
-        lane.look(j + own, tally)
+    match whom {
+        Whom::Others(tid) => {
+            let place = lane.look(j, tally);
+            if place.tid.0 < tid.0 {
+                place
+            } else {
+                lane.look(j + own, tally)
+            }
+        }
+        Whom::Above(_) => lane.look(own + j, tally),
     }
 }
 
-// Puts the rows of the head with the offers in the lane that are of other threads behind those that stand there.
+// Puts the rows of the head with the offers in the lane that are meant behind those that stand there.
 fn push_lane(
     rows: &mut Vec<Meet>,
     head: Place,
     lane: &Lane,
+    whom: Whom,
     tally: &mut Tally,
 ) -> Result<(), AllocError>
     requires { Ascends before lane.now.places }
     ensures { IfOk result (λ _. rows.new.items
-        ≡ rows.old.items ++ map (pair_of head) (others head.tid lane.now.places)) }
+        ≡ rows.old.items ++ map (pair_of head) (those whom lane.now.places)) }
 {
-    let count = lane.others_count(head.tid, tally);
+    let count = lane.others_count(whom, tally);
     let own = lane.len() - count;
     for j in 0..count {
-        let other = other_in(lane, head.tid, own, j, tally);
+        let other = other_in(lane, whom, own, j, tally);
         rows.push(Meet::Pair {
             head: head.tid,
             head_leaf: head.leaf,
@@ -64,21 +69,22 @@ fn push_lane(
     Ok(())
 }
 
-// Puts the rows of the head with the offers in the lane of this slot that are of other threads behind those that stand there.
+// Puts the rows of the head with the offers in the lane of this slot that are meant behind those that stand there.
 fn push_slot(
     rows: &mut Vec<Meet>,
     core: &Core,
     slot: Slot,
+    whom: Whom,
     head: Place,
     tally: &mut Tally,
 ) -> Result<(), AllocError>
     requires { spec.IsIndexed core.now.entries.items core.now.lanes.by_slot core.now.live
         core.now.flags.entries core.now.leaves core.now.lit }
     ensures { IfOk result (λ _. rows.new.items ≡ rows.old.items
-        ++ map (pair_of head) (others head.tid (lane_of spec.slot_of slot (offers_of core.now.entries.items)))) }
+        ++ map (pair_of head) (those whom (lane_of spec.slot_of slot (offers_of core.now.entries.items)))) }
 {
     match core.lanes.by_slot.get(&slot) {
-        Some(lane) => push_lane(rows, head, lane, tally),
+        Some(lane) => push_lane(rows, head, lane, whom, tally),
         None => Ok(()),
     }
 }
@@ -96,8 +102,8 @@ fn push_pairs(
     ensures { IfOk result (λ _. rows.new.items
         ≡ rows.old.items ++ pairs_with (offers_of core.now.entries.items) (offer_at head base.now)) }
 {
-    match Lanes::<Channels>::met_by(base) {
-        Some(slot) => push_slot(rows, core, slot, head, tally),
+    match met_by(base, head.tid) {
+        Some((slot, whom)) => push_slot(rows, core, slot, whom, head, tally),
         None => Ok(()),
     }
 }
@@ -146,7 +152,7 @@ fn push_singles_of(
     Ok(())
 }
 
-// All rows, in order. Where there is no head, no leaf is looked at but two offers of each channel on both sides of which some stand.
+// All rows, in order. Where there is no head, no leaf is looked at but two offers of each object over which two threads may meet.
 pub(crate) fn all_rows(
     alloc: Global,
     core: &Core,

@@ -1,12 +1,62 @@
 //! The lanes in which offers stand.
 
-use cml_scan::Light;
+ghost use Rattle.std.specs.Prelude.{◌≡◌};
+ghost use Rattle.cml_index.specs.Slot as spec;
+ghost use Rattle.cml_index.specs.Posts.{slot_of};
+
+use cml_channel::{PairedId, Whom, place};
+use cml_scan::{Light, light};
+use cml_value::{Base, Tid};
 
 // A lane.
 #[derive(Clone, Copy, PartialEq, Eq, Hash)]
 pub(crate) enum Slot {
-    // One side of an object over which two threads meet: those that stand first there, or those that they meet.
-    Side { heads: bool, number: u32 },
+    // One side of an object over which two threads meet: those that can stand first there, or those that cannot.
+    Side { heads: bool, object: PairedId },
     // Those who wait for the light.
     Waiters(Light),
+}
+
+impl Slot {
+    // The lane in which an offer of the base event stands. One that is always enabled, or never, stands in none.
+    pub(crate) fn of(base: &Base) -> Option<Slot>
+        ensures { result ≡ slot_of base.now }
+    {
+        match place(base) {
+            Some(side) => Some(Slot::Side {
+                heads: side.heads,
+                object: side.object,
+            }),
+            None => match light(base) {
+                Some(light) => Some(Slot::Waiters(light)),
+                None => None,
+            },
+        }
+    }
+
+    // The lane of those whom an offer meets that stands first on the object.
+    pub(crate) fn met_on(object: PairedId) -> Slot
+        ensures { result ≡ spec.met_lane object }
+    {
+        Slot::Side {
+            heads: object.kind.one_lane(),
+            object,
+        }
+    }
+}
+
+// The lane of those whom an offer of the thread meets that waits for this, where it can stand first, and which of them.
+pub(crate) fn met_by(base: &Base, tid: Tid) -> Option<(Slot, Whom)>
+    ensures { result ≡ spec.met_by base.now tid }
+{
+    match place(base) {
+        Some(side) => {
+            if side.heads {
+                Some((Slot::met_on(side.object), side.object.kind.whom(tid)))
+            } else {
+                None
+            }
+        }
+        None => None,
+    }
 }

@@ -22,17 +22,17 @@ use crate::lanes::Lanes;
 use crate::live::{Live, add_all, cut_all};
 use crate::nacks::reserve_nacks;
 use crate::slot::Slot;
-use cml_channel::{Channels, Tally};
+use cml_channel::Tally;
 use cml_scan::{Light, Place};
 use cml_value::{Base, Tid};
 use std::alloc::{AllocError, Global};
 
-// The pending threads, ascending; the lanes of their offers; the channels on both sides of which offers stand; what was told of lights; and how many leaves there are, and how
+// The pending threads, ascending; the lanes of their offers; the objects over which two threads may meet; what was told of lights; and how many leaves there are, and how
 // many of them can be taken alone.
 #[derive(Drop)]
 pub(crate) struct Core {
     pub(crate) entries: Vec<Entry>,
-    pub(crate) lanes: Lanes<Channels>,
+    pub(crate) lanes: Lanes,
     pub(crate) live: Live,
     pub(crate) flags: Flags,
     pub(crate) leaves: usize,

@@ -1,13 +1,14 @@
 use Rattle.std.proofs.Common.{◌≡◌, ◌<◌, length, Some, None, ap, sym, subst, ◌∙◌, arith}
 use Rattle.cml_scan.specs.declared.meet.Place.{Place}
 use Rattle.std.specs.List.{list_any}
+use Rattle.cml_channel.specs.declared.lane.Whom.TheVariants.{Others}
 use Rattle.cml_channel.specs.Lanes.{is_others}
 use Rattle.cml_index.specs.Heads.{is_beside}
 use Rattle.cml_index.proofs.Beside.{among_is, all_stay, none_among, power_above}
 use Rattle.cml_index.proofs.counts.count_among.Goals as goal
 
 pub returns-then-len-eq0-clause-count : goal.returns-then-len-eq0-clause-count
-returns-then-len-eq0-clause-count c = sym (none_among c.args.others.now.places c.args.heads.now.places (sym c.len.ensures ∙ c.if-len-eq0.true))
+returns-then-len-eq0-clause-count c = sym (none_among Others c.args.others.now.places c.args.heads.now.places (sym c.len.ensures ∙ c.if-len-eq0.true))
 
 pub returns-in-Some-clause-count : goal.returns-in-Some-clause-count
 returns-in-Some-clause-count c =

@@ -1,9 +1,11 @@
-use Rattle.std.proofs.Common.{◌≡◌, ◌≤◌, ◌+◌, ℕ, true, false, ◌&&◌, nat_lt, drop, length, ap, ◌∙◌, arith}
+use Rattle.std.proofs.Common.{◌≡◌, ◌≤◌, ◌+◌, true, false, ◌&&◌, nat_lt, drop, length, ap, ◌∙◌, arith}
 use Rattle.std.specs.List.{filter}
 use Rattle.std.proofs.lemmas.List.{at_drop_more, at_drop_all}
 use Rattle.cml_scan.specs.Scan.{offers_of}
 use Rattle.cml_scan.specs.Order.{has_partner}
 use Rattle.cml_index.specs.declared.slot.Slot.TheVariants.{Side}
+use Rattle.cml_channel.specs.declared.pairing.PairedId.{PairedId}
+use Rattle.cml_index.specs.Slot.{met_lane}
 use Rattle.cml_index.specs.Slots.{lane_at, lane_of}
 use Rattle.cml_index.specs.Posts.{slot_of}
 use Rattle.cml_index.specs.Heads.{heads_on}
@@ -17,11 +19,11 @@ overflow_add-count c =
     let os = offers_of c.args.core.now.entries.items in
     let keys = c.args.core.now.live.keys in
     let lanes = c.args.core.now.lanes.by_slot in
-    let both : AreBoth keys os = λ n. c.requires.sides n ∙ ap (λ ps. nat_lt 0 (length ps) && nat_lt 0 (length (lane_at lanes (Side false n)))) (c.requires.placed (Side true n)) ∙ ap (λ ps. nat_lt 0 (length (lane_of slot_of (Side true n) os)) && nat_lt 0 (length ps)) (c.requires.placed (Side false n)) in
+    let both : AreBoth keys os = λ n. c.requires.sides n ∙ ap (λ ps. nat_lt 0 (length ps) && nat_lt 0 (length (lane_at lanes (met_lane n)))) (c.requires.placed (Side true n)) ∙ ap (λ ps. nat_lt 0 (length (lane_of slot_of (Side true n) os)) && nat_lt 0 (length ps)) (c.requires.placed (met_lane n)) in
     let i = c.loop-i.i in
-    let m = c.number_at.result in
-    let on = λ (n : ℕ). length (heads_on os n) in
-    let step : total on (drop i keys) ≡ on m + total on (drop (i + 1) keys) = at_drop_more (total on) keys i m (within keys i m c.number_at.ensures) ∙ ap (λ n. on n + total on (drop (i + 1) keys)) (got keys i m c.number_at.ensures) in
+    let m = c.object_at.result in
+    let on = λ (n : PairedId). length (heads_on os n) in
+    let step : total on (drop i keys) ≡ on m + total on (drop (i + 1) keys) = at_drop_more (total on) keys i m (within keys i m c.object_at.ensures) ∙ ap (λ n. on n + total on (drop (i + 1) keys)) (got keys i m c.object_at.ensures) in
     let whole = all_met os keys c.len-i-end.ensures.unique both in
     let few : length (filter (has_partner os) os) ≤ length os = filter_fewer (has_partner os) os in
     omega (arith, step, whole, few, c.loop-i.invariant.count, c.count_on-count.ensures.count, c.requires.all)
@@ -31,10 +33,10 @@ loop-i-preserved c =
     let os = offers_of c.args.core.now.entries.items in
     let keys = c.args.core.now.live.keys in
     let i = c.loop-i.i in
-    let m = c.number_at.result in
-    let on = λ (n : ℕ). length (heads_on os n) in
-    let step : total on (drop i keys) ≡ on m + total on (drop (i + 1) keys) = at_drop_more (total on) keys i m (within keys i m c.number_at.ensures) ∙ ap (λ n. on n + total on (drop (i + 1) keys)) (got keys i m c.number_at.ensures) in
-    let wide : total (size_on os) (drop i keys) ≡ size_on os m + total (size_on os) (drop (i + 1) keys) = at_drop_more (total (size_on os)) keys i m (within keys i m c.number_at.ensures) ∙ ap (λ n. size_on os n + total (size_on os) (drop (i + 1) keys)) (got keys i m c.number_at.ensures) in
+    let m = c.object_at.result in
+    let on = λ (n : PairedId). length (heads_on os n) in
+    let step : total on (drop i keys) ≡ on m + total on (drop (i + 1) keys) = at_drop_more (total on) keys i m (within keys i m c.object_at.ensures) ∙ ap (λ n. on n + total on (drop (i + 1) keys)) (got keys i m c.object_at.ensures) in
+    let wide : total (size_on os) (drop i keys) ≡ size_on os m + total (size_on os) (drop (i + 1) keys) = at_drop_more (total (size_on os)) keys i m (within keys i m c.object_at.ensures) ∙ ap (λ n. size_on os n + total (size_on os) (drop (i + 1) keys)) (got keys i m c.object_at.ensures) in
     let heads = ap length (c.requires.placed (Side true m)) in
     let others_ = ap length (c.requires.placed (Side false m)) in
     record {
@@ -47,8 +49,8 @@ returns-clause-count c =
     let os = offers_of c.args.core.now.entries.items in
     let keys = c.args.core.now.live.keys in
     let lanes = c.args.core.now.lanes.by_slot in
-    let both : AreBoth keys os = λ n. c.requires.sides n ∙ ap (λ ps. nat_lt 0 (length ps) && nat_lt 0 (length (lane_at lanes (Side false n)))) (c.requires.placed (Side true n)) ∙ ap (λ ps. nat_lt 0 (length (lane_of slot_of (Side true n) os)) && nat_lt 0 (length ps)) (c.requires.placed (Side false n)) in
-    let on = λ (n : ℕ). length (heads_on os n) in
+    let both : AreBoth keys os = λ n. c.requires.sides n ∙ ap (λ ps. nat_lt 0 (length ps) && nat_lt 0 (length (lane_at lanes (met_lane n)))) (c.requires.placed (Side true n)) ∙ ap (λ ps. nat_lt 0 (length (lane_of slot_of (Side true n) os)) && nat_lt 0 (length ps)) (c.requires.placed (met_lane n)) in
+    let on = λ (n : PairedId). length (heads_on os n) in
     let none : total on (drop c.loop-i.i keys) ≡ 0 = at_drop_all (total on) keys c.loop-i.i (omega (arith, c.len-i-end.ensures.len, c.loop-i-test.false)) in
     let whole = all_met os keys c.len-i-end.ensures.unique both in
     omega (arith, none, whole, c.loop-i.invariant.count)
@@ -58,6 +60,6 @@ returns-clause-cost c =
     let os = offers_of c.args.core.now.entries.items in
     let keys = c.args.core.now.live.keys in
     let lanes = c.args.core.now.lanes.by_slot in
-    let both : AreBoth keys os = λ n. c.requires.sides n ∙ ap (λ ps. nat_lt 0 (length ps) && nat_lt 0 (length (lane_at lanes (Side false n)))) (c.requires.placed (Side true n)) ∙ ap (λ ps. nat_lt 0 (length (lane_of slot_of (Side true n) os)) && nat_lt 0 (length ps)) (c.requires.placed (Side false n)) in
+    let both : AreBoth keys os = λ n. c.requires.sides n ∙ ap (λ ps. nat_lt 0 (length ps) && nat_lt 0 (length (lane_at lanes (met_lane n)))) (c.requires.placed (Side true n)) ∙ ap (λ ps. nat_lt 0 (length (lane_of slot_of (Side true n) os)) && nat_lt 0 (length ps)) (c.requires.placed (met_lane n)) in
     let few = sizes os keys c.len-i-end.ensures.unique both os in
     omega (arith, few, c.loop-i.invariant.cost)

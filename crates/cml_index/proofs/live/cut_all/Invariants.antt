@@ -1,4 +1,6 @@
-use Rattle.std.proofs.Common.{◌≡◌, ◌≤◌, ℕ, drop, true, false, nat_eq}
+use Rattle.std.proofs.Common.{◌≡◌, ◌≤◌, drop, true, false}
+use Rattle.cml_channel.specs.Pairings.{same_object}
+use Rattle.cml_channel.specs.declared.pairing.PairedId.{PairedId}
 use Rattle.indexmap.specs.IndexSet.{contains, spare}
 use Rattle.cml_index.specs.Live as spec
 use Rattle.cml_index.proofs.live.cut_all.Given as goal
@@ -6,7 +8,7 @@ use Rattle.cml_index.proofs.live.cut_all.Given as goal
 -- the channels are right that no run touches that is left
 abbrev pub invariant-loop-i : goal.invariant-loop-i
 invariant-loop-i l = record {
-  was : (n : ℕ) → spec.has_side (drop l.i l.runs.entries) n ≡ false → contains nat_eq l.live n ≡ spec.is_live l.lanes.by_slot n;
-  over : (n : ℕ) → spec.is_live l.lanes.by_slot n ≡ true → contains nat_eq l.live n ≡ true;
+  was : (n : PairedId) → spec.has_side (drop l.i l.runs.entries) n ≡ false → contains same_object l.live n ≡ spec.is_live l.lanes.by_slot n;
+  over : (n : PairedId) → spec.is_live l.lanes.by_slot n ≡ true → contains same_object l.live n ≡ true;
   room : spare l.fn.live ≤ spare l.live;
 }

@@ -9,7 +9,7 @@ use Rattle.cml_index.proofs.partners.count_at.Goals as goal
 pub returns-in-Some-clause-count : goal.returns-in-Some-clause-count
 returns-in-Some-clause-count c =
     c.others_count.ensures.count
-    ∙ sym (ap length (rows_some (spec.told c.args.core.now.flags.entries) (offers_of c.args.core.now.entries.items) c.args.head c.args.base.now c.met_by.result c.in-Some.slot c.met_by.ensures c.in-Some.is) ∙ length-map _ (pair_of c.args.head))
+    ∙ sym (ap length (rows_some (spec.told c.args.core.now.flags.entries) (offers_of c.args.core.now.entries.items) c.args.head c.args.base.now c.met_by.result c.in-Some.slot c.in-Some.whom c.met_by.ensures c.in-Some.is) ∙ length-map _ (pair_of c.args.head))
 
 pub returns-then-is_lit_by-clause-count : goal.returns-then-is_lit_by-clause-count
 returns-then-is_lit_by-clause-count c =

@@ -18,12 +18,12 @@ only_one false x j within = absurd (omega (arith, within))
 
 pub other_at-other-requires-clause-within : goal.other_at-other-requires-clause-within
 other_at-other-requires-clause-within c =
-    let same = ap length (rows_some (spec.told c.args.core.now.flags.entries) (offers_of c.args.core.now.entries.items) c.args.head c.args.base.now c.met_by.result c.in-Some.slot c.met_by.ensures c.in-Some.is) ∙ length-map _ (pair_of c.args.head) in
+    let same = ap length (rows_some (spec.told c.args.core.now.flags.entries) (offers_of c.args.core.now.entries.items) c.args.head c.args.base.now c.met_by.result c.in-Some.slot c.in-Some.whom c.met_by.ensures c.in-Some.is) ∙ length-map _ (pair_of c.args.head) in
     subst (λ n. c.args.j < n) same c.requires.within
 
 pub returns-in-Some-clause-value : goal.returns-in-Some-clause-value
 returns-in-Some-clause-value c =
-    ap (λ rs. slice_get rs c.args.j) (rows_some (spec.told c.args.core.now.flags.entries) (offers_of c.args.core.now.entries.items) c.args.head c.args.base.now c.met_by.result c.in-Some.slot c.met_by.ensures c.in-Some.is)
+    ap (λ rs. slice_get rs c.args.j) (rows_some (spec.told c.args.core.now.flags.entries) (offers_of c.args.core.now.entries.items) c.args.head c.args.base.now c.met_by.result c.in-Some.slot c.in-Some.whom c.met_by.ensures c.in-Some.is)
     ∙ slice_get-map (pair_of c.args.head) _ c.args.j
     ∙ ap (option_map (pair_of c.args.head)) c.other_at-other.ensures.value
 

@@ -1,16 +1,16 @@
 use Rattle.std.proofs.Common.{◌≤◌, length, arith}
-use Rattle.cml_channel.specs.Lanes.{is_others, others}
+use Rattle.cml_channel.specs.Lanes.{is_of, those}
 use Rattle.cml_index.proofs.Parted.{filter_fewer}
 use Rattle.cml_index.proofs.rows.push_lane.Goals as goal
 
 pub overflow_sub-own : goal.overflow_sub-own
 overflow_sub-own c =
     let ps = c.args.lane.now.places in
-    let few : length (others c.args.head.tid ps) ≤ length ps = filter_fewer (is_others c.args.head.tid) ps in
+    let few : length (those c.args.whom ps) ≤ length ps = filter_fewer (is_of c.args.whom) ps in
     omega (arith, few, c.others_count-count.ensures.count, c.len.ensures)
 
 pub other_in-other-requires-clause-own : goal.other_in-other-requires-clause-own
 other_in-other-requires-clause-own c =
     let ps = c.args.lane.now.places in
-    let few : length (others c.args.head.tid ps) ≤ length ps = filter_fewer (is_others c.args.head.tid) ps in
+    let few : length (those c.args.whom ps) ≤ length ps = filter_fewer (is_of c.args.whom) ps in
     omega (arith, few, c.others_count-count.ensures.count, c.len.ensures)

@@ -3,7 +3,7 @@ use Rattle.std.specs.List.{list_any}
 use Rattle.cml_scan.specs.declared.meet.Place.{Place}
 use Rattle.cml_channel.specs.Lanes.{PlainLane, is_of}
 use Rattle.cml_scan.specs.Order.{Ascends, before}
-use Rattle.cml_channel.proofs.Counts.{last_tells, first_tells, last_above}
+use Rattle.cml_channel.proofs.Counts.{last_tells, last_above}
 use Rattle.cml_channel.proofs.lane.Lane.has_other.Goals as goal
 
 pub returns-else-first-tid-clause-value : goal.returns-else-first-tid-clause-value

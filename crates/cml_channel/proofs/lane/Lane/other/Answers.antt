@@ -1,4 +1,4 @@
-use Rattle.std.proofs.Common.{◌≡◌, ◌+◌, ◌-◌, ◌<◌, get_or, length, arith, ap, subst, sym, ◌∙◌}
+use Rattle.std.proofs.Common.{◌+◌, ◌-◌, get_or, length, arith, ap, subst, sym, ◌∙◌}
 use Rattle.cml_channel.specs.Lanes.{PlainLane, those}
 use Rattle.cml_channel.specs.declared.lane.Bound.TheVariants.{UpTo}
 use Rattle.cml_scan.specs.Order.{Ascends, before}

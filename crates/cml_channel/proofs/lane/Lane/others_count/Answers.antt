@@ -1,4 +1,4 @@
-use Rattle.std.proofs.Common.{◌≡◌, length, arith, ap, subst}
+use Rattle.std.proofs.Common.{length, arith, ap, subst}
 use Rattle.cml_channel.specs.Lanes.{PlainLane, those}
 use Rattle.cml_scan.specs.Order.{Ascends, before}
 use Rattle.cml_channel.proofs.Counts.{others_many, above_many}

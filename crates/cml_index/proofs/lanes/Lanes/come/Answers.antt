@@ -8,7 +8,7 @@ use Rattle.cml_index.proofs.Walks.{no_run, with_none, cases_left, self_left, mov
 use Rattle.cml_index.proofs.lanes.Lanes.come.Goals as goal
 
 pub loop-i-init : goal.loop-i-init
-loop-i-init o c =
+loop-i-init c =
     record {
       done = λ k e. let none : spec.run_in c.args.runs.now k ≡ [] = ap (λ r. option_map_or (λ v. v.items) r []) (no_run c.args.runs.now.entries k e) in rw none (sym (with_none c.args.tid (spec.lane_at c.args.self.now.by_slot k) (c.requires.sorted k) (c.requires.new k)));
       left = λ k e. refl;
@@ -17,7 +17,7 @@ loop-i-init o c =
     }
 
 pub loop-i-preserved : goal.loop-i-preserved
-loop-i-preserved o c =
+loop-i-preserved c =
     let slot = c.run_at-slot.result.0 in
     let tid = c.args.tid in
     let now_left : Slot → Bool = λ k. spec.has_run (drop c.loop-i.i c.args.runs.now.entries) k in

@@ -7,7 +7,7 @@ use Rattle.cml_index.proofs.Walks.{no_run, others_all, self_left, moved}
 use Rattle.cml_index.proofs.lanes.Lanes.go.Goals as goal
 
 pub loop-i-init : goal.loop-i-init
-loop-i-init o c =
+loop-i-init c =
     record {
       done = λ k e. let none : spec.run_in c.args.runs.now k ≡ [] = ap (λ r. option_map_or (λ v. v.items) r []) (no_run c.args.runs.now.entries k e) in
           sym (others_all c.args.tid (spec.lane_at c.args.self.now.by_slot k) (sym (c.requires k) ∙ ap length none));
@@ -17,13 +17,13 @@ loop-i-init o c =
     }
 
 pub go_at-requires : goal.go_at-requires
-go_at-requires o c =
+go_at-requires c =
     let slot = c.run_at-slot.result.0 in
     let untouched = c.loop-i.invariant.left slot (self_left slot (spec.has_run (drop c.loop-i.i c.args.runs.now.entries) slot) (spec.has_run (drop (c.loop-i.i + 1) c.args.runs.now.entries) slot) (c.run_at-slot.ensures.left slot)) in
     ap length (sym c.run_at-slot.ensures.run) ∙ c.requires slot ∙ ap (λ ps. length (filter (is_own c.args.tid) ps)) (sym untouched)
 
 pub loop-i-preserved : goal.loop-i-preserved
-loop-i-preserved o c =
+loop-i-preserved c =
     let slot = c.run_at-slot.result.0 in
     let tid = c.args.tid in
     let now_left : Slot → Bool = λ k. spec.has_run (drop c.loop-i.i c.args.runs.now.entries) k in

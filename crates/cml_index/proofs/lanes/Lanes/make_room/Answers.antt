@@ -7,7 +7,7 @@ use Rattle.cml_index.proofs.Walks.{no_run, same_slot_is, cases_done}
 use Rattle.cml_index.proofs.lanes.Lanes.make_room.Goals as goal
 
 pub loop-i-init : goal.loop-i-init
-loop-i-init o c =
+loop-i-init c =
     record {
       same = λ k. refl;
       kept = λ k. omega arith;
@@ -15,7 +15,7 @@ loop-i-init o c =
     }
 
 pub loop-i-preserved : goal.loop-i-preserved
-loop-i-preserved o c =
+loop-i-preserved c =
     let slot = c.run_at-slot.result.0 in
     let now_left : Slot → Bool = λ k. spec.has_run (drop c.loop-i.i c.args.runs.now.entries) k in
     let later : Slot → Bool = λ k. spec.has_run (drop (c.loop-i.i + 1) c.args.runs.now.entries) k in
