@@ -442,6 +442,10 @@ row_refused w es told room row has k is lacks =
     let none : has_row (scan w) row ≡ false = ap (λ rows. has_row rows row) (sym (scan_is w es told room k)) ∙ sym is ∙ lacks in
     rw none refl
 
+-- the scan has the row exactly where the table has it
+pub has_is : (w : PlainWorld) (es : List PlainEntry) (told : Light → Bool) (room : Room) (row : Meet) (has : Bool) → Keeps w es told room → has ≡ has_row (scan_of es told) row → has_row (scan w) row ≡ has
+has_is w es told room row has k is = ap (λ rows. has_row rows row) (sym (scan_is w es told room k)) ∙ sym is
+
 -- one that is there is in the scan
 pub row_there : (w : PlainWorld) (es : List PlainEntry) (told : Light → Bool) (room : Room) (row chosen : Meet) (has : Bool) → Keeps w es told room → has ≡ has_row (scan_of es told) row → has ≡ true → row ≡ chosen → has_row (scan w) chosen ≡ true
 row_there w es told room row chosen has k is holds same =

@@ -230,17 +230,7 @@ impl<T: Table> Book<T> {
         if !self.table.has(row) {
             return false;
         }
-        match row {
-            Meet::Single { .. } => false,
-            Meet::Pair {
-                head,
-                head_leaf,
-                other,
-                other_leaf,
-            } => {
-                self.state.swaps_at(*head, *head_leaf) && self.state.swaps_at(*other, *other_leaf)
-            }
-        }
+        self.state.are_swaps(row)
     }
 
     /// The table of the rows that can be taken now.

@@ -14,7 +14,7 @@ ghost use Rattle.cml_book.specs.Commit.{awaited, base_awaited, group_awaited, re
 ghost use Rattle.cml_book.specs.Keeping.{AreFresh, Counts};
 ghost use Rattle.cml_book.specs.Leaving.{can_give, put_out};
 ghost use Rattle.cml_book.specs.Parties.{WaitsOn};
-ghost use Rattle.cml_book.specs.Swaps.{is_swap};
+ghost use Rattle.cml_book.specs.Swaps.{is_swap, are_swaps};
 ghost use Rattle.cml_book.specs.Threads.{flat_of};
 
 use crate::nacks::{enter, settle};
@@ -23,7 +23,7 @@ use crate::thread::Thread;
 use crate::ticks::{count_ticks, uncount_ticks};
 use cml_base::{Register, Source};
 use cml_group::{Chosen, Flat};
-use cml_scan::Light;
+use cml_scan::{Light, Meet};
 use cml_signal::{Clock, NackCell};
 use cml_syncvar::MVarWant;
 use cml_value::{Base, BaseKind, Tid, Value, ValueKind};
@@ -74,8 +74,23 @@ impl State {
         }
     }
 
-    /// Whether the thread waits, and swaps at this leaf of its group.
-    pub fn swaps_at(&self, thread: Tid, leaf: u32) -> bool
+    /// Whether the row is a pair, and both its leaves are swaps.
+    pub fn are_swaps(&self, row: &Meet) -> bool
+        ensures { result ≡ are_swaps self.now row.now }
+    {
+        match row {
+            Meet::Single { .. } => false,
+            Meet::Pair {
+                head,
+                head_leaf,
+                other,
+                other_leaf,
+            } => self.swaps_at(*head, *head_leaf) && self.swaps_at(*other, *other_leaf),
+        }
+    }
+
+    // Whether the thread waits, and swaps at this leaf of its group.
+    fn swaps_at(&self, thread: Tid, leaf: u32) -> bool
         ensures { result ≡ is_swap (base_awaited self.now thread.0 leaf) }
     {
         let Some(flat) = self.waiting(thread) else {
