@@ -4,7 +4,7 @@ use crate::making::{MEMORY, group, value};
 use cml_book::{Book, Fault, Refusal, Resume};
 use cml_kept::KeptRows;
 use cml_scan::{Light, Meet, Place, Table};
-use cml_value::{Base, BaseKind, ChanId, Group, GroupKind, MVarId, NackId, Tid};
+use cml_value::{Base, BaseKind, ChanId, Group, GroupKind, MVarId, NackId, SwapId, Tid};
 use std::process::Abort;
 
 const EXCHANGE: Meet = Meet::Pair {
@@ -19,16 +19,25 @@ const SENDER: Place = Place {
     leaf: 0,
 };
 
+// Two swaps: the lower thread begins the row.
+const SWAP: Meet = Meet::Pair {
+    head: Tid(0),
+    head_leaf: 0,
+    other: Tid(1),
+    other_leaf: 0,
+};
+
 const FIRST: Meet = Meet::Single {
     tid: Tid(0),
     leaf: 0,
 };
 
 // What thread 0 can't wait on in a book of one thread and one channel, and why.
-const REFUSED: [(&str, Refusal); 4] = [
+const REFUSED: [(&str, Refusal); 5] = [
     ("0 iget", Refusal::Object),
     ("1 join", Refusal::Object),
     ("1 recv", Refusal::Object),
+    ("0 1 swap", Refusal::Object),
     ("0 nack", Refusal::Object),
 ];
 
@@ -103,11 +112,27 @@ fn a_value_is_handed_over(rt: HostRuntime) {
     assert!(rt; wait(&rt, &mut book, 0, "0 recv") == Ok(()));
     assert!(rt; pending_count(&rt, &book) == 2);
     shows_the_exchange(&rt, book.table());
+    assert!(rt; !book.swaps(&EXCHANGE));
     let committed = book.commit(rt.alloc(), EXCHANGE).expect(&rt, MEMORY);
     goes_on(&rt, committed.head, 1, "unit");
     goes_on(&rt, committed.partner.expect(&rt, "a receiver"), 0, "5");
     assert!(rt; pending_count(&rt, &book) == 0);
     assert!(rt; book.table().head_count() == 0);
+    drop(book);
+}
+
+#[test]
+fn two_values_are_swapped(rt: HostRuntime) {
+    let mut book = book_of(&rt, 2);
+    assert!(rt; book.make_swap() == Ok(SwapId(0)));
+    assert!(rt; wait(&rt, &mut book, 1, "0 5 swap") == Ok(()));
+    assert!(rt; !book.swaps(&SWAP));
+    assert!(rt; wait(&rt, &mut book, 0, "0 7 swap") == Ok(()));
+    assert!(rt; book.swaps(&SWAP) && !book.swaps(&EXCHANGE) && !book.swaps(&FIRST));
+    let committed = book.commit(rt.alloc(), SWAP).expect(&rt, MEMORY);
+    goes_on(&rt, committed.head, 0, "5");
+    goes_on(&rt, committed.partner.expect(&rt, "another"), 1, "7");
+    assert!(rt; !book.swaps(&SWAP));
     drop(book);
 }
 

@@ -3,11 +3,11 @@
 ghost use Rattle.std.specs.Prelude.{◌≡◌, ◌<◌, [], length, All, IfOk, IsTrue};
 
 use cml_base::{FeedFault, Paired, Register, Source};
-use cml_channel::{ChannelSide, Channels};
+use cml_channel::{ChannelSide, Channels, SwapChannels, SwapSide};
 use cml_queues::{MAX_ITEMS, Mailbox, Multicast, Port, copy_port, post};
 use cml_signal::{Alarm, Clock, Joined, NackCell, NackFeed, Spent};
 use cml_syncvar::{IVar, MVar, MVarWant};
-use cml_value::{Base, BaseKind, ChanId, IVarId, PortId, Tid, Value, ValueKind};
+use cml_value::{Base, BaseKind, ChanId, IVarId, PortId, SwapId, Tid, Value, ValueKind};
 use std::alloc::{AllocError, Global};
 use std::test::Fail;
 
@@ -647,5 +647,42 @@ fn two_sides_meet(rt: HostRuntime) -> Result<(), Fail> {
         assert!(rt; Channels::place(base) == *place);
     }
     drop(bases);
+    Ok(())
+}
+
+// The swap channels of two sides, and whether they meet.
+const SWAPS: [(u32, u32, bool); 3] = [(0, 0, true), (4, 4, true), (0, 1, false)];
+
+fn swap(channel: u32, n: u64) -> SwapSide {
+    SwapSide {
+        on: SwapId(channel),
+        value: int(n),
+    }
+}
+
+// Each of two swaps on one swap channel can stand first, and gets what the other brings.
+#[test]
+fn two_swaps_meet(rt: HostRuntime) -> Result<(), Fail> {
+    for &(channel, other, meet) in &SWAPS {
+        assert!(rt; SwapChannels::key(&swap(channel, 1)) == channel);
+        assert!(rt; SwapChannels::heads(&swap(channel, 1)));
+        match handed::<SwapChannels>(swap(channel, 1), swap(other, 2)) {
+            Some((first, second)) => {
+                assert!(rt; meet);
+                assert!(rt; first.same(&int(2)));
+                assert!(rt; second.same(&int(1)));
+                drop(first);
+                drop(second);
+            }
+            None => assert!(rt; !meet),
+        }
+    }
+    let swaps = Base::new(BaseKind::Swap(SwapId(4), int(7)));
+    let sends = Base::new(BaseKind::Send(ChanId(4), int(7)));
+    assert!(rt; SwapChannels::place(&swaps) == Some((4, true)));
+    assert!(rt; SwapChannels::place(&sends).is_none());
+    assert!(rt; Channels::place(&swaps).is_none());
+    drop(swaps);
+    drop(sends);
     Ok(())
 }

@@ -317,15 +317,13 @@ fn swap_row(head: u32, other: u32) -> Meet {
     }
 }
 
-#[test]
-fn looks_among_a_million_swaps(rt: HostRuntime) {
-    let book = swap_crowd(&rt);
-    let index = &book.table().index;
+// The bounds on looks hold for swaps in the midst of them.
+fn looks_at_few(rt: &impl Abort, index: &OfferIndex) {
     let mut tally = Tally::new();
     assert!(rt; index.has_tallied(&swap_row(500, 1_500), &mut tally));
+    assert!(rt; tally.looks() <= 42);
     assert!(rt; !index.has_tallied(&swap_row(1_500, 500), &mut tally));
     assert!(rt; !index.has_tallied(&swap_row(500, 500), &mut tally));
-    assert!(rt; tally.looks() <= 3 * 42);
     let place = swap_row(500, 1_500).place();
     let mut tally = Tally::new();
     let partners = index.partner_count_tallied(place, &mut tally);
@@ -339,12 +337,13 @@ fn looks_among_a_million_swaps(rt: HostRuntime) {
     assert!(rt; index.head_count_tallied(&mut tally) == 3_999 * 256);
     assert!(rt; tally.looks() <= 3 * 1_024_000);
     drop(tally);
-    drop(book);
 }
 
 #[test]
-fn a_swap_of_a_million_is_taken(rt: HostRuntime) {
+fn a_swap_among_a_million_is_taken(rt: HostRuntime) {
     let mut book = swap_crowd(&rt);
+    looks_at_few(&rt, &book.table().index);
+    assert!(rt; book.table().head_count() == 3_999 * 256);
     let head = book.table().head(3_999 * 256 - 1);
     assert!(rt; book.table().partner_count(head) == 256);
     let row = book.table().partner(head, 255);
@@ -352,8 +351,9 @@ fn a_swap_of_a_million_is_taken(rt: HostRuntime) {
     let committed = book.commit(rt.alloc(), row).expect(&rt, "a row");
     assert!(rt; book.table().looks <= 2 * 256 * 22);
     assert!(rt; committed.head.tid == Tid(3_998));
-    assert!(rt; committed.partner.is_some());
-    drop(committed);
+    let partner = committed.partner.expect(&rt, "two parties");
+    assert!(rt; partner.tid == Tid(3_999));
+    drop(partner);
     drop(book);
 }
 
