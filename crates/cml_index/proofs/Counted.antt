@@ -1,5 +1,5 @@
 -- The leaves that have a partner, object by object.
-use Rattle.std.proofs.Common.{◌≡◌, ℕ, suc, ◌+◌, ◌≤◌, Bool, true, false, ◌&&◌, ◌||◌, nat_lt, cond, List, [], ◌∷◌, map, length, Option, Some, None, refl, ap, sym, subst, ◌∙◌, arith}
+use Rattle.std.proofs.Common.{◌≡◌, ℕ, suc, ◌+◌, ◌≤◌, Bool, true, false, ◌||◌, nat_eq, nat_lt, cond, List, [], ◌∷◌, ◌++◌, append_assoc, map, length, Option, Some, None, refl, ap, sym, subst, ◌∙◌, arith}
 use Rattle.std.specs.List.{filter, list_any, IsDistinct, AllByRecursion}
 use Rattle.std.proofs.lemmas.Bool.Decides.{nat_tests}
 use Rattle.std.proofs.lemmas.Map.Keys.{IsDistinct-head, IsDistinct-tail}
@@ -11,8 +11,9 @@ use Rattle.cml_scan.specs.declared.meet.Place.{Place}
 use Rattle.std.specs.Prelude.{option_map}
 use Rattle.cml_scan.specs.declared.object.Light.{Light}
 use Rattle.cml_scan.specs.Light.{light}
-use Rattle.cml_channel.specs.Lanes.{is_of}
-use Rattle.cml_channel.specs.Pairings.{same_object, side_place, whom}
+use Rattle.cml_channel.specs.declared.lane.Whom.TheVariants.{Others, Above}
+use Rattle.cml_channel.specs.Lanes.{is_own, is_others, is_of}
+use Rattle.cml_channel.specs.Pairings.{one_lane, same_object, side_place, whom}
 use Rattle.cml_channel.specs.declared.pairing.PairedId.{PairedId}
 use Rattle.cml_channel.specs.declared.pairing.SidePlace.{SidePlace}
 use Rattle.cml_channel.proofs.Pairs.{same_object_is, same_object_self}
@@ -20,6 +21,7 @@ use Rattle.cml_index.specs.Slot.{met_lane, slot_by, met_at, met_by}
 use Rattle.cml_index.proofs.Walks.{same_object-turned}
 use Rattle.cml_index.specs.declared.slot.Slot.{Slot}
 use Rattle.cml_index.specs.declared.slot.Slot.TheVariants.{Side, Waiters}
+use Rattle.cml_index.specs.Live.{may_meet}
 use Rattle.cml_index.specs.Slots.{is_slot, lane_of}
 use Rattle.cml_index.specs.Posts.{slot_of}
 use Rattle.cml_index.specs.Heads.{met_among, heads_on}
@@ -86,13 +88,9 @@ by_shape {P = P} tid b other head = at (side_place b) refl
     at (Some s) e = two s s.heads e refl
     at None e = other (ap (λ x. met_at x tid) e) (λ n. ap (λ x. is_slot (Side true n) (slot_by x b)) e ∙ away n (light b))
 
--- offers stand in the lane among these
-abbrev pub some_in : Slot → List PlainOffer → Bool
-some_in k os = nat_lt 0 (length (lane_of slot_of k os))
-
--- these objects are those on which one of these offers can stand first, and one stands whom such a one could meet
+-- these objects are those on which two of these offers may meet
 abbrev pub AreBoth : List PairedId → List PlainOffer → Type 0
-AreBoth keys os = (n : PairedId) → list_any (same_object n) keys ≡ some_in (Side true n) os && some_in (met_lane n) os
+AreBoth keys os = (n : PairedId) → list_any (same_object n) keys ≡ may_meet (one_lane n.kind) (length (lane_of slot_of (Side true n) os)) (length (lane_of slot_of (Side false n) os))
 
 any_some : (p : Place → Bool) (ps : List Place) → list_any p ps ≡ true → nat_lt 0 (length ps) ≡ true
 any_some p [] e = cc
@@ -100,6 +98,35 @@ any_some p (q ∷ ps) e = more (length ps)
   where
     more : (n : ℕ) → nat_lt 0 (suc n) ≡ true
     more n = grind (arith, nat_tests)
+
+-- where one of a thread and one of a thread above it stand there are two
+two_there : (tid : Tid) (ps : List Place) → list_any (is_own tid) ps ≡ true → list_any (is_of (Above tid)) ps ≡ true → nat_lt 1 (length ps) ≡ true
+two_there tid [] e f = cc
+two_there tid (q ∷ []) e f = at q.tid.0 tid.0 e f
+  where
+    at : (a t : ℕ) → nat_eq t a || false ≡ true → nat_lt t a || false ≡ true → nat_lt 1 1 ≡ true
+    at a t e f = grind (arith, nat_tests)
+two_there tid (q ∷ r ∷ ps) e f = more (length ps)
+  where
+    more : (n : ℕ) → nat_lt 1 (suc (suc n)) ≡ true
+    more n = grind (arith, nat_tests)
+
+-- a leaf stands in its lane
+stands : (ys xs : List PlainOffer) (x : PlainOffer) (k : Slot) → is_slot k (slot_of x.base) ≡ true → list_any (is_own (record { 0 = x.thread })) (lane_of slot_of k (ys ++ x ∷ xs)) ≡ true
+stands [] xs x k e = rw (e, alike x.thread) refl
+  where
+    alike : (n : ℕ) → nat_eq n n ≡ true
+    alike n = grind (arith, nat_tests)
+stands (y ∷ ys) xs x k e = at (is_slot k (slot_of y.base)) (stands ys xs x k e)
+  where
+    or_true : (b : Bool) → b || true ≡ true
+    or_true true = refl
+    or_true false = refl
+
+    at : (b : Bool) → list_any (is_own (record { 0 = x.thread })) (lane_of slot_of k (ys ++ x ∷ xs)) ≡ true
+        → list_any (is_own (record { 0 = x.thread })) (map place (cond b (y ∷ filter (λ o. is_slot k (slot_of o.base)) (ys ++ x ∷ xs)) (filter (λ o. is_slot k (slot_of o.base)) (ys ++ x ∷ xs)))) ≡ true
+    at true h = ap (λ r. is_own (record { 0 = x.thread }) (place y) || r) h ∙ or_true _
+    at false h = h
 
 -- how many offers stand on both sides of an object
 abbrev pub size_on : List PlainOffer → PairedId → ℕ
@@ -114,7 +141,7 @@ module _ (os : List PlainOffer) (keys : List PairedId) (apart_ : IsDistinct same
   meets_on n x = list_any (is_of (whom n.kind (thread_of x))) (lane_of slot_of (met_lane n) os)
 
   -- one leaf is counted once where it has a partner
-  one_leaf : (x : PlainOffer) → ((n : PairedId) → is_slot (Side true n) (slot_of x.base) ≡ true → some_in (Side true n) os ≡ true)
+  one_leaf : (x : PlainOffer) → ((n : PairedId) → is_slot (Side true n) (slot_of x.base) ≡ true → list_any (is_own (thread_of x)) (lane_of slot_of (Side true n) os) ≡ true)
       → total (λ n. one_if (is_slot (Side true n) (slot_of x.base)) (one_if (meets_on n x) 1)) keys ≡ one_if (has_partner os x) 1
   one_leaf x there = by_shape (thread_of x) x.base other head
     where
@@ -137,38 +164,34 @@ module _ (os : List PlainOffer) (keys : List PairedId) (apart_ : IsDistinct same
               pick true e = ap (λ k. one_if (meets_on k x) 1) (same_object_is n m e)
               pick false e = refl
 
+          lively : (l : Bool) → list_any (is_own (thread_of x)) (lane_of slot_of (Side true m) os) ≡ true → list_any (is_of (cond l (Above (thread_of x)) (Others (thread_of x)))) (lane_of slot_of (Side l m) os) ≡ true
+              → may_meet l (length (lane_of slot_of (Side true m) os)) (length (lane_of slot_of (Side false m) os)) ≡ true
+          lively true own other_ = two_there (thread_of x) (lane_of slot_of (Side true m) os) own other_
+          lively false own other_ =
+              let heads = any_some (is_own (thread_of x)) (lane_of slot_of (Side true m) os) own in
+              let others_ = any_some (is_others (thread_of x)) (lane_of slot_of (Side false m) os) other_ in
+              rw (heads, others_) refl
+
           at : (b : Bool) → meets_on m x ≡ b → one_if (list_any (same_object m) keys) (one_if b 1) ≡ one_if b 1
           at true e =
-              let heads : some_in (Side true m) os ≡ true = there m (ap (is_slot (Side true m)) is ∙ same_object_self m) in
-              let others_ : some_in (met_lane m) os ≡ true = any_some (is_of (whom m.kind (thread_of x))) (lane_of slot_of (met_lane m) os) e in
-              rw (both m, heads, others_) refl
+              let own = there m (ap (is_slot (Side true m)) is ∙ same_object_self m) in
+              rw (both m, lively (one_lane m.kind) own e) refl
           at false e = pick (list_any (same_object m) keys)
             where
               pick : (b : Bool) → one_if b 0 ≡ 0
               pick true = refl
               pick false = refl
 
-  counted : (xs : List PlainOffer) → ((n : PairedId) → some_in (Side true n) xs ≡ true → some_in (Side true n) os ≡ true)
+  counted : (ys xs : List PlainOffer) → os ≡ ys ++ xs
       → total (λ n. length (met_among (whom n.kind) (lane_of slot_of (met_lane n) os) (lane_of slot_of (Side true n) xs))) keys ≡ length (filter (has_partner os) xs)
-  counted [] there = total_zero (λ n. 0) keys (λ n. refl)
-  counted (x ∷ xs) there =
-      let here = one_leaf x (λ n e. there n (first n (is_slot (Side true n) (slot_of x.base)) e)) in
-      let rest = counted xs (λ n e. there n (later n (is_slot (Side true n) (slot_of x.base)) e)) in
+  counted ys [] is = total_zero (λ n. 0) keys (λ n. refl)
+  counted ys (x ∷ xs) is =
+      let here = one_leaf x (λ n e. subst (λ zs. list_any (is_own (thread_of x)) (lane_of slot_of (Side true n) zs) ≡ true) (sym is) (stands ys xs x (Side true n) e)) in
+      let rest = counted (ys ++ x ∷ []) xs (is ∙ sym (append_assoc ys (x ∷ []) xs)) in
       total_add (λ n. length (met_among (whom n.kind) (lane_of slot_of (met_lane n) os) (lane_of slot_of (Side true n) (x ∷ xs)))) (λ n. one_if (is_slot (Side true n) (slot_of x.base)) (one_if (meets_on n x) 1)) (λ n. length (met_among (whom n.kind) (lane_of slot_of (met_lane n) os) (lane_of slot_of (Side true n) xs))) keys
       (λ n. step n (is_slot (Side true n) (slot_of x.base)) (meets_on n x) refl (filter (λ o. is_slot (Side true n) (slot_of o.base)) xs))
       ∙ rw (here, rest) (at (has_partner os x) (filter (has_partner os) xs))
     where
-      positive : (n : ℕ) → nat_lt 0 (suc n) ≡ true
-      positive n = grind (arith, nat_tests)
-
-      first : (n : PairedId) (b : Bool) → b ≡ true → nat_lt 0 (length (map place (cond b (x ∷ filter (λ o. is_slot (Side true n) (slot_of o.base)) xs) (filter (λ o. is_slot (Side true n) (slot_of o.base)) xs)))) ≡ true
-      first n true e = positive _
-      first n false e = cc
-
-      later : (n : PairedId) (b : Bool) → some_in (Side true n) xs ≡ true → nat_lt 0 (length (map place (cond b (x ∷ filter (λ o. is_slot (Side true n) (slot_of o.base)) xs) (filter (λ o. is_slot (Side true n) (slot_of o.base)) xs)))) ≡ true
-      later n true e = positive _
-      later n false e = e
-
       step : (n : PairedId) (b w : Bool) → meets_on n x ≡ w → (ys : List PlainOffer) → length (met_among (whom n.kind) (lane_of slot_of (met_lane n) os) (map place (cond b (x ∷ ys) ys))) ≡ one_if b (one_if w 1) + length (met_among (whom n.kind) (lane_of slot_of (met_lane n) os) (map place ys))
       step n true true e ys = rw e (omega arith)
       step n true false e ys = rw e (omega arith)
@@ -180,7 +203,7 @@ module _ (os : List PlainOffer) (keys : List PairedId) (apart_ : IsDistinct same
 
   -- the leaves that have a partner are those of all objects
   pub all_met : total (λ n. length (heads_on os n)) keys ≡ length (filter (has_partner os) os)
-  all_met = counted os (λ n e. e)
+  all_met = counted [] os refl
 
   at_most : (s : Option Slot) → total (λ n. one_if (is_slot (Side true n) s) 1 + one_if (is_slot (Side false n) s) 1) keys ≤ 1
   at_most None = let none = total_zero (λ n. 0 + 0) keys (λ n. omega arith) in omega (arith, none)

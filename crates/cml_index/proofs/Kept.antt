@@ -6,12 +6,12 @@ use Rattle.cml_value.specs.declared.number.Tid.{Tid}
 use Rattle.cml_scan.specs.declared.meet.Place.{Place}
 use Rattle.cml_scan.specs.Order.{before, Every, Ascends}
 use Rattle.cml_channel.specs.Lanes.{is_others, run, with_run}
-use Rattle.cml_channel.specs.Pairings.{same_object, one_lane}
+use Rattle.cml_channel.specs.Pairings.{same_object}
 use Rattle.cml_channel.specs.declared.pairing.PairedId.{PairedId}
 use Rattle.cml_index.proofs.Walks.{with_none, same_object-turned}
 use Rattle.std.proofs.lemmas.Bool.Decides.{nat_tests}
 use Rattle.cml_index.specs.declared.slot.Slot.TheVariants.{Side}
-use Rattle.cml_index.specs.Live.{is_side}
+use Rattle.cml_index.specs.Live.{may_meet, is_side}
 
 -- a side is one of its object
 pub side_is : (h : Bool) (m n : PairedId) → is_side (Side h m) n ≡ same_object m n
@@ -64,21 +64,27 @@ pub no_side : (a b : Bool) → a || b ≡ false → (a ≡ false) × (b ≡ fals
 no_side true b e = cc
 no_side false b e = (refl, e)
 
--- what holds of both sides of an object holds of that of those whom its heads meet
-pub of_met : (h : Bool → Type 0) (n : PairedId) → h true → h false → h (one_lane n.kind)
-of_met h n yes_ no_ = at (one_lane n.kind)
+-- where offers only went, two may meet only where they could
+pub meet_less : (l : Bool) (a b c d : ℕ) → c ≤ a → d ≤ b → may_meet l c d ≡ true → may_meet l a b ≡ true
+meet_less true a b c d x y e = at a c x e
   where
-    at : (b : Bool) → h b
-    at true = yes_
-    at false = no_
+    at : (a c : ℕ) → c ≤ a → nat_lt 1 c ≡ true → nat_lt 1 a ≡ true
+    at a c x e = grind (arith, nat_tests)
+meet_less false a b c d x y e = at a b c d x y e
+  where
+    at : (a b c d : ℕ) → c ≤ a → d ≤ b → nat_lt 0 c && nat_lt 0 d ≡ true → nat_lt 0 a && nat_lt 0 b ≡ true
+    at a b c d x y e = grind (arith, nat_tests)
 
--- a lane that only loses offers is filled only where it was
-pub filled_less : (a b c d : ℕ) → c ≤ a → d ≤ b → nat_lt 0 c && nat_lt 0 d ≡ true → nat_lt 0 a && nat_lt 0 b ≡ true
-filled_less a b c d x y e = grind (arith, nat_tests)
-
--- a lane that only gets offers is filled where it was
-pub filled_more : (a b c d : ℕ) → a ≤ c → b ≤ d → nat_lt 0 c && nat_lt 0 d ≡ false → nat_lt 0 a && nat_lt 0 b ≡ false
-filled_more a b c d x y e = grind (arith, nat_tests)
+-- where offers only came, two may meet where they could
+pub meet_more : (l : Bool) (a b c d : ℕ) → a ≤ c → b ≤ d → may_meet l c d ≡ false → may_meet l a b ≡ false
+meet_more true a b c d x y e = at a c x e
+  where
+    at : (a c : ℕ) → a ≤ c → nat_lt 1 c ≡ false → nat_lt 1 a ≡ false
+    at a c x e = grind (arith, nat_tests)
+meet_more false a b c d x y e = at a b c d x y e
+  where
+    at : (a b c d : ℕ) → a ≤ c → b ≤ d → nat_lt 0 c && nat_lt 0 d ≡ false → nat_lt 0 a && nat_lt 0 b ≡ false
+    at a b c d x y e = grind (arith, nat_tests)
 
 -- a lane is no shorter with the offers of one more thread
 pub with_longer : (tid : Tid) (leaves : List ℕ) (ps : List Place) → Ascends before ps → Every (is_others tid) ps → length ps ≤ length (with_run tid leaves ps)

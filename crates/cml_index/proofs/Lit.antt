@@ -1,5 +1,5 @@
 -- How many leaves can be taken alone, when a light is told.
-use Rattle.std.proofs.Common.{◌≡◌, ℕ, zero, suc, ◌<◌, take, get_or, ◌+◌, Bool, true, false, not, ◌&&◌, ◌||◌, nat_lt, cond, List, [], ◌∷◌, length, Option, Some, None, refl, ap, sym, subst, ◌∙◌, arith}
+use Rattle.std.proofs.Common.{◌≡◌, ℕ, zero, suc, ◌<◌, take, get_or, ◌+◌, Bool, true, false, not, ◌||◌, cond, List, [], ◌∷◌, length, Option, Some, None, refl, ap, sym, subst, ◌∙◌, arith}
 use Rattle.std.specs.List.{filter, list_any}
 use Rattle.std.specs.Prelude.{OnOk, Result, Ok, Err, option_map}
 use Rattle.std.proofs.lemmas.List.{length-map, take_more}
@@ -11,9 +11,10 @@ use Rattle.cml_scan.specs.Order.{place, Every}
 use Rattle.cml_scan.specs.Table.{same_light, has_light}
 use Rattle.cml_scan.specs.declared.object.Light.{Light}
 use Rattle.cml_scan.proofs.Telling.{same_light_is, same_light_self, light_eq}
-use Rattle.cml_index.specs.Slot.{slot_by, met_lane}
+use Rattle.cml_index.specs.Slot.{slot_by}
+use Rattle.cml_index.specs.Live.{may_meet}
 use Rattle.cml_index.specs.declared.slot.Slot.TheVariants.{Side, Waiters}
-use Rattle.cml_channel.specs.Pairings.{side_place, same_object}
+use Rattle.cml_channel.specs.Pairings.{one_lane, side_place, same_object}
 use Rattle.cml_channel.specs.declared.pairing.PairedId.{PairedId}
 use Rattle.cml_channel.specs.declared.pairing.SidePlace.{SidePlace}
 use Rattle.cml_index.specs.Slots.{is_slot, lane_of, lane_at}
@@ -149,7 +150,7 @@ still_indexed es lanes after live live_after old new leaves lit x same same_live
     record {
       sorted = x.sorted;
       placed = λ k. same k ∙ x.placed k;
-      sides = λ n. ap (list_any (same_object n)) same_live ∙ x.sides n ∙ ap (λ ps. nat_lt 0 (length ps) && nat_lt 0 (length (lane_at lanes (met_lane n)))) (sym (same (Side true n))) ∙ ap (λ ps. nat_lt 0 (length (lane_at after (Side true n))) && nat_lt 0 (length ps)) (sym (same (met_lane n)));
+      sides = λ n. ap (list_any (same_object n)) same_live ∙ x.sides n ∙ ap (λ ps. may_meet (one_lane n.kind) (length ps) (length (lane_at lanes (Side false n)))) (sym (same (Side true n))) ∙ ap (λ ps. may_meet (one_lane n.kind) (length (lane_at after (Side true n))) (length ps)) (sym (same (Side false n)));
       all = x.all;
       alone = x.alone ∙ sym (ap length (told_same (told old) (told new) told_ (offers_of es)));
       named = Every-weaker (λ k. is_named old (slot_of_nack k)) (λ k. is_named new (slot_of_nack k)) (nacks_in es) (λ k h. kept (slot_of_nack k) h) x.named;

@@ -74,7 +74,7 @@ is_named flags k = is_some (lookup (same_slot k) flags)
 abbrev pub slot_of_nack : ℕ → Slot
 slot_of_nack k = Waiters (Nack (record { 0 = k }))
 
--- The threads ascend; each lane has the offers that stand in it; the objects are there on which offers stand that can stand first, and offers whom these could meet; all leaves, and those that can be taken alone, are counted; and each
+-- The threads ascend; each lane has the offers that stand in it; the objects are there on which two offers may meet; all leaves, and those that can be taken alone, are counted; and each
 -- nack that can fire with a pending group has its place among the lights.
 pub record IsIndexed {S T : Type 0} (entries : List PlainEntry) (lanes : IndexMap Slot PlainLane S) (live : IndexSet PairedId T) (flags : List (Slot × Bool)) (leaves lit : ℕ) : Type 0 where
   pub sorted : IsSorted entries

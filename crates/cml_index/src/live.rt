@@ -1,4 +1,4 @@
-//! The objects over which two threads may meet: those on which offers stand that can stand first, and offers whom these could meet.
+//! The objects on which two offers may meet: with offers on both sides, or with two where all sides are alike.
 
 ghost use Rattle.std.specs.Prelude.{◌≡◌, ◌≤◌, ◌<◌, ◌+◌, ◌&&◌, ◌||◌, true, false};
 ghost use Rattle.indexmap.specs.IndexMap.{index_map_len};
@@ -16,7 +16,7 @@ use indexmap::IndexSet;
 // These objects.
 pub(crate) type Live = IndexSet<PairedId>;
 
-// Whether offers stand on the object that can stand first, and offers whom these could meet.
+// Whether two offers on the object may meet.
 fn is_live(lanes: &Lanes, object: PairedId) -> bool
     ensures { result ≡ spec.is_live lanes.now.by_slot object }
 {
@@ -24,7 +24,13 @@ fn is_live(lanes: &Lanes, object: PairedId) -> bool
         heads: true,
         object,
     });
-    let others = lanes.len(Slot::met_on(object));
+    if object.kind.one_lane() {
+        return 1 < heads;
+    }
+    let others = lanes.len(Slot::Side {
+        heads: false,
+        object,
+    });
     0 < heads && 0 < others
 }
 

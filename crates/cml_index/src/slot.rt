@@ -33,16 +33,6 @@ impl Slot {
             },
         }
     }
-
-    // The lane of those whom an offer meets that stands first on the object.
-    pub(crate) fn met_on(object: PairedId) -> Slot
-        ensures { result ≡ spec.met_lane object }
-    {
-        Slot::Side {
-            heads: object.kind.one_lane(),
-            object,
-        }
-    }
 }
 
 // The lane of those whom an offer of the thread meets that waits for this, where it can stand first, and which of them.
@@ -52,7 +42,12 @@ pub(crate) fn met_by(base: &Base, tid: Tid) -> Option<(Slot, Whom)>
     match place(base) {
         Some(side) => {
             if side.heads {
-                Some((Slot::met_on(side.object), side.object.kind.whom(tid)))
+                let object = side.object;
+                let slot = Slot::Side {
+                    heads: object.kind.one_lane(),
+                    object,
+                };
+                Some((slot, object.kind.whom(tid)))
             } else {
                 None
             }

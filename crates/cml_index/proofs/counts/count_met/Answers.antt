@@ -1,11 +1,12 @@
-use Rattle.std.proofs.Common.{◌≡◌, ◌≤◌, ◌+◌, true, false, ◌&&◌, nat_lt, drop, length, ap, ◌∙◌, arith}
+use Rattle.std.proofs.Common.{◌≡◌, ◌≤◌, ◌+◌, true, false, drop, length, ap, ◌∙◌, arith}
 use Rattle.std.specs.List.{filter}
 use Rattle.std.proofs.lemmas.List.{at_drop_more, at_drop_all}
 use Rattle.cml_scan.specs.Scan.{offers_of}
 use Rattle.cml_scan.specs.Order.{has_partner}
 use Rattle.cml_index.specs.declared.slot.Slot.TheVariants.{Side}
 use Rattle.cml_channel.specs.declared.pairing.PairedId.{PairedId}
-use Rattle.cml_index.specs.Slot.{met_lane}
+use Rattle.cml_channel.specs.Pairings.{one_lane}
+use Rattle.cml_index.specs.Live.{may_meet}
 use Rattle.cml_index.specs.Slots.{lane_at, lane_of}
 use Rattle.cml_index.specs.Posts.{slot_of}
 use Rattle.cml_index.specs.Heads.{heads_on}
@@ -19,7 +20,7 @@ overflow_add-count c =
     let os = offers_of c.args.core.now.entries.items in
     let keys = c.args.core.now.live.keys in
     let lanes = c.args.core.now.lanes.by_slot in
-    let both : AreBoth keys os = λ n. c.requires.sides n ∙ ap (λ ps. nat_lt 0 (length ps) && nat_lt 0 (length (lane_at lanes (met_lane n)))) (c.requires.placed (Side true n)) ∙ ap (λ ps. nat_lt 0 (length (lane_of slot_of (Side true n) os)) && nat_lt 0 (length ps)) (c.requires.placed (met_lane n)) in
+    let both : AreBoth keys os = λ n. c.requires.sides n ∙ ap (λ ps. may_meet (one_lane n.kind) (length ps) (length (lane_at lanes (Side false n)))) (c.requires.placed (Side true n)) ∙ ap (λ ps. may_meet (one_lane n.kind) (length (lane_of slot_of (Side true n) os)) (length ps)) (c.requires.placed (Side false n)) in
     let i = c.loop-i.i in
     let m = c.object_at.result in
     let on = λ (n : PairedId). length (heads_on os n) in
@@ -49,7 +50,7 @@ returns-clause-count c =
     let os = offers_of c.args.core.now.entries.items in
     let keys = c.args.core.now.live.keys in
     let lanes = c.args.core.now.lanes.by_slot in
-    let both : AreBoth keys os = λ n. c.requires.sides n ∙ ap (λ ps. nat_lt 0 (length ps) && nat_lt 0 (length (lane_at lanes (met_lane n)))) (c.requires.placed (Side true n)) ∙ ap (λ ps. nat_lt 0 (length (lane_of slot_of (Side true n) os)) && nat_lt 0 (length ps)) (c.requires.placed (met_lane n)) in
+    let both : AreBoth keys os = λ n. c.requires.sides n ∙ ap (λ ps. may_meet (one_lane n.kind) (length ps) (length (lane_at lanes (Side false n)))) (c.requires.placed (Side true n)) ∙ ap (λ ps. may_meet (one_lane n.kind) (length (lane_of slot_of (Side true n) os)) (length ps)) (c.requires.placed (Side false n)) in
     let on = λ (n : PairedId). length (heads_on os n) in
     let none : total on (drop c.loop-i.i keys) ≡ 0 = at_drop_all (total on) keys c.loop-i.i (omega (arith, c.len-i-end.ensures.len, c.loop-i-test.false)) in
     let whole = all_met os keys c.len-i-end.ensures.unique both in
@@ -60,6 +61,6 @@ returns-clause-cost c =
     let os = offers_of c.args.core.now.entries.items in
     let keys = c.args.core.now.live.keys in
     let lanes = c.args.core.now.lanes.by_slot in
-    let both : AreBoth keys os = λ n. c.requires.sides n ∙ ap (λ ps. nat_lt 0 (length ps) && nat_lt 0 (length (lane_at lanes (met_lane n)))) (c.requires.placed (Side true n)) ∙ ap (λ ps. nat_lt 0 (length (lane_of slot_of (Side true n) os)) && nat_lt 0 (length ps)) (c.requires.placed (met_lane n)) in
+    let both : AreBoth keys os = λ n. c.requires.sides n ∙ ap (λ ps. may_meet (one_lane n.kind) (length ps) (length (lane_at lanes (Side false n)))) (c.requires.placed (Side true n)) ∙ ap (λ ps. may_meet (one_lane n.kind) (length (lane_of slot_of (Side true n) os)) (length ps)) (c.requires.placed (Side false n)) in
     let few = sizes os keys c.len-i-end.ensures.unique both os in
     omega (arith, few, c.loop-i.invariant.cost)

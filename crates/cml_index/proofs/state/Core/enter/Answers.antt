@@ -1,4 +1,4 @@
-use Rattle.std.proofs.Common.{◌≡◌, ℕ, true, false, [], ◌&&◌, ◌≤◌, ◌+◌, ◌*◌, ◌∙◌, ◌++◌, ◌∷◌, length, drop, nat_eq, nat_lt, not, map, ap, sym, subst, arith}
+use Rattle.std.proofs.Common.{◌≡◌, ℕ, true, false, [], ◌≤◌, ◌+◌, ◌*◌, ◌∙◌, ◌++◌, ◌∷◌, length, drop, nat_eq, nat_lt, not, map, ap, sym, subst, arith}
 use Rattle.std.specs.List.{insert, filter}
 use Rattle.cml_value.specs.Group.{bases}
 use Rattle.cml_scan.specs.World.{PlainEntry}
@@ -15,8 +15,9 @@ use Rattle.cml_index.specs.declared.slot.Slot.{Slot}
 use Rattle.cml_index.specs.declared.slot.Slot.TheVariants.{Side}
 use Rattle.cml_index.specs.Slots.{lane_at, lane_of, leaves_at, run_in, has_run}
 use Rattle.cml_index.proofs.Walks.{no_run, with_none}
-use Rattle.cml_index.specs.Slot.{met_lane}
-use Rattle.cml_index.proofs.Kept.{no_side, of_met, filled_more, with_longer}
+use Rattle.cml_channel.specs.Pairings.{one_lane}
+use Rattle.cml_index.specs.Live.{may_meet}
+use Rattle.cml_index.proofs.Kept.{no_side, meet_more, with_longer}
 use Rattle.cml_index.specs.Posts as spec
 use Rattle.cml_index.proofs.Parted.{all_apart, between, lane_others, lane-ascends, leaves_at-ascend, came_lane, came_count, came_all, nacks_with, move_cost, filter_fewer}
 use Rattle.cml_index.proofs.state.Core.enter.Goals as goal
@@ -63,7 +64,7 @@ add_all-requires-clause-was c n e =
     let none : run_in c.runs-2.result.now k ≡ [] = ap (λ r. option_map_or (λ (v : Vec ℕ Global). v.items) r []) (no_run c.runs-2.result.now.entries k off) in
     c.come.ensures.lanes k ∙ ap (λ ls. with_run tid ls (lane_at lanes k)) (c.runs.ensures.runs k ∙ sym (c.runs-2.ensures.runs k) ∙ none) ∙ with_none tid (lane_at lanes k) (up k) (new_ k) in
     let off = no_side (has_run c.runs-2.result.now.entries (Side true n)) (has_run c.runs-2.result.now.entries (Side false n)) e in
-    c.requires.indexed.sides n ∙ ap (λ ps. nat_lt 0 (length ps) && nat_lt 0 (length (lane_at lanes (met_lane n)))) (sym (same (Side true n) off.0)) ∙ ap (λ ps. nat_lt 0 (length (lane_at after (Side true n))) && nat_lt 0 (length ps)) (sym (same (met_lane n) (of_met (λ h. has_run c.runs-2.result.now.entries (Side h n) ≡ false) n off.0 off.1)))
+    c.requires.indexed.sides n ∙ ap (λ ps. may_meet (one_lane n.kind) (length ps) (length (lane_at lanes (Side false n)))) (sym (same (Side true n) off.0)) ∙ ap (λ ps. may_meet (one_lane n.kind) (length (lane_at after (Side true n))) (length ps)) (sym (same (Side false n) off.1))
 
 pub add_all-requires-clause-under : goal.add_all-requires-clause-under
 add_all-requires-clause-under c n dark =
@@ -79,7 +80,7 @@ add_all-requires-clause-under c n dark =
     let few : length (lane_at lanes k) ≤ length (with_run tid (run_in c.runs.result.now k) (lane_at lanes k)) = with_longer tid (run_in c.runs.result.now k) (lane_at lanes k) (up k) (new_ k) in
     let same : length (lane_at after k) ≡ length (with_run tid (run_in c.runs.result.now k) (lane_at lanes k)) = ap length (c.come.ensures.lanes k) in
     omega (arith, few, same) in
-    c.requires.indexed.sides n ∙ filled_more (length (lane_at lanes (Side true n))) (length (lane_at lanes (met_lane n))) (length (lane_at after (Side true n))) (length (lane_at after (met_lane n))) (more (Side true n)) (more (met_lane n)) dark
+    c.requires.indexed.sides n ∙ meet_more (one_lane n.kind) (length (lane_at lanes (Side true n))) (length (lane_at lanes (Side false n))) (length (lane_at after (Side true n))) (length (lane_at after (Side false n))) (more (Side true n)) (more (Side false n)) dark
 
 pub returns-clause-entries : goal.returns-clause-entries
 returns-clause-entries c =

@@ -1,4 +1,4 @@
-use Rattle.std.proofs.Common.{◌≡◌, ℕ, true, false, ◌&&◌, nat_lt, ◌≤◌, ◌-◌, ◌+◌, ◌*◌, ◌∙◌, [], ◌∷◌, length, get_or, nat_eq, not, ap, sym, subst, arith}
+use Rattle.std.proofs.Common.{◌≡◌, ℕ, true, false, ◌≤◌, ◌-◌, ◌+◌, ◌*◌, ◌∙◌, [], ◌∷◌, length, get_or, nat_eq, not, ap, sym, subst, arith}
 use Rattle.std.specs.List.{remove, filter}
 use Rattle.cml_value.specs.Group.{bases}
 use Rattle.cml_scan.specs.World.{PlainEntry}
@@ -15,8 +15,9 @@ use Rattle.cml_index.specs.declared.slot.Slot.{Slot}
 use Rattle.cml_index.specs.declared.slot.Slot.TheVariants.{Side}
 use Rattle.cml_index.specs.Slots.{lane_at, lane_of, run_in, has_run}
 use Rattle.cml_index.proofs.Walks.{no_run, others_all}
-use Rattle.cml_index.specs.Slot.{met_lane}
-use Rattle.cml_index.proofs.Kept.{no_side, of_met, filled_less}
+use Rattle.cml_channel.specs.Pairings.{one_lane}
+use Rattle.cml_index.specs.Live.{may_meet}
+use Rattle.cml_index.proofs.Kept.{no_side, meet_less}
 use Rattle.cml_index.specs.Posts as spec
 use Rattle.cml_index.proofs.Parted.{owned, there_any, gone_one, left_lane, left_rest, left_count, left_all, nacks_left, move_cost, filter_fewer}
 use Rattle.cml_index.proofs.state.Core.leave.Goals as goal
@@ -78,7 +79,7 @@ cut_all-requires-clause-was c n e =
     let zero_ : length (filter (is_own c.args.tid) (lane_at lanes k)) ≡ 0 = ap (λ ps. length (filter (is_own c.args.tid) ps)) (c.requires.indexed.placed k) ∙ sym (left_lane spec.slot_of k c.args.tid es d own thread) ∙ ap length (sym (c.runs-2.ensures.runs k) ∙ none) in
     c.go.ensures.lanes k ∙ others_all c.args.tid (lane_at lanes k) zero_ in
     let off = no_side (has_run c.runs-2.result.now.entries (Side true n)) (has_run c.runs-2.result.now.entries (Side false n)) e in
-    c.requires.indexed.sides n ∙ ap (λ ps. nat_lt 0 (length ps) && nat_lt 0 (length (lane_at lanes (met_lane n)))) (sym (same (Side true n) off.0)) ∙ ap (λ ps. nat_lt 0 (length (lane_at after (Side true n))) && nat_lt 0 (length ps)) (sym (same (met_lane n) (of_met (λ h. has_run c.runs-2.result.now.entries (Side h n) ≡ false) n off.0 off.1)))
+    c.requires.indexed.sides n ∙ ap (λ ps. may_meet (one_lane n.kind) (length ps) (length (lane_at lanes (Side false n)))) (sym (same (Side true n) off.0)) ∙ ap (λ ps. may_meet (one_lane n.kind) (length (lane_at after (Side true n))) (length ps)) (sym (same (Side false n) off.1))
 
 pub cut_all-requires-clause-over : goal.cut_all-requires-clause-over
 cut_all-requires-clause-over c n on =
@@ -88,7 +89,7 @@ cut_all-requires-clause-over c n on =
     let few : length (others c.args.tid (lane_at lanes k)) ≤ length (lane_at lanes k) = filter_fewer (is_others c.args.tid) (lane_at lanes k) in
     let same : length (lane_at after k) ≡ length (others c.args.tid (lane_at lanes k)) = ap length (c.go.ensures.lanes k) in
     omega (arith, few, same) in
-    c.requires.indexed.sides n ∙ filled_less (length (lane_at lanes (Side true n))) (length (lane_at lanes (met_lane n))) (length (lane_at after (Side true n))) (length (lane_at after (met_lane n))) (fewer (Side true n)) (fewer (met_lane n)) on
+    c.requires.indexed.sides n ∙ meet_less (one_lane n.kind) (length (lane_at lanes (Side true n))) (length (lane_at lanes (Side false n))) (length (lane_at after (Side true n))) (length (lane_at after (Side false n))) (fewer (Side true n)) (fewer (Side false n)) on
 
 pub returns-clause-entries : goal.returns-clause-entries
 returns-clause-entries c =
