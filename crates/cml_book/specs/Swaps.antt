@@ -1,5 +1,5 @@
 -- Which rows are exchanges over a swap channel.
-use Rattle.std.specs.Prelude.{ℕ, Bool, true, false, ◌&&◌}
+use Rattle.std.specs.Prelude.{Bool, true, false, ◌&&◌}
 use Rattle.cml_value.specs.Value.{PlainBase, swap}
 use Rattle.cml_scan.specs.World.{PlainWorld}
 use Rattle.cml_scan.specs.Scan.{scan, has_row}

@@ -144,8 +144,8 @@ go_on-second-requires g c =
     second_waits w _ _ _ c.args.head c.args.head_leaf c.args.other c.args.other_leaf p.head.group p.other.group
     c.go_on-first.new.self c.self.invariant.0 p.head.waits p.other.waits p.differ p.other.within c.go_on-first.ensures.world
 
-pub hands-requires : goal.hands-requires
-hands-requires g c =
+pub hands-to_head-requires : goal.hands-to_head-requires
+hands-to_head-requires g c =
     let w = c.self.inside.state in
     let has = rw (← c.self.view_is) at c.requires in
     let p = pair_parties w _ _ _ c.args.head c.args.head_leaf c.args.other c.args.other_leaf c.self.invariant.0 has in
@@ -177,4 +177,4 @@ returns-clause-step g c =
     rw (← c.self.view_is)
     (pair_returns w c.args.head c.args.head_leaf c.args.other c.args.other_leaf _ _ _ _ _ _ _ _ c.go_on-first.new.self c.go_on-second.new.self _ _
     has p.differ c.go_on-first.ensures.world c.go_on-second.ensures.world
-    c.go_on-first.ensures.leaf c.go_on-first.ensures.lost c.go_on-second.ensures.leaf c.go_on-second.ensures.lost (ap (λ (x : PlainValue × PlainValue). x.0) c.hands.ensures) (ap (λ (x : PlainValue × PlainValue). x.1) c.hands.ensures) refl refl)
+    c.go_on-first.ensures.leaf c.go_on-first.ensures.lost c.go_on-second.ensures.leaf c.go_on-second.ensures.lost (ap (λ (x : PlainValue × PlainValue). x.0) c.hands-to_head.ensures) (ap (λ (x : PlainValue × PlainValue). x.1) c.hands-to_head.ensures) refl refl)

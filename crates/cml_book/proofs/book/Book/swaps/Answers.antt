@@ -1,5 +1,3 @@
-use Rattle.std.proofs.Common.{◌∙◌, ◌&&◌, ap, sym}
-use Rattle.cml_book.specs.Swaps.{are_swaps}
 use Rattle.cml_book.proofs.Commits.{has_is}
 use Rattle.cml_book.proofs.book.Book.swaps.Goals as goal
 
