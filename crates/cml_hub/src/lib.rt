@@ -2,6 +2,12 @@
 #![tactic(auto)]
 
 mod choose;
+mod done;
+mod fault;
 mod marks;
+mod perform;
+mod pick;
+mod settle;
 
 pub use choose::{Chooser, First, Script, Seeded};
+pub use fault::{End, GiveFault, Next, ReplayFault};
