@@ -1,0 +1,11 @@
+pub mod MarkLemmas
+pub mod RowLemmas
+pub mod Agreement
+pub mod Soon
+pub mod Alarms
+pub mod Performing
+pub mod Standing
+pub mod Turning
+pub mod Meeting
+pub mod Settled
+pub mod Opening

@@ -1,0 +1,11 @@
+pub mod Choices
+pub mod Performed
+pub mod Runs
+pub mod Agreeing
+pub mod Dones
+pub mod Asking
+pub mod Settling
+pub mod Courses
+pub mod CourseCodes
+pub mod Marks
+pub mod MarkCodes

@@ -1,0 +1,27 @@
+-- A code of marks: a tree of numbers from which they can be read back. The toolchain asks for it; no rule speaks of it.
+use Rattle.std.specs.Prelude.{◌≡◌, ℕ, List, [], ◌∷◌, get_or, refl}
+use Rattle.std.specs.Coded.{Coded, code_by, coded×, coded_ℕ, coded_list}
+use Rattle.cml_hub.specs.declared.marks.Mark.{Mark}
+use Rattle.cml_hub.specs.declared.marks.Mark.TheVariants as mark
+use Rattle.cml_hub.specs.Marks.{PlainMarks}
+
+abbrev pub mark_number : Mark → ℕ
+mark_number mark.Ready = 0
+mark_number mark.Out = 1
+mark_number mark.Away = 2
+
+abbrev pub mark_by : ℕ → Mark
+mark_by n = get_or (mark.Ready ∷ mark.Out ∷ mark.Away ∷ []) n mark.Ready
+
+pub mark_back : (m : Mark) → mark_by (mark_number m) ≡ m
+mark_back mark.Ready = refl
+mark_back mark.Out = refl
+mark_back mark.Away = refl
+
+abbrev pub mark_code : Coded Mark
+mark_code = code_by ℕ coded_ℕ mark_number mark_by mark_back
+
+abbrev pub marks_code : Coded PlainMarks
+marks_code =
+    code_by (List Mark × (ℕ × ℕ)) (coded× (coded_list mark_code) (coded× coded_ℕ coded_ℕ))
+    (λ m. (m.marks, (m.room, m.more))) (λ p. record { marks = p.0; room = p.1.0; more = p.1.1 }) (λ _. refl)

@@ -1,0 +1,59 @@
+//! What becomes of a thread that has asked.
+
+ghost use Rattle.std.specs.Prelude.{◌≡◌};
+ghost use Rattle.cml_hub.specs.Dones.{gone};
+
+use cml_step::{Machine, NackRoom};
+use cml_value::{Tid, Value};
+
+// What becomes of a thread that has asked. The memory that it takes is there already.
+#[derive(Drop)]
+pub(crate) enum Done {
+    // It goes on.
+    Goes,
+    // It gets this, and goes on.
+    Gets(Value),
+    // It gets a fresh nack, and goes on.
+    Takes(NackRoom),
+    // This thread begins, and it goes on with its number.
+    Begets(Machine),
+    // What it prints is printed, and it goes on.
+    Prints,
+    // It waits.
+    Waits,
+    // It has ended.
+    Ends,
+    // It has ended, at a fault of this name.
+    Fails(&'static str),
+}
+
+// Whether the thread goes on after its turn.
+#[derive(Clone, Copy)]
+pub(crate) enum Gone {
+    // It goes on.
+    On,
+    // This thread begins, and it goes on.
+    With(Tid),
+    // It runs no more.
+    Off,
+}
+
+impl Done {
+    // Whether the thread goes on.
+    pub(crate) fn gone(&self) -> Gone
+        ensures { result ≡ gone self.now }
+    {
+        match self {
+            Done::Begets(child) => Gone::With(child.thread()),
+            Done::Goes | Done::Gets(_) | Done::Takes(_) | Done::Prints => Gone::On,
+            Done::Waits | Done::Ends | Done::Fails(_) => Gone::Off,
+        }
+    }
+}
+
+// What is done once memory is there for all of it: what becomes of the thread, and the line that goes to the output.
+#[derive(Drop)]
+pub(crate) struct Prepared {
+    pub(crate) done: Done,
+    pub(crate) line: String,
+}

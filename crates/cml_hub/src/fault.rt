@@ -1,0 +1,44 @@
+//! How a run stands, and why a call of the hub is refused.
+
+use cml_check::Prog;
+use cml_step::{Machine, Ran};
+
+/// How a run stands.
+#[derive(Clone, Copy, Debug, PartialEq, Eq)]
+pub enum End {
+    /// Nothing is left to do: no thread runs, no row can be taken, and no alarm is to come. Threads may still wait.
+    Quiet,
+    /// The budget is used.
+    Budget,
+    /// Neither.
+    Partial,
+}
+
+/// What there is to do.
+#[derive(Drop)]
+pub enum Next {
+    /// A slice of this thread.
+    Job(Machine),
+    /// Nothing, before a job that is out comes back.
+    Wait,
+    /// Nothing any more.
+    Ended,
+}
+
+/// Why a slice is not taken. It hands the slice back.
+#[derive(Drop)]
+pub enum GiveFault {
+    /// It is of another program, or no running thread has the machine with which it began.
+    Stranger(Ran),
+    /// Out of memory.
+    Memory(Ran),
+}
+
+/// Why a schedule is not replayed. It hands the program back.
+#[derive(Drop)]
+pub enum ReplayFault {
+    /// The item of this number, from 1, may not come where it does.
+    BadItem(usize, Prog),
+    /// Out of memory.
+    Memory(Prog),
+}

@@ -1,0 +1,161 @@
+//! Which threads are ready to run, in their order, and whose slices are out.
+
+ghost use Rattle.std.specs.Prelude.{◌≡◌, ◌≢◌, ℕ, ◌+◌, ◌-◌, ◌<◌, ◌≤◌, ◌^◌, ◌++◌, ◌∷◌, [], List, not, map, length, MatchOption, Some, OnOk, slice_get, slice_set};
+ghost use Rattle.std.specs.List.{list_any};
+ghost use Rattle.std.specs.VecDeque.{deque_len, deque_capacity};
+ghost use Rattle.cml_hub.specs.Marks.{is_at, count_of, ready_at, is_here, home};
+
+use cml_value::Tid;
+use std::alloc::{AllocError, Global};
+use std::collections::VecDeque;
+use std::marker::Model;
+
+// Where a thread is.
+#[derive(Clone, Copy, PartialEq, Eq)]
+pub(crate) enum Mark {
+    // It stands in the queue.
+    Ready,
+    // A slice of it was handed out.
+    Out,
+    // It does not run.
+    Away,
+}
+
+// Where each thread is, by its number, with the queue of those that are ready. How many are out is counted, so that whether any thread
+// runs is no walk.
+#[derive(Drop)]
+pub(crate) struct Marks {
+    queue: VecDeque<Tid>,
+    marks: Vec<Mark>,
+    outs: usize,
+}
+
+impl Model for Marks {
+    ghost use Rattle.std.specs.Prelude.{◌-◌};
+    ghost use Rattle.std.specs.Vec.{vec_len, vec_capacity};
+    ghost use Rattle.std.specs.VecDeque.{deque_len, deque_capacity};
+    ghost use Rattle.cml_hub.specs.MarkCodes.{marks_code};
+    ghost use Rattle.cml_hub.specs.Marks.{PlainMarks, AreMarks};
+
+    ghost Value = { PlainMarks };
+
+    ghost coded = { marks_code };
+
+    ghost view = { λ m. record {
+      marks = m.marks.items;
+      room = deque_capacity m.queue - deque_len m.queue;
+      more = vec_capacity m.marks - vec_len m.marks;
+    } };
+
+    ghost invariant = { λ m. AreMarks m.queue.items m.marks.items m.outs };
+}
+
+// Takes the thread out of the queue, where it stands there. It is looked for from the front.
+fn unqueue(queue: &mut VecDeque<Tid>, thread: Tid)
+    requires { count_of thread.0 queue.old.items ≡ 1 }
+    ensures others { (t : ℕ) → count_of t queue.new.items + is_at t thread.0 ≡ count_of t queue.old.items }
+    ensures capacity { deque_capacity queue.new ≡ deque_capacity queue.old }
+    ensures shorter { deque_len queue.new + 1 ≡ deque_len queue.old }
+{
+    for i in 0..queue.len() {
+        if queue[i] == thread {
+            let _gone = queue.remove(i);
+            return;
+        }
+    }
+    unreachable!();
+}
+
+impl Marks {
+    // No thread.
+    pub(crate) fn new(alloc: Global) -> Marks
+        ensures { result.marks ≡ [] }
+    {
+        Marks {
+            queue: VecDeque::new(alloc),
+            marks: Vec::new(alloc),
+            outs: 0,
+        }
+    }
+
+    // Room for one thread more, and for two more in the queue.
+    pub(crate) fn reserve(&mut self) -> Result<(), AllocError>
+        ensures marks { self.new.marks ≡ self.old.marks }
+        ensures room { OnOk result (2 ≤ self.new.room) }
+        ensures more { OnOk result (1 ≤ self.new.more) }
+    {
+        self.queue.reserve(2)?;
+        self.marks.reserve(1)
+    }
+
+    // Whether no thread runs.
+    pub(crate) fn is_idle(&self) -> bool
+        ensures { result ≡ not (list_any is_here self.now.marks) }
+    {
+        self.queue.is_empty() && self.outs == 0
+    }
+
+    // The thread that is ready and comes next.
+    pub(crate) fn front(&self) -> Option<Tid>
+        ensures { MatchOption result ((t : ℕ) → slice_get self.now.marks t ≢ Some Mark.Ready) (λ t. slice_get self.now.marks t.0 ≡ Some Mark.Ready) }
+    {
+        if self.queue.is_empty() {
+            return None;
+        }
+        Some(self.queue[0])
+    }
+
+    // A new thread is ready, behind the others.
+    pub(crate) fn add(&mut self, thread: Tid)
+        requires next { thread.0 ≡ length self.old.marks }
+        requires room { 1 ≤ self.old.room }
+        requires more { 1 ≤ self.old.more }
+        ensures marks { self.new.marks ≡ self.old.marks ++ Mark.Ready ∷ [] }
+        ensures room { self.old.room ≡ self.new.room + 1 }
+    {
+        self.marks.push_reserved(Mark::Ready);
+        self.queue.push_back_reserved(thread);
+    }
+
+    // The thread, which was away, is ready, behind the others.
+    pub(crate) fn make_ready(&mut self, thread: Tid)
+        requires away { slice_get self.old.marks thread.0 ≡ Some Mark.Away }
+        requires room { 1 ≤ self.old.room }
+        ensures marks { self.new.marks ≡ slice_set self.old.marks thread.0 Mark.Ready }
+        ensures room { self.old.room ≡ self.new.room + 1 }
+    {
+        self.marks[thread.0 as usize] = Mark::Ready;
+        self.queue.push_back_reserved(thread);
+    }
+
+    // The thread is away, wherever it was.
+    pub(crate) fn take_away(&mut self, thread: Tid)
+        requires { thread.0 < length self.old.marks }
+        ensures marks { self.new.marks ≡ slice_set self.old.marks thread.0 Mark.Away }
+        ensures room { self.old.room ≤ self.new.room }
+        ensures more { self.new.more ≡ self.old.more }
+    {
+        let place = thread.0 as usize;
+        match self.marks[place] {
+            Mark::Ready => {
+                unqueue(&mut self.queue, thread);
+                self.marks[place] = Mark::Away;
+            }
+            Mark::Out => {
+                self.outs -= 1;
+                self.marks[place] = Mark::Away;
+            }
+            Mark::Away => {}
+        }
+    }
+
+    // The thread, which was ready, is out.
+    pub(crate) fn hand_out(&mut self, thread: Tid)
+        requires { slice_get self.old.marks thread.0 ≡ Some Mark.Ready }
+        ensures { self.new.marks ≡ slice_set self.old.marks thread.0 Mark.Out }
+    {
+        unqueue(&mut self.queue, thread);
+        self.marks[thread.0 as usize] = Mark::Out;
+        self.outs += 1;
+    }
+}
