@@ -3,7 +3,7 @@ use Rattle.std.proofs.Common.{◌≡◌, ℕ, zero, suc, ◌+◌, Bool, true, fa
 use Rattle.std.specs.Prelude.{slice_get, slice_set}
 use Rattle.std.specs.Option.{option_map_or}
 use Rattle.std.proofs.lemmas.Bool.{and_parts, and_from}
-use Rattle.cml_value.specs.Value.{PlainValue, unit, PlainFunction, PlainBase, always, send, recv, iget, mtake, mget, mswap, mail_recv, port_recv, join, at_tick, after_ticks, nack}
+use Rattle.cml_value.specs.Value.{PlainValue, unit, PlainFunction, PlainBase, always, send, recv, swap, iget, mtake, mget, mswap, mail_recv, port_recv, join, at_tick, after_ticks, nack}
 use Rattle.cml_value.specs.Group.{PlainGroup, never, leaf, choose, wrap, scope, PlainGroups, no_groups, groups_and, PlainLeaf, wrapped_by, leaves, leaves_of_all}
 use Rattle.cml_group.specs.Force.{event_of, events_of}
 use Rattle.cml_scan.specs.World.{PlainThread, running, pending_on, ended, PlainWorld}
@@ -13,7 +13,8 @@ use Rattle.cml_scan.specs.declared.meet.Meet.TheVariants.{Single, Pair}
 use Rattle.cml_queues.specs.Queues.{added_at}
 use Rattle.cml_queues.specs.Posts.{posted}
 use Rattle.cml_step.specs.Agrees.{value_agrees, function_agrees, base_agrees, event_agrees, events_agree, functions_agree, all_agree, maybe_agrees, leaf_agrees}
-use Rattle.cml_book.specs.Commit.{awaited, group_awaited, base_or_unit, wraps_or_none, base_awaited, variable_value, first_of, rest_of, given, taken, sent, hands, released, after}
+use Rattle.cml_book.specs.Commit.{awaited, group_awaited, base_or_unit, wraps_or_none, base_awaited, variable_value, first_of, rest_of, given, taken, hands, released, after}
+use Rattle.cml_channel.specs.Handed.{handed}
 use Rattle.cml_book.specs.Entering.{entered, entered_all, entered_base}
 use Rattle.cml_book.specs.MakePort.{ports_at}
 use Rattle.cml_hub.specs.Agreeing.{thread_agrees, waits_soon, WorldAgrees, CommittedAgrees}
@@ -125,9 +126,10 @@ given_agrees fs w (mail_recv b) h g = first_agrees fs w.mailboxes b h.mailboxes
 given_agrees fs w (port_recv p) h g = first_agrees fs w.ports p h.ports
 given_agrees fs w _ h g = refl
 
-sent_agrees : (fs : List ℕ) (b : PlainBase) → base_agrees fs b ≡ true → value_agrees fs (sent b) ≡ true
-sent_agrees fs (send c v) g = g
-sent_agrees fs _ g = refl
+handed_agrees : (fs : List ℕ) (b : PlainBase) → base_agrees fs b ≡ true → value_agrees fs (handed b) ≡ true
+handed_agrees fs (send c v) g = g
+handed_agrees fs (swap s v) g = g
+handed_agrees fs _ g = refl
 
 taken_agrees : (fs : List ℕ) (w : PlainWorld) (b : PlainBase) → WorldAgrees fs w → base_agrees fs b ≡ true → WorldAgrees fs (taken w b)
 taken_agrees fs w (mtake m) h g = record { threads = h.threads; soon = h.soon; ivars = h.ivars; mvars = every_set (maybe_agrees fs) w.mvars m None h.mvars refl; mailboxes = h.mailboxes; ports = h.ports }
@@ -147,7 +149,7 @@ pub hands_agrees : (fs : List ℕ) (w : PlainWorld) (row : Meet) → WorldAgrees
 hands_agrees fs w (Single t n) h = let l = at_leaf fs w t.0 n h in ((given_agrees fs w (base_awaited w t.0 n) h l.0, l.1), tt)
 hands_agrees fs w (Pair a i o j) h =
     let l = at_leaf fs w a.0 i h in let m = at_leaf fs w o.0 j h in
-    ((refl, l.1), (sent_agrees fs (base_awaited w a.0 i) l.0, m.1))
+    ((handed_agrees fs (base_awaited w o.0 j) m.0, l.1), (handed_agrees fs (base_awaited w a.0 i) l.0, m.1))
 
 -- queues
 pub added_agrees : (fs : List ℕ) (qs : List (List PlainValue)) (b : ℕ) (v : PlainValue) → Every (all_agree fs) qs → value_agrees fs v ≡ true → Every (all_agree fs) (added_at qs b v)

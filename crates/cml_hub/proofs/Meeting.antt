@@ -1,5 +1,5 @@
 -- A row that is taken, and a time that moves, lead on.
-use Rattle.std.proofs.Common.{◌≡◌, ◌≢◌, ℕ, zero, suc, ◌+◌, ◌*◌, ◌<◌, ◌≤◌, Bool, true, false, not, ◌&&◌, ◌||◌, nat_eq, List, [], ◌∷◌, ◌++◌, length, map, refl, ap, sym, subst, ◌∙◌, arith, Option, Some, None, Ok, length-append}
+use Rattle.std.proofs.Common.{◌≡◌, ◌≢◌, inl, inr, ℕ, zero, suc, ◌+◌, ◌*◌, ◌<◌, ◌≤◌, Bool, true, false, not, ◌&&◌, ◌||◌, nat_eq, List, [], ◌∷◌, ◌++◌, length, map, refl, ap, sym, subst, ◌∙◌, arith, Option, Some, None, Ok, length-append}
 use Rattle.std.specs.Prelude.{slice_get, slice_set, option_map, unwrap_or, ◌↔◌, Contains}
 use Rattle.std.specs.List.{list_any}
 use Rattle.std.specs.Option.{option_map_or}
@@ -22,7 +22,8 @@ use Rattle.cml_step.specs.Answers.{answered}
 use Rattle.cml_step.specs.Calls.{text_of}
 use Rattle.cml_step.specs.Machines.{PlainMachine, machine_term, Fits}
 use Rattle.cml_step.specs.Terms.{Term}
-use Rattle.cml_book.specs.Commit.{commit, hands, after, taken, released, base_awaited, resume, sent}
+use Rattle.cml_book.specs.Commit.{commit, hands, after, taken, released, base_awaited, resume}
+use Rattle.cml_channel.specs.Handed.{handed}
 use Rattle.cml_book.specs.Clock.{clock}
 use Rattle.cml_book.specs.Entering.{max_tick}
 use Rattle.cml_book.specs.Resumes.{PlainResume}
@@ -43,10 +44,14 @@ waits_at (Some running) n b h = absurd (cc)
 waits_at (Some (pending_on g)) n b h = (g, refl)
 waits_at (Some ended) n b h = absurd (cc)
 
+below : (m n : ℕ) → m < n → m ≢ n
+below m n less same = absurd (omega (arith, less, same))
+
 -- the parties of a row that can be taken wait
 pub parties_wait : (w : PlainWorld) (row : Meet) → IsEnabled w row → PartiesWait w row
 parties_wait w (Single t n) h = waits_at (slice_get w.threads t.0) n h.0 h.1
-parties_wait w (Pair a i o j) h = (waits_at (slice_get w.threads a.0) i _ h.2, waits_at (slice_get w.threads o.0) j _ h.3, h.4)
+parties_wait w (Pair a i o j) (inl h) = (waits_at (slice_get w.threads a.0) i _ h.2, waits_at (slice_get w.threads o.0) j _ h.3, h.4)
+parties_wait w (Pair a i o j) (inr h) = (waits_at (slice_get w.threads a.0) i _ h.3, waits_at (slice_get w.threads o.0) j _ h.4, below a.0 o.0 h.5)
 
 taken_threads : (w : PlainWorld) (b : PlainBase) → (taken w b).threads ≡ w.threads
 taken_threads w (mtake m) = refl
@@ -89,7 +94,7 @@ other_waits : (w : PlainWorld) (t o : ℕ) → IsPending w o → t ≢ o → (g 
 other_waits w t o g ne = (g.0, get_other w.threads t o running ne ∙ g.1)
 
 partner_stands : (p : List (PlainItem ℕ)) (w : PlainWorld) (ms new : List PlainMachine) (t o : Tid) (i j : ℕ) → MachinesStand p 0 w.threads ms → WorldAgrees (arities p) w → PartiesWait w (Pair t i o j)
-    → Resumed ms (hands w (Pair t i o j)).head new → PartyStands p (slice_set w.threads t.0 running) new (resume w o.0 j (sent (base_awaited w t.0 i)))
+    → Resumed ms (hands w (Pair t i o j)).head new → PartyStands p (slice_set w.threads t.0 running) new (resume w o.0 j (handed (base_awaited w t.0 i)))
 partner_stands p w ms new t o i j h a g r = record {
   stands = (party_after p w.threads ms new (hands w (Pair t i o j)).head (head_stands p w ms (Pair t i o j) h a g) r).0;
   waits = other_waits w t.0 o.0 g.1 g.2;
@@ -111,7 +116,7 @@ all_after p w ms new (Single t n) h a g r =
     (rw (r.partner) q.0, rw (r.partner) q.1)
 all_after p w ms new (Pair t i o j) h a g r =
     let q = party_after p w.threads ms r.between (hands w (Pair t i o j)).head (head_stands p w ms (Pair t i o j) h a g) r.head in
-    let s = party_after p (slice_set w.threads t.0 running) r.between new (resume w o.0 j (sent (base_awaited w t.0 i))) (partner_stands p w ms r.between t o i j h a g r.head) r.partner in
+    let s = party_after p (slice_set w.threads t.0 running) r.between new (resume w o.0 j (handed (base_awaited w t.0 i))) (partner_stands p w ms r.between t o i j h a g r.head) r.partner in
     (s.0, rw (← q.1) (s.1))
 
 -- the course after a row

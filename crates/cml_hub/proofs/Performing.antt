@@ -2,7 +2,7 @@
 use Rattle.std.proofs.Common.{◌≡◌, ℕ, zero, suc, ◌+◌, Bool, true, false, not, nat_lt, nat_le, List, [], ◌∷◌, ◌++◌, length, map, refl, ap, sym, ◌∙◌, Option, Some, None, Ok, Err}
 use Rattle.std.specs.Prelude.{slice_get, slice_set, unwrap_or}
 use Rattle.std.specs.List.{list_any}
-use Rattle.cml_value.specs.Value.{PlainValue, unit, int, chan, ivar, mvar, mailbox, mchan, port, PlainFunction}
+use Rattle.cml_value.specs.Value.{PlainValue, unit, int, chan, swapchan, ivar, mvar, mailbox, mchan, port, PlainFunction}
 use Rattle.cml_value.specs.Group.{PlainGroup, bases, group_fits, leaf_count, scopes, nacks_of}
 use Rattle.cml_value.specs.Limits.{value_fits}
 use Rattle.cml_group.specs.Force.{event_of}
@@ -140,6 +140,10 @@ performs fs w t ask.make_chan h e =
     one fs w t (λ c. gets (a_value (chan c.0))) (record w { channels = w.channels + 1 }, record { 0 = w.channels }) h
     (record { threads = refl; agrees = record { threads = h.threads; soon = h.soon; ivars = h.ivars; mvars = h.mvars; mailboxes = h.mailboxes; ports = h.ports } })
     (nat_le max_objects w.channels) refusal.Full
+performs fs w t ask.make_swap h e =
+    one fs w t (λ s. gets (a_value (swapchan s.0))) (record w { swaps = w.swaps + 1 }, record { 0 = w.swaps }) h
+    (record { threads = refl; agrees = record { threads = h.threads; soon = h.soon; ivars = h.ivars; mvars = h.mvars; mailboxes = h.mailboxes; ports = h.ports } })
+    (nat_le max_objects w.swaps) refusal.Full
 performs fs w t ask.make_ivar h e =
     one fs w t (λ i. gets (a_value (ivar i.0))) (record w { ivars = w.ivars ++ None ∷ [] }, record { 0 = length w.ivars }) h
     (record { threads = refl; agrees = record { threads = h.threads; soon = h.soon; ivars = every_append (maybe_agrees fs) w.ivars (None ∷ []) h.ivars (refl, tt); mvars = h.mvars; mailboxes = h.mailboxes; ports = h.ports } })

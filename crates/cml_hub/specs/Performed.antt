@@ -1,7 +1,7 @@
 -- What an ask of a thread does to the world, and what becomes of the thread.
 use Rattle.std.specs.Prelude.{ℕ, pos, List, Ok, Err, codes}
 use Rattle.cml_text.specs.Lines.{line}
-use Rattle.cml_value.specs.Value.{PlainValue, unit, int, text, thread, chan, ivar, mvar, mailbox, mchan, port, PlainFunction}
+use Rattle.cml_value.specs.Value.{PlainValue, unit, int, text, thread, chan, swapchan, ivar, mvar, mailbox, mchan, port, PlainFunction}
 use Rattle.cml_value.specs.Show.{shown}
 use Rattle.cml_scan.specs.World.{PlainWorld, ended}
 use Rattle.cml_step.specs.Asks as ask
@@ -11,6 +11,7 @@ use Rattle.cml_book.specs.Outcomes.{Outcome, with_thread}
 use Rattle.cml_book.specs.Refusals.{name_of}
 use Rattle.cml_book.specs.Spawn.{spawn}
 use Rattle.cml_book.specs.MakeChan.{make_chan}
+use Rattle.cml_book.specs.MakeSwap.{make_swap}
 use Rattle.cml_book.specs.MakeObjects.{make_ivar, make_mvar, make_mailbox, make_mchan}
 use Rattle.cml_book.specs.MakePort.{make_port, copy_port}
 use Rattle.cml_book.specs.Put.{iput, mput}
@@ -53,6 +54,7 @@ asked w t ask.nothing = Ok (w, goes)
 asked w t ask.yield = Ok (w, gets (a_value unit))
 asked w t (ask.spawn f) = done (λ n. begets n.0 f) (spawn w)
 asked w t ask.make_chan = done (λ c. gets (a_value (chan c.0))) (make_chan w)
+asked w t ask.make_swap = done (λ s. gets (a_value (swapchan s.0))) (make_swap w)
 asked w t ask.make_ivar = done (λ i. gets (a_value (ivar i.0))) (make_ivar w)
 asked w t (ask.make_mvar v) = done (λ m. gets (a_value (mvar m.0))) (make_mvar w v)
 asked w t ask.make_mailbox = done (λ b. gets (a_value (mailbox b.0))) (make_mailbox w)

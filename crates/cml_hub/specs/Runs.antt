@@ -17,6 +17,7 @@ use Rattle.cml_book.specs.declared.command.Committed.{Committed}
 use Rattle.cml_book.specs.Step.{empty_world}
 use Rattle.cml_book.specs.Resumes.{PlainResume}
 use Rattle.cml_book.specs.Commit.{hands, after}
+use Rattle.cml_book.specs.Swaps.{swaps}
 use Rattle.cml_book.specs.Clock.{bases_awaited}
 use Rattle.cml_book.specs.Walks.{runs, is_running}
 use Rattle.cml_schedule.specs.declared.item.Item.{Item}
@@ -128,16 +129,12 @@ abbrev pub is_none : Option ℕ → Bool
 is_none None = true
 is_none (Some n) = false
 
--- The row can be taken, and it is an exchange over a swap channel. There are no swap channels yet.
-abbrev pub is_exchange : PlainWorld → Meet → Bool
-is_exchange w row = false
-
--- Whether an item may come now: a turn of a thread that runs; a row that can be taken; an exchange that can be; a tick where no thread
+-- Whether an item may come now: a turn of a thread that runs; a row that can be taken; as an exchange one of two swaps that can be; a tick where no thread
 -- runs and no row can be taken, and then it is the next alarm.
 abbrev pub is_allowed : PlainWorld → Item → Bool
 is_allowed w (Turn t) = is_running w t.0
 is_allowed w (Commit row) = has_row (scan w) row
-is_allowed w (Exchange row) = is_exchange w row
+is_allowed w (Exchange row) = swaps w row
 is_allowed w (Clock tick) = is_number (next_alarm w) tick && not (any_runs w) && is_empty (scan w)
 
 -- the run after an item

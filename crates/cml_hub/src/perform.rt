@@ -173,6 +173,7 @@ fn perform(
         Ask::Yield => Ok(gets(ValueKind::Unit)),
         Ask::Spawn(function) => spawn(alloc, program, book, thread, function),
         Ask::MakeChan => Ok(gets(ValueKind::Chan(book.make_chan()?))),
+        Ask::MakeSwap => Ok(gets(ValueKind::Swap(book.make_swap()?))),
         Ask::MakeIVar => Ok(gets(ValueKind::IVar(book.make_ivar()?))),
         Ask::MakeMVar(held) => make_mvar(alloc, book, thread, held),
         Ask::MakeMailbox => Ok(gets(ValueKind::Mailbox(book.make_mailbox(alloc)?))),
