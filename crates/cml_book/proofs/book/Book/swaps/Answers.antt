@@ -1,15 +1,11 @@
-use Rattle.std.proofs.Common.{◌≡◌, ◌∙◌, ◌&&◌, false, ap, sym}
-use Rattle.cml_scan.specs.Scan.{scan, has_row}
-use Rattle.cml_book.specs.Swaps.{are_swaps}
 use Rattle.cml_book.proofs.Commits.{has_is}
 use Rattle.cml_book.proofs.book.Book.swaps.Goals as goal
 
 pub returns-then-not-has : goal.returns-then-not-has
 returns-then-not-has g c =
     let w = c.self.inside.state in
-    let lacks : c.has.result ≡ false = cc in
-    let none : has_row (scan w) c.args.row.now ≡ false = has_is w (g.T.Table.entries c.self.inside.table) (g.T.Table.is_lit c.self.inside.table) _ c.args.row.now c.has.result c.self.invariant.0 c.has.ensures ∙ lacks in
-    rw (← c.self.view_is) (sym (ap (λ b. b && are_swaps w c.args.row.now) none))
+    let has = has_is w (g.T.Table.entries c.self.inside.table) (g.T.Table.is_lit c.self.inside.table) _ c.args.row.now c.has.result c.self.invariant.0 c.has.ensures in
+    rw (← c.self.view_is, has) (cc)
 
 pub returns : goal.returns
 returns g c =
