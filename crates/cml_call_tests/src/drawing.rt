@@ -48,7 +48,7 @@ fn soon(random: &mut Pcg32, now: u64) -> u64 {
 
 // A base event. Those over which two threads meet come more often.
 fn base(random: &mut Pcg32, seen: &Seen) -> Base {
-    Base::new(match random.next_u32() % 18 {
+    Base::new(match random.next_u32() % 20 {
         0 => BaseKind::Always(number(random)),
         1 => BaseKind::IGet(IVarId(object(random))),
         2 => BaseKind::MTake(MVarId(object(random))),
@@ -64,7 +64,7 @@ fn base(random: &mut Pcg32, seen: &Seen) -> Base {
         13 => BaseKind::Send(ChanId(0), number(random)),
         14 => BaseKind::Recv(ChanId(0)),
         15 => BaseKind::Recv(ChanId(object(random))),
-        16 => BaseKind::Swap(SwapId(0), number(random)),
+        16 | 17 => BaseKind::Swap(SwapId(0), number(random)),
         _ => BaseKind::Swap(SwapId(object(random)), number(random)),
     })
 }
