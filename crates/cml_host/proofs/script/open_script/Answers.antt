@@ -1,12 +1,21 @@
-use Rattle.std.proofs.Common.{rules, IfOk, IfErr, ◌≡◌, ℕ, ◌+◌, ◌-◌, ◌*◌, ◌<◌, ◌≤◌, length, ◌/◌, ◌%◌, Bool, true, false, nat_eq, nat_lt, List, [], ◌∷◌, ◌++◌, slice_index_or, slice_set, bit_and, bit_or, Fits, w8, w32, w64, Bor, MutBor}
-use Rattle.cml_host.specs.Scripts.{IsScript, IsOpened, IsProgramOf, IsNoProgram, IsNotMade, IsNotOpened}
-use Rattle.cml_host.specs.Stores.{IsUnchanged}
+use Rattle.std.proofs.Common.{◌≡◌, List, ℕ, subst}
+use Rattle.std.proofs.lemmas.Result.{IfOk-weaker, IfErr-weaker}
+use Rattle.cml_host.specs.Scripts.{IsScript, IsNotMade}
+use Rattle.cml_host.proofs.ScriptLemmas.{opened, not_opened}
 use Rattle.cml_host.proofs.script.open_script.Goals as goal
 
--- src/script.rt:17:1
 pub returns-clause-ok : goal.returns-clause-ok
-returns-clause-ok g c = ?
+returns-clause-ok g c =
+    let same : c.as_slice.result.now ≡ c.in_ok-text.text.items = c.as_slice.ensures.value in
+    let content = g.S.Store.holds c.args.store.now c.args.name.now in
+    IfOk-weaker c.read_script.result _ _
+    (λ p script. opened content c.in_ok-text.text.items p c.in_ok-text.ensures.found (subst (λ (ts : List ℕ). IsScript ts p) same script))
+    c.read_script.ensures.ok
 
--- src/script.rt:17:1
 pub returns-clause-err : goal.returns-clause-err
-returns-clause-err g c = ?
+returns-clause-err g c =
+    let same : c.as_slice.result.now ≡ c.in_ok-text.text.items = c.as_slice.ensures.value in
+    let content = g.S.Store.holds c.args.store.now c.args.name.now in
+    IfErr-weaker c.read_script.result _ _
+    (λ why not_made. not_opened content c.in_ok-text.text.items why c.in_ok-text.ensures.found (subst (λ (ts : List ℕ). IsNotMade ts why) same not_made))
+    c.read_script.ensures.err
