@@ -5,7 +5,7 @@ use Rattle.cml_check.specs.Sizes.{size_of}
 use Rattle.cml_check.specs.Syntax.{PlainFunction}
 use Rattle.cml_hub.specs.Courses.{run_of}
 use Rattle.cml_hub.specs.Kept.{Kept, IsBegun, Continues, IsOver}
-use Rattle.cml_hub.specs.Runs.{ending, over}
+use Rattle.cml_hub.specs.Runs.{Run, ending, over}
 use Rattle.cml_hub.specs.declared.fault.End.{End}
 use Rattle.cml_monitor.specs.Reports.{PlainReport}
 use Rattle.cml_schedule.specs.declared.item.Item.{Item}
@@ -17,10 +17,10 @@ use Rattle.cml_host.specs.declared.run.Record.{Record}
 use Rattle.cml_host.specs.declared.said.Refusal.{Refusal}
 use Rattle.cml_host.specs.declared.said.Refusal.TheVariants.{Unread, Wrong, Memory}
 use Rattle.cml_host.specs.Replaying.{IsHubOf, IsNotRun, PlanRan, ScheduleRan}
-use Rattle.cml_host.specs.Running.{HasEnded, record_name, EndRan, ProgramRan, EndedRan, IsMade, RecordRan}
+use Rattle.cml_host.specs.Running.{HasEnded, record_name, IsRecorded, RecordBroke, EndRan, ProgramRan, RunRan, BegunRan, EndedRan, IsMade, RecordRan}
 use Rattle.cml_host.specs.Said.{RefusalRan}
-use Rattle.cml_host.specs.Scripts.{IsNotOpened, NoScriptRan}
-use Rattle.cml_host.specs.Stores.{Content, Shelf, IsSaved, IsUnchanged}
+use Rattle.cml_host.specs.Scripts.{IsOpened, IsNotOpened, NoScriptRan}
+use Rattle.cml_host.specs.Stores.{Content, Shelf, Becomes, IsSaved, IsUnchanged}
 use Rattle.cml_host.specs.Told.{IsRunOf, AllReported, reports_text, whole_output, end_status, IsTold, IsNotTold, IsCutOff}
 use Rattle.cml_host.proofs.TellLemmas.{says_behind}
 
@@ -65,8 +65,8 @@ scheduled p watch name content h output errors status found run told =
       (subst (λ (w : Option ℕ). AllReported w h.course.items h.reports) made.watch_is made.none_due) in
     let all = subst (λ (b : ℕ). (IsTold h.reports (whole_output b r) output errors × (status ≡ end_status (ending b r)))
         ⊎ IsNotTold h.reports h.course.output (whole_output b r) output errors status) made.budget_is told in
-    inl (found.1.0, found.1.1, inl (plan, found.1.2, found.2, h.reports, r,
-      run_is p watch plan.items h made.program made.watch_is made.items_are run, due, all))
+    inl (found.1.0, found.1.1, inl (plan, found.1.2, (found.2, (h.reports, r,
+      run_is p watch plan.items h made.program made.watch_is made.items_are run, due, all))))
 
 -- ---- run
 
@@ -75,12 +75,12 @@ pub not_told_ran : (name : Option (List ℕ)) (h : Kept) (output errors : Counte
 not_told_ran name h output errors store status same (inl broke) = inl (inr (inr (broke, same)))
 not_told_ran name h output errors store status same (inr cut) = inr (cut, same)
 
-pub recorded : (name : List ℕ) (h : Kept) (made : Record) (output : Counted) (a b d : Option (List ℕ)) (before after failed given : ℕ) (store : Shelf) (status : ℕ) →
-    IsMade h name made → IsTold h.reports (whole_output h.budget (run_of h.course)) output (counted_stream a b before 0) →
+pub recorded : (name : List ℕ) (h : Kept) (made : Record) (output : Counted) (a b d : Option (List ℕ)) (before broke after failed given : ℕ) (store : Shelf) (status : ℕ) →
+    IsMade h name made → IsTold h.reports (whole_output h.budget (run_of h.course)) output (counted_stream a b before broke) →
     given ≡ end_status (ending h.budget (run_of h.course)) →
     RecordRan name made given (counted_stream b d after failed) store status →
     EndedRan (Some name) h output (counted_stream a d after failed) store status
-recorded name h made output a b d before after failed given store status is told ends (inl saved) =
+recorded name h made output a b d before broke after failed given store status is told ends (inl saved) =
     inl (inl (
       (
         subst (λ (ts : List ℕ). Takes (stream a d) ts) (append-nil (reports_text h.reports)) (Appends-trans a b d (reports_text h.reports) [] told.0 saved.2),
@@ -91,7 +91,7 @@ recorded name h made output a b d before after failed given store status is told
       subst (λ (ts : List ℕ). IsSaved store.before store.after name ts) is.0 saved.0,
       saved.1 ∙ ends,
     ))
-recorded name h made output a b d before after failed given store status is told ends (inr refused) =
+recorded name h made output a b d before broke after failed given store status is told ends (inr refused) =
     inl (inr (inl (
       told.2,
       told.3,
@@ -123,3 +123,50 @@ ended_ran p options begun h end output errors store status begins more is_over r
 ended_ran p options begun h end output errors store status begins more is_over run (inr cut) =
     (h.course.items, h.reports, run_of h.course,
       run_is p options.watch h.course.items h (more.program ∙ begins.program) (more.watch ∙ begins.watch_is) refl run, inr cut)
+
+-- ---- a store that was read first
+
+recorded_behind : (old mid new : List ℕ → Content) (name : Option (List ℕ)) (schedule : List ℕ) → IsUnchanged old mid →
+    IsRecorded name schedule (record { before = mid; after = new }) → IsRecorded name schedule (record { before = old; after = new })
+recorded_behind old mid new None schedule same kept = λ n. kept n ∙ same n
+recorded_behind old mid new (Some name) schedule same saved =
+    record {
+      saved = subst (λ (content : Content). Becomes content (new name) schedule) (same name) saved.saved;
+      others = λ other differs. saved.others other differs ∙ same other;
+    }
+
+broke_behind : (old mid new : List ℕ → Content) (name : Option (List ℕ)) (reports : List PlainReport) (text : List ℕ) (output errors : Counted) (status : ℕ) →
+    IsUnchanged old mid → RecordBroke name reports text output errors (record { before = mid; after = new }) status →
+    RecordBroke name reports text output errors (record { before = old; after = new }) status
+broke_behind old mid new None reports text output errors status same broke = absurd broke
+broke_behind old mid new (Some name) reports text output errors status same broke =
+    (broke.0, broke.1, broke.2, broke.3, λ n. broke.4 n ∙ same n)
+
+end_behind : (old mid new : List ℕ → Content) (name : Option (List ℕ)) (schedule : List ℕ) (reports : List PlainReport) (budget : ℕ) (r : Run)
+    (output errors : Counted) (status : ℕ) → IsUnchanged old mid →
+    EndRan name schedule reports budget r output errors (record { before = mid; after = new }) status →
+    EndRan name schedule reports budget r output errors (record { before = old; after = new }) status
+end_behind old mid new name schedule reports budget r output errors status same (inl told) =
+    inl (told.0, recorded_behind old mid new name schedule same told.1, told.2)
+end_behind old mid new name schedule reports budget r output errors status same (inr (inl broke)) =
+    inr (inl (broke_behind old mid new name reports (whole_output budget r) output errors status same broke))
+end_behind old mid new name schedule reports budget r output errors status same (inr (inr broke)) =
+    inr (inr (broke.0, λ n. broke.1 n ∙ same n))
+
+pub program_behind : (old mid new : List ℕ → Content) (p : List (PlainFunction ℕ)) (options : RunOptions) (output errors : Counted) (status : ℕ) →
+    IsUnchanged old mid → ProgramRan p options output errors (record { before = mid; after = new }) status →
+    ProgramRan p options output errors (record { before = old; after = new }) status
+program_behind old mid new p options output errors status same (items, reports, r, run, inl ended) =
+    (items, reports, r, run, inl (ended.0,
+      end_behind old mid new (record_name options) (schedule_text options.steps (size_of p) items) reports options.steps r output errors status same ended.1))
+program_behind old mid new p options output errors status same (items, reports, r, run, inr cut) =
+    (items, reports, r, run, inr (cut.0, λ n. cut.1 n ∙ same n))
+
+-- the program that was opened was run, or memory ran out before it began
+pub run_ran : (old mid new : List ℕ → Content) (p : List (PlainFunction ℕ)) (options : RunOptions) (output errors : Counted) (status : ℕ) →
+    IsUnchanged old mid → IsOpened (old options.file.now) p → BegunRan p options output errors (record { before = mid; after = new }) status →
+    RunRan options output errors (record { before = old; after = new }) status
+run_ran old mid new p options output errors status same opened (inl ran) =
+    inl (p, opened, program_behind old mid new p options output errors status same ran)
+run_ran old mid new p options output errors status same opened (inr memory) =
+    inr (inr (inr memory.0), memory.1, λ n. memory.2 n ∙ same n)

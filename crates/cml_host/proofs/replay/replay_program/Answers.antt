@@ -1,14 +1,22 @@
-use Rattle.std.proofs.Common.{rules, ◌≡◌, IfOk, IfErr, ℕ, ◌+◌, ◌-◌, ◌*◌, ◌<◌, ◌≤◌, length, ◌/◌, ◌%◌, Bool, true, false, nat_eq, nat_lt, List, [], ◌∷◌, ◌++◌, slice_index_or, slice_set, bit_and, bit_or, Fits, w8, w32, w64, Bor, MutBor}
-use Rattle.cml_hub.specs.Kept.{IsBudget, IsWatch, FitsSize, IsReplayed}
-use Rattle.cml_host.specs.Replaying.{ReplayRan, ScheduleRan, IsPlanOf, IsSchedule, IsHubOf, IsNoHub, IsNoPlan, IsNotRead, IsNotRun}
-use Rattle.cml_host.specs.Stores.{IsUnchanged}
+use Rattle.std.proofs.Common.{inl, inr}
 use Rattle.cml_stream.specs.Streams.{counted_stream}
+use Rattle.cml_host.proofs.RanLemmas.{scheduled}
 use Rattle.cml_host.proofs.replay.replay_program.Goals as goal
 
--- src/replay.rt:63:1
 pub returns-in-Ok-tell-clause-ran : goal.returns-in-Ok-tell-clause-ran
-returns-in-Ok-tell-clause-ran g c = ?
+returns-in-Ok-tell-clause-ran g c =
+    let output = counted_stream (g.O.Write.contents c.args.out.now.stream.now) (g.O.Write.contents c.tell.new.out.stream.now)
+      c.tell.new.out.calls c.tell.new.out.failed in
+    let errors = counted_stream (g.E.Write.contents c.args.err.now.stream.now) (g.E.Write.contents c.tell.new.err.stream.now)
+      c.tell.new.err.calls c.tell.new.err.failed in
+    scheduled c.args.program c.args.options.now.watch c.args.options.now.schedule.now _ c.in-Ok.hub output errors c.in-Ok-tell.status
+      c.in-Ok.ensures.ok c.hub_is_a_run.ensures (inl c.in-Ok-tell.ensures.told)
 
--- src/replay.rt:63:1
 pub returns-in-Ok-clause-ran : goal.returns-in-Ok-clause-ran
-returns-in-Ok-clause-ran g c = ?
+returns-in-Ok-clause-ran g c =
+    let output = counted_stream (g.O.Write.contents c.args.out.now.stream.now) (g.O.Write.contents c.tell.new.out.stream.now)
+      c.tell.new.out.calls c.tell.new.out.failed in
+    let errors = counted_stream (g.E.Write.contents c.args.err.now.stream.now) (g.E.Write.contents c.tell.new.err.stream.now)
+      c.tell.new.err.calls c.tell.new.err.failed in
+    scheduled c.args.program c.args.options.now.watch c.args.options.now.schedule.now _ c.in-Ok.hub output errors c.in-Err-tell.status
+      c.in-Ok.ensures.ok c.hub_is_a_run.ensures (inr c.in-Err-tell.ensures.not_told)
