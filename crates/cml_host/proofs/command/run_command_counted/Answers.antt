@@ -1,6 +1,6 @@
 use Rattle.std.proofs.Common.{rules, ◌∙◌, ap, subst, map, inl, refl}
 use Rattle.std.specs.String.{string_bytes}
-use Rattle.cml_words.specs.declared.Task.TheVariants.{Trace, Check, Fmt}
+use Rattle.cml_words.specs.declared.Task.TheVariants.{Trace, Check, Fmt, Run, Replay}
 use Rattle.cml_words.specs.declared.Answer.TheVariants as answer
 use Rattle.cml_words.specs.Words.{IsAnswer}
 use Rattle.cml_host.proofs.command.run_command_counted.Goals as goal
@@ -36,5 +36,29 @@ returns-in-Ok-Task-Fmt-clause-ran g c =
         c.print_file.ensures.ran,
         (search rules, c.requires.reads.0, c.requires.reads.1),
         c.print_file.ensures.same,
+      ),
+    )
+
+pub returns-in-Ok-Task-Run-clause-ran : goal.returns-in-Ok-Task-Run-clause-ran
+returns-in-Ok-Task-Run-clause-ran g c =
+    let words = map string_bytes c.args.words.now in
+    let is = c.in-Ok-Task-Run.field-0-is ∙ ap answer.Task c.in-Ok-Task-Run.field-0-0-is in
+    inl (
+      answer.Task (Run c.in-Ok-Task-Run.options),
+      subst (IsAnswer words) is c.in-Ok-Task-Run.ensures,
+      (c.run_file.ensures.ran, (search rules, c.requires.reads.0, c.requires.reads.1)),
+    )
+
+pub returns-in-Ok-Task-Replay-clause-ran : goal.returns-in-Ok-Task-Replay-clause-ran
+returns-in-Ok-Task-Replay-clause-ran g c =
+    let words = map string_bytes c.args.words.now in
+    let is = c.in-Ok-Task-Replay.field-0-is ∙ ap answer.Task c.in-Ok-Task-Replay.field-0-0-is in
+    inl (
+      answer.Task (Replay c.in-Ok-Task-Replay.options),
+      subst (IsAnswer words) is c.in-Ok-Task-Replay.ensures,
+      (
+        c.replay_file.ensures.ran,
+        (search rules, c.requires.reads.0, c.requires.reads.1),
+        c.replay_file.ensures.same,
       ),
     )
