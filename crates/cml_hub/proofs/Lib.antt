@@ -9,3 +9,5 @@ pub mod Turning
 pub mod Meeting
 pub mod Settled
 pub mod Opening
+pub mod Ours
+pub mod Ticking

@@ -1,8 +1,12 @@
 -- A course at its beginning.
-use Rattle.std.proofs.Common.{◌≡◌, ℕ, List, [], ◌∷◌, map, refl, ap, sym, ◌∙◌, subst, Option, Some, arith}
+use Rattle.std.proofs.Common.{◌≡◌, ℕ, List, [], ◌∷◌, map, refl, ap, sym, ◌∙◌, subst, Option, Some, Ok, arith}
 use Rattle.std.specs.Prelude.{codes, unwrap_or}
 use Rattle.cml_value.specs.Value.{function, no_values}
+use Rattle.cml_value.specs.declared.number.Tid.{Tid}
 use Rattle.cml_scan.specs.World.{PlainWorld, running}
+use Rattle.cml_book.specs.Spawn.{spawn}
+use Rattle.cml_book.specs.Step.{empty_world}
+use Rattle.cml_step.specs.Terms.{Program}
 use Rattle.cml_check.specs.Heads.{numbered}
 use Rattle.cml_check.specs.InOrder.{arities, names_of}
 use Rattle.cml_check.specs.Syntax.{PlainFunction as PlainItem, written}
@@ -33,3 +37,10 @@ opening_leads p ms w h = record {
 
 pub opening_begins : (p : List (PlainItem ℕ)) (ms : List PlainMachine) (w : PlainWorld) → IsOpening p ms w → Begins p (course_begun p ms w)
 opening_begins p ms w h = record { program = refl; items = refl; threads = ap (λ (x : PlainWorld). x.threads) h.world }
+
+-- the first thread of an empty world
+pub spawned_first : (p : Program) (empty new : PlainWorld) (t : Tid) → empty ≡ empty_world → spawn empty ≡ Ok (new, t) → new ≡ (opening p).world
+spawned_first p empty new t none e =
+    let f = rw none at e in
+    let g : ((opening p).world, record { 0 = 0 }) ≡ (new, t) = cc in
+    ap (λ (x : PlainWorld × Tid). x.0) (sym g)

@@ -9,3 +9,6 @@ pub mod Courses
 pub mod CourseCodes
 pub mod Marks
 pub mod MarkCodes
+pub mod Reports
+pub mod Kept
+pub mod KeptCodes

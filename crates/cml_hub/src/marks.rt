@@ -158,4 +158,23 @@ impl Marks {
         self.marks[thread.0 as usize] = Mark::Out;
         self.outs += 1;
     }
+
+    // The threads that are out are ready, in the order of their numbers, after the others.
+    pub(crate) fn call_back(&mut self) -> Result<(), AllocError>
+        ensures ok { OnOk result (self.new.marks ≡ map home self.old.marks) }
+        ensures err { OnErr result (self.new.marks ≡ self.old.marks) }
+    {
+        if self.outs == 0 {
+            return Ok(());
+        }
+        self.queue.reserve(self.outs)?;
+        for i in 0..self.marks.len() {
+            if self.marks[i] == Mark::Out {
+                self.marks[i] = Mark::Ready;
+                self.queue.push_back_reserved(Tid(i as u32));
+            }
+        }
+        self.outs = 0;
+        Ok(())
+    }
 }
