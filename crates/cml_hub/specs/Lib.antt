@@ -12,3 +12,4 @@ pub mod MarkCodes
 pub mod Reports
 pub mod Kept
 pub mod KeptCodes
+pub mod Moves

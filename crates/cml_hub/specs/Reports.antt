@@ -32,6 +32,6 @@ IsDue None items reports = ⊥
 IsDue (Some k) items reports = items ≡ k * (reports + 1)
 
 -- the report that is due, and none where none is
-abbrev pub Reports : Option ℕ → ℕ → ℕ → PlainWorld → Option PlainReport → Type 0
-Reports watch items reports w None = IsDue watch items reports → ⊥
-Reports watch items reports w (Some r) = IsDue watch items reports × (r ≡ shown items w)
+abbrev pub IsDueReport : Option ℕ → ℕ → ℕ → PlainWorld → Option PlainReport → Type 0
+IsDueReport watch items reports w None = IsDue watch items reports → ⊥
+IsDueReport watch items reports w (Some r) = IsDue watch items reports × (r ≡ shown items w)

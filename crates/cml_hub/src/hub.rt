@@ -1,16 +1,18 @@
 //! The hub: it hands out slices of the threads and takes them back, chooses among the communications that are possible, and keeps the
 //! schedule of what happened.
 
-ghost use Rattle.std.specs.Prelude.{◌≡◌, ◌↔◌, ◌≤◌, [], Some, IfOk, IfErr, OnOk, OnErr, IsTrue, Ok, length};
-ghost use Rattle.cml_scan.specs.World.{pending};
+ghost use Rattle.std.specs.Prelude.{◌≡◌, ◌↔◌, ◌≤◌, ◌<◌, [], Some, IfOk, IfErr, IfSome, OnOk, OnErr, IsTrue, Ok, true, false, length, slice_get};
+ghost use Rattle.std.specs.Vec.{vec_len, vec_capacity};
+ghost use Rattle.cml_scan.specs.World.{pending, running};
 ghost use Rattle.cml_check.specs.Sizes.{size_of};
 ghost use Rattle.cml_schedule.specs.Written.{schedule_text};
 ghost use Rattle.cml_schedule.specs.Reading.{ReadsAs};
 ghost use Rattle.cml_step.specs.Calls.{text_of};
 ghost use Rattle.cml_hub.specs.Runs as spec;
-ghost use Rattle.cml_hub.specs.Courses.{run_of};
-ghost use Rattle.cml_hub.specs.Reports.{AreReports};
-ghost use Rattle.cml_hub.specs.Kept.{IsBudget, IsWatch, IsBegun, Continues, Extends, HandsOut, is_ended, NoneDue, Gives, IsOver, Replays, FitsSize};
+ghost use Rattle.cml_hub.specs.Courses.{run_of, Takes, Adds};
+ghost use Rattle.cml_hub.specs.Reports.{AreReports, IsDueReport};
+ghost use Rattle.cml_hub.specs.Kept.{IsBudget, IsWatch, IsBegun, Continues, Extends, HandsOut, is_ended, NoneDue, NoneOut, AllOut, Gives, IsOver, Replays, FitsSize};
+ghost use Rattle.cml_hub.specs.Moves.{IsNext, marks_after, PartiesAway, marks_met, Moves, TakesBack, Reported, HandedOut, MovedOn};
 
 use crate::choose::Chooser;
 use crate::course::Course;
@@ -65,7 +67,13 @@ impl Model for Hub {
 }
 
 // The thread's mark after its turn. A thread that begins is queued before it.
-fn place(marks: &mut Marks, thread: Tid, gone: Gone) {
+fn place(marks: &mut Marks, thread: Tid, gone: Gone)
+    requires there { thread.0 < length marks.old.marks }
+    requires next { IsNext gone marks.old.marks }
+    requires room { 2 ≤ marks.old.room }
+    requires more { 1 ≤ marks.old.more }
+    ensures { marks.new.marks ≡ marks_after thread.0 gone marks.old.marks }
+{
     marks.take_away(thread);
     match gone {
         Gone::On => marks.make_ready(thread),
@@ -78,7 +86,11 @@ fn place(marks: &mut Marks, thread: Tid, gone: Gone) {
 }
 
 // The parties of a row are ready, the head first.
-fn place_all(marks: &mut Marks, row: Meet) {
+fn place_all(marks: &mut Marks, row: Meet)
+    requires away { PartiesAway marks.old.marks row }
+    requires room { 2 ≤ marks.old.room }
+    ensures { marks.new.marks ≡ marks_met row marks.old.marks }
+{
     match row {
         Meet::Single { tid, .. } => marks.make_ready(tid),
         Meet::Pair { head, other, .. } => {
@@ -94,7 +106,11 @@ fn due(
     course: &Course,
     watch: Option<u64>,
     reports: &mut Vec<Report>,
-) -> Result<Option<Report>, AllocError> {
+) -> Result<Option<Report>, AllocError>
+    ensures due { IfOk result (λ due. IsDueReport watch (length course.now.items) (length reports.old.items) course.now.world due) }
+    ensures items { reports.new.items ≡ reports.old.items }
+    ensures room { IfOk result (λ due. IfSome due (λ _. vec_len reports.new < vec_capacity reports.new)) }
+{
     let Some(every) = watch else {
         return Ok(None);
     };
@@ -231,7 +247,10 @@ impl Hub {
     }
 
     // The report that is due is made.
-    fn report(&mut self, alloc: Global) -> Result<(), AllocError> {
+    fn report(&mut self, alloc: Global) -> Result<(), AllocError>
+        ensures ok { OnOk result (Reported self.old self.new) }
+        ensures err { OnErr result (self.new ≡ self.old) }
+    {
         if let Some(report) = due(alloc, &self.course, self.watch, &mut self.reports)? {
             self.reports.push_reserved(report);
         }
@@ -239,7 +258,10 @@ impl Hub {
     }
 
     // The machine of the thread that is ready and comes next.
-    fn hand_out(&mut self, alloc: Global) -> Result<Option<Machine>, AllocError> {
+    fn hand_out(&mut self, alloc: Global) -> Result<Option<Machine>, AllocError>
+        ensures ok { IfOk result (λ job. HandedOut self.old job self.new) }
+        ensures err { OnErr result (self.new ≡ self.old) }
+    {
         let Some(thread) = self.marks.front() else {
             return Ok(None);
         };
@@ -249,7 +271,13 @@ impl Hub {
     }
 
     // A turn of the thread.
-    fn turn(&mut self, alloc: Global, thread: Tid) -> Result<(), AllocError> {
+    fn turn(&mut self, alloc: Global, thread: Tid) -> Result<(), AllocError>
+        requires running { slice_get self.old.course.world.threads thread.0 ≡ Some running }
+        requires due { NoneDue self.old }
+        ensures moves { OnOk result (Moves self.old (Item.Turn thread) self.new) }
+        ensures back { OnOk result (TakesBack self.old.out thread.0 self.new.out) }
+        ensures err { OnErr result (self.new ≡ self.old) }
+    {
         self.marks.reserve()?;
         let gone = self.course.turn(alloc, thread)?;
         place(&mut self.marks, thread, gone);
@@ -257,16 +285,40 @@ impl Hub {
     }
 
     // The row is taken, by this item.
-    fn meet(&mut self, alloc: Global, item: Item, row: Meet) -> Result<(), AllocError> {
+    fn meet(&mut self, alloc: Global, item: Item, row: Meet) -> Result<(), AllocError>
+        requires takes { Takes item row }
+        requires allowed { spec.is_allowed self.old.course.world item ≡ true }
+        requires due { NoneDue self.old }
+        ensures moves { OnOk result (Moves self.old item self.new) }
+        ensures out { self.new.out ≡ self.old.out }
+        ensures err { OnErr result (self.new ≡ self.old) }
+    {
         self.marks.reserve()?;
         self.course.meet(alloc, item, row)?;
         place_all(&mut self.marks, row);
         Ok(())
     }
 
+    // The time moves to the next alarm.
+    fn tick(&mut self, alloc: Global, tick: u64) -> Result<(), AllocError>
+        requires allowed { spec.is_allowed self.old.course.world (Item.Clock tick) ≡ true }
+        requires due { NoneDue self.old }
+        ensures moves { OnOk result (Moves self.old (Item.Clock tick) self.new) }
+        ensures out { self.new.out ≡ self.old.out }
+        ensures err { OnErr result (self.new ≡ self.old) }
+    {
+        self.course.tick(alloc, tick)
+    }
+
     // A row is taken that the chooser picks; or, where there is none and no thread runs, the time moves to the next alarm. It answers
     // whether one of them was done.
-    fn move_on<C: Chooser>(&mut self, alloc: Global, chooser: &mut C) -> Result<bool, AllocError> {
+    fn move_on<C: Chooser>(&mut self, alloc: Global, chooser: &mut C) -> Result<bool, AllocError>
+        requires all_out { AllOut self.old }
+        requires due { NoneDue self.old }
+        requires going { spec.terminal self.old.course.world ≡ false }
+        ensures ok { IfOk result (λ moved. MovedOn self.old moved self.new) }
+        ensures err { OnErr result (self.new ≡ self.old) }
+    {
         if let Some(row) = self.course.pick(chooser) {
             let item = if self.course.swaps(&row) {
                 Item::Exchange(row)
@@ -281,7 +333,7 @@ impl Hub {
         }
         match self.course.next_alarm() {
             Some(tick) => {
-                self.course.tick(alloc, tick)?;
+                self.tick(alloc, tick)?;
                 Ok(true)
             }
             None => unreachable!(),
@@ -384,11 +436,18 @@ impl Hub {
     }
 
     // The item comes, which may.
-    fn follow(&mut self, alloc: Global, item: Item) -> Result<(), AllocError> {
+    fn follow(&mut self, alloc: Global, item: Item) -> Result<(), AllocError>
+        requires allowed { spec.is_allowed self.old.course.world item ≡ true }
+        requires due { NoneDue self.old }
+        requires none_out { NoneOut self.old }
+        ensures moves { OnOk result (Moves self.old item self.new) }
+        ensures none_out { OnOk result (NoneOut self.new) }
+        ensures err { OnErr result (self.new ≡ self.old) }
+    {
         match item {
             Item::Turn(thread) => self.turn(alloc, thread),
             Item::Meet(row) | Item::Exchange(row) => self.meet(alloc, item, row),
-            Item::Clock(tick) => self.course.tick(alloc, tick),
+            Item::Clock(tick) => self.tick(alloc, tick),
         }
     }
 
@@ -424,7 +483,17 @@ impl Hub {
     }
 
     // The item comes, and the report that is due after it is made.
-    fn step(&mut self, alloc: Global, item: Item) -> Result<(), AllocError> {
+    fn step(&mut self, alloc: Global, item: Item) -> Result<(), AllocError>
+        requires allowed { spec.is_allowed self.old.course.world item ≡ true }
+        requires due { NoneDue self.old }
+        requires none_out { NoneOut self.old }
+        ensures adds { OnOk result (Adds self.old.course item self.new.course) }
+        ensures budget { OnOk result (self.new.budget ≡ self.old.budget) }
+        ensures watch { OnOk result (self.new.watch ≡ self.old.watch) }
+        ensures none_due { OnOk result (NoneDue self.new) }
+        ensures none_out { OnOk result (NoneOut self.new) }
+        ensures program { self.new.course.program ≡ self.old.course.program }
+    {
         self.follow(alloc, item)?;
         self.report(alloc)
     }
