@@ -46,3 +46,10 @@ clocked_is w new t u is e =
 
 pub clock_refused : (w : PlainWorld) (t : ℕ) (why : Refusal) → clock w t ≡ Ok (record w { tick = t }, tt) → clock w t ≡ Err why → ⊥
 clock_refused w t why is e = cc
+
+-- the tick to which it may move is no greater than the greatest
+pub tick_near : (w : PlainWorld) (t : ℕ) → is_allowed w (Clock t) ≡ true → Every waits_soon w.threads → t ≤ max_tick
+tick_near w t ok soon =
+    let parts = and_parts (is_number (next_alarm w) t && not (any_runs w)) (is_empty (scan w)) ok in
+    let more = and_parts (is_number (next_alarm w) t) (not (any_runs w)) parts.0 in
+    (alarm_is w (next_alarm w) t (least_is w.tick (bases_awaited (pending w))) (number_is (next_alarm w) t more.0) soon).1
