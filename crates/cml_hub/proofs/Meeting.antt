@@ -1,29 +1,23 @@
 -- A row that is taken, and a time that moves, lead on.
-use Rattle.std.proofs.Common.{◌≡◌, ◌≢◌, inl, inr, ℕ, zero, suc, ◌+◌, ◌*◌, ◌<◌, ◌≤◌, ◌^◌, Bool, true, false, not, ◌&&◌, ◌||◌, nat_eq, List, [], ◌∷◌, ◌++◌, length, map, refl, ap, sym, subst, ◌∙◌, arith, Option, Some, None, Ok, Err, length-append}
-use Rattle.std.specs.Prelude.{slice_get, slice_set, option_map, unwrap_or, ◌↔◌, Contains}
-use Rattle.std.specs.List.{list_any, All}
-use Rattle.std.specs.Option.{option_map_or}
+use Rattle.std.proofs.Common.{◌≡◌, ◌≢◌, inl, inr, ℕ, ◌+◌, ◌<◌, true, List, [], ◌∷◌, ◌++◌, map, refl, ap, sym, ◌∙◌, arith, Option, Some, None, Ok, Err, length-append}
+use Rattle.std.specs.Prelude.{slice_get, slice_set, option_map}
 use Rattle.std.proofs.lemmas.Bool.{and_parts, and_from}
-use Rattle.std.proofs.lemmas.Bool.Decides.{nat_tests}
 use Rattle.std.proofs.lemmas.Option.{slice_get-map}
 use Rattle.std.proofs.lemmas.List.Elements.{All-push}
 use Rattle.cml_value.specs.declared.number.Tid.{Tid}
-use Rattle.cml_value.specs.Value.{PlainValue, PlainBase, always, send, recv, iget, mtake, mget, mswap, mail_recv, port_recv}
+use Rattle.cml_value.specs.Value.{PlainBase, mtake, mswap, mail_recv, port_recv}
 use Rattle.cml_value.specs.Group.{PlainGroup}
 use Rattle.cml_scan.specs.World.{PlainThread, running, pending_on, ended, PlainWorld}
-use Rattle.cml_scan.specs.Scan.{scan, has_row, same_row}
+use Rattle.cml_scan.specs.Scan.{scan, has_row}
 use Rattle.cml_scan.specs.Enabled.{leaf_of, IsEnabled}
 use Rattle.cml_scan.specs.declared.meet.Meet.{Meet}
 use Rattle.cml_scan.specs.declared.meet.Meet.TheVariants.{Single, Pair}
 use Rattle.cml_check.specs.Syntax.{PlainFunction as PlainItem}
 use Rattle.cml_check.specs.InOrder.{arities}
-use Rattle.cml_step.specs.Agrees.{value_agrees, functions_agree}
-use Rattle.cml_step.specs.Asks.{a_commit}
-use Rattle.cml_step.specs.Answers.{answered}
 use Rattle.cml_step.specs.Calls.{text_of}
 use Rattle.cml_step.specs.Machines.{PlainMachine, machine_term, Fits}
-use Rattle.cml_step.specs.Terms.{Program, Term}
-use Rattle.cml_book.specs.Commit.{commit, hands, after, taken, released, base_awaited, resume}
+use Rattle.cml_step.specs.Terms.{Program}
+use Rattle.cml_book.specs.Commit.{commit, hands, after, taken, base_awaited, resume}
 use Rattle.cml_channel.specs.Handed.{handed}
 use Rattle.cml_book.specs.Swaps.{are_swaps}
 use Rattle.cml_book.specs.Resumes.{PlainResume}
@@ -32,14 +26,13 @@ use Rattle.cml_book.specs.declared.refusal.Refusal.{Refusal}
 use Rattle.cml_schedule.specs.declared.item.Item.{Item}
 use Rattle.cml_schedule.specs.declared.item.Item.TheVariants.{Turn, Meet as Commit, Exchange, Clock}
 use Rattle.cml_schedule.specs.Laws.{AreNumbers, IsPair, IsWritable}
-use Rattle.cml_hub.specs.Runs.{Run, resumed, all_resumed, met, ticked, advance, after_item, is_allowed}
-use Rattle.cml_hub.specs.Agreeing.{WorldAgrees, ResumeAgrees, CommittedAgrees}
-use Rattle.cml_hub.specs.Settling.{IsAnswered, Resumes, Resumed, AllResumed, AllResume}
-use Rattle.cml_hub.specs.Courses.{PlainCourse, run_of, MachineStands, MachinesStand, Leads, Adds, IsPending, PartiesWait, parties_run, Takes, Meets, Ticks}
-use Rattle.cml_hub.proofs.RowLemmas.{row_there}
+use Rattle.cml_hub.specs.Runs.{Run, resumed, all_resumed, met, advance, after_item, is_allowed}
+use Rattle.cml_hub.specs.Agreeing.{WorldAgrees, ResumeAgrees}
+use Rattle.cml_hub.specs.Settling.{Resumes, Resumed, AllResumed, AllResume}
+use Rattle.cml_hub.specs.Courses.{PlainCourse, run_of, MachinesStand, Leads, IsPending, PartiesWait, parties_run, Takes, Meets, Ticks}
 use Rattle.cml_hub.proofs.Agreement.{after_agrees, hands_agrees}
-use Rattle.cml_hub.proofs.Ticking.{tick_near}
-use Rattle.cml_hub.proofs.Standing.{map_set, found, found_is, stand_set, leads_on, get_other, get_same}
+use Rattle.cml_hub.proofs.Ticking.{may_come}
+use Rattle.cml_hub.proofs.Standing.{map_set, found, found_is, stand_set, leads_on, get_other}
 
 waits_at : (o : Option PlainThread) (n : ℕ) (b : PlainBase) → leaf_of o n ≡ Some b → (g : PlainGroup) × (o ≡ Some (pending_on g))
 waits_at None n b h = absurd (cc)
@@ -200,7 +193,7 @@ ticked_leads c tick h ok = record {
   machines = h.machines;
   agrees = record { threads = h.agrees.threads; soon = h.agrees.soon; ivars = h.agrees.ivars; mvars = h.agrees.mvars; mailboxes = h.agrees.mailboxes; ports = h.agrees.ports };
   spent = omega (arith, h.spent, length-append c.items (Clock tick ∷ []));
-  writable = All-push IsWritable c.items (Clock tick) h.writable (let near = tick_near c.world tick ok h.agrees.soon in omega arith);
+  writable = All-push IsWritable c.items (Clock tick) h.writable (let may = may_come c.world tick ok h.agrees.soon in omega (arith, may.1));
 }
 
 pub ticked_so : (c : PlainCourse) (tick : ℕ) → is_allowed c.world (Clock tick) ≡ true → Ticks c tick (course_ticked c tick)

@@ -1,6 +1,6 @@
-use Rattle.std.proofs.Common.{◌≡◌, true, ℕ, List}
+use Rattle.std.proofs.Common.{◌≡◌, true}
 use Rattle.std.specs.String.{string_bytes}
-use Rattle.cml_scan.specs.Scan.{scan, has_row}
+use Rattle.cml_scan.specs.Scan.{scan}
 use Rattle.cml_hub.specs.Runs.{is_allowed}
 use Rattle.cml_hub.specs.Courses.{PlainCourse}
 use Rattle.cml_hub.proofs.RowLemmas.{row_there}
