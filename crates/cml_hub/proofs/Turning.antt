@@ -149,3 +149,26 @@ turned_is c number start end a steps d w line ms h g =
       threads = threads_after number.0 a d c.world.threads w.threads q.threads;
       used = omega (arith, g.slice.some);
     }
+
+-- a slice of this very program
+pub slice_here : (p : List (PlainItem ℕ)) (ran : PlainRan) → ran.program ≡ p → IsSlice ran → IsSlice (record { program = p; start = ran.start; end = ran.end; ask = ran.ask; steps = ran.steps })
+slice_here p ran e h = record {
+  meant = rw (← e) h.meant;
+  some = h.some;
+  few = h.few;
+  thread = h.thread;
+  fits = rw (← e) h.fits;
+  awaits = rw (← e) h.awaits;
+  agrees = rw (← e) h.agrees;
+}
+
+-- the same of a course that is made of what the code's steps give
+module _ (c : PlainCourse) (number : Tid) (start end : PlainMachine) (a : PlainAsk) (steps : ℕ) (d : Done) (w : PlainWorld) (line : List ℕ) (ms : List PlainMachine) (items : List Item) (output : List ℕ) (used : ℕ)
+    (is_items : items ≡ c.items ++ Turn number ∷ []) (is_output : output ≡ c.output ++ line) (is_used : used ≡ c.used + steps) where
+  pub turned_leads_at : Leads c → IsNumber number.0 → TurnDone c number start end a steps d w line ms
+      → Leads (record { program = c.program; items = items; world = w; machines = ms; output = output; used = used })
+  turned_leads_at h n g = rw (is_items, is_output, is_used) (turned_leads c number start end a steps d w line ms h n g)
+
+  pub turned_is_at : Leads c → TurnDone c number start end a steps d w line ms
+      → Turns c number (gone d) (record { program = c.program; items = items; world = w; machines = ms; output = output; used = used })
+  turned_is_at h g = rw (is_items, is_output, is_used) (turned_is c number start end a steps d w line ms h g)
