@@ -456,7 +456,7 @@ fn slices_that_stay_out_are_run_again(rt: HostRuntime) {
 #[test]
 fn beginnings_of_a_schedule_are_replayed(rt: HostRuntime) {
     let plan = planned(&rt, ADDED);
-    for length in 0..plan.items.len() + 1 {
+    for length in 0..=plan.items.len() {
         let hub = replayed(&rt, ADDITION, plan.budget, None, &plan.items[..length]);
         let hub = hub.ok().expect(&rt, "a beginning");
         let (end, output) = if length == 8 {
@@ -474,7 +474,7 @@ fn beginnings_of_a_schedule_are_replayed(rt: HostRuntime) {
 
 #[test]
 fn the_first_item_that_may_not_come_is_told(rt: HostRuntime) {
-    for number in 1..9 {
+    for number in 1..=8 {
         let mut plan = planned(&rt, ADDED);
         assert!(rt; plan.items.len() == 8);
         plan.items[number - 1] = Item::Turn(Tid(9));
@@ -488,7 +488,8 @@ fn the_first_item_that_may_not_come_is_told(rt: HostRuntime) {
     }
     for (script, schedule, number, item, may_come) in &CHANGES {
         let mut plan = planned(&rt, schedule);
-        assert!(rt; 1 <= *number && *number <= plan.items.len());
+        assert!(rt; 1 <= *number);
+        assert!(rt; *number <= plan.items.len());
         plan.items[*number - 1] = *item;
         let hub = replayed(&rt, script, plan.budget, None, plan.items.as_slice());
         match &hub {

@@ -17,6 +17,8 @@ mod run;
 #[cfg(test)]
 mod script_cases;
 #[cfg(test)]
+mod script_ends;
+#[cfg(test)]
 mod script_examples;
 #[cfg(test)]
 mod script_faults;
