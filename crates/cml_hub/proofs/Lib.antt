@@ -1,4 +1,5 @@
 pub mod MarkLemmas
+pub mod Homing
 pub mod RowLemmas
 pub mod Agreement
 pub mod Soon

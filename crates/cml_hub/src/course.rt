@@ -8,6 +8,7 @@ ghost use Rattle.cml_scan.specs.Scan.{scan, has_row};
 ghost use Rattle.cml_book.specs.Walks.{is_running};
 ghost use Rattle.cml_schedule.specs.Laws.{IsWritable};
 ghost use Rattle.cml_step.specs.Calls.{text_of};
+ghost use Rattle.cml_schedule.specs.Laws.{AreNumbers};
 ghost use Rattle.cml_hub.specs.Runs as spec;
 ghost use Rattle.cml_hub.specs.Dones.{GoesOn};
 ghost use Rattle.cml_book.specs.Swaps.{swaps};
@@ -79,6 +80,25 @@ fn tell(output: &mut String, line: &str)
     match output.push_str(line) {
         Ok(()) => {}
         Err(_) => unreachable!(),
+    }
+}
+
+// The numbers of a row are in their ranges.
+fn read_numbers(row: Meet)
+    ensures { AreNumbers row }
+{
+    match row {
+        Meet::Single { tid, leaf } => {
+            let _numbers = (tid.0, leaf);
+        }
+        Meet::Pair {
+            head,
+            head_leaf,
+            other,
+            other_leaf,
+        } => {
+            let _numbers = (head.0, head_leaf, other.0, other_leaf);
+        }
     }
 }
 
@@ -272,6 +292,7 @@ impl Course {
         ensures err { OnErr result (self.new ≡ self.old) }
     {
         scan_lists_what_is_enabled();
+        read_numbers(row);
         self.items.reserve(1)?;
         match self.threads.commit(alloc, row) {
             Ok(committed) => {
