@@ -27,7 +27,7 @@ use cml_monitor::Report;
 use cml_scan::law::{no_head_where_no_row, scan_lists_what_is_enabled};
 use cml_scan::{Meet, Table};
 use cml_schedule::Item;
-use cml_step::{Machine, Ran, run_slice};
+use cml_step::{Machine, Ran, Slice, run_slice};
 use cml_value::{FnRef, Tid};
 use std::alloc::{AllocError, AllocFailed, Global};
 use std::marker::Model;
@@ -232,6 +232,7 @@ impl Course {
         ensures err { OnErr result (self.new ≡ self.old) }
     {
         let slice = run_slice(alloc, &self.program, &self.machines[thread.0 as usize])?;
+        let Slice { end, ask, steps } = slice;
         self.items.reserve(1)?;
         self.machines.reserve(1)?;
         let prepared = prepare(
@@ -240,14 +241,14 @@ impl Course {
             &mut self.threads,
             &mut self.output,
             thread,
-            &slice.end,
-            &slice.ask,
+            &end,
+            &ask,
         )?;
         let gone = prepared.done.gone();
         tell(&mut self.output, prepared.line.as_str());
-        settle(alloc, &mut self.machines, thread, slice.end, prepared.done);
+        settle(alloc, &mut self.machines, thread, end, prepared.done);
         self.items.push_reserved(Item::Turn(thread));
-        self.used += u128::from(slice.steps);
+        self.used += u128::from(steps);
         Ok(gone)
     }
 
@@ -258,6 +259,7 @@ impl Course {
         ensures err { IfErr result (λ back. (back ≡ ran) × (self.new ≡ self.old)) }
     {
         let thread = ran.start().thread();
+        let steps = ran.steps();
         let Ok(()) = self.items.reserve(1) else {
             return Err(ran);
         };
@@ -277,10 +279,10 @@ impl Course {
         };
         let gone = prepared.done.gone();
         tell(&mut self.output, prepared.line.as_str());
-        self.items.push_reserved(Item::Turn(thread));
-        self.used += u128::from(ran.steps());
         let (end, _ask) = ran.into_end();
         settle(alloc, &mut self.machines, thread, end, prepared.done);
+        self.items.push_reserved(Item::Turn(thread));
+        self.used += u128::from(steps);
         Ok((thread, gone))
     }
 
