@@ -1,5 +1,5 @@
 -- A slice that is taken back: the report that was due, and the turn.
-use Rattle.std.proofs.Common.{◌≡◌, ℕ, Bool, true, false, List, [], ◌∷◌, ◌++◌, length, map, refl, sym, ap, ◌∙◌, subst, Some, None}
+use Rattle.std.proofs.Common.{◌≡◌, ◌<◌, ℕ, Bool, true, false, List, [], ◌∷◌, ◌++◌, length, map, refl, sym, ap, ◌∙◌, subst, Some, None}
 use Rattle.std.specs.Prelude.{Option, slice_get, if◌then◌else◌}
 use Rattle.std.specs.Option.{option_map_or}
 use Rattle.std.proofs.lemmas.List.{append-nil}
@@ -19,7 +19,7 @@ use Rattle.cml_hub.specs.Reports.{IsDueReport}
 use Rattle.cml_hub.specs.Courses.{PlainCourse, run_of, Adds, Turns, IsOurs, Keeps}
 use Rattle.cml_hub.specs.Kept.{Kept, Stands, NoneDue, Given}
 use Rattle.cml_hub.specs.Moves.{marks_after, with_report, IsNext}
-use Rattle.cml_hub.proofs.Marking.{takes_back}
+use Rattle.cml_hub.proofs.Marking.{takes_back, there_is}
 use Rattle.cml_hub.proofs.Reporting.{stands_reported, reported_one}
 use Rattle.cml_hub.proofs.Keeping.{stands_turned}
 
@@ -59,6 +59,10 @@ pub given_stands : (h : Kept) (ms : List Mark) (due : Option PlainReport) (t : T
 given_stands h ms due t g new s leads d turns =
     let run = turn_runs (text_of h.course.program) (run_of h.course) (run_of new) t turns.adds.run in
     stands_turned (with_due h due) ms t g new (due_stands h ms due s leads d) (due_none h ms due s d) run turns
+
+-- it has a mark
+pub there_given : (h : Kept) (ms : List Mark) (t : Tid) (g : Gone) (new : PlainCourse) → Stands h ms → Turns h.course t g new → t.0 < length ms
+there_given h ms t g new s turns = there_is h.course.world.threads ms t.0 s.placed (turn_runs (text_of h.course.program) (run_of h.course) (run_of new) t turns.adds.run)
 
 made_by : Option PlainReport → List PlainReport
 made_by None = []

@@ -197,3 +197,6 @@ alone_less a b c o g r =
 
 pub none_out_reported : (a b : Kept) → NoneOut a → Reported a b → NoneOut b
 none_out_reported a b n r = λ t. rw r.out (n t)
+
+pub still_continues : (h a b : Kept) → Continues h a → b ≡ a → Continues h b
+still_continues h a b e s = subst (λ (x : Kept). Continues h x) (sym s) e

@@ -1,6 +1,6 @@
 -- The threads that run, and their marks.
 use Rattle.std.proofs.Common.{◌≡◌, ◌≢◌, ℕ, zero, suc, Bool, true, false, ◌||◌, List, [], ◌∷◌, map, refl, Some, None, sym, ap, ◌∙◌, subst, inl, inr, ⊎_elim}
-use Rattle.std.specs.Prelude.{slice_get}
+use Rattle.std.specs.Prelude.{Option, Result, Ok, Err, OnOk, OnErr, slice_get}
 use Rattle.std.specs.List.{list_any}
 use Rattle.std.proofs.lemmas.Bool.{cases_eq}
 use Rattle.cml_value.specs.declared.number.Tid.{Tid}
@@ -11,8 +11,10 @@ use Rattle.cml_schedule.specs.declared.item.Item.TheVariants as item
 use Rattle.cml_hub.specs.declared.marks.Mark.{Mark}
 use Rattle.cml_hub.specs.declared.marks.Mark.TheVariants.{Ready, Out, Away}
 use Rattle.cml_hub.specs.Marks.{is_here, is_out, home}
+use Rattle.cml_monitor.specs.Reports.{PlainReport}
+use Rattle.cml_hub.specs.Courses.{PlainCourse}
 use Rattle.cml_hub.specs.Kept.{Kept, Stands, Placed, is_out_of, AllOut, NoneOut}
-use Rattle.cml_hub.specs.Moves.{Moves, TakesBack, MovedOn, GoesAlone}
+use Rattle.cml_hub.specs.Moves.{Moves, TakesBack, MovedOn, CalledBack, GoesAlone}
 
 -- who is ready runs
 pub ready_runs : (ts : List PlainThread) (ms : List Mark) (t : ℕ) → Placed ts ms → slice_get ms t ≡ Some Ready → slice_get ts t ≡ Some running
@@ -60,6 +62,24 @@ none_out_home (Ready ∷ ms) zero = refl
 none_out_home (Out ∷ ms) zero = refl
 none_out_home (Away ∷ ms) zero = refl
 none_out_home (m ∷ ms) (suc t) = none_out_home ms t
+
+-- what holds of the hub holds of it after, and who was out is ready, or nothing has changed
+pub stands_called : {T E : Type 0} (h : Kept) (ms new : List Mark) (r : Result T E) → Stands h ms → OnOk r (new ≡ map home ms) → OnErr r (new ≡ ms)
+    → Stands (record { course = h.course; budget = h.budget; watch = h.watch; out = map is_out new; reports = h.reports }) new
+stands_called h ms new (Ok x) s o e = rw o (stands_home h ms (map is_out (map home ms)) s)
+stands_called h ms new (Err x) s o e = rw e (record { placed = s.placed; budgeted = s.budgeted; watched = s.watched; reported = s.reported })
+
+pub called_so : {T E : Type 0} (course : PlainCourse) (budget : ℕ) (watch : Option ℕ) (reports : List PlainReport) (ms new : List Mark) (r : Result T E) → OnOk r (new ≡ map home ms)
+    → OnOk r (CalledBack (record { course = course; budget = budget; watch = watch; out = map is_out ms; reports = reports })
+      (record { course = course; budget = budget; watch = watch; out = map is_out new; reports = reports }))
+called_so course budget watch reports ms new (Ok x) o = record {
+  course = refl;
+  budget = refl;
+  watch = refl;
+  reports = refl;
+  none_out = λ t. rw o (none_out_home ms t);
+}
+called_so course budget watch reports ms new (Err x) o = tt
 
 -- some thread runs
 runs_somewhere : (ts : List PlainThread) → list_any runs ts ≡ true → (t : ℕ) × (slice_get ts t ≡ Some running)

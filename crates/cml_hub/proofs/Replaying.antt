@@ -49,12 +49,13 @@ length-take-within [] i lt = absurd (omega arith)
 length-take-within (x ∷ xs) zero lt = refl
 length-take-within (x ∷ xs) (suc i) lt = ap suc (length-take-within xs i (omega arith))
 
-pub bad_at : (p : List (PlainItem ℕ)) (items : List Item) (i : ℕ) (bad : Item) (h : Kept) → i < length items → bad ≡ slice_index_or items i bad
+pub bad_at : (p : List (PlainItem ℕ)) (items : List Item) (i : ℕ) (d : Item) (h : Kept) → i < length items
     → h.course.program ≡ p → h.course.items ≡ take i items → stands (text_of h.course.program) h.course.items ≡ Some (run_of h.course)
-    → is_allowed h.course.world bad ≡ false → IsBad p items (i + 1) × (stands (text_of p) items ≡ None)
-bad_at p items i bad h lt is program items_are leads refused =
+    → is_allowed h.course.world (slice_index_or items i d) ≡ false → IsBad p items (i + 1) × (stands (text_of p) items ≡ None)
+bad_at p items i d h lt program items_are leads refused =
+    let bad : Item = slice_index_or items i d in
     let r = run_of h.course in
-    let split : items ≡ take i items ++ bad ∷ drop (suc i) items = subst (λ x. items ≡ take i items ++ x ∷ drop (suc i) items) (sym is) (split_at items i bad lt) in
+    let split : items ≡ take i items ++ bad ∷ drop (suc i) items = split_at items i d lt in
     let n : length (take i items) ≡ i = length-take-within items i lt in
     let l : stands (text_of p) (take i items) ≡ Some r = subst (λ x. stands (text_of x) (take i items) ≡ Some r) program (subst (λ x. stands (text_of h.course.program) x ≡ Some r) items_are leads) in
     let f : advance (text_of p) r bad ≡ None = not_advanced (text_of p) r bad refused in
@@ -70,9 +71,6 @@ bad_at p items i bad h lt is program items_are leads refused =
     }, nowhere (text_of p) items (take i items) (drop (suc i) items) bad r split l f)
 
 -- one item more
-pub one_more : (items : List Item) (i : ℕ) (item : Item) (old new : List Item) → i < length items → item ≡ slice_index_or items i item → old ≡ take i items
-    → new ≡ old ++ item ∷ [] → new ≡ take (i + 1) items
-one_more items i item old new lt is o n =
-    let t : take (i + 1) items ≡ take i items ++ slice_index_or items i item ∷ [] = take_more items i item lt in
-    let m : slice_index_or items i item ≡ item = sym is in
-    n ∙ (ap (λ l. l ++ item ∷ []) o ∙ sym (t ∙ ap (λ x. take i items ++ x ∷ []) m))
+pub one_more : (items : List Item) (i : ℕ) (d : Item) (old new : List Item) → i < length items → old ≡ take i items
+    → new ≡ old ++ slice_index_or items i d ∷ [] → new ≡ take (i + 1) items
+one_more items i d old new lt o n = n ∙ (ap (λ l. l ++ slice_index_or items i d ∷ []) o ∙ sym (take_more items i d lt))
