@@ -64,7 +64,7 @@ given_stands h ms due t g new s leads d turns =
 pub there_given : (h : Kept) (ms : List Mark) (t : Tid) (g : Gone) (new : PlainCourse) → Stands h ms → Turns h.course t g new → t.0 < length ms
 there_given h ms t g new s turns = there_is h.course.world.threads ms t.0 s.placed (turn_runs (text_of h.course.program) (run_of h.course) (run_of new) t turns.adds.run)
 
-made_by : Option PlainReport → List PlainReport
+abbrev made_by : Option PlainReport → List PlainReport
 made_by None = []
 made_by (Some r) = r ∷ []
 
@@ -89,3 +89,23 @@ given_so course budget watch reports ms due t u g new turns same =
       back = rw (← same) b.back;
       others = rw (← same) b.others;
     }
+
+-- a hub by its parts
+abbrev pub kept_of : PlainCourse → ℕ → Option ℕ → List Mark → List PlainReport → Kept
+kept_of course budget watch ms reports = record { course = course; budget = budget; watch = watch; out = map is_out ms; reports = reports }
+
+pub same_kept : (c d : PlainCourse) (budget : ℕ) (watch : Option ℕ) (ms ns : List Mark) (rs qs : List PlainReport) → c ≡ d → ms ≡ ns → rs ≡ qs
+    → kept_of c budget watch ms rs ≡ kept_of d budget watch ns qs
+same_kept c d budget watch ms ns rs qs e f g =
+    ap (λ x. kept_of x budget watch ms rs) e ∙ (ap (λ x. kept_of d budget watch x rs) f ∙ ap (λ x. kept_of d budget watch ns x) g)
+
+pub kept_stands : (course new : PlainCourse) (budget : ℕ) (watch : Option ℕ) (ms ns : List Mark) (rs qs : List PlainReport) (due : Option PlainReport) (t : Tid) (g : Gone)
+    → Stands (kept_of course budget watch ms rs) ms → stands (text_of course.program) course.items ≡ Some (run_of course)
+    → IsDueReport watch (length course.items) (length rs) course.world due → Turns course t g new → ns ≡ marks_after t.0 g ms → qs ≡ with_report rs due
+    → Stands (kept_of new budget watch ns qs) ns
+kept_stands course new budget watch ms ns rs qs due t g s leads d turns e f =
+    rw (e, f) (given_stands (kept_of course budget watch ms rs) ms due t g new s leads d turns)
+
+pub kept_given : (course new : PlainCourse) (budget : ℕ) (watch : Option ℕ) (ms ns : List Mark) (rs qs : List PlainReport) (due : Option PlainReport) (t u : Tid) (g : Gone)
+    → Turns course t g new → t.0 ≡ u.0 → ns ≡ marks_after t.0 g ms → qs ≡ with_report rs due → Given (kept_of course budget watch ms rs) u (kept_of new budget watch ns qs)
+kept_given course new budget watch ms ns rs qs due t u g turns same e f = rw (e, f) (given_so course budget watch rs ms due t u g new turns same)
