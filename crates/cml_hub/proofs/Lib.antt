@@ -12,3 +12,11 @@ pub mod Settled
 pub mod Opening
 pub mod Ours
 pub mod Ticking
+pub mod Going
+pub mod Placing
+pub mod Replaying
+pub mod Marking
+pub mod Reporting
+pub mod Keeping
+pub mod Giving
+pub mod Written

@@ -1,10 +1,12 @@
 //! The course of a program: its schedule so far, and where that has led.
 
 ghost use Rattle.std.specs.Prelude.{◌≡◌, ◌↔◌, ◌<◌, ◌≤◌, ◌+◌, ◌++◌, true, [], Some, IfOk, IfErr, OnOk, OnErr, IsTrue, MatchOption, slice_get, length, map, not};
+ghost use Rattle.std.specs.List.{All};
 ghost use Rattle.std.specs.String.{string_bytes, string_len, string_capacity};
 ghost use Rattle.cml_scan.specs.World.{running, pending};
 ghost use Rattle.cml_scan.specs.Scan.{scan, has_row};
 ghost use Rattle.cml_book.specs.Walks.{is_running};
+ghost use Rattle.cml_schedule.specs.Laws.{IsWritable};
 ghost use Rattle.cml_step.specs.Calls.{text_of};
 ghost use Rattle.cml_schedule.specs.Laws.{AreNumbers};
 ghost use Rattle.cml_hub.specs.Runs as spec;
@@ -112,6 +114,7 @@ impl Course {
     pub(crate) fn items(&self) -> &[Item]
         ensures items { result.now ≡ self.now.items }
         ensures leads { spec.stands (text_of self.now.program) self.now.items ≡ Some (run_of self.now) }
+        ensures writable { All IsWritable self.now.items }
     {
         self.items.as_slice()
     }
@@ -362,9 +365,10 @@ impl Course {
         }
     }
 
-    // The program, and nothing else of the course.
+    // The program, and nothing else of the course. The schedule led to where the course stood.
     pub(crate) fn into_program(self) -> Prog
-        ensures { result ≡ self.program }
+        ensures program { result ≡ self.program }
+        ensures leads { spec.stands (text_of self.program) self.items ≡ Some (run_of self) }
     {
         self.program
     }
