@@ -11,3 +11,5 @@ pub mod Settled
 pub mod Opening
 pub mod Ours
 pub mod Ticking
+pub mod Placing
+pub mod Reporting
