@@ -11,5 +11,6 @@ pub mod Settled
 pub mod Opening
 pub mod Ours
 pub mod Ticking
-pub mod Placing
+pub mod Marking
 pub mod Reporting
+pub mod Keeping

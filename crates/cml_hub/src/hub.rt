@@ -67,6 +67,7 @@ impl Model for Hub {
 }
 
 // The thread's mark after its turn. A thread that begins is queued before it.
+#[tactic(none)]
 fn place(marks: &mut Marks, thread: Tid, gone: Gone)
     requires there { thread.0 < length marks.old.marks }
     requires next { IsNext gone marks.old.marks }
@@ -86,6 +87,7 @@ fn place(marks: &mut Marks, thread: Tid, gone: Gone)
 }
 
 // The parties of a row are ready, the head first.
+#[tactic(none)]
 fn place_all(marks: &mut Marks, row: Meet)
     requires away { PartiesAway marks.old.marks row }
     requires room { 2 ≤ marks.old.room }
@@ -101,6 +103,7 @@ fn place_all(marks: &mut Marks, row: Meet)
 }
 
 // The report that is due, with room for it among the others.
+#[tactic(none)]
 fn due(
     alloc: Global,
     course: &Course,
@@ -129,6 +132,7 @@ impl Hub {
     ///
     /// # Errors
     /// Out of memory. It hands the program back.
+    #[tactic(none)]
     pub fn begin(
         alloc: Global,
         program: Prog,
@@ -233,6 +237,7 @@ impl Hub {
     }
 
     // Whether nothing is left to do.
+    #[tactic(none)]
     fn is_terminal(&self) -> bool
         ensures { result ≡ spec.terminal self.now.course.world }
     {
@@ -240,6 +245,7 @@ impl Hub {
     }
 
     // Whether nothing is left to do, or the budget is used.
+    #[tactic(none)]
     fn is_over(&self) -> bool
         ensures { result ≡ spec.over self.now.budget (run_of self.now.course) }
     {
@@ -247,6 +253,7 @@ impl Hub {
     }
 
     // The report that is due is made.
+    #[tactic(none)]
     fn report(&mut self, alloc: Global) -> Result<(), AllocError>
         ensures ok { OnOk result (Reported self.old self.new) }
         ensures err { OnErr result (self.new ≡ self.old) }
@@ -258,6 +265,7 @@ impl Hub {
     }
 
     // The machine of the thread that is ready and comes next.
+    #[tactic(none)]
     fn hand_out(&mut self, alloc: Global) -> Result<Option<Machine>, AllocError>
         ensures ok { IfOk result (λ job. HandedOut self.old job self.new) }
         ensures err { OnErr result (self.new ≡ self.old) }
@@ -271,6 +279,7 @@ impl Hub {
     }
 
     // A turn of the thread.
+    #[tactic(none)]
     fn turn(&mut self, alloc: Global, thread: Tid) -> Result<(), AllocError>
         requires running { slice_get self.old.course.world.threads thread.0 ≡ Some running }
         requires due { NoneDue self.old }
@@ -285,6 +294,7 @@ impl Hub {
     }
 
     // The row is taken, by this item.
+    #[tactic(none)]
     fn meet(&mut self, alloc: Global, item: Item, row: Meet) -> Result<(), AllocError>
         requires takes { Takes item row }
         requires allowed { spec.is_allowed self.old.course.world item ≡ true }
@@ -300,6 +310,7 @@ impl Hub {
     }
 
     // The time moves to the next alarm.
+    #[tactic(none)]
     fn tick(&mut self, alloc: Global, tick: u64) -> Result<(), AllocError>
         requires allowed { spec.is_allowed self.old.course.world (Item.Clock tick) ≡ true }
         requires due { NoneDue self.old }
@@ -312,6 +323,7 @@ impl Hub {
 
     // A row is taken that the chooser picks; or, where there is none and no thread runs, the time moves to the next alarm. It answers
     // whether one of them was done.
+    #[tactic(none)]
     fn move_on<C: Chooser>(&mut self, alloc: Global, chooser: &mut C) -> Result<bool, AllocError>
         requires all_out { AllOut self.old }
         requires due { NoneDue self.old }
@@ -424,6 +436,7 @@ impl Hub {
     }
 
     // Whether the item may come now.
+    #[tactic(none)]
     fn is_allowed(&self, item: &Item) -> bool
         ensures { result ≡ spec.is_allowed self.now.course.world item.now }
     {
@@ -436,6 +449,7 @@ impl Hub {
     }
 
     // The item comes, which may.
+    #[tactic(none)]
     fn follow(&mut self, alloc: Global, item: Item) -> Result<(), AllocError>
         requires allowed { spec.is_allowed self.old.course.world item ≡ true }
         requires due { NoneDue self.old }
@@ -483,6 +497,7 @@ impl Hub {
     }
 
     // The item comes, and the report that is due after it is made.
+    #[tactic(none)]
     fn step(&mut self, alloc: Global, item: Item) -> Result<(), AllocError>
         requires allowed { spec.is_allowed self.old.course.world item ≡ true }
         requires due { NoneDue self.old }
