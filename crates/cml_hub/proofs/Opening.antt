@@ -12,6 +12,8 @@ use Rattle.cml_check.specs.InOrder.{arities, names_of}
 use Rattle.cml_check.specs.Syntax.{PlainFunction as PlainItem, written}
 use Rattle.cml_step.specs.Calls.{text_of}
 use Rattle.cml_step.specs.Machines.{PlainMachine, machine_term}
+use Rattle.cml_schedule.specs.Laws.{IsWritable}
+use Rattle.std.proofs.lemmas.List.Elements.{All-nil}
 use Rattle.cml_hub.specs.Runs.{Run, main_of, opening}
 use Rattle.cml_hub.specs.Agreeing.{WorldAgrees}
 use Rattle.cml_hub.specs.Courses.{PlainCourse, run_of, MachinesStand, IsOpening, Leads, Begins}
@@ -33,6 +35,7 @@ opening_leads p ms w h = record {
   machines = rw (h.alone, h.world) (h.zeroth, h.stands, tt);
   agrees = rw (h.world) (record { threads = (refl, tt); soon = (refl, tt); ivars = tt; mvars = tt; mailboxes = tt; ports = tt });
   spent = omega arith;
+  writable = All-nil IsWritable;
 }
 
 pub opening_begins : (p : List (PlainItem ℕ)) (ms : List PlainMachine) (w : PlainWorld) → IsOpening p ms w → Begins p (course_begun p ms w)

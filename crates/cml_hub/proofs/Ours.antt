@@ -58,6 +58,6 @@ other_machine_ours c ran t m s h e run is both n = (
 pub program_ours : (c : PlainCourse) (ran : PlainRan) (t : ℕ) (m : PlainMachine) (s r : Bool) → Leads c → t ≡ ran.start.thread → slice_get c.world.threads t ≡ Some running → m ≡ slice_index_or c.machines t m
     → (IsTrue s ↔ (m ≡ ran.start)) → s ≡ true → (IsTrue r ↔ (c.program ≡ ran.program)) → IsTrue r ↔ IsOurs c ran
 program_ours c ran t m s r h e run is both y prog = (
-  λ yes. (sym (prog.0 yes), (t, record { running = run; machine = machine_at c t m h run is ∙ ap (λ x. Some x) (both.0 (sym y)) })),
+  λ yes. (sym (prog.0 yes), (t, record { running = run; machine = machine_at c t m h run is ∙ ap (λ x. Some x) (both.0 y) })),
   λ o. prog.1 (sym o.0),
 )

@@ -1,14 +1,13 @@
 -- The time can move to the next alarm.
-use Rattle.std.proofs.Common.{◌≡◌, ℕ, ◌<◌, ◌≤◌, Bool, true, false, not, ◌&&◌, nat_eq, nat_lt, refl, ap, sym, ◌∙◌, arith, Option, Some, None, Ok, Err}
+use Rattle.std.proofs.Common.{◌≡◌, ℕ, ◌<◌, ◌≤◌, Bool, true, false, not, ◌&&◌, nat_lt, refl, ap, sym, arith, Option, Some, None, Ok, Err}
 use Rattle.std.proofs.lemmas.Bool.{and_parts}
 use Rattle.std.proofs.lemmas.Bool.Decides.{nat_tests}
-use Rattle.std.specs.List.{filter_map}
 use Rattle.cml_scan.specs.World.{PlainWorld, pending}
 use Rattle.cml_scan.specs.Scan.{scan}
 use Rattle.cml_scan.specs.Order.{Every}
 use Rattle.cml_book.specs.Clock.{clock, bases_awaited}
 use Rattle.cml_book.specs.Entering.{max_tick}
-use Rattle.cml_book.specs.Outcomes.{Outcome, refuse_if}
+use Rattle.cml_book.specs.Outcomes.{refuse_if}
 use Rattle.cml_book.specs.declared.refusal.Refusal.{Refusal}
 use Rattle.cml_book.specs.declared.refusal.Refusal.TheVariants as refusal
 use Rattle.cml_schedule.specs.declared.item.Item.TheVariants.{Clock}
@@ -31,13 +30,16 @@ moved w t true b p q lt le = absurd (let f : t < w.tick = grind (arith, nat_test
 moved w t false true p q lt le = absurd (let f : max_tick < t = grind (arith, nat_tests) in omega arith)
 moved w t false false p q lt le = refl
 
--- the clock moves to it
-pub clock_moves : (w : PlainWorld) (t : ℕ) → is_allowed w (Clock t) ≡ true → Every waits_soon w.threads → clock w t ≡ Ok (record w { tick = t }, tt)
-clock_moves w t ok soon =
+-- the tick to which it may move has not come, and is no greater than the greatest
+pub may_come : (w : PlainWorld) (t : ℕ) → is_allowed w (Clock t) ≡ true → Every waits_soon w.threads → (w.tick < t) × (t ≤ max_tick)
+may_come w t ok soon =
     let parts = and_parts (is_number (next_alarm w) t && not (any_runs w)) (is_empty (scan w)) ok in
     let more = and_parts (is_number (next_alarm w) t) (not (any_runs w)) parts.0 in
-    let at = alarm_is w (next_alarm w) t (least_is w.tick (bases_awaited (pending w))) (number_is (next_alarm w) t more.0) soon in
-    moved w t (nat_lt t w.tick) (nat_lt max_tick t) refl refl at.0 at.1
+    alarm_is w (next_alarm w) t (least_is w.tick (bases_awaited (pending w))) (number_is (next_alarm w) t more.0) soon
+
+-- the clock moves to it
+pub clock_moves : (w : PlainWorld) (t : ℕ) → is_allowed w (Clock t) ≡ true → Every waits_soon w.threads → clock w t ≡ Ok (record w { tick = t }, tt)
+clock_moves w t ok soon = let at = may_come w t ok soon in moved w t (nat_lt t w.tick) (nat_lt max_tick t) refl refl at.0 at.1
 
 pub clocked_is : (w new : PlainWorld) (t : ℕ) (u : Unit {0}) → clock w t ≡ Ok (record w { tick = t }, tt) → clock w t ≡ Ok (new, u) → new ≡ record w { tick = t }
 clocked_is w new t u is e =

@@ -14,7 +14,7 @@ use Rattle.cml_hub.specs.declared.marks.Mark.TheVariants as mark
 use Rattle.cml_hub.specs.Runs.{any_runs}
 use Rattle.cml_hub.specs.Dones.{GoesOn}
 use Rattle.cml_hub.specs.Courses.{Adds, Keeps}
-use Rattle.cml_hub.specs.Kept.{Kept, AllOut, NoneDue, IsNoTurn, is_out_of}
+use Rattle.cml_hub.specs.Kept.{Kept, AllOut, NoneOut, NoneDue, IsNoTurn, is_out_of}
 
 -- the thread that begins, if one does, has the next number
 abbrev pub IsNext : Gone → List Mark → Type 0
@@ -71,3 +71,22 @@ HandedOut old (Some m) new =
 abbrev pub MovedOn : Kept → Bool → Kept → Type 0
 MovedOn old true new = (item : Item) × IsNoTurn item × Moves old item new × (new.out ≡ old.out)
 MovedOn old false new = (scan old.course.world ≡ []) × (any_runs old.course.world ≡ true) × (new ≡ old)
+
+-- no slice is out any more, and all else is as before
+pub record CalledBack (old new : Kept) : Type 0 where
+  pub course : new.course ≡ old.course
+  pub budget : new.budget ≡ old.budget
+  pub watch : new.watch ≡ old.watch
+  pub reports : new.reports ≡ old.reports
+  pub none_out : NoneOut new
+
+-- one item more, and no slice is out
+pub record GoesAlone (old new : Kept) : Type 0 where
+  pub item : Item
+  pub moves : Moves old item new
+  pub none_out : NoneOut new
+
+-- the reports with this one behind them, if there is one
+abbrev pub with_report : List PlainReport → Option PlainReport → List PlainReport
+with_report reports None = reports
+with_report reports (Some r) = reports ++ r ∷ []

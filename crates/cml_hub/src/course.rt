@@ -1,11 +1,14 @@
 //! The course of a program: its schedule so far, and where that has led.
 
 ghost use Rattle.std.specs.Prelude.{◌≡◌, ◌↔◌, ◌<◌, ◌≤◌, ◌+◌, ◌++◌, true, [], Some, IfOk, IfErr, OnOk, OnErr, IsTrue, MatchOption, slice_get, length, map, not};
+ghost use Rattle.std.specs.List.{All};
 ghost use Rattle.std.specs.String.{string_bytes, string_len, string_capacity};
 ghost use Rattle.cml_scan.specs.World.{running, pending};
 ghost use Rattle.cml_scan.specs.Scan.{scan, has_row};
 ghost use Rattle.cml_book.specs.Walks.{is_running};
+ghost use Rattle.cml_schedule.specs.Laws.{IsWritable};
 ghost use Rattle.cml_step.specs.Calls.{text_of};
+ghost use Rattle.cml_schedule.specs.Laws.{AreNumbers};
 ghost use Rattle.cml_hub.specs.Runs as spec;
 ghost use Rattle.cml_hub.specs.Dones.{GoesOn};
 ghost use Rattle.cml_book.specs.Swaps.{swaps};
@@ -24,7 +27,7 @@ use cml_monitor::Report;
 use cml_scan::law::{no_head_where_no_row, scan_lists_what_is_enabled};
 use cml_scan::{Meet, Table};
 use cml_schedule::Item;
-use cml_step::{Machine, Ran, run_slice};
+use cml_step::{Machine, Ran, Slice, run_slice};
 use cml_value::{FnRef, Tid};
 use std::alloc::{AllocError, AllocFailed, Global};
 use std::marker::Model;
@@ -80,6 +83,25 @@ fn tell(output: &mut String, line: &str)
     }
 }
 
+// The numbers of a row are in their ranges.
+fn read_numbers(row: Meet)
+    ensures { AreNumbers row }
+{
+    match row {
+        Meet::Single { tid, leaf } => {
+            let _numbers = (tid.0, leaf);
+        }
+        Meet::Pair {
+            head,
+            head_leaf,
+            other,
+            other_leaf,
+        } => {
+            let _numbers = (head.0, head_leaf, other.0, other_leaf);
+        }
+    }
+}
+
 impl Course {
     // The program.
     pub(crate) fn program(&self) -> &Prog
@@ -92,6 +114,7 @@ impl Course {
     pub(crate) fn items(&self) -> &[Item]
         ensures items { result.now ≡ self.now.items }
         ensures leads { spec.stands (text_of self.now.program) self.now.items ≡ Some (run_of self.now) }
+        ensures writable { All IsWritable self.now.items }
     {
         self.items.as_slice()
     }
@@ -209,6 +232,7 @@ impl Course {
         ensures err { OnErr result (self.new ≡ self.old) }
     {
         let slice = run_slice(alloc, &self.program, &self.machines[thread.0 as usize])?;
+        let Slice { end, ask, steps } = slice;
         self.items.reserve(1)?;
         self.machines.reserve(1)?;
         let prepared = prepare(
@@ -217,14 +241,14 @@ impl Course {
             &mut self.threads,
             &mut self.output,
             thread,
-            &slice.end,
-            &slice.ask,
+            &end,
+            &ask,
         )?;
         let gone = prepared.done.gone();
         tell(&mut self.output, prepared.line.as_str());
-        settle(alloc, &mut self.machines, thread, slice.end, prepared.done);
+        settle(alloc, &mut self.machines, thread, end, prepared.done);
         self.items.push_reserved(Item::Turn(thread));
-        self.used += u128::from(slice.steps);
+        self.used += u128::from(steps);
         Ok(gone)
     }
 
@@ -235,6 +259,7 @@ impl Course {
         ensures err { IfErr result (λ back. (back ≡ ran) × (self.new ≡ self.old)) }
     {
         let thread = ran.start().thread();
+        let steps = ran.steps();
         let Ok(()) = self.items.reserve(1) else {
             return Err(ran);
         };
@@ -254,10 +279,10 @@ impl Course {
         };
         let gone = prepared.done.gone();
         tell(&mut self.output, prepared.line.as_str());
-        self.items.push_reserved(Item::Turn(thread));
-        self.used += u128::from(ran.steps());
         let (end, _ask) = ran.into_end();
         settle(alloc, &mut self.machines, thread, end, prepared.done);
+        self.items.push_reserved(Item::Turn(thread));
+        self.used += u128::from(steps);
         Ok((thread, gone))
     }
 
@@ -269,6 +294,7 @@ impl Course {
         ensures err { OnErr result (self.new ≡ self.old) }
     {
         scan_lists_what_is_enabled();
+        read_numbers(row);
         self.items.reserve(1)?;
         match self.threads.commit(alloc, row) {
             Ok(committed) => {
@@ -339,9 +365,10 @@ impl Course {
         }
     }
 
-    // The program, and nothing else of the course.
+    // The program, and nothing else of the course. The schedule led to where the course stood.
     pub(crate) fn into_program(self) -> Prog
-        ensures { result ≡ self.program }
+        ensures program { result ≡ self.program }
+        ensures leads { spec.stands (text_of self.program) self.items ≡ Some (run_of self) }
     {
         self.program
     }

@@ -12,7 +12,7 @@ ghost use Rattle.cml_hub.specs.Runs as spec;
 ghost use Rattle.cml_hub.specs.Courses.{run_of, Takes, Adds};
 ghost use Rattle.cml_hub.specs.Reports.{AreReports, IsDueReport};
 ghost use Rattle.cml_hub.specs.Kept.{IsBudget, IsWatch, IsBegun, Continues, Extends, HandsOut, is_ended, NoneDue, NoneOut, AllOut, Gives, IsOver, Replays, FitsSize};
-ghost use Rattle.cml_hub.specs.Moves.{IsNext, marks_after, PartiesAway, marks_met, Moves, TakesBack, Reported, HandedOut, MovedOn};
+ghost use Rattle.cml_hub.specs.Moves.{IsNext, marks_after, PartiesAway, marks_met, Moves, TakesBack, Reported, HandedOut, MovedOn, CalledBack, GoesAlone, with_report};
 
 use crate::choose::Chooser;
 use crate::course::Course;
@@ -22,6 +22,7 @@ use crate::marks::Marks;
 use cml_check::Prog;
 use cml_monitor::Report;
 use cml_scan::Meet;
+use cml_schedule::law::written_is_read;
 use cml_schedule::{Item, Plan, schedule_text};
 use cml_step::{Machine, Ran};
 use cml_value::Tid;
@@ -111,18 +112,29 @@ fn due(
     reports: &mut Vec<Report>,
 ) -> Result<Option<Report>, AllocError>
     ensures due { IfOk result (λ due. IsDueReport watch (length course.now.items) (length reports.old.items) course.now.world due) }
+    ensures leads { spec.stands (text_of course.now.program) course.now.items ≡ Some (run_of course.now) }
     ensures items { reports.new.items ≡ reports.old.items }
     ensures room { IfOk result (λ due. IfSome due (λ _. vec_len reports.new < vec_capacity reports.new)) }
 {
+    let items = course.items().len();
     let Some(every) = watch else {
         return Ok(None);
     };
-    let items = course.items().len();
     if u128::from(every) * (reports.len() as u128 + 1) != items as u128 {
         return Ok(None);
     }
     reports.reserve(1)?;
     Ok(Some(course.report(alloc, items as u64)?))
+}
+
+// Puts the report, if there is one, behind the others.
+fn add_report(reports: &mut Vec<Report>, report: Option<Report>)
+    requires { IfSome report (λ _. vec_len reports.old < vec_capacity reports.old) }
+    ensures { reports.new.items ≡ with_report reports.old.items report }
+{
+    if let Some(report) = report {
+        reports.push_reserved(report);
+    }
 }
 
 impl Hub {
@@ -366,7 +378,7 @@ impl Hub {
         ensures err { OnErr result (self.new.out ≡ self.old.out) }
     {
         self.report(alloc)?;
-        while !self.is_over() {
+        'moves: while !self.is_over() {
             if let Some(machine) = self.hand_out(alloc)? {
                 return Ok(Next::Job(machine));
             }
@@ -398,14 +410,35 @@ impl Hub {
         };
         match self.course.give(alloc, ran) {
             Ok((thread, gone)) => {
-                if let Some(report) = report {
-                    self.reports.push_reserved(report);
-                }
+                add_report(&mut self.reports, report);
                 place(&mut self.marks, thread, gone);
                 Ok(())
             }
             Err(ran) => Err(GiveFault::Memory(ran)),
         }
+    }
+
+    // The threads whose slices are out are ready again.
+    fn call_back(&mut self) -> Result<(), AllocError>
+        ensures ok { OnOk result (CalledBack self.old self.new) }
+        ensures err { OnErr result (self.new ≡ self.old) }
+    {
+        self.marks.call_back()
+    }
+
+    // One item more, where no slice is out: a turn of the thread that is ready and comes next; or, where none is, a row or a tick.
+    fn go_alone<C: Chooser>(&mut self, alloc: Global, chooser: &mut C) -> Result<(), AllocError>
+        requires none_out { NoneOut self.old }
+        requires due { NoneDue self.old }
+        requires going { spec.terminal self.old.course.world ≡ false }
+        ensures ok { OnOk result (GoesAlone self.old self.new) }
+        ensures err { OnErr result (self.new ≡ self.old) }
+    {
+        if let Some(thread) = self.marks.front() {
+            return self.turn(alloc, thread);
+        }
+        let _moved = self.move_on(alloc, chooser)?;
+        Ok(())
     }
 
     /// Runs until nothing is left to do or the budget is used. Threads whose slices are out are ready again first, in the order of their
@@ -421,15 +454,10 @@ impl Hub {
         ensures more { Continues self.old self.new }
         ensures ok { IfOk result (λ end. IsOver end self.new) }
     {
-        self.marks.call_back()?;
+        self.call_back()?;
         self.report(alloc)?;
-        while !self.is_over() {
-            match self.marks.front() {
-                Some(thread) => self.turn(alloc, thread)?,
-                None => {
-                    let _moved = self.move_on(alloc, chooser)?;
-                }
-            }
+        'turns: while !self.is_over() {
+            self.go_alone(alloc, chooser)?;
             self.report(alloc)?;
         }
         Ok(self.end())
@@ -526,7 +554,8 @@ impl Hub {
           items = self.now.course.items;
         }))) }
     {
-        let text = schedule_text(alloc, self.budget, self.program().size(), self.schedule())?;
+        written_is_read();
+        let text = schedule_text(alloc, self.budget, self.program().size(), self.course.items())?;
         Ok(text.into_bytes())
     }
 }

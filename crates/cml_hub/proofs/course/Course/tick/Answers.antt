@@ -1,8 +1,5 @@
-use Rattle.std.proofs.Common.{arith, ◌∙◌, sym, ap, subst, refl, ◌≡◌, ◌<◌, ◌≤◌, ◌+◌, true, false, length, ℕ, List}
-use Rattle.std.specs.Prelude.{slice_get, Some}
 use Rattle.std.specs.String.{string_bytes}
-use Rattle.cml_scan.specs.World.{running}
-use Rattle.cml_hub.specs.Courses.{PlainCourse, Keeps}
+use Rattle.cml_hub.specs.Courses.{PlainCourse}
 use Rattle.cml_hub.proofs.Meeting.{ticked_leads}
 use Rattle.cml_hub.proofs.Ticking.{clock_moves, clocked_is, clock_refused}
 use Rattle.cml_hub.proofs.course.Course.tick.Goals as goal

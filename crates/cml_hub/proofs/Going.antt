@@ -1,0 +1,199 @@
+-- How a hub goes on from where it stood.
+use Rattle.std.proofs.Common.{◌≡◌, ℕ, ◌+◌, ◌-◌, ◌<◌, Bool, true, false, ◌||◌, List, [], ◌∷◌, ◌++◌, length, refl, arith, Some, None, sym, ap, ◌∙◌, subst, append_assoc}
+use Rattle.std.specs.Prelude.{nat_le, slice_set}
+use Rattle.std.specs.List.{All}
+use Rattle.std.proofs.lemmas.List.{append-nil}
+use Rattle.std.proofs.lemmas.List.Elements.{All-nil, All-cons, All-append}
+use Rattle.std.proofs.lemmas.Bool.Decides.{nat_tests}
+use Rattle.cml_schedule.specs.declared.item.Item.{Item}
+use Rattle.cml_step.specs.Machines.{PlainMachine}
+use Rattle.cml_hub.specs.declared.fault.Next.TheVariants as next
+use Rattle.cml_hub.specs.declared.fault.End.{End}
+use Rattle.cml_hub.specs.Runs.{Run, over, terminal, ending}
+use Rattle.cml_hub.specs.Dones.{GoesOn}
+use Rattle.cml_hub.specs.Courses.{run_of, Keeps}
+use Rattle.cml_hub.specs.Kept.{Kept, Continues, Extends, IsNoTurn, NoneDue, NoneOut, AllOut, HandsOut, IsOver}
+use Rattle.cml_hub.specs.Moves.{Moves, Reported, HandedOut, MovedOn, CalledBack, GoesAlone}
+
+-- It goes on from itself, and from what it went on from goes on.
+pub continues_self : (h : Kept) → Continues h h
+continues_self h = record {
+  program = refl;
+  budget = refl;
+  watch = refl;
+  more = [];
+  items = sym (append-nil h.course.items);
+  made = [];
+  reports = sym (append-nil h.reports);
+}
+
+pub continues_more : (a b c : Kept) → Continues a b → Continues b c → Continues a c
+continues_more a b c p q = record {
+  program = q.program ∙ p.program;
+  budget = q.budget ∙ p.budget;
+  watch = q.watch ∙ p.watch;
+  more = p.more ++ q.more;
+  items = q.items ∙ (ap (λ xs. xs ++ q.more) p.items ∙ append_assoc a.course.items p.more q.more);
+  made = p.made ++ q.made;
+  reports = q.reports ∙ (ap (λ xs. xs ++ q.made) p.reports ∙ append_assoc a.reports p.made q.made);
+}
+
+pub continues_reported : (a b : Kept) → Reported a b → Continues a b
+continues_reported a b r = record {
+  program = ap (λ c. c.program) r.course;
+  budget = r.budget;
+  watch = r.watch;
+  more = [];
+  items = ap (λ c. c.items) r.course ∙ sym (append-nil a.course.items);
+  made = r.made;
+  reports = r.reports;
+}
+
+pub continues_moved : (a b : Kept) (item : Item) → Moves a item b → Continues a b
+continues_moved a b item m = record {
+  program = m.adds.program;
+  budget = m.budget;
+  watch = m.watch;
+  more = item ∷ [];
+  items = m.adds.items;
+  made = [];
+  reports = m.reports ∙ sym (append-nil a.reports);
+}
+
+pub continues_called : (a b : Kept) → CalledBack a b → Continues a b
+continues_called a b r = record {
+  program = ap (λ c. c.program) r.course;
+  budget = r.budget;
+  watch = r.watch;
+  more = [];
+  items = ap (λ c. c.items) r.course ∙ sym (append-nil a.course.items);
+  made = [];
+  reports = r.reports ∙ sym (append-nil a.reports);
+}
+
+-- the same, where no thread had a turn
+pub extends_self : (h : Kept) → Extends h h
+unfolding continues_self
+extends_self h = record { continues = continues_self h; no_turn = All-nil IsNoTurn }
+
+pub extends_reported : (h a b : Kept) → Extends h a → Reported a b → Extends h b
+unfolding continues_more continues_reported
+extends_reported h a b e r = record {
+  continues = continues_more h a b e.continues (continues_reported a b r);
+  no_turn = All-append IsNoTurn e.continues.more [] e.no_turn (All-nil IsNoTurn);
+}
+
+extends_moved : (h a b : Kept) (item : Item) → IsNoTurn item → Extends h a → Moves a item b → Extends h b
+unfolding continues_more continues_moved
+extends_moved h a b item n e m = record {
+  continues = continues_more h a b e.continues (continues_moved a b item m);
+  no_turn = All-append IsNoTurn e.continues.more (item ∷ []) e.no_turn (All-cons IsNoTurn item [] n (All-nil IsNoTurn));
+}
+
+-- It is not over.
+or_false : (a b : Bool) → (a || b) ≡ false → (a ≡ false) × (b ≡ false)
+or_false true b h = cc
+or_false false b h = (refl, h)
+
+pub going : (budget : ℕ) (r : Run) → over budget r ≡ false → terminal r.world ≡ false
+going budget r h = (or_false (terminal r.world) (nat_le budget r.used) h).0
+
+more_left : (budget used : ℕ) → nat_le budget used ≡ false → used < budget
+more_left budget used h = grind (arith, nat_tests)
+
+pub below : (budget : ℕ) (r : Run) → over budget r ≡ false → r.used < budget
+below budget r h = more_left budget r.used (or_false (terminal r.world) (nat_le budget r.used) h).1
+
+-- No thread was ready, and it moved on.
+pub none_handed : (a b : Kept) → HandedOut a None b → AllOut b
+none_handed a b h = subst (λ (x : Kept). AllOut x) (sym h.1) h.0
+
+pub none_due_still : (a b : Kept) → HandedOut a None b → NoneDue a → NoneDue b
+none_due_still a b h n = subst (λ (x : Kept). NoneDue x) (sym h.1) n
+
+pub going_still : (a b : Kept) → HandedOut a None b → over a.budget (run_of a.course) ≡ false → terminal b.course.world ≡ false
+going_still a b h o = subst (λ (x : Kept). terminal x.course.world ≡ false) (sym h.1) (going a.budget (run_of a.course) o)
+
+pub still_extends : (h a b : Kept) → Extends h a → b ≡ a → Extends h b
+still_extends h a b e s = subst (λ (x : Kept). Extends h x) (sym s) e
+
+pub moved_extends : (h a b c : Kept) → Extends h a → HandedOut a None b → MovedOn b true c → Extends h c
+moved_extends h a b c e n m = extends_moved h b c m.0 m.1 (still_extends h a b e n.1) m.2
+
+pub moved_out : (h a b c : Kept) → a.out ≡ h.out → HandedOut a None b → MovedOn b true c → c.out ≡ h.out
+moved_out h a b c o n m = m.3 ∙ (ap (λ (x : Kept). x.out) n.1 ∙ o)
+
+less : (k l m n u v w x : ℕ) → l ≡ k → m ≡ l → n ≡ m → v ≡ u → v < w → x ≡ w → u < k → n - x < k - u
+less k l m n u v w x h1 h2 h3 h4 h5 h6 h7 = omega arith
+
+pub moved_less : (a b c d : Kept) → over a.budget (run_of a.course) ≡ false → HandedOut a None b → MovedOn b true c → Reported c d
+    → d.budget - d.course.used < a.budget - a.course.used
+moved_less a b c d o n m r =
+    let u1 : b.course.used ≡ a.course.used = ap (λ (x : Kept). x.course.used) n.1 in
+    let k1 : b.budget ≡ a.budget = ap (λ (x : Kept). x.budget) n.1 in
+    let u2 : b.course.used < c.course.used = m.2.used in
+    let k2 : c.budget ≡ b.budget = m.2.budget in
+    let u3 : d.course.used ≡ c.course.used = ap (λ x. x.used) r.course in
+    let k3 : d.budget ≡ c.budget = r.budget in
+    let l : a.course.used < a.budget = below a.budget (run_of a.course) o in
+    less a.budget b.budget c.budget d.budget a.course.used b.course.used c.course.used d.course.used k1 k2 k3 u1 u2 u3 l
+
+-- The first thread's machine is handed out.
+pub job_extends : (h a b : Kept) (m : PlainMachine) → Extends h a → HandedOut a (Some m) b → Extends h b
+job_extends h a b m e s = record {
+  continues = record {
+    program = ap (λ (x : Kept). x.course.program) s.3 ∙ e.continues.program;
+    budget = ap (λ (x : Kept). x.budget) s.3 ∙ e.continues.budget;
+    watch = ap (λ (x : Kept). x.watch) s.3 ∙ e.continues.watch;
+    more = e.continues.more;
+    items = ap (λ (x : Kept). x.course.items) s.3 ∙ e.continues.items;
+    made = e.continues.made;
+    reports = ap (λ (x : Kept). x.reports) s.3 ∙ e.continues.reports;
+  };
+  no_turn = e.no_turn;
+}
+
+pub job_hands : (h a b : Kept) (m : PlainMachine) → a.out ≡ h.out → HandedOut a (Some m) b → HandsOut h (next.Job m) b
+job_hands h a b m o s = (
+  subst (λ c. Keeps c m.thread m) (sym (ap (λ (x : Kept). x.course) s.3)) s.0,
+  subst (λ c. GoesOn c.program m) (sym (ap (λ (x : Kept). x.course) s.3)) s.1,
+  rw (← o) s.2,
+  ap (λ (x : Kept). x.out) s.3 ∙ ap (λ l. slice_set l m.thread true) o,
+)
+
+pub job_over : (a b : Kept) (m : PlainMachine) → over a.budget (run_of a.course) ≡ false → HandedOut a (Some m) b → false ≡ over b.budget (run_of b.course)
+job_over a b m o s =
+    let k : b.budget ≡ a.budget = ap (λ (x : Kept). x.budget) s.3 in
+    let c : b.course ≡ a.course = ap (λ (x : Kept). x.course) s.3 in
+    sym (ap (λ n. over n (run_of b.course)) k ∙ (ap (λ x. over a.budget (run_of x)) c ∙ o))
+
+pub job_due : (a b : Kept) (m : PlainMachine) → NoneDue a → HandedOut a (Some m) b → NoneDue b
+job_due a b m n s = subst (λ (x : Kept). NoneDue x) (sym s.3) n
+
+-- Nothing is to be done before a slice comes back.
+pub wait_hands : (h a b c : Kept) → a.out ≡ h.out → HandedOut a None b → MovedOn b false c → HandsOut h next.Wait c
+wait_hands h a b c o n m =
+    let e : c ≡ b = m.2 in
+    subst (λ (x : Kept). HandsOut h next.Wait x) (sym e) (m.0, m.1, none_handed a b n, ap (λ (x : Kept). x.out) n.1 ∙ o)
+
+pub wait_over : (a b c : Kept) → over a.budget (run_of a.course) ≡ false → HandedOut a None b → MovedOn b false c → false ≡ over c.budget (run_of c.course)
+wait_over a b c o n m = subst (λ (x : Kept). false ≡ over x.budget (run_of x.course)) (sym (m.2 ∙ n.1)) (sym o)
+
+pub wait_due : (a b c : Kept) → NoneDue a → HandedOut a None b → MovedOn b false c → NoneDue c
+wait_due a b c d n m = subst (λ (x : Kept). NoneDue x) (sym (m.2 ∙ n.1)) d
+
+-- It goes on alone.
+pub alone_continues : (h a b : Kept) → Continues h a → GoesAlone a b → Continues h b
+alone_continues h a b e g = continues_more h a b e (continues_moved a b g.item g.moves)
+
+pub alone_less : (a b c : Kept) → over a.budget (run_of a.course) ≡ false → GoesAlone a b → Reported b c → c.budget - c.course.used < a.budget - a.course.used
+alone_less a b c o g r =
+    let u2 : a.course.used < b.course.used = g.moves.used in
+    let k2 : b.budget ≡ a.budget = g.moves.budget in
+    let u3 : c.course.used ≡ b.course.used = ap (λ x. x.used) r.course in
+    let k3 : c.budget ≡ b.budget = r.budget in
+    let l : a.course.used < a.budget = below a.budget (run_of a.course) o in
+    less a.budget a.budget b.budget c.budget a.course.used a.course.used b.course.used c.course.used refl k2 k3 refl u2 u3 l
+
+pub none_out_reported : (a b : Kept) → NoneOut a → Reported a b → NoneOut b
+none_out_reported a b n r = λ t. rw r.out (n t)

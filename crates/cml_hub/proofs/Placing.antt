@@ -1,0 +1,85 @@
+-- The threads that run, and their marks.
+use Rattle.std.proofs.Common.{◌≡◌, ◌≢◌, ℕ, zero, suc, Bool, true, false, ◌||◌, List, [], ◌∷◌, map, refl, Some, None, sym, ap, ◌∙◌, subst, inl, inr, ⊎_elim}
+use Rattle.std.specs.Prelude.{slice_get}
+use Rattle.std.specs.List.{list_any}
+use Rattle.std.proofs.lemmas.Bool.{cases_eq}
+use Rattle.cml_value.specs.declared.number.Tid.{Tid}
+use Rattle.cml_scan.specs.World.{PlainThread, running, pending_on, ended}
+use Rattle.cml_book.specs.Walks.{runs}
+use Rattle.cml_schedule.specs.declared.item.Item.{Item}
+use Rattle.cml_schedule.specs.declared.item.Item.TheVariants as item
+use Rattle.cml_hub.specs.declared.marks.Mark.{Mark}
+use Rattle.cml_hub.specs.declared.marks.Mark.TheVariants.{Ready, Out, Away}
+use Rattle.cml_hub.specs.Marks.{is_here, is_out, home}
+use Rattle.cml_hub.specs.Kept.{Kept, Stands, Placed, is_out_of, AllOut, NoneOut}
+use Rattle.cml_hub.specs.Moves.{Moves, TakesBack, MovedOn, GoesAlone}
+
+-- who is ready runs
+pub ready_runs : (ts : List PlainThread) (ms : List Mark) (t : ℕ) → Placed ts ms → slice_get ms t ≡ Some Ready → slice_get ts t ≡ Some running
+ready_runs [] [] t p h = cc
+ready_runs [] (m ∷ ms) t p h = absurd p
+ready_runs (x ∷ ts) [] t p h = absurd p
+ready_runs (running ∷ ts) (m ∷ ms) zero p h = refl
+ready_runs (pending_on g ∷ ts) (m ∷ ms) zero p h = let e : m ≡ Ready = cc in let b : is_here m ≡ true = ap is_here e in let f : is_here m ≡ false = p.0 in cc
+ready_runs (ended ∷ ts) (m ∷ ms) zero p h = let e : m ≡ Ready = cc in let b : is_here m ≡ true = ap is_here e in let f : is_here m ≡ false = p.0 in cc
+ready_runs (x ∷ ts) (m ∷ ms) (suc t) p h = ready_runs ts ms t p.1 h
+
+-- where none is ready, a slice of every one that runs is out
+pub none_ready_all_out : (ts : List PlainThread) (ms : List Mark) → Placed ts ms → ((t : ℕ) → slice_get ms t ≢ Some Ready)
+    → (t : ℕ) → slice_get ts t ≡ Some running → is_out_of (map is_out ms) t ≡ true
+none_ready_all_out [] ms p n t h = cc
+none_ready_all_out (x ∷ ts) [] p n t h = absurd p
+none_ready_all_out (x ∷ ts) (Ready ∷ ms) p n zero h = absurd (n 0 refl)
+none_ready_all_out (x ∷ ts) (Out ∷ ms) p n zero h = refl
+none_ready_all_out (x ∷ ts) (Away ∷ ms) p n zero h = let e : x ≡ running = cc in let b : runs x ≡ true = ap runs e in let f : false ≡ runs x = p.0 in cc
+none_ready_all_out (x ∷ ts) (m ∷ ms) p n (suc t) h = none_ready_all_out ts ms p.1 (λ u. n (suc u)) t h
+
+-- who was out is ready
+here_home : (m : Mark) → is_here (home m) ≡ is_here m
+here_home Ready = refl
+here_home Out = refl
+here_home Away = refl
+
+placed_home : (ts : List PlainThread) (ms : List Mark) → Placed ts ms → Placed ts (map home ms)
+placed_home [] [] p = tt
+placed_home [] (m ∷ ms) p = absurd p
+placed_home (x ∷ ts) [] p = absurd p
+placed_home (x ∷ ts) (m ∷ ms) p = (here_home m ∙ p.0, placed_home ts ms p.1)
+
+pub stands_home : (h : Kept) (ms : List Mark) (o : List Bool) → Stands h ms → Stands (record h { out = o }) (map home ms)
+stands_home h ms o s = record {
+  placed = placed_home h.course.world.threads ms s.placed;
+  budgeted = s.budgeted;
+  watched = s.watched;
+  reported = s.reported;
+}
+
+pub none_out_home : (ms : List Mark) (t : ℕ) → is_out_of (map is_out (map home ms)) t ≡ false
+none_out_home [] t = refl
+none_out_home (Ready ∷ ms) zero = refl
+none_out_home (Out ∷ ms) zero = refl
+none_out_home (Away ∷ ms) zero = refl
+none_out_home (m ∷ ms) (suc t) = none_out_home ms t
+
+-- some thread runs
+runs_somewhere : (ts : List PlainThread) → list_any runs ts ≡ true → (t : ℕ) × (slice_get ts t ≡ Some running)
+runs_somewhere [] h = cc
+runs_somewhere (running ∷ ts) h = (0, refl)
+runs_somewhere (pending_on g ∷ ts) h = let r = runs_somewhere ts h in (suc r.0, r.1)
+runs_somewhere (ended ∷ ts) h = let r = runs_somewhere ts h in (suc r.0, r.1)
+
+-- one item more, where no slice is out
+pub alone_turned : (a b : Kept) (t : Tid) → NoneOut a → Moves a (item.Turn t) b → TakesBack a.out t.0 b.out → GoesAlone a b
+alone_turned a b t n m k = record {
+  item = item.Turn t;
+  moves = m;
+  none_out = λ u. ⊎_elim (λ e. rw e k.back) (λ e. k.others u e ∙ n u) (cases_eq u t.0);
+}
+
+pub alone_moved : (a b : Kept) (moved : Bool) → NoneOut a → AllOut a → MovedOn a moved b → GoesAlone a b
+alone_moved a b true n o m = record {
+  item = m.0;
+  moves = m.2;
+  none_out = λ t. rw m.3 (n t);
+}
+alone_moved a b false n o m = let r = runs_somewhere a.course.world.threads m.1 in let y = o r.0 r.1 in let z = n r.0 in cc
