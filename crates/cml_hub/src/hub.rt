@@ -68,7 +68,6 @@ impl Model for Hub {
 }
 
 // The thread's mark after its turn. A thread that begins is queued before it.
-#[tactic(none)]
 fn place(marks: &mut Marks, thread: Tid, gone: Gone)
     requires there { thread.0 < length marks.old.marks }
     requires next { IsNext gone marks.old.marks }
@@ -88,7 +87,6 @@ fn place(marks: &mut Marks, thread: Tid, gone: Gone)
 }
 
 // The parties of a row are ready, the head first.
-#[tactic(none)]
 fn place_all(marks: &mut Marks, row: Meet)
     requires away { PartiesAway marks.old.marks row }
     requires room { 2 ≤ marks.old.room }
@@ -265,7 +263,6 @@ impl Hub {
     }
 
     // The report that is due is made.
-    #[tactic(none)]
     fn report(&mut self, alloc: Global) -> Result<(), AllocError>
         ensures ok { OnOk result (Reported self.old self.new) }
         ensures err { OnErr result (self.new ≡ self.old) }
@@ -291,7 +288,6 @@ impl Hub {
     }
 
     // A turn of the thread.
-    #[tactic(none)]
     fn turn(&mut self, alloc: Global, thread: Tid) -> Result<(), AllocError>
         requires running { slice_get self.old.course.world.threads thread.0 ≡ Some running }
         requires due { NoneDue self.old }
@@ -306,7 +302,6 @@ impl Hub {
     }
 
     // The row is taken, by this item.
-    #[tactic(none)]
     fn meet(&mut self, alloc: Global, item: Item, row: Meet) -> Result<(), AllocError>
         requires takes { Takes item row }
         requires allowed { spec.is_allowed self.old.course.world item ≡ true }
@@ -322,7 +317,6 @@ impl Hub {
     }
 
     // The time moves to the next alarm.
-    #[tactic(none)]
     fn tick(&mut self, alloc: Global, tick: u64) -> Result<(), AllocError>
         requires allowed { spec.is_allowed self.old.course.world (Item.Clock tick) ≡ true }
         requires due { NoneDue self.old }
@@ -330,7 +324,8 @@ impl Hub {
         ensures out { self.new.out ≡ self.old.out }
         ensures err { OnErr result (self.new ≡ self.old) }
     {
-        self.course.tick(alloc, tick)
+        self.course.tick(alloc, tick)?;
+        Ok(())
     }
 
     // A row is taken that the chooser picks; or, where there is none and no thread runs, the time moves to the next alarm. It answers

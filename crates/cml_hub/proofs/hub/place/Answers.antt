@@ -1,57 +1,44 @@
-use Rattle.std.proofs.Common.{rules, ◌≡◌, ◌↔◌, ◌≤◌, ◌<◌, [], Some, IfOk, IfErr, IfSome, OnOk, OnErr, IsTrue, Ok, true, false, length, slice_get, ℕ, ◌+◌, ◌-◌, ◌*◌, ◌/◌, ◌%◌, Bool, nat_eq, nat_lt, List, ◌∷◌, ◌++◌, slice_index_or, slice_set, bit_and, bit_or, Fits, w8, w32, w64, Bor, MutBor}
-use Rattle.std.specs.Vec.{vec_len, vec_capacity}
-use Rattle.cml_scan.specs.World.{pending, running}
-use Rattle.cml_check.specs.Sizes.{size_of}
-use Rattle.cml_schedule.specs.Written.{schedule_text}
-use Rattle.cml_schedule.specs.Reading.{ReadsAs}
-use Rattle.cml_step.specs.Calls.{text_of}
-use Rattle.cml_hub.specs.Runs as spec
-use Rattle.cml_hub.specs.Courses.{run_of, Takes, Adds}
-use Rattle.cml_hub.specs.Reports.{AreReports, IsDueReport}
-use Rattle.cml_hub.specs.Kept.{IsBudget, IsWatch, IsBegun, Continues, Extends, HandsOut, is_ended, NoneDue, NoneOut, AllOut, Gives, IsOver, Replays, FitsSize}
-use Rattle.cml_hub.specs.Moves.{IsNext, marks_after, PartiesAway, marks_met, Moves, TakesBack, Reported, HandedOut, MovedOn}
+use Rattle.std.proofs.Common.{◌≡◌, ◌≢◌, ◌≤◌, ◌<◌, ◌+◌, ◌*◌, true, false, ℕ, List, [], ◌∷◌, ◌++◌, length, map, refl, sym, ap, subst, ◌∙◌, arith, Some, None}
+use Rattle.std.specs.Prelude.{slice_get, slice_set}
+use Rattle.cml_scan.specs.World.{running}
+use Rattle.cml_hub.specs.Marks.{is_out}
+use Rattle.cml_hub.specs.Kept.{Kept, NoneDue}
+use Rattle.cml_hub.specs.declared.marks.Mark.TheVariants.{Ready, Away}
+use Rattle.cml_hub.proofs.Standing.{set_again}
+use Rattle.cml_hub.proofs.Marking.{there_away, pushed_away, set_pushed, marks_length}
 use Rattle.cml_hub.proofs.hub.place.Goals as goal
 
--- src/hub.rt:78:5
-pub take_away-requires : goal.take_away-requires
-take_away-requires c = ?
-
--- src/hub.rt:80:21
 pub make_ready-requires-clause-away : goal.make_ready-requires-clause-away
-make_ready-requires-clause-away c = ?
+make_ready-requires-clause-away c =
+    let ms = c.args.marks.now.marks in
+    let t = c.args.thread.0 in
+    rw (c.take_away.ensures.marks) (there_away ms t c.requires.there)
 
--- src/hub.rt:80:21
-pub make_ready-requires-clause-room : goal.make_ready-requires-clause-room
-make_ready-requires-clause-room c = ?
-
--- src/hub.rt:82:13
 pub add-requires-clause-next : goal.add-requires-clause-next
-add-requires-clause-next c = ?
+add-requires-clause-next c =
+    let ms = c.args.marks.now.marks in
+    let t = c.args.thread.0 in
+    let next : c.in-With.child.0 ≡ length ms = rw (c.in-With.is) at c.requires.next in
+    rw (c.take_away.ensures.marks) (next ∙ sym (marks_length ms t Away))
 
--- src/hub.rt:82:13
-pub add-requires-clause-room : goal.add-requires-clause-room
-add-requires-clause-room c = ?
-
--- src/hub.rt:82:13
-pub add-requires-clause-more : goal.add-requires-clause-more
-add-requires-clause-more c = ?
-
--- src/hub.rt:83:13
 pub make_ready-requires-in-With-clause-away : goal.make_ready-requires-in-With-clause-away
-make_ready-requires-in-With-clause-away c = ?
+make_ready-requires-in-With-clause-away c =
+    let ms = c.args.marks.now.marks in
+    let t = c.args.thread.0 in
+    rw (c.add.ensures.marks, c.take_away.ensures.marks) (pushed_away ms t c.requires.there)
 
--- src/hub.rt:83:13
-pub make_ready-requires-in-With-clause-room : goal.make_ready-requires-in-With-clause-room
-make_ready-requires-in-With-clause-room c = ?
-
--- src/hub.rt:70:1
 pub returns-in-On : goal.returns-in-On
-returns-in-On c = ?
+returns-in-On c =
+    let ms = c.args.marks.now.marks in
+    let t = c.args.thread.0 in
+    rw (c.in-On.is, c.make_ready.ensures.marks, c.take_away.ensures.marks) (set_again ms t Away Ready)
 
--- src/hub.rt:70:1
 pub returns-in-With : goal.returns-in-With
-returns-in-With c = ?
+returns-in-With c =
+    let ms = c.args.marks.now.marks in
+    let t = c.args.thread.0 in
+    rw (c.in-With.is, c.make_ready-in-With.ensures.marks, c.add.ensures.marks, c.take_away.ensures.marks) (set_pushed ms t c.requires.there)
 
--- src/hub.rt:70:1
 pub returns-in-Off : goal.returns-in-Off
-returns-in-Off c = ?
+returns-in-Off c =
+    rw (c.in-Off.is, c.take_away.ensures.marks) refl

@@ -1,73 +1,55 @@
-use Rattle.std.proofs.Common.{rules, ◌≡◌, ◌↔◌, ◌≤◌, ◌<◌, [], Some, IfOk, IfErr, IfSome, OnOk, OnErr, IsTrue, Ok, true, false, length, slice_get, ℕ, ◌+◌, ◌-◌, ◌*◌, ◌/◌, ◌%◌, Bool, nat_eq, nat_lt, List, ◌∷◌, ◌++◌, slice_index_or, slice_set, bit_and, bit_or, Fits, w8, w32, w64, Bor, MutBor}
-use Rattle.std.specs.Vec.{vec_len, vec_capacity}
-use Rattle.cml_scan.specs.World.{pending, running}
-use Rattle.cml_check.specs.Sizes.{size_of}
-use Rattle.cml_schedule.specs.Written.{schedule_text}
-use Rattle.cml_schedule.specs.Reading.{ReadsAs}
-use Rattle.cml_step.specs.Calls.{text_of}
-use Rattle.cml_hub.specs.Runs as spec
-use Rattle.cml_hub.specs.Courses.{run_of, Takes, Adds}
-use Rattle.cml_hub.specs.Reports.{AreReports, IsDueReport}
-use Rattle.cml_hub.specs.Kept.{IsBudget, IsWatch, IsBegun, Continues, Extends, HandsOut, is_ended, NoneDue, NoneOut, AllOut, Gives, IsOver, Replays, FitsSize}
-use Rattle.cml_hub.specs.Moves.{IsNext, marks_after, PartiesAway, marks_met, Moves, TakesBack, Reported, HandedOut, MovedOn}
+use Rattle.std.proofs.Common.{◌≡◌, ◌≢◌, ◌≤◌, ◌<◌, ◌+◌, true, false, ℕ, List, [], ◌∷◌, ◌++◌, length, map, refl, sym, ap, subst, ◌∙◌, arith, Some, None}
+use Rattle.std.specs.Prelude.{slice_get, slice_set}
+use Rattle.cml_scan.specs.World.{running}
+use Rattle.cml_hub.specs.Marks.{is_out}
+use Rattle.cml_hub.specs.Kept.{Kept, NoneDue}
+use Rattle.cml_hub.proofs.Marking.{out_met}
+use Rattle.cml_hub.proofs.Keeping.{stands_met, away_met, moves_met}
 use Rattle.cml_hub.proofs.hub.Hub.meet.Goals as goal
 
--- src/hub.rt:306:9
 pub invariant_of-self : goal.invariant_of-self
-invariant_of-self c = ?
+invariant_of-self c =
+    rw (c.reserve.ensures.marks) c.self.invariant
 
--- src/hub.rt:306:9
-pub returns-in_err-reserve-clause-moves : goal.returns-in_err-reserve-clause-moves
-returns-in_err-reserve-clause-moves c = ?
-
--- src/hub.rt:306:9
-pub returns-in_err-reserve-clause-out : goal.returns-in_err-reserve-clause-out
-returns-in_err-reserve-clause-out c = ?
-
--- src/hub.rt:306:9
-pub returns-in_err-reserve-clause-err : goal.returns-in_err-reserve-clause-err
-returns-in_err-reserve-clause-err c = ?
-
--- src/hub.rt:307:9
-pub meet-requires-clause-takes : goal.meet-requires-clause-takes
-meet-requires-clause-takes c = ?
-
--- src/hub.rt:307:9
 pub meet-requires-clause-allowed : goal.meet-requires-clause-allowed
-meet-requires-clause-allowed c = ?
+meet-requires-clause-allowed c =
+    rw (← c.self.view_is) at c.requires.allowed
 
--- src/hub.rt:307:9
 pub invariant_of-self-in_err-meet : goal.invariant_of-self-in_err-meet
-invariant_of-self-in_err-meet c = ?
+invariant_of-self-in_err-meet c =
+    rw (c.in_err-meet.ensures.err, c.reserve.ensures.marks) c.self.invariant
 
--- src/hub.rt:307:9
-pub returns-in_err-meet-clause-moves : goal.returns-in_err-meet-clause-moves
-returns-in_err-meet-clause-moves c = ?
-
--- src/hub.rt:307:9
-pub returns-in_err-meet-clause-out : goal.returns-in_err-meet-clause-out
-returns-in_err-meet-clause-out c = ?
-
--- src/hub.rt:307:9
-pub returns-in_err-meet-clause-err : goal.returns-in_err-meet-clause-err
-returns-in_err-meet-clause-err c = ?
-
--- src/hub.rt:308:9
 pub place_all-requires-clause-away : goal.place_all-requires-clause-away
-place_all-requires-clause-away c = ?
+place_all-requires-clause-away c =
+    let s = c.self.inside in
+    let h : Kept = record { course = s.course; budget = s.budget; watch = s.watch; out = map is_out s.marks.marks; reports = s.reports.items } in
+    let meets = c.in_ok-meet.ensures.ok in
+    let away = away_met h s.marks.marks c.args.item c.args.row c.meet.new.self c.self.invariant meets in
+    rw (c.reserve.ensures.marks) away
 
--- src/hub.rt:308:9
 pub place_all-requires-clause-room : goal.place_all-requires-clause-room
-place_all-requires-clause-room c = ?
+place_all-requires-clause-room c =
+    c.in_ok-reserve.ensures.room
 
--- src/hub.rt:297:5
 pub invariant_of-self-2 : goal.invariant_of-self-2
-invariant_of-self-2 c = ?
+invariant_of-self-2 c =
+    let s = c.self.inside in
+    let h : Kept = record { course = s.course; budget = s.budget; watch = s.watch; out = map is_out s.marks.marks; reports = s.reports.items } in
+    let meets = c.in_ok-meet.ensures.ok in
+    let none : NoneDue h = rw (← c.self.view_is) at c.requires.due in
+    rw (c.place_all.ensures, c.reserve.ensures.marks) (stands_met h s.marks.marks c.args.item c.args.row c.meet.new.self c.self.invariant none meets)
 
--- src/hub.rt:297:5
 pub returns-clause-moves : goal.returns-clause-moves
-returns-clause-moves c = ?
+returns-clause-moves c =
+    let s = c.self.inside in
+    let h : Kept = record { course = s.course; budget = s.budget; watch = s.watch; out = map is_out s.marks.marks; reports = s.reports.items } in
+    let meets = c.in_ok-meet.ensures.ok in
+    rw (← c.self.view_is) (moves_met h c.args.item c.args.row c.meet.new.self c.place_all.new.marks.marks meets)
 
--- src/hub.rt:297:5
 pub returns-clause-out : goal.returns-clause-out
-returns-clause-out c = ?
+returns-clause-out c =
+    let s = c.self.inside in
+    let h : Kept = record { course = s.course; budget = s.budget; watch = s.watch; out = map is_out s.marks.marks; reports = s.reports.items } in
+    let meets = c.in_ok-meet.ensures.ok in
+    let away = away_met h s.marks.marks c.args.item c.args.row c.meet.new.self c.self.invariant meets in
+    rw (← c.self.view_is, c.place_all.ensures, c.reserve.ensures.marks) (out_met s.marks.marks c.args.row away)

@@ -1,44 +1,41 @@
-use Rattle.std.proofs.Common.{rules, ◌≡◌, ◌↔◌, ◌≤◌, ◌<◌, [], Some, IfOk, IfErr, IfSome, OnOk, OnErr, IsTrue, Ok, true, false, length, slice_get, ℕ, ◌+◌, ◌-◌, ◌*◌, ◌/◌, ◌%◌, Bool, nat_eq, nat_lt, List, ◌∷◌, ◌++◌, slice_index_or, slice_set, bit_and, bit_or, Fits, w8, w32, w64, Bor, MutBor}
-use Rattle.std.specs.Vec.{vec_len, vec_capacity}
-use Rattle.cml_scan.specs.World.{pending, running}
-use Rattle.cml_check.specs.Sizes.{size_of}
-use Rattle.cml_schedule.specs.Written.{schedule_text}
-use Rattle.cml_schedule.specs.Reading.{ReadsAs}
-use Rattle.cml_step.specs.Calls.{text_of}
-use Rattle.cml_hub.specs.Runs as spec
-use Rattle.cml_hub.specs.Courses.{run_of, Takes, Adds}
-use Rattle.cml_hub.specs.Reports.{AreReports, IsDueReport}
-use Rattle.cml_hub.specs.Kept.{IsBudget, IsWatch, IsBegun, Continues, Extends, HandsOut, is_ended, NoneDue, NoneOut, AllOut, Gives, IsOver, Replays, FitsSize}
-use Rattle.cml_hub.specs.Moves.{IsNext, marks_after, PartiesAway, marks_met, Moves, TakesBack, Reported, HandedOut, MovedOn}
+use Rattle.std.proofs.Common.{◌≡◌, ◌≢◌, ◌≤◌, ◌<◌, ◌+◌, ◌*◌, true, false, ℕ, List, [], ◌∷◌, ◌++◌, length, map, refl, sym, ap, subst, ◌∙◌, arith, Some, None}
+use Rattle.std.specs.Prelude.{slice_get, slice_set}
+use Rattle.cml_scan.specs.World.{running}
+use Rattle.cml_hub.specs.Marks.{is_out}
+use Rattle.cml_hub.specs.Kept.{Kept, NoneDue}
+use Rattle.cml_hub.specs.Reports.{IsDueReport}
+use Rattle.cml_hub.proofs.Reporting.{stands_reported, reported_one, reported_none}
 use Rattle.cml_hub.proofs.hub.Hub.report.Goals as goal
 
--- src/hub.rt:261:31
 pub invariant_of-self : goal.invariant_of-self
-invariant_of-self c = ?
+invariant_of-self c =
+    rw (c.due.ensures.items) c.self.invariant
 
--- src/hub.rt:261:31
-pub returns-in_err-report-clause-ok : goal.returns-in_err-report-clause-ok
-returns-in_err-report-clause-ok c = ?
-
--- src/hub.rt:261:31
-pub returns-in_err-report-clause-err : goal.returns-in_err-report-clause-err
-returns-in_err-report-clause-err c = ?
-
--- src/hub.rt:262:13
 pub push_reserved-requires : goal.push_reserved-requires
-push_reserved-requires c = ?
+push_reserved-requires c =
+    rw (c.in-Some.is) at c.in_ok-report.ensures.room
 
--- src/hub.rt:262:13
 pub invariant_of-self-in-Some : goal.invariant_of-self-in-Some
-invariant_of-self-in-Some c = ?
+invariant_of-self-in-Some c =
+    let s = c.self.inside in
+    let h : Kept = record { course = s.course; budget = s.budget; watch = s.watch; out = map is_out s.marks.marks; reports = s.reports.items } in
+    let due : IsDueReport s.watch (length s.course.items) (length s.reports.items) s.course.world (Some c.in-Some.report) = rw (c.in-Some.is) at c.in_ok-report.ensures.due in
+    rw (c.push_reserved.ensures.items, c.due.ensures.items) (stands_reported h s.marks.marks c.in-Some.report c.self.invariant c.due.ensures.leads due)
 
 pub invariant_of-self-in_default : goal.invariant_of-self-in_default
-invariant_of-self-in_default c = ?
+invariant_of-self-in_default c =
+    rw (c.due.ensures.items) c.self.invariant
 
--- src/hub.rt:256:5
 pub returns-in-Some-clause-ok : goal.returns-in-Some-clause-ok
-returns-in-Some-clause-ok c = ?
+returns-in-Some-clause-ok c =
+    let s = c.self.inside in
+    let h : Kept = record { course = s.course; budget = s.budget; watch = s.watch; out = map is_out s.marks.marks; reports = s.reports.items } in
+    let due : IsDueReport s.watch (length s.course.items) (length s.reports.items) s.course.world (Some c.in-Some.report) = rw (c.in-Some.is) at c.in_ok-report.ensures.due in
+    rw (← c.self.view_is, c.push_reserved.ensures.items, c.due.ensures.items) (reported_one h c.in-Some.report c.self.invariant.watched due)
 
--- src/hub.rt:256:5
 pub returns-in_default-clause-ok : goal.returns-in_default-clause-ok
-returns-in_default-clause-ok c = ?
+returns-in_default-clause-ok c =
+    let s = c.self.inside in
+    let h : Kept = record { course = s.course; budget = s.budget; watch = s.watch; out = map is_out s.marks.marks; reports = s.reports.items } in
+    let none : NoneDue h = rw (c.in_default.is) at c.in_ok-report.ensures.due in
+    rw (← c.self.view_is, c.due.ensures.items) (reported_none h none)

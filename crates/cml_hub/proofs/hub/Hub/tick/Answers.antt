@@ -1,33 +1,32 @@
-use Rattle.std.proofs.Common.{rules, ◌≡◌, ◌↔◌, ◌≤◌, ◌<◌, [], Some, IfOk, IfErr, IfSome, OnOk, OnErr, IsTrue, Ok, true, false, length, slice_get, ℕ, ◌+◌, ◌-◌, ◌*◌, ◌/◌, ◌%◌, Bool, nat_eq, nat_lt, List, ◌∷◌, ◌++◌, slice_index_or, slice_set, bit_and, bit_or, Fits, w8, w32, w64, Bor, MutBor}
-use Rattle.std.specs.Vec.{vec_len, vec_capacity}
-use Rattle.cml_scan.specs.World.{pending, running}
-use Rattle.cml_check.specs.Sizes.{size_of}
-use Rattle.cml_schedule.specs.Written.{schedule_text}
-use Rattle.cml_schedule.specs.Reading.{ReadsAs}
-use Rattle.cml_step.specs.Calls.{text_of}
-use Rattle.cml_hub.specs.Runs as spec
-use Rattle.cml_hub.specs.Courses.{run_of, Takes, Adds}
-use Rattle.cml_hub.specs.Reports.{AreReports, IsDueReport}
-use Rattle.cml_hub.specs.Kept.{IsBudget, IsWatch, IsBegun, Continues, Extends, HandsOut, is_ended, NoneDue, NoneOut, AllOut, Gives, IsOver, Replays, FitsSize}
-use Rattle.cml_hub.specs.Moves.{IsNext, marks_after, PartiesAway, marks_met, Moves, TakesBack, Reported, HandedOut, MovedOn}
+use Rattle.std.proofs.Common.{◌≡◌, ◌≢◌, ◌≤◌, ◌<◌, ◌+◌, ◌*◌, true, false, ℕ, List, [], ◌∷◌, ◌++◌, length, map, refl, sym, ap, subst, ◌∙◌, arith, Some, None}
+use Rattle.std.specs.Prelude.{slice_get, slice_set}
+use Rattle.cml_scan.specs.World.{running}
+use Rattle.cml_hub.specs.Marks.{is_out}
+use Rattle.cml_hub.specs.Kept.{Kept, NoneDue}
+use Rattle.cml_hub.proofs.Keeping.{stands_ticked, moves_ticked}
 use Rattle.cml_hub.proofs.hub.Hub.tick.Goals as goal
 
--- src/hub.rt:321:9
 pub tick-requires : goal.tick-requires
-tick-requires c = ?
+tick-requires c =
+    rw (← c.self.view_is) at c.requires.allowed
 
--- src/hub.rt:313:5
 pub invariant_of-self : goal.invariant_of-self
-invariant_of-self c = ?
+invariant_of-self c =
+    rw (c.in_err-tick.ensures.err) c.self.invariant
 
--- src/hub.rt:313:5
+pub invariant_of-self-2 : goal.invariant_of-self-2
+invariant_of-self-2 c =
+    let s = c.self.inside in
+    let h : Kept = record { course = s.course; budget = s.budget; watch = s.watch; out = map is_out s.marks.marks; reports = s.reports.items } in
+    let none : NoneDue h = rw (← c.self.view_is) at c.requires.due in
+    stands_ticked h s.marks.marks c.args.tick c.tick.new.self c.self.invariant none c.in_ok-tick.ensures.ok
+
 pub returns-clause-moves : goal.returns-clause-moves
-returns-clause-moves c = ?
+returns-clause-moves c =
+    let s = c.self.inside in
+    let h : Kept = record { course = s.course; budget = s.budget; watch = s.watch; out = map is_out s.marks.marks; reports = s.reports.items } in
+    rw (← c.self.view_is) (moves_ticked h c.args.tick c.tick.new.self s.marks.marks c.in_ok-tick.ensures.ok)
 
--- src/hub.rt:313:5
 pub returns-clause-out : goal.returns-clause-out
-returns-clause-out c = ?
-
--- src/hub.rt:313:5
-pub returns-clause-err : goal.returns-clause-err
-returns-clause-err c = ?
+returns-clause-out c =
+    rw (← c.self.view_is) refl

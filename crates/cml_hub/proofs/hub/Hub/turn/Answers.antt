@@ -1,77 +1,62 @@
-use Rattle.std.proofs.Common.{rules, ◌≡◌, ◌↔◌, ◌≤◌, ◌<◌, [], Some, IfOk, IfErr, IfSome, OnOk, OnErr, IsTrue, Ok, true, false, length, slice_get, ℕ, ◌+◌, ◌-◌, ◌*◌, ◌/◌, ◌%◌, Bool, nat_eq, nat_lt, List, ◌∷◌, ◌++◌, slice_index_or, slice_set, bit_and, bit_or, Fits, w8, w32, w64, Bor, MutBor}
-use Rattle.std.specs.Vec.{vec_len, vec_capacity}
-use Rattle.cml_scan.specs.World.{pending, running}
-use Rattle.cml_check.specs.Sizes.{size_of}
-use Rattle.cml_schedule.specs.Written.{schedule_text}
-use Rattle.cml_schedule.specs.Reading.{ReadsAs}
-use Rattle.cml_step.specs.Calls.{text_of}
-use Rattle.cml_hub.specs.Runs as spec
-use Rattle.cml_hub.specs.Courses.{run_of, Takes, Adds}
-use Rattle.cml_hub.specs.Reports.{AreReports, IsDueReport}
-use Rattle.cml_hub.specs.Kept.{IsBudget, IsWatch, IsBegun, Continues, Extends, HandsOut, is_ended, NoneDue, NoneOut, AllOut, Gives, IsOver, Replays, FitsSize}
-use Rattle.cml_hub.specs.Moves.{IsNext, marks_after, PartiesAway, marks_met, Moves, TakesBack, Reported, HandedOut, MovedOn}
+use Rattle.std.proofs.Common.{◌≡◌, ◌≢◌, ◌≤◌, ◌<◌, ◌+◌, ◌*◌, true, false, ℕ, List, [], ◌∷◌, ◌++◌, length, map, refl, sym, ap, subst, ◌∙◌, arith, Some, None}
+use Rattle.std.specs.Prelude.{slice_get, slice_set}
+use Rattle.cml_scan.specs.World.{running}
+use Rattle.cml_hub.specs.Marks.{is_out}
+use Rattle.cml_hub.specs.Kept.{Kept, NoneDue}
+use Rattle.cml_hub.proofs.Marking.{there_is, takes_back}
+use Rattle.cml_hub.proofs.Keeping.{stands_turned, next_turned, moves_turned}
 use Rattle.cml_hub.proofs.hub.Hub.turn.Goals as goal
 
--- src/hub.rt:290:9
 pub invariant_of-self : goal.invariant_of-self
-invariant_of-self c = ?
+invariant_of-self c =
+    rw (c.reserve.ensures.marks) c.self.invariant
 
--- src/hub.rt:290:9
-pub returns-in_err-reserve-clause-moves : goal.returns-in_err-reserve-clause-moves
-returns-in_err-reserve-clause-moves c = ?
-
--- src/hub.rt:290:9
-pub returns-in_err-reserve-clause-back : goal.returns-in_err-reserve-clause-back
-returns-in_err-reserve-clause-back c = ?
-
--- src/hub.rt:290:9
-pub returns-in_err-reserve-clause-err : goal.returns-in_err-reserve-clause-err
-returns-in_err-reserve-clause-err c = ?
-
--- src/hub.rt:291:20
 pub turn-requires : goal.turn-requires
-turn-requires c = ?
+turn-requires c =
+    rw (← c.self.view_is) at c.requires.running
 
--- src/hub.rt:291:20
 pub invariant_of-self-in_err-gone : goal.invariant_of-self-in_err-gone
-invariant_of-self-in_err-gone c = ?
+invariant_of-self-in_err-gone c =
+    rw (c.in_err-gone.ensures.err, c.reserve.ensures.marks) c.self.invariant
 
--- src/hub.rt:291:20
-pub returns-in_err-gone-clause-moves : goal.returns-in_err-gone-clause-moves
-returns-in_err-gone-clause-moves c = ?
-
--- src/hub.rt:291:20
-pub returns-in_err-gone-clause-back : goal.returns-in_err-gone-clause-back
-returns-in_err-gone-clause-back c = ?
-
--- src/hub.rt:291:20
-pub returns-in_err-gone-clause-err : goal.returns-in_err-gone-clause-err
-returns-in_err-gone-clause-err c = ?
-
--- src/hub.rt:292:9
 pub place-requires-clause-there : goal.place-requires-clause-there
-place-requires-clause-there c = ?
+place-requires-clause-there c =
+    let s = c.self.inside in
+    let run : slice_get s.course.world.threads c.args.thread.0 ≡ Some running = rw (← c.self.view_is) at c.requires.running in
+    rw (c.reserve.ensures.marks) (there_is s.course.world.threads s.marks.marks c.args.thread.0 c.self.invariant.placed run)
 
--- src/hub.rt:292:9
 pub place-requires-clause-next : goal.place-requires-clause-next
-place-requires-clause-next c = ?
+place-requires-clause-next c =
+    let s = c.self.inside in
+    let h : Kept = record { course = s.course; budget = s.budget; watch = s.watch; out = map is_out s.marks.marks; reports = s.reports.items } in
+    let turns = c.in_ok-gone.ensures.ok in
+    rw (c.reserve.ensures.marks) (next_turned h s.marks.marks c.args.thread c.in_ok-gone.gone c.turn.new.self c.self.invariant turns)
 
--- src/hub.rt:292:9
 pub place-requires-clause-room : goal.place-requires-clause-room
-place-requires-clause-room c = ?
+place-requires-clause-room c =
+    c.in_ok-reserve.ensures.room
 
--- src/hub.rt:292:9
 pub place-requires-clause-more : goal.place-requires-clause-more
-place-requires-clause-more c = ?
+place-requires-clause-more c =
+    c.in_ok-reserve.ensures.more
 
--- src/hub.rt:282:5
 pub invariant_of-self-2 : goal.invariant_of-self-2
-invariant_of-self-2 c = ?
+invariant_of-self-2 c =
+    let s = c.self.inside in
+    let h : Kept = record { course = s.course; budget = s.budget; watch = s.watch; out = map is_out s.marks.marks; reports = s.reports.items } in
+    let turns = c.in_ok-gone.ensures.ok in
+    let run : slice_get s.course.world.threads c.args.thread.0 ≡ Some running = rw (← c.self.view_is) at c.requires.running in
+    let none : NoneDue h = rw (← c.self.view_is) at c.requires.due in
+    rw (c.place.ensures, c.reserve.ensures.marks) (stands_turned h s.marks.marks c.args.thread c.in_ok-gone.gone c.turn.new.self c.self.invariant none run turns)
 
--- src/hub.rt:282:5
 pub returns-clause-moves : goal.returns-clause-moves
-returns-clause-moves c = ?
+returns-clause-moves c =
+    let s = c.self.inside in
+    let h : Kept = record { course = s.course; budget = s.budget; watch = s.watch; out = map is_out s.marks.marks; reports = s.reports.items } in
+    let turns = c.in_ok-gone.ensures.ok in
+    rw (← c.self.view_is) (moves_turned h c.args.thread c.in_ok-gone.gone c.turn.new.self c.place.new.marks.marks turns)
 
--- src/hub.rt:282:5
 pub returns-clause-back : goal.returns-clause-back
-returns-clause-back c = ?
+returns-clause-back c =
+    let s = c.self.inside in
+    rw (← c.self.view_is, c.place.ensures, c.reserve.ensures.marks) (takes_back s.marks.marks c.args.thread.0 c.in_ok-gone.gone)
