@@ -76,7 +76,7 @@ made_is xs (Some r) = refl
 pub given_so : (course : PlainCourse) (budget : ℕ) (watch : Option ℕ) (reports : List PlainReport) (ms : List Mark) (due : Option PlainReport) (t u : Tid) (g : Gone) (new : PlainCourse)
     → Turns course t g new → t.0 ≡ u.0
     → Given (record { course = course; budget = budget; watch = watch; out = map is_out ms; reports = reports }) u
-      (record { course = new; budget = budget; watch = watch; out = map is_out (marks_after t.0 g ms); reports = with_report reports due })
+    (record { course = new; budget = budget; watch = watch; out = map is_out (marks_after t.0 g ms); reports = with_report reports due })
 given_so course budget watch reports ms due t u g new turns same =
     let e : t ≡ u = ap (λ (n : ℕ). record { 0 = n }) same in
     let b = takes_back ms t.0 g in

@@ -71,7 +71,7 @@ stands_called h ms new (Err x) s o e = rw e (record { placed = s.placed; budgete
 
 pub called_so : {T E : Type 0} (course : PlainCourse) (budget : ℕ) (watch : Option ℕ) (reports : List PlainReport) (ms new : List Mark) (r : Result T E) → OnOk r (new ≡ map home ms)
     → OnOk r (CalledBack (record { course = course; budget = budget; watch = watch; out = map is_out ms; reports = reports })
-      (record { course = course; budget = budget; watch = watch; out = map is_out new; reports = reports }))
+    (record { course = course; budget = budget; watch = watch; out = map is_out new; reports = reports }))
 called_so course budget watch reports ms new (Ok x) o = record {
   course = refl;
   budget = refl;

@@ -58,17 +58,19 @@ bad_at p items i d h lt program items_are leads refused =
     let split : items ≡ take i items ++ bad ∷ drop (suc i) items = split_at items i d lt in
     let n : length (take i items) ≡ i = length-take-within items i lt in
     let l : stands (text_of p) (take i items) ≡ Some r = subst (λ x. stands (text_of x) (take i items) ≡ Some r) program (subst (λ x. stands (text_of h.course.program) x ≡ Some r) items_are leads) in
-    let f : advance (text_of p) r bad ≡ None = not_advanced (text_of p) r bad refused in
-    (record {
-      before = take i items;
-      bad = bad;
-      rest = drop (suc i) items;
-      split = split;
-      counted = omega arith;
-      run = r;
-      leads = l;
-      refused = f;
-    }, nowhere (text_of p) items (take i items) (drop (suc i) items) bad r split l f)
+    let f : advance (text_of p) r bad ≡ None = not_advanced (text_of p) r bad refused in (
+      record {
+        before = take i items;
+        bad = bad;
+        rest = drop (suc i) items;
+        split = split;
+        counted = omega arith;
+        run = r;
+        leads = l;
+        refused = f;
+      },
+      nowhere (text_of p) items (take i items) (drop (suc i) items) bad r split l f,
+    )
 
 -- one item more
 pub one_more : (items : List Item) (i : ℕ) (d : Item) (old new : List Item) → i < length items → old ≡ take i items

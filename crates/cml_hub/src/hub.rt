@@ -550,7 +550,12 @@ impl Hub {
         }))) }
     {
         written_is_read();
-        let text = schedule_text(alloc, self.budget, self.program().size(), self.course.items())?;
+        let text = schedule_text(
+            alloc,
+            self.budget,
+            self.program().size(),
+            self.course.items(),
+        )?;
         Ok(text.into_bytes())
     }
 }

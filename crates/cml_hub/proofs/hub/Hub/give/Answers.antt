@@ -54,9 +54,11 @@ returns-in-Ok-give c =
     let ours = c.is_ours.ensures.0 c.if-not-is_ours.false in
     let ms = c.place.ensures ∙ ap (λ m. marks_after g.thread.0 g.gone m) c.reserve.ensures.marks in
     let rs = c.add_report.ensures ∙ ap (λ l. with_report l c.in-Ok.report) c.in-Ok.ensures.items in
-    rw (← c.self.view_is)
-    (ours, kept_given s.course c.give.new.self s.budget s.watch s.marks.marks c.place.new.marks.marks s.reports.items c.add_report.new.reports.items c.in-Ok.report g.thread (record { 0 = c.args.ran.start.thread }) g.gone
-      g.ensures.ok.0 g.ensures.ok.1 ms rs)
+    rw (← c.self.view_is) (
+      ours,
+      kept_given s.course c.give.new.self s.budget s.watch s.marks.marks c.place.new.marks.marks s.reports.items c.add_report.new.reports.items c.in-Ok.report g.thread (record { 0 = c.args.ran.start.thread }) g.gone
+          g.ensures.ok.0 g.ensures.ok.1 ms rs,
+    )
 
 pub returns-in-Err : goal.returns-in-Err
 returns-in-Err c =
