@@ -151,8 +151,8 @@ out_at (x ∷ ms) zero m h = let is : x ≡ m = cc in ap is_out is
 out_at (x ∷ ms) (suc t) m h = out_at ms t m h
 
 set_back : (ms : List Mark) (t : ℕ) (m : Mark) → is_out m ≡ false → TakesBack (map is_out ms) t (map is_out (slice_set ms t m))
-set_back ms t m here = record {
-  back = rw (map_set is_out ms t m, here) (not_out (map is_out ms) t);
+set_back ms t m e = record {
+  back = rw (map_set is_out ms t m, e) (not_out (map is_out ms) t);
   others = λ u ne. rw (map_set is_out ms t m) (out_other (map is_out ms) t u (is_out m) ne);
 }
 

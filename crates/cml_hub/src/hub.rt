@@ -102,6 +102,7 @@ fn place_all(marks: &mut Marks, row: Meet)
 }
 
 // The report that is due, with room for it among the others.
+#[tactic(none)]
 fn due(
     alloc: Global,
     course: &Course,
@@ -141,6 +142,7 @@ impl Hub {
     ///
     /// # Errors
     /// Out of memory. It hands the program back.
+    #[tactic(none)]
     pub fn begin(
         alloc: Global,
         program: Prog,
@@ -245,6 +247,7 @@ impl Hub {
     }
 
     // Whether nothing is left to do.
+    #[tactic(none)]
     fn is_terminal(&self) -> bool
         ensures { result ≡ spec.terminal self.now.course.world }
     {
@@ -252,6 +255,7 @@ impl Hub {
     }
 
     // Whether nothing is left to do, or the budget is used.
+    #[tactic(none)]
     fn is_over(&self) -> bool
         ensures { result ≡ spec.over self.now.budget (run_of self.now.course) }
     {
@@ -270,6 +274,7 @@ impl Hub {
     }
 
     // The machine of the thread that is ready and comes next.
+    #[tactic(none)]
     fn hand_out(&mut self, alloc: Global) -> Result<Option<Machine>, AllocError>
         ensures ok { IfOk result (λ job. HandedOut self.old job self.new) }
         ensures err { OnErr result (self.new ≡ self.old) }
@@ -319,11 +324,13 @@ impl Hub {
         ensures out { self.new.out ≡ self.old.out }
         ensures err { OnErr result (self.new ≡ self.old) }
     {
-        self.course.tick(alloc, tick)
+        self.course.tick(alloc, tick)?;
+        Ok(())
     }
 
     // A row is taken that the chooser picks; or, where there is none and no thread runs, the time moves to the next alarm. It answers
     // whether one of them was done.
+    #[tactic(none)]
     fn move_on<C: Chooser>(&mut self, alloc: Global, chooser: &mut C) -> Result<bool, AllocError>
         requires all_out { AllOut self.old }
         requires due { NoneDue self.old }
@@ -452,6 +459,7 @@ impl Hub {
     }
 
     // Whether the item may come now.
+    #[tactic(none)]
     fn is_allowed(&self, item: &Item) -> bool
         ensures { result ≡ spec.is_allowed self.now.course.world item.now }
     {
@@ -464,6 +472,7 @@ impl Hub {
     }
 
     // The item comes, which may.
+    #[tactic(none)]
     fn follow(&mut self, alloc: Global, item: Item) -> Result<(), AllocError>
         requires allowed { spec.is_allowed self.old.course.world item ≡ true }
         requires due { NoneDue self.old }
@@ -511,6 +520,7 @@ impl Hub {
     }
 
     // The item comes, and the report that is due after it is made.
+    #[tactic(none)]
     fn step(&mut self, alloc: Global, item: Item) -> Result<(), AllocError>
         requires allowed { spec.is_allowed self.old.course.world item ≡ true }
         requires due { NoneDue self.old }
