@@ -20,3 +20,4 @@ pub mod Reporting
 pub mod Keeping
 pub mod Giving
 pub mod Written
+pub mod Deciding

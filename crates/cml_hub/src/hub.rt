@@ -247,7 +247,6 @@ impl Hub {
     }
 
     // Whether nothing is left to do.
-    #[tactic(none)]
     fn is_terminal(&self) -> bool
         ensures { result ≡ spec.terminal self.now.course.world }
     {
@@ -255,7 +254,6 @@ impl Hub {
     }
 
     // Whether nothing is left to do, or the budget is used.
-    #[tactic(none)]
     fn is_over(&self) -> bool
         ensures { result ≡ spec.over self.now.budget (run_of self.now.course) }
     {
@@ -274,7 +272,6 @@ impl Hub {
     }
 
     // The machine of the thread that is ready and comes next.
-    #[tactic(none)]
     fn hand_out(&mut self, alloc: Global) -> Result<Option<Machine>, AllocError>
         ensures ok { IfOk result (λ job. HandedOut self.old job self.new) }
         ensures err { OnErr result (self.new ≡ self.old) }
@@ -330,7 +327,6 @@ impl Hub {
 
     // A row is taken that the chooser picks; or, where there is none and no thread runs, the time moves to the next alarm. It answers
     // whether one of them was done.
-    #[tactic(none)]
     fn move_on<C: Chooser>(&mut self, alloc: Global, chooser: &mut C) -> Result<bool, AllocError>
         requires all_out { AllOut self.old }
         requires due { NoneDue self.old }
@@ -459,7 +455,6 @@ impl Hub {
     }
 
     // Whether the item may come now.
-    #[tactic(none)]
     fn is_allowed(&self, item: &Item) -> bool
         ensures { result ≡ spec.is_allowed self.now.course.world item.now }
     {
@@ -472,7 +467,6 @@ impl Hub {
     }
 
     // The item comes, which may.
-    #[tactic(none)]
     fn follow(&mut self, alloc: Global, item: Item) -> Result<(), AllocError>
         requires allowed { spec.is_allowed self.old.course.world item ≡ true }
         requires due { NoneDue self.old }
@@ -520,7 +514,6 @@ impl Hub {
     }
 
     // The item comes, and the report that is due after it is made.
-    #[tactic(none)]
     fn step(&mut self, alloc: Global, item: Item) -> Result<(), AllocError>
         requires allowed { spec.is_allowed self.old.course.world item ≡ true }
         requires due { NoneDue self.old }
