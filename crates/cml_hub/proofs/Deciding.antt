@@ -80,6 +80,12 @@ pub is_terminal : (w : PlainWorld) → None ≡ next_alarm w → any_runs w ≡ 
 is_terminal w alarm idle still =
     all_three (not (any_runs w)) (is_empty (scan w)) (is_none (next_alarm w)) (ap not idle) (empty_is (scan w) still) (subst (λ o. is_none o ≡ true) alarm refl)
 
+pub stuck : (w v : PlainWorld) → w ≡ v → terminal v ≡ false → None ≡ next_alarm w → any_runs w ≡ false → scan w ≡ [] → ⊥
+stuck w v e going alarm idle still =
+    let t : terminal v ≡ true = subst (λ x. terminal x ≡ true) e (is_terminal w alarm idle still) in
+    let both : true ≡ false = sym t ∙ going in
+    cc
+
 -- a machine is handed out
 pub stands_handed : (course : PlainCourse) (budget : ℕ) (watch : Option ℕ) (ms ns : List Mark) (reports : List PlainReport) (t : ℕ) → Stands (kept_of course budget watch ms reports) ms
     → slice_get ms t ≡ Some Ready → ns ≡ slice_set ms t Out → Stands (kept_of course budget watch ns reports) ns

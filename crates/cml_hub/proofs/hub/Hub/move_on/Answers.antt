@@ -1,5 +1,6 @@
 use Rattle.std.proofs.Common.{◌≡◌, sym, ap, refl}
-use Rattle.cml_hub.proofs.Deciding.{none_runs, some_runs, tick_allowed, is_terminal}
+use Rattle.cml_hub.specs.Kept.{Kept}
+use Rattle.cml_hub.proofs.Deciding.{none_runs, some_runs, tick_allowed, stuck}
 use Rattle.cml_hub.proofs.hub.Hub.move_on.Goals as goal
 
 pub returns-then-not-is_idle-clause-ok : goal.returns-then-not-is_idle-clause-ok
@@ -17,5 +18,4 @@ pub unreachable-requires : goal.unreachable-requires
 unreachable-requires g c =
     let s = c.self.inside in
     let none = none_runs s.course.world.threads s.marks.marks c.is_idle.result c.self.invariant.placed c.is_idle.ensures c.if-not-is_idle.false in
-    let going = rw (← c.self.view_is) at c.requires.going in
-    ?
+    stuck s.course.world c.args.self.now.course.world (ap (λ (x : Kept). x.course.world) c.self.view_is) c.requires.going c.in-None.ensures none c.in_default.ensures
