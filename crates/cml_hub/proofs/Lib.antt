@@ -19,3 +19,4 @@ pub mod Marking
 pub mod Reporting
 pub mod Keeping
 pub mod Giving
+pub mod Onward

@@ -148,7 +148,6 @@ impl Hub {
     ///
     /// # Errors
     /// Out of memory. It hands the program back.
-    #[tactic(none)]
     pub fn begin(
         alloc: Global,
         program: Prog,
@@ -253,7 +252,6 @@ impl Hub {
     }
 
     // Whether nothing is left to do.
-    #[tactic(none)]
     fn is_terminal(&self) -> bool
         ensures { result ≡ spec.terminal self.now.course.world }
     {
@@ -261,7 +259,6 @@ impl Hub {
     }
 
     // Whether nothing is left to do, or the budget is used.
-    #[tactic(none)]
     fn is_over(&self) -> bool
         ensures { result ≡ spec.over self.now.budget (run_of self.now.course) }
     {
@@ -280,7 +277,6 @@ impl Hub {
     }
 
     // The machine of the thread that is ready and comes next.
-    #[tactic(none)]
     fn hand_out(&mut self, alloc: Global) -> Result<Option<Machine>, AllocError>
         ensures ok { IfOk result (λ job. HandedOut self.old job self.new) }
         ensures err { OnErr result (self.new ≡ self.old) }
@@ -336,7 +332,6 @@ impl Hub {
 
     // A row is taken that the chooser picks; or, where there is none and no thread runs, the time moves to the next alarm. It answers
     // whether one of them was done.
-    #[tactic(none)]
     fn move_on<C: Chooser>(&mut self, alloc: Global, chooser: &mut C) -> Result<bool, AllocError>
         requires all_out { AllOut self.old }
         requires due { NoneDue self.old }
@@ -465,7 +460,6 @@ impl Hub {
     }
 
     // Whether the item may come now.
-    #[tactic(none)]
     fn is_allowed(&self, item: &Item) -> bool
         ensures { result ≡ spec.is_allowed self.now.course.world item.now }
     {
@@ -478,7 +472,6 @@ impl Hub {
     }
 
     // The item comes, which may.
-    #[tactic(none)]
     fn follow(&mut self, alloc: Global, item: Item) -> Result<(), AllocError>
         requires allowed { spec.is_allowed self.old.course.world item ≡ true }
         requires due { NoneDue self.old }
@@ -489,7 +482,8 @@ impl Hub {
     {
         match item {
             Item::Turn(thread) => self.turn(alloc, thread),
-            Item::Meet(row) | Item::Exchange(row) => self.meet(alloc, item, row),
+            Item::Meet(row) => self.meet(alloc, item, row),
+            Item::Exchange(row) => self.meet(alloc, item, row),
             Item::Clock(tick) => self.tick(alloc, tick),
         }
     }
@@ -526,7 +520,6 @@ impl Hub {
     }
 
     // The item comes, and the report that is due after it is made.
-    #[tactic(none)]
     fn step(&mut self, alloc: Global, item: Item) -> Result<(), AllocError>
         requires allowed { spec.is_allowed self.old.course.world item ≡ true }
         requires due { NoneDue self.old }
