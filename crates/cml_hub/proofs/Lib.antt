@@ -21,3 +21,4 @@ pub mod Keeping
 pub mod Giving
 pub mod Written
 pub mod Deciding
+pub mod Onward

@@ -1,7 +1,7 @@
 //! The hub: it hands out slices of the threads and takes them back, chooses among the communications that are possible, and keeps the
 //! schedule of what happened.
 
-ghost use Rattle.std.specs.Prelude.{◌≡◌, ◌↔◌, ◌≤◌, ◌<◌, [], Some, IfOk, IfErr, IfSome, OnOk, OnErr, IsTrue, Ok, true, false, length, slice_get};
+ghost use Rattle.std.specs.Prelude.{◌≡◌, ◌↔◌, ◌+◌, ◌*◌, ◌≤◌, ◌<◌, [], Some, IfOk, IfErr, IfSome, OnOk, OnErr, IsTrue, Ok, true, false, length, slice_get};
 ghost use Rattle.std.specs.Vec.{vec_len, vec_capacity};
 ghost use Rattle.cml_scan.specs.World.{pending, running};
 ghost use Rattle.cml_check.specs.Sizes.{size_of};
@@ -101,8 +101,14 @@ fn place_all(marks: &mut Marks, row: Meet)
     }
 }
 
+// Whether a report is due after so many items, where so many were made and one is made after each so many items.
+fn is_due(every: u64, reports: usize, items: usize) -> bool
+    ensures { IsTrue result ↔ (items ≡ every * (reports + 1)) }
+{
+    u128::from(every) * (reports as u128 + 1) == items as u128
+}
+
 // The report that is due, with room for it among the others.
-#[tactic(none)]
 fn due(
     alloc: Global,
     course: &Course,
@@ -118,7 +124,7 @@ fn due(
     let Some(every) = watch else {
         return Ok(None);
     };
-    if u128::from(every) * (reports.len() as u128 + 1) != items as u128 {
+    if !is_due(every, reports.len(), items) {
         return Ok(None);
     }
     reports.reserve(1)?;
@@ -142,7 +148,6 @@ impl Hub {
     ///
     /// # Errors
     /// Out of memory. It hands the program back.
-    #[tactic(none)]
     pub fn begin(
         alloc: Global,
         program: Prog,
@@ -477,7 +482,8 @@ impl Hub {
     {
         match item {
             Item::Turn(thread) => self.turn(alloc, thread),
-            Item::Meet(row) | Item::Exchange(row) => self.meet(alloc, item, row),
+            Item::Meet(row) => self.meet(alloc, item, row),
+            Item::Exchange(row) => self.meet(alloc, item, row),
             Item::Clock(tick) => self.tick(alloc, tick),
         }
     }
