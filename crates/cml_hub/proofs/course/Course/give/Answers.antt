@@ -110,5 +110,5 @@ returns-clause-ok c =
     let output : string_bytes c.tell.new.output ≡ string_bytes s.output ++ string_bytes prepared.line = c.tell.ensures ∙ ap (λ xs. xs ++ c.as_str.result.now) c.prepare.ensures.bytes ∙ ap (λ xs. string_bytes s.output ++ xs) c.as_str.ensures.value in
     let used : s.used + c.from.result ≡ s.used + ran.steps = ap (λ n. s.used + n) (c.from.ensures ∙ c.steps-steps.ensures.steps) in
     let turns = turned_is_at k number ran.start ran.end ran.ask ran.steps prepared.done c.prepare.new.book (string_bytes prepared.line) c.settle.new.machines.items
-          c.push_reserved.new.self.items (string_bytes c.tell.new.output) (s.used + c.from.result) items output used c.self.invariant turn in
+    c.push_reserved.new.self.items (string_bytes c.tell.new.output) (s.used + c.from.result) items output used c.self.invariant turn in
     rw (← c.self.view_is, c.gone-gone.ensures) (turns, e)
