@@ -20,3 +20,5 @@ pub mod Reporting
 pub mod Keeping
 pub mod Giving
 pub mod Written
+pub mod Deciding
+pub mod Onward

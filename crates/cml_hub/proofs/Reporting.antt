@@ -1,6 +1,6 @@
 -- Reports stay, and the one that is due is made.
-use Rattle.std.proofs.Common.{◌≡◌, ◌≢◌, ℕ, zero, suc, ◌+◌, ◌*◌, ◌<◌, ◌≤◌, List, [], ◌∷◌, ◌++◌, length, map, take, refl, arith, Some, None, sym, ap, ◌∙◌, length-append, below_more}
-use Rattle.std.specs.Prelude.{slice_get, Option, option_map}
+use Rattle.std.proofs.Common.{◌≡◌, ◌≢◌, ℕ, zero, suc, ◌+◌, ◌*◌, ◌^◌, ◌<◌, ◌≤◌, Bool, true, false, List, [], ◌∷◌, ◌++◌, length, map, take, refl, arith, Some, None, sym, ap, ◌∙◌, length-append, below_more}
+use Rattle.std.specs.Prelude.{slice_get, Option, option_map, IsTrue, ◌↔◌}
 use Rattle.std.proofs.lemmas.List.{take-append-le, take_all}
 use Rattle.std.proofs.Math.Nat.{mul-le-mul_left}
 use Rattle.cml_scan.specs.World.{PlainWorld}
@@ -124,3 +124,16 @@ reported_none h none = record { course = refl; budget = refl; watch = refl; out 
     nothing : (xs : List PlainReport) → xs ≡ xs ++ []
     nothing [] = refl
     nothing (x ∷ xs) = ap (λ ys. x ∷ ys) (nothing xs)
+
+-- the product of two numbers of 64 bits fits in 128
+pub product_fits : (a b : ℕ) → a < 2 ^ 64 → b ≤ 2 ^ 64 → a * b < 2 ^ 128
+product_fits a b ha hb = omega (arith, mul-le-mul_left a hb)
+
+-- what a test says
+pub so : {P : Type 0} (b : Bool) → (IsTrue b ↔ P) → b ≡ true → P
+so true h e = h.0 refl
+so false h e = absurd (cc)
+
+pub not_so : {P : Type 0} (b : Bool) → (IsTrue b ↔ P) → b ≡ false → P → ⊥
+not_so true h e p = absurd (cc)
+not_so false h e p = let f : IsTrue false = h.1 p in cc

@@ -1,7 +1,7 @@
 //! The hub: it hands out slices of the threads and takes them back, chooses among the communications that are possible, and keeps the
 //! schedule of what happened.
 
-ghost use Rattle.std.specs.Prelude.{◌≡◌, ◌↔◌, ◌≤◌, ◌<◌, [], Some, IfOk, IfErr, IfSome, OnOk, OnErr, IsTrue, Ok, true, false, length, slice_get};
+ghost use Rattle.std.specs.Prelude.{◌≡◌, ◌↔◌, ◌+◌, ◌*◌, ◌≤◌, ◌<◌, [], Some, IfOk, IfErr, IfSome, OnOk, OnErr, IsTrue, Ok, true, false, length, slice_get};
 ghost use Rattle.std.specs.Vec.{vec_len, vec_capacity};
 ghost use Rattle.cml_scan.specs.World.{pending, running};
 ghost use Rattle.cml_check.specs.Sizes.{size_of};
@@ -101,8 +101,14 @@ fn place_all(marks: &mut Marks, row: Meet)
     }
 }
 
+// Whether a report is due after so many items, where so many were made and one is made after each so many items.
+fn is_due(every: u64, reports: usize, items: usize) -> bool
+    ensures { IsTrue result ↔ (items ≡ every * (reports + 1)) }
+{
+    u128::from(every) * (reports as u128 + 1) == items as u128
+}
+
 // The report that is due, with room for it among the others.
-#[tactic(none)]
 fn due(
     alloc: Global,
     course: &Course,
@@ -118,7 +124,7 @@ fn due(
     let Some(every) = watch else {
         return Ok(None);
     };
-    if u128::from(every) * (reports.len() as u128 + 1) != items as u128 {
+    if !is_due(every, reports.len(), items) {
         return Ok(None);
     }
     reports.reserve(1)?;
@@ -142,7 +148,6 @@ impl Hub {
     ///
     /// # Errors
     /// Out of memory. It hands the program back.
-    #[tactic(none)]
     pub fn begin(
         alloc: Global,
         program: Prog,
@@ -247,7 +252,6 @@ impl Hub {
     }
 
     // Whether nothing is left to do.
-    #[tactic(none)]
     fn is_terminal(&self) -> bool
         ensures { result ≡ spec.terminal self.now.course.world }
     {
@@ -255,7 +259,6 @@ impl Hub {
     }
 
     // Whether nothing is left to do, or the budget is used.
-    #[tactic(none)]
     fn is_over(&self) -> bool
         ensures { result ≡ spec.over self.now.budget (run_of self.now.course) }
     {
@@ -274,7 +277,6 @@ impl Hub {
     }
 
     // The machine of the thread that is ready and comes next.
-    #[tactic(none)]
     fn hand_out(&mut self, alloc: Global) -> Result<Option<Machine>, AllocError>
         ensures ok { IfOk result (λ job. HandedOut self.old job self.new) }
         ensures err { OnErr result (self.new ≡ self.old) }
@@ -330,7 +332,6 @@ impl Hub {
 
     // A row is taken that the chooser picks; or, where there is none and no thread runs, the time moves to the next alarm. It answers
     // whether one of them was done.
-    #[tactic(none)]
     fn move_on<C: Chooser>(&mut self, alloc: Global, chooser: &mut C) -> Result<bool, AllocError>
         requires all_out { AllOut self.old }
         requires due { NoneDue self.old }
@@ -459,7 +460,6 @@ impl Hub {
     }
 
     // Whether the item may come now.
-    #[tactic(none)]
     fn is_allowed(&self, item: &Item) -> bool
         ensures { result ≡ spec.is_allowed self.now.course.world item.now }
     {
@@ -472,7 +472,6 @@ impl Hub {
     }
 
     // The item comes, which may.
-    #[tactic(none)]
     fn follow(&mut self, alloc: Global, item: Item) -> Result<(), AllocError>
         requires allowed { spec.is_allowed self.old.course.world item ≡ true }
         requires due { NoneDue self.old }
@@ -483,7 +482,8 @@ impl Hub {
     {
         match item {
             Item::Turn(thread) => self.turn(alloc, thread),
-            Item::Meet(row) | Item::Exchange(row) => self.meet(alloc, item, row),
+            Item::Meet(row) => self.meet(alloc, item, row),
+            Item::Exchange(row) => self.meet(alloc, item, row),
             Item::Clock(tick) => self.tick(alloc, tick),
         }
     }
@@ -520,7 +520,6 @@ impl Hub {
     }
 
     // The item comes, and the report that is due after it is made.
-    #[tactic(none)]
     fn step(&mut self, alloc: Global, item: Item) -> Result<(), AllocError>
         requires allowed { spec.is_allowed self.old.course.world item ≡ true }
         requires due { NoneDue self.old }

@@ -1,81 +1,25 @@
-use Rattle.std.proofs.Common.{rules, ◌≡◌, ◌↔◌, ◌≤◌, ◌<◌, [], Some, IfOk, IfErr, IfSome, OnOk, OnErr, IsTrue, Ok, true, false, length, slice_get, ℕ, ◌+◌, ◌-◌, ◌*◌, ◌/◌, ◌%◌, Bool, nat_eq, nat_lt, List, ◌∷◌, ◌++◌, slice_index_or, slice_set, bit_and, bit_or, Fits, w8, w32, w64, Bor, MutBor}
-use Rattle.std.specs.Vec.{vec_len, vec_capacity}
-use Rattle.cml_scan.specs.World.{pending, running}
-use Rattle.cml_check.specs.Sizes.{size_of}
-use Rattle.cml_schedule.specs.Written.{schedule_text}
-use Rattle.cml_schedule.specs.Reading.{ReadsAs}
-use Rattle.cml_step.specs.Calls.{text_of}
-use Rattle.cml_hub.specs.Runs as spec
-use Rattle.cml_hub.specs.Courses.{run_of, Takes, Adds}
-use Rattle.cml_hub.specs.Reports.{AreReports, IsDueReport}
-use Rattle.cml_hub.specs.Kept.{IsBudget, IsWatch, IsBegun, Continues, Extends, HandsOut, is_ended, NoneDue, NoneOut, AllOut, Gives, IsOver, Replays, FitsSize}
-use Rattle.cml_hub.specs.Moves.{IsNext, marks_after, PartiesAway, marks_met, Moves, TakesBack, Reported, HandedOut, MovedOn}
+use Rattle.std.proofs.Common.{◌≡◌, ◌≢◌, ◌≤◌, ◌<◌, ◌+◌, ◌*◌, ◌&&◌, true, false, not, Bool, ℕ, List, [], ◌∷◌, ◌++◌, length, map, refl, sym, ap, subst, ◌∙◌, arith, Some, None}
+use Rattle.std.specs.Prelude.{slice_get, slice_set}
+use Rattle.cml_scan.specs.World.{running}
+use Rattle.cml_hub.specs.Marks.{is_out}
+use Rattle.cml_hub.specs.Kept.{Kept, NoneDue}
+use Rattle.std.specs.Vec.{vec_len}
+use Rattle.cml_hub.proofs.Reporting.{so, not_so}
 use Rattle.cml_hub.proofs.hub.due.Goals as goal
 
--- src/hub.rt:118:9
 pub returns-in_default-clause-due : goal.returns-in_default-clause-due
-returns-in_default-clause-due c = ?
+returns-in_default-clause-due c =
+    rw (c.in_default.is) (λ d. d)
 
--- src/hub.rt:118:9
-pub returns-in_default-clause-items : goal.returns-in_default-clause-items
-returns-in_default-clause-items c = ?
+pub returns-then-not-is_due-clause-due : goal.returns-then-not-is_due-clause-due
+returns-then-not-is_due-clause-due c =
+    let same : vec_len c.args.reports.now ≡ length c.args.reports.now.items = omega (arith, c.args.reports.now.ok.0) in
+    let no_time : c.is_due.result ≡ false = cc in
+    rw (c.in-Some.is) (λ d. not_so c.is_due.result c.is_due.ensures no_time (rw (c.len.ensures, c.items-items.ensures.items, same) d))
 
--- src/hub.rt:121:29
-pub overflow_cast-len : goal.overflow_cast-len
-overflow_cast-len c = ?
-
--- src/hub.rt:121:29
-pub overflow_add-len : goal.overflow_add-len
-overflow_add-len c = ?
-
--- src/hub.rt:121:8
-pub overflow_mul-from : goal.overflow_mul-from
-overflow_mul-from c = ?
-
--- src/hub.rt:121:59
-pub overflow_cast-items : goal.overflow_cast-items
-overflow_cast-items c = ?
-
--- src/hub.rt:122:9
-pub returns-then-from-len-clause-due : goal.returns-then-from-len-clause-due
-returns-then-from-len-clause-due c = ?
-
--- src/hub.rt:122:9
-pub returns-then-from-len-clause-items : goal.returns-then-from-len-clause-items
-returns-then-from-len-clause-items c = ?
-
--- src/hub.rt:124:5
-pub returns-in_err-reserve-clause-due : goal.returns-in_err-reserve-clause-due
-returns-in_err-reserve-clause-due c = ?
-
--- src/hub.rt:124:5
-pub returns-in_err-reserve-clause-items : goal.returns-in_err-reserve-clause-items
-returns-in_err-reserve-clause-items c = ?
-
--- src/hub.rt:124:5
-pub returns-in_err-reserve-clause-room : goal.returns-in_err-reserve-clause-room
-returns-in_err-reserve-clause-room c = ?
-
--- src/hub.rt:125:13
-pub returns-in_err-report-clause-due : goal.returns-in_err-report-clause-due
-returns-in_err-report-clause-due c = ?
-
--- src/hub.rt:125:13
-pub returns-in_err-report-clause-items : goal.returns-in_err-report-clause-items
-returns-in_err-report-clause-items c = ?
-
--- src/hub.rt:125:13
-pub returns-in_err-report-clause-room : goal.returns-in_err-report-clause-room
-returns-in_err-report-clause-room c = ?
-
--- src/hub.rt:106:1
 pub returns-clause-due : goal.returns-clause-due
-returns-clause-due c = ?
-
--- src/hub.rt:106:1
-pub returns-clause-items : goal.returns-clause-items
-returns-clause-items c = ?
-
--- src/hub.rt:106:1
-pub returns-clause-room : goal.returns-clause-room
-returns-clause-room c = ?
+returns-clause-due c =
+    let same : vec_len c.args.reports.now ≡ length c.args.reports.now.items = omega (arith, c.args.reports.now.ok.0) in
+    let now : c.is_due.result ≡ true = cc in
+    let is = so c.is_due.result c.is_due.ensures now in
+    rw (c.in-Some.is) (rw (c.len.ensures, c.items-items.ensures.items, same) at is, rw (c.items-items.ensures.items) at c.in_ok-report.ensures)

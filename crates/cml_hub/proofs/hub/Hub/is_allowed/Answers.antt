@@ -1,33 +1,28 @@
-use Rattle.std.proofs.Common.{rules, ◌≡◌, ◌↔◌, ◌≤◌, ◌<◌, [], Some, IfOk, IfErr, IfSome, OnOk, OnErr, IsTrue, Ok, true, false, length, slice_get, ℕ, ◌+◌, ◌-◌, ◌*◌, ◌/◌, ◌%◌, Bool, nat_eq, nat_lt, List, ◌∷◌, ◌++◌, slice_index_or, slice_set, bit_and, bit_or, Fits, w8, w32, w64, Bor, MutBor}
-use Rattle.std.specs.Vec.{vec_len, vec_capacity}
-use Rattle.cml_scan.specs.World.{pending, running}
-use Rattle.cml_check.specs.Sizes.{size_of}
-use Rattle.cml_schedule.specs.Written.{schedule_text}
-use Rattle.cml_schedule.specs.Reading.{ReadsAs}
-use Rattle.cml_step.specs.Calls.{text_of}
-use Rattle.cml_hub.specs.Runs as spec
-use Rattle.cml_hub.specs.Courses.{run_of, Takes, Adds}
-use Rattle.cml_hub.specs.Reports.{AreReports, IsDueReport}
-use Rattle.cml_hub.specs.Kept.{IsBudget, IsWatch, IsBegun, Continues, Extends, HandsOut, is_ended, NoneDue, NoneOut, AllOut, Gives, IsOver, Replays, FitsSize}
-use Rattle.cml_hub.specs.Moves.{IsNext, marks_after, PartiesAway, marks_met, Moves, TakesBack, Reported, HandedOut, MovedOn}
+use Rattle.std.proofs.Common.{◌≡◌, ◌≢◌, ◌≤◌, ◌<◌, ◌+◌, ◌*◌, ◌&&◌, true, false, not, Bool, ℕ, List, [], ◌∷◌, ◌++◌, length, map, refl, sym, ap, subst, ◌∙◌, arith, Some, None}
+use Rattle.std.specs.Prelude.{slice_get, slice_set}
+use Rattle.cml_scan.specs.World.{running}
+use Rattle.cml_hub.specs.Marks.{is_out}
+use Rattle.cml_hub.specs.Kept.{Kept, NoneDue}
+use Rattle.cml_hub.proofs.Marking.{placed_any}
 use Rattle.cml_hub.proofs.hub.Hub.is_allowed.Goals as goal
 
--- src/hub.rt:447:34
 pub may_tick-requires : goal.may_tick-requires
-may_tick-requires c = ?
+may_tick-requires c =
+    let s = c.self.inside in
+    c.is_idle.ensures ∙ ap not (placed_any s.course.world.threads s.marks.marks c.self.invariant.placed)
 
--- src/hub.rt:439:5
 pub returns-in-Turn : goal.returns-in-Turn
-returns-in-Turn c = ?
+returns-in-Turn c =
+    rw (← c.self.view_is, c.in-Turn.is) c.is_running.ensures
 
--- src/hub.rt:439:5
 pub returns-in-Meet : goal.returns-in-Meet
-returns-in-Meet c = ?
+returns-in-Meet c =
+    rw (← c.self.view_is, c.in-Meet.is) c.has.ensures
 
--- src/hub.rt:439:5
 pub returns-in-Exchange : goal.returns-in-Exchange
-returns-in-Exchange c = ?
+returns-in-Exchange c =
+    rw (← c.self.view_is, c.in-Exchange.is) c.swaps.ensures
 
--- src/hub.rt:439:5
 pub returns-in-Clock : goal.returns-in-Clock
-returns-in-Clock c = ?
+returns-in-Clock c =
+    rw (← c.self.view_is, c.in-Clock.is) c.may_tick.ensures

@@ -1,21 +1,22 @@
-use Rattle.std.proofs.Common.{rules, ◌≡◌, ◌↔◌, ◌≤◌, ◌<◌, [], Some, IfOk, IfErr, IfSome, OnOk, OnErr, IsTrue, Ok, true, false, length, slice_get, ℕ, ◌+◌, ◌-◌, ◌*◌, ◌/◌, ◌%◌, Bool, nat_eq, nat_lt, List, ◌∷◌, ◌++◌, slice_index_or, slice_set, bit_and, bit_or, Fits, w8, w32, w64, Bor, MutBor}
-use Rattle.std.specs.Vec.{vec_len, vec_capacity}
-use Rattle.cml_scan.specs.World.{pending, running}
-use Rattle.cml_check.specs.Sizes.{size_of}
-use Rattle.cml_schedule.specs.Written.{schedule_text}
-use Rattle.cml_schedule.specs.Reading.{ReadsAs}
-use Rattle.cml_step.specs.Calls.{text_of}
-use Rattle.cml_hub.specs.Runs as spec
-use Rattle.cml_hub.specs.Courses.{run_of, Takes, Adds}
-use Rattle.cml_hub.specs.Reports.{AreReports, IsDueReport}
-use Rattle.cml_hub.specs.Kept.{IsBudget, IsWatch, IsBegun, Continues, Extends, HandsOut, is_ended, NoneDue, NoneOut, AllOut, Gives, IsOver, Replays, FitsSize}
-use Rattle.cml_hub.specs.Moves.{IsNext, marks_after, PartiesAway, marks_met, Moves, TakesBack, Reported, HandedOut, MovedOn}
+use Rattle.std.proofs.Common.{◌≡◌, ◌&&◌, sym, ap, subst, refl, ◌∙◌}
+use Rattle.cml_scan.specs.Scan.{scan}
+use Rattle.cml_hub.specs.Runs.{is_empty}
+use Rattle.cml_hub.proofs.Deciding.{idle_is, terminal_then, terminal_else}
+use Rattle.cml_hub.proofs.hub.Hub.is_terminal.Goals.{then-is_idle, else-is_idle}
 use Rattle.cml_hub.proofs.hub.Hub.is_terminal.Goals as goal
 
--- src/hub.rt:240:5
 pub returns-then-is_still : goal.returns-then-is_still
-returns-then-is_still c = ?
+returns-then-is_still c =
+    let s = c.self.inside in
+    let w = s.course.world in
+    let idle = idle_is w.threads s.marks.marks c.is_idle.result c.self.invariant.placed c.is_idle.ensures in
+    let both : c.if-is_idle.value ≡ (c.is_idle.result && is_empty (scan w)) = elim c.if-is_idle.branch [ then-is_idle v ↦ rw (v.if-is_idle.true) (v.value-is ∙ v.is_still.ensures) | else-is_idle v ↦ rw (v.if-is_idle.false) (v.value-is ∙ v.if-is_idle.false) ] in
+    rw (← c.self.view_is) (terminal_then w c.is_idle.result c.if-is_idle.value c.is_none.result c.next_alarm.result idle both c.if-is_still.true c.next_alarm.ensures c.is_none.ensures)
 
--- src/hub.rt:240:5
 pub returns-else-is_still : goal.returns-else-is_still
-returns-else-is_still c = ?
+returns-else-is_still c =
+    let s = c.self.inside in
+    let w = s.course.world in
+    let idle = idle_is w.threads s.marks.marks c.is_idle.result c.self.invariant.placed c.is_idle.ensures in
+    let both : c.if-is_idle.value ≡ (c.is_idle.result && is_empty (scan w)) = elim c.if-is_idle.branch [ then-is_idle v ↦ rw (v.if-is_idle.true) (v.value-is ∙ v.is_still.ensures) | else-is_idle v ↦ rw (v.if-is_idle.false) (v.value-is ∙ v.if-is_idle.false) ] in
+    rw (← c.self.view_is) (terminal_else w c.is_idle.result c.if-is_idle.value idle both c.if-is_still.false)

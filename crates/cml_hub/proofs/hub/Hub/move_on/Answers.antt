@@ -1,87 +1,65 @@
-use Rattle.std.proofs.Common.{rules, ◌≡◌, ◌↔◌, ◌≤◌, ◌<◌, [], Some, IfOk, IfErr, IfSome, OnOk, OnErr, IsTrue, Ok, true, false, length, slice_get, ℕ, ◌+◌, ◌-◌, ◌*◌, ◌/◌, ◌%◌, Bool, nat_eq, nat_lt, List, ◌∷◌, ◌++◌, slice_index_or, slice_set, bit_and, bit_or, Fits, w8, w32, w64, Bor, MutBor}
-use Rattle.std.specs.Vec.{vec_len, vec_capacity}
-use Rattle.cml_scan.specs.World.{pending, running}
-use Rattle.cml_check.specs.Sizes.{size_of}
-use Rattle.cml_schedule.specs.Written.{schedule_text}
-use Rattle.cml_schedule.specs.Reading.{ReadsAs}
-use Rattle.cml_step.specs.Calls.{text_of}
-use Rattle.cml_hub.specs.Runs as spec
-use Rattle.cml_hub.specs.Courses.{run_of, Takes, Adds}
-use Rattle.cml_hub.specs.Reports.{AreReports, IsDueReport}
-use Rattle.cml_hub.specs.Kept.{IsBudget, IsWatch, IsBegun, Continues, Extends, HandsOut, is_ended, NoneDue, NoneOut, AllOut, Gives, IsOver, Replays, FitsSize}
-use Rattle.cml_hub.specs.Moves.{IsNext, marks_after, PartiesAway, marks_met, Moves, TakesBack, Reported, HandedOut, MovedOn}
+use Rattle.std.proofs.Common.{◌≡◌, ◌≢◌, ◌≤◌, ◌<◌, ◌+◌, ◌*◌, ◌&&◌, true, false, not, Bool, ℕ, List, [], ◌∷◌, ◌++◌, length, map, refl, sym, ap, subst, ◌∙◌, arith, Some, None}
+use Rattle.std.specs.Prelude.{slice_get, slice_set}
+use Rattle.cml_scan.specs.World.{running}
+use Rattle.cml_hub.specs.Marks.{is_out}
+use Rattle.cml_hub.specs.Kept.{Kept, NoneDue}
+use Rattle.cml_schedule.specs.declared.item.Item.TheVariants.{Clock}
+use Rattle.cml_hub.specs.Runs.{any_runs, terminal}
+use Rattle.cml_hub.specs.Kept.{IsNoTurn}
+use Rattle.cml_hub.proofs.Marking.{placed_any}
+use Rattle.cml_hub.proofs.Onward.{none_runs, some_runs, tick_allowed, terminal_is}
+use Rattle.cml_hub.proofs.hub.Hub.move_on.Goals.{then-swaps, else-swaps}
 use Rattle.cml_hub.proofs.hub.Hub.move_on.Goals as goal
 
--- src/hub.rt:340:13
-pub same-self : goal.same-self
-same-self g c = ?
-
--- src/hub.rt:340:13
 pub meet-requires-clause-takes : goal.meet-requires-clause-takes
-meet-requires-clause-takes g c = ?
+meet-requires-clause-takes g c =
+    elim c.if-swaps.branch [ then-swaps w ↦ rw (w.item-is) refl | else-swaps w ↦ rw (w.item-is) refl ]
 
--- src/hub.rt:340:13
 pub meet-requires-clause-allowed : goal.meet-requires-clause-allowed
-meet-requires-clause-allowed g c = ?
+meet-requires-clause-allowed g c =
+    elim c.if-swaps.branch [
+      | then-swaps w ↦ rw (← c.self.view_is, w.item-is) (sym c.swaps.ensures ∙ w.if-swaps.true)
+      | else-swaps w ↦ rw (← c.self.view_is, w.item-is) c.in-Some.ensures
+    ]
 
--- src/hub.rt:340:13
 pub meet-requires-clause-due : goal.meet-requires-clause-due
-meet-requires-clause-due g c = ?
+meet-requires-clause-due g c =
+    c.requires.due
 
--- src/hub.rt:340:13
-pub returns-in_err-meet-clause-ok : goal.returns-in_err-meet-clause-ok
-returns-in_err-meet-clause-ok g c = ?
-
--- src/hub.rt:340:13
-pub returns-in_err-meet-clause-err : goal.returns-in_err-meet-clause-err
-returns-in_err-meet-clause-err g c = ?
-
--- src/hub.rt:341:13
 pub returns-in-Some-clause-ok : goal.returns-in-Some-clause-ok
-returns-in-Some-clause-ok g c = ?
+returns-in-Some-clause-ok g c =
+    let no_turn : IsNoTurn c.if-swaps.item = elim c.if-swaps.branch [ then-swaps w ↦ rw (w.item-is) tt | else-swaps w ↦ rw (w.item-is) tt ] in
+    (c.if-swaps.item, no_turn, c.in_ok-meet.ensures.moves, c.meet.ensures.out)
 
--- src/hub.rt:344:13
-pub same-self-then-not-is_idle : goal.same-self-then-not-is_idle
-same-self-then-not-is_idle g c = ?
-
--- src/hub.rt:344:13
 pub returns-then-not-is_idle-clause-ok : goal.returns-then-not-is_idle-clause-ok
-returns-then-not-is_idle-clause-ok g c = ?
+returns-then-not-is_idle-clause-ok g c =
+    let s = c.self.inside in
+    let runs = c.is_idle.ensures ∙ ap not (placed_any s.course.world.threads s.marks.marks c.self.invariant.placed) in
+    let busy : c.is_idle.result ≡ false = cc in
+    rw (← c.self.view_is) (c.in_default.ensures, some_runs c.is_idle.result (any_runs s.course.world) runs busy, refl)
 
--- src/hub.rt:348:17
-pub same-self-in-Some-next_alarm : goal.same-self-in-Some-next_alarm
-same-self-in-Some-next_alarm g c = ?
-
--- src/hub.rt:348:17
 pub tick-requires-clause-allowed : goal.tick-requires-clause-allowed
-tick-requires-clause-allowed g c = ?
+tick-requires-clause-allowed g c =
+    let s = c.self.inside in
+    let runs = c.is_idle.ensures ∙ ap not (placed_any s.course.world.threads s.marks.marks c.self.invariant.placed) in
+    let quiet : c.is_idle.result ≡ true = cc in
+    let idle = none_runs c.is_idle.result (any_runs s.course.world) runs quiet in
+    rw (← c.self.view_is) (tick_allowed s.course.world c.in-Some-next_alarm.tick c.in_default.ensures idle (sym c.next_alarm.ensures ∙ c.in-Some-next_alarm.is))
 
--- src/hub.rt:348:17
 pub tick-requires-clause-due : goal.tick-requires-clause-due
-tick-requires-clause-due g c = ?
+tick-requires-clause-due g c =
+    c.requires.due
 
--- src/hub.rt:348:17
-pub returns-in_err-tick-in-Some-next_alarm-clause-ok :
-    goal.returns-in_err-tick-in-Some-next_alarm-clause-ok
-returns-in_err-tick-in-Some-next_alarm-clause-ok g c = ?
-
--- src/hub.rt:348:17
-pub returns-in_err-tick-in-Some-next_alarm-clause-err :
-    goal.returns-in_err-tick-in-Some-next_alarm-clause-err
-returns-in_err-tick-in-Some-next_alarm-clause-err g c = ?
-
--- src/hub.rt:351:21
 pub unreachable-requires : goal.unreachable-requires
-unreachable-requires g c = ?
+unreachable-requires g c =
+    let s = c.self.inside in
+    let runs = c.is_idle.ensures ∙ ap not (placed_any s.course.world.threads s.marks.marks c.self.invariant.placed) in
+    let quiet : c.is_idle.result ≡ true = cc in
+    let idle = none_runs c.is_idle.result (any_runs s.course.world) runs quiet in
+    let over = terminal_is s.course.world c.in_default.ensures idle (sym c.next_alarm.ensures ∙ c.in-None.is) in
+    let going : terminal s.course.world ≡ false = rw (← c.self.view_is) at c.requires.going in
+    cc
 
--- src/hub.rt:351:21
-pub same-self-in-None : goal.same-self-in-None
-same-self-in-None g c = ?
-
--- src/hub.rt:351:21
-pub unreachable-unreachable : goal.unreachable-unreachable
-unreachable-unreachable g c = ?
-
--- src/hub.rt:326:5
 pub returns-clause-ok : goal.returns-clause-ok
-returns-clause-ok g c = ?
+returns-clause-ok g c =
+    (Clock c.in-Some-next_alarm.tick, tt, c.in_ok-tick-in-Some-next_alarm.ensures.moves, c.tick.ensures.out)
