@@ -21,7 +21,7 @@ use Rattle.cml_hub.specs.Courses.{PlainCourse, Keeps, Adds}
 use Rattle.cml_hub.specs.Kept.{Kept, Stands, Placed, NoneOut, NoneDue, is_out_of}
 use Rattle.cml_hub.specs.Moves.{HandedOut, TakesBack, Moves, Reported}
 use Rattle.cml_hub.proofs.Standing.{map_set}
-use Rattle.cml_hub.proofs.Marking.{placed_any, placed_kept, out_at, none_back}
+use Rattle.cml_hub.proofs.Marking.{placed_any, placed_kept, out_at}
 use Rattle.cml_hub.proofs.Placing.{ready_runs}
 use Rattle.cml_hub.proofs.Giving.{kept_of}
 
@@ -80,11 +80,6 @@ pub is_terminal : (w : PlainWorld) → None ≡ next_alarm w → any_runs w ≡ 
 is_terminal w alarm idle still =
     all_three (not (any_runs w)) (is_empty (scan w)) (is_none (next_alarm w)) (ap not idle) (empty_is (scan w) still) (subst (λ o. is_none o ≡ true) alarm refl)
 
-pub stuck : (w v : PlainWorld) → w ≡ v → terminal v ≡ false → None ≡ next_alarm w → any_runs w ≡ false → scan w ≡ [] → ⊥
-stuck w v e going alarm idle still =
-    let t : terminal v ≡ true = subst (λ x. terminal x ≡ true) e (is_terminal w alarm idle still) in
-    let both : true ≡ false = sym t ∙ going in
-    cc
 
 -- a machine is handed out
 pub stands_handed : (course : PlainCourse) (budget : ℕ) (watch : Option ℕ) (ms ns : List Mark) (reports : List PlainReport) (t : ℕ) → Stands (kept_of course budget watch ms reports) ms
@@ -96,18 +91,6 @@ stands_handed course budget watch ms ns reports t s ready e = rw e (record {
   reported = s.reported;
 })
 
-pub handed_so : (course : PlainCourse) (budget : ℕ) (watch : Option ℕ) (ms ns : List Mark) (reports : List PlainReport) (t : ℕ) (m n : PlainMachine) → Keeps course t n → GoesOn course.program n
-    → n.thread ≡ t → m ≡ n → slice_get ms t ≡ Some Ready → ns ≡ slice_set ms t Out
-    → HandedOut (kept_of course budget watch ms reports) (Some m) (kept_of course budget watch ns reports)
-handed_so course budget watch ms ns reports t m n keeps goes num same ready e =
-    let h = kept_of course budget watch ms reports in
-    let outs : map is_out ns ≡ slice_set (map is_out ms) t true = ap (λ l. map is_out l) e ∙ map_set is_out ms t Out in
-    let not_out : is_out_of (map is_out ms) t ≡ false = out_at ms t Ready ready in
-    let at : (u : ℕ) → u ≡ t → Keeps course u n × GoesOn course.program n × (is_out_of (map is_out ms) u ≡ false) × (kept_of course budget watch ns reports ≡ record h { out = slice_set (map is_out ms) u true })
-        = λ u f. (subst (λ v. Keeps course v n) (sym f) keeps, goes, subst (λ v. is_out_of (map is_out ms) v ≡ false) (sym f) not_out,
-          subst (λ v. kept_of course budget watch ns reports ≡ record h { out = slice_set (map is_out ms) v true }) (sym f) (ap (λ (o : List Bool). record h { out = o }) outs)) in
-    let all : HandedOut h (Some n) (kept_of course budget watch ns reports) = at n.thread num in
-    subst (λ (x : PlainMachine). HandedOut h (Some x) (kept_of course budget watch ns reports)) (sym same) all
 
 -- what follows where it went well
 pub on_ok : {T E : Type 0} {A B : Type 0} (r : Result T E) → (A → B) → OnOk r A → OnOk r B
@@ -118,11 +101,6 @@ pub in_both : {T E : Type 0} {A B C : Type 0} (r : Result T E) → (A → C) →
 in_both (Ok x) f g h k = f h
 in_both (Err x) f g h k = g k
 
-pub none_out_after : (a b : Kept) (t : ℕ) → NoneOut a → TakesBack a.out t b.out → NoneOut b
-none_out_after a b t n k = λ u. none_back a.out b.out t u n k
-
-pub none_out_same : (a b : Kept) → NoneOut a → b.out ≡ a.out → NoneOut b
-none_out_same a b n e = λ u. rw e (n u)
 
 pub adds_then : (a b c : Kept) (item : Item) → Moves a item b → Reported b c → Adds a.course item c.course
 adds_then a b c item m r = subst (λ x. Adds a.course item x) (sym r.course) m.adds

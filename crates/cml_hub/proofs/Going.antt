@@ -108,8 +108,6 @@ below budget r h = more_left budget r.used (or_false (terminal r.world) (nat_le 
 pub none_handed : (a b : Kept) → HandedOut a None b → AllOut b
 none_handed a b h = subst (λ (x : Kept). AllOut x) (sym h.1) h.0
 
-pub none_due_still : (a b : Kept) → HandedOut a None b → NoneDue a → NoneDue b
-none_due_still a b h n = subst (λ (x : Kept). NoneDue x) (sym h.1) n
 
 pub going_still : (a b : Kept) → HandedOut a None b → over a.budget (run_of a.course) ≡ false → terminal b.course.world ≡ false
 going_still a b h o = subst (λ (x : Kept). terminal x.course.world ≡ false) (sym h.1) (going a.budget (run_of a.course) o)
@@ -126,17 +124,6 @@ moved_out h a b c o n m = m.3 ∙ (ap (λ (x : Kept). x.out) n.1 ∙ o)
 less : (k l m n u v w x : ℕ) → l ≡ k → m ≡ l → n ≡ m → v ≡ u → v < w → x ≡ w → u < k → n - x < k - u
 less k l m n u v w x h1 h2 h3 h4 h5 h6 h7 = omega arith
 
-pub moved_less : (a b c d : Kept) → over a.budget (run_of a.course) ≡ false → HandedOut a None b → MovedOn b true c → Reported c d
-    → d.budget - d.course.used < a.budget - a.course.used
-moved_less a b c d o n m r =
-    let u1 : b.course.used ≡ a.course.used = ap (λ (x : Kept). x.course.used) n.1 in
-    let k1 : b.budget ≡ a.budget = ap (λ (x : Kept). x.budget) n.1 in
-    let u2 : b.course.used < c.course.used = m.2.used in
-    let k2 : c.budget ≡ b.budget = m.2.budget in
-    let u3 : d.course.used ≡ c.course.used = ap (λ x. x.used) r.course in
-    let k3 : d.budget ≡ c.budget = r.budget in
-    let l : a.course.used < a.budget = below a.budget (run_of a.course) o in
-    less a.budget b.budget c.budget d.budget a.course.used b.course.used c.course.used d.course.used k1 k2 k3 u1 u2 u3 l
 
 -- The first thread's machine is handed out.
 pub job_extends : (h a b : Kept) (m : PlainMachine) → Extends h a → HandedOut a (Some m) b → Extends h b
@@ -153,13 +140,6 @@ job_extends h a b m e s = record {
   no_turn = e.no_turn;
 }
 
-pub job_hands : (h a b : Kept) (m : PlainMachine) → a.out ≡ h.out → HandedOut a (Some m) b → HandsOut h (next.Job m) b
-job_hands h a b m o s = (
-  subst (λ c. Keeps c m.thread m) (sym (ap (λ (x : Kept). x.course) s.3)) s.0,
-  subst (λ c. GoesOn c.program m) (sym (ap (λ (x : Kept). x.course) s.3)) s.1,
-  rw (← o) s.2,
-  ap (λ (x : Kept). x.out) s.3 ∙ ap (λ l. slice_set l m.thread true) o,
-)
 
 pub job_over : (a b : Kept) (m : PlainMachine) → over a.budget (run_of a.course) ≡ false → HandedOut a (Some m) b → false ≡ over b.budget (run_of b.course)
 job_over a b m o s =
@@ -167,8 +147,6 @@ job_over a b m o s =
     let c : b.course ≡ a.course = ap (λ (x : Kept). x.course) s.3 in
     sym (ap (λ n. over n (run_of b.course)) k ∙ (ap (λ x. over a.budget (run_of x)) c ∙ o))
 
-pub job_due : (a b : Kept) (m : PlainMachine) → NoneDue a → HandedOut a (Some m) b → NoneDue b
-job_due a b m n s = subst (λ (x : Kept). NoneDue x) (sym s.3) n
 
 -- Nothing is to be done before a slice comes back.
 pub wait_hands : (h a b c : Kept) → a.out ≡ h.out → HandedOut a None b → MovedOn b false c → HandsOut h next.Wait c
@@ -176,24 +154,6 @@ wait_hands h a b c o n m =
     let e : c ≡ b = m.2 in
     subst (λ (x : Kept). HandsOut h next.Wait x) (sym e) (m.0, m.1, none_handed a b n, ap (λ (x : Kept). x.out) n.1 ∙ o)
 
-pub wait_over : (a b c : Kept) → over a.budget (run_of a.course) ≡ false → HandedOut a None b → MovedOn b false c → false ≡ over c.budget (run_of c.course)
-wait_over a b c o n m = subst (λ (x : Kept). false ≡ over x.budget (run_of x.course)) (sym (m.2 ∙ n.1)) (sym o)
-
-pub wait_due : (a b c : Kept) → NoneDue a → HandedOut a None b → MovedOn b false c → NoneDue c
-wait_due a b c d n m = subst (λ (x : Kept). NoneDue x) (sym (m.2 ∙ n.1)) d
-
--- It goes on alone.
-pub alone_continues : (h a b : Kept) → Continues h a → GoesAlone a b → Continues h b
-alone_continues h a b e g = continues_more h a b e (continues_moved a b g.item g.moves)
-
-pub alone_less : (a b c : Kept) → over a.budget (run_of a.course) ≡ false → GoesAlone a b → Reported b c → c.budget - c.course.used < a.budget - a.course.used
-alone_less a b c o g r =
-    let u2 : a.course.used < b.course.used = g.moves.used in
-    let k2 : b.budget ≡ a.budget = g.moves.budget in
-    let u3 : c.course.used ≡ b.course.used = ap (λ x. x.used) r.course in
-    let k3 : c.budget ≡ b.budget = r.budget in
-    let l : a.course.used < a.budget = below a.budget (run_of a.course) o in
-    less a.budget a.budget b.budget c.budget a.course.used a.course.used b.course.used c.course.used refl k2 k3 refl u2 u3 l
 
 pub none_out_reported : (a b : Kept) → NoneOut a → Reported a b → NoneOut b
 none_out_reported a b n r = λ t. rw r.out (n t)

@@ -184,13 +184,6 @@ all_out ts ms t h none run =
     let other : r.mark ≢ Ready = λ e. none (r.at ∙ ap (λ m. Some m) e) in
     out_at ms t r.mark r.at ∙ ap is_out (out_is r.mark r.here other)
 
--- where none was out, none is after a slice comes back
-pub none_back : (old new : List Bool) (t u : ℕ) → ((v : ℕ) → is_out_of old v ≡ false) → TakesBack old t new → is_out_of new u ≡ false
-none_back old new t u none h = by (nat_eq u t) refl
-  where
-    by : (b : Bool) → nat_eq u t ≡ b → is_out_of new u ≡ false
-    by true e = let same : u ≡ t = grind (arith, nat_tests) in subst (λ v. is_out_of new v ≡ false) (sym same) h.back
-    by false e = let ne : u ≢ t = grind (arith, nat_tests) in h.others u ne ∙ none u
 
 -- a thread that was taken out of its place, and is put back
 pub there_away : (ms : List Mark) (t : ℕ) → t < length ms → slice_get (slice_set ms t Away) t ≡ Some Away

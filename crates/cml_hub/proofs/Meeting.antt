@@ -195,10 +195,3 @@ ticked_leads c tick h ok = record {
   spent = omega (arith, h.spent, length-append c.items (Clock tick ∷ []));
   writable = All-push IsWritable c.items (Clock tick) h.writable (let may = may_come c.world tick ok h.agrees.soon in omega (arith, may.1));
 }
-
-pub ticked_so : (c : PlainCourse) (tick : ℕ) → is_allowed c.world (Clock tick) ≡ true → Ticks c tick (course_ticked c tick)
-ticked_so c tick ok = record {
-  adds = record { program = refl; items = refl; run = rw ok refl };
-  threads = refl;
-  used = omega arith;
-}

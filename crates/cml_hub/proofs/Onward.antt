@@ -21,14 +21,6 @@ use Rattle.cml_hub.proofs.Standing.{map_set}
 use Rattle.cml_hub.proofs.Marking.{placed_kept, ready_running, out_at}
 use Rattle.cml_hub.proofs.Reporting.{none_made}
 
--- both tests, the second where the first holds
-pub and_true : (v i s a e : Bool) → v ≡ s → i ≡ true → i ≡ a → s ≡ e → v ≡ (a && e)
-and_true v i s true e p q r t = p ∙ t
-and_true v i s false e p q r t = absurd (cc)
-
-pub and_false : (v i a e : Bool) → v ≡ false → i ≡ false → i ≡ a → v ≡ (a && e)
-and_false v i true e p q r = absurd (cc)
-and_false v i false e p q r = p
 
 pub none_is : (o : Option ℕ) (b : Bool) → is_some o ≡ not b → b ≡ is_none o
 none_is None true e = refl
@@ -36,13 +28,6 @@ none_is None false e = absurd (cc)
 none_is (Some n) true e = absurd (cc)
 none_is (Some n) false e = refl
 
-pub over_used : (t : Bool) (f u b v : ℕ) → f ≤ u → f ≡ b → u ≡ v → leb f u ≡ (t || nat_le b v)
-over_used true f u b v le p q = grind (arith, nat_tests)
-over_used false f u b v le p q = rw (p, q) refl
-
-pub over_left : (t r : Bool) (f u b v : ℕ) → u < f → f ≡ b → u ≡ v → r ≡ t → r ≡ (t || nat_le b v)
-over_left true r f u b v lt p q e = e
-over_left false r f u b v lt p q e = let more : nat_le b v ≡ false = grind (arith, nat_tests) in e ∙ sym more
 
 pub some_runs : (b a : Bool) → b ≡ not a → b ≡ false → a ≡ true
 some_runs b true e f = refl
@@ -63,13 +48,6 @@ pub on_ok : {A E P Q : Type 0} (r : Result A E) → OnOk r P → (P → Q) → O
 on_ok (Ok x) h f = f h
 on_ok (Err e) h f = h
 
-pub ok_any : {A E P : Type 0} (r : Result A E) → P → OnOk r P
-ok_any (Ok x) p = p
-ok_any (Err e) p = tt
-
-pub program_kept : {A E : Type 0} (r : Result A E) (old new : Kept) → OnOk r (Reported old new) → OnErr r (new ≡ old) → new.course.program ≡ old.course.program
-program_kept (Ok x) old new h e = ap (λ (c : PlainCourse). c.program) h.course
-program_kept (Err x) old new h e = ap (λ (k : Kept). k.course.program) e
 
 -- at the beginning
 pub stands_begun : (p : List (PlainItem ℕ)) (course : PlainCourse) (budget : ℕ) (watch : Option ℕ) → Begins p course → IsBudget budget → IsWatch watch

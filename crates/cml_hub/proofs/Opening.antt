@@ -26,20 +26,7 @@ names_written (f ∷ p) = ap (λ names. f.name ∷ names) (names_written p)
 pub main_is : (p : List (PlainItem ℕ)) (n : ℕ) → numbered (names_of p) (codes "main") ≡ Some n → main_of (text_of p) ≡ n
 main_is p n h = ap (λ names. unwrap_or (numbered names (codes "main")) 0) (names_written p) ∙ ap (λ o. unwrap_or o 0) h
 
-abbrev pub course_begun : List (PlainItem ℕ) → List PlainMachine → PlainWorld → PlainCourse
-course_begun p ms w = record { program = p; items = []; world = w; machines = ms; output = []; used = 0 }
 
-pub opening_leads : (p : List (PlainItem ℕ)) (ms : List PlainMachine) (w : PlainWorld) → IsOpening p ms w → Leads (course_begun p ms w)
-opening_leads p ms w h = record {
-  leads = rw (h.alone, h.world, h.term) refl;
-  machines = rw (h.alone, h.world) (h.zeroth, h.stands, tt);
-  agrees = rw (h.world) (record { threads = (refl, tt); soon = (refl, tt); ivars = tt; mvars = tt; mailboxes = tt; ports = tt });
-  spent = omega arith;
-  writable = All-nil IsWritable;
-}
-
-pub opening_begins : (p : List (PlainItem ℕ)) (ms : List PlainMachine) (w : PlainWorld) → IsOpening p ms w → Begins p (course_begun p ms w)
-opening_begins p ms w h = record { program = refl; items = refl; threads = ap (λ (x : PlainWorld). x.threads) h.world }
 
 -- the first thread of an empty world
 pub spawned_first : (p : Program) (empty new : PlainWorld) (t : Tid) → empty ≡ empty_world → spawn empty ≡ Ok (new, t) → new ≡ (opening p).world

@@ -88,13 +88,6 @@ runs_somewhere (running ∷ ts) h = (0, refl)
 runs_somewhere (pending_on g ∷ ts) h = let r = runs_somewhere ts h in (suc r.0, r.1)
 runs_somewhere (ended ∷ ts) h = let r = runs_somewhere ts h in (suc r.0, r.1)
 
--- one item more, where no slice is out
-pub alone_turned : (a b : Kept) (t : Tid) → NoneOut a → Moves a (item.Turn t) b → TakesBack a.out t.0 b.out → GoesAlone a b
-alone_turned a b t n m k = record {
-  item = item.Turn t;
-  moves = m;
-  none_out = λ u. ⊎_elim (λ e. rw e k.back) (λ e. k.others u e ∙ n u) (cases_eq u t.0);
-}
 
 pub alone_moved : (a b : Kept) (moved : Bool) → NoneOut a → AllOut a → MovedOn a moved b → GoesAlone a b
 alone_moved a b true n o m = record {

@@ -125,9 +125,6 @@ reported_none h none = record { course = refl; budget = refl; watch = refl; out 
     nothing [] = refl
     nothing (x ∷ xs) = ap (λ ys. x ∷ ys) (nothing xs)
 
--- the product of two numbers of 64 bits fits in 128
-pub product_fits : (a b : ℕ) → a < 2 ^ 64 → b ≤ 2 ^ 64 → a * b < 2 ^ 128
-product_fits a b ha hb = omega (arith, mul-le-mul_left a hb)
 
 -- what a test says
 pub so : {P : Type 0} (b : Bool) → (IsTrue b ↔ P) → b ≡ true → P

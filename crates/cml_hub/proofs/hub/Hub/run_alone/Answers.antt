@@ -1,6 +1,6 @@
 use Rattle.std.proofs.Common.{◌≡◌, sym, ap, subst, refl}
 use Rattle.cml_hub.specs.Kept.{Kept}
-use Rattle.cml_hub.proofs.Going.{continues_self, continues_called, continues_more, continues_reported, still_continues, none_out_reported, alone_continues, alone_less}
+use Rattle.cml_hub.proofs.Going.{continues_self, continues_called, continues_more, continues_reported, still_continues, none_out_reported}
 use Rattle.cml_hub.proofs.hub.Hub.run_alone.Goals as goal
 
 pub returns-in_err-call_back-clause-more : goal.returns-in_err-call_back-clause-more
