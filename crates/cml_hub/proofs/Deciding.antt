@@ -1,5 +1,5 @@
 -- What the tests of a hub decide, and what is handed out.
-use Rattle.std.proofs.Common.{◌≡◌, ℕ, Bool, true, false, not, ◌&&◌, List, [], ◌∷◌, map, refl, arith, Some, None, sym, ap, ◌∙◌, subst}
+use Rattle.std.proofs.Common.{◌≡◌, ℕ, Bool, true, false, not, ◌&&◌, List, [], refl, arith, Some, None, sym, ap, ◌∙◌, subst}
 use Rattle.std.specs.Prelude.{Option, Result, Ok, Err, OnOk, OnErr, ◌==◌, slice_get, slice_set}
 use Rattle.std.specs.List.{list_any}
 use Rattle.std.specs.Option.{is_some}
@@ -11,17 +11,14 @@ use Rattle.cml_book.specs.Walks.{runs}
 use Rattle.cml_monitor.specs.Reports.{PlainReport}
 use Rattle.cml_schedule.specs.declared.item.Item.{Item}
 use Rattle.cml_schedule.specs.declared.item.Item.TheVariants.{Clock}
-use Rattle.cml_step.specs.Machines.{PlainMachine}
 use Rattle.cml_hub.specs.declared.marks.Mark.{Mark}
-use Rattle.cml_hub.specs.declared.marks.Mark.TheVariants.{Ready, Out, Away}
-use Rattle.cml_hub.specs.Marks.{is_here, is_out}
+use Rattle.cml_hub.specs.declared.marks.Mark.TheVariants.{Ready, Out}
+use Rattle.cml_hub.specs.Marks.{is_here}
 use Rattle.cml_hub.specs.Runs.{any_runs, is_empty, is_number, is_none, next_alarm, is_allowed, terminal}
-use Rattle.cml_hub.specs.Dones.{GoesOn}
-use Rattle.cml_hub.specs.Courses.{PlainCourse, Keeps, Adds}
-use Rattle.cml_hub.specs.Kept.{Kept, Stands, Placed, NoneOut, NoneDue, is_out_of}
-use Rattle.cml_hub.specs.Moves.{HandedOut, TakesBack, Moves, Reported}
-use Rattle.cml_hub.proofs.Standing.{map_set}
-use Rattle.cml_hub.proofs.Marking.{placed_any, placed_kept, out_at}
+use Rattle.cml_hub.specs.Courses.{PlainCourse, Adds}
+use Rattle.cml_hub.specs.Kept.{Kept, Stands, Placed}
+use Rattle.cml_hub.specs.Moves.{Moves, Reported}
+use Rattle.cml_hub.proofs.Marking.{placed_any, placed_kept}
 use Rattle.cml_hub.proofs.Placing.{ready_runs}
 use Rattle.cml_hub.proofs.Giving.{kept_of}
 
@@ -80,7 +77,6 @@ pub is_terminal : (w : PlainWorld) → None ≡ next_alarm w → any_runs w ≡ 
 is_terminal w alarm idle still =
     all_three (not (any_runs w)) (is_empty (scan w)) (is_none (next_alarm w)) (ap not idle) (empty_is (scan w) still) (subst (λ o. is_none o ≡ true) alarm refl)
 
-
 -- a machine is handed out
 pub stands_handed : (course : PlainCourse) (budget : ℕ) (watch : Option ℕ) (ms ns : List Mark) (reports : List PlainReport) (t : ℕ) → Stands (kept_of course budget watch ms reports) ms
     → slice_get ms t ≡ Some Ready → ns ≡ slice_set ms t Out → Stands (kept_of course budget watch ns reports) ns
@@ -91,7 +87,6 @@ stands_handed course budget watch ms ns reports t s ready e = rw e (record {
   reported = s.reported;
 })
 
-
 -- what follows where it went well
 pub on_ok : {T E : Type 0} {A B : Type 0} (r : Result T E) → (A → B) → OnOk r A → OnOk r B
 on_ok (Ok x) f h = f h
@@ -100,7 +95,6 @@ on_ok (Err x) f h = tt
 pub in_both : {T E : Type 0} {A B C : Type 0} (r : Result T E) → (A → C) → (B → C) → OnOk r A → OnErr r B → C
 in_both (Ok x) f g h k = f h
 in_both (Err x) f g h k = g k
-
 
 pub adds_then : (a b c : Kept) (item : Item) → Moves a item b → Reported b c → Adds a.course item c.course
 adds_then a b c item m r = subst (λ x. Adds a.course item x) (sym r.course) m.adds

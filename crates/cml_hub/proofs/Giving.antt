@@ -9,16 +9,15 @@ use Rattle.cml_book.specs.Walks.{runs, is_running}
 use Rattle.cml_monitor.specs.Reports.{PlainReport}
 use Rattle.cml_schedule.specs.declared.item.Item.TheVariants.{Turn}
 use Rattle.cml_step.specs.Calls.{text_of}
-use Rattle.cml_step.specs.Rans.{PlainRan}
 use Rattle.cml_hub.specs.declared.done.Gone.{Gone}
 use Rattle.cml_hub.specs.declared.marks.Mark.{Mark}
 use Rattle.cml_hub.specs.Marks.{is_out}
 use Rattle.cml_step.specs.Terms.{Program}
 use Rattle.cml_hub.specs.Runs.{Run, stands, advance, turned}
 use Rattle.cml_hub.specs.Reports.{IsDueReport}
-use Rattle.cml_hub.specs.Courses.{PlainCourse, run_of, Adds, Turns, IsOurs, Keeps}
+use Rattle.cml_hub.specs.Courses.{PlainCourse, run_of, Adds, Turns}
 use Rattle.cml_hub.specs.Kept.{Kept, Stands, NoneDue, Given}
-use Rattle.cml_hub.specs.Moves.{marks_after, with_report, IsNext}
+use Rattle.cml_hub.specs.Moves.{marks_after, with_report}
 use Rattle.cml_hub.proofs.Marking.{takes_back, there_is}
 use Rattle.cml_hub.proofs.Reporting.{stands_reported, reported_one}
 use Rattle.cml_hub.proofs.Keeping.{stands_turned}

@@ -1,19 +1,16 @@
 -- How a hub goes on from where it stood.
-use Rattle.std.proofs.Common.{◌≡◌, ℕ, ◌+◌, ◌-◌, ◌<◌, Bool, true, false, ◌||◌, List, [], ◌∷◌, ◌++◌, length, refl, arith, Some, None, sym, ap, ◌∙◌, subst, append_assoc}
-use Rattle.std.specs.Prelude.{nat_le, slice_set}
-use Rattle.std.specs.List.{All}
+use Rattle.std.proofs.Common.{◌≡◌, ℕ, ◌-◌, ◌<◌, Bool, true, false, ◌||◌, [], ◌∷◌, ◌++◌, refl, arith, Some, None, sym, ap, ◌∙◌, subst, append_assoc}
+use Rattle.std.specs.Prelude.{nat_le}
 use Rattle.std.proofs.lemmas.List.{append-nil}
 use Rattle.std.proofs.lemmas.List.Elements.{All-nil, All-cons, All-append}
 use Rattle.std.proofs.lemmas.Bool.Decides.{nat_tests}
 use Rattle.cml_schedule.specs.declared.item.Item.{Item}
 use Rattle.cml_step.specs.Machines.{PlainMachine}
 use Rattle.cml_hub.specs.declared.fault.Next.TheVariants as next
-use Rattle.cml_hub.specs.declared.fault.End.{End}
-use Rattle.cml_hub.specs.Runs.{Run, over, terminal, ending}
-use Rattle.cml_hub.specs.Dones.{GoesOn}
-use Rattle.cml_hub.specs.Courses.{run_of, Keeps}
-use Rattle.cml_hub.specs.Kept.{Kept, Continues, Extends, IsNoTurn, NoneDue, NoneOut, AllOut, HandsOut, IsOver}
-use Rattle.cml_hub.specs.Moves.{Moves, Reported, HandedOut, MovedOn, CalledBack, GoesAlone}
+use Rattle.cml_hub.specs.Runs.{Run, over, terminal}
+use Rattle.cml_hub.specs.Courses.{run_of}
+use Rattle.cml_hub.specs.Kept.{Kept, Continues, Extends, IsNoTurn, NoneOut, AllOut, HandsOut}
+use Rattle.cml_hub.specs.Moves.{Moves, Reported, HandedOut, MovedOn, CalledBack}
 
 -- It goes on from itself, and from what it went on from goes on.
 pub continues_self : (h : Kept) → Continues h h
@@ -108,7 +105,6 @@ below budget r h = more_left budget r.used (or_false (terminal r.world) (nat_le 
 pub none_handed : (a b : Kept) → HandedOut a None b → AllOut b
 none_handed a b h = subst (λ (x : Kept). AllOut x) (sym h.1) h.0
 
-
 pub going_still : (a b : Kept) → HandedOut a None b → over a.budget (run_of a.course) ≡ false → terminal b.course.world ≡ false
 going_still a b h o = subst (λ (x : Kept). terminal x.course.world ≡ false) (sym h.1) (going a.budget (run_of a.course) o)
 
@@ -123,7 +119,6 @@ moved_out h a b c o n m = m.3 ∙ (ap (λ (x : Kept). x.out) n.1 ∙ o)
 
 less : (k l m n u v w x : ℕ) → l ≡ k → m ≡ l → n ≡ m → v ≡ u → v < w → x ≡ w → u < k → n - x < k - u
 less k l m n u v w x h1 h2 h3 h4 h5 h6 h7 = omega arith
-
 
 -- The first thread's machine is handed out.
 pub job_extends : (h a b : Kept) (m : PlainMachine) → Extends h a → HandedOut a (Some m) b → Extends h b
@@ -140,20 +135,17 @@ job_extends h a b m e s = record {
   no_turn = e.no_turn;
 }
 
-
 pub job_over : (a b : Kept) (m : PlainMachine) → over a.budget (run_of a.course) ≡ false → HandedOut a (Some m) b → false ≡ over b.budget (run_of b.course)
 job_over a b m o s =
     let k : b.budget ≡ a.budget = ap (λ (x : Kept). x.budget) s.3 in
     let c : b.course ≡ a.course = ap (λ (x : Kept). x.course) s.3 in
     sym (ap (λ n. over n (run_of b.course)) k ∙ (ap (λ x. over a.budget (run_of x)) c ∙ o))
 
-
 -- Nothing is to be done before a slice comes back.
 pub wait_hands : (h a b c : Kept) → a.out ≡ h.out → HandedOut a None b → MovedOn b false c → HandsOut h next.Wait c
 wait_hands h a b c o n m =
     let e : c ≡ b = m.2 in
     subst (λ (x : Kept). HandsOut h next.Wait x) (sym e) (m.0, m.1, none_handed a b n, ap (λ (x : Kept). x.out) n.1 ∙ o)
-
 
 pub none_out_reported : (a b : Kept) → NoneOut a → Reported a b → NoneOut b
 none_out_reported a b n r = λ t. rw r.out (n t)

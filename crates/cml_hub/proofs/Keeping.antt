@@ -1,5 +1,5 @@
 -- What holds of a hub holds of it after each move.
-use Rattle.std.proofs.Common.{◌≡◌, ℕ, List, [], ◌∷◌, ◌++◌, length, map, refl, Some}
+use Rattle.std.proofs.Common.{◌≡◌, ℕ, List, map, refl, Some}
 use Rattle.std.specs.Prelude.{slice_get}
 use Rattle.cml_value.specs.declared.number.Tid.{Tid}
 use Rattle.cml_scan.specs.World.{running}

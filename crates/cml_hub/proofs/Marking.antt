@@ -1,8 +1,7 @@
 -- The marks stand as the threads do, whatever changes; and whose slices are out.
-use Rattle.std.proofs.Common.{◌≡◌, ◌≢◌, ℕ, zero, suc, ◌+◌, ◌<◌, ◌≤◌, Bool, true, false, not, ◌||◌, nat_eq, List, [], ◌∷◌, ◌++◌, length, map, refl, ap, sym, subst, ◌∙◌, arith, Option, Some, None}
+use Rattle.std.proofs.Common.{◌≡◌, ◌≢◌, ℕ, zero, suc, ◌<◌, Bool, true, false, List, [], ◌∷◌, ◌++◌, length, map, refl, ap, sym, subst, ◌∙◌, arith, Some}
 use Rattle.std.specs.Prelude.{slice_get, slice_set, unwrap_or}
 use Rattle.std.specs.List.{list_any}
-use Rattle.std.proofs.lemmas.Bool.Decides.{nat_tests}
 use Rattle.std.proofs.lemmas.Option.{slice_get_within}
 use Rattle.cml_value.specs.Group.{PlainGroup}
 use Rattle.cml_scan.specs.World.{PlainThread, running, pending_on, ended, PlainWorld}
@@ -183,7 +182,6 @@ all_out ts ms t h none run =
     let r = mark_of ts ms t running h run in
     let other : r.mark ≢ Ready = λ e. none (r.at ∙ ap (λ m. Some m) e) in
     out_at ms t r.mark r.at ∙ ap is_out (out_is r.mark r.here other)
-
 
 -- a thread that was taken out of its place, and is put back
 pub there_away : (ms : List Mark) (t : ℕ) → t < length ms → slice_get (slice_set ms t Away) t ≡ Some Away

@@ -29,7 +29,7 @@ use Rattle.cml_schedule.specs.Laws.{AreNumbers, IsPair, IsWritable}
 use Rattle.cml_hub.specs.Runs.{Run, resumed, all_resumed, met, advance, after_item, is_allowed}
 use Rattle.cml_hub.specs.Agreeing.{WorldAgrees, ResumeAgrees}
 use Rattle.cml_hub.specs.Settling.{Resumes, Resumed, AllResumed, AllResume}
-use Rattle.cml_hub.specs.Courses.{PlainCourse, run_of, MachinesStand, Leads, IsPending, PartiesWait, parties_run, Takes, Meets, Ticks}
+use Rattle.cml_hub.specs.Courses.{PlainCourse, run_of, MachinesStand, Leads, IsPending, PartiesWait, parties_run, Takes, Meets}
 use Rattle.cml_hub.proofs.Agreement.{after_agrees, hands_agrees}
 use Rattle.cml_hub.proofs.Ticking.{may_come}
 use Rattle.cml_hub.proofs.Standing.{map_set, found, found_is, stand_set, leads_on, get_other}

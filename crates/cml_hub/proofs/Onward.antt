@@ -1,6 +1,6 @@
 -- Whether there is more to do, and what comes next.
-use Rattle.std.proofs.Common.{◌≡◌, ℕ, zero, suc, ◌<◌, ◌≤◌, Bool, true, false, not, ◌&&◌, ◌||◌, nat_eq, List, [], ◌∷◌, length, map, refl, ap, sym, subst, ◌∙◌, arith, Option, Some, None, Result, Ok, Err}
-use Rattle.std.specs.Prelude.{is_some, leb, nat_le, OnOk, OnErr, slice_get, slice_set}
+use Rattle.std.proofs.Common.{◌≡◌, ℕ, zero, suc, Bool, true, false, not, nat_eq, List, [], ◌∷◌, map, refl, ap, sym, subst, ◌∙◌, arith, Option, Some, None, Result, Ok, Err}
+use Rattle.std.specs.Prelude.{is_some, OnOk, slice_get, slice_set}
 use Rattle.std.proofs.lemmas.Bool.Decides.{nat_tests}
 use Rattle.cml_scan.specs.World.{PlainWorld, running}
 use Rattle.cml_scan.specs.Scan.{scan}
@@ -12,22 +12,20 @@ use Rattle.cml_check.specs.Syntax.{PlainFunction as PlainItem}
 use Rattle.cml_hub.specs.declared.marks.Mark.{Mark}
 use Rattle.cml_hub.specs.declared.marks.Mark.TheVariants.{Ready, Out}
 use Rattle.cml_hub.specs.Marks.{is_out}
-use Rattle.cml_hub.specs.Runs.{any_runs, is_empty, is_none, is_number, next_alarm, terminal, is_allowed}
+use Rattle.cml_hub.specs.Runs.{any_runs, is_none, next_alarm, terminal, is_allowed}
 use Rattle.cml_hub.specs.Dones.{GoesOn}
 use Rattle.cml_hub.specs.Courses.{PlainCourse, Begins, Keeps}
 use Rattle.cml_hub.specs.Kept.{Kept, Stands, IsBudget, IsWatch, IsBegun, is_out_of}
-use Rattle.cml_hub.specs.Moves.{Reported, HandedOut}
+use Rattle.cml_hub.specs.Moves.{HandedOut}
 use Rattle.cml_hub.proofs.Standing.{map_set}
 use Rattle.cml_hub.proofs.Marking.{placed_kept, ready_running, out_at}
 use Rattle.cml_hub.proofs.Reporting.{none_made}
-
 
 pub none_is : (o : Option ℕ) (b : Bool) → is_some o ≡ not b → b ≡ is_none o
 none_is None true e = refl
 none_is None false e = absurd (cc)
 none_is (Some n) true e = absurd (cc)
 none_is (Some n) false e = refl
-
 
 pub some_runs : (b a : Bool) → b ≡ not a → b ≡ false → a ≡ true
 some_runs b true e f = refl
@@ -47,7 +45,6 @@ terminal_is w still idle next = rw (next, idle, still) refl
 pub on_ok : {A E P Q : Type 0} (r : Result A E) → OnOk r P → (P → Q) → OnOk r Q
 on_ok (Ok x) h f = f h
 on_ok (Err e) h f = h
-
 
 -- at the beginning
 pub stands_begun : (p : List (PlainItem ℕ)) (course : PlainCourse) (budget : ℕ) (watch : Option ℕ) → Begins p course → IsBudget budget → IsWatch watch
@@ -87,7 +84,7 @@ stands_handed h ms t s ready = record {
 handed_same : (course : PlainCourse) (budget : ℕ) (watch : Option ℕ) (reports : List PlainReport) (ms : List Mark) (t : ℕ) (x : PlainMachine) → slice_get ms t ≡ Some Ready → Keeps course t x
     → GoesOn course.program x → x.thread ≡ t
     → HandedOut (record { course = course; budget = budget; watch = watch; out = map is_out ms; reports = reports }) (Some x)
-      (record { course = course; budget = budget; watch = watch; out = map is_out (slice_set ms t Out); reports = reports })
+    (record { course = course; budget = budget; watch = watch; out = map is_out (slice_set ms t Out); reports = reports })
 handed_same course budget watch reports ms t x ready keeps stands n =
     let out : map is_out (slice_set ms t Out) ≡ slice_set (map is_out ms) x.thread true = map_set is_out ms t Out ∙ ap (λ k. slice_set (map is_out ms) k true) (sym n) in
     let make : List Bool → Kept = λ o. record { course = course; budget = budget; watch = watch; out = o; reports = reports } in
@@ -96,7 +93,7 @@ handed_same course budget watch reports ms t x ready keeps stands n =
 pub handed_out : (course : PlainCourse) (budget : ℕ) (watch : Option ℕ) (reports : List PlainReport) (ms : List Mark) (t : ℕ) (m x : PlainMachine) → slice_get ms t ≡ Some Ready → Keeps course t x
     → GoesOn course.program x → x.thread ≡ t → m ≡ x
     → HandedOut (record { course = course; budget = budget; watch = watch; out = map is_out ms; reports = reports }) (Some m)
-      (record { course = course; budget = budget; watch = watch; out = map is_out (slice_set ms t Out); reports = reports })
+    (record { course = course; budget = budget; watch = watch; out = map is_out (slice_set ms t Out); reports = reports })
 handed_out course budget watch reports ms t m x ready keeps stands n e =
     let old : Kept = record { course = course; budget = budget; watch = watch; out = map is_out ms; reports = reports } in
     let new : Kept = record { course = course; budget = budget; watch = watch; out = map is_out (slice_set ms t Out); reports = reports } in

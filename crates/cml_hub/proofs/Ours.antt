@@ -1,11 +1,10 @@
 -- Whose slice it is, and where the machine of a running thread stands.
-use Rattle.std.proofs.Common.{◌≡◌, ℕ, zero, suc, ◌+◌, ◌<◌, ◌≤◌, Bool, true, false, not, List, [], ◌∷◌, length, refl, ap, sym, subst, ◌∙◌, arith, Option, Some, None, Ok, Err, slice_index_or}
+use Rattle.std.proofs.Common.{◌≡◌, ℕ, ◌<◌, Bool, true, false, length, refl, ap, sym, subst, ◌∙◌, arith, Option, Some, None, slice_index_or}
 use Rattle.std.specs.Prelude.{slice_get, IsTrue, ◌↔◌}
 use Rattle.std.specs.Option.{option_map_or}
 use Rattle.std.proofs.lemmas.Option.{slice_get_within}
 use Rattle.cml_scan.specs.World.{PlainThread, running, pending_on, ended, PlainWorld}
 use Rattle.cml_book.specs.Walks.{runs, is_running}
-use Rattle.cml_check.specs.Syntax.{PlainFunction as PlainItem}
 use Rattle.cml_step.specs.Machines.{PlainMachine}
 use Rattle.cml_step.specs.Rans.{PlainRan}
 use Rattle.cml_hub.specs.Dones.{GoesOn}

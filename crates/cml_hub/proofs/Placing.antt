@@ -1,20 +1,16 @@
 -- The threads that run, and their marks.
-use Rattle.std.proofs.Common.{◌≡◌, ◌≢◌, ℕ, zero, suc, Bool, true, false, ◌||◌, List, [], ◌∷◌, map, refl, Some, None, sym, ap, ◌∙◌, subst, inl, inr, ⊎_elim}
+use Rattle.std.proofs.Common.{◌≡◌, ◌≢◌, ℕ, zero, suc, Bool, true, false, List, [], ◌∷◌, map, refl, Some, ap, ◌∙◌}
 use Rattle.std.specs.Prelude.{Option, Result, Ok, Err, OnOk, OnErr, slice_get}
 use Rattle.std.specs.List.{list_any}
-use Rattle.std.proofs.lemmas.Bool.{cases_eq}
-use Rattle.cml_value.specs.declared.number.Tid.{Tid}
 use Rattle.cml_scan.specs.World.{PlainThread, running, pending_on, ended}
 use Rattle.cml_book.specs.Walks.{runs}
-use Rattle.cml_schedule.specs.declared.item.Item.{Item}
-use Rattle.cml_schedule.specs.declared.item.Item.TheVariants as item
 use Rattle.cml_hub.specs.declared.marks.Mark.{Mark}
 use Rattle.cml_hub.specs.declared.marks.Mark.TheVariants.{Ready, Out, Away}
 use Rattle.cml_hub.specs.Marks.{is_here, is_out, home}
 use Rattle.cml_monitor.specs.Reports.{PlainReport}
 use Rattle.cml_hub.specs.Courses.{PlainCourse}
 use Rattle.cml_hub.specs.Kept.{Kept, Stands, Placed, is_out_of, AllOut, NoneOut}
-use Rattle.cml_hub.specs.Moves.{Moves, TakesBack, MovedOn, CalledBack, GoesAlone}
+use Rattle.cml_hub.specs.Moves.{MovedOn, CalledBack, GoesAlone}
 
 -- who is ready runs
 pub ready_runs : (ts : List PlainThread) (ms : List Mark) (t : ℕ) → Placed ts ms → slice_get ms t ≡ Some Ready → slice_get ts t ≡ Some running
@@ -87,7 +83,6 @@ runs_somewhere [] h = cc
 runs_somewhere (running ∷ ts) h = (0, refl)
 runs_somewhere (pending_on g ∷ ts) h = let r = runs_somewhere ts h in (suc r.0, r.1)
 runs_somewhere (ended ∷ ts) h = let r = runs_somewhere ts h in (suc r.0, r.1)
-
 
 pub alone_moved : (a b : Kept) (moved : Bool) → NoneOut a → AllOut a → MovedOn a moved b → GoesAlone a b
 alone_moved a b true n o m = record {

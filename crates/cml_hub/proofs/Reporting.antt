@@ -1,9 +1,8 @@
 -- Reports stay, and the one that is due is made.
-use Rattle.std.proofs.Common.{◌≡◌, ◌≢◌, ℕ, zero, suc, ◌+◌, ◌*◌, ◌^◌, ◌<◌, ◌≤◌, Bool, true, false, List, [], ◌∷◌, ◌++◌, length, map, take, refl, arith, Some, None, sym, ap, ◌∙◌, length-append, below_more}
+use Rattle.std.proofs.Common.{◌≡◌, ◌≢◌, ℕ, zero, suc, ◌+◌, ◌*◌, ◌<◌, ◌≤◌, Bool, true, false, List, [], ◌∷◌, ◌++◌, length, map, refl, arith, Some, None, sym, ap, ◌∙◌, length-append, below_more}
 use Rattle.std.specs.Prelude.{slice_get, Option, option_map, IsTrue, ◌↔◌}
 use Rattle.std.proofs.lemmas.List.{take-append-le, take_all}
 use Rattle.std.proofs.Math.Nat.{mul-le-mul_left}
-use Rattle.cml_scan.specs.World.{PlainWorld}
 use Rattle.cml_monitor.specs.Reports.{PlainReport}
 use Rattle.cml_schedule.specs.declared.item.Item.{Item}
 use Rattle.cml_step.specs.Terms.{Program}
@@ -13,7 +12,7 @@ use Rattle.cml_hub.specs.Marks.{is_out}
 use Rattle.cml_hub.specs.Runs.{Run, stands}
 use Rattle.cml_hub.specs.Courses.{PlainCourse, run_of, Adds}
 use Rattle.cml_hub.specs.Reports.{shown, report_at, AreReportsBy, AreReports, IsDue, IsDueReport}
-use Rattle.cml_hub.specs.Kept.{Kept, Placed, Stands, NoneDue, IsBudget, IsWatch}
+use Rattle.cml_hub.specs.Kept.{Kept, Placed, Stands, NoneDue, IsWatch}
 use Rattle.cml_hub.specs.Moves.{Reported}
 
 get_before : {X : Type 0} (xs : List X) (x : X) (i : ℕ) → i < length xs → slice_get (xs ++ x ∷ []) i ≡ slice_get xs i
@@ -124,7 +123,6 @@ reported_none h none = record { course = refl; budget = refl; watch = refl; out 
     nothing : (xs : List PlainReport) → xs ≡ xs ++ []
     nothing [] = refl
     nothing (x ∷ xs) = ap (λ ys. x ∷ ys) (nothing xs)
-
 
 -- what a test says
 pub so : {P : Type 0} (b : Bool) → (IsTrue b ↔ P) → b ≡ true → P

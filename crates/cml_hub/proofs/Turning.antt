@@ -1,31 +1,28 @@
 -- A turn of a thread leads on.
-use Rattle.std.proofs.Common.{◌≡◌, ℕ, zero, suc, ◌+◌, ◌*◌, ◌<◌, ◌≤◌, Bool, true, false, List, [], ◌∷◌, ◌++◌, length, map, refl, ap, sym, subst, ◌∙◌, arith, Option, Some, None, append-nil, length-append}
+use Rattle.std.proofs.Common.{◌≡◌, ℕ, ◌+◌, List, [], ◌∷◌, ◌++◌, map, refl, ap, subst, ◌∙◌, arith, Some, append-nil, length-append}
 use Rattle.std.specs.Prelude.{slice_get, slice_set, option_map}
 use Rattle.std.proofs.lemmas.List.Elements.{All-push}
 use Rattle.std.proofs.lemmas.Option.{slice_get-map}
 use Rattle.cml_value.specs.declared.number.Tid.{Tid}
-use Rattle.cml_value.specs.Value.{thread, unit}
 use Rattle.cml_scan.specs.World.{PlainThread, running, pending_on, ended, PlainWorld}
 use Rattle.cml_check.specs.Syntax.{PlainFunction as PlainItem}
 use Rattle.cml_check.specs.InOrder.{arities}
 use Rattle.cml_step.specs.Answers.{awaited, answer_to}
-use Rattle.cml_step.specs.AnswerViews.{Awaits}
-use Rattle.cml_step.specs.Asks.{PlainAsk, a_value}
+use Rattle.cml_step.specs.Asks.{PlainAsk}
 use Rattle.cml_step.specs.Calls.{text_of}
 use Rattle.cml_step.specs.Machines.{PlainMachine, machine_term, Fits}
 use Rattle.cml_step.specs.Rans.{PlainRan, IsSlice}
-use Rattle.cml_step.specs.Slices.{PlainSlice, sliced}
+use Rattle.cml_step.specs.Slices.{sliced}
 use Rattle.cml_schedule.specs.declared.item.Item.{Item}
 use Rattle.cml_schedule.specs.declared.item.Item.TheVariants.{Turn}
 use Rattle.cml_schedule.specs.Laws.{IsNumber, IsWritable}
 use Rattle.cml_hub.specs.declared.done.Done.{Done}
 use Rattle.cml_hub.specs.declared.done.Done.TheVariants.{Goes, Gets, Takes, Begets, Prints, Waits, Ends, Fails}
-use Rattle.cml_hub.specs.Performed.{PlainDone, performed}
-use Rattle.cml_hub.specs.Runs.{Run, term_after, begun, told, after_slice, turned_by, turned, advance}
-use Rattle.cml_hub.specs.Agreeing.{WorldAgrees}
+use Rattle.cml_hub.specs.Performed.{performed}
+use Rattle.cml_hub.specs.Runs.{term_after, begun, told, advance}
 use Rattle.cml_hub.specs.Dones.{plain_done, DoneFits, CanSettle, Settles, children, gone, ThreadsAfter, GoesOn}
 use Rattle.cml_hub.specs.Settling.{AllSettled}
-use Rattle.cml_hub.specs.Courses.{PlainCourse, run_of, MachineStands, MachinesStand, Leads, Adds, Turns}
+use Rattle.cml_hub.specs.Courses.{PlainCourse, run_of, MachineStands, MachinesStand, Leads, Turns}
 use Rattle.cml_hub.proofs.Standing.{map_set, map_append, set_same, found_is, stand_set, stand_push, leads_on}
 use Rattle.cml_hub.proofs.Performing.{ThreadsDone, Performs, performs}
 

@@ -1,11 +1,11 @@
 -- What is written of a hub's schedule is read as it.
-use Rattle.std.proofs.Common.{◌≡◌, ◌≤◌, ℕ, List, Ok, Some, sym, ap, subst, refl}
+use Rattle.std.proofs.Common.{◌≡◌, ℕ, List, Ok, Some, sym, subst}
 use Rattle.std.specs.List.{All}
 use Rattle.cml_check.specs.Syntax.{PlainFunction as PlainItem}
 use Rattle.cml_check.specs.Sizes.{size_of, IsWithinSize}
 use Rattle.cml_check.specs.declared.size.Size.{Size}
 use Rattle.cml_schedule.specs.declared.item.Item.{Item}
-use Rattle.cml_schedule.specs.Laws.{IsWritable, IsHeadOf, WrittenIsRead}
+use Rattle.cml_schedule.specs.Laws.{IsWritable, WrittenIsRead}
 use Rattle.cml_schedule.specs.Written.{schedule_text}
 use Rattle.cml_schedule.specs.Reading.{ReadsAs}
 use Rattle.cml_hub.specs.Kept.{IsBudget}

@@ -1,5 +1,5 @@
 -- What a hub keeps, and how its calls change it.
-use Rattle.std.specs.Prelude.{ℕ, ◌≡◌, ◌≢◌, ◌+◌, ◌<◌, ◌≤◌, Bool, true, false, not, List, [], ◌∷◌, ◌++◌, length, map, Option, Some, None, Result, Ok, Err, unwrap_or, slice_get, slice_set}
+use Rattle.std.specs.Prelude.{ℕ, ◌≡◌, ◌≢◌, ◌+◌, ◌≤◌, Bool, true, false, List, [], ◌∷◌, ◌++◌, length, Option, Some, None, Result, Ok, Err, unwrap_or, slice_get, slice_set}
 use Rattle.std.specs.List.{All}
 use Rattle.cml_value.specs.declared.number.Tid.{Tid}
 use Rattle.cml_scan.specs.World.{PlainThread, running}
@@ -12,7 +12,6 @@ use Rattle.cml_monitor.specs.Reports.{PlainReport}
 use Rattle.cml_schedule.specs.declared.item.Item.{Item}
 use Rattle.cml_schedule.specs.declared.item.Item.TheVariants as item
 use Rattle.cml_step.specs.Calls.{text_of}
-use Rattle.cml_step.specs.Machines.{PlainMachine}
 use Rattle.cml_step.specs.Rans.{PlainRan}
 use Rattle.cml_hub.specs.declared.fault.End.{End}
 use Rattle.cml_hub.specs.declared.fault.Next.{Next}

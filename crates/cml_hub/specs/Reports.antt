@@ -1,5 +1,5 @@
 -- What the reports of a run are.
-use Rattle.std.specs.Prelude.{ℕ, ◌≡◌, ◌≢◌, ◌+◌, ◌*◌, ◌<◌, ◌≤◌, List, [], length, map, take, Option, Some, None, option_map, slice_get}
+use Rattle.std.specs.Prelude.{ℕ, ◌≡◌, ◌+◌, ◌*◌, ◌<◌, ◌≤◌, List, [], length, map, take, Option, Some, None, option_map, slice_get}
 use Rattle.cml_scan.specs.World.{PlainWorld, pending}
 use Rattle.cml_scan.specs.Scan.{scan}
 use Rattle.cml_monitor.specs.Reports.{PlainReport}

@@ -1,7 +1,4 @@
-use Rattle.std.proofs.Common.{◌≡◌, ◌∙◌, sym, ap, refl, []}
-use Rattle.std.specs.Prelude.{codes, Some}
-use Rattle.cml_value.specs.Value.{function, no_values}
-use Rattle.cml_hub.specs.Runs.{main_of}
+use Rattle.std.proofs.Common.{refl}
 use Rattle.cml_step.specs.Calls.{text_of}
 use Rattle.cml_hub.proofs.Opening.{main_is, spawned_first}
 use Rattle.cml_hub.proofs.course.opening.Goals as goal

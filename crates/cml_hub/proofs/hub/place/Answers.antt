@@ -1,8 +1,4 @@
-use Rattle.std.proofs.Common.{◌≡◌, ◌≢◌, ◌≤◌, ◌<◌, ◌+◌, ◌*◌, true, false, ℕ, List, [], ◌∷◌, ◌++◌, length, map, refl, sym, ap, subst, ◌∙◌, arith, Some, None}
-use Rattle.std.specs.Prelude.{slice_get, slice_set}
-use Rattle.cml_scan.specs.World.{running}
-use Rattle.cml_hub.specs.Marks.{is_out}
-use Rattle.cml_hub.specs.Kept.{Kept, NoneDue}
+use Rattle.std.proofs.Common.{◌≡◌, length, refl, sym, ◌∙◌}
 use Rattle.cml_hub.specs.declared.marks.Mark.TheVariants.{Ready, Away}
 use Rattle.cml_hub.proofs.Standing.{set_again}
 use Rattle.cml_hub.proofs.Marking.{there_away, pushed_away, set_pushed, marks_length}

@@ -1,8 +1,5 @@
-use Rattle.std.proofs.Common.{arith, ap, ◌∙◌, ◌≡◌, ◌+◌, ◌<◌, length, ℕ, [], ◌∷◌, ◌++◌}
-use Rattle.std.specs.Prelude.{slice_get, Some}
+use Rattle.std.proofs.Common.{arith, ap, ◌∙◌, ◌≡◌, ◌+◌, length, [], ◌∷◌, ◌++◌}
 use Rattle.std.specs.String.{string_bytes}
-use Rattle.cml_scan.specs.World.{running}
-use Rattle.cml_step.specs.AskViews.{plain_ask}
 use Rattle.cml_schedule.specs.Laws.{IsNumber}
 use Rattle.cml_schedule.specs.declared.item.Item.TheVariants.{Turn}
 use Rattle.cml_hub.specs.Dones.{DoneFits}

@@ -1,8 +1,8 @@
-use Rattle.std.proofs.Common.{arith, ◌∙◌, sym, ap, subst, refl, ◌≡◌, ◌<◌, ◌≤◌, ◌+◌, true, false, length, ℕ, List}
+use Rattle.std.proofs.Common.{arith, ◌∙◌, sym, ap, ◌≡◌}
 use Rattle.std.specs.Prelude.{slice_get, Some}
 use Rattle.std.specs.String.{string_bytes}
 use Rattle.cml_scan.specs.World.{running}
-use Rattle.cml_hub.specs.Courses.{PlainCourse, Keeps}
+use Rattle.cml_hub.specs.Courses.{PlainCourse}
 use Rattle.cml_hub.proofs.Ours.{running_is, machine_within, not_running_ours, other_machine_ours, program_ours}
 use Rattle.cml_hub.proofs.course.Course.is_ours.Goals as goal
 

@@ -1,8 +1,6 @@
-use Rattle.std.proofs.Common.{arith, ◌∙◌, sym, ap, subst, refl, ◌≡◌, ◌<◌, ◌≤◌, ◌+◌, true, false, length, ℕ, List}
-use Rattle.std.specs.Prelude.{slice_get, Some}
+use Rattle.std.proofs.Common.{arith}
 use Rattle.std.specs.String.{string_bytes}
-use Rattle.cml_scan.specs.World.{running}
-use Rattle.cml_hub.specs.Courses.{PlainCourse, Keeps}
+use Rattle.cml_hub.specs.Courses.{PlainCourse}
 use Rattle.cml_hub.proofs.Ours.{machine_within, machine_keeps, machine_goes, machine_number}
 use Rattle.cml_hub.proofs.course.Course.machine.Goals as goal
 

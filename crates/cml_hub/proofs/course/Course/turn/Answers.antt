@@ -1,4 +1,4 @@
-use Rattle.std.proofs.Common.{arith, ap, ◌∙◌, ◌≡◌, ◌+◌, ◌<◌, length, ℕ, [], ◌∷◌, ◌++◌}
+use Rattle.std.proofs.Common.{arith, ap, ◌∙◌, ◌≡◌, ◌+◌, length, [], ◌∷◌, ◌++◌}
 use Rattle.std.specs.Prelude.{slice_get, Some}
 use Rattle.std.specs.String.{string_bytes}
 use Rattle.cml_scan.specs.World.{running}

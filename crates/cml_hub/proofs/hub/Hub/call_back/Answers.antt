@@ -1,4 +1,4 @@
-use Rattle.std.proofs.Common.{◌≡◌, map, sym, ap, refl}
+use Rattle.std.proofs.Common.{map}
 use Rattle.cml_hub.specs.Marks.{is_out}
 use Rattle.cml_hub.specs.Kept.{Kept}
 use Rattle.cml_hub.proofs.Placing.{stands_called, called_so}

@@ -1,6 +1,5 @@
-use Rattle.std.proofs.Common.{◌≡◌, true, false, sym, ap, subst, refl, ◌∙◌}
+use Rattle.std.proofs.Common.{◌≡◌, true, sym, ap, subst, refl, ◌∙◌}
 use Rattle.cml_hub.specs.Courses.{IsOurs}
-use Rattle.cml_hub.specs.Kept.{Kept}
 use Rattle.cml_hub.specs.Moves.{IsNext, marks_after, with_report}
 use Rattle.cml_hub.proofs.Keeping.{next_turned}
 use Rattle.cml_hub.proofs.Giving.{kept_of, same_kept, there_given, kept_stands, kept_given}

@@ -1,6 +1,3 @@
-use Rattle.std.proofs.Common.{◌≡◌, sym, ap, subst, refl}
-use Rattle.cml_hub.specs.Kept.{Kept}
-use Rattle.cml_hub.specs.Moves.{MovedOn, GoesAlone}
 use Rattle.cml_hub.proofs.Placing.{ready_runs, none_ready_all_out, alone_moved}
 use Rattle.cml_hub.proofs.hub.Hub.go_alone.Goals as goal
 

@@ -1,8 +1,6 @@
-use Rattle.std.proofs.Common.{◌≡◌, ◌≢◌, ◌≤◌, ◌<◌, ◌+◌, ◌*◌, ◌&&◌, true, false, not, Bool, ℕ, List, [], ◌∷◌, ◌++◌, length, map, refl, sym, ap, subst, ◌∙◌, arith, Some, None}
-use Rattle.std.specs.Prelude.{slice_get, slice_set}
-use Rattle.cml_scan.specs.World.{running}
+use Rattle.std.proofs.Common.{map, refl}
 use Rattle.cml_hub.specs.Marks.{is_out}
-use Rattle.cml_hub.specs.Kept.{Kept, NoneDue}
+use Rattle.cml_hub.specs.Kept.{Kept}
 use Rattle.cml_hub.proofs.Marking.{all_out, ready_running}
 use Rattle.cml_hub.proofs.Onward.{stands_handed, handed_out}
 use Rattle.cml_hub.proofs.hub.Hub.hand_out.Goals as goal

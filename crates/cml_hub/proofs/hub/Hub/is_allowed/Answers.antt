@@ -1,8 +1,4 @@
-use Rattle.std.proofs.Common.{◌≡◌, ◌≢◌, ◌≤◌, ◌<◌, ◌+◌, ◌*◌, ◌&&◌, true, false, not, Bool, ℕ, List, [], ◌∷◌, ◌++◌, length, map, refl, sym, ap, subst, ◌∙◌, arith, Some, None}
-use Rattle.std.specs.Prelude.{slice_get, slice_set}
-use Rattle.cml_scan.specs.World.{running}
-use Rattle.cml_hub.specs.Marks.{is_out}
-use Rattle.cml_hub.specs.Kept.{Kept, NoneDue}
+use Rattle.std.proofs.Common.{not, ap, ◌∙◌}
 use Rattle.cml_hub.proofs.Marking.{placed_any}
 use Rattle.cml_hub.proofs.hub.Hub.is_allowed.Goals as goal
 

@@ -1,4 +1,4 @@
-use Rattle.std.proofs.Common.{◌≡◌, ◌&&◌, sym, ap, subst, refl, ◌∙◌}
+use Rattle.std.proofs.Common.{◌≡◌, ◌&&◌, ◌∙◌}
 use Rattle.cml_scan.specs.Scan.{scan}
 use Rattle.cml_hub.specs.Runs.{is_empty}
 use Rattle.cml_hub.proofs.Deciding.{idle_is, terminal_then, terminal_else}

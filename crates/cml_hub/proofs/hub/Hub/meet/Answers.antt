@@ -1,6 +1,4 @@
-use Rattle.std.proofs.Common.{◌≡◌, ◌≢◌, ◌≤◌, ◌<◌, ◌+◌, true, false, ℕ, List, [], ◌∷◌, ◌++◌, length, map, refl, sym, ap, subst, ◌∙◌, arith, Some, None}
-use Rattle.std.specs.Prelude.{slice_get, slice_set}
-use Rattle.cml_scan.specs.World.{running}
+use Rattle.std.proofs.Common.{map}
 use Rattle.cml_hub.specs.Marks.{is_out}
 use Rattle.cml_hub.specs.Kept.{Kept, NoneDue}
 use Rattle.cml_hub.proofs.Marking.{out_met}

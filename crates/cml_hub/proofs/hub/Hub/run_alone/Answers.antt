@@ -1,5 +1,3 @@
-use Rattle.std.proofs.Common.{◌≡◌, sym, ap, subst, refl}
-use Rattle.cml_hub.specs.Kept.{Kept}
 use Rattle.cml_hub.proofs.Going.{continues_self, continues_called, continues_more, continues_reported, still_continues, none_out_reported}
 use Rattle.cml_hub.proofs.hub.Hub.run_alone.Goals as goal
 

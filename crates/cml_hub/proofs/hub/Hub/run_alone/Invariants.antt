@@ -1,4 +1,4 @@
-use Rattle.std.proofs.Common.{◌≡◌, ◌-◌}
+use Rattle.std.proofs.Common.{◌-◌}
 use Rattle.cml_hub.specs.Kept.{Continues, NoneOut, NoneDue}
 use Rattle.cml_hub.proofs.hub.Hub.run_alone.Given as goal
 

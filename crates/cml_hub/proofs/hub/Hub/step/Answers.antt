@@ -1,4 +1,4 @@
-use Rattle.std.proofs.Common.{◌≡◌, sym, ap, refl, ◌∙◌}
+use Rattle.std.proofs.Common.{◌≡◌, ap, ◌∙◌}
 use Rattle.cml_hub.specs.Kept.{Kept}
 use Rattle.cml_hub.proofs.Going.{none_out_reported}
 use Rattle.cml_hub.proofs.Deciding.{on_ok, in_both, adds_then}

@@ -1,7 +1,4 @@
-use Rattle.std.proofs.Common.{◌≡◌, ◌∙◌, sym, ap, subst, None, Some, true, false}
-use Rattle.cml_hub.specs.Runs.{over}
-use Rattle.cml_hub.specs.Courses.{run_of}
-use Rattle.cml_hub.specs.Kept.{Kept, Extends}
+use Rattle.std.proofs.Common.{◌∙◌, sym, subst}
 use Rattle.cml_hub.specs.Moves.{HandedOut, MovedOn}
 use Rattle.cml_hub.proofs.Going.{extends_self, extends_reported, still_extends, going_still, job_extends, job_over, wait_hands, moved_extends, moved_out}
 use Rattle.cml_hub.proofs.hub.Hub.take.Goals as goal

@@ -1,5 +1,5 @@
-use Rattle.std.proofs.Common.{◌≡◌, ◌≢◌, ◌≤◌, ◌<◌, ◌+◌, ◌*◌, true, false, ℕ, List, [], ◌∷◌, ◌++◌, length, map, refl, sym, ap, subst, ◌∙◌, arith, Some, None}
-use Rattle.std.specs.Prelude.{slice_get, slice_set}
+use Rattle.std.proofs.Common.{◌≡◌, map, Some}
+use Rattle.std.specs.Prelude.{slice_get}
 use Rattle.cml_scan.specs.World.{running}
 use Rattle.cml_hub.specs.Marks.{is_out}
 use Rattle.cml_hub.specs.Kept.{Kept, NoneDue}

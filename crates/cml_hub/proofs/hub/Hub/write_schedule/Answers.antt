@@ -1,4 +1,4 @@
-use Rattle.std.proofs.Common.{◌≡◌, sym, ap, subst, ◌∙◌, refl}
+use Rattle.std.proofs.Common.{◌≡◌, sym, ap, ◌∙◌}
 use Rattle.cml_check.specs.Sizes.{size_of}
 use Rattle.cml_schedule.specs.Written.{schedule_text}
 use Rattle.cml_hub.specs.Kept.{Kept}
