@@ -1,39 +1,62 @@
--- Where no use of an argument is at fault, each row of the matches has a value.
-use Rattle.std.proofs.Common.{◌≡◌, ◌&&◌, ◌||◌, ◌==◌, ◌+◌, ℕ, min, Bool, cond, true, false, refl, sym, List, [], ◌∷◌, ◌++◌, length, Option, Some, None, true≢false}
+-- Where no use of an argument is at fault, each row of the matches has a value, its values pass, and they are read as they are written.
+use Rattle.std.proofs.Common.{◌≡◌, ◌∙◌, ◌&&◌, ◌||◌, ◌==◌, ap, ap₂, Bool, cond, true, false, refl, sym, subst, List, [], ◌∷◌, ◌++◌, length, Option, Some, None, true≢false}
 use Rattle.std.specs.Prelude.{nat_lt, ⊤}
 use Rattle.std.specs.Option.{option_map_or}
 use Rattle.std.specs.List.{find, fold, list_all}
 use Rattle.std.specs.Str.{bytes_eq}
+use Rattle.std.proofs.lemmas.List.Folds.{list_all-append}
+use Rattle.std.proofs.lemmas.Slice.Eq.{bytes_eq-Decides}
 use Rattle.clap.specs.Words.{Kinds}
-use Rattle.clap.specs.Facts.{unwrap_or_range}
-use Rattle.clap.specs.Faults.{react_fault, settle_fault, use_fault}
-use Rattle.clap.specs.Kinds.{or_else, range_kinds}
-use Rattle.clap.specs.Matches.{count_text}
-use Rattle.clap.specs.Values.{is_request}
-use Rattle.clap.specs.Walk.{Held, Row, Rule, Text, action_of, arg_by_id, at_row, count_of, counted, default_rows, has_row, more_values, most_values, new_count, reacted, reading_by, settled, settled_rows, used, used_as, used_by_id, values_or_missing, with_count, with_default, with_values, without}
-use Rattle.clap.proofs.WalkLemmas.{both}
+use Rattle.clap.specs.Facts.{parser_of_value, unwrap_or_range}
+use Rattle.clap.specs.Faults.{action_fault, react_fault, settle_fault, use_fault}
+use Rattle.clap.specs.Kinds.{or_else, range_kinds, values_kinds}
+use Rattle.clap.specs.Takes.{value_passes}
+use Rattle.clap.specs.Values.{is_request, refused_kind}
+use Rattle.clap.specs.ValueTests.{accepts}
+use Rattle.clap.specs.Walk.{Held, Row, Rule, Text, action_of, arg_by_id, at_row, default_rows, has_row, more_values, most_values, reacted, reading_by, settled, settled_rows, used, used_as, used_by_id, values_or_missing, with_default, with_values, without}
 use Rattle.clap.specs.declared.builder.action.ArgAction.{ArgAction}
 use Rattle.clap.specs.declared.builder.action.ArgAction.TheVariants as action
 use Rattle.clap.specs.declared.builder.value_parser.Reading.{Reading}
+use Rattle.clap.specs.declared.builder.value_parser.Reading.TheVariants.{AsWritten}
+use Rattle.clap.specs.declared.builder.value_parser.ValueParser.{ValueParser}
 use Rattle.clap.specs.declared.error.kind.ErrorKind.TheVariants.{InvalidValue}
 use Rattle.clap.specs.declared.parser.matches.ValueSource.{ValueSource}
-use Rattle.clap.specs.declared.parser.matches.ValueSource.TheVariants.{CommandLine, DefaultValue}
+use Rattle.clap.specs.declared.parser.matches.ValueSource.TheVariants.{CommandLine}
 
 -- where neither of two steps fails, the first does not, and the second does not
 pub neither : (a b : Kinds) → or_else a b ≡ [] → (a ≡ []) × (b ≡ [])
 neither [] b none = (refl, none)
 neither (k ∷ ks) b none = cc
 
--- what is found passes each test that all pass
-pub found_passes : {X : Type 0} (p test : X → Bool) (xs : List X) (x : X) → list_all p xs ≡ true → find test xs ≡ Some x → p x ≡ true
-found_passes p test [] x all found = cc
-found_passes p test (y ∷ ys) x all found = go (test y) found (found_passes p test ys x (both _ _ all).1)
+-- each element is such a one
+abbrev pub Each : {X : Type 0} → (X → Type 0) → List X → Type 0
+Each P [] = ⊤
+Each P (x ∷ xs) = P x × Each P xs
+
+-- so is what is found
+pub found_each : {X : Type 0} (P : X → Type 0) (test : X → Bool) (xs : List X) (x : X) → Each P xs → find test xs ≡ Some x → P x
+found_each P test [] x all found = cc
+found_each P test (y ∷ ys) x all found = go (test y) found (found_each P test ys x all.1)
   where
-    go : (b : Bool) → cond b (Some y) (find test ys) ≡ Some x → (find test ys ≡ Some x → p x ≡ true) → p x ≡ true
+    go : (b : Bool) → cond b (Some y) (find test ys) ≡ Some x → (find test ys ≡ Some x → P x) → P x
     go true here rest =
         let same : y ≡ x = cc in
-        rw (← same) (both _ _ all).0
+        subst P same all.0
     go false there rest = rest there
+
+-- ---- rules
+
+abbrev pub is_set : ArgAction → Bool
+is_set action.Set = true
+is_set _ = false
+
+-- an argument that its id finds, and without a default: each use ends the parse, or sets it to a value that is read as it is written
+pub record IsPlainRule (c : List Rule) (a : Rule) : Type 0 where
+  pub own : arg_by_id c a.id ≡ Some a
+  pub sets : (is_set (action_of a) || is_request (action_of a)) ≡ true
+  pub fills : (is_request (action_of a) || nat_lt 0 (unwrap_or_range a.range).start_inclusive) ≡ true
+  pub reading : reading_by a ≡ AsWritten
+  pub defaults : a.defaults ≡ []
 
 -- ---- rows
 
@@ -41,110 +64,116 @@ abbrev pub HasValue : List Text → Type 0
 HasValue [] = ⊥
 HasValue (v ∷ vs) = ⊤
 
-abbrev pub AllFilled : List Row → Type 0
-AllFilled [] = ⊤
-AllFilled (r ∷ rs) = HasValue r.values × AllFilled rs
+-- the value passes the parser of the argument of this id
+abbrev pub passes : List Rule → Text → Text → Bool
+passes c id value = option_map_or (λ a. value_passes a value) (arg_by_id c id) true
 
-joined : (xs ys : List Row) → AllFilled xs → AllFilled ys → AllFilled (xs ++ ys)
-joined [] ys p q = q
-joined (x ∷ xs) ys p q = (p.0, joined xs ys p.1 q)
+abbrev pub IsFit : List Rule → Row → Type 0
+IsFit c r = HasValue r.values × (r.reading ≡ AsWritten) × (list_all (passes c r.id) r.values ≡ true)
 
 values_joined : (vs ws : List Text) → HasValue ws → HasValue (vs ++ ws)
-values_joined [] ws q = q
-values_joined (v ∷ vs) ws q = tt
+values_joined [] ws some = some
+values_joined (v ∷ vs) ws some = tt
 
-nonempty : (vs : List Text) → nat_lt 0 (length vs) ≡ true → HasValue vs
-nonempty [] some = absurd (true≢false (sym some))
-nonempty (v ∷ vs) some = tt
+joined : {X : Type 0} (P : X → Type 0) (xs ys : List X) → Each P xs → Each P ys → Each P (xs ++ ys)
+joined P [] ys p q = q
+joined P (x ∷ xs) ys p q = (p.0, joined P xs ys p.1 q)
 
-at_row_filled : (id : Text) (change : Row → List Row) (missing rows : List Row) → ((r : Row) → AllFilled (change r)) → AllFilled missing → AllFilled rows
-    → AllFilled (at_row id change missing rows)
-at_row_filled id change missing [] changed last filled = last
-at_row_filled id change missing (r ∷ rs) changed last filled = go (bytes_eq r.id id) (at_row_filled id change missing rs changed last filled.1)
-  where
-    go : (b : Bool) → AllFilled (at_row id change missing rs) → AllFilled (cond b (change r ++ rs) (r ∷ at_row id change missing rs))
-    go true rest = joined (change r) rs (changed r) filled.1
-    go false rest = (filled.0, rest)
+module _ (c : List Rule) where
+  at_row_fit : (id : Text) (change : Row → List Row) (missing rows : List Row) → ((r : Row) → r.id ≡ id → IsFit c r → Each (IsFit c) (change r)) → Each (IsFit c) missing
+      → Each (IsFit c) rows → Each (IsFit c) (at_row id change missing rows)
+  at_row_fit id change missing [] changed last fit = last
+  at_row_fit id change missing (r ∷ rs) changed last fit = go (bytes_eq r.id id) refl (at_row_fit id change missing rs changed last fit.1)
+    where
+      go : (b : Bool) → bytes_eq r.id id ≡ b → Each (IsFit c) (at_row id change missing rs) → Each (IsFit c) (cond b (change r ++ rs) (r ∷ at_row id change missing rs))
+      go true same rest = joined (IsFit c) (change r) rs (changed r ((bytes_eq-Decides r.id id).0 same) fit.0) fit.1
+      go false same rest = (fit.0, rest)
 
-without_filled : (id : Text) (rows : List Row) → AllFilled rows → AllFilled (without id rows)
-without_filled id rows filled = at_row_filled id (λ r. []) [] rows (λ r. tt) tt filled
+  without_fit : (id : Text) (rows : List Row) → Each (IsFit c) rows → Each (IsFit c) (without id rows)
+  without_fit id rows fit = at_row_fit id (λ r. []) [] rows (λ r same here. tt) tt fit
 
-with_values_filled : (id : Text) (how : Reading) (s : ValueSource) (values : List Text) (rows : List Row) → HasValue values → AllFilled rows
-    → AllFilled (with_values id how s values rows)
-with_values_filled id how s values rows some filled = at_row_filled id (more_values s values) _ rows (λ r. (values_joined r.values values some, tt)) (some, tt) filled
-
-with_count_filled : (id : Text) (how : Reading) (s : ValueSource) (n : ℕ) (rows : List Row) → AllFilled rows → AllFilled (with_count id how s n rows)
-with_count_filled id how s n rows filled = at_row_filled id (new_count s n) _ rows (λ r. (values_joined r.values (count_text n ∷ []) tt, tt)) (tt, tt) filled
-
-counted_filled : (id : Text) (how : Reading) (values : List Text) (rows : List Row) → AllFilled rows → AllFilled (counted id how values rows)
-counted_filled id how [] rows filled = with_count_filled id how CommandLine (min (count_of id rows + 1) 255) (without id rows) (without_filled id rows filled)
-counted_filled id how (v ∷ vs) rows filled = with_values_filled id how CommandLine (v ∷ vs) (without id rows) tt (without_filled id rows filled)
+  with_values_fit : (id : Text) (how : Reading) (s : ValueSource) (values : List Text) (rows : List Row) → HasValue values → how ≡ AsWritten
+      → list_all (passes c id) values ≡ true → Each (IsFit c) rows → Each (IsFit c) (with_values id how s values rows)
+  with_values_fit id how s values rows some plain pass fit = at_row_fit id (more_values s values) _ rows more ((some, plain, pass), tt) fit
+    where
+      more : (r : Row) → r.id ≡ id → IsFit c r → Each (IsFit c) (more_values s values r)
+      more r same here =
+          let mine : list_all (passes c r.id) values ≡ true = rw same pass in
+          ((values_joined r.values values some, here.1, list_all-append (passes c r.id) r.values values ∙ ap₂ (λ x y. x && y) here.2 mine), tt)
 
 -- ---- one use of an argument
 
--- a use of the argument gives it a value, or is a request that ends the parse
-abbrev pub always_fills : Rule → Bool
-always_fills a = is_request (action_of a) || (nat_lt 0 (unwrap_or_range a.range).start_inclusive || nat_lt 0 (length a.missing))
+values_pass : (ignore_case : Bool) (p : ValueParser) (values : List Text) → values_kinds ignore_case p values ≡ [] → list_all (accepts ignore_case p) values ≡ true
+values_pass ignore_case p [] none = refl
+values_pass ignore_case p (v ∷ vs) none =
+    let parts = neither _ _ none in
+    ap₂ (λ x y. x && y) (one (accepts ignore_case p v) parts.0) (values_pass ignore_case p vs parts.1)
+  where
+    one : (b : Bool) → cond b [] (refused_kind p ∷ []) ≡ [] → b ≡ true
+    one true none = refl
+    one false none = cc
 
-used_as_filled : (x : ArgAction) (id : Text) (how : Reading) (values : List Text) (rows : List Row) → (is_request x ≡ false → HasValue values) → AllFilled rows
-    → AllFilled (used_as x id how values rows)
-used_as_filled action.Set id how values rows some filled = with_values_filled id how CommandLine values (without id rows) (some refl) (without_filled id rows filled)
-used_as_filled action.SetTrue id how values rows some filled = with_values_filled id how CommandLine values (without id rows) (some refl) (without_filled id rows filled)
-used_as_filled action.SetFalse id how values rows some filled = with_values_filled id how CommandLine values (without id rows) (some refl) (without_filled id rows filled)
-used_as_filled action.Append id how values rows some filled = with_values_filled id how CommandLine values rows (some refl) filled
-used_as_filled action.Count id how values rows some filled = counted_filled id how values rows filled
-used_as_filled action.Help id how values rows some filled = filled
-used_as_filled action.HelpShort id how values rows some filled = filled
-used_as_filled action.HelpLong id how values rows some filled = filled
-used_as_filled action.Version id how values rows some filled = filled
-
-gives_value : (a : Rule) (values : List Text) → always_fills a ≡ true → range_kinds (unwrap_or_range a.range).start_inclusive (most_values a) (length values) ≡ []
-    → is_request (action_of a) ≡ false → HasValue (values_or_missing a values)
+gives_value : (a : Rule) (values : List Text) → (is_request (action_of a) || nat_lt 0 (unwrap_or_range a.range).start_inclusive) ≡ true
+    → range_kinds (unwrap_or_range a.range).start_inclusive (most_values a) (length values) ≡ [] → is_request (action_of a) ≡ false → HasValue (values_or_missing a values)
 gives_value a (v ∷ vs) fills enough plain = tt
 gives_value a [] fills enough plain = go (nat_lt 0 (unwrap_or_range a.range).start_inclusive) _ enough (rw plain at fills)
   where
-    go : (b : Bool) (rest : Kinds) → cond (b && (0 == 0)) (InvalidValue ∷ []) rest ≡ [] → (b || nat_lt 0 (length a.missing)) ≡ true → HasValue a.missing
+    go : (b : Bool) (rest : Kinds) → cond (b && (0 == 0)) (InvalidValue ∷ []) rest ≡ [] → b ≡ true → HasValue a.missing
     go true rest bad some = cc
-    go false rest fine some = nonempty a.missing some
+    go false rest fine some = absurd (true≢false (sym some))
 
-used_filled : (again : Bool) (a : Rule) (values : List Text) (rows : List Row) → always_fills a ≡ true → use_fault again a values rows ≡ [] → AllFilled rows
-    → AllFilled (used a values rows)
-used_filled again a values rows fills none filled =
-    let enough = (neither _ _ none).0 in
-    used_as_filled (action_of a) a.id (reading_by a) (values_or_missing a values) rows (gives_value a values fills enough) filled
+module _ (c : List Rule) where
+  used_as_fit : (x : ArgAction) (again : Bool) (a : Rule) (values : List Text) (rows : List Row) → (is_set x || is_request x) ≡ true → reading_by a ≡ AsWritten
+      → arg_by_id c a.id ≡ Some a → (is_request x ≡ false → HasValue values) → action_fault x again a values rows ≡ [] → Each (IsFit c) rows
+      → Each (IsFit c) (used_as x a.id (reading_by a) values rows)
+  used_as_fit action.Set again a values rows sets plain own some none fit =
+      let pass : list_all (value_passes a) values ≡ true = values_pass a.ignore_case (parser_of_value a.parser) values (neither _ _ none).1 in
+      let mine : list_all (passes c a.id) values ≡ true = subst (λ (o : Option Rule). list_all (λ v. option_map_or (λ b. value_passes b v) o true) values ≡ true) (sym own) pass in
+      with_values_fit c a.id (reading_by a) CommandLine values (without a.id rows) (some refl) plain mine (without_fit c a.id rows fit)
+  used_as_fit action.SetTrue again a values rows sets plain own some none fit = absurd (true≢false (sym sets))
+  used_as_fit action.SetFalse again a values rows sets plain own some none fit = absurd (true≢false (sym sets))
+  used_as_fit action.Append again a values rows sets plain own some none fit = absurd (true≢false (sym sets))
+  used_as_fit action.Count again a values rows sets plain own some none fit = absurd (true≢false (sym sets))
+  used_as_fit action.Help again a values rows sets plain own some none fit = fit
+  used_as_fit action.HelpShort again a values rows sets plain own some none fit = fit
+  used_as_fit action.HelpLong again a values rows sets plain own some none fit = fit
+  used_as_fit action.Version again a values rows sets plain own some none fit = fit
 
-module _ (c : List Rule) (again : Bool) (fills : list_all always_fills c ≡ true) where
-  pub settled_filled : (h : Held) → settle_fault c again h ≡ [] → AllFilled h.rows → AllFilled (settled c h).rows
-  settled_filled h none filled = go h.pending none
+  used_fit : (again : Bool) (a : Rule) (values : List Text) (rows : List Row) → IsPlainRule c a → use_fault again a values rows ≡ [] → Each (IsFit c) rows
+      → Each (IsFit c) (used a values rows)
+  used_fit again a values rows one none fit =
+      let parts = neither _ _ none in
+      used_as_fit (action_of a) again a (values_or_missing a values) rows one.sets one.reading one.own (gives_value a values one.fills parts.0) parts.1 fit
+
+module _ (c : List Rule) (again : Bool) (plain : Each (IsPlainRule c) c) where
+  pub settled_fit : (h : Held) → settle_fault c again h ≡ [] → Each (IsFit c) h.rows → Each (IsFit c) (settled c h).rows
+  settled_fit h none fit = go h.pending none
     where
-      by_id : (p : Text × List Text) (o : Option Rule) → arg_by_id c p.0 ≡ o → option_map_or (λ a. use_fault again a p.1 h.rows) o [] ≡ [] → AllFilled (used_by_id o p.1 h.rows)
-      by_id p None is fine = filled
-      by_id p (Some a) is fine = used_filled again a p.1 h.rows (found_passes always_fills _ c a fills is) fine filled
+      by_id : (p : Text × List Text) (o : Option Rule) → arg_by_id c p.0 ≡ o → option_map_or (λ a. use_fault again a p.1 h.rows) o [] ≡ [] → Each (IsFit c) (used_by_id o p.1 h.rows)
+      by_id p None is fine = fit
+      by_id p (Some a) is fine = used_fit c again a p.1 h.rows (found_each (IsPlainRule c) _ c a plain is) fine fit
 
       go : (p : Option (Text × List Text)) → option_map_or (λ p. option_map_or (λ a. use_fault again a p.1 h.rows) (arg_by_id c p.0) []) p [] ≡ []
-          → AllFilled (settled_rows c p h.rows)
-      go None fine = filled
+          → Each (IsFit c) (settled_rows c p h.rows)
+      go None fine = fit
       go (Some p) fine = by_id p (arg_by_id c p.0) refl fine
 
-  pub reacted_filled : (a : Rule) (values : List Text) (h : Held) → always_fills a ≡ true → react_fault c again a values h ≡ [] → AllFilled h.rows
-      → AllFilled (reacted c a values h).rows
-  reacted_filled a values h one none filled =
+  pub reacted_fit : (a : Rule) (values : List Text) (h : Held) → IsPlainRule c a → react_fault c again a values h ≡ [] → Each (IsFit c) h.rows
+      → Each (IsFit c) (reacted c a values h).rows
+  reacted_fit a values h one none fit =
       let parts = neither (settle_fault c again h) _ none in
-      used_filled again a values (settled c h).rows one parts.1 (settled_filled h parts.0 filled)
+      used_fit c again a values (settled c h).rows one parts.1 (settled_fit h parts.0 fit)
 
 -- ---- defaults
 
-default_filled : (rows : List Row) (a : Rule) → AllFilled rows → AllFilled (with_default rows a)
-default_filled rows a filled = go (has_row a.id rows)
+default_stays : (rows : List Row) (a : Rule) → a.defaults ≡ [] → with_default rows a ≡ rows
+default_stays rows a none = go (has_row a.id rows)
   where
-    given : (values : List Text) → AllFilled (default_rows a.id (reading_by a) values rows)
-    given [] = filled
-    given (v ∷ vs) = with_values_filled a.id (reading_by a) DefaultValue (v ∷ vs) rows tt filled
+    go : (b : Bool) → cond b rows (default_rows a.id (reading_by a) a.defaults rows) ≡ rows
+    go true = refl
+    go false = ap (λ values. default_rows a.id (reading_by a) values rows) none
 
-    go : (b : Bool) → AllFilled (cond b rows (default_rows a.id (reading_by a) a.defaults rows))
-    go true = filled
-    go false = given a.defaults
-
-pub defaults_filled : (rows : List Row) (c : List Rule) → AllFilled rows → AllFilled (fold with_default rows c)
-defaults_filled rows [] filled = filled
-defaults_filled rows (a ∷ rest) filled = defaults_filled (with_default rows a) rest (default_filled rows a filled)
+-- plain arguments have no defaults, so the rows stay
+pub defaults_stay : (c rules : List Rule) (rows : List Row) → Each (IsPlainRule c) rules → fold with_default rows rules ≡ rows
+defaults_stay c [] rows plain = refl
+defaults_stay c (a ∷ rest) rows plain = ap (λ rs. fold with_default rs rest) (default_stays rows a plain.0.defaults) ∙ defaults_stay c rest rows plain.1

@@ -2,4 +2,5 @@ mod Answers
 mod Entered
 mod Filled
 mod Named
+mod Served
 mod Steps

@@ -1,16 +1,42 @@
--- What an argument of the command that was entered holds.
-use Rattle.std.proofs.Common.{◌≡◌, List, Option, Some, None, option_map}
-use Rattle.std.specs.Prelude.{option_and_then}
-use Rattle.clap.specs.Words.{Row, Text, first_of, rows_of}
+-- The command that the matches name, with what it was given.
+use Rattle.std.proofs.Common.{◌≡◌, ap₂, sym, refl, subst, codes, Bool, true, false, true≢false, List, Option, Some, None, IsSomeAnd, option_map}
+use Rattle.std.specs.Str.{bytes_eq}
+use Rattle.std.proofs.lemmas.Slice.Eq.{bytes_eq-Decides}
+use Rattle.clap.specs.Words.{Row, Text, rows_of}
 use Rattle.clap.specs.declared.parser.matches.Found.{Found}
+use Rattle.cml_words.specs.Words.{commands, is_complete, Names}
+use Rattle.cml_words.specs.declared.Task.{Task}
 
--- what is read of an argument below is what the words give it
-pub value_read : (found : Option (Text × List Row)) (below : Found) (id : Text) (text : Option Text) → Some (rows_of below) ≡ option_map (λ command. command.1) found
-    → first_of id (rows_of below) ≡ text → option_and_then (λ command. first_of id command.1) found ≡ text
-value_read None below id text rows first = cc
-value_read (Some command) below id text rows first = go command.1 rows
+named_is : (found : Option (Text × List Row)) (name : Text) (below : Found) → option_map (λ p. p.0) found ≡ Some name
+    → Some (rows_of below) ≡ option_map (λ p. p.1) found → Some (name, rows_of below) ≡ found
+named_is None name below named rows = cc
+named_is (Some p) name below named rows =
+    let first : name ≡ p.0 = cc in
+    let second : rows_of below ≡ p.1 = cc in
+    ap₂ (λ a b. Some (a, b)) first second
+
+-- it is a command of the program, whose arguments were served
+pub named_complete : (found : Option (Text × List Row)) (name : Text) (below : Found) → option_map (λ p. p.0) found ≡ Some name
+    → Some (rows_of below) ≡ option_map (λ p. p.1) found → is_complete commands found ≡ true → is_complete commands (Some (name, rows_of below)) ≡ true
+named_complete found name below named rows complete =
+    subst (λ (f : Option (Text × List Row)). is_complete commands f ≡ true) (sym (named_is found name below named rows)) complete
+
+-- and the task is the one that it names
+pub named_task : (found : Option (Text × List Row)) (name : Text) (below : Found) (task : Task) → option_map (λ p. p.0) found ≡ Some name
+    → Some (rows_of below) ≡ option_map (λ p. p.1) found → Names (name, rows_of below) task → IsSomeAnd found (λ named. Names named task)
+named_task found name below task named rows names =
+    subst (λ (f : Option (Text × List Row)). IsSomeAnd f (λ named. Names named task)) (named_is found name below named rows) names
+
+no_match : (own name : Text) → (name ≡ own → ⊥) → bytes_eq own name ≡ false
+no_match own name other = go (bytes_eq own name) refl
   where
-    go : (others : List Row) → Some (rows_of below) ≡ Some others → first_of id others ≡ text
-    go others same =
-        let here : others ≡ rows_of below = cc in
-        rw here first
+    go : (b : Bool) → bytes_eq own name ≡ b → b ≡ false
+    go true same = absurd (other (sym ((bytes_eq-Decides own name).0 same)))
+    go false same = refl
+
+-- there are no other commands
+pub no_other : (name : Text) (given : List Row) → is_complete commands (Some (name, given)) ≡ true → (name ≡ codes "trace" → ⊥) → (name ≡ codes "check" → ⊥)
+    → (name ≡ codes "fmt" → ⊥) → (name ≡ codes "run" → ⊥) → (name ≡ codes "replay" → ⊥) → ⊥
+no_other name given complete trace check fmt run replay =
+    let none : false ≡ true = rw (no_match _ _ trace, no_match _ _ check, no_match _ _ fmt, no_match _ _ run, no_match _ _ replay) at complete in
+    true≢false (sym none)

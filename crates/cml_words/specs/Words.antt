@@ -1,67 +1,137 @@
 -- What the words of the command line are answered.
-use Rattle.std.specs.Prelude.{◌≡◌, ◌≢◌, ◌⊎◌, ◌&&◌, ℕ, Bool, true, false, Option, Some, None, List, [], codes, is_some, map, option_map, option_and_then}
-use Rattle.std.specs.List.{filter, list_all, list_any}
+use Rattle.std.specs.Prelude.{◌≡◌, ◌≢◌, ◌⊎◌, ◌&&◌, ℕ, Bool, true, false, not, Option, Some, None, IfSome, IsSomeAnd, List, [], ◌∷◌, codes, find, slice_get, option_map, unwrap_or}
+use Rattle.std.specs.List.{list_all}
+use Rattle.std.specs.Int.{IsInRange}
+use Rattle.std.specs.Option.{option_map_or}
 use Rattle.std.specs.Str.{bytes_eq}
-use Rattle.clap.specs.Words.{App, Shape, Rule, Row, Text, new_app, new_rule, with_rule, with_subcommand, fault_of, Kinds, IsAmong, first_of, subcommand_of}
+use Rattle.std.specs.Str.Parse.{digits_value, without_leading_plus}
+use Rattle.clap.specs.Takes.{value_passes}
+use Rattle.clap.specs.Words.{App, Shape, Rule, Row, Text, new_app, new_rule, fault_of, Kinds, IsAmong, first_of, subcommand_of}
 use Rattle.clap.specs.declared.builder.action.ArgAction.TheVariants.{Set}
+use Rattle.clap.specs.declared.builder.value_parser.Reading.{Reading}
+use Rattle.clap.specs.declared.builder.value_parser.Reading.TheVariants.{AsWritten}
+use Rattle.clap.specs.declared.builder.value_parser.ValueParser.TheVariants.{Unsigned}
 use Rattle.clap.specs.declared.error.kind.ErrorKind.{ErrorKind}
 use Rattle.clap.specs.declared.error.kind.ErrorKind.TheVariants.{DisplayHelp, DisplayVersion, OutOfMemory}
 use Rattle.cml_words.specs.declared.Task.{Task}
 use Rattle.cml_words.specs.declared.Task.TheVariants as task_of
 use Rattle.cml_words.specs.declared.Answer.{Answer}
 use Rattle.cml_words.specs.declared.Answer.TheVariants as answer
+use Rattle.cml_words.specs.declared.ReplayOptions.{ReplayOptions}
+use Rattle.cml_words.specs.declared.RunOptions.{RunOptions}
+
+-- ---- the commands
 
 -- the name of a file, which must be given
-abbrev pub file_rule : Rule
-file_rule = record (new_rule (codes "FILE")) { required = true; action = Some Set }
+abbrev pub file_rule : Text → Rule
+file_rule name = record (new_rule name) { required = true; action = Some Set }
+
+-- an option that takes a value, `--name VALUE`
+abbrev pub option_rule : Text → Rule
+option_rule name = record (new_rule name) { long = Some name; action = Some Set; value_names = 1 }
+
+-- an option that takes a number from `least` to `most`
+abbrev pub number_rule : ℕ → ℕ → Text → Rule
+number_rule least most name = record (option_rule name) { parser = Some (Unsigned least most) }
+
+-- any number of u64, and one that counts steps or items, from 1 to 1,000,000,000
+abbrev pub any_rule : Text → Rule
+any_rule = number_rule 0 18446744073709551615
+
+abbrev pub count_rule : Text → Rule
+count_rule = number_rule 1 1000000000
+
+-- a command with these arguments
+abbrev pub command_of : Text → List Rule → Shape
+command_of name rules = record (new_app name).top { rules = rules }
 
 -- a command that takes a file
 abbrev pub file_command : Text → Shape
-file_command name = (with_rule (new_app name) file_rule).top
+file_command name = command_of name (file_rule (codes "FILE") ∷ [])
 
--- the program without its commands, of which one must be named
-abbrev pub program : App
-program = record { top = record (new_app (codes "cml")).top { subcommand_required = true }; subs = [] }
+abbrev pub run_command : Shape
+run_command = command_of (codes "run")
+    (file_rule (codes "FILE") ∷ count_rule (codes "steps") ∷ any_rule (codes "seed") ∷ count_rule (codes "watch") ∷ option_rule (codes "record") ∷ [])
 
--- the commands of the program
+abbrev pub replay_command : Shape
+replay_command = command_of (codes "replay") (file_rule (codes "FILE") ∷ file_rule (codes "SCHEDULE") ∷ count_rule (codes "watch") ∷ [])
+
+-- the program, with its commands, of which one must be named
 abbrev pub commands : App
-commands =
-    with_subcommand (with_subcommand (with_subcommand program
-    (new_app (codes "trace")).top) (file_command (codes "check"))) (file_command (codes "fmt"))
+commands = record {
+  top = record (new_app (codes "cml")).top { subcommand_required = true; is_leaf = false };
+  subs = command_of (codes "trace") []
+      ∷ file_command (codes "check")
+      ∷ file_command (codes "fmt")
+      ∷ run_command
+      ∷ replay_command
+      ∷ [];
+}
 
 -- what may be wrong with the words, the first of which names the program: nothing where they name a command
 abbrev pub faults : List (List ℕ) → Kinds
 faults words = fault_of commands words
 
--- the name of a command, and those of the arguments that it must be given
-abbrev pub needs_of : Shape → Text × List Text
-needs_of command = (command.name, map (λ argument. argument.id) (filter (λ argument. argument.required) command.rules))
+-- ---- what a command was given
 
--- the command that was named is the one of this name, and each of these arguments was given a value
-abbrev pub is_met : Text × List Row → Text × List Text → Bool
-is_met found needs = bytes_eq found.0 needs.0 && list_all (λ id. is_some (first_of id found.1)) needs.1
+-- the number that is given to this option, where it is given one
+abbrev pub number_of : Text → List Row → Option ℕ
+number_of option given = option_map (λ text. digits_value 10 (without_leading_plus text)) (first_of option given)
 
--- a command of the program was named, and was given all that it must be
-abbrev pub is_complete : App → Option (Text × List Row) → Bool
-is_complete app None = false
-is_complete app (Some found) = list_any (is_met found) (map needs_of app.subs)
+abbrev pub IsCount : ℕ → Type 0
+IsCount = IsInRange 1 1000000000
 
--- The command that was named, with the values that it was given, is this one, with this file.
-abbrev pub Names : Option (Text × List Row) → Task → Type 0
-Names found task_of.Trace = option_map (λ command. command.0) found ≡ Some (codes "trace")
-Names found (task_of.Check file) =
-    (option_map (λ command. command.0) found ≡ Some (codes "check"))
-    × (option_and_then (λ command. first_of (codes "FILE") command.1) found ≡ Some file.now)
-Names found (task_of.Fmt file) =
-    (option_map (λ command. command.0) found ≡ Some (codes "fmt"))
-    × (option_and_then (λ command. first_of (codes "FILE") command.1) found ≡ Some file.now)
+-- the options of `run` are what was given, and 1,000,000 steps where no number of steps was
+pub record IsRun (given : List Row) (options : RunOptions) : Type 0 where
+  pub file : first_of (codes "FILE") given ≡ Some options.file.now
+  pub steps : options.steps ≡ unwrap_or (number_of (codes "steps") given) 1000000
+  pub seed : options.seed ≡ number_of (codes "seed") given
+  pub watch : options.watch ≡ number_of (codes "watch") given
+  pub record_file : option_map (λ name. name.now) options.record ≡ first_of (codes "record") given
+  pub counts : IsCount options.steps × IfSome options.watch IsCount
+
+-- and those of `replay`
+pub record IsReplay (given : List Row) (options : ReplayOptions) : Type 0 where
+  pub script : first_of (codes "FILE") given ≡ Some options.script.now
+  pub schedule : first_of (codes "SCHEDULE") given ≡ Some options.schedule.now
+  pub watch : options.watch ≡ number_of (codes "watch") given
+  pub counts : IfSome options.watch IsCount
+
+-- The command that was named, with the values that it was given, is this one.
+abbrev pub Names : Text × List Row → Task → Type 0
+Names (name, given) task_of.Trace = name ≡ codes "trace"
+Names (name, given) (task_of.Check file) = (name ≡ codes "check") × (first_of (codes "FILE") given ≡ Some file.now)
+Names (name, given) (task_of.Fmt file) = (name ≡ codes "fmt") × (first_of (codes "FILE") given ≡ Some file.now)
+Names (name, given) (task_of.Run options) = (name ≡ codes "run") × IsRun given options
+Names (name, given) (task_of.Replay options) = (name ≡ codes "replay") × IsReplay given options
 
 -- A command is answered only where nothing is wrong and the words name it, help only where it is asked for, and a fault only where there
 -- is one.
 abbrev pub IsAnswer : List (List ℕ) → Answer → Type 0
-IsAnswer words (answer.Task task) = (faults words ≡ []) × Names (subcommand_of commands words) task
+IsAnswer words (answer.Task task) = (faults words ≡ []) × IsSomeAnd (subcommand_of commands words) (λ named. Names named task)
 IsAnswer words (answer.Help text) = IsAmong DisplayHelp (faults words) ⊎ IsAmong DisplayVersion (faults words)
 IsAnswer words (answer.Fault text) = (kind : ErrorKind) × IsAmong kind (faults words) × (kind ≢ DisplayHelp) × (kind ≢ DisplayVersion)
+
+-- ---- what private functions ask for
+
+-- the values of an argument are read as they are written
+abbrev pub is_as_written : Reading → Bool
+is_as_written AsWritten = true
+is_as_written _ = false
+
+-- the first value of an argument is there, and passes its parser
+abbrev pub is_filled : Rule → Row → Bool
+is_filled argument row = is_as_written row.reading && option_map_or (value_passes argument) (slice_get row.values 0) false
+
+-- an argument was given such a value, or none where it may go without
+abbrev pub is_served : List Row → Rule → Bool
+is_served given argument = option_map_or (is_filled argument) (find (λ row. bytes_eq row.id argument.id) given) (not argument.required)
+
+-- a command of the program was named, and each of its arguments was served
+abbrev pub is_complete : App → Option (Text × List Row) → Bool
+is_complete app None = false
+is_complete app (Some named) =
+    option_map_or (λ command. list_all (is_served named.1) command.rules) (find (λ command. bytes_eq command.name named.0) app.subs) false
 
 -- what an error of this kind is answered
 abbrev pub AnswersError : ErrorKind → Answer → Type 0

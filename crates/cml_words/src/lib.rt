@@ -1,16 +1,23 @@
 //! What the words of the program's command line ask for.
 #![tactic(auto)]
 
-ghost use Rattle.std.specs.Prelude.{◌≡◌, false, true, is_some, map, IfOk, Some};
+ghost use Rattle.std.specs.Prelude.{◌≡◌, [], codes, false, true, is_some, map, IfOk, IsSomeAnd, Some};
+ghost use Rattle.std.specs.List.{list_all};
 ghost use Rattle.std.specs.String.{string_bytes};
 ghost use Rattle.clap.specs.Words.{app_of, first_of, found_of, kind_of, rows_of, rule_of, shape_of, subcommand_rows_of};
 ghost use Rattle.clap.specs.declared.builder.command.Command.TheViews.{out-Command};
-ghost use Rattle.cml_words.specs.Words.{commands, file_command, file_rule, is_complete, IsAnswer, AnswersError};
-ghost use Rattle.cml_words.specs.Words.{Names};
+ghost use Rattle.cml_words.specs.Words.{any_rule, command_of, commands, count_rule, file_command, file_rule, option_rule, replay_command, run_command};
+ghost use Rattle.cml_words.specs.Words.{is_complete, is_served, number_of, AnswersError, IsAnswer, IsReplay, IsRun, Names};
 
 use clap::error::ErrorKind;
-use clap::{Arg, ArgAction, ArgMatches, Command, Error};
+use clap::{Arg, ArgAction, ArgMatches, Command, Error, value_parser};
 use std::alloc::{AllocError, Global};
+
+// The most steps or items that an option counts.
+const MOST: i64 = 1_000_000_000;
+
+// How many steps a script may take where no number is given.
+const DEFAULT_STEPS: u64 = 1_000_000;
 
 /// A command of the program.
 #[derive(Clone, Copy, PartialEq, Eq)]
@@ -21,6 +28,36 @@ pub enum Task<'a> {
     Check(&'a str),
     /// Prints the forms of the text in this file.
     Fmt(&'a str),
+    /// Runs a script.
+    Run(RunOptions<'a>),
+    /// Runs a script again, by the schedule that a run recorded.
+    Replay(ReplayOptions<'a>),
+}
+
+/// How a script is run.
+#[derive(Clone, Copy, PartialEq, Eq)]
+pub struct RunOptions<'a> {
+    /// The file of the script.
+    pub file: &'a str,
+    /// How many steps the run may take, from 1 to 1,000,000,000; where the words give no number, 1,000,000.
+    pub steps: u64,
+    /// What choices are drawn from; without it the first that can be taken is.
+    pub seed: Option<u64>,
+    /// After how many items of the schedule each report comes, from 1 to 1,000,000,000; without it there is none.
+    pub watch: Option<u64>,
+    /// The file that gets the schedule of the run.
+    pub record: Option<&'a str>,
+}
+
+/// How a script is run again.
+#[derive(Clone, Copy, PartialEq, Eq)]
+pub struct ReplayOptions<'a> {
+    /// The file of the script.
+    pub script: &'a str,
+    /// The file of the schedule.
+    pub schedule: &'a str,
+    /// After how many items of the schedule each report comes, from 1 to 1,000,000,000; without it there is none.
+    pub watch: Option<u64>,
 }
 
 /// What the words come to.
@@ -47,10 +84,10 @@ pub fn read_words<'a>(alloc: Global, words: &'a [String]) -> Result<Answer<'a>, 
     }
 }
 
-// The command that the words named, with the file that it takes.
+// The command that the words named, with what it was given.
 fn task_of<'a>(matches: &ArgMatches<'a>) -> Task<'a>
     requires { is_complete commands (subcommand_rows_of matches.now) ≡ true }
-    ensures { Names (subcommand_rows_of matches.now) result }
+    ensures { IsSomeAnd (subcommand_rows_of matches.now) (λ named. Names named result) }
 {
     let Some((name, below)) = matches.subcommand() else {
         unreachable!()
@@ -59,7 +96,35 @@ fn task_of<'a>(matches: &ArgMatches<'a>) -> Task<'a>
         "trace" => Task::Trace,
         "check" => Task::Check(given(below, "FILE")),
         "fmt" => Task::Fmt(given(below, "FILE")),
+        "run" => Task::Run(run_options(below)),
+        "replay" => Task::Replay(replay_options(below)),
         _ => unreachable!(),
+    }
+}
+
+// What `run` was given.
+fn run_options<'a>(matches: &ArgMatches<'a>) -> RunOptions<'a>
+    requires { list_all (is_served (rows_of (found_of matches.now))) run_command.rules ≡ true }
+    ensures { IsRun (rows_of (found_of matches.now)) result }
+{
+    RunOptions {
+        file: given(matches, "FILE"),
+        steps: number(matches, "steps").unwrap_or(DEFAULT_STEPS),
+        seed: number(matches, "seed"),
+        watch: number(matches, "watch"),
+        record: matches.get_str("record"),
+    }
+}
+
+// What `replay` was given.
+fn replay_options<'a>(matches: &ArgMatches<'a>) -> ReplayOptions<'a>
+    requires { list_all (is_served (rows_of (found_of matches.now))) replay_command.rules ≡ true }
+    ensures { IsReplay (rows_of (found_of matches.now)) result }
+{
+    ReplayOptions {
+        script: given(matches, "FILE"),
+        schedule: given(matches, "SCHEDULE"),
+        watch: number(matches, "watch"),
     }
 }
 
@@ -72,6 +137,14 @@ fn given<'a>(matches: &ArgMatches<'a>, id: &str) -> &'a str
         unreachable!()
     };
     text
+}
+
+// The number that an option was given.
+fn number(matches: &ArgMatches<'_>, id: &str) -> Option<u64>
+    requires { is_served (rows_of (found_of matches.now)) (any_rule id.now) ≡ true }
+    ensures { result ≡ number_of id.now (rows_of (found_of matches.now)) }
+{
+    matches.get_one(id)
 }
 
 // The text of the error, by what it is: that something is wrong, or help that was asked for.
@@ -94,15 +167,64 @@ fn answer_to_error<'a>(alloc: Global, error: &Error) -> Result<Answer<'a>, Alloc
 fn command<'a>(alloc: Global) -> Result<Command<'a>, AllocError>
     ensures { IfOk result (λ command. app_of command ≡ commands) }
 {
-    let trace = Command::new(alloc, "trace").about("Answers the commands on standard input");
+    let trace = trace(alloc);
     let check = on_file(alloc, "check", "Checks a script")?;
     let fmt = on_file(alloc, "fmt", "Prints the forms of a text, each on a line")?;
+    let run = run(alloc)?;
+    let replay = replay(alloc)?;
     Command::new(alloc, "cml")
-        .about("Events of Concurrent ML: answers traces of commands and checks scripts")
+        .about("Events of Concurrent ML: answers traces of commands, and checks and runs scripts")
         .subcommand_required(true)
         .subcommand(trace)?
         .subcommand(check)?
-        .subcommand(fmt)
+        .subcommand(fmt)?
+        .subcommand(run)?
+        .subcommand(replay)
+}
+
+// The command that answers a trace.
+fn trace<'a>(alloc: Global) -> Command<'a>
+    ensures shape { shape_of result ≡ command_of (codes "trace") [] }
+    ensures globals { (out-Command result).has_globals ≡ false }
+{
+    Command::new(alloc, "trace").about("Answers the commands on standard input")
+}
+
+// The command that runs a script.
+fn run<'a>(alloc: Global) -> Result<Command<'a>, AllocError>
+    ensures shape { IfOk result (λ command. shape_of command ≡ run_command) }
+    ensures globals { IfOk result (λ command. (out-Command command).has_globals ≡ false) }
+{
+    let steps = count(
+        alloc,
+        "steps",
+        "B",
+        "How many steps it may take, 1 to 1000000000 [default: 1000000]",
+    );
+    let seed = seed(alloc);
+    let watch = watch(alloc);
+    let record = option(alloc, "record", "FILE", "Saves the schedule of the run");
+    on_file(alloc, "run", "Runs a script")?
+        .arg(steps)?
+        .arg(seed)?
+        .arg(watch)?
+        .arg(record)
+}
+
+// The command that runs a script again.
+fn replay<'a>(alloc: Global) -> Result<Command<'a>, AllocError>
+    ensures shape { IfOk result (λ command. shape_of command ≡ replay_command) }
+    ensures globals { IfOk result (λ command. (out-Command command).has_globals ≡ false) }
+{
+    let schedule = file(alloc, "SCHEDULE");
+    let watch = watch(alloc);
+    on_file(
+        alloc,
+        "replay",
+        "Runs a script by a schedule that was saved",
+    )?
+    .arg(schedule)?
+    .arg(watch)
 }
 
 // A command that takes a file.
@@ -110,16 +232,57 @@ fn on_file<'a>(alloc: Global, name: &'a str, about: &'a str) -> Result<Command<'
     ensures shape { IfOk result (λ command. shape_of command ≡ file_command name.now) }
     ensures globals { IfOk result (λ command. (out-Command command).has_globals ≡ false) }
 {
-    let file = file(alloc);
+    let file = file(alloc, "FILE");
     Command::new(alloc, name).about(about).arg(file)
 }
 
 // The name of a file, which must be given.
-fn file<'a>(alloc: Global) -> Arg<'a>
-    ensures rule { rule_of result ≡ file_rule }
+fn file<'a>(alloc: Global, name: &'a str) -> Arg<'a>
+    ensures rule { rule_of result ≡ file_rule name.now }
     ensures global { result.global ≡ false }
 {
-    Arg::new(alloc, "FILE")
-        .required(true)
+    Arg::new(alloc, name).required(true).action(ArgAction::Set)
+}
+
+// An option that takes a value.
+fn option<'a>(alloc: Global, name: &'a str, value: &'a str, help: &'a str) -> Arg<'a>
+    ensures rule { rule_of result ≡ option_rule name.now }
+    ensures global { result.global ≡ false }
+{
+    Arg::new(alloc, name)
+        .long(name)
+        .value_name(value)
         .action(ArgAction::Set)
+        .help(help)
+}
+
+// An option that counts steps or items.
+fn count<'a>(alloc: Global, name: &'a str, value: &'a str, help: &'a str) -> Arg<'a>
+    ensures rule { rule_of result ≡ count_rule name.now }
+    ensures global { result.global ≡ false }
+{
+    option(alloc, name, value, help).value_parser(value_parser!(u64).range(1..=MOST))
+}
+
+// The option that asks for reports.
+fn watch<'a>(alloc: Global) -> Arg<'a>
+    ensures rule { rule_of result ≡ count_rule (codes "watch") }
+    ensures global { result.global ≡ false }
+{
+    count(
+        alloc,
+        "watch",
+        "K",
+        "Reports after every K items of the schedule, 1 to 1000000000",
+    )
+}
+
+// The option that gives the seed.
+fn seed<'a>(alloc: Global) -> Arg<'a>
+    ensures rule { rule_of result ≡ any_rule (codes "seed") }
+    ensures global { result.global ≡ false }
+{
+    option(alloc, "seed", "S", "Draws the choices from this number").value_parser(value_parser!(
+        u64
+    ))
 }

@@ -1,15 +1,33 @@
-use Rattle.std.proofs.Common.{rules, ◌≡◌, ◌∙◌, ap₂, codes}
+use Rattle.std.proofs.Common.{rules, ◌≡◌, ◌∙◌, ap₂, codes, true, []}
 use Rattle.std.proofs.lemmas.Result.{IfOk-weaker}
-use Rattle.clap.specs.Words.{app_of, shape_of, new_app, with_subcommand}
-use Rattle.cml_words.specs.Words.{program, file_command}
+use Rattle.clap.specs.Words.{App, app_of, new_app, with_subcommand}
+use Rattle.cml_words.specs.Words.{command_of, file_command, run_command}
 use Rattle.cml_words.proofs.command.Goals as goal
+
+-- the program without its commands, and with the first of them
+abbrev none : App
+none = record { top = record (new_app (codes "cml")).top { subcommand_required = true }; subs = [] }
+
+abbrev one : App
+one = with_subcommand none (command_of (codes "trace") [])
+
+abbrev two : App
+two = with_subcommand one (file_command (codes "check"))
+
+abbrev three : App
+three = with_subcommand two (file_command (codes "fmt"))
+
+abbrev four : App
+four = with_subcommand three run_command
 
 pub returns : goal.returns
 returns c =
-    let trace : shape_of c.about-trace.result ≡ (new_app (codes "trace")).top = search rules in
-    let start : app_of c.subcommand_required.result ≡ program = search rules in
-    let one : app_of c.in_ok-subcommand.field-0 ≡ with_subcommand program (new_app (codes "trace")).top =
-    c.in_ok-subcommand.ensures.shape (search rules) ∙ ap₂ with_subcommand start trace in
-    let two : app_of c.in_ok-subcommand-2.field-0 ≡ with_subcommand (with_subcommand program (new_app (codes "trace")).top) (file_command (codes "check")) =
-    c.in_ok-subcommand-2.ensures.shape c.in_ok-check.ensures.globals ∙ ap₂ with_subcommand one c.in_ok-check.ensures.shape in
-    IfOk-weaker c.subcommand-3.result _ _ (λ command added. added.shape c.in_ok-fmt.ensures.globals ∙ ap₂ with_subcommand two c.in_ok-fmt.ensures.shape) c.subcommand-3.ensures
+    let is_none : app_of c.subcommand_required.result ≡ none = search rules in
+    let is_one : app_of c.in_ok-subcommand.field-0 ≡ one = c.in_ok-subcommand.ensures.shape c.trace-trace.ensures.globals ∙ ap₂ with_subcommand is_none c.trace-trace.ensures.shape in
+    let is_two : app_of c.in_ok-subcommand-2.field-0 ≡ two =
+    c.in_ok-subcommand-2.ensures.shape c.in_ok-check.ensures.globals ∙ ap₂ with_subcommand is_one c.in_ok-check.ensures.shape in
+    let is_three : app_of c.in_ok-subcommand-3.field-0 ≡ three =
+    c.in_ok-subcommand-3.ensures.shape c.in_ok-fmt.ensures.globals ∙ ap₂ with_subcommand is_two c.in_ok-fmt.ensures.shape in
+    let is_four : app_of c.in_ok-subcommand-4.field-0 ≡ four =
+    c.in_ok-subcommand-4.ensures.shape c.in_ok-run.ensures.globals ∙ ap₂ with_subcommand is_three c.in_ok-run.ensures.shape in
+    IfOk-weaker c.subcommand-5.result _ _ (λ command added. added.shape c.in_ok-replay.ensures.globals ∙ ap₂ with_subcommand is_four c.in_ok-replay.ensures.shape) c.subcommand-5.ensures

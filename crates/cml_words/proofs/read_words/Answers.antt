@@ -1,4 +1,4 @@
-use Rattle.std.proofs.Common.{◌∙◌, ap, map, subst}
+use Rattle.std.proofs.Common.{◌∙◌, ap, map, subst, IsSomeAnd}
 use Rattle.std.specs.String.{string_bytes}
 use Rattle.std.proofs.lemmas.Result.{IfOk-weaker}
 use Rattle.clap.specs.Words.{kind_of}
@@ -18,7 +18,7 @@ returns-in-Ok c =
     let app = c.in_ok-command.ensures in
     let words = map string_bytes c.args.words.now in (
       no_fault _ words app c.in-Ok.ensures.kinds,
-      subst (λ found. Names found c.task_of.result) (named_by _ words c.in-Ok.matches app c.in-Ok.ensures.matches) c.task_of.ensures,
+      subst (λ found. IsSomeAnd found (λ named. Names named c.task_of.result)) (named_by _ words c.in-Ok.matches app c.in-Ok.ensures.matches) c.task_of.ensures,
     )
 
 pub returns-in-Err : goal.returns-in-Err

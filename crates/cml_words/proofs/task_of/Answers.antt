@@ -1,16 +1,58 @@
-use Rattle.std.proofs.Common.{rules, codes}
-use Rattle.clap.specs.Words.{found_of, subcommand_rows_of}
-use Rattle.cml_words.proofs.Named.{value_read}
+use Rattle.std.proofs.Common.{rules, codes, refl}
+use Rattle.clap.specs.Words.{found_of, rows_of, subcommand_rows_of}
+use Rattle.cml_words.specs.Words.{file_command, file_rule}
+use Rattle.cml_words.specs.declared.Task.TheVariants as task_of
+use Rattle.cml_words.proofs.Named.{named_complete, named_task, no_other}
+use Rattle.cml_words.proofs.Served.{file_given, served_by_name}
 use Rattle.cml_words.proofs.task_of.Goals as goal
+
+pub given-requires : goal.given-requires
+given-requires c =
+    let found = subcommand_rows_of c.args.matches.now in
+    let below = found_of c.in-Some.below.now in
+    let complete = named_complete found (codes "check") below (search rules) c.in-Some.ensures.rows c.requires in
+    file_given (rows_of below) (codes "FILE") (served_by_name (rows_of below) (file_command (codes "check")).rules (codes "FILE") (file_rule (codes "FILE")) complete refl)
 
 pub returns-in-check : goal.returns-in-check
 returns-in-check c =
     let found = subcommand_rows_of c.args.matches.now in
     let below = found_of c.in-Some.below.now in
-    (search rules, value_read found below (codes "FILE") _ c.in-Some.ensures.rows c.given.ensures)
+    named_task found (codes "check") below (task_of.Check c.given.result) (search rules) c.in-Some.ensures.rows (refl, c.given.ensures)
 
 pub returns-in-fmt : goal.returns-in-fmt
 returns-in-fmt c =
     let found = subcommand_rows_of c.args.matches.now in
     let below = found_of c.in-Some.below.now in
-    (search rules, value_read found below (codes "FILE") _ c.in-Some.ensures.rows c.given-in-fmt.ensures)
+    named_task found (codes "fmt") below (task_of.Fmt c.given-in-fmt.result) (search rules) c.in-Some.ensures.rows (refl, c.given-in-fmt.ensures)
+
+pub run_options-requires : goal.run_options-requires
+run_options-requires c =
+    let found = subcommand_rows_of c.args.matches.now in
+    let below = found_of c.in-Some.below.now in
+    named_complete found (codes "run") below (search rules) c.in-Some.ensures.rows c.requires
+
+pub returns-in-run : goal.returns-in-run
+returns-in-run c =
+    let found = subcommand_rows_of c.args.matches.now in
+    let below = found_of c.in-Some.below.now in
+    named_task found (codes "run") below (task_of.Run c.run_options.result) (search rules) c.in-Some.ensures.rows (refl, c.run_options.ensures)
+
+pub replay_options-requires : goal.replay_options-requires
+replay_options-requires c =
+    let found = subcommand_rows_of c.args.matches.now in
+    let below = found_of c.in-Some.below.now in
+    named_complete found (codes "replay") below (search rules) c.in-Some.ensures.rows c.requires
+
+pub returns-in-replay : goal.returns-in-replay
+returns-in-replay c =
+    let found = subcommand_rows_of c.args.matches.now in
+    let below = found_of c.in-Some.below.now in
+    named_task found (codes "replay") below (task_of.Replay c.replay_options.result) (search rules) c.in-Some.ensures.rows (refl, c.replay_options.ensures)
+
+pub unreachable-requires-in_default-name : goal.unreachable-requires-in_default-name
+unreachable-requires-in_default-name c =
+    let found = subcommand_rows_of c.args.matches.now in
+    let below = found_of c.in-Some.below.now in
+    let complete = named_complete found c.in-Some.name.now below (search rules) c.in-Some.ensures.rows c.requires in
+    let other = c.in_default-name in
+    no_other c.in-Some.name.now (rows_of below) complete other.not-trace other.not-check other.not-fmt other.not-run other.not-replay
