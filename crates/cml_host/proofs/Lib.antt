@@ -1,2 +1,5 @@
 mod SayLemmas
 mod TextLemmas
+mod TellLemmas
+mod BudgetLemmas
+mod ScriptLemmas

@@ -35,7 +35,7 @@ all_or_long n all = go (cases_lt n (length all))
         inr (long, omega arith)
     go (inr short) = inl (take_all (n + 1) all (omega arith))
 
-long_fault : (text : List ℕ) → text_limit < length text → fault_of text ≡ Some (record { kind = Long; at = text_limit })
+pub long_fault : (text : List ℕ) → text_limit < length text → fault_of text ≡ Some (record { kind = Long; at = text_limit })
 unfolding fault_of
 long_fault text long = rw (lt-ltb _ _ long) refl
 

@@ -7,15 +7,10 @@ use Rattle.cml_text.specs.Texts.{Spells}
 use Rattle.cml_check.specs.Faults as script
 use Rattle.cml_check.specs.Shape.{shape}
 use Rattle.cml_check.specs.Syntax.{Name, PlainFunction}
-use Rattle.cml_check.specs.declared.fault.CheckFault.TheVariants as check_fault
-use Rattle.cml_host.specs.Said.{IsFaulty}
+use Rattle.cml_host.specs.Said.{IsFaulty, script_line}
 use Rattle.cml_host.specs.declared.said.Said.{Said}
 use Rattle.cml_host.specs.declared.said.Said.TheVariants.{Written, Refused}
 use Rattle.cml_trace.specs.Replies.{line}
-
--- the line that tells of a fault of a script
-abbrev pub script_line : script.PlainCheckFault → List ℕ
-script_line fault = line (script.fault_line (check_fault.At fault.kind fault.at))
 
 -- The forms are a program, and how many functions it has is written; or they are none, and their first fault is told.
 abbrev pub IsShaped : List PlainSexpr → Said → Type 0

@@ -4,4 +4,8 @@ pub mod Said
 pub mod Checked
 pub mod Formatted
 pub mod Traced
+pub mod Scripts
+pub mod Told
+pub mod Running
+pub mod Replaying
 pub mod Statuses

@@ -6,16 +6,26 @@ use Rattle.cml_text.specs.Faults as text
 use Rattle.cml_text.specs.Texts.{fault_of}
 use Rattle.cml_text.specs.declared.fault.TextFault.{TextFault}
 use Rattle.cml_text.specs.declared.fault.TextFault.TheVariants as text_fault
+use Rattle.cml_check.specs.Faults as script
+use Rattle.cml_check.specs.declared.fault.CheckFault.TheVariants as check_fault
 use Rattle.cml_host.specs.Stores.{Content, unknown, nothing, bytes, MayBeRefused}
 use Rattle.cml_host.specs.Written.{TextRan}
 use Rattle.cml_host.specs.declared.said.Said.{Said}
 use Rattle.cml_host.specs.declared.said.Said.TheVariants.{Written, Refused}
+use Rattle.cml_host.specs.declared.store.StoreFault.{StoreFault}
+use Rattle.cml_host.specs.declared.store.StoreFault.TheVariants as store_fault
+use Rattle.cml_host.specs.declared.said.Refusal.{Refusal}
+use Rattle.cml_host.specs.declared.said.Refusal.TheVariants as refusal
 use Rattle.cml_trace.specs.Replies.{line}
 use Rattle.cml_stream.specs.Streams.{Counted, IsIdle, Says}
 
 -- the line that tells of a fault of a text
 abbrev pub text_line : text.PlainFault → List ℕ
 text_line fault = line (text.fault_line (text_fault.At fault.kind fault.at))
+
+-- the line that tells of a fault of a script
+abbrev pub script_line : script.PlainCheckFault → List ℕ
+script_line fault = line (script.fault_line (check_fault.At fault.kind fault.at))
 
 -- the text has a fault, which is told
 abbrev pub IsFaulty : List ℕ → Said → Type 0
@@ -58,3 +68,15 @@ FileRan Says name content output errors status =
 abbrev pub Told : TextFault → Said → Type 0
 Told (text_fault.At kind at) (Refused all) = string_bytes all ≡ line (text.fault_line (text_fault.At kind at))
 Told fault said = ⊥
+
+-- what a command answers where the store did not hand over a file
+abbrev pub refusal_of : StoreFault → Refusal
+refusal_of store_fault.Refused = refusal.Unread
+refusal_of store_fault.Memory = refusal.Memory
+
+-- The refusal was said of the file of this name, with this status where it is the text that is wrong.
+abbrev pub RefusalRan : List ℕ → Refusal → ℕ → Counted → ℕ → Type 0
+RefusalRan name refusal.Unread wrong errors status =
+    (Says errors (line (codes "cannot read " ++ name)) × (status ≡ 1)) ⊎ MemoryRan errors status
+RefusalRan name (refusal.Wrong told) wrong errors status = Says errors (string_bytes told) × (status ≡ wrong)
+RefusalRan name refusal.Memory wrong errors status = MemoryRan errors status

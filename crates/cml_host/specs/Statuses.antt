@@ -1,7 +1,7 @@
 -- What the program does about its words, and with which status it ends.
 use Rattle.std.specs.Prelude.{◌≡◌, ◌⊎◌, ℕ, List, codes}
 use Rattle.std.specs.String.{string_bytes}
-use Rattle.cml_words.specs.declared.Task.TheVariants.{Trace, Check, Fmt}
+use Rattle.cml_words.specs.declared.Task.TheVariants.{Trace, Check, Fmt, Run, Replay}
 use Rattle.cml_words.specs.declared.Answer.{Answer}
 use Rattle.cml_words.specs.declared.Answer.TheVariants as answer
 use Rattle.cml_words.specs.Words.{IsAnswer}
@@ -12,6 +12,8 @@ use Rattle.cml_host.specs.Stores.{Shelf, IsUnchanged}
 use Rattle.cml_host.specs.Checked.{IsChecked}
 use Rattle.cml_host.specs.Formatted.{IsPrinted}
 use Rattle.cml_host.specs.Said.{FileRan}
+use Rattle.cml_host.specs.Running.{RunRan}
+use Rattle.cml_host.specs.Replaying.{ReplayRan}
 use Rattle.cml_host.specs.Traced.{TraceRan}
 use Rattle.cml_host.specs.Written.{TextRan}
 
@@ -27,7 +29,7 @@ abbrev pub SavesNothing : Surroundings → Type 0
 SavesNothing around = IsUnchanged around.store.before around.store.after
 
 -- What was done about the words: their command; or the text that they ask for was written to the output; or what is wrong with them to
--- the errors. None of them saves anything.
+-- the errors. Only `run` saves anything.
 abbrev pub AnswerRan : Answer → Surroundings → ℕ → Type 0
 AnswerRan (answer.Task Trace) around status =
     TraceRan around.input around.output around.errors status × SavesNothing around
@@ -36,6 +38,11 @@ AnswerRan (answer.Task (Check name)) around status =
     × IsIdle around.input × SavesNothing around
 AnswerRan (answer.Task (Fmt name)) around status =
     FileRan IsPrinted name.now (around.store.before name.now) around.output around.errors status
+    × IsIdle around.input × SavesNothing around
+AnswerRan (answer.Task (Run options)) around status =
+    RunRan options around.output around.errors around.store status × IsIdle around.input
+AnswerRan (answer.Task (Replay options)) around status =
+    ReplayRan options around.store.before around.output around.errors status
     × IsIdle around.input × SavesNothing around
 AnswerRan (answer.Help text) around status =
     TextRan (string_bytes text) around.output around.errors status × IsIdle around.input × SavesNothing around

@@ -11,6 +11,8 @@ ghost use Rattle.cml_trace.specs.Answers.{max_input};
 use crate::check::check_file;
 use crate::fmt::print_file;
 use crate::output::{say, send_text};
+use crate::replay::replay_file;
+use crate::run::run_file;
 use crate::store::Store;
 use crate::trace::trace;
 use cml_stream::Counting;
@@ -21,8 +23,8 @@ use std::io::{Read, Write};
 /// Runs the command that the words name, the first of which names the program, and answers the status of the process.
 ///
 /// It reads the input or a file of the store, and writes what the command says to the output and what went wrong to the errors. The
-/// status is 0 where all was done, 1 where the words, the input, the file or the output are at fault, 2 where a text is refused, and 5
-/// where memory ran out.
+/// status is 0 where all was done, 1 where the words, the input, a file or the output are at fault, 2 where a text is refused, 3 where a
+/// schedule is, 4 where a script did not end within its steps, and 5 where memory ran out.
 pub fn run_command<R: Read, O: Write, E: Write, S: Store>(
     alloc: Global,
     words: &[String],
@@ -73,6 +75,8 @@ pub fn run_command_counted<R: Read, O: Write, E: Write, S: Store>(
         Ok(Answer::Task(Task::Trace)) => trace(alloc, input, out, err),
         Ok(Answer::Task(Task::Check(name))) => check_file(alloc, name, out, err, store),
         Ok(Answer::Task(Task::Fmt(name))) => print_file(alloc, name, out, err, store),
+        Ok(Answer::Task(Task::Run(options))) => run_file(alloc, &options, out, err, store),
+        Ok(Answer::Task(Task::Replay(options))) => replay_file(alloc, &options, out, err, store),
         Ok(Answer::Help(text)) => send_text(text.as_bytes(), out, err),
         Ok(Answer::Fault(text)) => {
             say(err, text.as_bytes());

@@ -6,8 +6,12 @@ mod command;
 mod file;
 mod fmt;
 mod output;
+mod replay;
+mod run;
 mod said;
+mod script;
 mod store;
+mod tell;
 mod trace;
 
 pub use command::{run_command, run_command_counted};

@@ -1,7 +1,7 @@
 //! What the commands that read a file share: what they say of its text, and how they end.
 
 ghost use Rattle.std.specs.Prelude.{◌≡◌, IfOk};
-ghost use Rattle.cml_host.specs.Said.{SaidRan, RefusedRan, Told};
+ghost use Rattle.cml_host.specs.Said.{SaidRan, RefusedRan, RefusalRan, Told};
 ghost use Rattle.cml_host.specs.Stores.{Content, MayBeRefused};
 ghost use Rattle.cml_host.specs.declared.store.StoreFault.TheVariants.{Refused};
 ghost use Rattle.cml_stream.specs.Streams.{counted_stream};
@@ -23,6 +23,42 @@ pub enum Said {
     Written(String),
     /// The text is refused, and this goes to the errors.
     Refused(String),
+}
+
+/// Why a command goes no further with a file.
+#[derive(Drop)]
+pub enum Refusal {
+    /// It can't be read.
+    Unread,
+    /// Its text is refused, as this line says.
+    Wrong(String),
+    /// Out of memory.
+    Memory,
+}
+
+impl From<AllocError> for Refusal {
+    ghost use Rattle.std.specs.Prelude.{◌≡◌};
+    ghost use Rattle.cml_host.specs.declared.said.Refusal.TheVariants.{Memory};
+
+    ghost from_gives = { λ _ e. e ≡ Memory };
+
+    fn from(_error: AllocError) -> Refusal {
+        Refusal::Memory
+    }
+}
+
+impl From<StoreFault> for Refusal {
+    ghost use Rattle.std.specs.Prelude.{◌≡◌};
+    ghost use Rattle.cml_host.specs.Said.{refusal_of};
+
+    ghost from_gives = { λ fault e. e ≡ refusal_of fault };
+
+    fn from(fault: StoreFault) -> Refusal {
+        match fault {
+            StoreFault::Refused => Refusal::Unread,
+            StoreFault::Memory => Refusal::Memory,
+        }
+    }
 }
 
 /// What is said of a text with this fault.
@@ -82,4 +118,30 @@ pub fn refuse_file<E: Write>(
     }
     say(err, b"memory\n");
     5
+}
+
+/// Says why the command goes no further with the file of this name, and answers the status: this one where its text is refused.
+pub fn refuse<E: Write>(
+    alloc: Global,
+    name: &str,
+    why: Refusal,
+    status: u8,
+    err: &mut Counting<'_, E>,
+) -> u8
+    requires fresh { err.old.failed ≡ 0 }
+    ensures refused { let errors = counted_stream (E.contents err.old.stream.now) (E.contents err.new.stream.now) err.new.calls err.new.failed in
+        RefusalRan name.now why status errors result }
+    ensures same_err { err.new.stream.ghost_name ≡ err.old.stream.ghost_name }
+{
+    match why {
+        Refusal::Unread => refuse_file(alloc, name, StoreFault::Refused, err),
+        Refusal::Wrong(line) => {
+            say(err, line.as_bytes());
+            status
+        }
+        Refusal::Memory => {
+            say(err, b"memory\n");
+            5
+        }
+    }
 }

@@ -128,7 +128,7 @@ const WORDS: &[Asked] = &[
     Asked {
         words: "replay x.cml y --steps 5",
         output: "",
-        errors: "error: unexpected argument '--steps' found\n\nUsage: cml replay <FILE> <SCHEDULE>\n\nFor more information, try '--help'.\n",
+        errors: "error: unexpected argument '--steps' found\n\n  tip: to pass '--steps' as a value, use '-- --steps'\n\nUsage: cml replay <FILE> <SCHEDULE>\n\nFor more information, try '--help'.\n",
         status: 1,
     },
     Asked {

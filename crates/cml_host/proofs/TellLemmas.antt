@@ -1,0 +1,80 @@
+-- What was written of several texts, one after another.
+use Rattle.std.proofs.Common.{◌≡◌, ◌∙◌, ◌⊎◌, ◌+◌, ◌<◌, ◌≤◌, ℕ, List, [], ◌∷◌, ◌++◌, Option, Err, take, drop, length, get_or, refl, sym, ap, subst, inl, inr, append_assoc, append-nil}
+use Rattle.std.specs.List.{flat_map}
+use Rattle.std.specs.Io.KnownBytes.{Appends, Keeps}
+use Rattle.std.proofs.KnownBytes.{Appends-trans, Appends-nil}
+use Rattle.std.proofs.lemmas.Grind.{flat_map-append}
+use Rattle.std.proofs.lemmas.List.{take-append-drop, take_more}
+use Rattle.cml_monitor.specs.Reports.{PlainReport, report_text}
+use Rattle.cml_stream.specs.Streams.{stream, counted_stream, Takes, TakesStart, Says}
+use Rattle.cml_host.specs.Told.{reports_text, SaysStill, Breaks, AreSent, IsReportSent}
+use Rattle.cml_host.specs.declared.tell.ReportFault.{ReportFault}
+use Rattle.cml_host.specs.declared.tell.ReportFault.TheVariants.{Write, Memory}
+
+-- a text, and then a beginning of one more
+pub start_behind : (a b c : Option (List ℕ)) (text more : List ℕ) →
+    Takes (stream a b) text → TakesStart (stream b c) more → TakesStart (stream a c) (text ++ more)
+start_behind a b c text more first then =
+    (
+      text ++ then.0,
+      then.1,
+      ap (λ ts. text ++ ts) then.2 ∙ sym (append_assoc text then.0 then.1),
+      Appends-trans a b c text then.0 first then.3,
+    )
+
+-- a beginning of a text is one of what goes on behind it
+pub start_more : (a b : Option (List ℕ)) (text more : List ℕ) → TakesStart (stream a b) text → TakesStart (stream a b) (text ++ more)
+start_more a b text more part =
+    (part.0, part.1 ++ more, ap (λ ts. ts ++ more) part.2 ∙ append_assoc part.0 part.1 more, part.3)
+
+-- a text, and then what was said
+pub says_behind : (a b c : Option (List ℕ)) (calls failed : ℕ) (text told : List ℕ) →
+    Takes (stream a b) text → Says (counted_stream b c calls failed) told → Says (counted_stream a c calls failed) (text ++ told)
+says_behind a b c calls failed text told first (inl whole) = inl (Appends-trans a b c text told first whole.0, whole.1)
+says_behind a b c calls failed text told first (inr part) = inr (start_behind a b c text told first part.0, part.1)
+
+-- a beginning of a text, and then what was said still
+pub breaks_behind : (a b c : Option (List ℕ)) (calls failed : ℕ) (text told : List ℕ) →
+    TakesStart (stream a b) text → SaysStill (counted_stream b c calls failed) [] told → Breaks (counted_stream a c calls failed) text told
+breaks_behind a b c calls failed text told part (inl whole) =
+    (part.0, part.1, part.2, inl (Appends-trans a b c part.0 told part.3 whole.0, whole.1))
+breaks_behind a b c calls failed text told part (inr said) =
+    (part.0, part.1, part.2, inr (said.0, said.1, said.2, Appends-trans a b c part.0 said.0 part.3 said.3, said.4))
+
+reports_split : (reports : List PlainReport) (i : ℕ) (report : PlainReport) → i < length reports → report ≡ get_or reports i report →
+    reports_text (take (i + 1) reports) ≡ reports_text (take i reports) ++ report_text report
+reports_split reports i report there is =
+    ap reports_text (take_more reports i report there)
+    ∙ flat_map-append report_text (take i reports) (get_or reports i report ∷ [])
+    ∙ ap (λ (r : PlainReport). reports_text (take i reports) ++ (report_text r ++ [])) (sym is)
+    ∙ ap (λ (ts : List ℕ). reports_text (take i reports) ++ ts) (append-nil (report_text report))
+
+-- the reports up to one, and then that one
+pub reports_behind : (a b c : Option (List ℕ)) (reports : List PlainReport) (i : ℕ) (report : PlainReport) →
+    i < length reports → report ≡ get_or reports i report →
+    Takes (stream a b) (reports_text (take i reports)) → Takes (stream b c) (report_text report) →
+    Takes (stream a c) (reports_text (take (i + 1) reports))
+reports_behind a b c reports i report there is before then =
+    subst (λ (ts : List ℕ). Takes (stream a c) ts) (sym (reports_split reports i report there is))
+    (Appends-trans a b c _ _ before then)
+
+-- the reports up to one, and then a beginning of that one
+pub reports_start : (a b c : Option (List ℕ)) (reports : List PlainReport) (i : ℕ) (report : PlainReport) →
+    i < length reports → report ≡ get_or reports i report →
+    Takes (stream a b) (reports_text (take i reports)) → TakesStart (stream b c) (report_text report) →
+    TakesStart (stream a c) (reports_text reports)
+reports_start a b c reports i report there is before then =
+    subst (λ (ts : List ℕ). TakesStart (stream a c) ts)
+    (sym (flat_map-append report_text (take (i + 1) reports) (drop (i + 1) reports)) ∙ ap reports_text (take-append-drop (i + 1) reports))
+    (start_more a c (reports_text (take (i + 1) reports)) (reports_text (drop (i + 1) reports))
+      (subst (λ (ts : List ℕ). TakesStart (stream a c) ts) (sym (reports_split reports i report there is))
+        (start_behind a b c _ _ before then)))
+
+-- the reports up to one, at which the writing ended by a fault
+pub reports_ended : (a b c : Option (List ℕ)) (reports : List PlainReport) (i : ℕ) (report : PlainReport) (fault : ReportFault) (calls failed : ℕ) →
+    i < length reports → report ≡ get_or reports i report →
+    Takes (stream a b) (reports_text (take i reports)) → IsReportSent report (Err fault) (counted_stream b c calls failed) →
+    AreSent reports (Err fault) (counted_stream a c calls failed)
+reports_ended a b c reports i report Memory calls failed there is before sent =
+    (i, subst (λ (ts : List ℕ). Takes (stream a c) ts) (append-nil (reports_text (take i reports))) (Appends-trans a b c _ _ before sent.0), sent.1)
+reports_ended a b c reports i report Write calls failed there is before sent = (reports_start a b c reports i report there is before sent.0, sent.1)

@@ -1,0 +1,118 @@
+-- What is told of a run of a script: its reports to the errors, its output and its end line to the output.
+use Rattle.std.specs.Prelude.{◌≡◌, ◌⊎◌, ℕ, List, [], ◌++◌, length, take, codes, Option, Some, Result, Ok, Err}
+use Rattle.std.specs.List.{flat_map}
+use Rattle.cml_check.specs.Syntax.{PlainFunction}
+use Rattle.cml_hub.specs.declared.fault.End.{End}
+use Rattle.cml_hub.specs.declared.fault.End.TheVariants.{Quiet, Budget, Partial}
+use Rattle.cml_hub.specs.Runs.{Run, stands, ending}
+use Rattle.cml_hub.specs.Reports.{AreReports, IsDue}
+use Rattle.cml_monitor.specs.Reports.{PlainReport, report_text}
+use Rattle.cml_scan.specs.Numbers.{spaced}
+use Rattle.cml_scan.specs.World.{pending}
+use Rattle.cml_schedule.specs.declared.item.Item.{Item}
+use Rattle.cml_step.specs.Calls.{text_of}
+use Rattle.cml_stream.specs.Streams.{Counted, IsIdle, Says, Takes, TakesStart}
+use Rattle.cml_text.specs.Lines.{line}
+use Rattle.cml_host.specs.declared.tell.ReportFault.{ReportFault}
+use Rattle.cml_host.specs.declared.tell.ReportFault.TheVariants as report_fault
+
+-- ---- what there is to tell
+
+-- the lines of these reports, one report after another
+abbrev pub reports_text : List PlainReport → List ℕ
+reports_text reports = flat_map report_text reports
+
+abbrev pub end_name : End → List ℕ
+end_name Quiet = codes "quiet"
+end_name Budget = codes "budget"
+end_name Partial = codes "partial"
+
+-- the end line: how the run ended, and how many threads wait
+abbrev pub end_line : End → ℕ → List ℕ
+end_line end waiting = line (codes "end " ++ end_name end ++ codes " pending" ++ spaced waiting)
+
+-- the output with the end line, where the run ends so under this budget
+abbrev pub whole_output : ℕ → Run → List ℕ
+whole_output budget r = r.output ++ end_line (ending budget r) (length (pending r.world))
+
+-- the status of a run that ends so
+abbrev pub end_status : End → ℕ
+end_status Quiet = 0
+end_status Budget = 4
+end_status Partial = 0
+
+-- A run of the program: a schedule, the reports that were made on its way, and where it leads.
+pub record IsRunOf (p : List (PlainFunction ℕ)) (watch : Option ℕ) (items : List Item) (reports : List PlainReport) (r : Run) : Type 0 where
+  pub leads : stands (text_of p) items ≡ Some r
+  pub reported : AreReports (text_of p) items watch reports
+
+-- every report was made that was due
+abbrev pub AllReported : Option ℕ → List Item → List PlainReport → Type 0
+AllReported watch items reports = IsDue watch (length items) (length reports) → ⊥
+
+-- ---- how it is told
+
+-- all of it: the reports went to the errors and the text to the output, and no write failed
+abbrev pub IsTold : List PlainReport → List ℕ → Counted → Counted → Type 0
+IsTold reports text output errors =
+    Takes errors.bytes (reports_text reports) × (errors.counts.failed ≡ 0)
+    × Takes output.bytes text × (output.counts.failed ≡ 0)
+
+-- the line that tells of a write that failed
+abbrev pub cannot_write : List ℕ
+cannot_write = line (codes "cannot write output")
+
+-- after a write that failed the line was written, or where that failed too a beginning of it
+abbrev pub SaysStill : Counted → List ℕ → List ℕ → Type 0
+SaysStill errors part told =
+    (Takes errors.bytes (part ++ told) × (errors.counts.failed ≡ 1))
+    ⊎ ((said : List ℕ) × (unsaid : List ℕ) × (told ≡ said ++ unsaid) × Takes errors.bytes (part ++ said) × (errors.counts.failed ≡ 2))
+
+-- a write of the text failed after a beginning of it, and then the line was said
+abbrev pub Breaks : Counted → List ℕ → List ℕ → Type 0
+Breaks errors text told =
+    (part : List ℕ) × (unwritten : List ℕ) × (text ≡ part ++ unwritten) × SaysStill errors part told
+
+-- a write of the reports failed, and the output was not called
+abbrev pub ReportsBroke : List PlainReport → Counted → Counted → ℕ → Type 0
+ReportsBroke reports output errors status =
+    Breaks errors (reports_text reports) cannot_write × IsIdle output × (status ≡ 1)
+
+-- a write of the text to the output failed, after these reports
+abbrev pub OutputBroke : List PlainReport → List ℕ → Counted → Counted → ℕ → Type 0
+OutputBroke reports text output errors status =
+    TakesStart output.bytes text × (output.counts.failed ≡ 1)
+    × Says errors (reports_text reports ++ cannot_write) × (status ≡ 1)
+
+-- memory ran out: after these reports, the output so far went out, and no end line
+abbrev pub MemoryBroke : List PlainReport → List ℕ → Counted → Counted → ℕ → Type 0
+MemoryBroke reports text output errors status =
+    Takes output.bytes text × (output.counts.failed ≡ 0)
+    × Says errors (reports_text reports ++ line (codes "memory")) × (status ≡ 5)
+
+-- Memory ran out, in the run or at one of its reports: those before it were told, and the output so far; or a write of that failed. Where
+-- a write of the reports failed, that was the end.
+abbrev pub IsCutOff : List PlainReport → List ℕ → Counted → Counted → ℕ → Type 0
+IsCutOff reports text output errors status =
+    ReportsBroke reports output errors status
+    ⊎ ((n : ℕ) × (MemoryBroke (take n reports) text output errors status ⊎ OutputBroke (take n reports) text output errors status))
+
+-- how the telling of a run that has come to its end is ended by a fault
+abbrev pub IsNotTold : List PlainReport → List ℕ → List ℕ → Counted → Counted → ℕ → Type 0
+IsNotTold reports so_far text output errors status =
+    OutputBroke reports text output errors status ⊎ IsCutOff reports so_far output errors status
+
+-- ---- what private functions say
+
+-- how the writing of reports ends
+abbrev pub AreSent : List PlainReport → Result (Unit {0}) ReportFault → Counted → Type 0
+AreSent reports (Ok done) errors = Takes errors.bytes (reports_text reports) × (errors.counts.failed ≡ 0)
+AreSent reports (Err report_fault.Memory) errors =
+    (n : ℕ) × Takes errors.bytes (reports_text (take n reports)) × (errors.counts.failed ≡ 0)
+AreSent reports (Err report_fault.Write) errors = TakesStart errors.bytes (reports_text reports) × (errors.counts.failed ≡ 1)
+
+-- how the writing of a report ends
+abbrev pub IsReportSent : PlainReport → Result (Unit {0}) ReportFault → Counted → Type 0
+IsReportSent report (Ok done) errors = Takes errors.bytes (report_text report) × (errors.counts.failed ≡ 0)
+IsReportSent report (Err report_fault.Memory) errors = Takes errors.bytes [] × (errors.counts.failed ≡ 0)
+IsReportSent report (Err report_fault.Write) errors = TakesStart errors.bytes (report_text report) × (errors.counts.failed ≡ 1)

@@ -1,0 +1,143 @@
+//! The command `replay`: a script runs again, by a schedule that was saved.
+
+ghost use Rattle.std.specs.Prelude.{◌≡◌, IfOk, IfErr};
+ghost use Rattle.cml_hub.specs.Kept.{IsBudget, IsWatch, FitsSize, IsReplayed};
+ghost use Rattle.cml_host.specs.Replaying.{ReplayRan, ScheduleRan, IsPlanOf, IsSchedule, IsHubOf, IsNoHub, IsNoPlan, IsNotRead, IsNotRun};
+ghost use Rattle.cml_host.specs.Stores.{IsUnchanged};
+ghost use Rattle.cml_stream.specs.Streams.{counted_stream};
+
+use crate::said::{Refusal, refuse};
+use crate::script::open_script;
+use crate::store::Store;
+use crate::tell::{hub_is_a_run, tell};
+use cml_check::Prog;
+use cml_hub::{Hub, Plan, ReplayFault, ScheduleFault, matches_program, read_schedule};
+use cml_stream::Counting;
+use cml_words::ReplayOptions;
+use std::alloc::Global;
+use std::io::Write;
+
+/// The most bytes of a schedule.
+const SCHEDULE_LIMIT: usize = 67_108_864;
+
+/// Runs the script that lies under its name again, by the schedule that lies under its own.
+pub fn replay_file<O: Write, E: Write, S: Store>(
+    alloc: Global,
+    options: &ReplayOptions<'_>,
+    out: &mut Counting<'_, O>,
+    err: &mut Counting<'_, E>,
+    store: &mut S,
+) -> u8
+    requires watch { IsWatch options.now.watch }
+    requires fresh { (out.old.calls ≡ 0) × (out.old.failed ≡ 0) × (err.old.calls ≡ 0) × (err.old.failed ≡ 0) }
+    ensures ran { let output = counted_stream (O.contents out.old.stream.now) (O.contents out.new.stream.now) out.new.calls out.new.failed in
+        let errors = counted_stream (E.contents err.old.stream.now) (E.contents err.new.stream.now) err.new.calls err.new.failed in
+        ReplayRan options.now (S.holds store.old) output errors result }
+    ensures same { IsUnchanged (S.holds store.old) (S.holds store.new) }
+    ensures same_out { out.new.stream.ghost_name ≡ out.old.stream.ghost_name }
+    ensures same_err { err.new.stream.ghost_name ≡ err.old.stream.ghost_name }
+{
+    match open_script(alloc, options.script, store) {
+        Ok(program) => replay_program(alloc, program, options, out, err, store),
+        Err(why) => refuse(alloc, options.script, why, 2, err),
+    }
+}
+
+// Runs the program by the schedule.
+fn replay_program<O: Write, E: Write, S: Store>(
+    alloc: Global,
+    program: Prog,
+    options: &ReplayOptions<'_>,
+    out: &mut Counting<'_, O>,
+    err: &mut Counting<'_, E>,
+    store: &mut S,
+) -> u8
+    requires watch { IsWatch options.now.watch }
+    requires fresh { (out.old.calls ≡ 0) × (out.old.failed ≡ 0) × (err.old.calls ≡ 0) × (err.old.failed ≡ 0) }
+    ensures ran { let output = counted_stream (O.contents out.old.stream.now) (O.contents out.new.stream.now) out.new.calls out.new.failed in
+        let errors = counted_stream (E.contents err.old.stream.now) (E.contents err.new.stream.now) err.new.calls err.new.failed in
+        ScheduleRan program options.now.watch options.now.schedule.now (S.holds store.old options.now.schedule.now) output errors result }
+    ensures same { IsUnchanged (S.holds store.old) (S.holds store.new) }
+    ensures same_out { out.new.stream.ghost_name ≡ out.old.stream.ghost_name }
+    ensures same_err { err.new.stream.ghost_name ≡ err.old.stream.ghost_name }
+{
+    match replayed(alloc, program, options, store) {
+        Ok(hub) => {
+            hub_is_a_run(&hub);
+            match tell(alloc, &hub, out, err) {
+                Ok(status) | Err(status) => status,
+            }
+        }
+        Err(why) => refuse(alloc, options.schedule, why, 3, err),
+    }
+}
+
+// The hub that has gone through the schedule.
+fn replayed<S: Store>(
+    alloc: Global,
+    program: Prog,
+    options: &ReplayOptions<'_>,
+    store: &mut S,
+) -> Result<Hub, Refusal>
+    requires watch { IsWatch options.now.watch }
+    ensures ok { IfOk result (IsHubOf program options.now.watch (S.holds store.old options.now.schedule.now)) }
+    ensures err { IfErr result (IsNotRun program (S.holds store.old options.now.schedule.now)) }
+    ensures same { IsUnchanged (S.holds store.old) (S.holds store.new) }
+{
+    let plan = open_schedule(alloc, options.schedule, store)?;
+    follow(alloc, program, &plan, options.watch)
+}
+
+// The schedule that lies under the name.
+fn open_schedule<S: Store>(alloc: Global, name: &str, store: &mut S) -> Result<Plan, Refusal>
+    ensures ok { IfOk result (IsPlanOf (S.holds store.old name.now)) }
+    ensures budget { IfOk result (λ plan. IsBudget plan.budget) }
+    ensures err { IfErr result (IsNoPlan (S.holds store.old name.now)) }
+    ensures same { IsUnchanged (S.holds store.old) (S.holds store.new) }
+{
+    let text = store.load(alloc, name, SCHEDULE_LIMIT)?;
+    read_plan(alloc, text.as_slice())
+}
+
+// The schedule that the text is.
+fn read_plan(alloc: Global, text: &[u8]) -> Result<Plan, Refusal>
+    ensures ok { IfOk result (IsSchedule text.now) }
+    ensures budget { IfOk result (λ plan. IsBudget plan.budget) }
+    ensures err { IfErr result (IsNotRead text.now) }
+{
+    match read_schedule(alloc, text) {
+        Ok(plan) => Ok(plan),
+        Err(ScheduleFault::Line(number)) => {
+            Err(Refusal::Wrong(format!(in alloc; "schedule line {number}\n")?))
+        }
+        Err(ScheduleFault::TooLong) => {
+            Err(Refusal::Wrong(format!(in alloc; "schedule too long\n")?))
+        }
+        Err(ScheduleFault::Memory) => Err(Refusal::Memory),
+    }
+}
+
+// The hub of the program that has gone through the plan.
+fn follow(
+    alloc: Global,
+    program: Prog,
+    plan: &Plan,
+    watch: Option<u64>,
+) -> Result<Hub, Refusal>
+    requires budget { IsBudget plan.now.budget }
+    requires watch { IsWatch watch }
+    ensures size { IfOk result (λ _. FitsSize plan.now.size program) }
+    ensures hub { IfOk result (IsReplayed program plan.now.budget watch plan.now.items) }
+    ensures err { IfErr result (IsNoHub program plan.now) }
+{
+    if !matches_program(plan, &program) {
+        return Err(Refusal::Wrong(format!(in alloc; "schedule program\n")?));
+    }
+    match Hub::replay(alloc, program, plan.budget, watch, plan.items.as_slice()) {
+        Ok(hub) => Ok(hub),
+        Err(ReplayFault::BadItem(number, _)) => {
+            Err(Refusal::Wrong(format!(in alloc; "schedule item {number}\n")?))
+        }
+        Err(ReplayFault::Memory(_)) => Err(Refusal::Memory),
+    }
+}

@@ -1,0 +1,220 @@
+//! What is told of a run: its reports to the errors, its output and the end line to the output.
+
+ghost use Rattle.std.specs.Prelude.{◌≡◌, ◌⊎◌, ◌++◌, [], IfOk, IfErr, OnOk, OnErr};
+ghost use Rattle.std.specs.String.{string_bytes};
+ghost use Rattle.cml_hub.specs.Runs.{ending};
+ghost use Rattle.cml_hub.specs.Courses.{run_of};
+ghost use Rattle.cml_host.specs.Told as spec;
+ghost use Rattle.cml_host.specs.Told.{IsRunOf, IsTold, IsNotTold, IsCutOff, AreSent, IsReportSent, SaysStill, MemoryBroke, OutputBroke, whole_output, cannot_write};
+ghost use Rattle.cml_stream.specs.Streams.{counted_stream, stream, Says, Takes, TakesStart};
+
+use crate::output::say;
+use cml_hub::{End, Hub};
+use cml_monitor::{Report, render};
+use cml_stream::Counting;
+use cml_stream::input_output::{WriteFault, write_out};
+use std::alloc::{AllocError, Global};
+use std::io::Write;
+
+/// Why not all reports were written.
+#[derive(Clone, Copy)]
+pub enum ReportFault {
+    /// A write failed.
+    Write,
+    /// Out of memory.
+    Memory,
+}
+
+/// Tells all of a run that has come to its end: its reports to the errors, then its output and the end line to the output. It answers the
+/// status of such an end.
+///
+/// # Errors
+/// The status, where not all was told, and the errors tell why: a write failed, behind which nothing is written; or memory ran out, where
+/// the reports that were made and the output are written, and no end line.
+pub fn tell<O: Write, E: Write>(
+    alloc: Global,
+    hub: &Hub,
+    out: &mut Counting<'_, O>,
+    err: &mut Counting<'_, E>,
+) -> Result<u8, u8>
+    requires fresh { (out.old.calls ≡ 0) × (out.old.failed ≡ 0) × (err.old.calls ≡ 0) × (err.old.failed ≡ 0) }
+    ensures told { let output = counted_stream (O.contents out.old.stream.now) (O.contents out.new.stream.now) out.new.calls out.new.failed in
+        let errors = counted_stream (E.contents err.old.stream.now) (E.contents err.new.stream.now) err.new.calls err.new.failed in
+        IfOk result (λ status. IsTold hub.now.reports (whole_output hub.now.budget (run_of hub.now.course)) output errors
+            × (status ≡ spec.end_status (ending hub.now.budget (run_of hub.now.course)))) }
+    ensures not_told { let output = counted_stream (O.contents out.old.stream.now) (O.contents out.new.stream.now) out.new.calls out.new.failed in
+        let errors = counted_stream (E.contents err.old.stream.now) (E.contents err.new.stream.now) err.new.calls err.new.failed in
+        IfErr result (IsNotTold hub.now.reports hub.now.course.output (whole_output hub.now.budget (run_of hub.now.course)) output errors) }
+    ensures same_out { out.new.stream.ghost_name ≡ out.old.stream.ghost_name }
+    ensures same_err { err.new.stream.ghost_name ≡ err.old.stream.ghost_name }
+{
+    let Ok(line) = end_line(alloc, hub.end(), hub.pending()) else {
+        return Err(cut_off(alloc, hub, out, err));
+    };
+    match send_reports(alloc, hub.reports(), err) {
+        Ok(()) => {}
+        Err(ReportFault::Write) => return Err(refuse_reports(err)),
+        Err(ReportFault::Memory) => return Err(cut_output(hub.out(), out, err)),
+    }
+    match send_both(out, hub.out(), line.as_str()) {
+        Ok(()) => Ok(end_status(hub.end())),
+        Err(_) => Err(refuse_output(err)),
+    }
+}
+
+/// Tells of a run at which memory ran out: its reports so far, as many as can be made still, and its output so far. It answers the
+/// status.
+pub fn cut_off<O: Write, E: Write>(
+    alloc: Global,
+    hub: &Hub,
+    out: &mut Counting<'_, O>,
+    err: &mut Counting<'_, E>,
+) -> u8
+    requires fresh { (out.old.calls ≡ 0) × (out.old.failed ≡ 0) × (err.old.calls ≡ 0) × (err.old.failed ≡ 0) }
+    ensures told { let output = counted_stream (O.contents out.old.stream.now) (O.contents out.new.stream.now) out.new.calls out.new.failed in
+        let errors = counted_stream (E.contents err.old.stream.now) (E.contents err.new.stream.now) err.new.calls err.new.failed in
+        IsCutOff hub.now.reports hub.now.course.output output errors result }
+    ensures same_out { out.new.stream.ghost_name ≡ out.old.stream.ghost_name }
+    ensures same_err { err.new.stream.ghost_name ≡ err.old.stream.ghost_name }
+{
+    match send_reports(alloc, hub.reports(), err) {
+        Err(ReportFault::Write) => refuse_reports(err),
+        Ok(()) | Err(ReportFault::Memory) => cut_output(hub.out(), out, err),
+    }
+}
+
+/// A hub stands where a run of its program leads, and its reports are those of the run.
+pub fn hub_is_a_run(hub: &Hub)
+    ensures { IsRunOf hub.now.course.program hub.now.watch hub.now.course.items hub.now.reports (run_of hub.now.course) }
+{
+    let _items = hub.schedule();
+    let _reports = hub.reports();
+}
+
+// The end line of a run that ends so, where so many threads wait.
+fn end_line(alloc: Global, end: End, waiting: usize) -> Result<String, AllocError>
+    ensures { IfOk result (λ line. string_bytes line ≡ spec.end_line end waiting) }
+{
+    let name = end_name(end);
+    format!(in alloc; "end {name} pending {waiting}\n")
+}
+
+fn end_name(end: End) -> &'static str
+    ensures { result.now ≡ spec.end_name end }
+{
+    match end {
+        End::Quiet => "quiet",
+        End::Budget => "budget",
+        End::Partial => "partial",
+    }
+}
+
+fn end_status(end: End) -> u8
+    ensures { result ≡ spec.end_status end }
+{
+    match end {
+        End::Quiet => 0,
+        End::Budget => 4,
+        End::Partial => 0,
+    }
+}
+
+// Writes the lines of the reports, one report after another.
+fn send_reports<E: Write>(
+    alloc: Global,
+    reports: &[Report],
+    err: &mut Counting<'_, E>,
+) -> Result<(), ReportFault>
+    requires fresh { err.old.failed ≡ 0 }
+    ensures sent { let errors = counted_stream (E.contents err.old.stream.now) (E.contents err.new.stream.now) err.new.calls err.new.failed in
+        AreSent reports.now result errors }
+    ensures same_err { err.new.stream.ghost_name ≡ err.old.stream.ghost_name }
+{
+    for report in reports {
+        send_report(alloc, report, err)?;
+    }
+    Ok(())
+}
+
+// Writes the lines of a report.
+fn send_report<E: Write>(
+    alloc: Global,
+    report: &Report,
+    err: &mut Counting<'_, E>,
+) -> Result<(), ReportFault>
+    requires fresh { err.old.failed ≡ 0 }
+    ensures sent { let errors = counted_stream (E.contents err.old.stream.now) (E.contents err.new.stream.now) err.new.calls err.new.failed in
+        IsReportSent report.now result errors }
+    ensures same_err { err.new.stream.ghost_name ≡ err.old.stream.ghost_name }
+{
+    let Ok(text) = render(alloc, report) else {
+        return Err(ReportFault::Memory);
+    };
+    match write_out(err, text.as_bytes()) {
+        Ok(()) => Ok(()),
+        Err(_) => Err(ReportFault::Write),
+    }
+}
+
+// Says that a write failed, behind one to the errors that did.
+fn refuse_reports<E: Write>(err: &mut Counting<'_, E>) -> u8
+    requires failed { err.old.failed ≡ 1 }
+    ensures said { let errors = counted_stream (E.contents err.old.stream.now) (E.contents err.new.stream.now) err.new.calls err.new.failed in
+        SaysStill errors [] cannot_write }
+    ensures status { result ≡ 1 }
+    ensures same_err { err.new.stream.ghost_name ≡ err.old.stream.ghost_name }
+{
+    let _ = write_out(err, b"cannot write output\n");
+    1
+}
+
+// Says that a write to the output failed.
+fn refuse_output<E: Write>(err: &mut Counting<'_, E>) -> u8
+    requires fresh { err.old.failed ≡ 0 }
+    ensures said { let errors = counted_stream (E.contents err.old.stream.now) (E.contents err.new.stream.now) err.new.calls err.new.failed in
+        Says errors cannot_write }
+    ensures status { result ≡ 1 }
+    ensures same_err { err.new.stream.ghost_name ≡ err.old.stream.ghost_name }
+{
+    say(err, b"cannot write output\n");
+    1
+}
+
+// Writes the output, and says that memory ran out.
+fn cut_output<O: Write, E: Write>(
+    text: &str,
+    out: &mut Counting<'_, O>,
+    err: &mut Counting<'_, E>,
+) -> u8
+    requires fresh { (out.old.failed ≡ 0) × (err.old.failed ≡ 0) }
+    ensures told { let output = counted_stream (O.contents out.old.stream.now) (O.contents out.new.stream.now) out.new.calls out.new.failed in
+        let errors = counted_stream (E.contents err.old.stream.now) (E.contents err.new.stream.now) err.new.calls err.new.failed in
+        MemoryBroke [] text.now output errors result ⊎ OutputBroke [] text.now output errors result }
+    ensures same_out { out.new.stream.ghost_name ≡ out.old.stream.ghost_name }
+    ensures same_err { err.new.stream.ghost_name ≡ err.old.stream.ghost_name }
+{
+    match write_out(out, text.as_bytes()) {
+        Ok(()) => {
+            say(err, b"memory\n");
+            5
+        }
+        Err(_) => refuse_output(err),
+    }
+}
+
+// Writes a text and then another.
+fn send_both<O: Write>(
+    out: &mut Counting<'_, O>,
+    first: &str,
+    second: &str,
+) -> Result<(), WriteFault>
+    requires fresh { out.old.failed ≡ 0 }
+    ensures ok { let output = stream (O.contents out.old.stream.now) (O.contents out.new.stream.now) in
+        OnOk result (Takes output (first.now ++ second.now) × (out.new.failed ≡ 0)) }
+    ensures err { let output = stream (O.contents out.old.stream.now) (O.contents out.new.stream.now) in
+        OnErr result (TakesStart output (first.now ++ second.now) × (out.new.failed ≡ 1)) }
+    ensures same_out { out.new.stream.ghost_name ≡ out.old.stream.ghost_name }
+{
+    write_out(out, first.as_bytes())?;
+    write_out(out, second.as_bytes())
+}
