@@ -1,5 +1,6 @@
 -- The budget of a schedule that is read is from 1 to 1,000,000,000.
-use Rattle.std.proofs.Common.{◌≡◌, ◌×◌, ℕ, ◌+◌, ◌≤◌, Bool, true, false, ◌&&◌, nat_le, List, [], ◌∷◌, Option, Some, None, Ok, option_map, refl, sym, subst, arith, inl, inr, nat_tests}
+use Rattle.std.proofs.Common.{◌≡◌, if◌then◌else◌, ℕ, ◌+◌, ◌≤◌, Bool, true, false, ◌&&◌, nat_le, List, [], ◌∷◌, Option, Some, None, Ok, option_map, refl, sym, subst, arith, inl, inr}
+use Rattle.std.proofs.lemmas.Bool.Decides.{nat_tests}
 use Rattle.cml_check.specs.declared.size.Size.{Size}
 use Rattle.cml_hub.specs.Kept.{IsBudget}
 use Rattle.cml_schedule.specs.declared.item.Item.{Item}

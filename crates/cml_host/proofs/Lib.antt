@@ -3,3 +3,4 @@ mod TextLemmas
 mod TellLemmas
 mod BudgetLemmas
 mod ScriptLemmas
+mod RanLemmas

@@ -1,13 +1,16 @@
 -- What was written of several texts, one after another.
-use Rattle.std.proofs.Common.{◌≡◌, ◌∙◌, ◌⊎◌, ◌+◌, ◌<◌, ◌≤◌, ℕ, List, [], ◌∷◌, ◌++◌, Option, Err, take, drop, length, get_or, refl, sym, ap, subst, inl, inr, append_assoc, append-nil}
+use Rattle.std.proofs.Common.{◌≡◌, ◌∙◌, ◌⊎◌, ◌+◌, ◌<◌, ◌≤◌, ℕ, List, [], ◌∷◌, ◌++◌, Option, Err, take, drop, length, get_or, refl, sym, ap, subst, inl, inr, append_assoc, append-nil, take_all, arith}
 use Rattle.std.specs.List.{flat_map}
 use Rattle.std.specs.Io.KnownBytes.{Appends, Keeps}
 use Rattle.std.proofs.KnownBytes.{Appends-trans, Appends-nil}
 use Rattle.std.proofs.lemmas.Grind.{flat_map-append}
 use Rattle.std.proofs.lemmas.List.{take-append-drop, take_more}
+use Rattle.cml_hub.specs.declared.fault.End.{End}
+use Rattle.cml_hub.specs.Runs.{Run, ending}
 use Rattle.cml_monitor.specs.Reports.{PlainReport, report_text}
-use Rattle.cml_stream.specs.Streams.{stream, counted_stream, Takes, TakesStart, Says}
-use Rattle.cml_host.specs.Told.{reports_text, SaysStill, Breaks, AreSent, IsReportSent}
+use Rattle.cml_scan.specs.World.{pending}
+use Rattle.cml_stream.specs.Streams.{Counted, stream, counted_stream, Takes, TakesStart, Says, IsIdle}
+use Rattle.cml_host.specs.Told.{reports_text, end_line, whole_output, cannot_write, SaysStill, Breaks, ReportsBroke, MemoryBroke, OutputBroke, IsCutOff, AreSent, IsReportSent}
 use Rattle.cml_host.specs.declared.tell.ReportFault.{ReportFault}
 use Rattle.cml_host.specs.declared.tell.ReportFault.TheVariants.{Write, Memory}
 
@@ -78,3 +81,37 @@ pub reports_ended : (a b c : Option (List ℕ)) (reports : List PlainReport) (i 
 reports_ended a b c reports i report Memory calls failed there is before sent =
     (i, subst (λ (ts : List ℕ). Takes (stream a c) ts) (append-nil (reports_text (take i reports))) (Appends-trans a b c _ _ before sent.0), sent.1)
 reports_ended a b c reports i report Write calls failed there is before sent = (reports_start a b c reports i report there is before sent.0, sent.1)
+
+-- a line that tells of a write that failed, behind reports of which one was written in part
+pub reports_broke : (a b c : Option (List ℕ)) (reports : List PlainReport) (output : Counted) (calls failed status : ℕ) →
+    TakesStart (stream a b) (reports_text reports) → SaysStill (counted_stream b c calls failed) [] cannot_write → IsIdle output → status ≡ 1 →
+    ReportsBroke reports output (counted_stream a c calls failed) status
+reports_broke a b c reports output calls failed status part said idle is =
+    (breaks_behind a b c calls failed (reports_text reports) cannot_write part said, idle, is)
+
+-- how it is told that a run was cut off, behind so many reports
+pub cut_behind : (a b c : Option (List ℕ)) (reports : List PlainReport) (n : ℕ) (text : List ℕ) (output : Counted) (calls failed status : ℕ) →
+    Takes (stream a b) (reports_text (take n reports)) →
+    MemoryBroke [] text output (counted_stream b c calls failed) status ⊎ OutputBroke [] text output (counted_stream b c calls failed) status →
+    IsCutOff reports text output (counted_stream a c calls failed) status
+cut_behind a b c reports n text output calls failed status before (inl broke) =
+    inr (n, inl (broke.0, broke.1, says_behind a b c calls failed (reports_text (take n reports)) _ before broke.2, broke.3))
+cut_behind a b c reports n text output calls failed status before (inr broke) =
+    inr (n, inr (broke.0, broke.1, says_behind a b c calls failed (reports_text (take n reports)) _ before broke.2, broke.3))
+
+-- the same behind all reports
+pub cut_behind_all : (a b c : Option (List ℕ)) (reports : List PlainReport) (text : List ℕ) (output : Counted) (calls failed status : ℕ) →
+    Takes (stream a b) (reports_text reports) →
+    MemoryBroke [] text output (counted_stream b c calls failed) status ⊎ OutputBroke [] text output (counted_stream b c calls failed) status →
+    IsCutOff reports text output (counted_stream a c calls failed) status
+cut_behind_all a b c reports text output calls failed status before broke =
+    cut_behind a b c reports (length reports) text output calls failed status
+    (subst (λ (rs : List PlainReport). Takes (stream a b) (reports_text rs)) (sym (take_all (length reports) reports (omega arith))) before) broke
+
+-- the output with the end line
+pub whole_is : (out told : List ℕ) (end : End) (waiting budget : ℕ) (r : Run) → out ≡ r.output → told ≡ end_line end waiting →
+    end ≡ ending budget r → waiting ≡ length (pending r.world) → out ++ told ≡ whole_output budget r
+whole_is out told end waiting budget r same line ends waits =
+    ap (λ (ts : List ℕ). ts ++ told) same
+    ∙ ap (λ (ts : List ℕ). r.output ++ ts)
+    (line ∙ ap (λ (e : End). end_line e waiting) ends ∙ ap (λ (n : ℕ). end_line (ending budget r) n) waits)

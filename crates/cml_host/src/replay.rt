@@ -65,7 +65,8 @@ fn replay_program<O: Write, E: Write, S: Store>(
         Ok(hub) => {
             hub_is_a_run(&hub);
             match tell(alloc, &hub, out, err) {
-                Ok(status) | Err(status) => status,
+                Ok(status) => status,
+                Err(status) => status,
             }
         }
         Err(why) => refuse(alloc, options.schedule, why, 3, err),

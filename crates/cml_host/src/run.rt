@@ -108,7 +108,8 @@ fn end<O: Write, E: Write, S: Store>(
 {
     let Some(name) = options.record else {
         return match tell(alloc, hub, out, err) {
-            Ok(status) | Err(status) => status,
+            Ok(status) => status,
+            Err(status) => status,
         };
     };
     let Ok(record) = make_record(alloc, hub, name) else {

@@ -78,8 +78,9 @@ pub fn cut_off<O: Write, E: Write>(
     ensures same_err { err.new.stream.ghost_name ≡ err.old.stream.ghost_name }
 {
     match send_reports(alloc, hub.reports(), err) {
+        Ok(()) => cut_output(hub.out(), out, err),
         Err(ReportFault::Write) => refuse_reports(err),
-        Ok(()) | Err(ReportFault::Memory) => cut_output(hub.out(), out, err),
+        Err(ReportFault::Memory) => cut_output(hub.out(), out, err),
     }
 }
 

@@ -1,0 +1,125 @@
+-- What a command did, by what it told of the hub that it had.
+use Rattle.std.proofs.Common.{◌≡◌, ◌∙◌, ◌⊎◌, ℕ, List, [], ◌++◌, true, length, Option, Some, None, inl, inr, refl, sym, ap, subst, append-nil}
+use Rattle.std.specs.String.{string_bytes}
+use Rattle.cml_check.specs.Sizes.{size_of}
+use Rattle.cml_check.specs.Syntax.{PlainFunction}
+use Rattle.cml_hub.specs.Courses.{run_of}
+use Rattle.cml_hub.specs.Kept.{Kept, IsBegun, Continues, IsOver}
+use Rattle.cml_hub.specs.Runs.{ending, over}
+use Rattle.cml_hub.specs.declared.fault.End.{End}
+use Rattle.cml_monitor.specs.Reports.{PlainReport}
+use Rattle.cml_schedule.specs.declared.item.Item.{Item}
+use Rattle.cml_schedule.specs.Written.{schedule_text}
+use Rattle.cml_stream.specs.Streams.{Counted, stream, counted_stream, Takes, Says, IsIdle}
+use Rattle.std.proofs.KnownBytes.{Appends-trans}
+use Rattle.cml_words.specs.declared.RunOptions.{RunOptions}
+use Rattle.cml_host.specs.declared.run.Record.{Record}
+use Rattle.cml_host.specs.declared.said.Refusal.{Refusal}
+use Rattle.cml_host.specs.declared.said.Refusal.TheVariants.{Unread, Wrong, Memory}
+use Rattle.cml_host.specs.Replaying.{IsHubOf, IsNotRun, PlanRan, ScheduleRan}
+use Rattle.cml_host.specs.Running.{HasEnded, record_name, EndRan, ProgramRan, EndedRan, IsMade, RecordRan}
+use Rattle.cml_host.specs.Said.{RefusalRan}
+use Rattle.cml_host.specs.Scripts.{IsNotOpened, NoScriptRan}
+use Rattle.cml_host.specs.Stores.{Content, Shelf, IsSaved, IsUnchanged}
+use Rattle.cml_host.specs.Told.{IsRunOf, AllReported, reports_text, whole_output, end_status, IsTold, IsNotTold, IsCutOff}
+use Rattle.cml_host.proofs.TellLemmas.{says_behind}
+
+-- the hub's run is one of this program
+run_is : (p : List (PlainFunction ℕ)) (watch : Option ℕ) (items : List Item) (h : Kept) → h.course.program ≡ p → h.watch ≡ watch → h.course.items ≡ items →
+    IsRunOf h.course.program h.watch h.course.items h.reports (run_of h.course) → IsRunOf p watch items h.reports (run_of h.course)
+run_is p watch items h program watched items_are run =
+    subst (λ (ts : List Item). IsRunOf p watch ts h.reports (run_of h.course)) items_are
+    (subst (λ (w : Option ℕ). IsRunOf p w h.course.items h.reports (run_of h.course)) watched
+      (subst (λ (q : List (PlainFunction ℕ)). IsRunOf q h.watch h.course.items h.reports (run_of h.course)) program run))
+
+-- ---- scripts
+
+pub not_scripted : (content : Content) (name : List ℕ) (why : Refusal) (errors : Counted) (status : ℕ) →
+    IsNotOpened content why → RefusalRan name why 2 errors status → NoScriptRan content name errors status
+not_scripted content name Unread errors status may (inl told) = inr (inl (may, told.0, told.1))
+not_scripted content name Unread errors status may (inr memory) = inr (inr memory)
+not_scripted content name (Wrong told) errors status wrong said = inl (wrong.0, wrong.1, string_bytes told, wrong.2, said.0, said.1)
+not_scripted content name Memory errors status any memory = inr (inr memory)
+
+-- ---- replay
+
+pub not_scheduled : (p : List (PlainFunction ℕ)) (watch : Option ℕ) (content : Content) (name : List ℕ) (why : Refusal) (output errors : Counted) (status : ℕ) →
+    IsNotRun p content why → RefusalRan name why 3 errors status → IsIdle output → ScheduleRan p watch name content output errors status
+not_scheduled p watch content name Unread output errors status may (inl told) idle = inr (inl (may, told.0, told.1), idle)
+not_scheduled p watch content name Unread output errors status may (inr memory) idle = inr (inr memory, idle)
+not_scheduled p watch content name (Wrong told) output errors status wrong said idle =
+    inl (wrong.0, wrong.1, inr (string_bytes told, wrong.2, said.0, said.1, idle))
+not_scheduled p watch content name Memory output errors status any memory idle = inr (inr memory, idle)
+
+pub scheduled : (p : List (PlainFunction ℕ)) (watch : Option ℕ) (name : List ℕ) (content : Content) (h : Kept) (output errors : Counted) (status : ℕ) →
+    IsHubOf p watch content h → IsRunOf h.course.program h.watch h.course.items h.reports (run_of h.course) →
+    ((IsTold h.reports (whole_output h.budget (run_of h.course)) output errors × (status ≡ end_status (ending h.budget (run_of h.course))))
+    ⊎ IsNotTold h.reports h.course.output (whole_output h.budget (run_of h.course)) output errors status) →
+    ScheduleRan p watch name content output errors status
+scheduled p watch name content h output errors status found run told =
+    let plan = found.0 in
+    let made = found.3 in
+    let r = run_of h.course in
+    let due : AllReported watch plan.items h.reports =
+    subst (λ (ts : List Item). AllReported watch ts h.reports) made.items_are
+      (subst (λ (w : Option ℕ). AllReported w h.course.items h.reports) made.watch_is made.none_due) in
+    let all = subst (λ (b : ℕ). (IsTold h.reports (whole_output b r) output errors × (status ≡ end_status (ending b r)))
+        ⊎ IsNotTold h.reports h.course.output (whole_output b r) output errors status) made.budget_is told in
+    inl (found.1.0, found.1.1, inl (plan, found.1.2, found.2, h.reports, r,
+      run_is p watch plan.items h made.program made.watch_is made.items_are run, due, all))
+
+-- ---- run
+
+pub not_told_ran : (name : Option (List ℕ)) (h : Kept) (output errors : Counted) (store : Shelf) (status : ℕ) → IsUnchanged store.before store.after →
+    IsNotTold h.reports h.course.output (whole_output h.budget (run_of h.course)) output errors status → EndedRan name h output errors store status
+not_told_ran name h output errors store status same (inl broke) = inl (inr (inr (broke, same)))
+not_told_ran name h output errors store status same (inr cut) = inr (cut, same)
+
+pub recorded : (name : List ℕ) (h : Kept) (made : Record) (output : Counted) (a b d : Option (List ℕ)) (before after failed given : ℕ) (store : Shelf) (status : ℕ) →
+    IsMade h name made → IsTold h.reports (whole_output h.budget (run_of h.course)) output (counted_stream a b before 0) →
+    given ≡ end_status (ending h.budget (run_of h.course)) →
+    RecordRan name made given (counted_stream b d after failed) store status →
+    EndedRan (Some name) h output (counted_stream a d after failed) store status
+recorded name h made output a b d before after failed given store status is told ends (inl saved) =
+    inl (inl (
+      (
+        subst (λ (ts : List ℕ). Takes (stream a d) ts) (append-nil (reports_text h.reports)) (Appends-trans a b d (reports_text h.reports) [] told.0 saved.2),
+        saved.3,
+        told.2,
+        told.3,
+      ),
+      subst (λ (ts : List ℕ). IsSaved store.before store.after name ts) is.0 saved.0,
+      saved.1 ∙ ends,
+    ))
+recorded name h made output a b d before after failed given store status is told ends (inr refused) =
+    inl (inr (inl (
+      told.2,
+      told.3,
+      says_behind a b d after failed (reports_text h.reports) _ told.0 (subst (λ (ts : List ℕ). Says (counted_stream b d after failed) ts) is.1 refused.1),
+      refused.2,
+      refused.0,
+    )))
+
+pub ended_ran : (p : List (PlainFunction ℕ)) (options : RunOptions) (begun h : Kept) (end : End) (output errors : Counted) (store : Shelf) (status : ℕ) →
+    IsBegun p options.steps options.watch begun → Continues begun h → IsOver end h →
+    IsRunOf h.course.program h.watch h.course.items h.reports (run_of h.course) → EndedRan (record_name options) h output errors store status →
+    ProgramRan p options output errors store status
+ended_ran p options begun h end output errors store status begins more is_over run (inl ended) =
+    let r = run_of h.course in
+    let program : h.course.program ≡ p = more.program ∙ begins.program in
+    let budget : h.budget ≡ options.steps = more.budget ∙ begins.budget_is in
+    let watch : h.watch ≡ options.watch = more.watch ∙ begins.watch_is in
+    let all = subst (λ (b : ℕ). EndRan (record_name options) (schedule_text b (size_of p) h.course.items) h.reports b r output errors store status) budget
+      (subst (λ (q : List (PlainFunction ℕ)). EndRan (record_name options) (schedule_text h.budget (size_of q) h.course.items) h.reports h.budget r output errors store status)
+        program ended) in
+    (h.course.items, h.reports, r, run_is p options.watch h.course.items h program watch refl run,
+      inl (
+        (
+          subst (λ (b : ℕ). over b r ≡ true) budget is_over.over_is,
+          subst (λ (w : Option ℕ). AllReported w h.course.items h.reports) watch is_over.none_due,
+        ),
+        all,
+      ))
+ended_ran p options begun h end output errors store status begins more is_over run (inr cut) =
+    (h.course.items, h.reports, run_of h.course,
+      run_is p options.watch h.course.items h (more.program ∙ begins.program) (more.watch ∙ begins.watch_is) refl run, inr cut)
