@@ -15,6 +15,8 @@ mod forcings;
 #[cfg(test)]
 mod groups;
 #[cfg(test)]
+mod hubs;
+#[cfg(test)]
 mod kinds;
 #[cfg(test)]
 mod lanes;

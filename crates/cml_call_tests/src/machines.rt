@@ -11,10 +11,9 @@ ghost use Rattle.cml_step.specs.AnswerViews.{plain_answer};
 ghost use Rattle.cml_step.specs.AskViews.{plain_ask};
 ghost use Rattle.cml_step.specs.Machines.{machine_term, Fits};
 
-use crate::making::{MEMORY, make};
-use cml_check::{Prog, check};
+use crate::making::{MEMORY, make, program_of};
+use cml_check::Prog;
 use cml_step::{Answer, Ask, Machine, slice};
-use cml_text::read;
 use cml_value::{
     Base, BaseKind, ChanId, FnRef, Group, GroupKind, IVarId, MVarId, MboxId, McastId, NackId,
     PortId, SwapId, Tid, Value, ValueKind,
@@ -352,14 +351,6 @@ const GROUPS: [(&str, &str); 22] = [
 struct Course {
     text: String,
     groups: Vec<Group>,
-}
-
-// The program of the script.
-fn program_of(rt: &(impl Abort + AllocGlobal), script: &str) -> Prog {
-    let forms = read(rt.alloc(), script.as_bytes()).expect(rt, "forms");
-    let program = check(rt.alloc(), forms.as_slice()).expect(rt, script);
-    drop(forms);
-    program
 }
 
 // The word for what is asked, and the number and the value that it comes with.

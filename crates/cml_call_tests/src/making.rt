@@ -1,9 +1,11 @@
 //! Values, functions, events and groups by texts, as `1 2 pair` or `0 5 send 1 recv 2 choose`: each word takes what it is made of
-//! from the things that stand before it. Every event is made as a group too, where a guard and a withNack are never.
+//! from the things that stand before it. Every event is made as a group too, where a guard and a withNack are never. And programs, by their
+//! scripts.
 //!
 //! A want of memory ends the test, so that no return stands in the way on which all that was made had to be dropped.
 
 use crate::words::{Word, word_of};
+use cml_check::{Prog, check};
 use cml_text::{Sexpr, Shape, read};
 use cml_value::{
     Base, BaseKind, ChanId, Event, EventKind, FnRef, Group, GroupKind, IVarId, MVarId, MboxId,
@@ -27,6 +29,14 @@ pub fn make(rt: &(impl Abort + AllocGlobal), text: &str) -> Made {
     let mut made = Made::new(rt);
     made.say(rt, text);
     made
+}
+
+/// The program of the script.
+pub fn program_of(rt: &(impl Abort + AllocGlobal), script: &str) -> Prog {
+    let forms = read(rt.alloc(), script.as_bytes()).expect(rt, "forms");
+    let program = check(rt.alloc(), forms.as_slice()).expect(rt, script);
+    drop(forms);
+    program
 }
 
 /// The value that the words make.

@@ -1,9 +1,9 @@
 -- What agrees with a program stays so where a row is taken.
-use Rattle.std.proofs.Common.{◌≡◌, ℕ, zero, suc, ◌+◌, Bool, true, false, ◌&&◌, List, [], ◌∷◌, ◌++◌, map, refl, ap, sym, ◌∙◌, Option, Some, None}
+use Rattle.std.proofs.Common.{◌≡◌, ℕ, zero, suc, Bool, true, ◌&&◌, List, [], ◌∷◌, ◌++◌, map, refl, ap, sym, ◌∙◌, Option, Some, None}
 use Rattle.std.specs.Prelude.{slice_get, slice_set}
 use Rattle.std.specs.Option.{option_map_or}
 use Rattle.std.proofs.lemmas.Bool.{and_parts, and_from}
-use Rattle.cml_value.specs.Value.{PlainValue, unit, PlainFunction, PlainBase, always, send, recv, swap, iget, mtake, mget, mswap, mail_recv, port_recv, join, at_tick, after_ticks, nack}
+use Rattle.cml_value.specs.Value.{PlainValue, PlainFunction, PlainBase, always, send, swap, iget, mtake, mget, mswap, mail_recv, port_recv, after_ticks}
 use Rattle.cml_value.specs.Group.{PlainGroup, never, leaf, choose, wrap, scope, PlainGroups, no_groups, groups_and, PlainLeaf, wrapped_by, leaves, leaves_of_all}
 use Rattle.cml_group.specs.Force.{event_of, events_of}
 use Rattle.cml_scan.specs.World.{PlainThread, running, pending_on, ended, PlainWorld}
@@ -16,7 +16,6 @@ use Rattle.cml_step.specs.Agrees.{value_agrees, function_agrees, base_agrees, ev
 use Rattle.cml_book.specs.Commit.{awaited, group_awaited, base_or_unit, wraps_or_none, base_awaited, variable_value, first_of, rest_of, given, taken, hands, released, after}
 use Rattle.cml_channel.specs.Handed.{handed}
 use Rattle.cml_book.specs.Entering.{entered, entered_all, entered_base}
-use Rattle.cml_book.specs.MakePort.{ports_at}
 use Rattle.cml_hub.specs.Agreeing.{thread_agrees, waits_soon, WorldAgrees, CommittedAgrees}
 
 -- lists

@@ -1,4 +1,5 @@
 pub mod MarkLemmas
+pub mod Homing
 pub mod RowLemmas
 pub mod Agreement
 pub mod Soon
@@ -9,3 +10,15 @@ pub mod Turning
 pub mod Meeting
 pub mod Settled
 pub mod Opening
+pub mod Ours
+pub mod Ticking
+pub mod Going
+pub mod Placing
+pub mod Replaying
+pub mod Marking
+pub mod Reporting
+pub mod Keeping
+pub mod Giving
+pub mod Written
+pub mod Deciding
+pub mod Onward

@@ -1,5 +1,5 @@
 -- Threads that come to the queue, and leave it.
-use Rattle.std.proofs.Common.{◌≡◌, ◌≢◌, ℕ, zero, suc, ◌+◌, ◌*◌, ◌<◌, ◌≤◌, ◌^◌, Bool, true, false, not, ◌&&◌, ◌||◌, nat_eq, List, [], ◌∷◌, ◌++◌, length, take, drop, refl, arith, Some, None, sym, ap, ◌∙◌, length-set, length-append, slice_index_or, add-one}
+use Rattle.std.proofs.Common.{◌≡◌, ◌≢◌, ℕ, zero, suc, ◌+◌, ◌*◌, ◌<◌, ◌≤◌, ◌^◌, Bool, true, false, not, nat_eq, List, [], ◌∷◌, ◌++◌, length, take, refl, arith, Some, None, sym, ap, ◌∙◌, length-set, length-append, slice_index_or, add-one}
 use Rattle.std.specs.Prelude.{slice_get, slice_set, Option, OnSome, IsSome}
 use Rattle.std.specs.List.{list_any, remove}
 use Rattle.std.proofs.lemmas.Bool.Decides.{nat_tests}
@@ -43,28 +43,30 @@ outs_push : (ms : List Mark) → count_outs (ms ++ Ready ∷ []) ≡ count_outs 
 outs_push [] = refl
 outs_push (m ∷ ms) = omega (arith, outs_push ms)
 
-ready_set : (ms : List Mark) (i t : ℕ) (old new : Mark) → slice_get ms i ≡ Some old → ready_at (slice_set ms i new) t + readies old * is_at t i ≡ ready_at ms t + readies new * is_at t i
+pub ready_set : (ms : List Mark) (i t : ℕ) (old new : Mark) → slice_get ms i ≡ Some old → ready_at (slice_set ms i new) t + readies old * is_at t i ≡ ready_at ms t + readies new * is_at t i
 ready_set [] i t old new h = cc
 ready_set (m ∷ ms) zero zero old new h = let e : m ≡ old = cc in omega (arith, ap readies e)
 ready_set (m ∷ ms) zero (suc t) old new h = omega arith
 ready_set (m ∷ ms) (suc i) zero old new h = omega arith
 ready_set (m ∷ ms) (suc i) (suc t) old new h = ready_set ms i t old new h
 
-outs_set : (ms : List Mark) (i : ℕ) (old new : Mark) → slice_get ms i ≡ Some old → count_outs (slice_set ms i new) + outs old ≡ count_outs ms + outs new
+pub outs_set : (ms : List Mark) (i : ℕ) (old new : Mark) → slice_get ms i ≡ Some old → count_outs (slice_set ms i new) + outs old ≡ count_outs ms + outs new
 outs_set [] i old new h = cc
 outs_set (m ∷ ms) zero old new h = let e : m ≡ old = cc in omega (arith, ap outs e)
 outs_set (m ∷ ms) (suc i) old new h = omega (arith, outs_set ms i old new h)
 
-pub marks_add : (queue : List Tid) (ms : List Mark) (o : ℕ) (t : Tid) → AreMarks queue ms o → t.0 ≡ length ms → AreMarks (queue ++ t ∷ []) (ms ++ Ready ∷ []) o
-marks_add queue ms o t h e = record {
+pub marks_add : (queue : List Tid) (ms : List Mark) (o : ℕ) (t : Tid) → AreMarks queue ms o → t.0 ≡ length ms → t.0 < 2 ^ 32 → AreMarks (queue ++ t ∷ []) (ms ++ Ready ∷ []) o
+marks_add queue ms o t h e lt = record {
   queued = λ u. omega (arith, count_append u queue (t ∷ []), ready_push ms u, h.queued u, ap (is_at u) e);
   counted = omega (arith, h.counted, outs_push ms);
+  few = omega (arith, e, lt, length-append ms (Ready ∷ []));
 }
 
 pub marks_ready : (queue : List Tid) (ms : List Mark) (o : ℕ) (t : Tid) → AreMarks queue ms o → slice_get ms t.0 ≡ Some Away → AreMarks (queue ++ t ∷ []) (slice_set ms t.0 Ready) o
 marks_ready queue ms o t h e = record {
   queued = λ u. omega (arith, count_append u queue (t ∷ []), ready_set ms t.0 u Away Ready e, h.queued u);
   counted = omega (arith, h.counted, outs_set ms t.0 Away Ready e);
+  few = omega (arith, h.few, length-set ms t.0 Ready);
 }
 
 -- who was ready leaves the queue
@@ -73,6 +75,7 @@ pub marks_left : (queue rest : List Tid) (ms : List Mark) (o : ℕ) (i : ℕ) (n
 marks_left queue rest ms o i new h e not_ready less = record {
   queued = λ u. omega (arith, ready_set ms i u Ready new e, h.queued u, less u, ap (λ n. n * is_at u i) not_ready);
   counted = omega (arith, h.counted, outs_set ms i Ready new e);
+  few = omega (arith, h.few, length-set ms i new);
 }
 
 -- who was out, or away, is away
@@ -81,6 +84,7 @@ pub marks_back : (queue : List Tid) (ms : List Mark) (o o2 : ℕ) (i : ℕ) (old
 marks_back queue ms o o2 i old h e not_ready less = record {
   queued = λ u. omega (arith, ready_set ms i u old Away e, h.queued u, ap (λ n. n * is_at u i) not_ready);
   counted = omega (arith, h.counted, less, outs_set ms i old Away e);
+  few = omega (arith, h.few, length-set ms i Away);
 }
 
 pub ready_is : (ms : List Mark) (t : ℕ) → slice_get ms t ≡ Some Ready → ready_at ms t ≡ 1

@@ -1,42 +1,38 @@
 -- A row that is taken, and a time that moves, lead on.
-use Rattle.std.proofs.Common.{◌≡◌, ◌≢◌, inl, inr, ℕ, zero, suc, ◌+◌, ◌*◌, ◌<◌, ◌≤◌, Bool, true, false, not, ◌&&◌, ◌||◌, nat_eq, List, [], ◌∷◌, ◌++◌, length, map, refl, ap, sym, subst, ◌∙◌, arith, Option, Some, None, Ok, length-append}
-use Rattle.std.specs.Prelude.{slice_get, slice_set, option_map, unwrap_or, ◌↔◌, Contains}
-use Rattle.std.specs.List.{list_any}
-use Rattle.std.specs.Option.{option_map_or}
+use Rattle.std.proofs.Common.{◌≡◌, ◌≢◌, inl, inr, ℕ, ◌+◌, ◌<◌, true, List, [], ◌∷◌, ◌++◌, map, refl, ap, sym, ◌∙◌, arith, Option, Some, None, Ok, Err, length-append}
+use Rattle.std.specs.Prelude.{slice_get, slice_set, option_map}
 use Rattle.std.proofs.lemmas.Bool.{and_parts, and_from}
-use Rattle.std.proofs.lemmas.Bool.Decides.{nat_tests}
 use Rattle.std.proofs.lemmas.Option.{slice_get-map}
+use Rattle.std.proofs.lemmas.List.Elements.{All-push}
 use Rattle.cml_value.specs.declared.number.Tid.{Tid}
-use Rattle.cml_value.specs.Value.{PlainValue, PlainBase, always, send, recv, iget, mtake, mget, mswap, mail_recv, port_recv}
+use Rattle.cml_value.specs.Value.{PlainBase, mtake, mswap, mail_recv, port_recv}
 use Rattle.cml_value.specs.Group.{PlainGroup}
 use Rattle.cml_scan.specs.World.{PlainThread, running, pending_on, ended, PlainWorld}
-use Rattle.cml_scan.specs.Scan.{scan, has_row, same_row}
+use Rattle.cml_scan.specs.Scan.{scan, has_row}
 use Rattle.cml_scan.specs.Enabled.{leaf_of, IsEnabled}
 use Rattle.cml_scan.specs.declared.meet.Meet.{Meet}
 use Rattle.cml_scan.specs.declared.meet.Meet.TheVariants.{Single, Pair}
 use Rattle.cml_check.specs.Syntax.{PlainFunction as PlainItem}
 use Rattle.cml_check.specs.InOrder.{arities}
-use Rattle.cml_step.specs.Agrees.{value_agrees, functions_agree}
-use Rattle.cml_step.specs.Asks.{a_commit}
-use Rattle.cml_step.specs.Answers.{answered}
 use Rattle.cml_step.specs.Calls.{text_of}
 use Rattle.cml_step.specs.Machines.{PlainMachine, machine_term, Fits}
-use Rattle.cml_step.specs.Terms.{Term}
-use Rattle.cml_book.specs.Commit.{commit, hands, after, taken, released, base_awaited, resume}
+use Rattle.cml_step.specs.Terms.{Program}
+use Rattle.cml_book.specs.Commit.{commit, hands, after, taken, base_awaited, resume}
 use Rattle.cml_channel.specs.Handed.{handed}
-use Rattle.cml_book.specs.Clock.{clock}
-use Rattle.cml_book.specs.Entering.{max_tick}
+use Rattle.cml_book.specs.Swaps.{are_swaps}
 use Rattle.cml_book.specs.Resumes.{PlainResume}
 use Rattle.cml_book.specs.declared.command.Committed.{Committed}
+use Rattle.cml_book.specs.declared.refusal.Refusal.{Refusal}
 use Rattle.cml_schedule.specs.declared.item.Item.{Item}
-use Rattle.cml_schedule.specs.declared.item.Item.TheVariants.{Meet as Commit, Clock}
-use Rattle.cml_hub.specs.Runs.{Run, resumed, all_resumed, met, ticked, advance, is_allowed}
-use Rattle.cml_hub.specs.Agreeing.{WorldAgrees, ResumeAgrees, CommittedAgrees}
-use Rattle.cml_hub.specs.Settling.{IsAnswered, Resumes, Resumed, AllResumed, AllResume}
-use Rattle.cml_hub.specs.Courses.{PlainCourse, run_of, MachineStands, MachinesStand, Leads, Adds, IsPending, PartiesWait, parties_run, Meets, Ticks}
-use Rattle.cml_hub.proofs.RowLemmas.{row_there}
+use Rattle.cml_schedule.specs.declared.item.Item.TheVariants.{Turn, Meet as Commit, Exchange, Clock}
+use Rattle.cml_schedule.specs.Laws.{AreNumbers, IsPair, IsWritable}
+use Rattle.cml_hub.specs.Runs.{Run, resumed, all_resumed, met, advance, after_item, is_allowed}
+use Rattle.cml_hub.specs.Agreeing.{WorldAgrees, ResumeAgrees}
+use Rattle.cml_hub.specs.Settling.{Resumes, Resumed, AllResumed, AllResume}
+use Rattle.cml_hub.specs.Courses.{PlainCourse, run_of, MachinesStand, Leads, IsPending, PartiesWait, parties_run, Takes, Meets}
 use Rattle.cml_hub.proofs.Agreement.{after_agrees, hands_agrees}
-use Rattle.cml_hub.proofs.Standing.{map_set, found, found_is, stand_set, leads_on, get_other, get_same}
+use Rattle.cml_hub.proofs.Ticking.{may_come}
+use Rattle.cml_hub.proofs.Standing.{map_set, found, found_is, stand_set, leads_on, get_other}
 
 waits_at : (o : Option PlainThread) (n : ℕ) (b : PlainBase) → leaf_of o n ≡ Some b → (g : PlainGroup) × (o ≡ Some (pending_on g))
 waits_at None n b h = absurd (cc)
@@ -119,30 +115,61 @@ all_after p w ms new (Pair t i o j) h a g r =
     let s = party_after p (slice_set w.threads t.0 running) r.between new (resume w o.0 j (handed (base_awaited w t.0 i))) (partner_stands p w ms r.between t o i j h a g r.head) r.partner in
     (s.0, rw (← q.1) (s.1))
 
+-- The item that takes a row may come only where the row can be taken; it can be written; and it takes the row.
+pub takes_there : (w : PlainWorld) (item : Item) (row : Meet) → Takes item row → is_allowed w item ≡ true → has_row (scan w) row ≡ true
+takes_there w (Turn t) row h ok = absurd h
+takes_there w (Commit taken) row h ok = rw (← h) ok
+takes_there w (Exchange taken) row h ok = rw (← h) ((and_parts (has_row (scan w) taken) (are_swaps w taken) ok).0)
+takes_there w (Clock tick) row h ok = absurd h
+
+swaps_pair : (w : PlainWorld) (row : Meet) → are_swaps w row ≡ true → IsPair row
+swaps_pair w (Single t n) h = absurd (cc)
+swaps_pair w (Pair a i o j) h = tt
+
+takes_writable : (w : PlainWorld) (item : Item) (row : Meet) → Takes item row → is_allowed w item ≡ true → AreNumbers row → IsWritable item
+takes_writable w (Turn t) row h ok n = absurd h
+takes_writable w (Commit taken) row h ok n = rw h n
+takes_writable w (Exchange taken) row h ok n = (rw h n, swaps_pair w taken (and_parts (has_row (scan w) taken) (are_swaps w taken) ok).1)
+takes_writable w (Clock tick) row h ok n = absurd h
+
+after_takes : (p : Program) (r : Run) (item : Item) (row : Meet) → Takes item row → after_item p r item ≡ Some (met p r row)
+after_takes p r (Turn t) row h = absurd h
+after_takes p r (Commit taken) row h = rw h refl
+after_takes p r (Exchange taken) row h = rw h refl
+after_takes p r (Clock tick) row h = absurd h
+
+-- the item takes the row, and may come; the parties of the row wait, and its numbers are in their ranges
+pub record MayTake (w : PlainWorld) (item : Item) (row : Meet) : Type 0 where
+  pub takes : Takes item row
+  pub allowed : is_allowed w item ≡ true
+  pub parties : PartiesWait w row
+  pub numbers : AreNumbers row
+
 -- the course after a row
-abbrev pub course_met : PlainCourse → Meet → List PlainMachine → PlainCourse
-course_met c row ms = record c { items = c.items ++ Commit row ∷ []; world = after c.world row; machines = ms; used = c.used + 1 }
+abbrev pub course_met : PlainCourse → Item → Meet → List PlainMachine → PlainCourse
+course_met c item row ms = record c { items = c.items ++ item ∷ []; world = after c.world row; machines = ms; used = c.used + 1 }
 
-met_is : (c : PlainCourse) (row : Meet) (ms : List PlainMachine) → Leads c → has_row (scan c.world) row ≡ true → PartiesWait c.world row → AllResumed c.machines (hands c.world row) ms
-    → advance (text_of c.program) (run_of c) (Commit row) ≡ Some (run_of (course_met c row ms))
-met_is c row ms h has g r =
-    let q = all_after c.program c.world c.machines ms row h.machines h.agrees g r in
-    rw (has, q.1) refl
+met_is : (c : PlainCourse) (item : Item) (row : Meet) (ms : List PlainMachine) → Leads c → MayTake c.world item row → AllResumed c.machines (hands c.world row) ms
+    → advance (text_of c.program) (run_of c) item ≡ Some (run_of (course_met c item row ms))
+met_is c item row ms h g r =
+    let q = all_after c.program c.world c.machines ms row h.machines h.agrees g.parties r in
+    rw (g.allowed, after_takes (text_of c.program) (run_of c) item row g.takes, q.1) refl
 
-pub met_leads : (c : PlainCourse) (row : Meet) (ms : List PlainMachine) → Leads c → has_row (scan c.world) row ≡ true → PartiesWait c.world row → AllResumed c.machines (hands c.world row) ms → Leads (course_met c row ms)
-met_leads c row ms h has g r =
-    let q = all_after c.program c.world c.machines ms row h.machines h.agrees g r in
+pub met_leads : (c : PlainCourse) (item : Item) (row : Meet) (ms : List PlainMachine) → Leads c → MayTake c.world item row → AllResumed c.machines (hands c.world row) ms → Leads (course_met c item row ms)
+met_leads c item row ms h g r =
+    let q = all_after c.program c.world c.machines ms row h.machines h.agrees g.parties r in
     record {
-      leads = leads_on (text_of c.program) c.items (Commit row) (run_of c) _ h.leads (met_is c row ms h has g r);
+      leads = leads_on (text_of c.program) c.items item (run_of c) _ h.leads (met_is c item row ms h g r);
       machines = rw (after_threads c.world row) (q.0);
       agrees = after_agrees (arities c.program) c.world row h.agrees;
-      spent = omega (arith, h.spent, length-append c.items (Commit row ∷ []));
+      spent = omega (arith, h.spent, length-append c.items (item ∷ []));
+      writable = All-push IsWritable c.items item h.writable (takes_writable c.world item row g.takes g.allowed g.numbers);
     }
 
-pub met_so : (c : PlainCourse) (row : Meet) (ms : List PlainMachine) → Leads c → has_row (scan c.world) row ≡ true → PartiesWait c.world row → AllResumed c.machines (hands c.world row) ms → Meets c row (course_met c row ms)
-met_so c row ms h has g r = record {
-  adds = record { program = refl; items = refl; run = met_is c row ms h has g r };
-  parties = g;
+pub met_so : (c : PlainCourse) (item : Item) (row : Meet) (ms : List PlainMachine) → Leads c → MayTake c.world item row → AllResumed c.machines (hands c.world row) ms → Meets c item row (course_met c item row ms)
+met_so c item row ms h g r = record {
+  adds = record { program = refl; items = refl; run = met_is c item row ms h g r };
+  parties = g.parties;
   threads = after_threads c.world row;
   used = omega arith;
 }
@@ -152,6 +179,9 @@ committed_is w new row c e has =
     let f = rw has at e in
     let g : (after w row, hands w row) ≡ (new, c) = cc in
     (ap (λ (p : PlainWorld × Committed). p.0) (sym g), ap (λ (p : PlainWorld × Committed). p.1) (sym g))
+
+pub commit_refused : (w : PlainWorld) (row : Meet) (why : Refusal) → commit w row ≡ Err why → has_row (scan w) row ≡ true → ⊥
+commit_refused w row why e has = let f = rw has at e in cc
 
 -- the time moves
 abbrev pub course_ticked : PlainCourse → ℕ → PlainCourse
@@ -163,11 +193,5 @@ ticked_leads c tick h ok = record {
   machines = h.machines;
   agrees = record { threads = h.agrees.threads; soon = h.agrees.soon; ivars = h.agrees.ivars; mvars = h.agrees.mvars; mailboxes = h.agrees.mailboxes; ports = h.agrees.ports };
   spent = omega (arith, h.spent, length-append c.items (Clock tick ∷ []));
-}
-
-pub ticked_so : (c : PlainCourse) (tick : ℕ) → is_allowed c.world (Clock tick) ≡ true → Ticks c tick (course_ticked c tick)
-ticked_so c tick ok = record {
-  adds = record { program = refl; items = refl; run = rw ok refl };
-  threads = refl;
-  used = omega arith;
+  writable = All-push IsWritable c.items (Clock tick) h.writable (let may = may_come c.world tick ok h.agrees.soon in omega (arith, may.1));
 }

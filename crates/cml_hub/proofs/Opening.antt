@@ -1,16 +1,16 @@
 -- A course at its beginning.
-use Rattle.std.proofs.Common.{◌≡◌, ℕ, List, [], ◌∷◌, map, refl, ap, sym, ◌∙◌, subst, Option, Some, arith}
+use Rattle.std.proofs.Common.{◌≡◌, ℕ, List, [], ◌∷◌, map, refl, ap, sym, ◌∙◌, Some, Ok}
 use Rattle.std.specs.Prelude.{codes, unwrap_or}
-use Rattle.cml_value.specs.Value.{function, no_values}
-use Rattle.cml_scan.specs.World.{PlainWorld, running}
+use Rattle.cml_value.specs.declared.number.Tid.{Tid}
+use Rattle.cml_scan.specs.World.{PlainWorld}
+use Rattle.cml_book.specs.Spawn.{spawn}
+use Rattle.cml_book.specs.Step.{empty_world}
+use Rattle.cml_step.specs.Terms.{Program}
 use Rattle.cml_check.specs.Heads.{numbered}
-use Rattle.cml_check.specs.InOrder.{arities, names_of}
-use Rattle.cml_check.specs.Syntax.{PlainFunction as PlainItem, written}
+use Rattle.cml_check.specs.InOrder.{names_of}
+use Rattle.cml_check.specs.Syntax.{PlainFunction as PlainItem}
 use Rattle.cml_step.specs.Calls.{text_of}
-use Rattle.cml_step.specs.Machines.{PlainMachine, machine_term}
-use Rattle.cml_hub.specs.Runs.{Run, main_of, opening}
-use Rattle.cml_hub.specs.Agreeing.{WorldAgrees}
-use Rattle.cml_hub.specs.Courses.{PlainCourse, run_of, MachinesStand, IsOpening, Leads, Begins}
+use Rattle.cml_hub.specs.Runs.{main_of, opening}
 
 names_written : (p : List (PlainItem ℕ)) → map (λ f. f.name) (text_of p) ≡ names_of p
 names_written [] = refl
@@ -20,16 +20,9 @@ names_written (f ∷ p) = ap (λ names. f.name ∷ names) (names_written p)
 pub main_is : (p : List (PlainItem ℕ)) (n : ℕ) → numbered (names_of p) (codes "main") ≡ Some n → main_of (text_of p) ≡ n
 main_is p n h = ap (λ names. unwrap_or (numbered names (codes "main")) 0) (names_written p) ∙ ap (λ o. unwrap_or o 0) h
 
-abbrev pub course_begun : List (PlainItem ℕ) → List PlainMachine → PlainWorld → PlainCourse
-course_begun p ms w = record { program = p; items = []; world = w; machines = ms; output = []; used = 0 }
-
-pub opening_leads : (p : List (PlainItem ℕ)) (ms : List PlainMachine) (w : PlainWorld) → IsOpening p ms w → Leads (course_begun p ms w)
-opening_leads p ms w h = record {
-  leads = rw (h.alone, h.world, h.term) refl;
-  machines = rw (h.alone, h.world) (h.zeroth, h.stands, tt);
-  agrees = rw (h.world) (record { threads = (refl, tt); soon = (refl, tt); ivars = tt; mvars = tt; mailboxes = tt; ports = tt });
-  spent = omega arith;
-}
-
-pub opening_begins : (p : List (PlainItem ℕ)) (ms : List PlainMachine) (w : PlainWorld) → IsOpening p ms w → Begins p (course_begun p ms w)
-opening_begins p ms w h = record { program = refl; items = refl; threads = ap (λ (x : PlainWorld). x.threads) h.world }
+-- the first thread of an empty world
+pub spawned_first : (p : Program) (empty new : PlainWorld) (t : Tid) → empty ≡ empty_world → spawn empty ≡ Ok (new, t) → new ≡ (opening p).world
+spawned_first p empty new t none e =
+    let f = rw none at e in
+    let g : ((opening p).world, record { 0 = 0 }) ≡ (new, t) = cc in
+    ap (λ (x : PlainWorld × Tid). x.0) (sym g)

@@ -1,8 +1,8 @@
 -- What an ask does to the threads, and that the world agrees with the program still.
-use Rattle.std.proofs.Common.{◌≡◌, ℕ, zero, suc, ◌+◌, Bool, true, false, not, nat_lt, nat_le, List, [], ◌∷◌, ◌++◌, length, map, refl, ap, sym, ◌∙◌, Option, Some, None, Ok, Err}
+use Rattle.std.proofs.Common.{◌≡◌, ℕ, zero, suc, ◌+◌, Bool, true, false, not, nat_lt, nat_le, List, [], ◌∷◌, ◌++◌, length, map, refl, ◌∙◌, Option, Some, None, Ok}
 use Rattle.std.specs.Prelude.{slice_get, slice_set, unwrap_or}
 use Rattle.std.specs.List.{list_any}
-use Rattle.cml_value.specs.Value.{PlainValue, unit, int, chan, swapchan, ivar, mvar, mailbox, mchan, port, PlainFunction}
+use Rattle.cml_value.specs.Value.{PlainValue, unit, chan, swapchan, ivar, mvar, mailbox, mchan, port}
 use Rattle.cml_value.specs.Group.{PlainGroup, bases, group_fits, leaf_count, scopes, nacks_of}
 use Rattle.cml_value.specs.Limits.{value_fits}
 use Rattle.cml_group.specs.Force.{event_of}
@@ -12,21 +12,21 @@ use Rattle.cml_scan.specs.Light.{is_full}
 use Rattle.cml_scan.specs.Order.{Every}
 use Rattle.cml_queues.specs.Queues.{is_full_at, added_at}
 use Rattle.cml_queues.specs.Posts.{any_is_full, posted}
-use Rattle.cml_step.specs.Agrees.{value_agrees, function_agrees, event_agrees, all_agree, maybe_agrees, ask_agrees}
+use Rattle.cml_step.specs.Agrees.{event_agrees, all_agree, maybe_agrees, ask_agrees}
 use Rattle.cml_step.specs.Asks as ask
 use Rattle.cml_step.specs.Asks.{PlainAsk, a_value, a_nack}
 use Rattle.cml_step.specs.Faults.{fault_name}
 use Rattle.cml_book.specs.declared.refusal.Refusal.{Refusal}
 use Rattle.cml_book.specs.declared.refusal.Refusal.TheVariants as refusal
 use Rattle.cml_book.specs.Refusals.{name_of}
-use Rattle.cml_book.specs.Outcomes.{Outcome, refuse_if, refuse_by, first_if, first_of_both, thread_refusal, with_thread, max_threads, max_objects}
+use Rattle.cml_book.specs.Outcomes.{refuse_if, refuse_by, first_if, first_of_both, thread_refusal, with_thread, max_threads, max_objects}
 use Rattle.cml_book.specs.MakeObjects.{held_fits}
 use Rattle.cml_book.specs.MakePort.{ports_at, with_port, heard_by}
 use Rattle.cml_book.specs.Sync.{sync_refusal, waiting, group_exists, can_enter}
 use Rattle.cml_book.specs.Entering.{entered, is_far}
-use Rattle.cml_hub.specs.Performed.{PlainDone, goes, gets, begets, prints, waits, ends, fails, done, or_fails, performed}
+use Rattle.cml_hub.specs.Performed.{PlainDone, gets, begets, waits, ends, fails, done, or_fails, performed}
 use Rattle.cml_hub.specs.Agreeing.{thread_agrees, waits_soon, WorldAgrees}
-use Rattle.cml_hub.proofs.Agreement.{every_set, every_get, every_append, entered_agrees, added_agrees, posted_agrees}
+use Rattle.cml_hub.proofs.Agreement.{every_set, every_append, entered_agrees, added_agrees, posted_agrees}
 use Rattle.cml_hub.proofs.Soon.{entered_soon}
 
 -- the threads, once this became of thread t

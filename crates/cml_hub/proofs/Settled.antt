@@ -1,5 +1,5 @@
 -- Machines after a turn and after a row.
-use Rattle.std.proofs.Common.{◌≡◌, ℕ, List, [], ◌++◌, refl, sym, ap, ◌∙◌, Option, Some, None, append-nil}
+use Rattle.std.proofs.Common.{◌≡◌, ℕ, List, ◌++◌, sym, ap, ◌∙◌, Option, None, append-nil}
 use Rattle.std.specs.Prelude.{slice_set}
 use Rattle.std.specs.Option.{option_to_list}
 use Rattle.cml_step.specs.Machines.{PlainMachine}

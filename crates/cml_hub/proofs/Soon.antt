@@ -1,17 +1,15 @@
 -- No thread waits for a tick above the greatest, so the time can move to each alarm.
-use Rattle.std.proofs.Common.{◌≡◌, ◌≢◌, ℕ, zero, suc, ◌+◌, ◌<◌, ◌≤◌, ◌^◌, Bool, true, false, not, ◌||◌, nat_lt, nat_le, List, [], ◌∷◌, ◌++◌, length, map, refl, ap, sym, ◌∙◌, arith, Option, Some, None, slice_index_or, inl, inr}
-use Rattle.std.specs.Prelude.{Contains, min}
-use Rattle.std.specs.List.{list_any, filter_map, flat_map}
-use Rattle.std.specs.Option.{option_map_or}
+use Rattle.std.proofs.Common.{◌≡◌, ℕ, zero, suc, ◌+◌, ◌<◌, ◌≤◌, Bool, true, false, not, ◌||◌, nat_lt, List, [], ◌∷◌, ◌++◌, length, map, refl, ap, sym, ◌∙◌, arith, slice_index_or, inl, inr}
+use Rattle.std.specs.Prelude.{Contains}
+use Rattle.std.specs.List.{list_any}
 use Rattle.std.proofs.lemmas.Bool.Decides.{nat_tests}
-use Rattle.std.proofs.lemmas.List.Elements.{Contains-append_cases, Contains-append_left, Contains-append_right}
-use Rattle.cml_value.specs.Value.{PlainBase, always, send, recv, iget, mtake, mget, mswap, mail_recv, port_recv, join, at_tick, after_ticks, nack}
+use Rattle.std.proofs.lemmas.List.Elements.{Contains-append_cases}
+use Rattle.cml_value.specs.Value.{PlainBase, at_tick, after_ticks}
 use Rattle.cml_value.specs.Group.{PlainGroup, never, leaf, choose, wrap, scope, PlainGroups, no_groups, groups_and, PlainLeaf, wrapped_by, leaves, leaves_of_all, bases}
-use Rattle.cml_scan.specs.World.{PlainThread, running, pending_on, ended, PlainWorld, PlainEntry, pending_from, pending}
+use Rattle.cml_scan.specs.World.{PlainThread, running, pending_on, ended, pending_from}
 use Rattle.cml_scan.specs.Order.{Every}
-use Rattle.cml_book.specs.Clock.{bases_awaited, IsAlarm}
+use Rattle.cml_book.specs.Clock.{bases_awaited}
 use Rattle.cml_book.specs.Entering.{entered, entered_all, entered_base, is_far, max_tick}
-use Rattle.cml_hub.specs.Runs.{tick_to_come, least, next_alarm}
 use Rattle.cml_hub.specs.Agreeing.{waits_soon}
 
 -- the leaves of a list, whose bases

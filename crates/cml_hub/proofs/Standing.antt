@@ -1,7 +1,7 @@
 -- Machines stand as their threads do, whatever changes.
-use Rattle.std.proofs.Common.{◌≡◌, ◌≢◌, ℕ, zero, suc, ◌+◌, ◌<◌, ◌≤◌, Bool, true, false, List, [], ◌∷◌, ◌++◌, length, map, refl, ap, sym, subst, ◌∙◌, arith, Option, Some, None}
+use Rattle.std.proofs.Common.{◌≡◌, ◌≢◌, ℕ, zero, suc, ◌+◌, List, [], ◌∷◌, ◌++◌, length, map, refl, ap, sym, subst, ◌∙◌, arith, Option, Some}
 use Rattle.std.specs.Prelude.{slice_get, slice_set, option_and_then}
-use Rattle.cml_scan.specs.World.{PlainThread, running, pending_on, ended}
+use Rattle.cml_scan.specs.World.{PlainThread}
 use Rattle.cml_check.specs.Syntax.{PlainFunction as PlainItem}
 use Rattle.cml_step.specs.Machines.{PlainMachine}
 use Rattle.cml_step.specs.Terms.{Program}
@@ -34,11 +34,6 @@ get_other (y ∷ xs) zero zero x h = absurd (h refl)
 get_other (y ∷ xs) zero (suc j) x h = refl
 get_other (y ∷ xs) (suc i) zero x h = refl
 get_other (y ∷ xs) (suc i) (suc j) x h = get_other xs i j x (λ e. h (ap suc e))
-
-pub get_same : {X : Type 0} (xs : List X) (i : ℕ) (x y : X) → slice_get xs i ≡ Some y → slice_get (slice_set xs i x) i ≡ Some x
-get_same [] i x y h = absurd (cc)
-get_same (z ∷ xs) zero x y h = refl
-get_same (z ∷ xs) (suc i) x y h = get_same xs i x y h
 
 -- the machine of a thread that is there
 pub record Found (p : List (PlainItem ℕ)) (k i : ℕ) (t : PlainThread) (ms : List PlainMachine) : Type 0 where

@@ -1,29 +1,28 @@
 -- A turn of a thread leads on.
-use Rattle.std.proofs.Common.{◌≡◌, ℕ, zero, suc, ◌+◌, ◌*◌, ◌<◌, ◌≤◌, Bool, true, false, List, [], ◌∷◌, ◌++◌, length, map, refl, ap, sym, subst, ◌∙◌, arith, Option, Some, None, append-nil, length-append}
+use Rattle.std.proofs.Common.{◌≡◌, ℕ, ◌+◌, List, [], ◌∷◌, ◌++◌, map, refl, ap, subst, ◌∙◌, arith, Some, append-nil, length-append}
 use Rattle.std.specs.Prelude.{slice_get, slice_set, option_map}
+use Rattle.std.proofs.lemmas.List.Elements.{All-push}
 use Rattle.std.proofs.lemmas.Option.{slice_get-map}
 use Rattle.cml_value.specs.declared.number.Tid.{Tid}
-use Rattle.cml_value.specs.Value.{thread, unit}
 use Rattle.cml_scan.specs.World.{PlainThread, running, pending_on, ended, PlainWorld}
 use Rattle.cml_check.specs.Syntax.{PlainFunction as PlainItem}
 use Rattle.cml_check.specs.InOrder.{arities}
 use Rattle.cml_step.specs.Answers.{awaited, answer_to}
-use Rattle.cml_step.specs.AnswerViews.{Awaits}
-use Rattle.cml_step.specs.Asks.{PlainAsk, a_value}
+use Rattle.cml_step.specs.Asks.{PlainAsk}
 use Rattle.cml_step.specs.Calls.{text_of}
 use Rattle.cml_step.specs.Machines.{PlainMachine, machine_term, Fits}
 use Rattle.cml_step.specs.Rans.{PlainRan, IsSlice}
-use Rattle.cml_step.specs.Slices.{PlainSlice, sliced}
+use Rattle.cml_step.specs.Slices.{sliced}
 use Rattle.cml_schedule.specs.declared.item.Item.{Item}
 use Rattle.cml_schedule.specs.declared.item.Item.TheVariants.{Turn}
+use Rattle.cml_schedule.specs.Laws.{IsNumber, IsWritable}
 use Rattle.cml_hub.specs.declared.done.Done.{Done}
 use Rattle.cml_hub.specs.declared.done.Done.TheVariants.{Goes, Gets, Takes, Begets, Prints, Waits, Ends, Fails}
-use Rattle.cml_hub.specs.Performed.{PlainDone, performed}
-use Rattle.cml_hub.specs.Runs.{Run, term_after, begun, told, after_slice, turned_by, turned, advance}
-use Rattle.cml_hub.specs.Agreeing.{WorldAgrees}
+use Rattle.cml_hub.specs.Performed.{performed}
+use Rattle.cml_hub.specs.Runs.{term_after, begun, told, advance}
 use Rattle.cml_hub.specs.Dones.{plain_done, DoneFits, CanSettle, Settles, children, gone, ThreadsAfter, GoesOn}
 use Rattle.cml_hub.specs.Settling.{AllSettled}
-use Rattle.cml_hub.specs.Courses.{PlainCourse, run_of, MachineStands, MachinesStand, Leads, Adds, Turns}
+use Rattle.cml_hub.specs.Courses.{PlainCourse, run_of, MachineStands, MachinesStand, Leads, Turns}
 use Rattle.cml_hub.proofs.Standing.{map_set, map_append, set_same, found_is, stand_set, stand_push, leads_on}
 use Rattle.cml_hub.proofs.Performing.{ThreadsDone, Performs, performs}
 
@@ -124,9 +123,9 @@ turn_is c number start end a steps d w line ms h g =
     let at : slice_get (map f c.machines) number.0 ≡ Some (f start) = slice_get-map f c.machines number.0 ∙ ap (option_map f) g.at in
     rw (g.runs, at, slice, g.done, g.tells, ← terms_settled c.program number.0 a end g.settled.machine d c.machines ms s g.fits g.settled.is) refl
 
-pub turned_leads : (c : PlainCourse) (number : Tid) (start end : PlainMachine) (a : PlainAsk) (steps : ℕ) (d : Done) (w : PlainWorld) (line : List ℕ) (ms : List PlainMachine) → Leads c → TurnDone c number start end a steps d w line ms
+pub turned_leads : (c : PlainCourse) (number : Tid) (start end : PlainMachine) (a : PlainAsk) (steps : ℕ) (d : Done) (w : PlainWorld) (line : List ℕ) (ms : List PlainMachine) → Leads c → IsNumber number.0 → TurnDone c number start end a steps d w line ms
     → Leads (course_turned c number steps w line ms)
-turned_leads c number start end a steps d w line ms h g =
+turned_leads c number start end a steps d w line ms h n g =
     let s = g.settled.settled c.program a g.slice.fits g.slice.awaits g.fits in
     let q : Performs (arities c.program) c.world number.0 (w, plain_done a d) = rw (g.done) at (performs (arities c.program) c.world number.0 a h.agrees g.slice.agrees) in
     let same : start.thread ≡ number.0 = (found_is c.program 0 number.0 c.world.threads c.machines running start h.machines g.runs g.at).0 ∙ omega arith in
@@ -135,6 +134,7 @@ turned_leads c number start end a steps d w line ms h g =
       machines = rw (g.settled.is) (stands_after c.program number.0 a end g.settled.machine d c.world.threads w.threads c.machines h.machines g.runs (s.thread ∙ g.slice.thread ∙ same) s g.fits q.threads);
       agrees = q.agrees;
       spent = omega (arith, h.spent, g.slice.few, length-append c.items (Turn number ∷ []));
+      writable = All-push IsWritable c.items (Turn number) h.writable n;
     }
 
 pub turned_is : (c : PlainCourse) (number : Tid) (start end : PlainMachine) (a : PlainAsk) (steps : ℕ) (d : Done) (w : PlainWorld) (line : List ℕ) (ms : List PlainMachine) → Leads c → TurnDone c number start end a steps d w line ms
@@ -146,3 +146,26 @@ turned_is c number start end a steps d w line ms h g =
       threads = threads_after number.0 a d c.world.threads w.threads q.threads;
       used = omega (arith, g.slice.some);
     }
+
+-- a slice of this very program
+pub slice_here : (p : List (PlainItem ℕ)) (ran : PlainRan) → ran.program ≡ p → IsSlice ran → IsSlice (record { program = p; start = ran.start; end = ran.end; ask = ran.ask; steps = ran.steps })
+slice_here p ran e h = record {
+  meant = rw (← e) h.meant;
+  some = h.some;
+  few = h.few;
+  thread = h.thread;
+  fits = rw (← e) h.fits;
+  awaits = rw (← e) h.awaits;
+  agrees = rw (← e) h.agrees;
+}
+
+-- the same of a course that is made of what the code's steps give
+module _ (c : PlainCourse) (number : Tid) (start end : PlainMachine) (a : PlainAsk) (steps : ℕ) (d : Done) (w : PlainWorld) (line : List ℕ) (ms : List PlainMachine) (items : List Item) (output : List ℕ) (used : ℕ)
+    (is_items : items ≡ c.items ++ Turn number ∷ []) (is_output : output ≡ c.output ++ line) (is_used : used ≡ c.used + steps) where
+  pub turned_leads_at : Leads c → IsNumber number.0 → TurnDone c number start end a steps d w line ms
+      → Leads (record { program = c.program; items = items; world = w; machines = ms; output = output; used = used })
+  turned_leads_at h n g = rw (is_items, is_output, is_used) (turned_leads c number start end a steps d w line ms h n g)
+
+  pub turned_is_at : Leads c → TurnDone c number start end a steps d w line ms
+      → Turns c number (gone d) (record { program = c.program; items = items; world = w; machines = ms; output = output; used = used })
+  turned_is_at h g = rw (is_items, is_output, is_used) (turned_is c number start end a steps d w line ms h g)

@@ -1,6 +1,6 @@
 -- The world agrees with a program: each function captured in an event in it takes as many values as its place asks, and no thread waits for
 -- a tick above the greatest. So what a row hands its parties agrees with the program, and the time can move to each alarm.
-use Rattle.std.specs.Prelude.{ℕ, ◌≡◌, Bool, true, false, not, List, Option, Some, None}
+use Rattle.std.specs.Prelude.{ℕ, ◌≡◌, Bool, true, not, List, Option, Some, None}
 use Rattle.std.specs.List.{list_any}
 use Rattle.cml_value.specs.Group.{bases}
 use Rattle.cml_group.specs.Force.{event_of}

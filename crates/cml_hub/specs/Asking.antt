@@ -1,18 +1,16 @@
 -- How what a thread asks is done over a book.
-use Rattle.std.specs.Prelude.{◌≡◌, ℕ, ◌+◌, ◌≤◌, List, length, Result, Ok, Err}
-use Rattle.std.specs.String.{string_bytes, string_len, string_capacity}
-use Rattle.std.specs.declared.alloc.AllocError.{AllocError}
-use Rattle.cml_value.specs.Value.{PlainValue, unit}
-use Rattle.cml_scan.specs.World.{PlainWorld, ended}
+use Rattle.std.specs.Prelude.{◌≡◌, ℕ, List, Result, Ok, Err}
+use Rattle.std.specs.String.{string_bytes}
+use Rattle.cml_scan.specs.World.{PlainWorld}
 use Rattle.cml_step.specs.Asks.{PlainAsk}
 use Rattle.cml_check.specs.Syntax.{PlainFunction as PlainItem}
 use Rattle.cml_step.specs.Machines.{PlainMachine}
-use Rattle.cml_book.specs.Outcomes.{Outcome, with_thread}
+use Rattle.cml_book.specs.Outcomes.{Outcome}
 use Rattle.cml_book.specs.declared.refusal.Fault.{Fault}
 use Rattle.cml_book.specs.declared.refusal.Fault.TheVariants.{Refused, Memory}
 use Rattle.cml_hub.specs.declared.done.Done.{Done}
 use Rattle.cml_hub.specs.declared.done.Prepared.{Prepared}
-use Rattle.cml_hub.specs.Performed.{PlainDone, asked, performed, fails}
+use Rattle.cml_hub.specs.Performed.{PlainDone, performed}
 use Rattle.cml_hub.specs.Runs.{told}
 use Rattle.cml_hub.specs.Dones.{plain_done, told_ahead, DoneFits}
 

@@ -1,5 +1,6 @@
 -- A program's course: the schedule so far, and where it has led.
-use Rattle.std.specs.Prelude.{ℕ, suc, ◌≡◌, ◌≢◌, ◌+◌, ◌*◌, ◌<◌, ◌≤◌, List, [], ◌∷◌, ◌++◌, length, map, Option, Some, None, slice_get, slice_set}
+use Rattle.std.specs.Prelude.{ℕ, suc, ◌≡◌, ◌≢◌, ◌*◌, ◌<◌, ◌≤◌, List, [], ◌∷◌, ◌++◌, length, map, Some, slice_get, slice_set}
+use Rattle.std.specs.List.{All}
 use Rattle.cml_scan.specs.World.{PlainThread, running, pending_on, ended, PlainWorld}
 use Rattle.cml_scan.specs.declared.meet.Meet.{Meet}
 use Rattle.cml_scan.specs.declared.meet.Meet.TheVariants.{Single, Pair}
@@ -12,7 +13,8 @@ use Rattle.cml_value.specs.Value.{function, no_values}
 use Rattle.cml_step.specs.Machines.{PlainMachine, machine_term}
 use Rattle.cml_step.specs.Rans.{PlainRan}
 use Rattle.cml_schedule.specs.declared.item.Item.{Item}
-use Rattle.cml_schedule.specs.declared.item.Item.TheVariants.{Turn, Meet as Commit, Clock}
+use Rattle.cml_schedule.specs.declared.item.Item.TheVariants.{Turn, Meet as Commit, Exchange, Clock}
+use Rattle.cml_schedule.specs.Laws.{IsWritable}
 use Rattle.cml_hub.specs.Runs.{Run, main_of, opening, stands, advance}
 use Rattle.cml_hub.specs.Agreeing.{WorldAgrees}
 use Rattle.cml_value.specs.declared.number.Tid.{Tid}
@@ -46,12 +48,13 @@ MachinesStand p k (t ∷ ts) [] = ⊥
 MachinesStand p k (t ∷ ts) (m ∷ ms) = (m.thread ≡ k) × MachineStands p t m × MachinesStand p (suc k) ts ms
 
 -- What holds of every course: the schedule leads to where it stands; each machine can go on, or waits for its commit, as its thread does;
--- and the world agrees with the program.
+-- the world agrees with the program; a turn takes at most 1,000 of the budget; and each item can be written.
 pub record Leads (c : PlainCourse) : Type 0 where
   pub leads : stands (text_of c.program) c.items ≡ Some (run_of c)
   pub machines : MachinesStand c.program 0 c.world.threads c.machines
   pub agrees : WorldAgrees (arities c.program) c.world
   pub spent : c.used ≤ 1000 * length c.items
+  pub writable : All IsWritable c.items
 
 -- what a course begins with: thread 0 runs, and its machine is about to call `main`
 pub record IsOpening (p : List (PlainItem ℕ)) (machines : List PlainMachine) (w : PlainWorld) : Type 0 where
@@ -103,9 +106,15 @@ pub record Turns (old : PlainCourse) (thread : Tid) (gone : Gone) (new : PlainCo
   pub threads : ThreadsAfter thread.0 gone old.world.threads new.world.threads
   pub used : old.used < new.used
 
--- the row was taken
-pub record Meets (old : PlainCourse) (row : Meet) (new : PlainCourse) : Type 0 where
-  pub adds : Adds old (Commit row) new
+-- the item takes the row: as any row, or as an exchange
+abbrev pub Takes : Item → Meet → Type 0
+Takes (Commit taken) row = taken ≡ row
+Takes (Exchange taken) row = taken ≡ row
+Takes _ row = ⊥
+
+-- the row was taken, by this item
+pub record Meets (old : PlainCourse) (item : Item) (row : Meet) (new : PlainCourse) : Type 0 where
+  pub adds : Adds old item new
   pub parties : PartiesWait old.world row
   pub threads : new.world.threads ≡ parties_run row old.world.threads
   pub used : old.used < new.used

@@ -1,12 +1,12 @@
 -- What the code holds of an ask that was done.
-use Rattle.std.specs.Prelude.{◌≡◌, ℕ, true, false, List, [], ◌∷◌, ◌++◌, length, slice_set, Some, None}
+use Rattle.std.specs.Prelude.{◌≡◌, ℕ, true, false, List, [], ◌∷◌, ◌++◌, length, slice_set}
 use Rattle.cml_text.specs.Lines.{line}
 use Rattle.cml_value.specs.Value.{PlainValue, unit, thread, PlainFunction, function, no_values}
 use Rattle.cml_scan.specs.World.{PlainThread, running}
 use Rattle.cml_check.specs.Syntax.{PlainFunction as PlainItem}
 use Rattle.cml_check.specs.InOrder.{arities}
 use Rattle.cml_step.specs.Agrees.{value_agrees}
-use Rattle.cml_step.specs.Answers.{PlainAwait, nothing, value, nack, commit, awaited, answer_to}
+use Rattle.cml_step.specs.Answers.{nothing, value, nack, commit, awaited, answer_to}
 use Rattle.cml_step.specs.AnswerViews.{Awaits}
 use Rattle.cml_step.specs.Asks as ask
 use Rattle.cml_step.specs.Asks.{PlainAsk, a_value, a_nack}

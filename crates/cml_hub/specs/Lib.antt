@@ -9,3 +9,7 @@ pub mod Courses
 pub mod CourseCodes
 pub mod Marks
 pub mod MarkCodes
+pub mod Reports
+pub mod Kept
+pub mod KeptCodes
+pub mod Moves

@@ -1,5 +1,5 @@
 -- Where each thread of a hub is, and the queue of those that are ready.
-use Rattle.std.specs.Prelude.{ℕ, zero, suc, ◌≡◌, ◌+◌, Bool, true, false, List, [], ◌∷◌}
+use Rattle.std.specs.Prelude.{ℕ, zero, suc, ◌≡◌, ◌+◌, ◌^◌, ◌≤◌, Bool, true, false, List, [], ◌∷◌, length}
 use Rattle.cml_value.specs.declared.number.Tid.{Tid}
 use Rattle.cml_hub.specs.declared.marks.Mark.{Mark}
 use Rattle.cml_hub.specs.declared.marks.Mark.TheVariants as mark
@@ -58,7 +58,8 @@ abbrev pub count_outs : List Mark → ℕ
 count_outs [] = 0
 count_outs (m ∷ ms) = outs m + count_outs ms
 
--- just those that are ready stand in the queue, once each; those that are out are counted
+-- just those that are ready stand in the queue, once each; those that are out are counted; and each has a number
 pub record AreMarks (queue : List Tid) (marks : List Mark) (out : ℕ) : Type 0 where
   pub queued : (t : ℕ) → count_of t queue ≡ ready_at marks t
   pub counted : out ≡ count_outs marks
+  pub few : length marks ≤ 2 ^ 32

@@ -1,7 +1,7 @@
 -- What an ask of a thread does to the world, and what becomes of the thread.
-use Rattle.std.specs.Prelude.{ℕ, pos, List, Ok, Err, codes}
+use Rattle.std.specs.Prelude.{ℕ, pos, List, Ok, Err}
 use Rattle.cml_text.specs.Lines.{line}
-use Rattle.cml_value.specs.Value.{PlainValue, unit, int, text, thread, chan, swapchan, ivar, mvar, mailbox, mchan, port, PlainFunction}
+use Rattle.cml_value.specs.Value.{PlainValue, unit, int, text, chan, swapchan, ivar, mvar, mailbox, mchan, port, PlainFunction}
 use Rattle.cml_value.specs.Show.{shown}
 use Rattle.cml_scan.specs.World.{PlainWorld, ended}
 use Rattle.cml_step.specs.Asks as ask

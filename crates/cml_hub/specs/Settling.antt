@@ -1,5 +1,5 @@
 -- A machine that was answered, and the machines after a turn.
-use Rattle.std.specs.Prelude.{ℕ, ◌≡◌, true, List, [], ◌∷◌, ◌++◌, Option, Some, None, slice_get, slice_set}
+use Rattle.std.specs.Prelude.{ℕ, ◌≡◌, true, List, ◌++◌, Option, Some, None, slice_get, slice_set}
 use Rattle.cml_check.specs.Syntax.{PlainFunction as PlainItem}
 use Rattle.cml_check.specs.InOrder.{arities}
 use Rattle.cml_step.specs.Agrees.{answer_agrees}

@@ -2,12 +2,16 @@
 #![tactic(auto)]
 
 mod choose;
+mod course;
 mod done;
 mod fault;
+mod hub;
 mod marks;
 mod perform;
 mod pick;
 mod settle;
 
 pub use choose::{Chooser, First, Script, Seeded};
+pub use cml_schedule::{Item, Plan, ScheduleFault, read_schedule};
 pub use fault::{End, GiveFault, Next, ReplayFault};
+pub use hub::{Hub, matches_program};

@@ -1,9 +1,9 @@
 //! Which threads are ready to run, in their order, and whose slices are out.
 
-ghost use Rattle.std.specs.Prelude.{◌≡◌, ◌≢◌, ℕ, ◌+◌, ◌-◌, ◌<◌, ◌≤◌, ◌^◌, ◌++◌, ◌∷◌, [], List, not, map, length, MatchOption, Some, OnOk, slice_get, slice_set};
+ghost use Rattle.std.specs.Prelude.{◌≡◌, ◌≢◌, ℕ, ◌+◌, ◌-◌, ◌<◌, ◌≤◌, ◌^◌, ◌++◌, ◌∷◌, [], List, not, map, length, MatchOption, Some, OnOk, OnErr, slice_get, slice_set};
 ghost use Rattle.std.specs.List.{list_any};
 ghost use Rattle.std.specs.VecDeque.{deque_len, deque_capacity};
-ghost use Rattle.cml_hub.specs.Marks.{is_at, count_of, ready_at, is_here, home};
+ghost use Rattle.cml_hub.specs.Marks.{is_at, count_of, ready_at, count_outs, is_here, home};
 
 use cml_value::Tid;
 use std::alloc::{AllocError, Global};
@@ -64,6 +64,25 @@ fn unqueue(queue: &mut VecDeque<Tid>, thread: Tid)
         }
     }
     unreachable!();
+}
+
+// Those that are out are ready, in the order of their numbers, behind the others.
+fn queue_outs(queue: &mut VecDeque<Tid>, marks: &mut Vec<Mark>)
+    requires few { length marks.old.items ≤ 2 ^ 32 }
+    requires queued { (t : ℕ) → count_of t queue.old.items ≡ ready_at marks.old.items t }
+    requires room { deque_len queue.old + count_outs marks.old.items ≤ deque_capacity queue.old }
+    ensures marks { marks.new.items ≡ map home marks.old.items }
+    ensures queued { (t : ℕ) → count_of t queue.new.items ≡ ready_at marks.new.items t }
+{
+    for i in 0..marks.len() {
+        match marks[i] {
+            Mark::Out => {
+                marks[i] = Mark::Ready;
+                queue.push_back_reserved(Tid(i as u32));
+            }
+            Mark::Ready | Mark::Away => {}
+        }
+    }
 }
 
 impl Marks {
@@ -157,5 +176,19 @@ impl Marks {
         unqueue(&mut self.queue, thread);
         self.marks[thread.0 as usize] = Mark::Out;
         self.outs += 1;
+    }
+
+    // The threads that are out are ready, in the order of their numbers, after the others.
+    pub(crate) fn call_back(&mut self) -> Result<(), AllocError>
+        ensures ok { OnOk result (self.new.marks ≡ map home self.old.marks) }
+        ensures err { OnErr result (self.new.marks ≡ self.old.marks) }
+    {
+        if self.outs == 0 {
+            return Ok(());
+        }
+        self.queue.reserve(self.outs)?;
+        queue_outs(&mut self.queue, &mut self.marks);
+        self.outs = 0;
+        Ok(())
     }
 }

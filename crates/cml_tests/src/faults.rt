@@ -25,6 +25,7 @@ const TRACES: &[(&str, &str)] = &[
 const COMMANDS: &[(&str, &str)] = &[
     ("check F", "ok functions 1\n"),
     ("fmt F", "(fn main () (print 7))\n"),
+    ("run F", "7\nend quiet pending 0\n"),
     ("--help", HELP),
 ];
 
@@ -58,8 +59,9 @@ impl<'a> Read for Dripping<'a> {
 
 /// A writer that takes a byte at a time. One write fails, after so many good ones, or takes nothing; those behind it don't.
 #[derive(Drop)]
-struct Narrow {
-    taken: Vec<u8>,
+pub struct Narrow {
+    /// What it took.
+    pub taken: Vec<u8>,
     good: usize,
     takes_nothing: bool,
 }
@@ -129,8 +131,8 @@ fn ends(
     Ok(())
 }
 
-// A writer that takes so many bytes before it fails.
-fn taking(alloc: Global, good: usize, takes_nothing: bool) -> Narrow {
+/// A writer that takes so many bytes before it fails.
+pub fn taking(alloc: Global, good: usize, takes_nothing: bool) -> Narrow {
     Narrow {
         taken: Vec::new(alloc),
         good,

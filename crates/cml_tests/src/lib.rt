@@ -11,7 +11,19 @@ mod faults;
 mod limits;
 pub mod memory_store;
 #[cfg(test)]
+mod replay_cases;
+#[cfg(test)]
 mod run;
+#[cfg(test)]
+mod script_cases;
+#[cfg(test)]
+mod script_ends;
+#[cfg(test)]
+mod script_examples;
+#[cfg(test)]
+mod script_faults;
+#[cfg(test)]
+mod script_run;
 #[cfg(test)]
 mod scripts;
 #[cfg(test)]

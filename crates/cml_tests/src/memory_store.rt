@@ -20,6 +20,7 @@ struct File {
 pub struct MemoryStore {
     alloc: Global,
     files: Vec<File>,
+    is_closed: bool,
 }
 
 impl MemoryStore {
@@ -30,7 +31,15 @@ impl MemoryStore {
         MemoryStore {
             alloc,
             files: Vec::new(alloc),
+            is_closed: false,
         }
+    }
+
+    /// From now on nothing more is saved.
+    pub fn close(&mut self)
+        ensures { self.new.files.items ≡ self.old.files.items }
+    {
+        self.is_closed = true;
     }
 }
 
@@ -84,6 +93,9 @@ impl Store for MemoryStore {
     }
 
     fn save(&mut self, name: &str, bytes: &[u8]) -> Result<(), StoreFault> {
+        if self.is_closed {
+            return Err(StoreFault::Refused);
+        }
         let Ok(file) = new_file(self.alloc, name, bytes) else {
             return Err(StoreFault::Memory);
         };

@@ -6,7 +6,7 @@ use std::test::Fail;
 
 /// The help of the program.
 pub const HELP: &str =
-    "Events of Concurrent ML: answers traces of commands and checks scripts\n\nUsage: cml <COMMAND>\n\nCommands:\n  trace  Answers the commands on standard input\n  check  Checks a script\n  fmt    Prints the forms of a text, each on a line\n  help   Print this message or the help of the given subcommand(s)\n\nOptions:\n  -h, --help  Print help\n";
+    "Events of Concurrent ML: answers traces of commands, and checks and runs scripts\n\nUsage: cml <COMMAND>\n\nCommands:\n  trace   Answers the commands on standard input\n  check   Checks a script\n  fmt     Prints the forms of a text, each on a line\n  run     Runs a script\n  replay  Runs a script by a schedule that was saved\n  help    Print this message or the help of the given subcommand(s)\n\nOptions:\n  -h, --help  Print help\n";
 
 // Words, what goes to the output and to the errors, and the status.
 struct Asked {
@@ -50,7 +50,85 @@ const WORDS: &[Asked] = &[
     Asked {
         words: "run x.cml",
         output: "",
-        errors: "error: unrecognized subcommand 'run'\n\nUsage: cml <COMMAND>\n\nFor more information, try '--help'.\n",
+        errors: "cannot read x.cml\n",
+        status: 1,
+    },
+    Asked {
+        words: "run --help",
+        output: "Runs a script\n\nUsage: cml run [OPTIONS] <FILE>\n\nArguments:\n  <FILE>  \n\nOptions:\n      --steps <B>      How many steps it may take, 1 to 1000000000 [default: 1000000]\n      --seed <S>       Draws the choices from this number\n      --watch <K>      Reports after every K items of the schedule, 1 to 1000000000\n      --record <FILE>  Saves the schedule of the run\n  -h, --help           Print help\n",
+        errors: "",
+        status: 0,
+    },
+    Asked {
+        words: "replay --help",
+        output: "Runs a script by a schedule that was saved\n\nUsage: cml replay [OPTIONS] <FILE> <SCHEDULE>\n\nArguments:\n  <FILE>      \n  <SCHEDULE>  \n\nOptions:\n      --watch <K>  Reports after every K items of the schedule, 1 to 1000000000\n  -h, --help       Print help\n",
+        errors: "",
+        status: 0,
+    },
+    Asked {
+        words: "run",
+        output: "",
+        errors: "error: the following required arguments were not provided:\n  <FILE>\n\nUsage: cml run <FILE>\n\nFor more information, try '--help'.\n",
+        status: 1,
+    },
+    Asked {
+        words: "replay x.cml",
+        output: "",
+        errors: "error: the following required arguments were not provided:\n  <SCHEDULE>\n\nUsage: cml replay <FILE> <SCHEDULE>\n\nFor more information, try '--help'.\n",
+        status: 1,
+    },
+    Asked {
+        words: "run x.cml --steps 0",
+        output: "",
+        errors: "error: invalid value '0' for '--steps <B>': 0 is not in 1..=1000000000\n\nFor more information, try '--help'.\n",
+        status: 1,
+    },
+    Asked {
+        words: "run x.cml --steps 1000000001",
+        output: "",
+        errors: "error: invalid value '1000000001' for '--steps <B>': 1000000001 is not in 1..=1000000000\n\nFor more information, try '--help'.\n",
+        status: 1,
+    },
+    Asked {
+        words: "run x.cml --watch 0",
+        output: "",
+        errors: "error: invalid value '0' for '--watch <K>': 0 is not in 1..=1000000000\n\nFor more information, try '--help'.\n",
+        status: 1,
+    },
+    Asked {
+        words: "replay x.cml y --watch 1000000001",
+        output: "",
+        errors: "error: invalid value '1000000001' for '--watch <K>': 1000000001 is not in 1..=1000000000\n\nFor more information, try '--help'.\n",
+        status: 1,
+    },
+    Asked {
+        words: "run x.cml --steps ten",
+        output: "",
+        errors: "error: invalid value 'ten' for '--steps <B>': invalid digit found in string\n\nFor more information, try '--help'.\n",
+        status: 1,
+    },
+    Asked {
+        words: "run x.cml --seed 18446744073709551616",
+        output: "",
+        errors: "error: invalid value '18446744073709551616' for '--seed <S>': number too large to fit in target type\n\nFor more information, try '--help'.\n",
+        status: 1,
+    },
+    Asked {
+        words: "run x.cml --seed=-1",
+        output: "",
+        errors: "error: invalid value '-1' for '--seed <S>': invalid digit found in string\n\nFor more information, try '--help'.\n",
+        status: 1,
+    },
+    Asked {
+        words: "run x.cml --seed 18446744073709551615 --steps 1000000000 --watch 1",
+        output: "",
+        errors: "cannot read x.cml\n",
+        status: 1,
+    },
+    Asked {
+        words: "replay x.cml y --steps 5",
+        output: "",
+        errors: "error: unexpected argument '--steps' found\n\n  tip: to pass '--steps' as a value, use '-- --steps'\n\nUsage: cml replay <FILE> <SCHEDULE>\n\nFor more information, try '--help'.\n",
         status: 1,
     },
     Asked {

@@ -1,4 +1,4 @@
-use Rattle.std.proofs.Common.{arith, ◌∙◌, sym, length, ◌<◌}
+use Rattle.std.proofs.Common.{arith, ◌∙◌, length, ◌<◌}
 use Rattle.cml_hub.proofs.Standing.{set_again}
 use Rattle.cml_hub.proofs.MarkLemmas.{got_is}
 use Rattle.cml_hub.proofs.settle.resume.Goals as goal

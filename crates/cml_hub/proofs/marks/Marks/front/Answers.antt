@@ -1,5 +1,4 @@
-use Rattle.std.proofs.Common.{arith, ◌<◌, ◌≡◌, length, nat_eq, true, false}
-use Rattle.std.proofs.lemmas.Bool.Decides.{nat_tests}
+use Rattle.std.proofs.Common.{arith}
 use Rattle.std.specs.VecDeque.{deque_len}
 use Rattle.cml_hub.proofs.MarkLemmas.{none_ready, front_ready, empty, not_empty}
 use Rattle.cml_hub.proofs.marks.Marks.front.Goals as goal

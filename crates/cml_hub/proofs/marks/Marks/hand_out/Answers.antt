@@ -1,7 +1,6 @@
-use Rattle.std.proofs.Common.{arith, ◌+◌, ◌≤◌, length, refl}
+use Rattle.std.proofs.Common.{arith, refl}
 use Rattle.std.proofs.lemmas.Option.{slice_get_within}
 use Rattle.cml_hub.specs.declared.marks.Mark.TheVariants.{Ready, Out}
-use Rattle.cml_hub.specs.Marks.{count_outs}
 use Rattle.cml_hub.proofs.MarkLemmas.{queued_once, marks_left, few_out}
 use Rattle.cml_hub.proofs.marks.Marks.hand_out.Goals as goal
 

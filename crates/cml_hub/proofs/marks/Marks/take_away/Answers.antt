@@ -1,9 +1,6 @@
-use Rattle.std.proofs.Common.{◌≡◌, ◌<◌, ◌-◌, ◌∙◌, add-zero, sym, arith, refl, length, Some}
-use Rattle.std.specs.Prelude.{slice_get}
-use Rattle.cml_hub.specs.declared.marks.Mark.{Mark}
+use Rattle.std.proofs.Common.{◌<◌, ◌-◌, ◌∙◌, add-zero, sym, arith, refl, length}
 use Rattle.cml_hub.specs.declared.marks.Mark.TheVariants.{Ready, Out, Away}
-use Rattle.cml_hub.specs.Marks.{outs}
-use Rattle.cml_hub.proofs.MarkLemmas.{queued_once, marks_left, marks_back, got_is, out_counted, set_same}
+use Rattle.cml_hub.proofs.MarkLemmas.{queued_once, marks_left, marks_back, got_is, out_counted}
 use Rattle.cml_hub.proofs.marks.Marks.take_away.Goals as goal
 
 pub unqueue-requires : goal.unqueue-requires

@@ -1,0 +1,154 @@
+-- How a hub goes on from where it stood.
+use Rattle.std.proofs.Common.{◌≡◌, ℕ, ◌-◌, ◌<◌, Bool, true, false, ◌||◌, [], ◌∷◌, ◌++◌, refl, arith, Some, None, sym, ap, ◌∙◌, subst, append_assoc}
+use Rattle.std.specs.Prelude.{nat_le}
+use Rattle.std.proofs.lemmas.List.{append-nil}
+use Rattle.std.proofs.lemmas.List.Elements.{All-nil, All-cons, All-append}
+use Rattle.std.proofs.lemmas.Bool.Decides.{nat_tests}
+use Rattle.cml_schedule.specs.declared.item.Item.{Item}
+use Rattle.cml_step.specs.Machines.{PlainMachine}
+use Rattle.cml_hub.specs.declared.fault.Next.TheVariants as next
+use Rattle.cml_hub.specs.Runs.{Run, over, terminal}
+use Rattle.cml_hub.specs.Courses.{run_of}
+use Rattle.cml_hub.specs.Kept.{Kept, Continues, Extends, IsNoTurn, NoneOut, AllOut, HandsOut}
+use Rattle.cml_hub.specs.Moves.{Moves, Reported, HandedOut, MovedOn, CalledBack}
+
+-- It goes on from itself, and from what it went on from goes on.
+pub continues_self : (h : Kept) → Continues h h
+continues_self h = record {
+  program = refl;
+  budget = refl;
+  watch = refl;
+  more = [];
+  items = sym (append-nil h.course.items);
+  made = [];
+  reports = sym (append-nil h.reports);
+}
+
+pub continues_more : (a b c : Kept) → Continues a b → Continues b c → Continues a c
+continues_more a b c p q = record {
+  program = q.program ∙ p.program;
+  budget = q.budget ∙ p.budget;
+  watch = q.watch ∙ p.watch;
+  more = p.more ++ q.more;
+  items = q.items ∙ (ap (λ xs. xs ++ q.more) p.items ∙ append_assoc a.course.items p.more q.more);
+  made = p.made ++ q.made;
+  reports = q.reports ∙ (ap (λ xs. xs ++ q.made) p.reports ∙ append_assoc a.reports p.made q.made);
+}
+
+pub continues_reported : (a b : Kept) → Reported a b → Continues a b
+continues_reported a b r = record {
+  program = ap (λ c. c.program) r.course;
+  budget = r.budget;
+  watch = r.watch;
+  more = [];
+  items = ap (λ c. c.items) r.course ∙ sym (append-nil a.course.items);
+  made = r.made;
+  reports = r.reports;
+}
+
+pub continues_moved : (a b : Kept) (item : Item) → Moves a item b → Continues a b
+continues_moved a b item m = record {
+  program = m.adds.program;
+  budget = m.budget;
+  watch = m.watch;
+  more = item ∷ [];
+  items = m.adds.items;
+  made = [];
+  reports = m.reports ∙ sym (append-nil a.reports);
+}
+
+pub continues_called : (a b : Kept) → CalledBack a b → Continues a b
+continues_called a b r = record {
+  program = ap (λ c. c.program) r.course;
+  budget = r.budget;
+  watch = r.watch;
+  more = [];
+  items = ap (λ c. c.items) r.course ∙ sym (append-nil a.course.items);
+  made = [];
+  reports = r.reports ∙ sym (append-nil a.reports);
+}
+
+-- the same, where no thread had a turn
+pub extends_self : (h : Kept) → Extends h h
+unfolding continues_self
+extends_self h = record { continues = continues_self h; no_turn = All-nil IsNoTurn }
+
+pub extends_reported : (h a b : Kept) → Extends h a → Reported a b → Extends h b
+unfolding continues_more continues_reported
+extends_reported h a b e r = record {
+  continues = continues_more h a b e.continues (continues_reported a b r);
+  no_turn = All-append IsNoTurn e.continues.more [] e.no_turn (All-nil IsNoTurn);
+}
+
+extends_moved : (h a b : Kept) (item : Item) → IsNoTurn item → Extends h a → Moves a item b → Extends h b
+unfolding continues_more continues_moved
+extends_moved h a b item n e m = record {
+  continues = continues_more h a b e.continues (continues_moved a b item m);
+  no_turn = All-append IsNoTurn e.continues.more (item ∷ []) e.no_turn (All-cons IsNoTurn item [] n (All-nil IsNoTurn));
+}
+
+-- It is not over.
+or_false : (a b : Bool) → (a || b) ≡ false → (a ≡ false) × (b ≡ false)
+or_false true b h = cc
+or_false false b h = (refl, h)
+
+pub going : (budget : ℕ) (r : Run) → over budget r ≡ false → terminal r.world ≡ false
+going budget r h = (or_false (terminal r.world) (nat_le budget r.used) h).0
+
+more_left : (budget used : ℕ) → nat_le budget used ≡ false → used < budget
+more_left budget used h = grind (arith, nat_tests)
+
+pub below : (budget : ℕ) (r : Run) → over budget r ≡ false → r.used < budget
+below budget r h = more_left budget r.used (or_false (terminal r.world) (nat_le budget r.used) h).1
+
+-- No thread was ready, and it moved on.
+pub none_handed : (a b : Kept) → HandedOut a None b → AllOut b
+none_handed a b h = subst (λ (x : Kept). AllOut x) (sym h.1) h.0
+
+pub going_still : (a b : Kept) → HandedOut a None b → over a.budget (run_of a.course) ≡ false → terminal b.course.world ≡ false
+going_still a b h o = subst (λ (x : Kept). terminal x.course.world ≡ false) (sym h.1) (going a.budget (run_of a.course) o)
+
+pub still_extends : (h a b : Kept) → Extends h a → b ≡ a → Extends h b
+still_extends h a b e s = subst (λ (x : Kept). Extends h x) (sym s) e
+
+pub moved_extends : (h a b c : Kept) → Extends h a → HandedOut a None b → MovedOn b true c → Extends h c
+moved_extends h a b c e n m = extends_moved h b c m.0 m.1 (still_extends h a b e n.1) m.2
+
+pub moved_out : (h a b c : Kept) → a.out ≡ h.out → HandedOut a None b → MovedOn b true c → c.out ≡ h.out
+moved_out h a b c o n m = m.3 ∙ (ap (λ (x : Kept). x.out) n.1 ∙ o)
+
+less : (k l m n u v w x : ℕ) → l ≡ k → m ≡ l → n ≡ m → v ≡ u → v < w → x ≡ w → u < k → n - x < k - u
+less k l m n u v w x h1 h2 h3 h4 h5 h6 h7 = omega arith
+
+-- The first thread's machine is handed out.
+pub job_extends : (h a b : Kept) (m : PlainMachine) → Extends h a → HandedOut a (Some m) b → Extends h b
+job_extends h a b m e s = record {
+  continues = record {
+    program = ap (λ (x : Kept). x.course.program) s.3 ∙ e.continues.program;
+    budget = ap (λ (x : Kept). x.budget) s.3 ∙ e.continues.budget;
+    watch = ap (λ (x : Kept). x.watch) s.3 ∙ e.continues.watch;
+    more = e.continues.more;
+    items = ap (λ (x : Kept). x.course.items) s.3 ∙ e.continues.items;
+    made = e.continues.made;
+    reports = ap (λ (x : Kept). x.reports) s.3 ∙ e.continues.reports;
+  };
+  no_turn = e.no_turn;
+}
+
+pub job_over : (a b : Kept) (m : PlainMachine) → over a.budget (run_of a.course) ≡ false → HandedOut a (Some m) b → false ≡ over b.budget (run_of b.course)
+job_over a b m o s =
+    let k : b.budget ≡ a.budget = ap (λ (x : Kept). x.budget) s.3 in
+    let c : b.course ≡ a.course = ap (λ (x : Kept). x.course) s.3 in
+    sym (ap (λ n. over n (run_of b.course)) k ∙ (ap (λ x. over a.budget (run_of x)) c ∙ o))
+
+-- Nothing is to be done before a slice comes back.
+pub wait_hands : (h a b c : Kept) → a.out ≡ h.out → HandedOut a None b → MovedOn b false c → HandsOut h next.Wait c
+wait_hands h a b c o n m =
+    let e : c ≡ b = m.2 in
+    subst (λ (x : Kept). HandsOut h next.Wait x) (sym e) (m.0, m.1, none_handed a b n, ap (λ (x : Kept). x.out) n.1 ∙ o)
+
+pub none_out_reported : (a b : Kept) → NoneOut a → Reported a b → NoneOut b
+none_out_reported a b n r = λ t. rw r.out (n t)
+
+pub still_continues : (h a b : Kept) → Continues h a → b ≡ a → Continues h b
+still_continues h a b e s = subst (λ (x : Kept). Continues h x) (sym s) e

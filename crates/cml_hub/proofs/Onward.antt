@@ -1,0 +1,100 @@
+-- Whether there is more to do, and what comes next.
+use Rattle.std.proofs.Common.{◌≡◌, ℕ, zero, suc, Bool, true, false, not, nat_eq, List, [], ◌∷◌, map, refl, ap, sym, subst, ◌∙◌, arith, Option, Some, None, Result, Ok, Err}
+use Rattle.std.specs.Prelude.{is_some, OnOk, slice_get, slice_set}
+use Rattle.std.proofs.lemmas.Bool.Decides.{nat_tests}
+use Rattle.cml_scan.specs.World.{PlainWorld, running}
+use Rattle.cml_scan.specs.Scan.{scan}
+use Rattle.cml_monitor.specs.Reports.{PlainReport}
+use Rattle.cml_schedule.specs.declared.item.Item.TheVariants.{Clock}
+use Rattle.cml_step.specs.Calls.{text_of}
+use Rattle.cml_step.specs.Machines.{PlainMachine}
+use Rattle.cml_check.specs.Syntax.{PlainFunction as PlainItem}
+use Rattle.cml_hub.specs.declared.marks.Mark.{Mark}
+use Rattle.cml_hub.specs.declared.marks.Mark.TheVariants.{Ready, Out}
+use Rattle.cml_hub.specs.Marks.{is_out}
+use Rattle.cml_hub.specs.Runs.{any_runs, is_none, next_alarm, terminal, is_allowed}
+use Rattle.cml_hub.specs.Dones.{GoesOn}
+use Rattle.cml_hub.specs.Courses.{PlainCourse, Begins, Keeps}
+use Rattle.cml_hub.specs.Kept.{Kept, Stands, IsBudget, IsWatch, IsBegun, is_out_of}
+use Rattle.cml_hub.specs.Moves.{HandedOut}
+use Rattle.cml_hub.proofs.Standing.{map_set}
+use Rattle.cml_hub.proofs.Marking.{placed_kept, ready_running, out_at}
+use Rattle.cml_hub.proofs.Reporting.{none_made}
+
+pub none_is : (o : Option ℕ) (b : Bool) → is_some o ≡ not b → b ≡ is_none o
+none_is None true e = refl
+none_is None false e = absurd (cc)
+none_is (Some n) true e = absurd (cc)
+none_is (Some n) false e = refl
+
+pub some_runs : (b a : Bool) → b ≡ not a → b ≡ false → a ≡ true
+some_runs b true e f = refl
+some_runs b false e f = absurd (cc)
+
+pub none_runs : (b a : Bool) → b ≡ not a → b ≡ true → a ≡ false
+none_runs b true e f = absurd (cc)
+none_runs b false e f = refl
+
+pub tick_allowed : (w : PlainWorld) (tick : ℕ) → scan w ≡ [] → any_runs w ≡ false → next_alarm w ≡ Some tick → is_allowed w (Clock tick) ≡ true
+tick_allowed w tick still idle next = let same : nat_eq tick tick ≡ true = grind (arith, nat_tests) in rw (next, idle, still, same) refl
+
+pub terminal_is : (w : PlainWorld) → scan w ≡ [] → any_runs w ≡ false → next_alarm w ≡ None → terminal w ≡ true
+terminal_is w still idle next = rw (next, idle, still) refl
+
+-- what a call answers where it succeeds
+pub on_ok : {A E P Q : Type 0} (r : Result A E) → OnOk r P → (P → Q) → OnOk r Q
+on_ok (Ok x) h f = f h
+on_ok (Err e) h f = h
+
+-- at the beginning
+pub stands_begun : (p : List (PlainItem ℕ)) (course : PlainCourse) (budget : ℕ) (watch : Option ℕ) → Begins p course → IsBudget budget → IsWatch watch
+    → Stands (record { course = course; budget = budget; watch = watch; out = false ∷ []; reports = [] }) (Ready ∷ [])
+stands_begun p course budget watch b within seen = record {
+  placed = rw (b.threads) (refl, tt);
+  budgeted = within;
+  watched = seen;
+  reported = rw (b.items) (none_made (text_of course.program) watch);
+}
+
+alone_in : (t : ℕ) → is_out_of (false ∷ []) t ≡ false
+alone_in zero = refl
+alone_in (suc t) = refl
+
+pub begun_is : (p : List (PlainItem ℕ)) (course : PlainCourse) (budget : ℕ) (watch : Option ℕ) → Begins p course
+    → IsBegun p budget watch (record { course = course; budget = budget; watch = watch; out = false ∷ []; reports = [] })
+begun_is p course budget watch b = record {
+  program = b.program;
+  budget_is = refl;
+  watch_is = refl;
+  items = b.items;
+  reports = refl;
+  none_out = alone_in;
+}
+
+-- a slice is handed out
+pub stands_handed : (h : Kept) (ms : List Mark) (t : ℕ) → Stands h ms → slice_get ms t ≡ Some Ready
+    → Stands (record { course = h.course; budget = h.budget; watch = h.watch; out = map is_out (slice_set ms t Out); reports = h.reports }) (slice_set ms t Out)
+stands_handed h ms t s ready = record {
+  placed = placed_kept h.course.world.threads ms t running Out s.placed (ready_running h.course.world.threads ms t s.placed ready) refl;
+  budgeted = s.budgeted;
+  watched = s.watched;
+  reported = s.reported;
+}
+
+handed_same : (course : PlainCourse) (budget : ℕ) (watch : Option ℕ) (reports : List PlainReport) (ms : List Mark) (t : ℕ) (x : PlainMachine) → slice_get ms t ≡ Some Ready → Keeps course t x
+    → GoesOn course.program x → x.thread ≡ t
+    → HandedOut (record { course = course; budget = budget; watch = watch; out = map is_out ms; reports = reports }) (Some x)
+    (record { course = course; budget = budget; watch = watch; out = map is_out (slice_set ms t Out); reports = reports })
+handed_same course budget watch reports ms t x ready keeps stands n =
+    let out : map is_out (slice_set ms t Out) ≡ slice_set (map is_out ms) x.thread true = map_set is_out ms t Out ∙ ap (λ k. slice_set (map is_out ms) k true) (sym n) in
+    let make : List Bool → Kept = λ o. record { course = course; budget = budget; watch = watch; out = o; reports = reports } in
+    (subst (λ k. Keeps course k x) (sym n) keeps, stands, ap (is_out_of (map is_out ms)) n ∙ out_at ms t Ready ready, ap make out)
+
+pub handed_out : (course : PlainCourse) (budget : ℕ) (watch : Option ℕ) (reports : List PlainReport) (ms : List Mark) (t : ℕ) (m x : PlainMachine) → slice_get ms t ≡ Some Ready → Keeps course t x
+    → GoesOn course.program x → x.thread ≡ t → m ≡ x
+    → HandedOut (record { course = course; budget = budget; watch = watch; out = map is_out ms; reports = reports }) (Some m)
+    (record { course = course; budget = budget; watch = watch; out = map is_out (slice_set ms t Out); reports = reports })
+handed_out course budget watch reports ms t m x ready keeps stands n e =
+    let old : Kept = record { course = course; budget = budget; watch = watch; out = map is_out ms; reports = reports } in
+    let new : Kept = record { course = course; budget = budget; watch = watch; out = map is_out (slice_set ms t Out); reports = reports } in
+    subst (λ (y : PlainMachine). HandedOut old (Some y) new) (sym e) (handed_same course budget watch reports ms t x ready keeps stands n)

@@ -1,0 +1,93 @@
+-- The threads that run, and their marks.
+use Rattle.std.proofs.Common.{◌≡◌, ◌≢◌, ℕ, zero, suc, Bool, true, false, List, [], ◌∷◌, map, refl, Some, ap, ◌∙◌}
+use Rattle.std.specs.Prelude.{Option, Result, Ok, Err, OnOk, OnErr, slice_get}
+use Rattle.std.specs.List.{list_any}
+use Rattle.cml_scan.specs.World.{PlainThread, running, pending_on, ended}
+use Rattle.cml_book.specs.Walks.{runs}
+use Rattle.cml_hub.specs.declared.marks.Mark.{Mark}
+use Rattle.cml_hub.specs.declared.marks.Mark.TheVariants.{Ready, Out, Away}
+use Rattle.cml_hub.specs.Marks.{is_here, is_out, home}
+use Rattle.cml_monitor.specs.Reports.{PlainReport}
+use Rattle.cml_hub.specs.Courses.{PlainCourse}
+use Rattle.cml_hub.specs.Kept.{Kept, Stands, Placed, is_out_of, AllOut, NoneOut}
+use Rattle.cml_hub.specs.Moves.{MovedOn, CalledBack, GoesAlone}
+
+-- who is ready runs
+pub ready_runs : (ts : List PlainThread) (ms : List Mark) (t : ℕ) → Placed ts ms → slice_get ms t ≡ Some Ready → slice_get ts t ≡ Some running
+ready_runs [] [] t p h = cc
+ready_runs [] (m ∷ ms) t p h = absurd p
+ready_runs (x ∷ ts) [] t p h = absurd p
+ready_runs (running ∷ ts) (m ∷ ms) zero p h = refl
+ready_runs (pending_on g ∷ ts) (m ∷ ms) zero p h = let e : m ≡ Ready = cc in let b : is_here m ≡ true = ap is_here e in let f : is_here m ≡ false = p.0 in cc
+ready_runs (ended ∷ ts) (m ∷ ms) zero p h = let e : m ≡ Ready = cc in let b : is_here m ≡ true = ap is_here e in let f : is_here m ≡ false = p.0 in cc
+ready_runs (x ∷ ts) (m ∷ ms) (suc t) p h = ready_runs ts ms t p.1 h
+
+-- where none is ready, a slice of every one that runs is out
+pub none_ready_all_out : (ts : List PlainThread) (ms : List Mark) → Placed ts ms → ((t : ℕ) → slice_get ms t ≢ Some Ready)
+    → (t : ℕ) → slice_get ts t ≡ Some running → is_out_of (map is_out ms) t ≡ true
+none_ready_all_out [] ms p n t h = cc
+none_ready_all_out (x ∷ ts) [] p n t h = absurd p
+none_ready_all_out (x ∷ ts) (Ready ∷ ms) p n zero h = absurd (n 0 refl)
+none_ready_all_out (x ∷ ts) (Out ∷ ms) p n zero h = refl
+none_ready_all_out (x ∷ ts) (Away ∷ ms) p n zero h = let e : x ≡ running = cc in let b : runs x ≡ true = ap runs e in let f : false ≡ runs x = p.0 in cc
+none_ready_all_out (x ∷ ts) (m ∷ ms) p n (suc t) h = none_ready_all_out ts ms p.1 (λ u. n (suc u)) t h
+
+-- who was out is ready
+here_home : (m : Mark) → is_here (home m) ≡ is_here m
+here_home Ready = refl
+here_home Out = refl
+here_home Away = refl
+
+placed_home : (ts : List PlainThread) (ms : List Mark) → Placed ts ms → Placed ts (map home ms)
+placed_home [] [] p = tt
+placed_home [] (m ∷ ms) p = absurd p
+placed_home (x ∷ ts) [] p = absurd p
+placed_home (x ∷ ts) (m ∷ ms) p = (here_home m ∙ p.0, placed_home ts ms p.1)
+
+pub stands_home : (h : Kept) (ms : List Mark) (o : List Bool) → Stands h ms → Stands (record h { out = o }) (map home ms)
+stands_home h ms o s = record {
+  placed = placed_home h.course.world.threads ms s.placed;
+  budgeted = s.budgeted;
+  watched = s.watched;
+  reported = s.reported;
+}
+
+pub none_out_home : (ms : List Mark) (t : ℕ) → is_out_of (map is_out (map home ms)) t ≡ false
+none_out_home [] t = refl
+none_out_home (Ready ∷ ms) zero = refl
+none_out_home (Out ∷ ms) zero = refl
+none_out_home (Away ∷ ms) zero = refl
+none_out_home (m ∷ ms) (suc t) = none_out_home ms t
+
+-- what holds of the hub holds of it after, and who was out is ready, or nothing has changed
+pub stands_called : {T E : Type 0} (h : Kept) (ms new : List Mark) (r : Result T E) → Stands h ms → OnOk r (new ≡ map home ms) → OnErr r (new ≡ ms)
+    → Stands (record { course = h.course; budget = h.budget; watch = h.watch; out = map is_out new; reports = h.reports }) new
+stands_called h ms new (Ok x) s o e = rw o (stands_home h ms (map is_out (map home ms)) s)
+stands_called h ms new (Err x) s o e = rw e (record { placed = s.placed; budgeted = s.budgeted; watched = s.watched; reported = s.reported })
+
+pub called_so : {T E : Type 0} (course : PlainCourse) (budget : ℕ) (watch : Option ℕ) (reports : List PlainReport) (ms new : List Mark) (r : Result T E) → OnOk r (new ≡ map home ms)
+    → OnOk r (CalledBack (record { course = course; budget = budget; watch = watch; out = map is_out ms; reports = reports })
+    (record { course = course; budget = budget; watch = watch; out = map is_out new; reports = reports }))
+called_so course budget watch reports ms new (Ok x) o = record {
+  course = refl;
+  budget = refl;
+  watch = refl;
+  reports = refl;
+  none_out = λ t. rw o (none_out_home ms t);
+}
+called_so course budget watch reports ms new (Err x) o = tt
+
+-- some thread runs
+runs_somewhere : (ts : List PlainThread) → list_any runs ts ≡ true → (t : ℕ) × (slice_get ts t ≡ Some running)
+runs_somewhere [] h = cc
+runs_somewhere (running ∷ ts) h = (0, refl)
+runs_somewhere (pending_on g ∷ ts) h = let r = runs_somewhere ts h in (suc r.0, r.1)
+runs_somewhere (ended ∷ ts) h = let r = runs_somewhere ts h in (suc r.0, r.1)
+
+pub alone_moved : (a b : Kept) (moved : Bool) → NoneOut a → AllOut a → MovedOn a moved b → GoesAlone a b
+alone_moved a b true n o m = record {
+  item = m.0;
+  moves = m.2;
+  none_out = λ t. rw m.3 (n t);
+}
+alone_moved a b false n o m = let r = runs_somewhere a.course.world.threads m.1 in let y = o r.0 r.1 in let z = n r.0 in cc

@@ -1,0 +1,111 @@
+use Rattle.std.proofs.Common.{arith, ap, ◌∙◌, ◌≡◌, ◌+◌, length, [], ◌∷◌, ◌++◌}
+use Rattle.std.specs.String.{string_bytes}
+use Rattle.cml_schedule.specs.Laws.{IsNumber}
+use Rattle.cml_schedule.specs.declared.item.Item.TheVariants.{Turn}
+use Rattle.cml_hub.specs.Dones.{DoneFits}
+use Rattle.cml_hub.specs.Courses.{PlainCourse, Keeps, IsOurs}
+use Rattle.cml_hub.proofs.Ours.{machine_within, ours_own}
+use Rattle.cml_hub.proofs.Turning.{can_settle, TurnDone, turned_leads_at, turned_is_at, slice_here}
+use Rattle.cml_hub.proofs.course.Course.give.Goals as goal
+
+pub prepare-requires-clause-running : goal.prepare-requires-clause-running
+prepare-requires-clause-running c =
+    let s = c.self.inside in
+    let k : PlainCourse = record { program = s.program; items = s.items.items; world = s.threads; machines = s.machines.items; output = string_bytes s.output; used = s.used } in
+    let ran = c.args.ran in
+    let ours : IsOurs k ran = rw (← c.self.view_is) at c.requires in
+    let e : c.thread-thread.result.0 ≡ ran.start.thread = c.thread-thread.ensures ∙ ap (λ m. m.thread) c.start.ensures in
+    rw e (ours_own k ran c.self.invariant ours).running
+
+pub prepare-requires-clause-fits : goal.prepare-requires-clause-fits
+prepare-requires-clause-fits c =
+    let s = c.self.inside in
+    let k : PlainCourse = record { program = s.program; items = s.items.items; world = s.threads; machines = s.machines.items; output = string_bytes s.output; used = s.used } in
+    let ours : IsOurs k c.args.ran = rw (← c.self.view_is) at c.requires in
+    rw c.end.ensures (slice_here s.program c.args.ran ours.0 c.steps-steps.ensures.meant).fits
+
+pub prepare-requires-clause-awaits : goal.prepare-requires-clause-awaits
+prepare-requires-clause-awaits c =
+    let s = c.self.inside in
+    let k : PlainCourse = record { program = s.program; items = s.items.items; world = s.threads; machines = s.machines.items; output = string_bytes s.output; used = s.used } in
+    let ours : IsOurs k c.args.ran = rw (← c.self.view_is) at c.requires in
+    rw (c.end.ensures, c.ask.ensures) (slice_here s.program c.args.ran ours.0 c.steps-steps.ensures.meant).awaits
+
+pub prepare-requires-clause-agrees : goal.prepare-requires-clause-agrees
+prepare-requires-clause-agrees c =
+    let s = c.self.inside in
+    let k : PlainCourse = record { program = s.program; items = s.items.items; world = s.threads; machines = s.machines.items; output = string_bytes s.output; used = s.used } in
+    let ours : IsOurs k c.args.ran = rw (← c.self.view_is) at c.requires in
+    rw c.ask.ensures (slice_here s.program c.args.ran ours.0 c.steps-steps.ensures.meant).agrees
+
+pub settle-requires-clause-settles : goal.settle-requires-clause-settles
+settle-requires-clause-settles c =
+    let s = c.self.inside in
+    let k : PlainCourse = record { program = s.program; items = s.items.items; world = s.threads; machines = s.machines.items; output = string_bytes s.output; used = s.used } in
+    let ran = c.args.ran in
+    let ours : IsOurs k ran = rw (← c.self.view_is) at c.requires in
+    let slice = slice_here s.program ran ours.0 c.steps-steps.ensures.meant in
+    let fits : DoneFits s.program ran.ask ran.end c.in-Ok-prepare.prepared.done = rw (c.end.ensures, c.ask.ensures) at c.in-Ok-prepare.ensures.ok.fits in
+    rw c.into_end-end.ensures.end (can_settle s.program ran.ask ran.end c.in-Ok-prepare.prepared.done slice.fits slice.awaits fits)
+
+pub settle-requires-clause-there : goal.settle-requires-clause-there
+settle-requires-clause-there c =
+    let s = c.self.inside in
+    let k : PlainCourse = record { program = s.program; items = s.items.items; world = s.threads; machines = s.machines.items; output = string_bytes s.output; used = s.used } in
+    let ran = c.args.ran in
+    let ours : IsOurs k ran = rw (← c.self.view_is) at c.requires in
+    let e : c.thread-thread.result.0 ≡ ran.start.thread = c.thread-thread.ensures ∙ ap (λ m. m.thread) c.start.ensures in
+    let own = ours_own k ran c.self.invariant ours in
+    omega (arith, e, machine_within k ran.start.thread c.self.invariant own.running, ap length c.reserve-2.ensures.items)
+
+pub invariant_of-self-2 : goal.invariant_of-self-2
+invariant_of-self-2 c =
+    let s = c.self.inside in
+    let k : PlainCourse = record { program = s.program; items = s.items.items; world = s.threads; machines = s.machines.items; output = string_bytes s.output; used = s.used } in
+    let ran = c.args.ran in
+    let number = c.thread-thread.result in
+    let prepared = c.in-Ok-prepare.prepared in
+    let ours : IsOurs k ran = rw (← c.self.view_is) at c.requires in
+    let own : Keeps k ran.start.thread ran.start = ours_own k ran c.self.invariant ours in
+    let e : number.0 ≡ ran.start.thread = c.thread-thread.ensures ∙ ap (λ m. m.thread) c.start.ensures in
+    let n : IsNumber number.0 = omega arith in
+    let turn : TurnDone k number ran.start ran.end ran.ask ran.steps prepared.done c.prepare.new.book (string_bytes prepared.line) c.settle.new.machines.items = record {
+      runs = rw e own.running;
+      at = rw e own.machine;
+      slice = slice_here s.program ran ours.0 c.steps-steps.ensures.meant;
+      done = rw c.ask.ensures at c.in-Ok-prepare.ensures.ok.performed;
+      fits = rw (c.end.ensures, c.ask.ensures) at c.in-Ok-prepare.ensures.ok.fits;
+      tells = rw c.ask.ensures at c.in-Ok-prepare.ensures.ok.line;
+      settled = rw (c.reserve-2.ensures.items, c.into_end-end.ensures.end) at c.settle.ensures;
+    } in
+    let items : c.push_reserved.new.self.items ≡ s.items.items ++ Turn number ∷ [] = c.push_reserved.ensures.items ∙ ap (λ xs. xs ++ Turn number ∷ []) c.reserve.ensures.items in
+    let output : string_bytes c.tell.new.output ≡ string_bytes s.output ++ string_bytes prepared.line = c.tell.ensures ∙ ap (λ xs. xs ++ c.as_str.result.now) c.prepare.ensures.bytes ∙ ap (λ xs. string_bytes s.output ++ xs) c.as_str.ensures.value in
+    let used : s.used + c.from.result ≡ s.used + ran.steps = ap (λ n. s.used + n) (c.from.ensures ∙ c.steps-steps.ensures.steps) in
+    turned_leads_at k number ran.start ran.end ran.ask ran.steps prepared.done c.prepare.new.book (string_bytes prepared.line) c.settle.new.machines.items
+    c.push_reserved.new.self.items (string_bytes c.tell.new.output) (s.used + c.from.result) items output used c.self.invariant n turn
+
+pub returns-clause-ok : goal.returns-clause-ok
+returns-clause-ok c =
+    let s = c.self.inside in
+    let k : PlainCourse = record { program = s.program; items = s.items.items; world = s.threads; machines = s.machines.items; output = string_bytes s.output; used = s.used } in
+    let ran = c.args.ran in
+    let number = c.thread-thread.result in
+    let prepared = c.in-Ok-prepare.prepared in
+    let ours : IsOurs k ran = rw (← c.self.view_is) at c.requires in
+    let own : Keeps k ran.start.thread ran.start = ours_own k ran c.self.invariant ours in
+    let e : number.0 ≡ ran.start.thread = c.thread-thread.ensures ∙ ap (λ m. m.thread) c.start.ensures in
+    let turn : TurnDone k number ran.start ran.end ran.ask ran.steps prepared.done c.prepare.new.book (string_bytes prepared.line) c.settle.new.machines.items = record {
+      runs = rw e own.running;
+      at = rw e own.machine;
+      slice = slice_here s.program ran ours.0 c.steps-steps.ensures.meant;
+      done = rw c.ask.ensures at c.in-Ok-prepare.ensures.ok.performed;
+      fits = rw (c.end.ensures, c.ask.ensures) at c.in-Ok-prepare.ensures.ok.fits;
+      tells = rw c.ask.ensures at c.in-Ok-prepare.ensures.ok.line;
+      settled = rw (c.reserve-2.ensures.items, c.into_end-end.ensures.end) at c.settle.ensures;
+    } in
+    let items : c.push_reserved.new.self.items ≡ s.items.items ++ Turn number ∷ [] = c.push_reserved.ensures.items ∙ ap (λ xs. xs ++ Turn number ∷ []) c.reserve.ensures.items in
+    let output : string_bytes c.tell.new.output ≡ string_bytes s.output ++ string_bytes prepared.line = c.tell.ensures ∙ ap (λ xs. xs ++ c.as_str.result.now) c.prepare.ensures.bytes ∙ ap (λ xs. string_bytes s.output ++ xs) c.as_str.ensures.value in
+    let used : s.used + c.from.result ≡ s.used + ran.steps = ap (λ n. s.used + n) (c.from.ensures ∙ c.steps-steps.ensures.steps) in
+    let turns = turned_is_at k number ran.start ran.end ran.ask ran.steps prepared.done c.prepare.new.book (string_bytes prepared.line) c.settle.new.machines.items
+    c.push_reserved.new.self.items (string_bytes c.tell.new.output) (s.used + c.from.result) items output used c.self.invariant turn in
+    rw (← c.self.view_is, c.gone-gone.ensures) (turns, e)

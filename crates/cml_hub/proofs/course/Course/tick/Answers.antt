@@ -1,0 +1,22 @@
+use Rattle.std.specs.String.{string_bytes}
+use Rattle.cml_hub.specs.Courses.{PlainCourse}
+use Rattle.cml_hub.proofs.Meeting.{ticked_leads}
+use Rattle.cml_hub.proofs.Ticking.{clock_moves, clocked_is, clock_refused}
+use Rattle.cml_hub.proofs.course.Course.tick.Goals as goal
+
+pub invariant_of-self-in-Ok : goal.invariant_of-self-in-Ok
+invariant_of-self-in-Ok c =
+    let s = c.self.inside in
+    let k : PlainCourse = record { program = s.program; items = s.items.items; world = s.threads; machines = s.machines.items; output = string_bytes s.output; used = s.used } in
+    let ok = rw (← c.self.view_is) at c.requires in
+    let moves = clock_moves s.threads c.args.tick ok c.self.invariant.agrees.soon in
+    let world = clocked_is s.threads c.clock.new.self c.args.tick c.in-Ok.field-0 moves c.in-Ok.ensures in
+    rw (c.push_reserved.ensures.items, c.reserve.ensures.items, world) (ticked_leads k c.args.tick c.self.invariant ok)
+
+pub unreachable-requires : goal.unreachable-requires
+unreachable-requires c =
+    let s = c.self.inside in
+    let ok = rw (← c.self.view_is) at c.requires in
+    let moves = clock_moves s.threads c.args.tick ok c.self.invariant.agrees.soon in
+    let refused = rw c.in-Err-Refused.field-0-is at c.in-Err-Refused.ensures in
+    clock_refused s.threads c.args.tick c.in-Err-Refused.field-0-0 moves refused.0

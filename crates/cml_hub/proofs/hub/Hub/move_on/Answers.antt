@@ -1,0 +1,61 @@
+use Rattle.std.proofs.Common.{◌≡◌, true, false, not, refl, sym, ap, ◌∙◌}
+use Rattle.cml_schedule.specs.declared.item.Item.TheVariants.{Clock}
+use Rattle.cml_hub.specs.Runs.{any_runs, terminal}
+use Rattle.cml_hub.specs.Kept.{IsNoTurn}
+use Rattle.cml_hub.proofs.Marking.{placed_any}
+use Rattle.cml_hub.proofs.Onward.{none_runs, some_runs, tick_allowed, terminal_is}
+use Rattle.cml_hub.proofs.hub.Hub.move_on.Goals.{then-swaps, else-swaps}
+use Rattle.cml_hub.proofs.hub.Hub.move_on.Goals as goal
+
+pub meet-requires-clause-takes : goal.meet-requires-clause-takes
+meet-requires-clause-takes g c =
+    elim c.if-swaps.branch [ then-swaps w ↦ rw (w.item-is) refl | else-swaps w ↦ rw (w.item-is) refl ]
+
+pub meet-requires-clause-allowed : goal.meet-requires-clause-allowed
+meet-requires-clause-allowed g c =
+    elim c.if-swaps.branch [
+      | then-swaps w ↦ rw (← c.self.view_is, w.item-is) (sym c.swaps.ensures ∙ w.if-swaps.true)
+      | else-swaps w ↦ rw (← c.self.view_is, w.item-is) c.in-Some.ensures
+    ]
+
+pub meet-requires-clause-due : goal.meet-requires-clause-due
+meet-requires-clause-due g c =
+    c.requires.due
+
+pub returns-in-Some-clause-ok : goal.returns-in-Some-clause-ok
+returns-in-Some-clause-ok g c =
+    let no_turn : IsNoTurn c.if-swaps.item = elim c.if-swaps.branch [ then-swaps w ↦ rw (w.item-is) tt | else-swaps w ↦ rw (w.item-is) tt ] in
+    (c.if-swaps.item, no_turn, c.in_ok-meet.ensures.moves, c.meet.ensures.out)
+
+pub returns-then-not-is_idle-clause-ok : goal.returns-then-not-is_idle-clause-ok
+returns-then-not-is_idle-clause-ok g c =
+    let s = c.self.inside in
+    let runs = c.is_idle.ensures ∙ ap not (placed_any s.course.world.threads s.marks.marks c.self.invariant.placed) in
+    let busy : c.is_idle.result ≡ false = cc in
+    rw (← c.self.view_is) (c.in_default.ensures, some_runs c.is_idle.result (any_runs s.course.world) runs busy, refl)
+
+pub tick-requires-clause-allowed : goal.tick-requires-clause-allowed
+tick-requires-clause-allowed g c =
+    let s = c.self.inside in
+    let runs = c.is_idle.ensures ∙ ap not (placed_any s.course.world.threads s.marks.marks c.self.invariant.placed) in
+    let quiet : c.is_idle.result ≡ true = cc in
+    let idle = none_runs c.is_idle.result (any_runs s.course.world) runs quiet in
+    rw (← c.self.view_is) (tick_allowed s.course.world c.in-Some-next_alarm.tick c.in_default.ensures idle (sym c.next_alarm.ensures ∙ c.in-Some-next_alarm.is))
+
+pub tick-requires-clause-due : goal.tick-requires-clause-due
+tick-requires-clause-due g c =
+    c.requires.due
+
+pub unreachable-requires : goal.unreachable-requires
+unreachable-requires g c =
+    let s = c.self.inside in
+    let runs = c.is_idle.ensures ∙ ap not (placed_any s.course.world.threads s.marks.marks c.self.invariant.placed) in
+    let quiet : c.is_idle.result ≡ true = cc in
+    let idle = none_runs c.is_idle.result (any_runs s.course.world) runs quiet in
+    let over = terminal_is s.course.world c.in_default.ensures idle (sym c.next_alarm.ensures ∙ c.in-None.is) in
+    let going : terminal s.course.world ≡ false = rw (← c.self.view_is) at c.requires.going in
+    cc
+
+pub returns-clause-ok : goal.returns-clause-ok
+returns-clause-ok g c =
+    (Clock c.in-Some-next_alarm.tick, tt, c.in_ok-tick-in-Some-next_alarm.ensures.moves, c.tick.ensures.out)

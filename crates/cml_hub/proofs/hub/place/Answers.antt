@@ -1,0 +1,40 @@
+use Rattle.std.proofs.Common.{◌≡◌, length, refl, sym, ◌∙◌}
+use Rattle.cml_hub.specs.declared.marks.Mark.TheVariants.{Ready, Away}
+use Rattle.cml_hub.proofs.Standing.{set_again}
+use Rattle.cml_hub.proofs.Marking.{there_away, pushed_away, set_pushed, marks_length}
+use Rattle.cml_hub.proofs.hub.place.Goals as goal
+
+pub make_ready-requires-clause-away : goal.make_ready-requires-clause-away
+make_ready-requires-clause-away c =
+    let ms = c.args.marks.now.marks in
+    let t = c.args.thread.0 in
+    rw (c.take_away.ensures.marks) (there_away ms t c.requires.there)
+
+pub add-requires-clause-next : goal.add-requires-clause-next
+add-requires-clause-next c =
+    let ms = c.args.marks.now.marks in
+    let t = c.args.thread.0 in
+    let next : c.in-With.child.0 ≡ length ms = rw (c.in-With.is) at c.requires.next in
+    rw (c.take_away.ensures.marks) (next ∙ sym (marks_length ms t Away))
+
+pub make_ready-requires-in-With-clause-away : goal.make_ready-requires-in-With-clause-away
+make_ready-requires-in-With-clause-away c =
+    let ms = c.args.marks.now.marks in
+    let t = c.args.thread.0 in
+    rw (c.add.ensures.marks, c.take_away.ensures.marks) (pushed_away ms t c.requires.there)
+
+pub returns-in-On : goal.returns-in-On
+returns-in-On c =
+    let ms = c.args.marks.now.marks in
+    let t = c.args.thread.0 in
+    rw (c.in-On.is, c.make_ready.ensures.marks, c.take_away.ensures.marks) (set_again ms t Away Ready)
+
+pub returns-in-With : goal.returns-in-With
+returns-in-With c =
+    let ms = c.args.marks.now.marks in
+    let t = c.args.thread.0 in
+    rw (c.in-With.is, c.make_ready-in-With.ensures.marks, c.add.ensures.marks, c.take_away.ensures.marks) (set_pushed ms t c.requires.there)
+
+pub returns-in-Off : goal.returns-in-Off
+returns-in-Off c =
+    rw (c.in-Off.is, c.take_away.ensures.marks) refl

@@ -1,0 +1,91 @@
+-- How the parts of a hub change what it keeps.
+use Rattle.std.specs.Prelude.{ℕ, ◌≡◌, ◌≢◌, ◌<◌, Bool, true, false, List, [], ◌∷◌, ◌++◌, length, Option, Some, None, slice_get, slice_set}
+use Rattle.cml_scan.specs.Scan.{scan}
+use Rattle.cml_scan.specs.declared.meet.Meet.{Meet}
+use Rattle.cml_scan.specs.declared.meet.Meet.TheVariants.{Single, Pair}
+use Rattle.cml_monitor.specs.Reports.{PlainReport}
+use Rattle.cml_schedule.specs.declared.item.Item.{Item}
+use Rattle.cml_step.specs.Machines.{PlainMachine}
+use Rattle.cml_hub.specs.declared.done.Gone.{Gone}
+use Rattle.cml_hub.specs.declared.done.Gone.TheVariants as gone_of
+use Rattle.cml_hub.specs.declared.marks.Mark.{Mark}
+use Rattle.cml_hub.specs.declared.marks.Mark.TheVariants as mark
+use Rattle.cml_hub.specs.Runs.{any_runs}
+use Rattle.cml_hub.specs.Dones.{GoesOn}
+use Rattle.cml_hub.specs.Courses.{Adds, Keeps}
+use Rattle.cml_hub.specs.Kept.{Kept, AllOut, NoneOut, NoneDue, IsNoTurn, is_out_of}
+
+-- the thread that begins, if one does, has the next number
+abbrev pub IsNext : Gone → List Mark → Type 0
+IsNext (gone_of.With child) ms = child.0 ≡ length ms
+IsNext g ms = Unit {0}
+
+-- where the threads are after a turn of the thread t
+abbrev pub marks_after : ℕ → Gone → List Mark → List Mark
+marks_after t gone_of.On ms = slice_set ms t mark.Ready
+marks_after t (gone_of.With child) ms = slice_set ms t mark.Ready ++ mark.Ready ∷ []
+marks_after t gone_of.Off ms = slice_set ms t mark.Away
+
+-- the parties of a row do not run, and are two
+abbrev pub PartiesAway : List Mark → Meet → Type 0
+PartiesAway ms (Single t n) = slice_get ms t.0 ≡ Some mark.Away
+PartiesAway ms (Pair h i o j) = (slice_get ms h.0 ≡ Some mark.Away) × (slice_get ms o.0 ≡ Some mark.Away) × (h.0 ≢ o.0)
+
+-- where the threads are after a row
+abbrev pub marks_met : Meet → List Mark → List Mark
+marks_met (Single t n) ms = slice_set ms t.0 mark.Ready
+marks_met (Pair h i o j) ms = slice_set (slice_set ms h.0 mark.Ready) o.0 mark.Ready
+
+-- one item more, and no report yet
+pub record Moves (old : Kept) (item : Item) (new : Kept) : Type 0 where
+  pub adds : Adds old.course item new.course
+  pub budget : new.budget ≡ old.budget
+  pub watch : new.watch ≡ old.watch
+  pub reports : new.reports ≡ old.reports
+  pub used : old.course.used < new.course.used
+
+-- of the thread no slice is out, and of the others as before
+pub record TakesBack (old : List Bool) (t : ℕ) (new : List Bool) : Type 0 where
+  pub back : is_out_of new t ≡ false
+  pub others : (u : ℕ) → u ≢ t → is_out_of new u ≡ is_out_of old u
+
+-- the report that was due was made, and none is due now
+pub record Reported (old new : Kept) : Type 0 where
+  pub course : new.course ≡ old.course
+  pub budget : new.budget ≡ old.budget
+  pub watch : new.watch ≡ old.watch
+  pub out : new.out ≡ old.out
+  pub made : List PlainReport
+  pub reports : new.reports ≡ old.reports ++ made
+  pub none_due : NoneDue new
+
+-- the machine of a running thread was handed out; or no thread was ready
+abbrev pub HandedOut : Kept → Option PlainMachine → Kept → Type 0
+HandedOut old None new = AllOut old × (new ≡ old)
+HandedOut old (Some m) new =
+    Keeps old.course m.thread m × GoesOn old.course.program m × (is_out_of old.out m.thread ≡ false)
+    × (new ≡ record old { out = slice_set old.out m.thread true })
+
+-- A row was taken, or the time moved; or there is nothing to do before a slice comes back.
+abbrev pub MovedOn : Kept → Bool → Kept → Type 0
+MovedOn old true new = (item : Item) × IsNoTurn item × Moves old item new × (new.out ≡ old.out)
+MovedOn old false new = (scan old.course.world ≡ []) × (any_runs old.course.world ≡ true) × (new ≡ old)
+
+-- no slice is out any more, and all else is as before
+pub record CalledBack (old new : Kept) : Type 0 where
+  pub course : new.course ≡ old.course
+  pub budget : new.budget ≡ old.budget
+  pub watch : new.watch ≡ old.watch
+  pub reports : new.reports ≡ old.reports
+  pub none_out : NoneOut new
+
+-- one item more, and no slice is out
+pub record GoesAlone (old new : Kept) : Type 0 where
+  pub item : Item
+  pub moves : Moves old item new
+  pub none_out : NoneOut new
+
+-- the reports with this one behind them, if there is one
+abbrev pub with_report : List PlainReport → Option PlainReport → List PlainReport
+with_report reports None = reports
+with_report reports (Some r) = reports ++ r ∷ []

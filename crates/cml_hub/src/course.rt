@@ -1,0 +1,375 @@
+//! The course of a program: its schedule so far, and where that has led.
+
+ghost use Rattle.std.specs.Prelude.{◌≡◌, ◌↔◌, ◌<◌, ◌≤◌, ◌+◌, ◌++◌, true, [], Some, IfOk, IfErr, OnOk, OnErr, IsTrue, MatchOption, slice_get, length, map, not};
+ghost use Rattle.std.specs.List.{All};
+ghost use Rattle.std.specs.String.{string_bytes, string_len, string_capacity};
+ghost use Rattle.cml_scan.specs.World.{running, pending};
+ghost use Rattle.cml_scan.specs.Scan.{scan, has_row};
+ghost use Rattle.cml_book.specs.Walks.{is_running};
+ghost use Rattle.cml_schedule.specs.Laws.{IsWritable};
+ghost use Rattle.cml_step.specs.Calls.{text_of};
+ghost use Rattle.cml_schedule.specs.Laws.{AreNumbers};
+ghost use Rattle.cml_hub.specs.Runs as spec;
+ghost use Rattle.cml_hub.specs.Dones.{GoesOn};
+ghost use Rattle.cml_book.specs.Swaps.{swaps};
+ghost use Rattle.cml_hub.specs.Courses.{IsOpening, Begins, Keeps, IsOurs, run_of, Turns, Takes, Meets, Ticks};
+ghost use Rattle.cml_hub.specs.Reports.{shown};
+
+use crate::choose::Chooser;
+use crate::done::Gone;
+use crate::perform::{Threads, prepare};
+use crate::pick::pick_row;
+use crate::settle::{resume_all, settle};
+use cml_book::{Book, Fault};
+use cml_check::Prog;
+use cml_index::OfferIndex;
+use cml_monitor::Report;
+use cml_scan::law::{no_head_where_no_row, scan_lists_what_is_enabled};
+use cml_scan::{Meet, Table};
+use cml_schedule::Item;
+use cml_step::{Machine, Ran, Slice, run_slice};
+use cml_value::{FnRef, Tid};
+use std::alloc::{AllocError, AllocFailed, Global};
+use std::marker::Model;
+
+// A program, the schedule so far, and where it has led: the threads and objects, the machine of each thread, the output, and how much of the
+// budget was used.
+#[derive(Drop)]
+pub(crate) struct Course {
+    program: Prog,
+    items: Vec<Item>,
+    threads: Threads,
+    machines: Vec<Machine>,
+    output: String,
+    used: u128,
+}
+
+impl Model for Course {
+    ghost use Rattle.std.specs.String.{string_bytes};
+    ghost use Rattle.cml_hub.specs.CourseCodes.{course_code};
+    ghost use Rattle.cml_hub.specs.Courses.{PlainCourse, Leads};
+
+    ghost Value = { PlainCourse };
+
+    ghost coded = { course_code };
+
+    ghost view = { λ c. record {
+      program = c.program;
+      items = c.items.items;
+      world = c.threads;
+      machines = c.machines.items;
+      output = string_bytes c.output;
+      used = c.used;
+    } };
+
+    ghost invariant = { λ c. Leads (record {
+      program = c.program;
+      items = c.items.items;
+      world = c.threads;
+      machines = c.machines.items;
+      output = string_bytes c.output;
+      used = c.used;
+    }) };
+}
+
+// Puts a line behind the output, where there is room for it.
+fn tell(output: &mut String, line: &str)
+    requires { string_len output.old + length line.now ≤ string_capacity output.old }
+    ensures { string_bytes output.new ≡ string_bytes output.old ++ line.now }
+{
+    match output.push_str(line) {
+        Ok(()) => {}
+        Err(_) => unreachable!(),
+    }
+}
+
+// The numbers of a row are in their ranges.
+fn read_numbers(row: Meet)
+    ensures { AreNumbers row }
+{
+    match row {
+        Meet::Single { tid, leaf } => {
+            let _numbers = (tid.0, leaf);
+        }
+        Meet::Pair {
+            head,
+            head_leaf,
+            other,
+            other_leaf,
+        } => {
+            let _numbers = (head.0, head_leaf, other.0, other_leaf);
+        }
+    }
+}
+
+impl Course {
+    // The program.
+    pub(crate) fn program(&self) -> &Prog
+        ensures { result.now ≡ self.now.program }
+    {
+        &self.program
+    }
+
+    // The schedule so far, which leads to where the course stands.
+    pub(crate) fn items(&self) -> &[Item]
+        ensures items { result.now ≡ self.now.items }
+        ensures leads { spec.stands (text_of self.now.program) self.now.items ≡ Some (run_of self.now) }
+        ensures writable { All IsWritable self.now.items }
+    {
+        self.items.as_slice()
+    }
+
+    // What was printed, with the lines of faults.
+    pub(crate) fn output(&self) -> &str
+        ensures { result.now ≡ self.now.output }
+    {
+        self.output.as_str()
+    }
+
+    // How much of the budget was used.
+    pub(crate) fn used(&self) -> u128
+        ensures { result ≡ self.now.used }
+    {
+        self.used
+    }
+
+    // How many threads wait.
+    pub(crate) fn pending_count(&self) -> usize
+        ensures { result ≡ length (pending self.now.world) }
+    {
+        self.threads.pending_count()
+    }
+
+    // Whether the thread of this number runs.
+    pub(crate) fn is_running(&self, thread: Tid) -> bool
+        ensures { result ≡ is_running self.now.world thread.0 }
+    {
+        self.threads.is_running(thread)
+    }
+
+    // The next alarm, if there is one.
+    pub(crate) fn next_alarm(&self) -> Option<u64>
+        ensures { result ≡ spec.next_alarm self.now.world }
+    {
+        self.threads.next_alarm()
+    }
+
+    // Whether no row can be taken.
+    pub(crate) fn is_still(&self) -> bool
+        ensures { result ≡ spec.is_empty (scan self.now.world) }
+    {
+        no_head_where_no_row();
+        self.threads.table().head_count() == 0
+    }
+
+    // A row that the chooser picks, if one can be taken.
+    pub(crate) fn pick<C: Chooser>(&self, chooser: &mut C) -> Option<Meet>
+        ensures { MatchOption result (scan self.now.world ≡ []) (λ row. has_row (scan self.now.world) row ≡ true) }
+    {
+        pick_row(self.threads.table(), chooser)
+    }
+
+    // Whether the row can be taken.
+    pub(crate) fn has(&self, row: &Meet) -> bool
+        ensures { result ≡ has_row (scan self.now.world) row.now }
+    {
+        self.threads.table().has(row)
+    }
+
+    // Whether the row can be taken, and exchanges two values.
+    pub(crate) fn swaps(&self, row: &Meet) -> bool
+        ensures { result ≡ swaps self.now.world row.now }
+    {
+        self.threads.swaps(row)
+    }
+
+    // Whether the time may move to this tick: no thread runs, no row can be taken, and it is the next alarm.
+    pub(crate) fn may_tick(&self, tick: u64, is_idle: bool) -> bool
+        requires { is_idle ≡ not (spec.any_runs self.now.world) }
+        ensures { result ≡ spec.is_allowed self.now.world (Item.Clock tick) }
+    {
+        is_idle && self.is_still() && self.next_alarm() == Some(tick)
+    }
+
+    // What there is to see now, after so many items.
+    pub(crate) fn report(&self, alloc: Global, at: u64) -> Result<Report, AllocError>
+        ensures { IfOk result (λ report. report ≡ shown at self.now.world) }
+    {
+        let rows = self.threads.table().rows(alloc)?;
+        let waiting = self.threads.pending(alloc)?;
+        Report::new(alloc, at, rows, waiting)
+    }
+
+    // The machine of a thread that runs.
+    pub(crate) fn machine(&self, thread: Tid) -> &Machine
+        requires { slice_get self.now.world.threads thread.0 ≡ Some running }
+        ensures keeps { Keeps self.now thread.0 result.now }
+        ensures stands { GoesOn self.now.program result.now }
+        ensures thread { result.now.thread ≡ thread.0 }
+    {
+        &self.machines[thread.0 as usize]
+    }
+
+    // Whether the slice is of this program, and some running thread has the machine with which it began. It compares both.
+    pub(crate) fn is_ours(&self, ran: &Ran) -> bool
+        ensures { IsTrue result ↔ IsOurs self.now ran.now }
+    {
+        let start = ran.start();
+        let thread = start.thread();
+        if !self.threads.is_running(thread) {
+            return false;
+        }
+        if !self.machines[thread.0 as usize].same(start) {
+            return false;
+        }
+        self.program.same(ran.program())
+    }
+
+    // A turn of the thread.
+    pub(crate) fn turn(&mut self, alloc: Global, thread: Tid) -> Result<Gone, AllocError>
+        requires { slice_get self.old.world.threads thread.0 ≡ Some running }
+        ensures ok { IfOk result (λ gone. Turns self.old thread gone self.new) }
+        ensures err { OnErr result (self.new ≡ self.old) }
+    {
+        let slice = run_slice(alloc, &self.program, &self.machines[thread.0 as usize])?;
+        let Slice { end, ask, steps } = slice;
+        self.items.reserve(1)?;
+        self.machines.reserve(1)?;
+        let prepared = prepare(
+            alloc,
+            &self.program,
+            &mut self.threads,
+            &mut self.output,
+            thread,
+            &end,
+            &ask,
+        )?;
+        let gone = prepared.done.gone();
+        tell(&mut self.output, prepared.line.as_str());
+        settle(alloc, &mut self.machines, thread, end, prepared.done);
+        self.items.push_reserved(Item::Turn(thread));
+        self.used += u128::from(steps);
+        Ok(gone)
+    }
+
+    // The turn that the slice is.
+    pub(crate) fn give(&mut self, alloc: Global, ran: Ran) -> Result<(Tid, Gone), Ran>
+        requires { IsOurs self.old ran }
+        ensures ok { IfOk result (λ r. Turns self.old r.0 r.1 self.new × (r.0.0 ≡ ran.start.thread)) }
+        ensures err { IfErr result (λ back. (back ≡ ran) × (self.new ≡ self.old)) }
+    {
+        let thread = ran.start().thread();
+        let steps = ran.steps();
+        let Ok(()) = self.items.reserve(1) else {
+            return Err(ran);
+        };
+        let Ok(()) = self.machines.reserve(1) else {
+            return Err(ran);
+        };
+        let Ok(prepared) = prepare(
+            alloc,
+            &self.program,
+            &mut self.threads,
+            &mut self.output,
+            thread,
+            ran.end(),
+            ran.ask(),
+        ) else {
+            return Err(ran);
+        };
+        let gone = prepared.done.gone();
+        tell(&mut self.output, prepared.line.as_str());
+        let (end, _ask) = ran.into_end();
+        settle(alloc, &mut self.machines, thread, end, prepared.done);
+        self.items.push_reserved(Item::Turn(thread));
+        self.used += u128::from(steps);
+        Ok((thread, gone))
+    }
+
+    // The row is taken, by this item.
+    pub(crate) fn meet(&mut self, alloc: Global, item: Item, row: Meet) -> Result<(), AllocError>
+        requires takes { Takes item row }
+        requires allowed { spec.is_allowed self.old.world item ≡ true }
+        ensures ok { OnOk result (Meets self.old item row self.new) }
+        ensures err { OnErr result (self.new ≡ self.old) }
+    {
+        scan_lists_what_is_enabled();
+        read_numbers(row);
+        self.items.reserve(1)?;
+        match self.threads.commit(alloc, row) {
+            Ok(committed) => {
+                resume_all(alloc, &mut self.machines, committed);
+                self.items.push_reserved(item);
+                self.used += 1;
+                Ok(())
+            }
+            Err(Fault::Memory) => Err(AllocError),
+            Err(Fault::Refused(_)) => unreachable!(),
+        }
+    }
+
+    // The time moves to the next alarm.
+    pub(crate) fn tick(&mut self, alloc: Global, tick: u64) -> Result<(), AllocError>
+        requires { spec.is_allowed self.old.world (Item.Clock tick) ≡ true }
+        ensures ok { OnOk result (Ticks self.old tick self.new) }
+        ensures err { OnErr result (self.new ≡ self.old) }
+    {
+        self.items.reserve(1)?;
+        match self.threads.clock(alloc, tick) {
+            Ok(()) => {
+                self.items.push_reserved(Item::Clock(tick));
+                self.used += 1;
+                Ok(())
+            }
+            Err(Fault::Memory) => Err(AllocError),
+            Err(Fault::Refused(_)) => unreachable!(),
+        }
+    }
+}
+
+// The first function's machine, and the room in which it begins.
+fn opening(alloc: Global, program: &Prog) -> Result<(Vec<Machine>, Threads), AllocError>
+    ensures { IfOk result (λ r. IsOpening program.now r.0.items r.1) }
+{
+    let Ok(main) = FnRef::new(alloc, program.main(), Vec::new(alloc)) else {
+        return Err(AllocError);
+    };
+    let Ok(machine) = Machine::start(alloc, program, Tid(0), main) else {
+        return Err(AllocError);
+    };
+    let mut machines = Vec::new(alloc);
+    machines.push(machine)?;
+    let mut threads = Book::new(alloc, OfferIndex::new(alloc));
+    match threads.spawn() {
+        Ok(_) => Ok((machines, threads)),
+        Err(_) => Err(AllocError),
+    }
+}
+
+impl Course {
+    // The course of a program at its beginning: thread 0 is about to call `main`.
+    pub(crate) fn begin(alloc: Global, program: Prog) -> Result<Course, AllocFailed<Prog>>
+        ensures ok { IfOk result (λ c. Begins program c) }
+        ensures err { IfErr result (λ back. back.value ≡ program) }
+    {
+        match opening(alloc, &program) {
+            Ok((machines, threads)) => Ok(Course {
+                program,
+                items: Vec::new(alloc),
+                threads,
+                machines,
+                output: String::new(alloc),
+                used: 0,
+            }),
+            Err(_) => Err(AllocFailed { value: program }),
+        }
+    }
+
+    // The program, and nothing else of the course. The schedule led to where the course stood.
+    pub(crate) fn into_program(self) -> Prog
+        ensures program { result ≡ self.program }
+        ensures leads { spec.stands (text_of self.program) self.items ≡ Some (run_of self) }
+    {
+        self.program
+    }
+}

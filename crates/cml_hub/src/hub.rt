@@ -1,0 +1,570 @@
+//! The hub: it hands out slices of the threads and takes them back, chooses among the communications that are possible, and keeps the
+//! schedule of what happened.
+
+ghost use Rattle.std.specs.Prelude.{◌≡◌, ◌↔◌, ◌+◌, ◌*◌, ◌≤◌, ◌<◌, [], Some, IfOk, IfErr, IfSome, OnOk, OnErr, IsTrue, Ok, true, false, length, slice_get};
+ghost use Rattle.std.specs.Vec.{vec_len, vec_capacity};
+ghost use Rattle.cml_scan.specs.World.{pending, running};
+ghost use Rattle.cml_check.specs.Sizes.{size_of};
+ghost use Rattle.cml_schedule.specs.Written.{schedule_text};
+ghost use Rattle.cml_schedule.specs.Reading.{ReadsAs};
+ghost use Rattle.cml_step.specs.Calls.{text_of};
+ghost use Rattle.cml_hub.specs.Runs as spec;
+ghost use Rattle.cml_hub.specs.Courses.{run_of, Takes, Adds};
+ghost use Rattle.cml_hub.specs.Reports.{AreReports, IsDueReport};
+ghost use Rattle.cml_hub.specs.Kept.{IsBudget, IsWatch, IsBegun, Continues, Extends, HandsOut, is_ended, NoneDue, NoneOut, AllOut, Gives, IsOver, Replays, FitsSize};
+ghost use Rattle.cml_hub.specs.Moves.{IsNext, marks_after, PartiesAway, marks_met, Moves, TakesBack, Reported, HandedOut, MovedOn, CalledBack, GoesAlone, with_report};
+
+use crate::choose::Chooser;
+use crate::course::Course;
+use crate::done::Gone;
+use crate::fault::{End, GiveFault, Next, ReplayFault};
+use crate::marks::Marks;
+use cml_check::Prog;
+use cml_monitor::Report;
+use cml_scan::Meet;
+use cml_schedule::law::written_is_read;
+use cml_schedule::{Item, Plan, schedule_text};
+use cml_step::{Machine, Ran};
+use cml_value::Tid;
+use std::alloc::{AllocError, AllocFailed, Global};
+use std::marker::Model;
+
+/// The threads of a program, with the schedule that led to where they stand. Whatever is done with a hub, its schedule leads from the
+/// beginning of the program to the world, the machines and the output that it has, and its reports show what there was to see on the way.
+#[derive(Drop)]
+pub struct Hub {
+    course: Course,
+    marks: Marks,
+    budget: u64,
+    watch: Option<u64>,
+    reports: Vec<Report>,
+}
+
+impl Model for Hub {
+    ghost use Rattle.std.specs.Prelude.{map};
+    ghost use Rattle.cml_hub.specs.Marks.{is_out};
+    ghost use Rattle.cml_hub.specs.KeptCodes.{kept_code};
+    ghost use Rattle.cml_hub.specs.Kept.{Kept, Stands};
+
+    ghost Value = { Kept };
+
+    ghost coded = { kept_code };
+
+    ghost view = { λ h. record {
+      course = h.course;
+      budget = h.budget;
+      watch = h.watch;
+      out = map is_out h.marks.marks;
+      reports = h.reports.items;
+    } };
+
+    ghost invariant = { λ h. Stands (record {
+      course = h.course;
+      budget = h.budget;
+      watch = h.watch;
+      out = map is_out h.marks.marks;
+      reports = h.reports.items;
+    }) h.marks.marks };
+}
+
+// The thread's mark after its turn. A thread that begins is queued before it.
+fn place(marks: &mut Marks, thread: Tid, gone: Gone)
+    requires there { thread.0 < length marks.old.marks }
+    requires next { IsNext gone marks.old.marks }
+    requires room { 2 ≤ marks.old.room }
+    requires more { 1 ≤ marks.old.more }
+    ensures { marks.new.marks ≡ marks_after thread.0 gone marks.old.marks }
+{
+    marks.take_away(thread);
+    match gone {
+        Gone::On => marks.make_ready(thread),
+        Gone::With(child) => {
+            marks.add(child);
+            marks.make_ready(thread);
+        }
+        Gone::Off => {}
+    }
+}
+
+// The parties of a row are ready, the head first.
+fn place_all(marks: &mut Marks, row: Meet)
+    requires away { PartiesAway marks.old.marks row }
+    requires room { 2 ≤ marks.old.room }
+    ensures { marks.new.marks ≡ marks_met row marks.old.marks }
+{
+    match row {
+        Meet::Single { tid, .. } => marks.make_ready(tid),
+        Meet::Pair { head, other, .. } => {
+            marks.make_ready(head);
+            marks.make_ready(other);
+        }
+    }
+}
+
+// Whether a report is due after so many items, where so many were made and one is made after each so many items.
+fn is_due(every: u64, reports: usize, items: usize) -> bool
+    ensures { IsTrue result ↔ (items ≡ every * (reports + 1)) }
+{
+    u128::from(every) * (reports as u128 + 1) == items as u128
+}
+
+// The report that is due, with room for it among the others.
+fn due(
+    alloc: Global,
+    course: &Course,
+    watch: Option<u64>,
+    reports: &mut Vec<Report>,
+) -> Result<Option<Report>, AllocError>
+    ensures due { IfOk result (λ due. IsDueReport watch (length course.now.items) (length reports.old.items) course.now.world due) }
+    ensures leads { spec.stands (text_of course.now.program) course.now.items ≡ Some (run_of course.now) }
+    ensures items { reports.new.items ≡ reports.old.items }
+    ensures room { IfOk result (λ due. IfSome due (λ _. vec_len reports.new < vec_capacity reports.new)) }
+{
+    let items = course.items().len();
+    let Some(every) = watch else {
+        return Ok(None);
+    };
+    if !is_due(every, reports.len(), items) {
+        return Ok(None);
+    }
+    reports.reserve(1)?;
+    Ok(Some(course.report(alloc, items as u64)?))
+}
+
+// Puts the report, if there is one, behind the others.
+fn add_report(reports: &mut Vec<Report>, report: Option<Report>)
+    requires { IfSome report (λ _. vec_len reports.old < vec_capacity reports.old) }
+    ensures { reports.new.items ≡ with_report reports.old.items report }
+{
+    if let Some(report) = report {
+        reports.push_reserved(report);
+    }
+}
+
+impl Hub {
+    /// The hub of a program at its beginning: thread 0 is about to call `main`. It runs until so much of the budget is used, a turn of a
+    /// thread using its steps and any other item 1. With a watch a report is made each time so many items more have happened. Both are
+    /// 1 to 1,000,000,000.
+    ///
+    /// # Errors
+    /// Out of memory. It hands the program back.
+    pub fn begin(
+        alloc: Global,
+        program: Prog,
+        budget: u64,
+        watch: Option<u64>,
+    ) -> Result<Hub, AllocFailed<Prog>>
+        requires budget { IsBudget budget }
+        requires watch { IsWatch watch }
+        ensures ok { IfOk result (λ hub. IsBegun program budget watch hub) }
+        ensures err { IfErr result (λ back. back.value ≡ program) }
+    {
+        let course = Course::begin(alloc, program)?;
+        let mut marks = Marks::new(alloc);
+        match marks.reserve() {
+            Ok(()) => {
+                marks.add(Tid(0));
+                Ok(Hub {
+                    course,
+                    marks,
+                    budget,
+                    watch,
+                    reports: Vec::new(alloc),
+                })
+            }
+            Err(_) => Err(AllocFailed {
+                value: course.into_program(),
+            }),
+        }
+    }
+
+    /// The program.
+    pub fn program(&self) -> &Prog
+        ensures { result.now ≡ self.now.course.program }
+    {
+        self.course.program()
+    }
+
+    /// How much of the budget a run may use.
+    pub fn budget(&self) -> u64
+        ensures budget { result ≡ self.now.budget }
+        ensures range { IsBudget result }
+    {
+        self.budget
+    }
+
+    /// After how many items a report is made, if any is.
+    pub fn watch(&self) -> Option<u64>
+        ensures watch { result ≡ self.now.watch }
+        ensures range { IsWatch result }
+    {
+        self.watch
+    }
+
+    /// What happened, in its order. It leads to where the hub stands.
+    pub fn schedule(&self) -> &[Item]
+        ensures items { result.now ≡ self.now.course.items }
+        ensures leads { spec.stands (text_of self.now.course.program) self.now.course.items ≡ Some (run_of self.now.course) }
+    {
+        self.course.items()
+    }
+
+    /// What was printed, with the lines of faults.
+    pub fn out(&self) -> &str
+        ensures { result.now ≡ self.now.course.output }
+    {
+        self.course.output()
+    }
+
+    /// How the run stands.
+    pub fn end(&self) -> End
+        ensures { result ≡ spec.ending self.now.budget (run_of self.now.course) }
+    {
+        if self.is_terminal() {
+            End::Quiet
+        } else if u128::from(self.budget) <= self.course.used() {
+            End::Budget
+        } else {
+            End::Partial
+        }
+    }
+
+    /// How many threads wait.
+    pub fn pending(&self) -> usize
+        ensures { result ≡ length (pending self.now.course.world) }
+    {
+        self.course.pending_count()
+    }
+
+    /// How much of the budget was used.
+    pub fn used(&self) -> u128
+        ensures { result ≡ self.now.course.used }
+    {
+        self.course.used()
+    }
+
+    /// The reports that were made.
+    pub fn reports(&self) -> &[Report]
+        ensures reports { result.now ≡ self.now.reports }
+        ensures meant { AreReports (text_of self.now.course.program) self.now.course.items self.now.watch self.now.reports }
+    {
+        self.reports.as_slice()
+    }
+
+    // Whether nothing is left to do.
+    fn is_terminal(&self) -> bool
+        ensures { result ≡ spec.terminal self.now.course.world }
+    {
+        self.marks.is_idle() && self.course.is_still() && self.course.next_alarm().is_none()
+    }
+
+    // Whether nothing is left to do, or the budget is used.
+    fn is_over(&self) -> bool
+        ensures { result ≡ spec.over self.now.budget (run_of self.now.course) }
+    {
+        u128::from(self.budget) <= self.course.used() || self.is_terminal()
+    }
+
+    // The report that is due is made.
+    fn report(&mut self, alloc: Global) -> Result<(), AllocError>
+        ensures ok { OnOk result (Reported self.old self.new) }
+        ensures err { OnErr result (self.new ≡ self.old) }
+    {
+        if let Some(report) = due(alloc, &self.course, self.watch, &mut self.reports)? {
+            self.reports.push_reserved(report);
+        }
+        Ok(())
+    }
+
+    // The machine of the thread that is ready and comes next.
+    fn hand_out(&mut self, alloc: Global) -> Result<Option<Machine>, AllocError>
+        ensures ok { IfOk result (λ job. HandedOut self.old job self.new) }
+        ensures err { OnErr result (self.new ≡ self.old) }
+    {
+        let Some(thread) = self.marks.front() else {
+            return Ok(None);
+        };
+        let machine = self.course.machine(thread).copy(alloc)?;
+        self.marks.hand_out(thread);
+        Ok(Some(machine))
+    }
+
+    // A turn of the thread.
+    fn turn(&mut self, alloc: Global, thread: Tid) -> Result<(), AllocError>
+        requires running { slice_get self.old.course.world.threads thread.0 ≡ Some running }
+        requires due { NoneDue self.old }
+        ensures moves { OnOk result (Moves self.old (Item.Turn thread) self.new) }
+        ensures back { OnOk result (TakesBack self.old.out thread.0 self.new.out) }
+        ensures err { OnErr result (self.new ≡ self.old) }
+    {
+        self.marks.reserve()?;
+        let gone = self.course.turn(alloc, thread)?;
+        place(&mut self.marks, thread, gone);
+        Ok(())
+    }
+
+    // The row is taken, by this item.
+    fn meet(&mut self, alloc: Global, item: Item, row: Meet) -> Result<(), AllocError>
+        requires takes { Takes item row }
+        requires allowed { spec.is_allowed self.old.course.world item ≡ true }
+        requires due { NoneDue self.old }
+        ensures moves { OnOk result (Moves self.old item self.new) }
+        ensures out { self.new.out ≡ self.old.out }
+        ensures err { OnErr result (self.new ≡ self.old) }
+    {
+        self.marks.reserve()?;
+        self.course.meet(alloc, item, row)?;
+        place_all(&mut self.marks, row);
+        Ok(())
+    }
+
+    // The time moves to the next alarm.
+    fn tick(&mut self, alloc: Global, tick: u64) -> Result<(), AllocError>
+        requires allowed { spec.is_allowed self.old.course.world (Item.Clock tick) ≡ true }
+        requires due { NoneDue self.old }
+        ensures moves { OnOk result (Moves self.old (Item.Clock tick) self.new) }
+        ensures out { self.new.out ≡ self.old.out }
+        ensures err { OnErr result (self.new ≡ self.old) }
+    {
+        self.course.tick(alloc, tick)?;
+        Ok(())
+    }
+
+    // A row is taken that the chooser picks; or, where there is none and no thread runs, the time moves to the next alarm. It answers
+    // whether one of them was done.
+    fn move_on<C: Chooser>(&mut self, alloc: Global, chooser: &mut C) -> Result<bool, AllocError>
+        requires all_out { AllOut self.old }
+        requires due { NoneDue self.old }
+        requires going { spec.terminal self.old.course.world ≡ false }
+        ensures ok { IfOk result (λ moved. MovedOn self.old moved self.new) }
+        ensures err { OnErr result (self.new ≡ self.old) }
+    {
+        if let Some(row) = self.course.pick(chooser) {
+            let item = if self.course.swaps(&row) {
+                Item::Exchange(row)
+            } else {
+                Item::Meet(row)
+            };
+            self.meet(alloc, item, row)?;
+            return Ok(true);
+        }
+        if !self.marks.is_idle() {
+            return Ok(false);
+        }
+        match self.course.next_alarm() {
+            Some(tick) => {
+                self.tick(alloc, tick)?;
+                Ok(true)
+            }
+            None => unreachable!(),
+        }
+    }
+
+    /// What there is to do next. It makes the report that is due, takes rows that the chooser picks and moves the time, until a thread is
+    /// ready, or nothing is to be done before a slice comes back, or at all. Of a thread that is ready the first one's machine is handed
+    /// out, for [`cml_step::slice`]; the slice is to be given back by [`Hub::give`].
+    ///
+    /// # Errors
+    /// Out of memory. The items and reports that were made before stand; the chooser's picks for the one that was not are spent.
+    pub fn take<C: Chooser>(&mut self, alloc: Global, chooser: &mut C) -> Result<Next, AllocError>
+        ensures more { Extends self.old self.new }
+        ensures next { IfOk result (λ next. HandsOut self.old next self.new) }
+        ensures ended { IfOk result (λ next. is_ended next ≡ spec.over self.new.budget (run_of self.new.course)) }
+        ensures due { OnOk result (NoneDue self.new) }
+        ensures err { OnErr result (self.new.out ≡ self.old.out) }
+    {
+        self.report(alloc)?;
+        'moves: while !self.is_over() {
+            if let Some(machine) = self.hand_out(alloc)? {
+                return Ok(Next::Job(machine));
+            }
+            if !self.move_on(alloc, chooser)? {
+                return Ok(Next::Wait);
+            }
+            self.report(alloc)?;
+        }
+        Ok(Next::Ended)
+    }
+
+    /// Takes a slice back: the turn of its thread is added, what the thread asks is done, and if it goes on it is ready again, after the
+    /// others. It need not be of a machine that was handed out: it is taken exactly where it is of this program and begins where a running
+    /// thread stands now, whatever the budget.
+    ///
+    /// # Errors
+    /// A slice of another program or of an older machine; or out of memory. The slice comes back, and nothing has changed.
+    pub fn give(&mut self, alloc: Global, ran: Ran) -> Result<(), GiveFault>
+        ensures { Gives self.old ran result self.new }
+    {
+        if !self.course.is_ours(&ran) {
+            return Err(GiveFault::Stranger(ran));
+        }
+        let Ok(report) = due(alloc, &self.course, self.watch, &mut self.reports) else {
+            return Err(GiveFault::Memory(ran));
+        };
+        let Ok(()) = self.marks.reserve() else {
+            return Err(GiveFault::Memory(ran));
+        };
+        match self.course.give(alloc, ran) {
+            Ok((thread, gone)) => {
+                add_report(&mut self.reports, report);
+                place(&mut self.marks, thread, gone);
+                Ok(())
+            }
+            Err(ran) => Err(GiveFault::Memory(ran)),
+        }
+    }
+
+    // The threads whose slices are out are ready again.
+    fn call_back(&mut self) -> Result<(), AllocError>
+        ensures ok { OnOk result (CalledBack self.old self.new) }
+        ensures err { OnErr result (self.new ≡ self.old) }
+    {
+        self.marks.call_back()
+    }
+
+    // One item more, where no slice is out: a turn of the thread that is ready and comes next; or, where none is, a row or a tick.
+    fn go_alone<C: Chooser>(&mut self, alloc: Global, chooser: &mut C) -> Result<(), AllocError>
+        requires none_out { NoneOut self.old }
+        requires due { NoneDue self.old }
+        requires going { spec.terminal self.old.course.world ≡ false }
+        ensures ok { OnOk result (GoesAlone self.old self.new) }
+        ensures err { OnErr result (self.new ≡ self.old) }
+    {
+        if let Some(thread) = self.marks.front() {
+            return self.turn(alloc, thread);
+        }
+        let _moved = self.move_on(alloc, chooser)?;
+        Ok(())
+    }
+
+    /// Runs until nothing is left to do or the budget is used. Threads whose slices are out are ready again first, in the order of their
+    /// numbers, after those that are ready.
+    ///
+    /// # Errors
+    /// Out of memory. The items and reports that were made before stand; the chooser's picks for the one that was not are spent.
+    pub fn run_alone<C: Chooser>(
+        &mut self,
+        alloc: Global,
+        chooser: &mut C,
+    ) -> Result<End, AllocError>
+        ensures more { Continues self.old self.new }
+        ensures ok { IfOk result (λ end. IsOver end self.new) }
+    {
+        self.call_back()?;
+        self.report(alloc)?;
+        'turns: while !self.is_over() {
+            self.go_alone(alloc, chooser)?;
+            self.report(alloc)?;
+        }
+        Ok(self.end())
+    }
+
+    // Whether the item may come now.
+    fn is_allowed(&self, item: &Item) -> bool
+        ensures { result ≡ spec.is_allowed self.now.course.world item.now }
+    {
+        match item {
+            Item::Turn(thread) => self.course.is_running(*thread),
+            Item::Meet(row) => self.course.has(row),
+            Item::Exchange(row) => self.course.swaps(row),
+            Item::Clock(tick) => self.course.may_tick(*tick, self.marks.is_idle()),
+        }
+    }
+
+    // The item comes, which may.
+    fn follow(&mut self, alloc: Global, item: Item) -> Result<(), AllocError>
+        requires allowed { spec.is_allowed self.old.course.world item ≡ true }
+        requires due { NoneDue self.old }
+        requires none_out { NoneOut self.old }
+        ensures moves { OnOk result (Moves self.old item self.new) }
+        ensures none_out { OnOk result (NoneOut self.new) }
+        ensures err { OnErr result (self.new ≡ self.old) }
+    {
+        match item {
+            Item::Turn(thread) => self.turn(alloc, thread),
+            Item::Meet(row) => self.meet(alloc, item, row),
+            Item::Exchange(row) => self.meet(alloc, item, row),
+            Item::Clock(tick) => self.tick(alloc, tick),
+        }
+    }
+
+    /// The hub that has gone through a schedule. The budget stops nothing here; it says how the run ends.
+    ///
+    /// # Errors
+    /// The first item that may not come where it does, by its number from 1; or out of memory. Both hand the program back.
+    pub fn replay(
+        alloc: Global,
+        program: Prog,
+        budget: u64,
+        watch: Option<u64>,
+        items: &[Item],
+    ) -> Result<Hub, ReplayFault>
+        requires budget { IsBudget budget }
+        requires watch { IsWatch watch }
+        ensures { Replays program budget watch items.now result }
+    {
+        let mut hub = match Hub::begin(alloc, program, budget, watch) {
+            Ok(hub) => hub,
+            Err(AllocFailed { value }) => return Err(ReplayFault::Memory(value)),
+        };
+        for i in 0..items.len() {
+            if !hub.is_allowed(&items[i]) {
+                return Err(ReplayFault::BadItem(i + 1, hub.course.into_program()));
+            }
+            match hub.step(alloc, items[i]) {
+                Ok(()) => {}
+                Err(_) => return Err(ReplayFault::Memory(hub.course.into_program())),
+            }
+        }
+        Ok(hub)
+    }
+
+    // The item comes, and the report that is due after it is made.
+    fn step(&mut self, alloc: Global, item: Item) -> Result<(), AllocError>
+        requires allowed { spec.is_allowed self.old.course.world item ≡ true }
+        requires due { NoneDue self.old }
+        requires none_out { NoneOut self.old }
+        ensures adds { OnOk result (Adds self.old.course item self.new.course) }
+        ensures budget { OnOk result (self.new.budget ≡ self.old.budget) }
+        ensures watch { OnOk result (self.new.watch ≡ self.old.watch) }
+        ensures none_due { OnOk result (NoneDue self.new) }
+        ensures none_out { OnOk result (NoneOut self.new) }
+        ensures program { self.new.course.program ≡ self.old.course.program }
+    {
+        self.follow(alloc, item)?;
+        self.report(alloc)
+    }
+
+    /// The schedule as a text, in version 2: the budget, the size of the program, a line for each item, and `end`. Where it has at most
+    /// 67,108,864 bytes, [`cml_schedule::read_schedule`] reads it as just that.
+    ///
+    /// # Errors
+    /// Out of memory.
+    pub fn write_schedule(&self, alloc: Global) -> Result<Vec<u8>, AllocError>
+        ensures text { IfOk result (λ text. text.items ≡ schedule_text self.now.budget (size_of self.now.course.program) self.now.course.items) }
+        ensures read { IfOk result (λ text. ReadsAs text.items (Ok (record {
+          budget = self.now.budget;
+          size = Some (size_of self.now.course.program);
+          items = self.now.course.items;
+        }))) }
+    {
+        written_is_read();
+        let text = schedule_text(
+            alloc,
+            self.budget,
+            self.program().size(),
+            self.course.items(),
+        )?;
+        Ok(text.into_bytes())
+    }
+}
+
+/// Whether the schedule may be one of this program: it says no size, or the program's.
+pub fn matches_program(plan: &Plan, program: &Prog) -> bool
+    ensures { IsTrue result ↔ FitsSize plan.now.size program.now }
+{
+    match plan.size {
+        Some(size) => size == program.size(),
+        None => true,
+    }
+}

@@ -1,0 +1,136 @@
+//! The program on scripts and schedules in a store, over memory.
+
+use crate::memory_store::MemoryStore;
+use crate::run::{Part, whole, words};
+use cml_host::{Store, StoreFault, run_command};
+use std::alloc::Global;
+use std::process::Abort;
+use std::test::Fail;
+
+/// One thread sends to another, through a wrap.
+pub const ADDITION: &str =
+    "(fn add (a b) (return (+ a b))) (fn give (c) (sync (send c 41))) (fn main () (let c (chan)) (spawn give c) (let x (sync (wrap (recv c) add 1))) (print x))";
+
+/// A branch that is cancelled, and a thread that waits for its nack.
+pub const CANCELLED: &str =
+    "(fn watch (n) (sync n) (print \"cancelled\")) (fn branch (c n) (spawn watch n) (return (recv c))) (fn main () (let c (chan)) (let x (sync (choose (withnack branch c) (always 7)))) (print x))";
+
+/// Two threads that count up in an M-variable.
+pub const COUNTER: &str =
+    "(fn add (m) (let x (sync (mtake m))) (mput m (+ x 1))) (fn main () (let m (mvar 0)) (let a (spawn add m)) (let b (spawn add m)) (sync (join a)) (sync (join b)) (let x (sync (mget m))) (print x))";
+
+/// Two threads that exchange values.
+pub const SWAPPED: &str =
+    "(fn other (s) (let y (sync (swap s 2))) (print y)) (fn main () (let s (swapchan)) (spawn other s) (let x (sync (swap s 1))) (print x))";
+
+/// Words over files of a store, and what comes of them.
+pub struct Case {
+    /// What the case is called.
+    pub name: &'static str,
+    /// The words of the command line behind the program's name.
+    pub words: &'static str,
+    /// The files, each with its name.
+    pub files: &'static [(&'static str, &'static str)],
+    /// The output.
+    pub output: &'static str,
+    /// What goes to the errors.
+    pub errors: &'static str,
+    /// The status of the process.
+    pub status: u8,
+    /// What is saved under the name S; nothing is where there is no part.
+    pub saved: &'static [Part],
+}
+
+/// A store that holds these files.
+pub fn filled(
+    rt: &impl Abort,
+    alloc: Global,
+    files: &[(&'static str, &'static str)],
+) -> MemoryStore {
+    let mut store = MemoryStore::new(alloc);
+    for (name, text) in files {
+        assert!(rt; store.save(name, text.as_bytes()).is_ok(), "save {name}");
+    }
+    store
+}
+
+// What lay under S before.
+fn before(files: &[(&'static str, &'static str)]) -> &'static str {
+    for (name, text) in files {
+        if *name == "S" {
+            return text;
+        }
+    }
+    ""
+}
+
+// What lies under S, if anything does, was saved as the case says, or lay there before.
+fn is_saved(
+    rt: &impl Abort,
+    alloc: Global,
+    case: &Case,
+    store: &mut MemoryStore,
+) -> Result<(), Fail> {
+    let saved = whole(alloc, case.saved)?;
+    let wanted = if saved.is_empty() {
+        before(case.files)
+    } else {
+        saved.as_str()
+    };
+    let name = case.name;
+    match store.load(alloc, "S", 1_000_000) {
+        Ok(bytes) => {
+            assert!(rt; bytes.as_slice() == wanted.as_bytes(), "saved of {name}");
+            drop(bytes);
+        }
+        Err(fault) => {
+            assert!(rt;
+                fault == StoreFault::Refused && wanted.is_empty(),
+                "not saved of {name}"
+            );
+        }
+    }
+    drop(saved);
+    Ok(())
+}
+
+// The program on these words over these files writes and saves what the case says.
+fn holds(rt: &impl Abort, alloc: Global, case: &Case) -> Result<(), Fail> {
+    let words = words(alloc, case.words)?;
+    let mut store = filled(rt, alloc, case.files);
+    let mut input = "spawn\n".as_bytes();
+    let mut out = Vec::new(alloc);
+    let mut err = Vec::new(alloc);
+    let status = run_command(
+        alloc,
+        words.as_slice(),
+        &mut input,
+        &mut out,
+        &mut err,
+        &mut store,
+    );
+    let name = case.name;
+    assert!(rt;
+        out.as_slice() == case.output.as_bytes(),
+        "output of {name}"
+    );
+    assert!(rt;
+        err.as_slice() == case.errors.as_bytes(),
+        "errors of {name}"
+    );
+    assert!(rt; status == case.status, "status of {name}");
+    is_saved(rt, alloc, case, &mut store)?;
+    drop(words);
+    drop(out);
+    drop(err);
+    drop(store);
+    Ok(())
+}
+
+/// Each of the cases comes out as it says.
+pub fn all_come_out(rt: &impl Abort, alloc: Global, cases: &[Case]) -> Result<(), Fail> {
+    for case in cases {
+        holds(rt, alloc, case)?;
+    }
+    Ok(())
+}
