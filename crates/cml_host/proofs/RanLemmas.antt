@@ -170,3 +170,12 @@ run_ran old mid new p options output errors status same opened (inl ran) =
     inl (p, opened, program_behind old mid new p options output errors status same ran)
 run_ran old mid new p options output errors status same opened (inr memory) =
     inr (inr (inr memory.0), memory.1, λ n. memory.2 n ∙ same n)
+
+-- a run that was cut off on the way
+pub cut_ran : (p : List (PlainFunction ℕ)) (options : RunOptions) (begun h : Kept) (output errors : Counted) (store : Shelf) (status : ℕ) →
+    IsBegun p options.steps options.watch begun → Continues begun h →
+    IsRunOf h.course.program h.watch h.course.items h.reports (run_of h.course) → IsCutOff h.reports h.course.output output errors status →
+    IsUnchanged store.before store.after → ProgramRan p options output errors store status
+cut_ran p options begun h output errors store status begins more run cut same =
+    (h.course.items, h.reports, run_of h.course,
+      run_is p options.watch h.course.items h (more.program ∙ begins.program) (more.watch ∙ begins.watch_is) refl run, inr (cut, same))
