@@ -30,7 +30,7 @@ run_is : (p : List (PlainFunction ℕ)) (watch : Option ℕ) (items : List Item)
 run_is p watch items h program watched items_are run =
     subst (λ (ts : List Item). IsRunOf p watch ts h.reports (run_of h.course)) items_are
     (subst (λ (w : Option ℕ). IsRunOf p w h.course.items h.reports (run_of h.course)) watched
-      (subst (λ (q : List (PlainFunction ℕ)). IsRunOf q h.watch h.course.items h.reports (run_of h.course)) program run))
+    (subst (λ (q : List (PlainFunction ℕ)). IsRunOf q h.watch h.course.items h.reports (run_of h.course)) program run))
 
 -- ---- scripts
 
@@ -62,11 +62,27 @@ scheduled p watch name content h output errors status found run told =
     let r = run_of h.course in
     let due : AllReported watch plan.items h.reports =
     subst (λ (ts : List Item). AllReported watch ts h.reports) made.items_are
-      (subst (λ (w : Option ℕ). AllReported w h.course.items h.reports) made.watch_is made.none_due) in
+    (subst (λ (w : Option ℕ). AllReported w h.course.items h.reports) made.watch_is made.none_due) in
     let all = subst (λ (b : ℕ). (IsTold h.reports (whole_output b r) output errors × (status ≡ end_status (ending b r)))
-        ⊎ IsNotTold h.reports h.course.output (whole_output b r) output errors status) made.budget_is told in
-    inl (found.1.0, found.1.1, inl (plan, found.1.2, (found.2, (h.reports, r,
-      run_is p watch plan.items h made.program made.watch_is made.items_are run, due, all))))
+    ⊎ IsNotTold h.reports h.course.output (whole_output b r) output errors status) made.budget_is told in
+    inl (
+      found.1.0,
+      found.1.1,
+      inl (
+        plan,
+        found.1.2,
+        (
+          found.2,
+          (
+            h.reports,
+            r,
+            run_is p watch plan.items h made.program made.watch_is made.items_are run,
+            due,
+            all,
+          ),
+        ),
+      ),
+    )
 
 -- ---- run
 
@@ -110,19 +126,27 @@ ended_ran p options begun h end output errors store status begins more is_over r
     let budget : h.budget ≡ options.steps = more.budget ∙ begins.budget_is in
     let watch : h.watch ≡ options.watch = more.watch ∙ begins.watch_is in
     let all = subst (λ (b : ℕ). EndRan (record_name options) (schedule_text b (size_of p) h.course.items) h.reports b r output errors store status) budget
-      (subst (λ (q : List (PlainFunction ℕ)). EndRan (record_name options) (schedule_text h.budget (size_of q) h.course.items) h.reports h.budget r output errors store status)
-        program ended) in
-    (h.course.items, h.reports, r, run_is p options.watch h.course.items h program watch refl run,
+    (subst (λ (q : List (PlainFunction ℕ)). EndRan (record_name options) (schedule_text h.budget (size_of q) h.course.items) h.reports h.budget r output errors store status)
+    program ended) in (
+      h.course.items,
+      h.reports,
+      r,
+      run_is p options.watch h.course.items h program watch refl run,
       inl (
         (
           subst (λ (b : ℕ). over b r ≡ true) budget is_over.over_is,
           subst (λ (w : Option ℕ). AllReported w h.course.items h.reports) watch is_over.none_due,
         ),
         all,
-      ))
-ended_ran p options begun h end output errors store status begins more is_over run (inr cut) =
-    (h.course.items, h.reports, run_of h.course,
-      run_is p options.watch h.course.items h (more.program ∙ begins.program) (more.watch ∙ begins.watch_is) refl run, inr cut)
+      ),
+    )
+ended_ran p options begun h end output errors store status begins more is_over run (inr cut) = (
+  h.course.items,
+  h.reports,
+  run_of h.course,
+  run_is p options.watch h.course.items h (more.program ∙ begins.program) (more.watch ∙ begins.watch_is) refl run,
+  inr cut,
+)
 
 -- ---- a store that was read first
 
@@ -156,9 +180,16 @@ end_behind old mid new name schedule reports budget r output errors status same 
 pub program_behind : (old mid new : List ℕ → Content) (p : List (PlainFunction ℕ)) (options : RunOptions) (output errors : Counted) (status : ℕ) →
     IsUnchanged old mid → ProgramRan p options output errors (record { before = mid; after = new }) status →
     ProgramRan p options output errors (record { before = old; after = new }) status
-program_behind old mid new p options output errors status same (items, reports, r, run, inl ended) =
-    (items, reports, r, run, inl (ended.0,
-      end_behind old mid new (record_name options) (schedule_text options.steps (size_of p) items) reports options.steps r output errors status same ended.1))
+program_behind old mid new p options output errors status same (items, reports, r, run, inl ended) = (
+  items,
+  reports,
+  r,
+  run,
+  inl (
+    ended.0,
+    end_behind old mid new (record_name options) (schedule_text options.steps (size_of p) items) reports options.steps r output errors status same ended.1,
+  ),
+)
 program_behind old mid new p options output errors status same (items, reports, r, run, inr cut) =
     (items, reports, r, run, inr (cut.0, λ n. cut.1 n ∙ same n))
 

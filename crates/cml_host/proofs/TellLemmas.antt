@@ -17,13 +17,12 @@ use Rattle.cml_host.specs.declared.tell.ReportFault.TheVariants.{Write, Memory}
 -- a text, and then a beginning of one more
 pub start_behind : (a b c : Option (List ℕ)) (text more : List ℕ) →
     Takes (stream a b) text → TakesStart (stream b c) more → TakesStart (stream a c) (text ++ more)
-start_behind a b c text more first then =
-    (
-      text ++ then.0,
-      then.1,
-      ap (λ ts. text ++ ts) then.2 ∙ sym (append_assoc text then.0 then.1),
-      Appends-trans a b c text then.0 first then.3,
-    )
+start_behind a b c text more first then = (
+  text ++ then.0,
+  then.1,
+  ap (λ ts. text ++ ts) then.2 ∙ sym (append_assoc text then.0 then.1),
+  Appends-trans a b c text then.0 first then.3,
+)
 
 -- a beginning of a text is one of what goes on behind it
 pub start_more : (a b : Option (List ℕ)) (text more : List ℕ) → TakesStart (stream a b) text → TakesStart (stream a b) (text ++ more)
@@ -70,8 +69,8 @@ reports_start a b c reports i report there is before then =
     subst (λ (ts : List ℕ). TakesStart (stream a c) ts)
     (sym (flat_map-append report_text (take (i + 1) reports) (drop (i + 1) reports)) ∙ ap reports_text (take-append-drop (i + 1) reports))
     (start_more a c (reports_text (take (i + 1) reports)) (reports_text (drop (i + 1) reports))
-      (subst (λ (ts : List ℕ). TakesStart (stream a c) ts) (sym (reports_split reports i report there is))
-        (start_behind a b c _ _ before then)))
+    (subst (λ (ts : List ℕ). TakesStart (stream a c) ts) (sym (reports_split reports i report there is))
+    (start_behind a b c _ _ before then)))
 
 -- the reports up to one, at which the writing ended by a fault
 pub reports_ended : (a b c : Option (List ℕ)) (reports : List PlainReport) (i : ℕ) (report : PlainReport) (fault : ReportFault) (calls failed : ℕ) →

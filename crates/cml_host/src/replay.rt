@@ -119,12 +119,7 @@ fn read_plan(alloc: Global, text: &[u8]) -> Result<Plan, Refusal>
 }
 
 // The hub of the program that has gone through the plan.
-fn follow(
-    alloc: Global,
-    program: Prog,
-    plan: &Plan,
-    watch: Option<u64>,
-) -> Result<Hub, Refusal>
+fn follow(alloc: Global, program: Prog, plan: &Plan, watch: Option<u64>) -> Result<Hub, Refusal>
     requires budget { IsBudget plan.now.budget }
     requires watch { IsWatch watch }
     ensures size { IfOk result (λ _. FitsSize plan.now.size program) }

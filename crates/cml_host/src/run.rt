@@ -133,7 +133,7 @@ fn make_record(alloc: Global, hub: &Hub, name: &str) -> Result<Record, AllocErro
 // Saves the record, and answers the status that is given; or says that it can't be saved.
 fn save_record<E: Write, S: Store>(
     name: &str,
-    record: &Record,
+    made: &Record,
     status: u8,
     err: &mut Counting<'_, E>,
     store: &mut S,
@@ -141,13 +141,13 @@ fn save_record<E: Write, S: Store>(
     requires fresh { err.old.failed ≡ 0 }
     ensures ran { let errors = counted_stream (E.contents err.old.stream.now) (E.contents err.new.stream.now) err.new.calls err.new.failed in
         let shelf : Shelf = record { before = S.holds store.old; after = S.holds store.new } in
-        RecordRan name.now record.now status errors shelf result }
+        RecordRan name.now made.now status errors shelf result }
     ensures same_err { err.new.stream.ghost_name ≡ err.old.stream.ghost_name }
 {
-    match store.save(name, record.schedule.as_slice()) {
+    match store.save(name, made.schedule.as_slice()) {
         Ok(()) => status,
         Err(_) => {
-            say(err, record.refused.as_bytes());
+            say(err, made.refused.as_bytes());
             1
         }
     }

@@ -41,7 +41,7 @@ pub fn tell<O: Write, E: Write>(
     ensures told { let output = counted_stream (O.contents out.old.stream.now) (O.contents out.new.stream.now) out.new.calls out.new.failed in
         let errors = counted_stream (E.contents err.old.stream.now) (E.contents err.new.stream.now) err.new.calls err.new.failed in
         IfOk result (λ status. IsTold hub.now.reports (whole_output hub.now.budget (run_of hub.now.course)) output errors
-            × (status ≡ spec.end_status (ending hub.now.budget (run_of hub.now.course)))) }
+        × (status ≡ spec.end_status (ending hub.now.budget (run_of hub.now.course)))) }
     ensures not_told { let output = counted_stream (O.contents out.old.stream.now) (O.contents out.new.stream.now) out.new.calls out.new.failed in
         let errors = counted_stream (E.contents err.old.stream.now) (E.contents err.new.stream.now) err.new.calls err.new.failed in
         IfErr result (IsNotTold hub.now.reports hub.now.course.output (whole_output hub.now.budget (run_of hub.now.course)) output errors) }

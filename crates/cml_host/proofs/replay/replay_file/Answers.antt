@@ -9,14 +9,14 @@ pub returns-in-Ok-clause-ran : goal.returns-in-Ok-clause-ran
 returns-in-Ok-clause-ran g c =
     let name = c.args.options.now.schedule.now in
     let output = counted_stream (g.O.Write.contents c.args.out.now.stream.now) (g.O.Write.contents c.replay_program.new.out.stream.now)
-      c.replay_program.new.out.calls c.replay_program.new.out.failed in
+    c.replay_program.new.out.calls c.replay_program.new.out.failed in
     let errors = counted_stream (g.E.Write.contents c.args.err.now.stream.now) (g.E.Write.contents c.replay_program.new.err.stream.now)
-      c.replay_program.new.err.calls c.replay_program.new.err.failed in
+    c.replay_program.new.err.calls c.replay_program.new.err.failed in
     inl (
       c.in-Ok.program,
       c.in-Ok.ensures.ok,
       subst (λ (content : Content). ScheduleRan c.in-Ok.program c.args.options.now.watch name content output errors c.replay_program.result)
-        (c.open_script.ensures.same name) c.replay_program.ensures.ran,
+          (c.open_script.ensures.same name) c.replay_program.ensures.ran,
     )
 
 pub returns-in-Err-clause-ran : goal.returns-in-Err-clause-ran

@@ -22,9 +22,9 @@ returns-in-Ok-tell-clause-ran g c =
     let store : Shelf = record { before = g.S.Store.holds c.args.store.now; after = g.S.Store.holds c.save_record.new.store } in
     let named : record_name c.args.options.now ≡ Some c.in-Some.name.now = search rules in
     subst (λ (n : Option (List ℕ)). EndedRan n c.args.hub.now output errors store c.save_record.result) (sym named) (
-      recorded c.in-Some.name.now c.args.hub.now c.in-Ok-make_record.record output a b d
-        c.tell-2.new.err.calls c.tell-2.new.err.failed c.save_record.new.err.calls c.save_record.new.err.failed c.in-Ok-tell.status store c.save_record.result
-        c.in-Ok-make_record.ensures c.in-Ok-tell.ensures.told.0 c.in-Ok-tell.ensures.told.1 c.save_record.ensures.ran
+    recorded c.in-Some.name.now c.args.hub.now c.in-Ok-make_record.record output a b d
+    c.tell-2.new.err.calls c.tell-2.new.err.failed c.save_record.new.err.calls c.save_record.new.err.failed c.in-Ok-tell.status store c.save_record.result
+    c.in-Ok-make_record.ensures c.in-Ok-tell.ensures.told.0 c.in-Ok-tell.ensures.told.1 c.save_record.ensures.ran
     )
 
 pub returns-clause-ran : goal.returns-clause-ran

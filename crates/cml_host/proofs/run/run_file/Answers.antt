@@ -6,11 +6,11 @@ use Rattle.cml_host.proofs.run.run_file.Goals as goal
 pub returns-in-Ok-clause-ran : goal.returns-in-Ok-clause-ran
 returns-in-Ok-clause-ran g c =
     let output = counted_stream (g.O.Write.contents c.args.out.now.stream.now) (g.O.Write.contents c.run_program.new.out.stream.now)
-      c.run_program.new.out.calls c.run_program.new.out.failed in
+    c.run_program.new.out.calls c.run_program.new.out.failed in
     let errors = counted_stream (g.E.Write.contents c.args.err.now.stream.now) (g.E.Write.contents c.run_program.new.err.stream.now)
-      c.run_program.new.err.calls c.run_program.new.err.failed in
+    c.run_program.new.err.calls c.run_program.new.err.failed in
     run_ran (g.S.Store.holds c.args.store.now) (g.S.Store.holds c.open_script.new.store) (g.S.Store.holds c.run_program.new.store)
-      c.in-Ok.program c.args.options.now output errors c.run_program.result c.open_script.ensures.same c.in-Ok.ensures.ok c.run_program.ensures.ran
+    c.in-Ok.program c.args.options.now output errors c.run_program.result c.open_script.ensures.same c.in-Ok.ensures.ok c.run_program.ensures.ran
 
 pub returns-in-Err-clause-ran : goal.returns-in-Err-clause-ran
 returns-in-Err-clause-ran g c =

@@ -10,8 +10,8 @@ returns-in-Ok-ended-clause-ran g c =
     let errors = counted_stream (g.E.Write.contents c.args.err.now.stream.now) (g.E.Write.contents c.end.new.err.stream.now) c.end.new.err.calls c.end.new.err.failed in
     let store : Shelf = record { before = g.S.Store.holds c.args.store.now; after = g.S.Store.holds c.end.new.store } in
     inl (
-      ended_ran c.args.program c.args.options.now c.in-Ok.hub c.run_hub-ended.new.hub c.in-Ok-ended.field-0 output errors store c.end.result
-        c.in-Ok.ensures.ok c.run_hub-ended.ensures.more c.in-Ok-ended.ensures.ok c.hub_is_a_run.ensures c.end.ensures.ran
+    ended_ran c.args.program c.args.options.now c.in-Ok.hub c.run_hub-ended.new.hub c.in-Ok-ended.field-0 output errors store c.end.result
+    c.in-Ok.ensures.ok c.run_hub-ended.ensures.more c.in-Ok-ended.ensures.ok c.hub_is_a_run.ensures c.end.ensures.ran
     )
 
 pub returns-clause-ran : goal.returns-clause-ran

@@ -12,5 +12,5 @@ unread name wrong errors status (inr memory) = inr memory
 pub returns-in-Unread-clause-refused : goal.returns-in-Unread-clause-refused
 returns-in-Unread-clause-refused g c =
     let errors = counted_stream (g.E.Write.contents c.args.err.now.stream.now) (g.E.Write.contents c.refuse_file.new.err.stream.now)
-      c.refuse_file.new.err.calls c.refuse_file.new.err.failed in
+    c.refuse_file.new.err.calls c.refuse_file.new.err.failed in
     rw c.in-Unread.is (unread c.args.name.now c.args.status errors c.refuse_file.result (c.refuse_file.ensures.refused nothing (λ _. tt)))

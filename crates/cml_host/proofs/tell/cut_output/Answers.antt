@@ -10,7 +10,7 @@ returns-in-Err-clause-told g c =
     let output = stream (g.O.Write.contents c.args.out.now.stream.now) (g.O.Write.contents c.write_out.new.out.stream.now) in
     inr (
       subst (λ (ts : List ℕ). TakesStart output ts) same
-        (start_taken output c.as_bytes.result.now c.in-Err.ensures.err.0 c.in-Err.ensures.err.1),
+          (start_taken output c.as_bytes.result.now c.in-Err.ensures.err.0 c.in-Err.ensures.err.1),
       c.in-Err.ensures.failed ∙ ap counted c.requires.fresh.0,
       c.refuse_output.ensures.said,
       c.refuse_output.ensures.status,
