@@ -207,6 +207,10 @@ pub cut_ran : (p : List (PlainFunction ℕ)) (options : RunOptions) (begun h : K
     IsBegun p options.steps options.watch begun → Continues begun h →
     IsRunOf h.course.program h.watch h.course.items h.reports (run_of h.course) → IsCutOff h.reports h.course.output output errors status →
     IsUnchanged store.before store.after → ProgramRan p options output errors store status
-cut_ran p options begun h output errors store status begins more run cut same =
-    (h.course.items, h.reports, run_of h.course,
-      run_is p options.watch h.course.items h (more.program ∙ begins.program) (more.watch ∙ begins.watch_is) refl run, inr (cut, same))
+cut_ran p options begun h output errors store status begins more run cut same = (
+  h.course.items,
+  h.reports,
+  run_of h.course,
+  run_is p options.watch h.course.items h (more.program ∙ begins.program) (more.watch ∙ begins.watch_is) refl run,
+  inr (cut, same),
+)

@@ -20,6 +20,6 @@ returns-clause-ran g c =
     let errors = counted_stream (g.E.Write.contents c.args.err.now.stream.now) (g.E.Write.contents c.cut_off.new.err.stream.now) c.cut_off.new.err.calls c.cut_off.new.err.failed in
     let store : Shelf = record { before = g.S.Store.holds c.args.store.now; after = g.S.Store.holds c.args.store.now } in
     inl (
-      cut_ran c.args.program c.args.options.now c.in-Ok.hub c.run_hub-ended.new.hub output errors store c.cut_off.result
-        c.in-Ok.ensures.ok c.run_hub-ended.ensures.more c.hub_is_a_run.ensures c.cut_off.ensures.told (λ name. refl)
+    cut_ran c.args.program c.args.options.now c.in-Ok.hub c.run_hub-ended.new.hub output errors store c.cut_off.result
+    c.in-Ok.ensures.ok c.run_hub-ended.ensures.more c.hub_is_a_run.ensures c.cut_off.ensures.told (λ name. refl)
     )
