@@ -22,7 +22,7 @@ use crate::ask::Ask;
 use crate::evaluate::{evaluate, evaluate_all};
 use crate::fault::Stop;
 use crate::kind::{event_of, ivar_of, mailbox_of, mchan_of, mvar_of, port_of, truth_of};
-use crate::place::{Arm, Hop, settle, statement};
+use crate::place::{Arm, Hop, settle};
 use cml_check::{
     Act, ActOnOne, ActOnTwo, Block, Effect, Expr, Exprs, Function, Prog, Source, Stmt, StmtKind,
 };
@@ -653,8 +653,9 @@ pub(crate) fn call_step(
     ensures did { DidAgrees (arities program.now) result }
     ensures same { call.new.func ≡ call.old.func }
 {
-    call.at = settle(&f.body, &mut call.path, call.at);
-    match statement(&f.body, call.path.as_slice(), call.at) {
+    let (at, found) = settle(&f.body, &mut call.path, call.at);
+    call.at = at;
+    match found {
         Some(stmt) => statement_step(alloc, thread, program, f, stmt, call),
         None => Ok(Did::Returns(Value::new(ValueKind::Unit))),
     }

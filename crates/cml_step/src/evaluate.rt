@@ -29,7 +29,7 @@ fn slot(values: &[Value], slot: usize) -> Result<Value, Stop>
 fn choose_value(alloc: Global, members: Vec<Value>) -> Result<Value, Stop>
     ensures { Gives (λ v. v) result (operators.choose_value members.items) }
 {
-    let mut events = Vec::new(alloc);
+    let mut events = Vec::with_capacity(alloc, members.len())?;
     for member in &members {
         events.push(event_of(member)?)?;
     }
@@ -111,7 +111,7 @@ pub(crate) fn evaluate_all(
     ensures { let found = spec.evaluate_all (slot_value slots.now) expressions.now in
         Gives (λ vs. vs.items) result found }
 {
-    let mut found = Vec::new(alloc);
+    let mut found = Vec::with_capacity(alloc, expressions.items.len())?;
     for e in &expressions.items {
         found.push(evaluate(alloc, slots, e)?)?;
     }

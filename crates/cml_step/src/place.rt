@@ -48,9 +48,9 @@ fn in_block(block: &Block, at: usize) -> Option<&Stmt>
     }
 }
 
-/// The statement at a place.
+// The statement at a place.
 #[tactic(auto, using(crate::proofs::PlaceLemmas::block_nowhere))]
-pub(crate) fn statement<'a>(body: &'a Block, path: &[Hop], at: usize) -> Option<&'a Stmt>
+fn statement<'a>(body: &'a Block, path: &[Hop], at: usize) -> Option<&'a Stmt>
     ensures is { option_copied result ≡ stmt_at (block_at body.now path.now) at }
     ensures bounded { IsSome result → at < usize.MAX }
 {
@@ -67,21 +67,28 @@ pub(crate) fn statement<'a>(body: &'a Block, path: &[Hop], at: usize) -> Option<
     in_block(block, at)
 }
 
-/// Leaves each block that is done: the position in the innermost block that is left.
+/// Leaves each block that is done: the position in the innermost block that is left, and the statement there.
 #[tactic(auto, using(crate::proofs::PlaceLemmas::left_done))]
-pub(crate) fn settle(body: &Block, path: &mut Vec<Hop>, start: usize) -> usize
-    ensures same { left_at body.now path.new.items result
+pub(crate) fn settle<'a>(
+    body: &'a Block,
+    path: &mut Vec<Hop>,
+    start: usize,
+) -> (usize, Option<&'a Stmt>)
+    ensures same { left_at body.now path.new.items result.0
         ≡ left_at body.now path.old.items start }
-    ensures settled { stmt_at (block_at body.now path.new.items) result ≡ None
+    ensures is { option_copied result.1 ≡ stmt_at (block_at body.now path.new.items) result.0 }
+    ensures bounded { IsSome result.1 → result.0 < usize.MAX }
+    ensures settled { stmt_at (block_at body.now path.new.items) result.0 ≡ None
         → path.new.items ≡ [] }
 {
     let mut at = start;
     loop {
-        if statement(body, path.as_slice(), at).is_some() {
-            return at;
+        let found = statement(body, path.as_slice(), at);
+        if found.is_some() {
+            return (at, found);
         }
         let Some(hop) = path.pop() else {
-            return at;
+            return (at, found);
         };
         at = hop.back;
     }

@@ -18,7 +18,7 @@ ghost use Rattle.cml_step.specs.Stacks.{term_of, CallFits, EachBeneath, StackFit
 use crate::call::{Call, Did, Wait, assign, branch, repeat};
 use crate::entry::Entry;
 use crate::fault::Stop;
-use crate::place::{settle, statement};
+use crate::place::settle;
 use cml_check::{Function, Prog, Source, Stmt, StmtKind};
 use std::alloc::{AllocError, Global};
 
@@ -79,8 +79,9 @@ fn quiet_step(alloc: Global, program: &Prog, f: &Function, call: &mut Call) -> b
     ensures runs { call.new.wait ≡ Wait.Runs }
     ensures same { call.new.func ≡ call.old.func }
 {
-    call.at = settle(&f.body, &mut call.path, call.at);
-    match statement(&f.body, call.path.as_slice(), call.at) {
+    let (at, found) = settle(&f.body, &mut call.path, call.at);
+    call.at = at;
+    match found {
         Some(stmt) => quiet(alloc, program, f, stmt, call),
         None => false,
     }

@@ -1,4 +1,4 @@
-use Rattle.std.proofs.Common.{ap, sym, ◌∙◌, subst}
+use Rattle.std.proofs.Common.{ap, sym, option_copied, ◌∙◌, subst}
 use Rattle.cml_step.specs.Places.{stmt_at, block_at}
 use Rattle.cml_step.specs.Calls.{Moves, text_of}
 use Rattle.cml_step.proofs.CallLemmas.{stepped}
@@ -9,7 +9,6 @@ returns-in-Some-clause-moves c =
     λ below.
     subst (Moves c.args.program.now c.args.f.now c.statement_step.result c.statement_step.new.call below)
     (sym
-    (stepped (text_of c.args.program.now) c.args.thread.0 c.args.f.now c.f.inside.body c.args.call.now c.settle-call.new.path.items c.settle-call.result c.in-Some.stmt.now below (ap (λ f. f.body) c.f.view_is) c.requires.runs
-    c.settle-call.ensures.same
-    (c.in-Some.ensures.is ∙ ap (λ hs. stmt_at (block_at c.f.inside.body hs) c.settle-call.result) c.as_slice.ensures.value)))
+    (stepped (text_of c.args.program.now) c.args.thread.0 c.args.f.now c.f.inside.body c.args.call.now c.settle-at.new.path.items c.settle-at.result.0 c.in-Some.stmt.now below (ap (λ f. f.body) c.f.view_is) c.requires.runs
+    c.settle-at.ensures.same (sym (ap option_copied c.in-Some.is) ∙ c.settle-at.ensures.is)))
     (c.statement_step.ensures.moves below)

@@ -1,4 +1,4 @@
-use Rattle.std.proofs.Common.{ap, ◌∙◌}
+use Rattle.std.proofs.Common.{ap, sym, option_copied, ◌∙◌}
 use Rattle.cml_step.specs.Places.{stmt_at, block_at}
 use Rattle.cml_step.specs.Calls.{text_of}
 use Rattle.cml_step.proofs.CallLemmas.{stepped}
@@ -6,7 +6,6 @@ use Rattle.cml_step.proofs.quiet.quiet_step.Goals as goal
 
 pub returns-in-Some-clause-goes : goal.returns-in-Some-clause-goes
 returns-in-Some-clause-goes c = λ on self below.
-    stepped (text_of c.args.program.now) self c.args.f.now c.f.inside.body c.args.call.now c.settle-call.new.path.items c.settle-call.result c.in-Some.stmt.now below (ap (λ f. f.body) c.f.view_is) c.requires.runs
-    c.settle-call.ensures.same
-    (c.in-Some.ensures.is ∙ ap (λ hs. stmt_at (block_at c.f.inside.body hs) c.settle-call.result) c.as_slice.ensures.value)
+    stepped (text_of c.args.program.now) self c.args.f.now c.f.inside.body c.args.call.now c.settle-at.new.path.items c.settle-at.result.0 c.in-Some.stmt.now below (ap (λ f. f.body) c.f.view_is) c.requires.runs
+    c.settle-at.ensures.same (sym (ap option_copied c.in-Some.is) ∙ c.settle-at.ensures.is)
     ∙ c.quiet.ensures.goes on self below
