@@ -10,3 +10,4 @@ mod Others
 mod Kept
 mod Beside
 mod Counted
+mod Listed

@@ -65,7 +65,7 @@ none_later a k (y ∷ ks) e all = both (same_slot k y) (list_any (λ z. same_slo
     both : (b c : Bool) → b ≡ false → c ≡ false → b || c ≡ false
     both b c e f = rw (e, f) refl
 
-keys_any : {V : Type 0} (es : List (Slot × V)) (k : Slot) → list_any (λ y. same_slot k y) (keys_of es) ≡ has_run es k
+pub keys_any : {V : Type 0} (es : List (Slot × V)) (k : Slot) → list_any (λ y. same_slot k y) (keys_of es) ≡ has_run es k
 keys_any [] k = refl
 keys_any (x ∷ es) k = ap (λ b. same_slot k x.0 || b) (keys_any es k)
 

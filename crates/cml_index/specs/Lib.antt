@@ -1,4 +1,5 @@
 pub mod Slot
+pub mod SlotLaws
 pub mod Slots
 pub mod Live
 pub mod Posts

@@ -1,11 +1,10 @@
 -- What the index keeps: the pending threads with their groups, and what it was told of lights.
-use Rattle.std.specs.Prelude.{ℕ, ◌≡◌, ◌++◌, ◌≤◌, ◌<◌, ◌^◌, Bool, false, if◌then◌else◌, nat_lt, List, [], ◌∷◌, Option, Some, None, map, filter, length, Vec, is_some}
+use Rattle.std.specs.Prelude.{ℕ, ◌≡◌, ◌++◌, ◌≤◌, ◌<◌, ◌^◌, Bool, false, if◌then◌else◌, nat_lt, List, [], ◌∷◌, Option, Some, None, map, filter, length, is_some}
 use Rattle.std.specs.Option.{option_map_or}
 use Rattle.std.specs.Map.{lookup}
 use Rattle.std.specs.Coded.{Coded, code_by, coded×, coded_list, coded_bool}
 use Rattle.std.specs.Prelude.{refl}
-use Rattle.std.specs.declared.alloc.Global.{Global}
-use Rattle.indexmap.specs.IndexMap.{IndexMap, index_map_len}
+use Rattle.indexmap.specs.IndexMap.{IndexMap}
 use Rattle.indexmap.specs.IndexSet.{IndexSet}
 use Rattle.cml_index.specs.Live.{AreLive}
 use base.Stored.{Gv, gnum, gcons}
@@ -30,7 +29,7 @@ use Rattle.cml_index.specs.declared.slot.Slot.{Slot}
 use Rattle.cml_index.specs.declared.slot.Slot.TheVariants.{Side, Waiters}
 use Rattle.cml_channel.specs.Pairings.{side_place}
 use Rattle.cml_index.specs.Slot.{same_slot, slot_by}
-use Rattle.cml_index.specs.Slots.{leaves_at, run_in, lane_of, AreLanes}
+use Rattle.cml_index.specs.Slots.{PlainRuns, leaves_at, run_in, lane_of, AreLanes}
 use Rattle.std.specs.List.{flat_map}
 use Rattle.cml_channel.specs.Lanes.{PlainLane}
 
@@ -56,10 +55,10 @@ abbrev pub lit_offers : List (Slot × Bool) → List PlainEntry → List PlainOf
 lit_offers flags entries = filter (λ o. lit_by (told flags) o.base) (offers_of entries)
 
 -- what is kept beside a group: its base events, and its leaves by their lanes
-pub record IsPost {S : Type 0} (group : PlainGroup) (kept : List PlainBase) (runs : IndexMap Slot (Vec ℕ Global) S) : Type 0 where
+pub record IsPost (group : PlainGroup) (kept : List PlainBase) (runs : PlainRuns) : Type 0 where
   pub same : kept ≡ bases group
   pub laid : (k : Slot) → run_in runs k ≡ leaves_at k 0 (map slot_of (bases group))
-  pub few : index_map_len runs ≤ length (bases group)
+  pub few : length runs.entries ≤ length (bases group)
   pub small : length (bases group) < 2 ^ 32
 
 -- the nacks of the scopes in these groups

@@ -1,8 +1,10 @@
 -- The lanes, and the leaves of one group by the lane in which each stands.
-use Rattle.std.specs.Prelude.{ℕ, ◌≡◌, ◌+◌, Bool, false, if◌then◌else◌, List, [], ◌∷◌, Option, Some, None, map, filter}
+use Rattle.std.specs.Prelude.{ℕ, ◌≡◌, ◌+◌, ◌++◌, Bool, false, if◌then◌else◌, List, [], ◌∷◌, Option, Some, None, map, filter}
 use Rattle.std.specs.List.{list_any}
 use Rattle.std.specs.Option.{option_map_or}
+use Rattle.std.specs.Map.{lookup}
 use Rattle.indexmap.specs.IndexMap.{IndexMap, get}
+use Rattle.smallvec.specs.SmallVec.{SmallVec}
 use Rattle.std.specs.declared.alloc.Global.{Global}
 use Rattle.std.specs.Prelude.{Vec}
 use Rattle.cml_value.specs.Value.{PlainBase}
@@ -24,8 +26,24 @@ leaves_at k leaf [] = []
 leaves_at k leaf (s ∷ ss) = if is_slot k s then leaf ∷ leaves_at k (leaf + 1) ss else leaves_at k (leaf + 1) ss
 
 -- the run of this slot, in a map of runs
-abbrev pub run_in : {S : Type 0} → IndexMap Slot (Vec ℕ Global) S → Slot → List ℕ
-run_in runs k = option_map_or (λ v. v.items) (get same_slot runs k) []
+abbrev pub run_in_map : {S : Type 0} → IndexMap Slot (Vec ℕ Global) S → Slot → List ℕ
+run_in_map runs k = option_map_or (λ v. v.items) (get same_slot runs k) []
+
+-- the run of this slot, in a list of runs
+abbrev pub run_of : List (Slot × SmallVec ℕ) → Slot → List ℕ
+run_of runs k = option_map_or (λ v. v.items) (lookup (same_slot k) runs) []
+
+-- the leaves of a group by their lanes: each lane once, with its leaves
+pub record PlainRuns : Type 0 where
+  pub entries : List (Slot × List ℕ)
+
+-- the run of this slot
+abbrev pub run_in : PlainRuns → Slot → List ℕ
+run_in runs k = option_map_or (λ leaves. leaves) (lookup (same_slot k) runs.entries) []
+
+-- the runs that are kept in a list and those that are kept in a map
+abbrev pub runs_of : List (Slot × SmallVec ℕ) → List (Slot × Vec ℕ Global) → List (Slot × List ℕ)
+runs_of few many = map (λ run. (run.0, run.1.items)) few ++ map (λ run. (run.0, run.1.items)) many
 
 -- one of these runs is that of this slot
 abbrev pub has_run : {V : Type 0} → List (Slot × V) → Slot → Bool

@@ -1,13 +1,12 @@
 //! A pending thread, and what the index keeps of its group.
 
 ghost use Rattle.std.specs.Prelude.{◌≡◌, ◌≤◌, ◌<◌, ◌^◌, length, map, IfOk};
-ghost use Rattle.indexmap.specs.IndexMap.{index_map_len};
 ghost use Rattle.cml_value.specs.Group.{bases};
 ghost use Rattle.cml_index.specs.declared.slot.Slot.{Slot};
 ghost use Rattle.cml_index.specs.Posts as spec;
 ghost use Rattle.cml_index.specs.Slots.{run_in, leaves_at};
 
-use crate::runs::{Runs, runs};
+use crate::runs::{Runs, make_runs};
 use crate::slot::Slot;
 use cml_scan::{Place, leaf_bases};
 use cml_value::{Base, Group, Tid};
@@ -43,17 +42,6 @@ impl Model for Entry {
     ghost invariant = { λ e. IsPost e.post.value.group e.post.value.bases.items e.post.value.runs };
 }
 
-// The lanes of these base events.
-fn slots(alloc: Global, bases: &[Base]) -> Result<Vec<Option<Slot>>, AllocError>
-    ensures { IfOk result (λ slots. slots.items ≡ map spec.slot_of bases.now) }
-{
-    let mut slots = Vec::new(alloc);
-    for base in bases {
-        slots.push(Slot::of(base))?;
-    }
-    Ok(slots)
-}
-
 // How many leaves there are, as the number of a leaf. There is no memory for a list in which it is too large.
 fn number(count: usize) -> Result<u32, AllocError>
     ensures { IfOk result (λ n. (n ≡ count) × (count < 2 ^ 32)) }
@@ -68,8 +56,7 @@ impl Entry {
     {
         let bases = leaf_bases(alloc, group)?;
         let _count = number(bases.len())?;
-        let slots = slots(alloc, &bases)?;
-        let runs = runs(alloc, &slots)?;
+        let runs = make_runs(alloc, &bases)?;
         let group = group.copy()?;
         let post = Post {
             tid,
@@ -117,7 +104,7 @@ impl Entry {
     pub(crate) fn runs(&self) -> &Runs
         ensures runs { (k : Slot) → run_in result.now k
             ≡ leaves_at k 0 (map spec.slot_of (bases self.now.group)) }
-        ensures few { index_map_len result.now ≤ length (bases self.now.group) }
+        ensures few { length result.now.entries ≤ length (bases self.now.group) }
     {
         let _bases = &self.post.bases;
         &self.post.runs

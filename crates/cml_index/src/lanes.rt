@@ -1,7 +1,6 @@
 //! The lanes in which the offers of pending threads stand.
 
 ghost use Rattle.std.specs.Prelude.{◌≡◌, ◌≤◌, ◌<◌, ◌+◌, ◌*◌, ◌^◌, ℕ, [], false, nat_lt, length, filter, OnOk};
-ghost use Rattle.indexmap.specs.IndexMap.{index_map_len};
 ghost use Rattle.cml_scan.specs.Order.{Every, Ascends, before};
 ghost use Rattle.cml_channel.specs.Lanes.{is_own, is_others, others, with_run};
 ghost use Rattle.cml_index.specs.declared.slot.Slot.{Slot};
@@ -121,7 +120,7 @@ impl Lanes {
             ≡ with_run tid (spec.run_in runs.now k) (spec.lane_at self.old.by_slot k) }
         ensures cost { (digits : ℕ) →
             ((k : Slot) → length (spec.lane_at self.old.by_slot k) < 2 ^ digits) →
-            tally.new ≤ tally.old + index_map_len runs.now * digits }
+            tally.new ≤ tally.old + length runs.now.entries * digits }
     {
         for i in 0..runs.len() {
             let (slot, leaves) = run_at(runs, i);
@@ -139,7 +138,7 @@ impl Lanes {
             spec.room_at self.old.by_slot k ≤ spec.room_at self.new.by_slot k }
         ensures cost { (digits : ℕ) →
             ((k : Slot) → length (spec.lane_at self.old.by_slot k) < 2 ^ digits) →
-            tally.new ≤ tally.old + index_map_len runs.now * digits }
+            tally.new ≤ tally.old + length runs.now.entries * digits }
     {
         for i in 0..runs.len() {
             let (slot, leaves) = run_at(runs, i);

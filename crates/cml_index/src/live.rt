@@ -1,7 +1,6 @@
 //! The objects on which two offers may meet: with offers on both sides, or with two where all sides are alike.
 
-ghost use Rattle.std.specs.Prelude.{◌≡◌, ◌≤◌, ◌<◌, ◌+◌, ◌&&◌, ◌||◌, true, false};
-ghost use Rattle.indexmap.specs.IndexMap.{index_map_len};
+ghost use Rattle.std.specs.Prelude.{◌≡◌, ◌≤◌, ◌<◌, ◌+◌, ◌&&◌, ◌||◌, true, false, length};
 ghost use Rattle.indexmap.specs.IndexSet.{contains, spare};
 ghost use Rattle.cml_channel.specs.Pairings.{same_object};
 ghost use Rattle.cml_channel.specs.declared.pairing.PairedId.{PairedId};
@@ -16,7 +15,7 @@ use indexmap::IndexSet;
 // These objects.
 pub(crate) type Live = IndexSet<PairedId>;
 
-// Whether two offers on the object may meet.
+// Whether two offers on the object may meet. Where no offer can stand first there, the lane of the others is not sought.
 fn is_live(lanes: &Lanes, object: PairedId) -> bool
     ensures { result ≡ spec.is_live lanes.now.by_slot object }
 {
@@ -27,11 +26,11 @@ fn is_live(lanes: &Lanes, object: PairedId) -> bool
     if object.kind.one_lane() {
         return 1 < heads;
     }
-    let others = lanes.len(Slot::Side {
+    let others = Slot::Side {
         heads: false,
         object,
-    });
-    0 < heads && 0 < others
+    };
+    0 < heads && 0 < lanes.len(others)
 }
 
 // Takes the object out where it is live no more.
@@ -42,6 +41,9 @@ fn cut(live: &mut Live, lanes: &Lanes, object: PairedId)
         contains same_object live.new n ≡ contains same_object live.old n }
     ensures room { spare live.old ≤ spare live.new }
 {
+    if live.is_empty() {
+        return;
+    }
     if !is_live(lanes, object) {
         live.swap_remove(&object);
     }
@@ -110,7 +112,7 @@ pub(crate) fn cut_all(live: &mut Live, lanes: &Lanes, runs: &Runs)
 
 // Keeps the live objects where these runs have come to their lanes, for each of which there is room. It takes no memory.
 pub(crate) fn add_all(live: &mut Live, lanes: &Lanes, runs: &Runs)
-    requires room { index_map_len runs.now ≤ spare live.old }
+    requires room { length runs.now.entries ≤ spare live.old }
     requires was { (n : PairedId) → spec.has_side runs.now.entries n ≡ false →
         contains same_object live.old n ≡ spec.is_live lanes.now.by_slot n }
     requires under { (n : PairedId) → spec.is_live lanes.now.by_slot n ≡ false →

@@ -7,14 +7,34 @@ ghost use Rattle.cml_index.specs.Posts.{slot_of};
 use cml_channel::{PairedId, Whom, place};
 use cml_scan::{Light, light};
 use cml_value::{Base, Tid};
+use std::hash::{Hash, Hasher};
 
 // A lane.
-#[derive(Clone, Copy, PartialEq, Eq, Hash)]
+#[derive(Clone, Copy, PartialEq, Eq)]
 pub(crate) enum Slot {
     // One side of an object over which two threads meet: those that can stand first there, or those that cannot.
     Side { heads: bool, object: PairedId },
     // Those who wait for the light.
     Waiters(Light),
+}
+
+impl Hash for Slot {
+    ghost use Rattle.cml_index.specs.Slot.{slot_writes};
+    ghost use Rattle.cml_index.specs.SlotLaws.{told_alike};
+
+    ghost hash_input = { slot_writes };
+
+    ghost respects_eq = { told_alike };
+
+    // A side is written as one number, since a map of slots is asked several times in each change. Its kind is left to the comparison.
+    fn hash<H: Hasher>(&self, state: &mut H) {
+        match self {
+            Slot::Side { heads, object } => {
+                (u64::from(object.number) * 2 + u64::from(*heads)).hash(state)
+            }
+            Slot::Waiters(light) => light.hash(state),
+        }
+    }
 }
 
 impl Slot {

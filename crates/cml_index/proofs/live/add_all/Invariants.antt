@@ -1,5 +1,4 @@
-use Rattle.std.proofs.Common.{◌≡◌, ◌≤◌, ◌+◌, drop, false}
-use Rattle.indexmap.specs.IndexMap.{index_map_len}
+use Rattle.std.proofs.Common.{◌≡◌, ◌≤◌, ◌+◌, length, drop, false}
 use Rattle.cml_channel.specs.Pairings.{same_object}
 use Rattle.cml_channel.specs.declared.pairing.PairedId.{PairedId}
 use Rattle.indexmap.specs.IndexSet.{contains, spare}
@@ -11,5 +10,5 @@ abbrev pub invariant-loop-i : goal.invariant-loop-i
 invariant-loop-i l = record {
   was : (n : PairedId) → spec.has_side (drop l.i l.runs.entries) n ≡ false → contains same_object l.live n ≡ spec.is_live l.lanes.by_slot n;
   under : (n : PairedId) → spec.is_live l.lanes.by_slot n ≡ false → contains same_object l.live n ≡ false;
-  room : index_map_len l.runs ≤ spare l.live + l.i;
+  room : length l.runs.entries ≤ spare l.live + l.i;
 }

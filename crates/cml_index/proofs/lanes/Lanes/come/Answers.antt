@@ -10,7 +10,7 @@ use Rattle.cml_index.proofs.lanes.Lanes.come.Goals as goal
 pub loop-i-init : goal.loop-i-init
 loop-i-init c =
     record {
-      done = λ k e. let none : spec.run_in c.args.runs.now k ≡ [] = ap (λ r. option_map_or (λ v. v.items) r []) (no_run c.args.runs.now.entries k e) in rw none (sym (with_none c.args.tid (spec.lane_at c.args.self.now.by_slot k) (c.requires.sorted k) (c.requires.new k)));
+      done = λ k e. let none : spec.run_in c.args.runs.now k ≡ [] = ap (λ r. option_map_or (λ v. v) r []) (no_run c.args.runs.now.entries k e) in rw none (sym (with_none c.args.tid (spec.lane_at c.args.self.now.by_slot k) (c.requires.sorted k) (c.requires.new k)));
       left = λ k e. refl;
       room = λ k e. refl;
       cost = λ digits few. omega arith;

@@ -9,7 +9,7 @@ use Rattle.cml_index.proofs.lanes.Lanes.go.Goals as goal
 pub loop-i-init : goal.loop-i-init
 loop-i-init c =
     record {
-      done = λ k e. let none : spec.run_in c.args.runs.now k ≡ [] = ap (λ r. option_map_or (λ v. v.items) r []) (no_run c.args.runs.now.entries k e) in
+      done = λ k e. let none : spec.run_in c.args.runs.now k ≡ [] = ap (λ r. option_map_or (λ v. v) r []) (no_run c.args.runs.now.entries k e) in
           sym (others_all c.args.tid (spec.lane_at c.args.self.now.by_slot k) (sym (c.requires k) ∙ ap length none));
       left = λ k e. refl;
       room = λ k. omega arith;

@@ -11,7 +11,7 @@ loop-i-init c =
     record {
       same = λ k. refl;
       kept = λ k. omega arith;
-      room = λ k e. let none : spec.run_in c.args.runs.now k ≡ [] = ap (λ r. option_map_or (λ v. v.items) r []) (no_run c.args.runs.now.entries k e) in rw none (omega arith);
+      room = λ k e. let none : spec.run_in c.args.runs.now k ≡ [] = ap (λ r. option_map_or (λ v. v) r []) (no_run c.args.runs.now.entries k e) in rw none (omega arith);
     }
 
 pub loop-i-preserved : goal.loop-i-preserved

@@ -8,9 +8,8 @@ use Rattle.cml_scan.specs.Light.{lit_by}
 use Rattle.cml_scan.specs.Order.{IsSorted, Every, Ascends, before}
 use Rattle.cml_scan.proofs.Ordered.{sorted_with}
 use Rattle.cml_channel.specs.Lanes.{is_others, with_run}
-use Rattle.std.specs.Prelude.{Vec}
+use Rattle.std.specs.Prelude.{List}
 use Rattle.std.specs.Option.{option_map_or}
-use Rattle.std.specs.declared.alloc.Global.{Global}
 use Rattle.cml_index.specs.declared.slot.Slot.{Slot}
 use Rattle.cml_index.specs.declared.slot.Slot.TheVariants.{Side}
 use Rattle.cml_index.specs.Slots.{lane_at, lane_of, leaves_at, run_in, has_run}
@@ -61,7 +60,7 @@ add_all-requires-clause-was c n e =
     let up : (k : Slot) → Ascends before (lane_at lanes k) = λ k. subst (Ascends before) (sym (c.requires.indexed.placed k)) (lane-ascends spec.slot_of k es c.requires.indexed.sorted) in
     let new_ : (k : Slot) → Every (is_others tid) (lane_at lanes k) = λ k. subst (Every (is_others tid)) (sym (c.requires.indexed.placed k)) (lane_others spec.slot_of k tid es away) in
     let same : (k : Slot) → has_run c.runs-2.result.now.entries k ≡ false → lane_at after k ≡ lane_at lanes k = λ k off.
-    let none : run_in c.runs-2.result.now k ≡ [] = ap (λ r. option_map_or (λ (v : Vec ℕ Global). v.items) r []) (no_run c.runs-2.result.now.entries k off) in
+    let none : run_in c.runs-2.result.now k ≡ [] = ap (λ r. option_map_or (λ (v : List ℕ). v) r []) (no_run c.runs-2.result.now.entries k off) in
     c.come.ensures.lanes k ∙ ap (λ ls. with_run tid ls (lane_at lanes k)) (c.runs.ensures.runs k ∙ sym (c.runs-2.ensures.runs k) ∙ none) ∙ with_none tid (lane_at lanes k) (up k) (new_ k) in
     let off = no_side (has_run c.runs-2.result.now.entries (Side true n)) (has_run c.runs-2.result.now.entries (Side false n)) e in
     c.requires.indexed.sides n ∙ ap (λ ps. may_meet (one_lane n.kind) (length ps) (length (lane_at lanes (Side false n)))) (sym (same (Side true n) off.0)) ∙ ap (λ ps. may_meet (one_lane n.kind) (length (lane_at after (Side true n))) (length ps)) (sym (same (Side false n) off.1))

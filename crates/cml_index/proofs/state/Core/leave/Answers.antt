@@ -8,9 +8,8 @@ use Rattle.cml_scan.specs.Light.{lit_by}
 use Rattle.cml_scan.specs.Order.{IsSorted, Every}
 use Rattle.cml_scan.proofs.Ordered.{sorted_without}
 use Rattle.cml_channel.specs.Lanes.{is_own, is_others, others}
-use Rattle.std.specs.Prelude.{Vec}
+use Rattle.std.specs.Prelude.{List}
 use Rattle.std.specs.Option.{option_map_or}
-use Rattle.std.specs.declared.alloc.Global.{Global}
 use Rattle.cml_index.specs.declared.slot.Slot.{Slot}
 use Rattle.cml_index.specs.declared.slot.Slot.TheVariants.{Side}
 use Rattle.cml_index.specs.Slots.{lane_at, lane_of, run_in, has_run}
@@ -75,7 +74,7 @@ cut_all-requires-clause-was c n e =
     let lanes = c.args.self.now.lanes.by_slot in
     let after = c.go.new.self.by_slot in
     let same : (k : Slot) → has_run c.runs-2.result.now.entries k ≡ false → lane_at after k ≡ lane_at lanes k = λ k off.
-    let none : run_in c.runs-2.result.now k ≡ [] = ap (λ r. option_map_or (λ (v : Vec ℕ Global). v.items) r []) (no_run c.runs-2.result.now.entries k off) in
+    let none : run_in c.runs-2.result.now k ≡ [] = ap (λ r. option_map_or (λ (v : List ℕ). v) r []) (no_run c.runs-2.result.now.entries k off) in
     let zero_ : length (filter (is_own c.args.tid) (lane_at lanes k)) ≡ 0 = ap (λ ps. length (filter (is_own c.args.tid) ps)) (c.requires.indexed.placed k) ∙ sym (left_lane spec.slot_of k c.args.tid es d own thread) ∙ ap length (sym (c.runs-2.ensures.runs k) ∙ none) in
     c.go.ensures.lanes k ∙ others_all c.args.tid (lane_at lanes k) zero_ in
     let off = no_side (has_run c.runs-2.result.now.entries (Side true n)) (has_run c.runs-2.result.now.entries (Side false n)) e in
