@@ -11,3 +11,4 @@ mod Kept
 mod Beside
 mod Counted
 mod Listed
+mod Forgotten

@@ -73,6 +73,16 @@ impl Lanes {
         Ok(())
     }
 
+    // The lane goes, if nobody stands in it.
+    pub(crate) fn forget(&mut self, slot: Slot)
+        ensures { (k : Slot) →
+            spec.lane_at self.new.by_slot k ≡ spec.lane_at self.old.by_slot k }
+    {
+        if self.len(slot) == 0 {
+            self.by_slot.swap_remove(&slot);
+        }
+    }
+
     // A run of the thread comes to its lane.
     fn come_at(&mut self, slot: Slot, tid: Tid, leaves: &[u32], tally: &mut Tally)
         requires room { length leaves.now ≤ spec.room_at self.old.by_slot slot }

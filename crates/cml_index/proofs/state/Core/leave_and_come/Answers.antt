@@ -10,6 +10,7 @@ use Rattle.cml_index.specs.Slots.{lane_at}
 use Rattle.cml_index.specs.Posts as spec
 use Rattle.cml_index.proofs.Parted.{all_apart}
 use Rattle.cml_index.proofs.Going.{apart_all, cost_sum}
+use Rattle.cml_index.proofs.Forgotten.{all_out}
 use Rattle.cml_index.proofs.state.Core.leave_and_come.Goals as goal
 
 pub tell_and_leave-requires-clause-there : goal.tell_and_leave-requires-clause-there
@@ -27,6 +28,10 @@ pub enter-requires-clause-named : goal.enter-requires-clause-named
 enter-requires-clause-named c =
     Every-weaker (λ k. spec.is_named c.make_ready.new.self.flags.entries (spec.slot_of_nack k)) (λ k. spec.is_named c.tell_and_leave.new.self.flags.entries (spec.slot_of_nack k)) (nacks_of (scopes c.in_ok-entry.entry.group)) (λ k h. c.tell_and_leave.ensures.kept (spec.slot_of_nack k) h) c.in-Ok.ensures.named
 
+pub forget_all-requires-clause-out : goal.forget_all-requires-clause-out
+forget_all-requires-clause-out c = all_out c.args.lit.now c.args.unlit.now (spec.told c.make_ready.new.self.flags.entries) (spec.told c.enter.new.self.flags.entries) c.requires.apart
+    (λ l. ap (λ f. spec.told f.entries l) c.enter.ensures.flags ∙ c.tell_and_leave.ensures.told l)
+
 pub returns-clause-cost : goal.returns-clause-cost
 returns-clause-cost c digits few =
     let same : length (bases c.in_ok-entry.entry.group) ≡ length (bases c.args.group.now) = ap (λ (e : PlainEntry). length (bases e.group)) c.in_ok-entry.ensures in
@@ -34,4 +39,4 @@ returns-clause-cost c digits few =
     let turned = c.tell_and_leave.ensures.cost digits ready in
     let entered = c.enter.ensures.cost digits (λ k. let q = c.tell_and_leave.ensures.shorter k in let f = ready k in omega (arith, q, f)) in
     let sum = cost_sum c.args.tally.now c.tell_and_leave.new.tally c.enter.new.tally c.make_ready.new.self.leaves c.tell_and_leave.new.self.leaves (length (bases c.in_ok-entry.entry.group)) _ digits turned entered in
-    rw (c.enter.ensures.leaves, ← same, ← c.in-Ok.ensures.leaves) sum
+    rw (c.forget_all.ensures.leaves, c.enter.ensures.leaves, ← same, ← c.in-Ok.ensures.leaves) sum
