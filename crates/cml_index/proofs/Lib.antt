@@ -12,3 +12,4 @@ mod Beside
 mod Counted
 mod Listed
 mod Forgotten
+mod Placed

@@ -188,10 +188,6 @@ at_place p [] i d within each = absurd (omega arith)
 at_place p (x ∷ xs) zero d within each = each.0
 at_place p (x ∷ xs) (suc i) d within each = at_place p xs i d (omega arith) each.1
 
-pub on_ok : {A E : Type 0} (r : Result A E) (X : Type 0) → X → OnOk r X
-on_ok (Ok a) X x = x
-on_ok (Err e) X x = tt
-
 pub on_ok_both : {A E X Y Z : Type 0} (r : Result A E) → OnOk r X → OnOk r Y → (X → Y → Z) → OnOk r Z
 on_ok_both (Ok a) x y f = f x y
 on_ok_both (Err e) x y f = tt

@@ -15,6 +15,7 @@ ghost use Rattle.cml_index.specs.Slots.{lane_at, room_at, leaves_at};
 use crate::entry::Entry;
 use crate::flags::forget_light;
 use crate::nacks::reserve_lights;
+use crate::runs::Places;
 use crate::slot::Slot;
 use crate::state::Core;
 use cml_channel::Tally;
@@ -184,18 +185,23 @@ impl Core {
             + (length lit.now + length unlit.now)) }
     {
         let entry = Entry::new(alloc, tid, group)?;
-        let Ok(()) = self.make_ready(alloc, &entry, lit) else {
+        let Ok(places) = self.make_ready(alloc, &entry, lit) else {
             drop(entry);
             return Err(AllocError);
         };
         self.tell_and_leave(gone, lit, unlit, tally);
-        self.enter(entry, tally);
+        self.enter(entry.with_places(places), tally);
         self.forget_all(unlit);
         Ok(())
     }
 
     // Makes room for the entry that will come, and for the lights that will be told to be lit. Nothing was told.
-    fn make_ready(&mut self, alloc: Global, entry: &Entry, lit: &[Light]) -> Result<(), AllocError>
+    fn make_ready(
+        &mut self,
+        alloc: Global,
+        entry: &Entry,
+        lit: &[Light],
+    ) -> Result<Places, AllocError>
         requires indexed { spec.IsIndexed self.old.entries.items self.old.lanes.by_slot self.old.live
             self.old.flags.entries self.old.leaves self.old.lit }
         ensures indexed { spec.IsIndexed self.new.entries.items self.new.lanes.by_slot self.new.live
@@ -219,7 +225,8 @@ impl Core {
         ensures lights { OnOk result
             (Every (λ l. spec.is_named self.new.flags.entries (Waiters l)) lit.now) }
     {
-        self.make_places(alloc, entry)?;
-        reserve_lights(&mut self.flags, lit)
+        let places = self.make_places(alloc, entry)?;
+        reserve_lights(&mut self.flags, lit)?;
+        Ok(places)
     }
 }
