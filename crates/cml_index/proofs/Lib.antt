@@ -11,3 +11,5 @@ mod Kept
 mod Beside
 mod Counted
 mod Listed
+mod Forgotten
+mod Placed

@@ -49,7 +49,7 @@ right_push es s v want here so_far k e = ap (λ r. option_map_or (λ (w : SmallV
     at false f true g = here ∙ ap want (sym (same_slot_is k s g))
     at false f false g = let bad : true ≡ false = sym e ∙ has_push es s v k ∙ ap (λ b. b || same_slot k s) f ∙ g in cc
 
-same_slot_laws : IsEquivalence same_slot
+pub same_slot_laws : IsEquivalence same_slot
 same_slot_laws = record {
   refl = same_slot_self;
   symm = λ a b. turned a b (same_slot a b) (same_slot b a) refl refl;

@@ -105,7 +105,7 @@ flip_count l off_ on_ dark agree os = all os ∙ ap (λ n. length (filter (λ o.
 pub told_same : (old new : Light → Bool) → ((m : Light) → new m ≡ old m) → (os : List PlainOffer) → filter (λ o. lit_by new o.base) os ≡ filter (λ o. lit_by old o.base) os
 told_same old new same os = let whole : new ≡ old = λ i m. same m i in ap (λ t. filter (λ o. lit_by t o.base) os) whole
 
-not_true : (b : Bool) → not b ≡ true → b ≡ false
+pub not_true : (b : Bool) → not b ≡ true → b ≡ false
 not_true true e = cc
 not_true false e = refl
 
@@ -142,19 +142,26 @@ retold_same l lit old new changed is was told m = at (same_light l m) refl
     at true h = told m ∙ ap (λ s. cond s lit (old m)) h ∙ sym (so lit was) ∙ ap old (same_light_is l m h)
     at false h = told m ∙ ap (λ s. cond s lit (old m)) h
 
--- nothing was told of any light, and no place is lost
-pub still_indexed : {S T U V : Type 0} (es : List PlainEntry) (lanes : IndexMap Slot PlainLane S) (after : IndexMap Slot PlainLane T) (live : IndexSet PairedId U) (live_after : IndexSet PairedId V) (old new : List (Slot × Bool)) (leaves lit : ℕ)
-    → IsIndexed es lanes live old leaves lit → ((k : Slot) → lane_at after k ≡ lane_at lanes k) → live_after.keys ≡ live.keys → ((m : Light) → told new m ≡ told old m) → ((k : Slot) → is_named old k ≡ true → is_named new k ≡ true)
+-- nothing was told of any light, and no nack's place is lost
+pub still_named : {S T U V : Type 0} (es : List PlainEntry) (lanes : IndexMap Slot PlainLane S) (after : IndexMap Slot PlainLane T) (live : IndexSet PairedId U) (live_after : IndexSet PairedId V) (old new : List (Slot × Bool)) (leaves lit : ℕ)
+    → IsIndexed es lanes live old leaves lit → ((k : Slot) → lane_at after k ≡ lane_at lanes k) → live_after.keys ≡ live.keys → ((m : Light) → told new m ≡ told old m) → ((k : ℕ) → is_named old (slot_of_nack k) ≡ true → is_named new (slot_of_nack k) ≡ true)
     → IsIndexed es after live_after new leaves lit
-still_indexed es lanes after live live_after old new leaves lit x same same_live told_ kept =
+still_named es lanes after live live_after old new leaves lit x same same_live told_ kept =
     record {
       sorted = x.sorted;
       placed = λ k. same k ∙ x.placed k;
       sides = λ n. ap (list_any (same_object n)) same_live ∙ x.sides n ∙ ap (λ ps. may_meet (one_lane n.kind) (length ps) (length (lane_at lanes (Side false n)))) (sym (same (Side true n))) ∙ ap (λ ps. may_meet (one_lane n.kind) (length (lane_at after (Side true n))) (length ps)) (sym (same (Side false n)));
       all = x.all;
       alone = x.alone ∙ sym (ap length (told_same (told old) (told new) told_ (offers_of es)));
-      named = Every-weaker (λ k. is_named old (slot_of_nack k)) (λ k. is_named new (slot_of_nack k)) (nacks_in es) (λ k h. kept (slot_of_nack k) h) x.named;
+      named = Every-weaker (λ k. is_named old (slot_of_nack k)) (λ k. is_named new (slot_of_nack k)) (nacks_in es) kept x.named;
     }
+
+-- nothing was told of any light, and no place is lost
+pub still_indexed : {S T U V : Type 0} (es : List PlainEntry) (lanes : IndexMap Slot PlainLane S) (after : IndexMap Slot PlainLane T) (live : IndexSet PairedId U) (live_after : IndexSet PairedId V) (old new : List (Slot × Bool)) (leaves lit : ℕ)
+    → IsIndexed es lanes live old leaves lit → ((k : Slot) → lane_at after k ≡ lane_at lanes k) → live_after.keys ≡ live.keys → ((m : Light) → told new m ≡ told old m) → ((k : Slot) → is_named old k ≡ true → is_named new k ≡ true)
+    → IsIndexed es after live_after new leaves lit
+still_indexed es lanes after live live_after old new leaves lit x same same_live told_ kept =
+    still_named es lanes after live live_after old new leaves lit x same same_live told_ (λ k. kept (slot_of_nack k))
 
 same_light-turned : (l m : Light) → same_light l m ≡ same_light m l
 same_light-turned l m = at (same_light l m) (same_light m l) refl refl
@@ -180,10 +187,6 @@ pub at_place : {X : Type 0} (p : X → Bool) (xs : List X) (i : ℕ) (d : X) →
 at_place p [] i d within each = absurd (omega arith)
 at_place p (x ∷ xs) zero d within each = each.0
 at_place p (x ∷ xs) (suc i) d within each = at_place p xs i d (omega arith) each.1
-
-pub on_ok : {A E : Type 0} (r : Result A E) (X : Type 0) → X → OnOk r X
-on_ok (Ok a) X x = x
-on_ok (Err e) X x = tt
 
 pub on_ok_both : {A E X Y Z : Type 0} (r : Result A E) → OnOk r X → OnOk r Y → (X → Y → Z) → OnOk r Z
 on_ok_both (Ok a) x y f = f x y

@@ -1,11 +1,11 @@
 //! A change as a whole.
 
-ghost use Rattle.std.specs.Prelude.{◌≡◌, ◌≢◌, ◌≤◌, ◌<◌, ◌+◌, ◌*◌, ◌^◌, ℕ, Bool, true, false, if◌then◌else◌, length, map, All, AllPairs, OnOk, OnErr, IsOk, IfOk, vec_len};
+ghost use Rattle.std.specs.Prelude.{◌≡◌, ◌≢◌, ◌≤◌, ◌<◌, ◌+◌, ◌*◌, ◌^◌, ℕ, Bool, true, false, not, if◌then◌else◌, length, map, All, AllPairs, OnOk, OnErr, IsOk, IfOk, vec_len};
 ghost use Rattle.std.specs.Vec.{vec_capacity};
 ghost use Rattle.cml_value.specs.Group.{bases, scopes, nacks_of};
 ghost use Rattle.cml_scan.specs.declared.object.Light.{Light};
 ghost use Rattle.cml_scan.specs.Order.{Every};
-ghost use Rattle.cml_scan.specs.Table.{without, with_entry, IsThere, has_light, lit_after};
+ghost use Rattle.cml_scan.specs.Table.{without, with_entry, IsThere, has_light, lit_after, AreApart};
 ghost use Rattle.cml_index.specs.declared.slot.Slot.{Slot};
 ghost use Rattle.indexmap.specs.IndexSet.{spare};
 ghost use Rattle.cml_index.specs.Posts as spec;
@@ -13,7 +13,10 @@ ghost use Rattle.cml_index.specs.declared.slot.Slot.TheVariants.{Waiters};
 ghost use Rattle.cml_index.specs.Slots.{lane_at, room_at, leaves_at};
 
 use crate::entry::Entry;
+use crate::flags::forget_light;
 use crate::nacks::reserve_lights;
+use crate::runs::Places;
+use crate::slot::Slot;
 use crate::state::Core;
 use cml_channel::Tally;
 use cml_scan::Light;
@@ -76,6 +79,41 @@ impl Core {
         self.leave_all(gone, tally);
     }
 
+    // Forgets a light that was told to be unlit, if it is a tick, of which there is no end: it has no place any more, and its lane goes, if nobody stands in it.
+    fn forget(&mut self, light: Light)
+        requires indexed { spec.IsIndexed self.old.entries.items self.old.lanes.by_slot self.old.live
+            self.old.flags.entries self.old.leaves self.old.lit }
+        requires out { spec.told self.old.flags.entries light ≡ false }
+        ensures told { (m : Light) →
+            spec.told self.new.flags.entries m ≡ spec.told self.old.flags.entries m }
+        ensures indexed { spec.IsIndexed self.new.entries.items self.new.lanes.by_slot self.new.live
+            self.new.flags.entries self.new.leaves self.new.lit }
+        ensures entries { self.new.entries ≡ self.old.entries }
+        ensures leaves { self.new.leaves ≡ self.old.leaves }
+    {
+        if let Light::Alarm(_) = light {
+            forget_light(&mut self.flags, light);
+            self.lanes.forget(Slot::Waiters(light));
+        }
+    }
+
+    // Forgets the ticks among these lights, which were told to be unlit.
+    fn forget_all(&mut self, lights: &[Light])
+        requires indexed { spec.IsIndexed self.old.entries.items self.old.lanes.by_slot self.old.live
+            self.old.flags.entries self.old.leaves self.old.lit }
+        requires out { Every (λ l. not (spec.told self.old.flags.entries l)) lights.now }
+        ensures told { (m : Light) →
+            spec.told self.new.flags.entries m ≡ spec.told self.old.flags.entries m }
+        ensures indexed { spec.IsIndexed self.new.entries.items self.new.lanes.by_slot self.new.live
+            self.new.flags.entries self.new.leaves self.new.lit }
+        ensures entries { self.new.entries ≡ self.old.entries }
+        ensures leaves { self.new.leaves ≡ self.old.leaves }
+    {
+        for light in lights {
+            self.forget(*light);
+        }
+    }
+
     // A change in which no thread comes.
     pub(crate) fn leave_only(
         &mut self,
@@ -88,6 +126,7 @@ impl Core {
             self.old.flags.entries self.old.leaves self.old.lit }
         requires there { All (IsThere self.old.entries.items) gone.now }
         requires once { AllPairs (λ a b. a.0 ≢ b.0) gone.now }
+        requires apart { AreApart lit.now unlit.now }
         ensures indexed { spec.IsIndexed self.new.entries.items self.new.lanes.by_slot self.new.live
             self.new.flags.entries self.new.leaves self.new.lit }
         ensures ok { OnOk result
@@ -107,6 +146,7 @@ impl Core {
     {
         reserve_lights(&mut self.flags, lit)?;
         self.tell_and_leave(gone, lit, unlit, tally);
+        self.forget_all(unlit);
         Ok(())
     }
 
@@ -125,6 +165,7 @@ impl Core {
             self.old.flags.entries self.old.leaves self.old.lit }
         requires there { All (IsThere self.old.entries.items) gone.now }
         requires once { AllPairs (λ a b. a.0 ≢ b.0) gone.now }
+        requires apart { AreApart lit.now unlit.now }
         requires new { All (λ e. e.thread ≢ tid.0) self.old.entries.items }
         ensures indexed { spec.IsIndexed self.new.entries.items self.new.lanes.by_slot self.new.live
             self.new.flags.entries self.new.leaves self.new.lit }
@@ -144,17 +185,23 @@ impl Core {
             + (length lit.now + length unlit.now)) }
     {
         let entry = Entry::new(alloc, tid, group)?;
-        let Ok(()) = self.make_ready(alloc, &entry, lit) else {
+        let Ok(places) = self.make_ready(alloc, &entry, lit) else {
             drop(entry);
             return Err(AllocError);
         };
         self.tell_and_leave(gone, lit, unlit, tally);
-        self.enter(entry, tally);
+        self.enter(entry.with_places(places), tally);
+        self.forget_all(unlit);
         Ok(())
     }
 
     // Makes room for the entry that will come, and for the lights that will be told to be lit. Nothing was told.
-    fn make_ready(&mut self, alloc: Global, entry: &Entry, lit: &[Light]) -> Result<(), AllocError>
+    fn make_ready(
+        &mut self,
+        alloc: Global,
+        entry: &Entry,
+        lit: &[Light],
+    ) -> Result<Places, AllocError>
         requires indexed { spec.IsIndexed self.old.entries.items self.old.lanes.by_slot self.old.live
             self.old.flags.entries self.old.leaves self.old.lit }
         ensures indexed { spec.IsIndexed self.new.entries.items self.new.lanes.by_slot self.new.live
@@ -178,7 +225,8 @@ impl Core {
         ensures lights { OnOk result
             (Every (λ l. spec.is_named self.new.flags.entries (Waiters l)) lit.now) }
     {
-        self.make_places(alloc, entry)?;
-        reserve_lights(&mut self.flags, lit)
+        let places = self.make_places(alloc, entry)?;
+        reserve_lights(&mut self.flags, lit)?;
+        Ok(places)
     }
 }

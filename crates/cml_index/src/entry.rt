@@ -6,7 +6,7 @@ ghost use Rattle.cml_index.specs.declared.slot.Slot.{Slot};
 ghost use Rattle.cml_index.specs.Posts as spec;
 ghost use Rattle.cml_index.specs.Slots.{run_in, leaves_at};
 
-use crate::runs::{Runs, make_runs};
+use crate::runs::{Places, Runs, make_runs};
 use crate::slot::Slot;
 use cml_scan::{Place, leaf_bases};
 use cml_value::{Base, Group, Tid};
@@ -20,6 +20,7 @@ struct Post {
     group: Group,
     bases: Vec<Base>,
     runs: Runs,
+    places: Places,
 }
 
 // A pending thread, with its group. It is 8 bytes long, since all entries behind it are moved when one comes or goes.
@@ -63,6 +64,7 @@ impl Entry {
             group,
             bases,
             runs,
+            places: [0; 4],
         };
         Ok(Entry {
             post: Box::new(alloc, post)?,
@@ -98,6 +100,20 @@ impl Entry {
         ensures { result.now ≡ bases self.now.group }
     {
         &self.post.bases
+    }
+
+    // The same, by which it is kept where its lanes stand.
+    pub(crate) fn with_places(self, places: Places) -> Entry
+        ensures { result ≡ self }
+    {
+        let Entry { mut post } = self;
+        post.places = places;
+        Entry { post }
+    }
+
+    // Where its lanes stood when they were last sought.
+    pub(crate) fn places(&self) -> &Places {
+        &self.post.places
     }
 
     // The leaves by their lanes.

@@ -7,6 +7,7 @@ ghost use Rattle.cml_scan.specs.declared.object.Light.{Light};
 ghost use Rattle.cml_scan.specs.Light.{lit_by};
 ghost use Rattle.cml_scan.specs.Table.{same_light};
 ghost use Rattle.cml_index.specs.declared.slot.Slot.{Slot};
+ghost use Rattle.cml_index.specs.Slot.{same_slot};
 ghost use Rattle.cml_index.specs.Posts as spec;
 ghost use Rattle.cml_index.specs.declared.slot.Slot.TheVariants.{Waiters};
 
@@ -96,4 +97,15 @@ pub(crate) fn flip(flags: &mut Flags, light: Light, lit: bool) -> bool
         }
         None => false,
     }
+}
+
+// Forgets what was told of the light, which is not lit.
+pub(crate) fn forget_light(flags: &mut Flags, light: Light)
+    requires { spec.told flags.old.entries light ≡ false }
+    ensures told { (m : Light) →
+        spec.told flags.new.entries m ≡ spec.told flags.old.entries m }
+    ensures kept { (k : Slot) → same_slot (Waiters light) k ≡ false →
+        spec.is_named flags.new.entries k ≡ spec.is_named flags.old.entries k }
+{
+    flags.swap_remove(&Slot::Waiters(light));
 }

@@ -1,13 +1,14 @@
 //! The lanes in which the offers of pending threads stand.
 
-ghost use Rattle.std.specs.Prelude.{◌≡◌, ◌≤◌, ◌<◌, ◌+◌, ◌*◌, ◌^◌, ℕ, [], false, nat_lt, length, filter, OnOk};
+ghost use Rattle.std.specs.Prelude.{◌≡◌, ◌≤◌, ◌<◌, ◌+◌, ◌*◌, ◌^◌, ℕ, [], true, false, Some, nat_lt, length, filter, slice_get, OnOk};
+ghost use Rattle.indexmap.specs.IndexMap.{index_map_len};
 ghost use Rattle.cml_scan.specs.Order.{Every, Ascends, before};
-ghost use Rattle.cml_channel.specs.Lanes.{is_own, is_others, others, with_run};
+ghost use Rattle.cml_channel.specs.Lanes.{PlainLane, is_own, is_others, others, with_run};
 ghost use Rattle.cml_index.specs.declared.slot.Slot.{Slot};
 ghost use Rattle.cml_index.specs.Slot.{same_slot};
 ghost use Rattle.cml_index.specs.Slots as spec;
 
-use crate::runs::{Runs, run_at};
+use crate::runs::{Places, Runs, hint, run_at};
 use crate::slot::Slot;
 use cml_channel::{Lane, Tally};
 use cml_value::Tid;
@@ -40,25 +41,44 @@ impl Lanes {
         }
     }
 
-    // Makes the lane, if it is not there yet, and room in it.
-    fn reserve_at(&mut self, alloc: Global, slot: Slot, additional: usize) -> Result<(), AllocError>
+    // Whether the lane of the slot stands at this place among the lanes.
+    fn stands_at(&self, place: usize, slot: Slot) -> bool
+        ensures within { result ≡ true → place < index_map_len self.now.by_slot }
+        ensures there { result ≡ true → (key : Slot) (lane : PlainLane) →
+            slice_get self.now.by_slot.entries place ≡ Some (key, lane) → key ≡ slot }
+    {
+        match self.by_slot.get_index(place) {
+            Some((key, _)) => *key == slot,
+            None => false,
+        }
+    }
+
+    // Makes the lane, if it is not there yet, and room in it, and answers its place among the lanes.
+    fn reserve_at(
+        &mut self,
+        alloc: Global,
+        slot: Slot,
+        additional: usize,
+    ) -> Result<usize, AllocError>
         ensures same { (k : Slot) →
             spec.lane_at self.new.by_slot k ≡ spec.lane_at self.old.by_slot k }
         ensures kept { (k : Slot) →
             spec.room_at self.old.by_slot k ≤ spec.room_at self.new.by_slot k }
         ensures room { OnOk result (additional ≤ spec.room_at self.new.by_slot slot) }
     {
-        if let Some(lane) = self.by_slot.get_mut(&slot) {
-            return lane.reserve(additional);
+        if let Some(place) = self.by_slot.get_index_of(&slot) {
+            let (_, lane) = self.by_slot.pair_mut(place);
+            lane.reserve(additional)?;
+            return Ok(place);
         }
         let mut lane = Lane::new(alloc);
         lane.reserve(additional)?;
-        self.by_slot.insert(slot, lane)?;
-        Ok(())
+        let (place, _) = self.by_slot.insert_full(slot, lane)?;
+        Ok(place)
     }
 
-    // Makes room in each lane for its run.
-    pub(crate) fn make_room(&mut self, alloc: Global, runs: &Runs) -> Result<(), AllocError>
+    // Makes room in each lane for its run, and answers where these lanes stand.
+    pub(crate) fn make_room(&mut self, alloc: Global, runs: &Runs) -> Result<Places, AllocError>
         ensures same { (k : Slot) →
             spec.lane_at self.new.by_slot k ≡ spec.lane_at self.old.by_slot k }
         ensures kept { (k : Slot) →
@@ -66,15 +86,29 @@ impl Lanes {
         ensures room { OnOk result ((k : Slot) →
             length (spec.run_in runs.now k) ≤ spec.room_at self.new.by_slot k) }
     {
+        let mut places: Places = [0; 4];
         for i in 0..runs.len() {
             let (slot, leaves) = run_at(runs, i);
-            self.reserve_at(alloc, slot, leaves.len())?;
+            let place = self.reserve_at(alloc, slot, leaves.len())?;
+            if i < places.len() {
+                places[i] = place;
+            }
         }
-        Ok(())
+        Ok(places)
     }
 
-    // A run of the thread comes to its lane.
-    fn come_at(&mut self, slot: Slot, tid: Tid, leaves: &[u32], tally: &mut Tally)
+    // The lane goes, if nobody stands in it.
+    pub(crate) fn forget(&mut self, slot: Slot)
+        ensures { (k : Slot) →
+            spec.lane_at self.new.by_slot k ≡ spec.lane_at self.old.by_slot k }
+    {
+        if self.len(slot) == 0 {
+            self.by_slot.swap_remove(&slot);
+        }
+    }
+
+    // A run of the thread comes to its lane, which may stand at this place.
+    fn come_at(&mut self, slot: Slot, place: usize, tid: Tid, leaves: &[u32], tally: &mut Tally)
         requires room { length leaves.now ≤ spec.room_at self.old.by_slot slot }
         requires new { Every (is_others tid) (spec.lane_at self.old.by_slot slot) }
         requires ascend { Ascends nat_lt leaves.now }
@@ -87,13 +121,18 @@ impl Lanes {
         ensures cost { (digits : ℕ) → length (spec.lane_at self.old.by_slot slot) < 2 ^ digits →
             tally.new ≤ tally.old + digits }
     {
-        if let Some(lane) = self.by_slot.get_mut(&slot) {
+        if self.stands_at(place, slot) {
+            let (_, lane) = self.by_slot.pair_mut(place);
             lane.come(tid, leaves, tally);
+            return;
+        }
+        if let Some(found) = self.by_slot.get_mut(&slot) {
+            found.come(tid, leaves, tally);
         }
     }
 
-    // The run of the thread goes from its lane, where it has this many leaves.
-    fn go_at(&mut self, slot: Slot, tid: Tid, count: usize, tally: &mut Tally)
+    // The run of the thread goes from its lane, which may stand at this place, and where it has this many leaves.
+    fn go_at(&mut self, slot: Slot, place: usize, tid: Tid, count: usize, tally: &mut Tally)
         requires { count ≡ length (filter (is_own tid) (spec.lane_at self.old.by_slot slot)) }
         ensures here { spec.lane_at self.new.by_slot slot
             ≡ others tid (spec.lane_at self.old.by_slot slot) }
@@ -104,13 +143,18 @@ impl Lanes {
         ensures cost { (digits : ℕ) → length (spec.lane_at self.old.by_slot slot) < 2 ^ digits →
             tally.new ≤ tally.old + digits }
     {
-        if let Some(lane) = self.by_slot.get_mut(&slot) {
+        if self.stands_at(place, slot) {
+            let (_, lane) = self.by_slot.pair_mut(place);
             lane.go(tid, count, tally);
+            return;
+        }
+        if let Some(found) = self.by_slot.get_mut(&slot) {
+            found.go(tid, count, tally);
         }
     }
 
     // All runs of the thread come, for which there is room.
-    pub(crate) fn come(&mut self, tid: Tid, runs: &Runs, tally: &mut Tally)
+    pub(crate) fn come(&mut self, tid: Tid, runs: &Runs, places: &Places, tally: &mut Tally)
         requires room { (k : Slot) →
             length (spec.run_in runs.now k) ≤ spec.room_at self.old.by_slot k }
         requires sorted { (k : Slot) → Ascends before (spec.lane_at self.old.by_slot k) }
@@ -124,12 +168,12 @@ impl Lanes {
     {
         for i in 0..runs.len() {
             let (slot, leaves) = run_at(runs, i);
-            self.come_at(slot, tid, leaves, tally);
+            self.come_at(slot, hint(places, i), tid, leaves, tally);
         }
     }
 
     // All runs of the thread go, which are all its offers in these lanes.
-    pub(crate) fn go(&mut self, tid: Tid, runs: &Runs, tally: &mut Tally)
+    pub(crate) fn go(&mut self, tid: Tid, runs: &Runs, places: &Places, tally: &mut Tally)
         requires { (k : Slot) → length (spec.run_in runs.now k)
             ≡ length (filter (is_own tid) (spec.lane_at self.old.by_slot k)) }
         ensures lanes { (k : Slot) → spec.lane_at self.new.by_slot k
@@ -142,7 +186,7 @@ impl Lanes {
     {
         for i in 0..runs.len() {
             let (slot, leaves) = run_at(runs, i);
-            self.go_at(slot, tid, leaves.len(), tally);
+            self.go_at(slot, hint(places, i), tid, leaves.len(), tally);
         }
     }
 }

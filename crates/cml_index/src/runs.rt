@@ -31,6 +31,14 @@ pub(crate) struct Runs {
     many: Many,
 }
 
+// Where the lanes of a thread's first runs stood among all lanes when they were last sought. It is a hint: what stands there is asked first.
+pub(crate) type Places = [usize; 4];
+
+// The hint for the run of this number.
+pub(crate) fn hint(places: &Places, i: usize) -> usize {
+    if i < places.len() { places[i] } else { 0 }
+}
+
 impl Model for Runs {
     ghost use Rattle.std.specs.List.{IsDistinct};
     ghost use Rattle.std.specs.Map.{keys_of};

@@ -21,6 +21,7 @@ use crate::flags::{Flags, count_lit, flip};
 use crate::lanes::Lanes;
 use crate::live::{Live, add_all, cut_all};
 use crate::nacks::reserve_nacks;
+use crate::runs::Places;
 use crate::slot::Slot;
 use cml_channel::Tally;
 use cml_scan::{Light, Place};
@@ -85,7 +86,7 @@ impl Core {
         let lit = count_lit(&self.flags, entry.bases(), tally);
         self.lit -= lit;
         self.leaves -= entry.bases().len();
-        self.lanes.go(tid, entry.runs(), tally);
+        self.lanes.go(tid, entry.runs(), entry.places(), tally);
         cut_all(&mut self.live, &self.lanes, entry.runs());
         drop(entry);
     }
@@ -118,9 +119,9 @@ impl Core {
         }
     }
 
-    // Makes room for a thread that will come: its lanes, its seat, and a place among the lights for each nack of its scopes. At want
+    // Makes room for a thread that will come: its lanes, its seat, and a place among the lights for each nack of its scopes, and answers where its lanes stand. At want
     // of memory, which is answered also where the leaves would be too many to count, nothing was told.
-    pub(crate) fn make_places(&mut self, alloc: Global, entry: &Entry) -> Result<(), AllocError>
+    pub(crate) fn make_places(&mut self, alloc: Global, entry: &Entry) -> Result<Places, AllocError>
         requires indexed { spec.IsIndexed self.old.entries.items self.old.lanes.by_slot self.old.live
             self.old.flags.entries self.old.leaves self.old.lit }
         ensures indexed { spec.IsIndexed self.new.entries.items self.new.lanes.by_slot self.new.live
@@ -148,9 +149,10 @@ impl Core {
             return Err(AllocError);
         }
         self.entries.reserve(1)?;
-        self.lanes.make_room(alloc, entry.runs())?;
+        let places = self.lanes.make_room(alloc, entry.runs())?;
         self.live.reserve(entry.bases().len())?;
-        reserve_nacks(&mut self.flags, alloc, entry.group())
+        reserve_nacks(&mut self.flags, alloc, entry.group())?;
+        Ok(places)
     }
 
     // Tells of the light: one is examined. One that is told to be lit has its place. It takes no memory.
@@ -207,7 +209,8 @@ impl Core {
         let lit = count_lit(&self.flags, entry.bases(), tally);
         self.leaves += entry.bases().len();
         self.lit += lit;
-        self.lanes.come(entry.tid(), entry.runs(), tally);
+        self.lanes
+            .come(entry.tid(), entry.runs(), entry.places(), tally);
         add_all(&mut self.live, &self.lanes, entry.runs());
         insert_in_room(&mut self.entries, at, entry);
     }

@@ -1,5 +1,6 @@
 pub mod Value
 pub mod Limits
+pub mod Sizes
 pub mod Show
 pub mod Nack
 pub mod Group

@@ -4,19 +4,22 @@ ghost use Rattle.std.specs.Prelude.{◌≡◌, IfOk, IfErr, IsTrue, ◌↔◌};
 ghost use Rattle.cml_value.specs.GroupViews.{plain_group};
 
 mod limits;
+mod sizes;
 
 use crate::number::NackId;
+use crate::size::Size;
 use crate::value::{Base, FnRef};
 use std::alloc::{AllocError, AllocFailed, Global};
 use std::marker::Model;
 use std::sync::Arc;
 
 /// A forced event, which a thread can synchronize on: no guard and no withNack stands in it.
-/// It is immutable, and its copies share what is large.
+/// It is immutable, and its copies share what is large. Its depth and its nodes are kept with it.
 #[cycle(group)]
 #[derive(Drop)]
 pub struct Group {
     kind: GroupKind,
+    size: Size,
 }
 
 /// What a group is.
@@ -36,7 +39,9 @@ pub enum GroupKind {
 }
 
 impl Model for Group {
-    ghost use Rattle.cml_value.specs.Group.{PlainGroup};
+    ghost use Rattle.std.specs.Prelude.{◌≡◌};
+    ghost use Rattle.cml_value.specs.Group.{PlainGroup, group_depth, group_nodes};
+    ghost use Rattle.cml_value.specs.Sizes.{kept};
     ghost use Rattle.cml_value.specs.GroupHeights.{group_height};
     ghost use Rattle.cml_value.specs.GroupCodes.{group_code};
 
@@ -47,6 +52,9 @@ impl Model for Group {
     ghost use Rattle.cml_value.specs.GroupViews.{plain_group};
 
     ghost view = { λ a. plain_group a.kind };
+
+    ghost invariant = { λ a. (a.size.depth ≡ kept (group_depth (plain_group a.kind)))
+        × (a.size.nodes ≡ kept (group_nodes (plain_group a.kind))) };
 
     ghost size = { group_height };
 
@@ -62,7 +70,8 @@ impl Group {
     pub fn new(kind: GroupKind) -> Group
         ensures { result ≡ plain_group kind }
     {
-        Group { kind }
+        let size = kind.size();
+        Group { kind, size }
     }
 
     /// Any one of these.
@@ -74,9 +83,7 @@ impl Group {
         ensures err { IfErr result (λ back. back.value ≡ members) }
     {
         match Arc::new(alloc, members) {
-            Ok(shared) => Ok(Group {
-                kind: GroupKind::Choose(shared),
-            }),
+            Ok(shared) => Ok(Group::new(GroupKind::Choose(shared))),
             Err(back) => Err(back),
         }
     }
@@ -90,9 +97,7 @@ impl Group {
         ensures err { IfErr result (λ back. back.value ≡ (self, function)) }
     {
         match Arc::new(alloc, self) {
-            Ok(shared) => Ok(Group {
-                kind: GroupKind::Wrap(shared, function),
-            }),
+            Ok(shared) => Ok(Group::new(GroupKind::Wrap(shared, function))),
             Err(back) => Err(AllocFailed {
                 value: (back.value, function),
             }),
@@ -108,9 +113,7 @@ impl Group {
         ensures err { IfErr result (λ back. back.value ≡ self) }
     {
         match Arc::new(alloc, self) {
-            Ok(shared) => Ok(Group {
-                kind: GroupKind::Scope(nack, shared),
-            }),
+            Ok(shared) => Ok(Group::new(GroupKind::Scope(nack, shared))),
             Err(back) => Err(back),
         }
     }
@@ -129,20 +132,11 @@ impl Group {
     pub fn copy(&self) -> Result<Group, AllocError>
         ensures { IfOk result (λ g. g ≡ self.now) }
     {
-        let kind = match &self.kind {
-            GroupKind::Never => GroupKind::Never,
-            GroupKind::Leaf(b) => GroupKind::Leaf(b.copy()?),
-            GroupKind::Choose(gs) => GroupKind::Choose(Arc::try_clone(gs)?),
-            GroupKind::Wrap(g, f) => {
-                let shared = Arc::try_clone(g)?;
-                GroupKind::Wrap(shared, f.copy()?)
-            }
-            GroupKind::Scope(k, g) => {
-                let shared = Arc::try_clone(g)?;
-                GroupKind::Scope(*k, shared)
-            }
-        };
-        Ok(Group { kind })
+        let kind = self.kind.copy()?;
+        Ok(Group {
+            kind,
+            size: self.size,
+        })
     }
 
     /// Whether the two are the same group, part for part.
@@ -168,5 +162,26 @@ impl Group {
             (GroupKind::Scope(k, g), GroupKind::Scope(l, h)) => k.0 == l.0 && g.same(h),
             _ => false,
         }
+    }
+}
+
+impl GroupKind {
+    // The same, with another owner of what it shares.
+    fn copy(&self) -> Result<GroupKind, AllocError>
+        ensures { IfOk result (λ k. plain_group k ≡ plain_group self.now) }
+    {
+        Ok(match self {
+            GroupKind::Never => GroupKind::Never,
+            GroupKind::Leaf(b) => GroupKind::Leaf(b.copy()?),
+            GroupKind::Choose(gs) => GroupKind::Choose(Arc::try_clone(gs)?),
+            GroupKind::Wrap(g, f) => {
+                let shared = Arc::try_clone(g)?;
+                GroupKind::Wrap(shared, f.copy()?)
+            }
+            GroupKind::Scope(k, g) => {
+                let shared = Arc::try_clone(g)?;
+                GroupKind::Scope(*k, shared)
+            }
+        })
     }
 }

@@ -5,6 +5,7 @@
 
 mod group;
 mod number;
+mod size;
 mod value;
 
 pub use group::{Group, GroupKind};

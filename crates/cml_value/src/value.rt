@@ -6,17 +6,21 @@ ghost use Rattle.cml_value.specs.Views.{plain_value, plain_base, plain_event};
 pub mod limits;
 mod same;
 mod show;
+mod sizes;
 
 use crate::number::{ChanId, IVarId, MVarId, MboxId, McastId, NackId, PortId, SwapId, Tid};
+use crate::size::Size;
+use crate::value::sizes::values_size;
 use std::alloc::{AllocError, AllocFailed, Global};
 use std::marker::Model;
 use std::sync::{Arc, ArcStr};
 
-/// A value of a program. It is immutable, and its copies share what is large.
+/// A value of a program. It is immutable, and its copies share what is large. Its depth and its nodes are kept with it.
 #[cycle(value)]
 #[derive(Drop)]
 pub struct Value {
     kind: ValueKind,
+    size: Size,
 }
 
 /// What a value is.
@@ -58,7 +62,15 @@ pub enum ValueKind {
 #[derive(Drop)]
 pub struct FnRef {
     func: u32,
-    args: Arc<Vec<Value>>,
+    args: Arc<Captured>,
+}
+
+// The values that a function has captured, and what is kept of their depth and nodes.
+#[cycle(value)]
+#[derive(Drop)]
+struct Captured {
+    all: Vec<Value>,
+    size: Size,
 }
 
 /// A base event: what one leaf of an event waits for.
@@ -102,11 +114,12 @@ pub enum BaseKind {
     Nack(NackId),
 }
 
-/// An event as a program builds it.
+/// An event as a program builds it. Its depth and its nodes are kept with it.
 #[cycle(value)]
 #[derive(Drop)]
 pub struct Event {
     kind: EventKind,
+    size: Size,
 }
 
 /// What an event is.
@@ -138,9 +151,15 @@ impl Model for Value {
 
     ghost coded = { value_code };
 
+    ghost use Rattle.std.specs.Prelude.{◌≡◌};
     ghost use Rattle.cml_value.specs.Views.{plain_value};
+    ghost use Rattle.cml_value.specs.Limits.{value_depth, value_nodes};
+    ghost use Rattle.cml_value.specs.Sizes.{kept};
 
     ghost view = { λ a. plain_value a.kind };
+
+    ghost invariant = { λ a. (a.size.depth ≡ kept (value_depth (plain_value a.kind)))
+        × (a.size.nodes ≡ kept (value_nodes (plain_value a.kind))) };
 
     ghost size = { value_height };
 }
@@ -154,14 +173,22 @@ impl Model for FnRef {
 
     ghost coded = { function_code };
 
-    ghost view = { λ a. function a.func (values a.args.value.items) };
+    ghost use Rattle.std.specs.Prelude.{◌≡◌};
+    ghost use Rattle.cml_value.specs.Limits.{values_depth, values_nodes};
+    ghost use Rattle.cml_value.specs.Sizes.{kept};
+
+    ghost view = { λ a. function a.func (values a.args.value.all.items) };
+
+    ghost invariant = { λ a. (a.args.value.size.depth
+        ≡ kept (values_depth (values a.args.value.all.items)))
+        × (a.args.value.size.nodes ≡ kept (values_nodes (values a.args.value.all.items))) };
 
     ghost size = { function_height };
 
     ghost use Rattle.std.proofs.Common.{arith};
     ghost use Rattle.cml_value.specs.HeightsFall.{most-values_height};
 
-    ghost size_decreases = { λ a h. Prim.omega (arith, most-values_height a.args.value.items) };
+    ghost size_decreases = { λ a h. Prim.omega (arith, most-values_height a.args.value.all.items) };
 }
 
 impl Model for Base {
@@ -189,9 +216,15 @@ impl Model for Event {
 
     ghost coded = { event_code };
 
+    ghost use Rattle.std.specs.Prelude.{◌≡◌};
     ghost use Rattle.cml_value.specs.Views.{plain_event};
+    ghost use Rattle.cml_value.specs.Limits.{event_depth, event_nodes};
+    ghost use Rattle.cml_value.specs.Sizes.{kept};
 
     ghost view = { λ a. plain_event a.kind };
+
+    ghost invariant = { λ a. (a.size.depth ≡ kept (event_depth (plain_event a.kind)))
+        × (a.size.nodes ≡ kept (event_nodes (plain_event a.kind))) };
 
     ghost size = { event_height };
 
@@ -207,7 +240,8 @@ impl Value {
     pub fn new(kind: ValueKind) -> Value
         ensures { result ≡ plain_value kind }
     {
-        Value { kind }
+        let size = kind.size();
+        Value { kind, size }
     }
 
     /// The text as a value.
@@ -217,8 +251,8 @@ impl Value {
     pub fn text(alloc: Global, characters: &str) -> Result<Value, AllocError>
         ensures { IfOk result (λ v. v ≡ text characters.now) }
     {
-        let kind = ValueKind::Text(ArcStr::from_str(alloc, characters)?);
-        Ok(Value { kind })
+        let characters = ArcStr::from_str(alloc, characters)?;
+        Ok(Value::new(ValueKind::Text(characters)))
     }
 
     /// The pair of the two.
@@ -234,9 +268,7 @@ impl Value {
         ensures err { IfErr result (λ back. back.value ≡ (first, second)) }
     {
         match Arc::new(alloc, (first, second)) {
-            Ok(both) => Ok(Value {
-                kind: ValueKind::Pair(both),
-            }),
+            Ok(both) => Ok(Value::new(ValueKind::Pair(both))),
             Err(back) => Err(back),
         }
     }
@@ -250,9 +282,7 @@ impl Value {
         ensures err { IfErr result (λ back. back.value ≡ held) }
     {
         match Arc::new(alloc, held) {
-            Ok(shared) => Ok(Value {
-                kind: ValueKind::Event(shared),
-            }),
+            Ok(shared) => Ok(Value::new(ValueKind::Event(shared))),
             Err(back) => Err(back),
         }
     }
@@ -278,7 +308,20 @@ impl Value {
     pub fn copy(&self) -> Result<Value, AllocError>
         ensures { IfOk result (λ v. v ≡ self.now) }
     {
-        let kind = match &self.kind {
+        let kind = self.kind.copy()?;
+        Ok(Value {
+            kind,
+            size: self.size,
+        })
+    }
+}
+
+impl ValueKind {
+    // The same, with another owner of what it shares.
+    fn copy(&self) -> Result<ValueKind, AllocError>
+        ensures { IfOk result (λ k. plain_value k ≡ plain_value self.now) }
+    {
+        Ok(match self {
             ValueKind::Unit => ValueKind::Unit,
             ValueKind::Int(z) => ValueKind::Int(*z),
             ValueKind::Bool(b) => ValueKind::Bool(*b),
@@ -293,8 +336,7 @@ impl Value {
             ValueKind::Mchan(x) => ValueKind::Mchan(*x),
             ValueKind::Port(p) => ValueKind::Port(*p),
             ValueKind::Event(e) => ValueKind::Event(Arc::try_clone(e)?),
-        };
-        Ok(Value { kind })
+        })
     }
 }
 
@@ -309,9 +351,12 @@ impl FnRef {
         ensures ok { IfOk result (λ f. f ≡ function func (values args.items)) }
         ensures err { IfErr result (λ back. back.value ≡ args) }
     {
-        match Arc::new(alloc, args) {
+        let size = values_size(&args);
+        match Arc::new(alloc, Captured { all: args, size }) {
             Ok(args) => Ok(FnRef { func, args }),
-            Err(back) => Err(back),
+            Err(back) => Err(AllocFailed {
+                value: back.value.all,
+            }),
         }
     }
 
@@ -326,7 +371,7 @@ impl FnRef {
     pub fn args(&self) -> &[Value]
         ensures { values result.now ≡ args_of self.now }
     {
-        &self.args
+        &self.args.all
     }
 
     /// Another owner of the same function.
@@ -400,7 +445,8 @@ impl Event {
     pub fn new(kind: EventKind) -> Event
         ensures { result ≡ plain_event kind }
     {
-        Event { kind }
+        let size = kind.size();
+        Event { kind, size }
     }
 
     /// Any one of these.
@@ -412,9 +458,7 @@ impl Event {
         ensures err { IfErr result (λ back. back.value ≡ members) }
     {
         match Arc::new(alloc, members) {
-            Ok(shared) => Ok(Event {
-                kind: EventKind::Choose(shared),
-            }),
+            Ok(shared) => Ok(Event::new(EventKind::Choose(shared))),
             Err(back) => Err(back),
         }
     }
@@ -428,9 +472,7 @@ impl Event {
         ensures err { IfErr result (λ back. back.value ≡ (self, function)) }
     {
         match Arc::new(alloc, self) {
-            Ok(shared) => Ok(Event {
-                kind: EventKind::Wrap(shared, function),
-            }),
+            Ok(shared) => Ok(Event::new(EventKind::Wrap(shared, function))),
             Err(back) => Err(AllocFailed {
                 value: (back.value, function),
             }),
@@ -446,9 +488,7 @@ impl Event {
         ensures err { IfErr result (λ back. back.value ≡ self) }
     {
         match Arc::new(alloc, self) {
-            Ok(shared) => Ok(Event {
-                kind: EventKind::Scope(nack, shared),
-            }),
+            Ok(shared) => Ok(Event::new(EventKind::Scope(nack, shared))),
             Err(back) => Err(back),
         }
     }
@@ -467,7 +507,20 @@ impl Event {
     pub fn copy(&self) -> Result<Event, AllocError>
         ensures { IfOk result (λ e. e ≡ self.now) }
     {
-        let kind = match &self.kind {
+        let kind = self.kind.copy()?;
+        Ok(Event {
+            kind,
+            size: self.size,
+        })
+    }
+}
+
+impl EventKind {
+    // The same, with another owner of what it shares.
+    fn copy(&self) -> Result<EventKind, AllocError>
+        ensures { IfOk result (λ k. plain_event k ≡ plain_event self.now) }
+    {
+        Ok(match self {
             EventKind::Never => EventKind::Never,
             EventKind::Leaf(b) => EventKind::Leaf(b.copy()?),
             EventKind::Choose(es) => EventKind::Choose(Arc::try_clone(es)?),
@@ -481,7 +534,6 @@ impl Event {
                 let shared = Arc::try_clone(e)?;
                 EventKind::Scope(*k, shared)
             }
-        };
-        Ok(Event { kind })
+        })
     }
 }

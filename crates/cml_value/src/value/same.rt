@@ -41,11 +41,11 @@ impl FnRef {
         if self.func != other.func {
             return false;
         }
-        if self.args.len() != other.args.len() {
+        if self.args.all.len() != other.args.all.len() {
             return false;
         }
-        for i in 0..self.args.len() {
-            if !self.args[i].same(&other.args[i]) {
+        for i in 0..self.args.all.len() {
+            if !self.args.all[i].same(&other.args.all[i]) {
                 return false;
             }
         }

@@ -10,6 +10,6 @@ invariant-Event::same-loop-i l =
 
 abbrev pub invariant-FnRef::same-loop-i : goal.invariant-FnRef::same-loop-i
 invariant-FnRef::same-loop-i l =
-    (length l.self-inside.args.value.items ≡ length l.other-inside.args.value.items)
-    × ((values l.self-inside.args.value.items ≡ values l.other-inside.args.value.items)
-    ↔ (values (drop l.i l.self-inside.args.value.items) ≡ values (drop l.i l.other-inside.args.value.items)))
+    (length l.self-inside.args.value.all.items ≡ length l.other-inside.args.value.all.items)
+    × ((values l.self-inside.args.value.all.items ≡ values l.other-inside.args.value.all.items)
+    ↔ (values (drop l.i l.self-inside.args.value.all.items) ≡ values (drop l.i l.other-inside.args.value.all.items)))

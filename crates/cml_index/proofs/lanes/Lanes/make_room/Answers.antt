@@ -19,7 +19,7 @@ loop-i-preserved c =
     let slot = c.run_at-slot.result.0 in
     let now_left : Slot → Bool = λ k. spec.has_run (drop c.loop-i.i c.args.runs.now.entries) k in
     let later : Slot → Bool = λ k. spec.has_run (drop (c.loop-i.i + 1) c.args.runs.now.entries) k in
-    let here : length (spec.run_in c.args.runs.now slot) ≤ spec.room_at c.reserve_at.new.self.by_slot slot = rw c.run_at-slot.ensures.run c.in_ok-reserve_at.ensures.room in
+    let here : length (spec.run_in c.args.runs.now slot) ≤ spec.room_at c.reserve_at.new.self.by_slot slot = rw c.run_at-slot.ensures.run c.in_ok-place.ensures.room in
     record {
       same = λ k. c.reserve_at.ensures.same k ∙ c.loop-i.invariant.same k;
       kept = λ k. let a = c.reserve_at.ensures.kept k in let b = c.loop-i.invariant.kept k in omega (arith, a, b);

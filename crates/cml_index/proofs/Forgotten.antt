@@ -1,0 +1,67 @@
+-- What was told of a light that is not lit is forgotten, and an empty lane with it.
+use Rattle.std.proofs.Common.{◌≡◌, Bool, true, false, not, ◌||◌, cond, List, [], ◌∷◌, length, None, refl, ap, sym, subst, ◌∙◌}
+use Rattle.std.specs.List.{All}
+use Rattle.std.specs.Map.{lookup}
+use Rattle.std.specs.Option.{option_map_or}
+use Rattle.std.proofs.lemmas.List.{nil_from_length}
+use Rattle.std.proofs.lemmas.List.Elements.{All-head, All-tail}
+use Rattle.indexmap.specs.IndexMap.{IndexMap, get}
+use Rattle.cml_scan.specs.declared.object.Light.{Light}
+use Rattle.cml_scan.specs.Order.{Every}
+use Rattle.cml_scan.specs.Table.{same_light, has_light, lit_after}
+use Rattle.cml_scan.proofs.Telling.{same_light_is, same_light_self}
+use Rattle.cml_scan.proofs.Ordered.{Every-weaker}
+use Rattle.cml_channel.specs.Lanes.{PlainLane}
+use Rattle.cml_index.specs.declared.slot.Slot.{Slot}
+use Rattle.cml_index.specs.declared.slot.Slot.TheVariants.{Waiters}
+use Rattle.cml_index.specs.Slot.{same_slot}
+use Rattle.cml_index.specs.Slots.{lane_at}
+use Rattle.cml_index.specs.Posts.{told}
+use Rattle.cml_index.proofs.Walks.{same_slot_is}
+
+-- a light that is not lit is told the same without its place
+pub told_without : (old new : List (Slot × Bool)) (l : Light) → ((k : Slot) → lookup (same_slot k) new ≡ cond (same_slot (Waiters l) k) None (lookup (same_slot k) old)) → told old l ≡ false → (m : Light) → told new m ≡ told old m
+told_without old new l find out m = at (same_slot (Waiters l) (Waiters m)) refl
+  where
+    found : (b : Bool) → same_slot (Waiters l) (Waiters m) ≡ b → told new m ≡ option_map_or (λ x. x) (cond b None (lookup (same_slot (Waiters m)) old)) false
+    found b e = ap (λ r. option_map_or (λ (x : Bool). x) r false) (find (Waiters m) ∙ ap (λ c. cond c None (lookup (same_slot (Waiters m)) old)) e)
+
+    at : (b : Bool) → same_slot (Waiters l) (Waiters m) ≡ b → told new m ≡ told old m
+    at true e = found true e ∙ sym (subst (λ s. option_map_or (λ (x : Bool). x) (lookup (same_slot s) old) false ≡ false) (same_slot_is (Waiters l) (Waiters m) e) out)
+    at false e = found false e
+
+-- a lane in which nobody stands is as one that was not made
+pub lane_without : {S T : Type 0} (old : IndexMap Slot PlainLane S) (new : IndexMap Slot PlainLane T) (slot : Slot) → ((k : Slot) → get same_slot new k ≡ cond (same_slot slot k) None (get same_slot old k)) → length (lane_at old slot) ≡ 0 → (k : Slot) → lane_at new k ≡ lane_at old k
+lane_without old new slot find none k = at (same_slot slot k) refl
+  where
+    found : (b : Bool) → same_slot slot k ≡ b → lane_at new k ≡ option_map_or (λ (l : PlainLane). l.places) (cond b None (get same_slot old k)) []
+    found b e = ap (λ r. option_map_or (λ (l : PlainLane). l.places) r []) (find k ∙ ap (λ c. cond c None (get same_slot old k)) e)
+
+    at : (b : Bool) → same_slot slot k ≡ b → lane_at new k ≡ lane_at old k
+    at true e = found true e ∙ sym (subst (λ s. lane_at old s ≡ []) (same_slot_is slot k e) (nil_from_length (lane_at old slot) none))
+    at false e = found false e
+
+or_true : (a b : Bool) → b ≡ true → a || b ≡ true
+or_true true b e = refl
+or_true false b e = e
+
+each_has : (xs : List Light) → Every (has_light xs) xs
+each_has [] = tt
+each_has (x ∷ xs) = (ap (λ b. b || has_light xs x) (same_light_self x), Every-weaker (has_light xs) (has_light (x ∷ xs)) xs (λ l on. or_true (same_light l x) (has_light xs l) on) (each_has xs))
+
+not_lit : (lit unlit : List Light) → Every (λ m. not (has_light unlit m)) lit → (l : Light) → has_light unlit l ≡ true → has_light lit l ≡ false
+not_lit [] unlit apart l on = refl
+not_lit (m ∷ ms) unlit apart l on = at (same_light l m) refl (not_lit ms unlit apart.1 l on)
+  where
+    at : (b : Bool) → same_light l m ≡ b → has_light ms l ≡ false → b || has_light ms l ≡ false
+    at true e rest = let bad : false ≡ true = sym (ap not (sym (ap (has_light unlit) (same_light_is l m e)) ∙ on)) ∙ apart.0 in cc
+    at false e rest = rest
+
+every_apart : (lit unlit : List Light) → All (λ m. has_light unlit m ≡ false) lit → Every (λ m. not (has_light unlit m)) lit
+every_apart [] unlit apart = tt
+every_apart (m ∷ ms) unlit apart = (ap not (All-head (λ x. has_light unlit x ≡ false) m ms apart), every_apart ms unlit (All-tail (λ x. has_light unlit x ≡ false) m ms apart))
+
+-- lights that were told to be unlit, and not to be lit, are not lit
+pub all_out : (lit unlit : List Light) (old new : Light → Bool) → All (λ m. has_light unlit m ≡ false) lit → ((l : Light) → new l ≡ lit_after lit unlit l (old l)) → Every (λ l. not (new l)) unlit
+all_out lit unlit old new apart agree = Every-weaker (has_light unlit) (λ l. not (new l)) unlit (λ l on.
+    ap not (agree l ∙ ap (λ b. cond b true (cond (has_light unlit l) false (old l))) (not_lit lit unlit (every_apart lit unlit apart) l on) ∙ ap (λ b. cond b false (old l)) on)) (each_has unlit)
