@@ -112,7 +112,7 @@ two_there tid (q ∷ r ∷ ps) e f = more (length ps)
     more n = grind (arith, nat_tests)
 
 -- a leaf stands in its lane
-stands : (ys xs : List PlainOffer) (x : PlainOffer) (k : Slot) → is_slot k (slot_of x.base) ≡ true → list_any (is_own (record { 0 = x.thread })) (lane_of slot_of k (ys ++ x ∷ xs)) ≡ true
+pub stands : (ys xs : List PlainOffer) (x : PlainOffer) (k : Slot) → is_slot k (slot_of x.base) ≡ true → list_any (is_own (record { 0 = x.thread })) (lane_of slot_of k (ys ++ x ∷ xs)) ≡ true
 stands [] xs x k e = rw (e, alike x.thread) refl
   where
     alike : (n : ℕ) → nat_eq n n ≡ true
@@ -141,7 +141,7 @@ module _ (os : List PlainOffer) (keys : List PairedId) (apart_ : IsDistinct same
   meets_on n x = list_any (is_of (whom n.kind (thread_of x))) (lane_of slot_of (met_lane n) os)
 
   -- one leaf is counted once where it has a partner
-  one_leaf : (x : PlainOffer) → ((n : PairedId) → is_slot (Side true n) (slot_of x.base) ≡ true → list_any (is_own (thread_of x)) (lane_of slot_of (Side true n) os) ≡ true)
+  pub one_leaf : (x : PlainOffer) → ((n : PairedId) → is_slot (Side true n) (slot_of x.base) ≡ true → list_any (is_own (thread_of x)) (lane_of slot_of (Side true n) os) ≡ true)
       → total (λ n. one_if (is_slot (Side true n) (slot_of x.base)) (one_if (meets_on n x) 1)) keys ≡ one_if (has_partner os x) 1
   one_leaf x there = by_shape (thread_of x) x.base other head
     where

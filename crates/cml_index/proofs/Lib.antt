@@ -13,3 +13,4 @@ mod Counted
 mod Listed
 mod Forgotten
 mod Placed
+mod OneObject

@@ -21,7 +21,7 @@ use cml_channel::{Lane, PairedId, Tally, Whom};
 use cml_value::Tid;
 
 // The thread of which all offers in the lane are, if they are of one alone: two looks.
-fn only_thread(lane: &Lane, tally: &mut Tally) -> Option<Tid>
+pub(crate) fn only_thread(lane: &Lane, tally: &mut Tally) -> Option<Tid>
     requires sorted { Ascends before lane.now.places }
     requires some { 0 < length lane.now.places }
     ensures value { (q : Place) → list_any (is_others q.tid) lane.now.places ≡ is_beside result q }
@@ -111,7 +111,7 @@ fn count_on(core: &Core, object: PairedId, tally: &mut Tally) -> usize
 }
 
 // The object at this place among the live ones.
-fn object_at(live: &Live, i: usize) -> PairedId
+pub(crate) fn object_at(live: &Live, i: usize) -> PairedId
     requires { i < index_set_len live.now }
     ensures { slice_get live.now.keys i ≡ Some result }
 {

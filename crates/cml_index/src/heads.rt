@@ -11,10 +11,11 @@ ghost use Rattle.cml_index.specs.Slots.{lane_of};
 ghost use Rattle.cml_index.specs.Heads.{is_sought, IsAnswer, EndsThere};
 ghost use Rattle.cml_index.specs.Posts as spec;
 
-use crate::counts::count_met;
+use crate::counts::{count_met, object_at};
 use crate::entry::Entry;
 use crate::flags::is_lit_by;
 use crate::slot::{Slot, met_by};
+use crate::sole::head_on;
 use crate::state::Core;
 use cml_channel::{Tally, Whom};
 use cml_scan::Place;
@@ -129,6 +130,27 @@ fn seek(core: &Core, kind: HeadKind, k: usize, tally: &mut Tally) -> Place
     unreachable!()
 }
 
+// The leaf at this place among those that have a partner. Where all stand on one object, it is found in its lane.
+fn head_met(core: &Core, k: usize, tally: &mut Tally) -> Place
+    requires indexed { spec.IsIndexed core.now.entries.items core.now.lanes.by_slot core.now.live
+        core.now.flags.entries core.now.leaves core.now.lit }
+    requires within { k < length (filter
+        (is_sought Met core.now.flags.entries (offers_of core.now.entries.items))
+        (offers_of core.now.entries.items)) }
+    ensures value { slice_get (map place (filter
+        (is_sought Met core.now.flags.entries (offers_of core.now.entries.items))
+        (offers_of core.now.entries.items))) k ≡ Some result }
+    ensures early { tally.new
+        + 3 * length (filter (λ o. before result (place o)) (offers_of core.now.entries.items))
+        ≤ tally.old + 3 * length (offers_of core.now.entries.items) }
+{
+    if core.live.len() == 1 {
+        head_on(core, object_at(&core.live, 0), k, tally)
+    } else {
+        seek(core, HeadKind::Met, k, tally)
+    }
+}
+
 // How many heads there are.
 pub(crate) fn head_count(core: &Core, tally: &mut Tally) -> usize
     requires { spec.IsIndexed core.now.entries.items core.now.lanes.by_slot core.now.live
@@ -157,6 +179,6 @@ pub(crate) fn head(core: &Core, k: usize, tally: &mut Tally) -> Place
     if k < core.lit {
         seek(core, HeadKind::Alone, k, tally)
     } else {
-        seek(core, HeadKind::Met, k - core.lit, tally)
+        head_met(core, k - core.lit, tally)
     }
 }

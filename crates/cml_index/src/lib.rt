@@ -14,6 +14,7 @@ mod partners;
 mod rows;
 mod runs;
 mod slot;
+mod sole;
 mod state;
 mod table;
 

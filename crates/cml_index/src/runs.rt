@@ -252,3 +252,16 @@ pub(crate) fn run_at(runs: &Runs, i: usize) -> (Slot, &[u32])
 {
     runs.at(i)
 }
+
+// How many leaves stand in the slot.
+pub(crate) fn run_len(runs: &Runs, slot: Slot) -> usize
+    ensures { result ≡ length (spec.run_in runs.now slot) }
+{
+    for i in 0..runs.len() {
+        let (found, leaves) = run_at(runs, i);
+        if found == slot {
+            return leaves.len();
+        }
+    }
+    0
+}

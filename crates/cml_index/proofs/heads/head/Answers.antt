@@ -9,8 +9,8 @@ use Rattle.cml_index.specs.Heads.{is_sought}
 use Rattle.cml_index.proofs.Seeking.{found_first, found_behind, heads_are, heads_many}
 use Rattle.cml_index.proofs.heads.head.Goals as goal
 
-pub seek-requires-else-k-core-clause-within : goal.seek-requires-else-k-core-clause-within
-seek-requires-else-k-core-clause-within c =
+pub head_met-requires-clause-within : goal.head_met-requires-clause-within
+head_met-requires-clause-within c =
     let es = c.args.core.now.entries.items in
     let many = heads_many c.args.core.now.flags.entries es c.requires.indexed.sorted in
     omega (arith, many, c.requires.indexed.alone, c.requires.within, c.if-k-core.false)
@@ -27,4 +27,4 @@ returns-else-k-core-clause-value c =
     let long : length (map place alone) ≡ length alone = length-map alone place in
     ap (λ ps. slice_get ps c.args.k) (heads_are c.args.core.now.flags.entries es c.requires.indexed.sorted)
     ∙ found_behind (map place alone) _ c.args.k (c.args.k - c.args.core.now.lit) (omega (arith, long, c.requires.indexed.alone, c.if-k-core.false))
-    ∙ c.seek-else-k-core.ensures.value
+    ∙ c.head_met.ensures.value

@@ -1,0 +1,156 @@
+//! The head at a place, where all that have a partner stand on one object.
+
+ghost use Rattle.std.specs.Prelude.{◌≡◌, ◌≤◌, ◌<◌, ◌+◌, ◌*◌, true, false, length, filter, slice_get, Some};
+ghost use Rattle.std.specs.List.{list_any};
+ghost use Rattle.cml_scan.specs.Order.{Ascends, IsSorted, before};
+ghost use Rattle.cml_scan.specs.Scan.{offers_of};
+ghost use Rattle.cml_channel.specs.Lanes.{is_own, others as of_others};
+ghost use Rattle.cml_channel.specs.declared.lane.Whom.TheVariants.{Others, Above};
+ghost use Rattle.cml_index.specs.declared.slot.Slot.TheVariants.{Side};
+ghost use Rattle.cml_index.specs.Slots.{lane_at, lane_of};
+ghost use Rattle.cml_index.specs.Heads.{met_among, heads_on};
+ghost use Rattle.cml_index.specs.Posts as spec;
+
+use crate::counts::only_thread;
+use crate::entry::Entry;
+use crate::runs::run_len;
+use crate::slot::Slot;
+use crate::state::{Core, find};
+use cml_channel::{Lane, PairedId, Tally};
+use cml_scan::Place;
+use cml_value::Tid;
+
+// How many leaves of the thread stand in the lane of the slot, if it is one of these threads. No offer is looked at.
+fn own_len(entries: &[Entry], slot: Slot, tid: Tid) -> usize
+    requires { IsSorted entries.now }
+    ensures { result ≡ length (filter (is_own tid)
+        (lane_of spec.slot_of slot (offers_of entries.now))) }
+{
+    let at = find(entries, tid);
+    if at >= entries.len() {
+        return 0;
+    }
+    let entry = &entries[at];
+    if entry.tid().0 != tid.0 {
+        return 0;
+    }
+    run_len(entry.runs(), slot)
+}
+
+// The offer at this place among those in the lane that are not the thread's, which has so many there: one look, and a second one
+// where its offers stand before that.
+fn other_at(lane: &Lane, tid: Tid, own: usize, j: usize, tally: &mut Tally) -> Place
+    requires sorted { Ascends before lane.now.places }
+    requires own { own + length (of_others tid lane.now.places) ≡ length lane.now.places }
+    requires within { j < length (of_others tid lane.now.places) }
+    ensures value { slice_get (of_others tid lane.now.places) j ≡ Some result }
+    ensures cost { tally.new + length (filter (before result) lane.now.places)
+        ≤ tally.old + length lane.now.places }
+    ensures ahead { length (filter (before result) lane.now.places) < length lane.now.places }
+{
+    let _len = lane.len();
+    let place = lane.look(j, tally);
+    if own == 0 {
+        return place;
+    }
+    if place.tid.0 < tid.0 {
+        return place;
+    }
+    lane.look(j + own, tally)
+}
+
+// The head at this place among those that have an offer of another thread among the others.
+fn head_beside(
+    core: &Core,
+    slot: Slot,
+    heads: &Lane,
+    others: &Lane,
+    k: usize,
+    tally: &mut Tally,
+) -> Place
+    requires indexed { spec.IsIndexed core.now.entries.items core.now.lanes.by_slot core.now.live
+        core.now.flags.entries core.now.leaves core.now.lit }
+    requires there { heads.now.places
+        ≡ lane_of spec.slot_of slot (offers_of core.now.entries.items) }
+    requires heads { Ascends before heads.now.places }
+    requires sorted { Ascends before others.now.places }
+    requires some { 0 < length others.now.places }
+    requires within { k < length (met_among Others others.now.places heads.now.places) }
+    ensures value { slice_get (met_among Others others.now.places heads.now.places) k ≡ Some result }
+    ensures early { tally.new + 3 * length (filter (before result) heads.now.places)
+        ≤ tally.old + 3 * length heads.now.places }
+{
+    let _len = heads.len();
+    match only_thread(others, tally) {
+        Some(tid) => {
+            let own = own_len(&core.entries, slot, tid);
+            other_at(heads, tid, own, k, tally)
+        }
+        None => heads.look(k, tally),
+    }
+}
+
+// The head at this place among those of the lane, on an object with two sides.
+fn head_in(core: &Core, object: PairedId, heads: &Lane, k: usize, tally: &mut Tally) -> Place
+    requires indexed { spec.IsIndexed core.now.entries.items core.now.lanes.by_slot core.now.live
+        core.now.flags.entries core.now.leaves core.now.lit }
+    requires there { heads.now.places
+        ≡ lane_of spec.slot_of (Side true object) (offers_of core.now.entries.items) }
+    requires within { k < length (met_among Others
+        (lane_at core.now.lanes.by_slot (Side false object)) heads.now.places) }
+    ensures value { slice_get (met_among Others (lane_at core.now.lanes.by_slot (Side false object))
+        heads.now.places) k ≡ Some result }
+    ensures early { tally.new + 3 * length (filter (before result) heads.now.places)
+        ≤ tally.old + 3 * length heads.now.places }
+{
+    let slot = Slot::Side {
+        heads: true,
+        object,
+    };
+    let other = Slot::Side {
+        heads: false,
+        object,
+    };
+    match core.lanes.by_slot.get(&other) {
+        Some(others) => head_beside(core, slot, heads, others, k, tally),
+        None => unreachable!(),
+    }
+}
+
+// The head at this place among the offers that have one of a thread above their own beside them in the lane: one look.
+fn head_below(lane: &Lane, k: usize, tally: &mut Tally) -> Place
+    requires sorted { Ascends before lane.now.places }
+    requires within { k < length (met_among Above lane.now.places lane.now.places) }
+    ensures value { slice_get (met_among Above lane.now.places lane.now.places) k ≡ Some result }
+    ensures early { tally.new + 3 * length (filter (before result) lane.now.places)
+        ≤ tally.old + 3 * length lane.now.places }
+{
+    let _len = lane.len();
+    lane.look(k, tally)
+}
+
+// The head at this place among those on the object.
+pub(crate) fn head_on(core: &Core, object: PairedId, k: usize, tally: &mut Tally) -> Place
+    requires indexed { spec.IsIndexed core.now.entries.items core.now.lanes.by_slot core.now.live
+        core.now.flags.entries core.now.leaves core.now.lit }
+    requires within { k < length (heads_on (offers_of core.now.entries.items) object) }
+    ensures value { slice_get (heads_on (offers_of core.now.entries.items) object) k ≡ Some result }
+    ensures early { tally.new
+        + 3 * length (filter (before result) (lane_at core.now.lanes.by_slot (Side true object)))
+        ≤ tally.old + 3 * length (lane_at core.now.lanes.by_slot (Side true object)) }
+{
+    let slot = Slot::Side {
+        heads: true,
+        object,
+    };
+    match core.lanes.by_slot.get(&slot) {
+        Some(heads) => {
+            if object.kind.one_lane() {
+                head_below(heads, k, tally)
+            } else {
+                head_in(core, object, heads, k, tally)
+            }
+        }
+        None => unreachable!(),
+    }
+}
