@@ -14,3 +14,4 @@ mod Listed
 mod Forgotten
 mod Placed
 mod OneObject
+mod Seated

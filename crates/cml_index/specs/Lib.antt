@@ -2,5 +2,6 @@ pub mod Slot
 pub mod SlotLaws
 pub mod Slots
 pub mod Live
+pub mod Seats
 pub mod Posts
 pub mod Heads

@@ -1,7 +1,6 @@
 //! A change as a whole.
 
-ghost use Rattle.std.specs.Prelude.{◌≡◌, ◌≢◌, ◌≤◌, ◌<◌, ◌+◌, ◌*◌, ◌^◌, ℕ, Bool, true, false, not, if◌then◌else◌, length, map, All, AllPairs, OnOk, OnErr, IsOk, IfOk, vec_len};
-ghost use Rattle.std.specs.Vec.{vec_capacity};
+ghost use Rattle.std.specs.Prelude.{◌≡◌, ◌≢◌, ◌≤◌, ◌<◌, ◌+◌, ◌*◌, ◌^◌, ℕ, Bool, true, false, not, if◌then◌else◌, length, map, All, AllPairs, OnOk, OnErr, IsOk, IfOk};
 ghost use Rattle.cml_value.specs.Group.{bases, scopes, nacks_of};
 ghost use Rattle.cml_scan.specs.declared.object.Light.{Light};
 ghost use Rattle.cml_scan.specs.Order.{Every};
@@ -70,8 +69,7 @@ impl Core {
         ensures shorter { (k : Slot) →
             length (lane_at self.new.lanes.by_slot k) ≤ length (lane_at self.old.lanes.by_slot k) }
         ensures leaves { self.new.leaves ≤ self.old.leaves }
-        ensures fewer { vec_len self.new.entries ≤ vec_len self.old.entries }
-        ensures capacity { vec_capacity self.old.entries ≤ vec_capacity self.new.entries }
+        ensures seat { self.old.entries.room ≤ self.new.entries.room }
         ensures seats { spare self.old.live ≤ spare self.new.live }
     {
         self.tell_all(unlit, false, tally);
@@ -212,7 +210,7 @@ impl Core {
             lane_at self.new.lanes.by_slot k ≡ lane_at self.old.lanes.by_slot k }
         ensures told { (m : Light) →
             spec.told self.new.flags.entries m ≡ spec.told self.old.flags.entries m }
-        ensures seat { OnOk result (vec_len self.new.entries < vec_capacity self.new.entries) }
+        ensures seat { OnOk result (0 < self.new.entries.room) }
         ensures seats { OnOk result (length (bases entry.now.group) ≤ spare self.new.live) }
         ensures small { OnOk result
             (self.new.leaves + length (bases entry.now.group) ≤ usize.MAX) }

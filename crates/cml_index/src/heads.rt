@@ -121,10 +121,13 @@ fn seek(core: &Core, kind: HeadKind, k: usize, tally: &mut Tally) -> Place
         ≤ tally.old + 3 * length (offers_of core.now.entries.items) }
 {
     let mut left = k;
-    for entry in &core.entries {
-        match seek_in(core, kind, entry, left, tally) {
-            Sought::Found(place) => return place,
-            Sought::Left(more) => left = more,
+    let seats = core.entries.seats();
+    for seat in seats {
+        if let Some(entry) = seat.entry() {
+            match seek_in(core, kind, entry, left, tally) {
+                Sought::Found(place) => return place,
+                Sought::Left(more) => left = more,
+            }
         }
     }
     unreachable!()

@@ -8,6 +8,7 @@ ghost use Rattle.cml_scan.specs.Scan.{scan_of, has_row, offers_of, heads_of, par
 ghost use Rattle.cml_scan.specs.Table.{changed, lit_after, IsThere, IsNew, AreApart, IsNackOf, nacks_among};
 ghost use Rattle.cml_index.specs.Posts as spec;
 
+use crate::entries::Entries;
 use crate::flags::is_lit_by;
 use crate::lanes::Lanes;
 use crate::state::{self, Core};
@@ -46,7 +47,7 @@ impl OfferIndex {
     {
         OfferIndex {
             core: Core {
-                entries: Vec::new(alloc),
+                entries: Entries::new(alloc),
                 lanes: Lanes::new(alloc),
                 live: IndexSet::new(alloc),
                 flags: IndexMap::new(alloc),

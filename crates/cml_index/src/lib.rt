@@ -3,6 +3,7 @@
 
 mod change;
 mod counts;
+mod entries;
 mod entry;
 mod flags;
 mod heads;

@@ -168,11 +168,16 @@ pub(crate) fn all_rows(
         return Ok(Vec::new(alloc));
     }
     let mut rows = Vec::new(alloc);
-    for entry in &core.entries {
-        push_singles_of(&mut rows, core, entry, tally)?;
+    let seats = core.entries.seats();
+    for seat in seats {
+        if let Some(entry) = seat.entry() {
+            push_singles_of(&mut rows, core, entry, tally)?;
+        }
     }
-    for head in &core.entries {
-        push_pairs_of(&mut rows, core, head, tally)?;
+    for seat in seats {
+        if let Some(head) = seat.entry() {
+            push_pairs_of(&mut rows, core, head, tally)?;
+        }
     }
     Ok(rows)
 }

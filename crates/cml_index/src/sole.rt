@@ -2,7 +2,7 @@
 
 ghost use Rattle.std.specs.Prelude.{◌≡◌, ◌≤◌, ◌<◌, ◌+◌, ◌*◌, true, false, length, filter, slice_get, Some};
 ghost use Rattle.std.specs.List.{list_any};
-ghost use Rattle.cml_scan.specs.Order.{Ascends, IsSorted, before};
+ghost use Rattle.cml_scan.specs.Order.{Ascends, before};
 ghost use Rattle.cml_scan.specs.Scan.{offers_of};
 ghost use Rattle.cml_channel.specs.Lanes.{is_own, others as of_others};
 ghost use Rattle.cml_channel.specs.declared.lane.Whom.TheVariants.{Others, Above};
@@ -12,29 +12,23 @@ ghost use Rattle.cml_index.specs.Heads.{met_among, heads_on};
 ghost use Rattle.cml_index.specs.Posts as spec;
 
 use crate::counts::only_thread;
-use crate::entry::Entry;
+use crate::entries::Entries;
 use crate::runs::run_len;
 use crate::slot::Slot;
-use crate::state::{Core, find};
+use crate::state::Core;
 use cml_channel::{Lane, PairedId, Tally};
 use cml_scan::Place;
 use cml_value::Tid;
 
 // How many leaves of the thread stand in the lane of the slot, if it is one of these threads. No offer is looked at.
-fn own_len(entries: &[Entry], slot: Slot, tid: Tid) -> usize
-    requires { IsSorted entries.now }
+fn own_len(entries: &Entries, slot: Slot, tid: Tid) -> usize
     ensures { result ≡ length (filter (is_own tid)
-        (lane_of spec.slot_of slot (offers_of entries.now))) }
+        (lane_of spec.slot_of slot (offers_of entries.now.items))) }
 {
-    let at = find(entries, tid);
-    if at >= entries.len() {
-        return 0;
+    match entries.get(tid) {
+        Some(entry) => run_len(entry.runs(), slot),
+        None => 0,
     }
-    let entry = &entries[at];
-    if entry.tid().0 != tid.0 {
-        return 0;
-    }
-    run_len(entry.runs(), slot)
 }
 
 // The offer at this place among those in the lane that are not the thread's, which has so many there: one look, and a second one

@@ -1,13 +1,11 @@
 //! The fields of the index, and the steps of a change.
 
-ghost use Rattle.std.specs.Prelude.{◌≡◌, ◌≢◌, ◌≤◌, ◌<◌, ◌+◌, ◌*◌, ◌^◌, [], ◌∷◌, ℕ, Bool, true, false, if◌then◌else◌, length, map, All, AllPairs, slice_get, OnOk, IsOk, IfOk, vec_len};
-ghost use Rattle.std.specs.List.{insert};
-ghost use Rattle.std.specs.Vec.{vec_capacity};
+ghost use Rattle.std.specs.Prelude.{◌≡◌, ◌≢◌, ◌≤◌, ◌<◌, ◌+◌, ◌*◌, ◌^◌, [], ◌∷◌, ℕ, Bool, true, false, if◌then◌else◌, length, map, All, AllPairs, slice_get, OnOk, IsOk, IfOk};
 ghost use Rattle.cml_value.specs.Group.{PlainGroup, bases, scopes, nacks_of};
 ghost use Rattle.cml_scan.specs.declared.object.Light.{Light};
 ghost use Rattle.cml_scan.specs.Scan.{offers_of};
 ghost use Rattle.std.specs.Option.{option_copied};
-ghost use Rattle.cml_scan.specs.Order.{IsSorted, Every, base_at as scan_base_at};
+ghost use Rattle.cml_scan.specs.Order.{Every, base_at as scan_base_at};
 ghost use Rattle.cml_scan.specs.Table.{without, with_entry, IsThere, same_light};
 ghost use Rattle.cml_scan.specs.World.{PlainEntry};
 ghost use Rattle.cml_index.specs.declared.slot.Slot.{Slot};
@@ -16,6 +14,7 @@ ghost use Rattle.cml_index.specs.Posts as spec;
 ghost use Rattle.cml_index.specs.declared.slot.Slot.TheVariants.{Waiters};
 ghost use Rattle.cml_index.specs.Slots.{lane_at, room_at, leaves_at};
 
+use crate::entries::Entries;
 use crate::entry::Entry;
 use crate::flags::{Flags, count_lit, flip};
 use crate::lanes::Lanes;
@@ -32,30 +31,12 @@ use std::alloc::{AllocError, Global};
 // many of them can be taken alone.
 #[derive(Drop)]
 pub(crate) struct Core {
-    pub(crate) entries: Vec<Entry>,
+    pub(crate) entries: Entries,
     pub(crate) lanes: Lanes,
     pub(crate) live: Live,
     pub(crate) flags: Flags,
     pub(crate) leaves: usize,
     pub(crate) lit: usize,
-}
-
-// How many of these threads are below this one.
-pub(crate) fn find(entries: &[Entry], tid: Tid) -> usize
-    requires { IsSorted entries.now }
-    ensures { result ≡ spec.count_below tid.0 entries.now }
-{
-    let mut low = 0;
-    let mut high = entries.len();
-    while low < high {
-        let middle = low + (high - low) / 2;
-        if entries[middle].tid().0 < tid.0 {
-            low = middle + 1;
-        } else {
-            high = middle;
-        }
-    }
-    low
 }
 
 impl Core {
@@ -77,12 +58,10 @@ impl Core {
             tally.new + self.new.leaves * (digits + 2)
             ≤ tally.old + self.old.leaves * (digits + 2) }
         ensures lighter { self.new.leaves ≤ self.old.leaves }
-        ensures fewer { vec_len self.new.entries ≤ vec_len self.old.entries }
-        ensures capacity { vec_capacity self.old.entries ≤ vec_capacity self.new.entries }
+        ensures seat { self.old.entries.room ≤ self.new.entries.room }
         ensures seats { spare self.old.live ≤ spare self.new.live }
     {
-        let at = find(&self.entries, tid);
-        let entry = self.entries.remove(at);
+        let entry = self.entries.take(tid);
         let lit = count_lit(&self.flags, entry.bases(), tally);
         self.lit -= lit;
         self.leaves -= entry.bases().len();
@@ -110,8 +89,7 @@ impl Core {
             tally.new + self.new.leaves * (digits + 2)
             ≤ tally.old + self.old.leaves * (digits + 2) }
         ensures lighter { self.new.leaves ≤ self.old.leaves }
-        ensures fewer { vec_len self.new.entries ≤ vec_len self.old.entries }
-        ensures capacity { vec_capacity self.old.entries ≤ vec_capacity self.new.entries }
+        ensures seat { self.old.entries.room ≤ self.new.entries.room }
         ensures seats { spare self.old.live ≤ spare self.new.live }
     {
         for tid in gone {
@@ -134,7 +112,7 @@ impl Core {
             spec.told self.new.flags.entries m ≡ spec.told self.old.flags.entries m }
         ensures kept { (k : Slot) → spec.is_named self.old.flags.entries k ≡ true →
             spec.is_named self.new.flags.entries k ≡ true }
-        ensures seat { OnOk result (vec_len self.new.entries < vec_capacity self.new.entries) }
+        ensures seat { OnOk result (0 < self.new.entries.room) }
         ensures seats { OnOk result (length (bases entry.now.group) ≤ spare self.new.live) }
         ensures small { OnOk result
             (self.new.leaves + length (bases entry.now.group) ≤ usize.MAX) }
@@ -148,7 +126,7 @@ impl Core {
         if self.leaves.checked_add(entry.bases().len()).is_none() {
             return Err(AllocError);
         }
-        self.entries.reserve(1)?;
+        self.entries.reserve()?;
         let places = self.lanes.make_room(alloc, entry.runs())?;
         self.live.reserve(entry.bases().len())?;
         reserve_nacks(&mut self.flags, alloc, entry.group())?;
@@ -189,7 +167,7 @@ impl Core {
         requires indexed { spec.IsIndexed self.old.entries.items self.old.lanes.by_slot self.old.live
             self.old.flags.entries self.old.leaves self.old.lit }
         requires new { All (λ e. e.thread ≢ entry.thread) self.old.entries.items }
-        requires seat { vec_len self.old.entries < vec_capacity self.old.entries }
+        requires seat { 0 < self.old.entries.room }
         requires seats { length (bases entry.group) ≤ spare self.old.live }
         requires small { self.old.leaves + length (bases entry.group) ≤ usize.MAX }
         requires room { (k : Slot) → length (leaves_at k 0 (map spec.slot_of (bases entry.group)))
@@ -205,31 +183,22 @@ impl Core {
             ((k : Slot) → length (lane_at self.old.lanes.by_slot k) < 2 ^ digits) →
             tally.new ≤ tally.old + length (bases entry.group) * (digits + 2) }
     {
-        let at = find(&self.entries, entry.tid());
         let lit = count_lit(&self.flags, entry.bases(), tally);
         self.leaves += entry.bases().len();
         self.lit += lit;
         self.lanes
             .come(entry.tid(), entry.runs(), entry.places(), tally);
         add_all(&mut self.live, &self.lanes, entry.runs());
-        insert_in_room(&mut self.entries, at, entry);
+        self.entries.put(entry);
     }
 }
 
 // What the leaf at the place waits for, if one of these threads has it: one look.
-pub(crate) fn base_at<'a>(entries: &'a [Entry], place: Place, tally: &mut Tally) -> Option<&'a Base>
-    requires { IsSorted entries.now }
-    ensures value { option_copied result ≡ scan_base_at place (offers_of entries.now) }
+pub(crate) fn base_at<'a>(entries: &'a Entries, place: Place, tally: &mut Tally) -> Option<&'a Base>
+    ensures value { option_copied result ≡ scan_base_at place (offers_of entries.now.items) }
     ensures cost { tally.new ≤ tally.old + 1 }
 {
-    let at = find(entries, place.tid);
-    if at >= entries.len() {
-        return None;
-    }
-    let entry = &entries[at];
-    if entry.tid().0 != place.tid.0 {
-        return None;
-    }
+    let entry = entries.get(place.tid)?;
     tally.add();
     nth(entry.bases(), place.leaf)
 }
@@ -238,16 +207,4 @@ fn nth(bases: &[Base], leaf: u32) -> Option<&Base>
     ensures { option_copied result ≡ slice_get bases.now leaf }
 {
     bases.get(leaf as usize)
-}
-
-// Puts the entry in its place. It takes no memory.
-fn insert_in_room(entries: &mut Vec<Entry>, at: usize, entry: Entry)
-    requires within { at ≤ length entries.old.items }
-    requires room { vec_len entries.old < vec_capacity entries.old }
-    ensures { entries.new.items ≡ insert entries.old.items at entry }
-{
-    match entries.insert(at, entry) {
-        Ok(()) => {}
-        Err(_) => unreachable!(),
-    }
 }
