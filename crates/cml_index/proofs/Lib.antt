@@ -15,3 +15,4 @@ mod Forgotten
 mod Placed
 mod OneObject
 mod Seated
+mod OwnSeat

@@ -51,7 +51,7 @@ seated-append (s ∷ xs) ys = at s.entry (seated-append xs ys)
     at (Some e) h = ap (λ es. e ∷ es) h
 
 -- whoever is in a seat is its thread
-its_thread : (s : Seat) (e : PlainEntry) → is_its_own s ≡ true → s.entry ≡ Some e → e.thread ≡ s.tid.0
+pub its_thread : (s : Seat) (e : PlainEntry) → is_its_own s ≡ true → s.entry ≡ Some e → e.thread ≡ s.tid.0
 its_thread s e own is = let one : nat_eq e.thread s.tid.0 ≡ true = rw is at own in same e.thread s.tid.0 one
   where
     same : (a b : ℕ) → nat_eq a b ≡ true → a ≡ b
@@ -196,19 +196,23 @@ module _ (t : ℕ) (low high : List Seat) (is : AreSides t low high) where
 
 -- a list with one element put in another's place
 set_split : (n : ℕ) (ss : List Seat) (s : Seat) → n < length ss → slice_set ss n s ≡ take n ss ++ s ∷ drop (n + 1) ss
-set_split n [] s within = absurd (omega (arith, within))
-set_split zero (x ∷ ss) s within = refl
-set_split (suc n) (x ∷ ss) s within = ap (λ xs. x ∷ xs) (set_split n ss s (omega (arith, within)))
+set_split n ss s within = set_parts n ss within ∙ ap (λ m. take n ss ++ s ∷ drop m ss) (next n)
+  where
+    next : (m : ℕ) → suc m ≡ m + 1
+    next m = omega arith
 
-split_at : (n : ℕ) (ss : List Seat) (d : Seat) → n < length ss → ss ≡ take n ss ++ get_or ss n d ∷ drop (n + 1) ss
-split_at n [] d within = absurd (omega (arith, within))
-split_at zero (x ∷ ss) d within = refl
-split_at (suc n) (x ∷ ss) d within = ap (λ xs. x ∷ xs) (split_at n ss d (omega (arith, within)))
+    set_parts : (m : ℕ) (xs : List Seat) → m < length xs → slice_set xs m s ≡ take m xs ++ s ∷ drop (suc m) xs
+    set_parts m [] inside = absurd (omega (arith, inside))
+    set_parts zero (x ∷ xs) inside = refl
+    set_parts (suc m) (x ∷ xs) inside = ap (λ ys. x ∷ ys) (set_parts m xs (omega (arith, inside)))
 
 parted : (n : ℕ) (ss : List Seat) → ss ≡ take n ss ++ drop n ss
 parted zero ss = refl
 parted (suc n) [] = refl
 parted (suc n) (x ∷ ss) = ap (λ xs. x ∷ xs) (parted n ss)
+
+split_at : (n : ℕ) (ss : List Seat) (d : Seat) → n < length ss → ss ≡ take n ss ++ get_or ss n d ∷ drop (n + 1) ss
+split_at n ss d within = parted n ss ∙ ap (λ xs. take n ss ++ xs) (drop_more ss n d within)
 
 -- those who are there, by the seat at a place
 pub seated_at : (n : ℕ) (ss : List Seat) (d : Seat) → n < length ss → seated ss ≡ seated (take n ss) ++ with_one (get_or ss n d).entry (seated (drop (n + 1) ss))
@@ -383,8 +387,18 @@ pub is_empty : (t : ℕ) (ss : List Seat) (d : Seat) → Every is_its_own ss →
     → AreSides t (take (count_seats t ss) ss) (drop (count_seats t ss + 1) ss) → All (λ e. e.thread ≢ t) (seated ss) → (get_or ss (count_seats t ss) d).entry ≡ None
 is_empty t ss d own within is sides apart = at s.entry refl
   where
+    n : ℕ
     n = count_seats t ss
+
+    s : Seat
     s = get_or ss n d
+
+    same : (a b : ℕ) → b ≡ a → nat_eq a b ≡ true
+    same a b h = grind (arith, nat_tests)
+
+    not_found : (b : Bool) → b ≡ true → (x : PlainEntry) → cond b (x ∷ []) [] ≡ [] → ⊥
+    not_found true h x e = cc
+    not_found false h x e = cc
 
     at : (o : Option PlainEntry) → s.entry ≡ o → s.entry ≡ None
     at None e = e
@@ -393,10 +407,3 @@ is_empty t ss d own within is sides apart = at s.entry refl
         let there : seated ss ≡ seated (take n ss) ++ ((x ∷ []) ++ seated (drop (n + 1) ss)) = seated_at n ss d within ∙ ap (λ o. seated (take n ss) ++ with_one o (seated (drop (n + 1) ss))) e in
         let found : filter (λ y. nat_eq t y.thread) (x ∷ []) ≡ [] = sym (own_between t (take n ss) (drop (n + 1) ss) sides (x ∷ [])) ∙ ap (filter (λ y. nat_eq t y.thread)) (sym there) ∙ none_of t (seated ss) apart in
         absurd (not_found (nat_eq t x.thread) (same t x.thread mine) x found)
-
-    same : (a b : ℕ) → b ≡ a → nat_eq a b ≡ true
-    same a b h = grind (arith, nat_tests)
-
-    not_found : (b : Bool) → b ≡ true → (x : PlainEntry) → cond b (x ∷ []) [] ≡ [] → ⊥
-    not_found true h x e = cc
-    not_found false h x e = cc
