@@ -417,44 +417,26 @@ nacks_with p e es each own =
     (Every-append p (nacks_in (filter (λ x. nat_lt x.thread e.thread) es)) (nacks_of (scopes e.group) ++ nacks_in (filter (λ x. nat_lt e.thread x.thread) es)) (nacks_left p (λ x. nat_lt x.thread e.thread) es each)
     (Every-append p (nacks_of (scopes e.group)) (nacks_in (filter (λ x. nat_lt e.thread x.thread) es)) own (nacks_left p (λ x. nat_lt e.thread x.thread) es each)))
 
--- what a thread's entry says of a leaf
-abbrev pub found_in : ℕ → ℕ → List PlainEntry → Option PlainBase
-found_in t l [] = None
-found_in t l (e ∷ es) = cond (nat_eq e.thread t) (slice_get (bases e.group) l) None
-
-none_after : (p : Place) (es : List PlainEntry) → Every (λ x. nat_lt p.tid.0 x.thread) es → base_at p (offers_of es) ≡ None
-none_after p [] h = refl
-none_after p (e ∷ es) h = other_leaves p e.thread 0 (bases e.group) (offers_of es) (apart p.tid.0 e.thread h.0) ∙ none_after p es h.1
+-- a leaf of a thread that is not pending is none of theirs
+pub base_none : (p : Place) (es : List PlainEntry) → filter (λ e. nat_eq p.tid.0 e.thread) es ≡ [] → base_at p (offers_of es) ≡ None
+base_none p [] none = refl
+base_none p (e ∷ es) none = at (nat_eq p.tid.0 e.thread) refl (base_none p es)
   where
-    apart : (a b : ℕ) → nat_lt a b ≡ true → nat_eq a b ≡ false
-    apart a b e = grind (arith, nat_tests)
+    at : (b : Bool) → nat_eq p.tid.0 e.thread ≡ b → (filter (λ x. nat_eq p.tid.0 x.thread) es ≡ [] → base_at p (offers_of es) ≡ None) → base_at p (leaves_from e.thread 0 (bases e.group) ++ offers_of es) ≡ None
+    at true h later = let some : e ∷ filter (λ x. nat_eq p.tid.0 x.thread) es ≡ [] = rw h at none in cc
+    at false h later = other_leaves p e.thread 0 (bases e.group) (offers_of es) h ∙ later (rw h at none)
 
--- the leaf stands in the entry behind those of lower threads, if that is its thread's
-pub base_found : (p : Place) (es : List PlainEntry) → IsSorted es → base_at p (offers_of es) ≡ found_in p.tid.0 p.leaf (drop (count_below p.tid.0 es) es)
-base_found p [] up = refl
-base_found p (e ∷ es) up = at (nat_lt e.thread p.tid.0) (nat_eq e.thread p.tid.0) refl refl (base_found p es up.1)
+-- a leaf of a pending thread stands in its group
+pub base_own : (p : Place) (es : List PlainEntry) (d : PlainEntry) → filter (λ e. nat_eq p.tid.0 e.thread) es ≡ d ∷ [] → d.thread ≡ p.tid.0 → base_at p (offers_of es) ≡ slice_get (bases d.group) p.leaf
+base_own p [] d own is = cc
+base_own p (e ∷ es) d own is = at (nat_eq p.tid.0 e.thread) refl (base_own p es d)
   where
-    apart : (a b : ℕ) → nat_lt a b ≡ true → nat_eq b a ≡ false
-    apart a b e = grind (arith, nat_tests)
-
-    off : (a b : ℕ) → nat_eq a b ≡ false → nat_eq b a ≡ false
-    off a b e = grind (arith, nat_tests)
-
-    same : (a b : ℕ) → nat_eq a b ≡ true → a ≡ b
-    same a b e = grind (arith, nat_tests)
-
-    over : (a b t : ℕ) → nat_lt a t ≡ false → nat_lt a b ≡ true → nat_eq a t ≡ false → nat_lt t b ≡ true
-    over a b t h k m = grind (arith, nat_tests)
-
-    at : (l s : Bool) → nat_lt e.thread p.tid.0 ≡ l → nat_eq e.thread p.tid.0 ≡ s → base_at p (offers_of es) ≡ found_in p.tid.0 p.leaf (drop (count_below p.tid.0 es) es)
-        → base_at p (leaves_from e.thread 0 (bases e.group) ++ offers_of es) ≡ found_in p.tid.0 p.leaf (drop (count_below p.tid.0 (e ∷ es)) (e ∷ es))
-    at true s h k r = rw h (other_leaves p e.thread 0 (bases e.group) (offers_of es) (apart e.thread p.tid.0 h) ∙ r)
-    at false true h k r =
-        let is : e.thread ≡ p.tid.0 = same e.thread p.tid.0 k in
-        let none : filter (λ x. nat_lt x.thread p.tid.0) es ≡ [] = none_below p.tid.0 e es up.0 h in
-        let later : Every (λ x. nat_lt p.tid.0 x.thread) es = subst (λ n. Every (λ x. nat_lt n x.thread) es) is up.0 in
-        rw (h, none, k) (ap (λ n. base_at p (leaves_from n 0 (bases e.group) ++ offers_of es)) is ∙ own_leaf p 0 p.leaf (bases e.group) (offers_of es) (omega arith) (none_after p es later))
-    at false false h k r =
-        let none : filter (λ x. nat_lt x.thread p.tid.0) es ≡ [] = none_below p.tid.0 e es up.0 h in
-        let later : Every (λ x. nat_lt p.tid.0 x.thread) es = Every-weaker (λ x. nat_lt e.thread x.thread) (λ x. nat_lt p.tid.0 x.thread) es (λ x m. over e.thread x.thread p.tid.0 h m k) up.0 in
-        rw (h, none, k) (other_leaves p e.thread 0 (bases e.group) (offers_of es) (off e.thread p.tid.0 k) ∙ none_after p es later)
+    at : (b : Bool) → nat_eq p.tid.0 e.thread ≡ b → (filter (λ x. nat_eq p.tid.0 x.thread) es ≡ d ∷ [] → d.thread ≡ p.tid.0 → base_at p (offers_of es) ≡ slice_get (bases d.group) p.leaf)
+        → base_at p (leaves_from e.thread 0 (bases e.group) ++ offers_of es) ≡ slice_get (bases d.group) p.leaf
+    at true h later =
+        let all : e ∷ filter (λ x. nat_eq p.tid.0 x.thread) es ≡ d ∷ [] = rw h at own in
+        let same : e ≡ d = cc in
+        let none : filter (λ x. nat_eq p.tid.0 x.thread) es ≡ [] = cc in
+        ap (λ n. base_at p (leaves_from n 0 (bases e.group) ++ offers_of es)) (ap (λ (x : PlainEntry). x.thread) same ∙ is)
+        ∙ own_leaf p 0 p.leaf (bases e.group) (offers_of es) (omega arith) (base_none p es none) ∙ ap (λ (x : PlainEntry). slice_get (bases x.group) p.leaf) same
+    at false h later = other_leaves p e.thread 0 (bases e.group) (offers_of es) h ∙ later (rw h at own) is

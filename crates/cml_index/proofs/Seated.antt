@@ -225,9 +225,12 @@ seated_set n ss s within = ap seated (set_split n ss s within) ∙ seated-append
 pub seated_parts : (n : ℕ) (ss : List Seat) → seated ss ≡ seated (take n ss) ++ seated (drop n ss)
 seated_parts n ss = ap seated (parted n ss) ∙ seated-append (take n ss) (drop n ss)
 
--- those from one seat on
-pub seated_step : (ss : List Seat) (i : ℕ) (s : Seat) → i < length ss → s ≡ get_or ss i s → seated (drop i ss) ≡ with_one s.entry (seated (drop (i + 1) ss))
-seated_step ss i s within is = ap seated (drop_more ss i s within ∙ ap (λ x. x ∷ drop (i + 1) ss) (sym is))
+-- those from one seat on are whoever is in it, and the later ones
+pub seat_step : (ss : List Seat) (i : ℕ) (s : Seat) (e : PlainEntry) → i < length ss → s ≡ get_or ss i s → Some e ≡ s.entry → seated (drop i ss) ≡ e ∷ seated (drop (i + 1) ss)
+seat_step ss i s e within is in_ = ap seated (drop_more ss i s within ∙ ap (λ x. x ∷ drop (i + 1) ss) (sym is)) ∙ ap (λ o. with_one o (seated (drop (i + 1) ss))) (sym in_)
+
+pub seat_passed : (ss : List Seat) (i : ℕ) (s : Seat) → i < length ss → s ≡ get_or ss i s → None ≡ s.entry → seated (drop i ss) ≡ seated (drop (i + 1) ss)
+seat_passed ss i s within is none = ap seated (drop_more ss i s within ∙ ap (λ x. x ∷ drop (i + 1) ss) (sym is)) ∙ ap (λ o. with_one o (seated (drop (i + 1) ss))) (sym none)
 
 -- the seats are no fewer than those who are there
 pub seated_fewer : (ss : List Seat) → length (seated ss) ≤ length ss

@@ -9,7 +9,7 @@ use Rattle.cml_value.specs.Value.{PlainBase}
 use Rattle.cml_value.specs.Group.{bases}
 use Rattle.cml_scan.specs.World.{PlainEntry}
 use Rattle.cml_scan.specs.Scan.{PlainOffer, leaves_from, offers_of, scan_of, heads_of}
-use Rattle.cml_scan.specs.Order.{IsSorted, place, before, before_numbers}
+use Rattle.cml_scan.specs.Order.{IsSorted, Every, place, before, before_numbers}
 use Rattle.cml_scan.specs.declared.meet.Meet.{Meet}
 use Rattle.cml_scan.specs.declared.meet.Place.{Place}
 use Rattle.cml_scan.proofs.Partners.{scan_of-heads}
@@ -62,25 +62,19 @@ count_step f t i bs b r within is e = ap length (leaves_step f t i bs b r within
     at true x xs = omega arith
     at false x xs = omega arith
 
--- the leaves of the threads from one on are its own and those of the later ones
-pub offers_step : (es : List PlainEntry) (i : ℕ) (e : PlainEntry) → i < length es → e ≡ get_or es i e → offers_of (drop i es) ≡ leaves_from e.thread 0 (bases e.group) ++ offers_of (drop (i + 1) es)
-offers_step es i e within is = ap offers_of (drop_more es i e within ∙ ap (λ x. x ∷ drop (i + 1) es) (sym is))
+-- the leaves of some threads are those of the first and those of the later ones
+pub offers_more : (e : PlainEntry) (es : List PlainEntry) → length (offers_of (e ∷ es)) ≡ length (bases e.group) + length (offers_of es)
+offers_more e es = length-append (leaves_from e.thread 0 (bases e.group)) (offers_of es) ∙ ap (λ n. n + length (offers_of es)) (leaves_all e.thread 0 (bases e.group))
 
-pub offers_more : (es : List PlainEntry) (i : ℕ) (e : PlainEntry) → i < length es → e ≡ get_or es i e → length (offers_of (drop i es)) ≡ length (bases e.group) + length (offers_of (drop (i + 1) es))
-offers_more es i e within is =
-    ap length (offers_step es i e within is) ∙ length-append (leaves_from e.thread 0 (bases e.group)) (offers_of (drop (i + 1) es)) ∙ ap (λ n. n + length (offers_of (drop (i + 1) es))) (leaves_all e.thread 0 (bases e.group))
+pub sought_step : (f : PlainOffer → Bool) (e : PlainEntry) (es : List PlainEntry) → filter f (offers_of (e ∷ es)) ≡ filter f (leaves_from e.thread 0 (bases e.group)) ++ filter f (offers_of es)
+sought_step f e es = filter-append f (leaves_from e.thread 0 (bases e.group)) (offers_of es)
 
-pub sought_step : (f : PlainOffer → Bool) (es : List PlainEntry) (i : ℕ) (e : PlainEntry) → i < length es → e ≡ get_or es i e
-    → filter f (offers_of (drop i es)) ≡ filter f (leaves_from e.thread 0 (bases e.group)) ++ filter f (offers_of (drop (i + 1) es))
-sought_step f es i e within is = ap (filter f) (offers_step es i e within is) ∙ filter-append f (leaves_from e.thread 0 (bases e.group)) (offers_of (drop (i + 1) es))
+pub sought_more : (f : PlainOffer → Bool) (e : PlainEntry) (es : List PlainEntry) → length (filter f (offers_of (e ∷ es))) ≡ length (filter f (leaves_from e.thread 0 (bases e.group))) + length (filter f (offers_of es))
+sought_more f e es = ap length (sought_step f e es) ∙ length-append (filter f (leaves_from e.thread 0 (bases e.group))) (filter f (offers_of es))
 
-pub sought_more : (f : PlainOffer → Bool) (es : List PlainEntry) (i : ℕ) (e : PlainEntry) → i < length es → e ≡ get_or es i e
-    → length (filter f (offers_of (drop i es))) ≡ length (filter f (leaves_from e.thread 0 (bases e.group))) + length (filter f (offers_of (drop (i + 1) es)))
-sought_more f es i e within is = ap length (sought_step f es i e within is) ∙ length-append (filter f (leaves_from e.thread 0 (bases e.group))) (filter f (offers_of (drop (i + 1) es)))
-
-pub sought_places : (f : PlainOffer → Bool) (es : List PlainEntry) (i : ℕ) (e : PlainEntry) → i < length es → e ≡ get_or es i e
-    → map place (filter f (offers_of (drop i es))) ≡ map place (filter f (leaves_from e.thread 0 (bases e.group))) ++ map place (filter f (offers_of (drop (i + 1) es)))
-sought_places f es i e within is = ap (map place) (sought_step f es i e within is) ∙ map-append place (filter f (leaves_from e.thread 0 (bases e.group))) (filter f (offers_of (drop (i + 1) es)))
+pub sought_places : (f : PlainOffer → Bool) (e : PlainEntry) (es : List PlainEntry)
+    → map place (filter f (offers_of (e ∷ es))) ≡ map place (filter f (leaves_from e.thread 0 (bases e.group))) ++ map place (filter f (offers_of es))
+sought_places f e es = ap (map place) (sought_step f e es) ∙ map-append place (filter f (leaves_from e.thread 0 (bases e.group))) (filter f (offers_of es))
 
 -- those that pass one of two tests, of which no one passes both, are no more than all
 pub both_fewer : {X : Type 0} (f g : X → Bool) → ((x : X) → f x ≡ true → g x ≡ false) → (xs : List X) → length (filter f xs) + length (filter g xs) ≤ length xs
@@ -153,31 +147,33 @@ none_behind p t leaf (b ∷ bs) low = rw (off p.tid.0 p.leaf t leaf low) (none_b
     off : (a m c n : ℕ) → nat_lt c a ≡ true → before_numbers a m c n ≡ false
     off a m c n e = grind (arith, nat_tests)
 
+every_mid : {X : Type 0} (p : X → Bool) (xs ys : List X) (x : X) → Every p (xs ++ x ∷ ys) → p x ≡ true
+every_mid p [] ys x each = each.0
+every_mid p (y ∷ xs) ys x each = every_mid p xs ys x each.1
+
 -- The leaves behind one of a thread are fewer than those of this thread and of the later ones, by that leaf and those before it.
-pub few_behind : (p : Place) (es : List PlainEntry) (i : ℕ) (e : PlainEntry) → IsSorted es → i < length es → e ≡ get_or es i e → p.tid.0 ≡ e.thread → p.leaf < length (bases e.group)
-    → length (filter (λ o. before p (place o)) (offers_of es)) + p.leaf + 1 ≤ length (offers_of (drop i es))
-few_behind p [] i e up within is own low = absurd (omega (arith, within))
-few_behind p (x ∷ xs) zero e up within is own low =
-    let here : leaves_from x.thread 0 (bases x.group) ≡ leaves_from p.tid.0 0 (bases e.group) = ap (λ (y : PlainEntry). leaves_from y.thread 0 (bases y.group)) (sym is) ∙ ap (λ t. leaves_from t 0 (bases e.group)) (sym own) in
+pub few_behind : (p : Place) (low : List PlainEntry) (e : PlainEntry) (high : List PlainEntry) → IsSorted (low ++ e ∷ high) → p.tid.0 ≡ e.thread → p.leaf < length (bases e.group)
+    → length (filter (λ o. before p (place o)) (offers_of (low ++ e ∷ high))) + p.leaf + 1 ≤ length (offers_of (e ∷ high))
+few_behind p [] e high up own within =
     let f : PlainOffer → Bool = λ o. before p (place o) in
-    let mine = leaves_from x.thread 0 (bases x.group) in
-    let parts : length (filter f (mine ++ offers_of xs)) ≡ length (filter f mine) + length (filter f (offers_of xs)) = ap length (filter-append f mine (offers_of xs)) ∙ length-append (filter f mine) (filter f (offers_of xs)) in
-    let whole : length (mine ++ offers_of xs) ≡ length mine + length (offers_of xs) = length-append mine (offers_of xs) in
-    let later : length (filter f (offers_of xs)) ≤ length (offers_of xs) = filter_fewer f (offers_of xs) in
+    let mine = leaves_from e.thread 0 (bases e.group) in
+    let here : mine ≡ leaves_from p.tid.0 0 (bases e.group) = ap (λ t. leaves_from t 0 (bases e.group)) (sym own) in
+    let parts : length (filter f (mine ++ offers_of high)) ≡ length (filter f mine) + length (filter f (offers_of high)) = ap length (filter-append f mine (offers_of high)) ∙ length-append (filter f mine) (filter f (offers_of high)) in
+    let whole : length (mine ++ offers_of high) ≡ length mine + length (offers_of high) = length-append mine (offers_of high) in
+    let later : length (filter f (offers_of high)) ≤ length (offers_of high) = filter_fewer f (offers_of high) in
     let counted : length (filter f mine) ≡ length (filter f (leaves_from p.tid.0 0 (bases e.group))) = ap (λ os. length (filter f os)) here in
     let many : length mine ≡ length (bases e.group) = ap length here ∙ leaves_all p.tid.0 0 (bases e.group) in
-    let few : length (filter f (leaves_from p.tid.0 0 (bases e.group))) + p.leaf + 1 ≤ 0 + length (bases e.group) = own_behind p 0 (bases e.group) (omega arith) (omega (arith, low)) in
+    let few : length (filter f (leaves_from p.tid.0 0 (bases e.group))) + p.leaf + 1 ≤ 0 + length (bases e.group) = own_behind p 0 (bases e.group) (omega arith) (omega (arith, within)) in
     omega (arith, parts, whole, later, counted, many, few)
-few_behind p (x ∷ xs) (suc i) e up within is own low =
+few_behind p (x ∷ low) e high up own within =
     let f : PlainOffer → Bool = λ o. before p (place o) in
     let mine = leaves_from x.thread 0 (bases x.group) in
-    let inside : i < length xs = omega (arith, within) in
-    let under : nat_lt x.thread (get_or xs i e).thread ≡ true = at_place (λ (y : PlainEntry). nat_lt x.thread y.thread) xs i e inside up.0 in
-    let lower : nat_lt x.thread p.tid.0 ≡ true = ap (nat_lt x.thread) (own ∙ ap (λ (y : PlainEntry). y.thread) is) ∙ under in
-    let none : filter f mine ≡ [] = none_behind p x.thread 0 (bases x.group) lower in
-    let rest : filter f (mine ++ offers_of xs) ≡ filter f (offers_of xs) = filter-append f mine (offers_of xs) ∙ ap (λ os. os ++ filter f (offers_of xs)) none in
-    let counted : length (filter f (mine ++ offers_of xs)) ≡ length (filter f (offers_of xs)) = ap length rest in
-    let k = few_behind p xs i e up.1 inside is own low in
+    let os = offers_of (low ++ e ∷ high) in
+    let under : nat_lt x.thread e.thread ≡ true = every_mid (λ (y : PlainEntry). nat_lt x.thread y.thread) low high e up.0 in
+    let none : filter f mine ≡ [] = none_behind p x.thread 0 (bases x.group) (ap (nat_lt x.thread) own ∙ under) in
+    let rest : filter f (mine ++ os) ≡ filter f os = filter-append f mine os ∙ ap (λ ys. ys ++ filter f os) none in
+    let counted : length (filter f (mine ++ os)) ≡ length (filter f os) = ap length rest in
+    let k = few_behind p low e high up.1 own within in
     omega (arith, counted, k)
 
 -- where there is no head there is no row

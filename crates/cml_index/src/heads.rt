@@ -123,11 +123,10 @@ fn seek(core: &Core, kind: HeadKind, k: usize, tally: &mut Tally) -> Place
     let mut left = k;
     let seats = core.entries.seats();
     for seat in seats {
-        if let Some(entry) = seat.entry() {
-            match seek_in(core, kind, entry, left, tally) {
-                Sought::Found(place) => return place,
-                Sought::Left(more) => left = more,
-            }
+        let Some(entry) = seat.entry() else { continue };
+        match seek_in(core, kind, entry, left, tally) {
+            Sought::Found(place) => return place,
+            Sought::Left(more) => left = more,
         }
     }
     unreachable!()

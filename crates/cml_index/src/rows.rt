@@ -170,14 +170,12 @@ pub(crate) fn all_rows(
     let mut rows = Vec::new(alloc);
     let seats = core.entries.seats();
     for seat in seats {
-        if let Some(entry) = seat.entry() {
-            push_singles_of(&mut rows, core, entry, tally)?;
-        }
+        let Some(entry) = seat.entry() else { continue };
+        push_singles_of(&mut rows, core, entry, tally)?;
     }
     for seat in seats {
-        if let Some(head) = seat.entry() {
-            push_pairs_of(&mut rows, core, head, tally)?;
-        }
+        let Some(head) = seat.entry() else { continue };
+        push_pairs_of(&mut rows, core, head, tally)?;
     }
     Ok(rows)
 }

@@ -1,5 +1,5 @@
 use Rattle.std.proofs.Common.{◌≡◌, ℕ, true, false, [], ◌≤◌, ◌+◌, ◌*◌, ◌∙◌, ◌++◌, ◌∷◌, length, drop, nat_eq, nat_lt, not, map, ap, sym, subst, arith}
-use Rattle.std.specs.List.{insert, filter}
+use Rattle.std.specs.List.{filter}
 use Rattle.cml_value.specs.Group.{bases}
 use Rattle.cml_scan.specs.World.{PlainEntry}
 use Rattle.cml_scan.specs.Scan.{offers_of}
@@ -18,7 +18,7 @@ use Rattle.cml_channel.specs.Pairings.{one_lane}
 use Rattle.cml_index.specs.Live.{may_meet}
 use Rattle.cml_index.proofs.Kept.{no_side, meet_more, with_longer}
 use Rattle.cml_index.specs.Posts as spec
-use Rattle.cml_index.proofs.Parted.{all_apart, between, lane_others, lane-ascends, leaves_at-ascend, came_lane, came_count, came_all, nacks_with, move_cost, filter_fewer}
+use Rattle.cml_index.proofs.Parted.{all_apart, lane_others, lane-ascends, leaves_at-ascend, came_lane, came_count, came_all, nacks_with, move_cost, filter_fewer}
 use Rattle.cml_index.proofs.state.Core.enter.Goals as goal
 
 pub overflow_add-self-2 : goal.overflow_add-self-2
@@ -36,27 +36,20 @@ come-requires-clause-sorted c k = subst (Ascends before) (sym (c.requires.indexe
 pub come-requires-clause-new : goal.come-requires-clause-new
 come-requires-clause-new c k =
     let apart = all_apart c.args.entry.thread c.args.self.now.entries.items c.requires.new in
-    let here = subst (λ t. Every (λ (e : PlainEntry). not (nat_eq t e.thread)) c.args.self.now.entries.items) (sym c.tid-2.ensures) apart in
-    subst (Every (is_others c.tid-2.result)) (sym (c.requires.indexed.placed k)) (lane_others spec.slot_of k c.tid-2.result c.args.self.now.entries.items here)
+    let here = subst (λ t. Every (λ (e : PlainEntry). not (nat_eq t e.thread)) c.args.self.now.entries.items) (sym c.tid.ensures) apart in
+    subst (Every (is_others c.tid.result)) (sym (c.requires.indexed.placed k)) (lane_others spec.slot_of k c.tid.result c.args.self.now.entries.items here)
 
 pub come-requires-clause-ascend : goal.come-requires-clause-ascend
 come-requires-clause-ascend c k = subst (Ascends nat_lt) (sym (c.runs.ensures.runs k)) (leaves_at-ascend k 0 (map spec.slot_of (bases c.args.entry.group)))
-
-pub insert_in_room-requires-clause-within : goal.insert_in_room-requires-clause-within
-insert_in_room-requires-clause-within c =
-    let es = c.args.self.now.entries.items in
-    let at : c.find-at.result ≡ spec.count_below c.args.entry.thread es = c.find-at.ensures ∙ ap (λ t. spec.count_below t c.deref.result.now) c.tid.ensures ∙ ap (spec.count_below c.args.entry.thread) c.deref.ensures.value in
-    let fewer : spec.count_below c.args.entry.thread es ≤ length es = filter_fewer (λ (e : PlainEntry). nat_lt e.thread c.args.entry.thread) es in
-    omega (arith, at, fewer)
 
 pub add_all-requires-clause-was : goal.add_all-requires-clause-was
 add_all-requires-clause-was c n e =
     let es = c.args.self.now.entries.items in
     let lanes = c.args.self.now.lanes.by_slot in
     let after = c.come.new.self.by_slot in
-    let tid = c.tid-2.result in
+    let tid = c.tid.result in
     let apart = all_apart c.args.entry.thread es c.requires.new in
-    let away = subst (λ t. Every (λ (e : PlainEntry). not (nat_eq t e.thread)) es) (sym c.tid-2.ensures) apart in
+    let away = subst (λ t. Every (λ (e : PlainEntry). not (nat_eq t e.thread)) es) (sym c.tid.ensures) apart in
     let up : (k : Slot) → Ascends before (lane_at lanes k) = λ k. subst (Ascends before) (sym (c.requires.indexed.placed k)) (lane-ascends spec.slot_of k es c.requires.indexed.sorted) in
     let new_ : (k : Slot) → Every (is_others tid) (lane_at lanes k) = λ k. subst (Every (is_others tid)) (sym (c.requires.indexed.placed k)) (lane_others spec.slot_of k tid es away) in
     let same : (k : Slot) → has_run c.runs-2.result.now.entries k ≡ false → lane_at after k ≡ lane_at lanes k = λ k off.
@@ -70,9 +63,9 @@ add_all-requires-clause-under c n dark =
     let es = c.args.self.now.entries.items in
     let lanes = c.args.self.now.lanes.by_slot in
     let after = c.come.new.self.by_slot in
-    let tid = c.tid-2.result in
+    let tid = c.tid.result in
     let apart = all_apart c.args.entry.thread es c.requires.new in
-    let away = subst (λ t. Every (λ (e : PlainEntry). not (nat_eq t e.thread)) es) (sym c.tid-2.ensures) apart in
+    let away = subst (λ t. Every (λ (e : PlainEntry). not (nat_eq t e.thread)) es) (sym c.tid.ensures) apart in
     let up : (k : Slot) → Ascends before (lane_at lanes k) = λ k. subst (Ascends before) (sym (c.requires.indexed.placed k)) (lane-ascends spec.slot_of k es c.requires.indexed.sorted) in
     let new_ : (k : Slot) → Every (is_others tid) (lane_at lanes k) = λ k. subst (Every (is_others tid)) (sym (c.requires.indexed.placed k)) (lane_others spec.slot_of k tid es away) in
     let more : (k : Slot) → length (lane_at lanes k) ≤ length (lane_at after k) = λ k.
@@ -82,30 +75,26 @@ add_all-requires-clause-under c n dark =
     c.requires.indexed.sides n ∙ meet_more (one_lane n.kind) (length (lane_at lanes (Side true n))) (length (lane_at lanes (Side false n))) (length (lane_at after (Side true n))) (length (lane_at after (Side false n))) (more (Side true n)) (more (Side false n)) dark
 
 pub returns-clause-entries : goal.returns-clause-entries
-returns-clause-entries c =
-    let es = c.args.self.now.entries.items in
-    let at : c.find-at.result ≡ spec.count_below c.args.entry.thread es = c.find-at.ensures ∙ ap (λ t. spec.count_below t c.deref.result.now) c.tid.ensures ∙ ap (spec.count_below c.args.entry.thread) c.deref.ensures.value in
-    let b = between c.args.entry.thread es c.requires.indexed.sorted (all_apart c.args.entry.thread es c.requires.new) in
-    c.insert_in_room.ensures ∙ ap (λ n. insert es n c.args.entry) at ∙ ap (λ xs. xs ++ c.args.entry ∷ drop (spec.count_below c.args.entry.thread es) es) b.front ∙ ap (λ xs. filter (λ x. nat_lt x.thread c.args.entry.thread) es ++ c.args.entry ∷ xs) b.back
+returns-clause-entries c = c.put.ensures
 
 pub returns-clause-indexed : goal.returns-clause-indexed
 returns-clause-indexed c =
     let es = c.args.self.now.entries.items in
     let e = c.args.entry in
-    let after : c.insert_in_room.new.entries.items ≡ with_entry e es = returns-clause-entries c in
+    let after : c.put.new.self.items ≡ with_entry e es = c.put.ensures in
     let apart = all_apart e.thread es c.requires.new in
     let lit = lit_by (spec.told c.args.self.now.flags.entries) in
     let count : length c.bases-2.result.now ≡ length (bases e.group) = ap length c.bases-2.ensures in
     let count_lit : c.count_lit-lit.result ≡ length (filter lit (bases e.group)) = c.count_lit-lit.ensures.count ∙ ap (λ bs. length (filter lit bs)) c.bases.ensures in
     let many = came_all e es c.requires.indexed.sorted apart in
     let many_lit = came_count lit e es c.requires.indexed.sorted apart in
-    let now : length (offers_of c.insert_in_room.new.entries.items) ≡ length (offers_of (with_entry e es)) = ap (λ xs. length (offers_of xs)) after in
-    let now_lit : length (spec.lit_offers c.args.self.now.flags.entries c.insert_in_room.new.entries.items) ≡ length (filter (λ o. lit o.base) (offers_of (with_entry e es))) = ap (λ xs. length (filter (λ o. lit o.base) (offers_of xs))) after in
+    let now : length (offers_of c.put.new.self.items) ≡ length (offers_of (with_entry e es)) = ap (λ xs. length (offers_of xs)) after in
+    let now_lit : length (spec.lit_offers c.args.self.now.flags.entries c.put.new.self.items) ≡ length (filter (λ o. lit o.base) (offers_of (with_entry e es))) = ap (λ xs. length (filter (λ o. lit o.base) (offers_of xs))) after in
     record {
       sorted = subst IsSorted (sym after) (sorted_with e es c.requires.indexed.sorted);
-      placed = λ k. c.come.ensures.lanes k ∙ ap (λ ls. with_run c.tid-2.result ls (lane_at c.args.self.now.lanes.by_slot k)) (c.runs.ensures.runs k)
-          ∙ ap (with_run c.tid-2.result (leaves_at k 0 (map spec.slot_of (bases e.group)))) (c.requires.indexed.placed k)
-          ∙ came_lane spec.slot_of k c.tid-2.result e es c.tid-2.ensures ∙ ap (λ xs. lane_of spec.slot_of k (offers_of xs)) (sym after);
+      placed = λ k. c.come.ensures.lanes k ∙ ap (λ ls. with_run c.tid.result ls (lane_at c.args.self.now.lanes.by_slot k)) (c.runs.ensures.runs k)
+          ∙ ap (with_run c.tid.result (leaves_at k 0 (map spec.slot_of (bases e.group)))) (c.requires.indexed.placed k)
+          ∙ came_lane spec.slot_of k c.tid.result e es c.tid.ensures ∙ ap (λ xs. lane_of spec.slot_of k (offers_of xs)) (sym after);
       sides = c.add_all.ensures;
       all = omega (arith, many, count, now, c.requires.indexed.all);
       alone = omega (arith, many_lit, count_lit, now_lit, c.requires.indexed.alone);

@@ -1,5 +1,5 @@
 use Rattle.std.proofs.Common.{◌≡◌, ℕ, true, false, ◌≤◌, ◌-◌, ◌+◌, ◌*◌, ◌∙◌, [], ◌∷◌, length, get_or, nat_eq, not, ap, sym, subst, arith}
-use Rattle.std.specs.List.{remove, filter}
+use Rattle.std.specs.List.{filter}
 use Rattle.cml_value.specs.Group.{bases}
 use Rattle.cml_scan.specs.World.{PlainEntry}
 use Rattle.cml_scan.specs.Scan.{offers_of}
@@ -18,23 +18,14 @@ use Rattle.cml_channel.specs.Pairings.{one_lane}
 use Rattle.cml_index.specs.Live.{may_meet}
 use Rattle.cml_index.proofs.Kept.{no_side, meet_less}
 use Rattle.cml_index.specs.Posts as spec
-use Rattle.cml_index.proofs.Parted.{owned, there_any, gone_one, left_lane, left_rest, left_count, left_all, nacks_left, move_cost, filter_fewer}
+use Rattle.cml_index.proofs.Parted.{gone_one, left_lane, left_rest, left_count, left_all, nacks_left, move_cost, filter_fewer}
 use Rattle.cml_index.proofs.state.Core.leave.Goals as goal
-
-pub remove-entry-requires : goal.remove-entry-requires
-remove-entry-requires c =
-    let es = c.args.self.now.entries.items in
-    let o = owned c.args.tid.0 es (record { thread = 0; group = Rattle.cml_value.specs.Group.never }) c.requires.indexed.sorted (there_any c.args.tid.0 es c.requires.there) in
-    omega (arith, o.within, c.find-at.ensures, ap (spec.count_below c.args.tid.0) c.deref.ensures.value, c.args.self.now.entries.ok.0)
 
 pub overflow_sub-self : goal.overflow_sub-self
 overflow_sub-self c =
     let es = c.args.self.now.entries.items in
-    let d = c.remove-entry.result in
-    let o = owned c.args.tid.0 es d c.requires.indexed.sorted (there_any c.args.tid.0 es c.requires.there) in
-    let at = c.find-at.ensures ∙ ap (spec.count_below c.args.tid.0) c.deref.ensures.value in
-    let entry : d ≡ get_or es (spec.count_below c.args.tid.0 es) d = c.remove-entry.ensures.value ∙ ap (λ n. get_or es n d) at in
-    let own : filter (λ e. nat_eq c.args.tid.0 e.thread) es ≡ d ∷ [] = o.own ∙ ap (λ x. x ∷ []) (sym entry) in
+    let d = c.take-entry.result in
+    let own : filter (λ e. nat_eq c.args.tid.0 e.thread) es ≡ d ∷ [] = c.take-entry.ensures.own in
     let many = left_count (lit_by (spec.told c.args.self.now.flags.entries)) c.args.tid.0 es d own in
     let count : c.count_lit-lit.result ≡ length (filter (lit_by (spec.told c.args.self.now.flags.entries)) (bases d.group)) = c.count_lit-lit.ensures.count ∙ ap (λ bs. length (filter (lit_by (spec.told c.args.self.now.flags.entries)) bs)) c.bases.ensures in
     omega (arith, many, count, c.requires.indexed.alone)
@@ -42,11 +33,8 @@ overflow_sub-self c =
 pub overflow_sub-self-2 : goal.overflow_sub-self-2
 overflow_sub-self-2 c =
     let es = c.args.self.now.entries.items in
-    let d = c.remove-entry.result in
-    let o = owned c.args.tid.0 es d c.requires.indexed.sorted (there_any c.args.tid.0 es c.requires.there) in
-    let at = c.find-at.ensures ∙ ap (spec.count_below c.args.tid.0) c.deref.ensures.value in
-    let entry : d ≡ get_or es (spec.count_below c.args.tid.0 es) d = c.remove-entry.ensures.value ∙ ap (λ n. get_or es n d) at in
-    let own : filter (λ e. nat_eq c.args.tid.0 e.thread) es ≡ d ∷ [] = o.own ∙ ap (λ x. x ∷ []) (sym entry) in
+    let d = c.take-entry.result in
+    let own : filter (λ e. nat_eq c.args.tid.0 e.thread) es ≡ d ∷ [] = c.take-entry.ensures.own in
     let many = left_all c.args.tid.0 es d own in
     let count : length c.bases-2.result.now ≡ length (bases d.group) = ap length c.bases-2.ensures in
     omega (arith, many, count, c.requires.indexed.all)
@@ -54,23 +42,17 @@ overflow_sub-self-2 c =
 pub go-requires : goal.go-requires
 go-requires c k =
     let es = c.args.self.now.entries.items in
-    let d = c.remove-entry.result in
-    let o = owned c.args.tid.0 es d c.requires.indexed.sorted (there_any c.args.tid.0 es c.requires.there) in
-    let at = c.find-at.ensures ∙ ap (spec.count_below c.args.tid.0) c.deref.ensures.value in
-    let entry : d ≡ get_or es (spec.count_below c.args.tid.0 es) d = c.remove-entry.ensures.value ∙ ap (λ n. get_or es n d) at in
-    let own : filter (λ e. nat_eq c.args.tid.0 e.thread) es ≡ d ∷ [] = o.own ∙ ap (λ x. x ∷ []) (sym entry) in
-    let thread : d.thread ≡ c.args.tid.0 = ap (λ (e : PlainEntry). e.thread) entry ∙ o.thread in
+    let d = c.take-entry.result in
+    let own : filter (λ e. nat_eq c.args.tid.0 e.thread) es ≡ d ∷ [] = c.take-entry.ensures.own in
+    let thread : d.thread ≡ c.args.tid.0 = c.take-entry.ensures.thread in
     ap length (c.runs.ensures.runs k) ∙ left_lane spec.slot_of k c.args.tid es d own thread ∙ ap (λ ps. length (filter (is_own c.args.tid) ps)) (sym (c.requires.indexed.placed k))
 
 pub cut_all-requires-clause-was : goal.cut_all-requires-clause-was
 cut_all-requires-clause-was c n e =
     let es = c.args.self.now.entries.items in
-    let d = c.remove-entry.result in
-    let o = owned c.args.tid.0 es d c.requires.indexed.sorted (there_any c.args.tid.0 es c.requires.there) in
-    let at = c.find-at.ensures ∙ ap (spec.count_below c.args.tid.0) c.deref.ensures.value in
-    let entry : d ≡ get_or es (spec.count_below c.args.tid.0 es) d = c.remove-entry.ensures.value ∙ ap (λ n. get_or es n d) at in
-    let own : filter (λ e. nat_eq c.args.tid.0 e.thread) es ≡ d ∷ [] = o.own ∙ ap (λ x. x ∷ []) (sym entry) in
-    let thread : d.thread ≡ c.args.tid.0 = ap (λ (e : PlainEntry). e.thread) entry ∙ o.thread in
+    let d = c.take-entry.result in
+    let own : filter (λ e. nat_eq c.args.tid.0 e.thread) es ≡ d ∷ [] = c.take-entry.ensures.own in
+    let thread : d.thread ≡ c.args.tid.0 = c.take-entry.ensures.thread in
     let lanes = c.args.self.now.lanes.by_slot in
     let after = c.go.new.self.by_slot in
     let same : (k : Slot) → has_run c.runs-2.result.now.entries k ≡ false → lane_at after k ≡ lane_at lanes k = λ k off.
@@ -91,32 +73,22 @@ cut_all-requires-clause-over c n on =
     c.requires.indexed.sides n ∙ meet_less (one_lane n.kind) (length (lane_at lanes (Side true n))) (length (lane_at lanes (Side false n))) (length (lane_at after (Side true n))) (length (lane_at after (Side false n))) (fewer (Side true n)) (fewer (Side false n)) on
 
 pub returns-clause-entries : goal.returns-clause-entries
-returns-clause-entries c =
-    let es = c.args.self.now.entries.items in
-    let d = c.remove-entry.result in
-    let o = owned c.args.tid.0 es d c.requires.indexed.sorted (there_any c.args.tid.0 es c.requires.there) in
-    let at = c.find-at.ensures ∙ ap (spec.count_below c.args.tid.0) c.deref.ensures.value in
-    let entry : d ≡ get_or es (spec.count_below c.args.tid.0 es) d = c.remove-entry.ensures.value ∙ ap (λ n. get_or es n d) at in
-    let own : filter (λ e. nat_eq c.args.tid.0 e.thread) es ≡ d ∷ [] = o.own ∙ ap (λ x. x ∷ []) (sym entry) in
-    c.remove-entry.ensures.items ∙ ap (remove es) at ∙ o.rest ∙ gone_one c.args.tid es
+returns-clause-entries c = c.take-entry.ensures.items
 
 pub returns-clause-indexed : goal.returns-clause-indexed
 returns-clause-indexed c =
     let es = c.args.self.now.entries.items in
-    let d = c.remove-entry.result in
-    let o = owned c.args.tid.0 es d c.requires.indexed.sorted (there_any c.args.tid.0 es c.requires.there) in
-    let at = c.find-at.ensures ∙ ap (spec.count_below c.args.tid.0) c.deref.ensures.value in
-    let entry : d ≡ get_or es (spec.count_below c.args.tid.0 es) d = c.remove-entry.ensures.value ∙ ap (λ n. get_or es n d) at in
-    let own : filter (λ e. nat_eq c.args.tid.0 e.thread) es ≡ d ∷ [] = o.own ∙ ap (λ x. x ∷ []) (sym entry) in
-    let rest : c.remove-entry.new.self.items ≡ filter (λ e. not (nat_eq c.args.tid.0 e.thread)) es = c.remove-entry.ensures.items ∙ ap (remove es) at ∙ o.rest in
-    let without_ : c.remove-entry.new.self.items ≡ without (c.args.tid ∷ []) es = rest ∙ gone_one c.args.tid es in
+    let d = c.take-entry.result in
+    let own : filter (λ e. nat_eq c.args.tid.0 e.thread) es ≡ d ∷ [] = c.take-entry.ensures.own in
+    let rest : c.take-entry.new.self.items ≡ filter (λ e. not (nat_eq c.args.tid.0 e.thread)) es = c.take-entry.ensures.items ∙ sym (gone_one c.args.tid es) in
+    let without_ : c.take-entry.new.self.items ≡ without (c.args.tid ∷ []) es = c.take-entry.ensures.items in
     let lit = lit_by (spec.told c.args.self.now.flags.entries) in
     let many = left_all c.args.tid.0 es d own in
     let count : length c.bases-2.result.now ≡ length (bases d.group) = ap length c.bases-2.ensures in
-    let after : length (offers_of c.remove-entry.new.self.items) ≡ length (offers_of (filter (λ e. not (nat_eq c.args.tid.0 e.thread)) es)) = ap (λ xs. length (offers_of xs)) rest in
+    let after : length (offers_of c.take-entry.new.self.items) ≡ length (offers_of (filter (λ e. not (nat_eq c.args.tid.0 e.thread)) es)) = ap (λ xs. length (offers_of xs)) rest in
     let many_lit = left_count lit c.args.tid.0 es d own in
     let count_lit : c.count_lit-lit.result ≡ length (filter lit (bases d.group)) = c.count_lit-lit.ensures.count ∙ ap (λ bs. length (filter lit bs)) c.bases.ensures in
-    let after_lit : length (spec.lit_offers c.args.self.now.flags.entries c.remove-entry.new.self.items) ≡ length (filter (λ o. lit o.base) (offers_of (filter (λ e. not (nat_eq c.args.tid.0 e.thread)) es))) = ap (λ xs. length (filter (λ o. lit o.base) (offers_of xs))) rest in
+    let after_lit : length (spec.lit_offers c.args.self.now.flags.entries c.take-entry.new.self.items) ≡ length (filter (λ o. lit o.base) (offers_of (filter (λ e. not (nat_eq c.args.tid.0 e.thread)) es))) = ap (λ xs. length (filter (λ o. lit o.base) (offers_of xs))) rest in
     record {
       sorted = subst IsSorted (sym without_) (sorted_without (c.args.tid ∷ []) es c.requires.indexed.sorted);
       placed = λ k. c.go.ensures.lanes k ∙ ap (others c.args.tid) (c.requires.indexed.placed k) ∙ sym (left_rest spec.slot_of k c.args.tid es) ∙ ap (λ xs. lane_of spec.slot_of k (offers_of xs)) (sym rest);
@@ -135,11 +107,8 @@ returns-clause-shorter c k =
 pub returns-clause-cost : goal.returns-clause-cost
 returns-clause-cost c digits few =
     let es = c.args.self.now.entries.items in
-    let d = c.remove-entry.result in
-    let o = owned c.args.tid.0 es d c.requires.indexed.sorted (there_any c.args.tid.0 es c.requires.there) in
-    let at = c.find-at.ensures ∙ ap (spec.count_below c.args.tid.0) c.deref.ensures.value in
-    let entry : d ≡ get_or es (spec.count_below c.args.tid.0 es) d = c.remove-entry.ensures.value ∙ ap (λ n. get_or es n d) at in
-    let own : filter (λ e. nat_eq c.args.tid.0 e.thread) es ≡ d ∷ [] = o.own ∙ ap (λ x. x ∷ []) (sym entry) in
+    let d = c.take-entry.result in
+    let own : filter (λ e. nat_eq c.args.tid.0 e.thread) es ≡ d ∷ [] = c.take-entry.ensures.own in
     let many = left_all c.args.tid.0 es d own in
     let count : length c.bases-2.result.now ≡ length (bases d.group) = ap length c.bases-2.ensures in
     let count1 : length c.bases.result.now ≡ length (bases d.group) = ap length c.bases.ensures in

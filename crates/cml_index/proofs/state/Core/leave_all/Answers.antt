@@ -4,7 +4,7 @@ use Rattle.cml_index.proofs.Going.{there_still, without_more, without_none}
 use Rattle.cml_index.proofs.state.Core.leave_all.Goals as goal
 
 pub loop-tid-init : goal.loop-tid-init
-loop-tid-init c = record { entries = without_none c.args.self.now.entries.items; indexed = c.requires.indexed; flags = Rattle.std.proofs.Common.refl; room = λ k. omega arith; shorter = λ k. omega arith; cost = λ digits few. omega arith; lighter = omega arith; fewer = omega arith; capacity = omega arith; seats = omega arith }
+loop-tid-init c = record { entries = without_none c.args.self.now.entries.items; indexed = c.requires.indexed; flags = Rattle.std.proofs.Common.refl; room = λ k. omega arith; shorter = λ k. omega arith; cost = λ digits few. omega arith; lighter = omega arith; seat = omega arith; seats = omega arith }
 
 pub leave-requires-clause-there : goal.leave-requires-clause-there
 leave-requires-clause-there c =
@@ -24,7 +24,6 @@ loop-tid-preserved c =
       shorter = λ k. let r = c.loop-tid.invariant.shorter k in let q = c.leave.ensures.shorter k in omega (arith, r, q);
       cost = λ digits few. let r = c.loop-tid.invariant.cost digits few in let q = c.leave.ensures.cost digits (λ k. let s = c.loop-tid.invariant.shorter k in let f = few k in omega (arith, s, f)) in omega (arith, r, q);
       lighter = omega (arith, c.loop-tid.invariant.lighter, c.leave.ensures.lighter);
-      fewer = omega (arith, c.loop-tid.invariant.fewer, c.leave.ensures.fewer);
-      capacity = omega (arith, c.loop-tid.invariant.capacity, c.leave.ensures.capacity);
+      seat = omega (arith, c.loop-tid.invariant.seat, c.leave.ensures.seat);
       seats = omega (arith, c.loop-tid.invariant.seats, c.leave.ensures.seats);
     }

@@ -1,5 +1,4 @@
-use Rattle.std.proofs.Common.{◌≡◌, ◌≤◌, ◌<◌, ◌+◌, ◌*◌, ◌^◌, ℕ, length, take, vec_len}
-use Rattle.std.specs.Vec.{vec_capacity}
+use Rattle.std.proofs.Common.{◌≡◌, ◌≤◌, ◌<◌, ◌+◌, ◌*◌, ◌^◌, ℕ, length, take}
 use Rattle.indexmap.specs.IndexSet.{spare}
 use Rattle.cml_scan.specs.Table.{without}
 use Rattle.cml_index.specs.declared.slot.Slot.{Slot}
@@ -17,7 +16,6 @@ invariant-loop-tid l = record {
   shorter : (k : Slot) → length (lane_at l.self.lanes.by_slot k) ≤ length (lane_at l.fn.self.lanes.by_slot k);
   cost : (digits : ℕ) → ((k : Slot) → length (lane_at l.fn.self.lanes.by_slot k) < 2 ^ digits) → l.tally + l.self.leaves * (digits + 2) ≤ l.fn.tally + l.fn.self.leaves * (digits + 2);
   lighter : l.self.leaves ≤ l.fn.self.leaves;
-  fewer : vec_len l.self.entries ≤ vec_len l.fn.self.entries;
-  capacity : vec_capacity l.fn.self.entries ≤ vec_capacity l.self.entries;
+  seat : l.fn.self.entries.room ≤ l.self.entries.room;
   seats : spare l.fn.self.live ≤ spare l.self.live;
 }
