@@ -24,7 +24,7 @@ use Rattle.cml_scan.proofs.Ordered.{Every-weaker, Every-append, Every-passes, of
 use Rattle.cml_channel.specs.Lanes.{is_own, is_others, others, run, with_run}
 use Rattle.cml_index.specs.declared.slot.Slot.{Slot}
 use Rattle.cml_index.specs.Slots.{is_slot, leaves_at, lane_of}
-use Rattle.cml_index.specs.Posts.{count_below, nacks_in}
+use Rattle.cml_index.specs.Posts.{nacks_in}
 
 -- a thread's leaves pass a test of threads together
 leaves_pass : (test : ℕ → Bool) (thread leaf : ℕ) (bs : List PlainBase) → test thread ≡ true → filter (λ o. test o.thread) (leaves_from thread leaf bs) ≡ leaves_from thread leaf bs
@@ -123,70 +123,6 @@ all_above : (t : ℕ) (es : List PlainEntry) → Every (λ x. nat_lt t x.thread)
 all_above t [] each = refl
 all_above t (x ∷ es) each = rw (each.0) (ap (λ ys. x ∷ ys) (all_above t es each.1))
 
-all_others : (t : ℕ) (es : List PlainEntry) → Every (λ x. nat_lt t x.thread) es → filter (λ x. not (nat_eq t x.thread)) es ≡ es
-all_others t [] each = refl
-all_others t (x ∷ es) each = let off : nat_eq t x.thread ≡ false = numbers t x.thread each.0 in rw off (ap (λ ys. x ∷ ys) (all_others t es each.1))
-  where
-    numbers : (a b : ℕ) → nat_lt a b ≡ true → nat_eq a b ≡ false
-    numbers a b e = grind (arith, nat_tests)
-
-none_own : (t : ℕ) (es : List PlainEntry) → Every (λ x. nat_lt t x.thread) es → filter (λ x. nat_eq t x.thread) es ≡ []
-none_own t [] each = refl
-none_own t (x ∷ es) each = let off : nat_eq t x.thread ≡ false = numbers t x.thread each.0 in rw off (none_own t es each.1)
-  where
-    numbers : (a b : ℕ) → nat_lt a b ≡ true → nat_eq a b ≡ false
-    numbers a b e = grind (arith, nat_tests)
-
--- where a pending thread's entry stands, and what is left without it
-pub record IsOwned (t : ℕ) (es : List PlainEntry) (d : PlainEntry) : Type 0 where
-  pub within : count_below t es < length es
-  pub thread : (get_or es (count_below t es) d).thread ≡ t
-  pub rest : remove es (count_below t es) ≡ filter (λ e. not (nat_eq t e.thread)) es
-  pub own : filter (λ e. nat_eq t e.thread) es ≡ get_or es (count_below t es) d ∷ []
-
-pub owned : (t : ℕ) (es : List PlainEntry) (d : PlainEntry) → IsSorted es → list_any (λ e. nat_eq t e.thread) es ≡ true → IsOwned t es d
-owned t [] d up there = cc
-owned t (e ∷ es) d up there = at (nat_eq t e.thread) refl there (λ more. owned t es d up.1 more)
-  where
-    same : (a b : ℕ) → nat_eq a b ≡ true → a ≡ b
-    same a b h = grind (arith, nat_tests)
-
-    out_ : (a b : ℕ) → nat_eq a b ≡ true → nat_lt b a ≡ false
-    out_ a b h = grind (arith, nat_tests)
-
-    low : (t : ℕ) (x : PlainEntry) (xs : List PlainEntry) → Every (λ y. nat_lt x.thread y.thread) xs → list_any (λ y. nat_eq t y.thread) xs ≡ true → nat_lt x.thread t ≡ true
-    low t x [] each more = cc
-    low t x (y ∷ ys) each more = pick (nat_eq t y.thread) refl more (λ rest. low t x ys each.1 rest)
-      where
-        numbers : (a b t : ℕ) → nat_lt a b ≡ true → nat_eq t b ≡ true → nat_lt a t ≡ true
-        numbers a b t e f = grind (arith, nat_tests)
-
-        pick : (b : Bool) → nat_eq t y.thread ≡ b → b || list_any (λ z. nat_eq t z.thread) ys ≡ true → (list_any (λ z. nat_eq t z.thread) ys ≡ true → nat_lt x.thread t ≡ true) → nat_lt x.thread t ≡ true
-        pick true h m k = numbers x.thread y.thread t each.0 h
-        pick false h m k = k m
-
-    at : (b : Bool) → nat_eq t e.thread ≡ b → b || list_any (λ x. nat_eq t x.thread) es ≡ true → (list_any (λ x. nat_eq t x.thread) es ≡ true → IsOwned t es d) → IsOwned t (e ∷ es) d
-    at true h m k =
-        let is : t ≡ e.thread = same t e.thread h in
-        let off : nat_lt e.thread t ≡ false = out_ t e.thread h in
-        let later : Every (λ x. nat_lt t x.thread) es = subst (λ n. Every (λ x. nat_lt n x.thread) es) (sym is) up.0 in
-        let none : filter (λ x. nat_lt x.thread t) es ≡ [] = none_below t e es up.0 off in
-        record {
-          within = rw (off, none) (omega arith);
-          thread = rw (off, none) (sym is);
-          rest = rw (off, none, h) (sym (all_others t es later));
-          own = rw (off, none, h) (ap (λ ys. e ∷ ys) (none_own t es later));
-        }
-    at false h m k =
-        let r = k m in
-        let below : nat_lt e.thread t ≡ true = low t e es up.0 m in
-        record {
-          within = let w : count_below t es < length es = r.within in rw below (omega arith);
-          thread = rw below r.thread;
-          rest = rw (below, h) (ap (λ ys. e ∷ ys) r.rest);
-          own = rw (below, h) r.own;
-        }
-
 -- a pending thread is found by a test
 pub there_any : (t : ℕ) (es : List PlainEntry) → Any (λ e. e.thread ≡ t) es → list_any (λ e. nat_eq t e.thread) es ≡ true
 there_any t es (k, x, within, at, is) = list_any_at (λ e. nat_eq t e.thread) es k x within (rw at (same x.thread t is))
@@ -201,27 +137,6 @@ filter_fewer p (x ∷ xs) = at (p x) (filter_fewer p xs)
     at : (b : Bool) → length (filter p xs) ≤ length xs → length (cond b (x ∷ filter p xs) (filter p xs)) ≤ suc (length xs)
     at true h = omega arith
     at false h = omega arith
-
--- an entry is of a lower thread exactly if its index is below their count
-pub record IsRanked (t : ℕ) (es : List PlainEntry) (k : ℕ) (e : PlainEntry) : Type 0 where
-  pub front : nat_lt e.thread t ≡ true → k < count_below t es
-  pub back : nat_lt e.thread t ≡ false → count_below t es ≤ k
-
-pub ranked : (t : ℕ) (es : List PlainEntry) (k : ℕ) (d : PlainEntry) → IsSorted es → k < length es → IsRanked t es k (get_or es k d)
-ranked t [] k d up within = absurd (omega arith)
-ranked t (e ∷ es) zero d up within = at (nat_lt e.thread t) refl
-  where
-    at : (b : Bool) → nat_lt e.thread t ≡ b → IsRanked t (e ∷ es) zero e
-    at true h = record { front = λ _. rw h (omega arith); back = λ out. cc }
-    at false h = record { front = λ in_. cc; back = λ _. rw (h, none_below t e es up.0 h) (omega arith) }
-ranked t (e ∷ es) (suc k) d up within = at (nat_lt e.thread t) refl (ranked t es k d up.1 (omega arith))
-  where
-    at : (b : Bool) → nat_lt e.thread t ≡ b → IsRanked t es k (get_or es k d) → IsRanked t (e ∷ es) (suc k) (get_or es k d)
-    at true h rest = record { front = λ in_. let r : k < count_below t es = rest.front in_ in rw h (omega arith); back = λ out. let r : count_below t es ≤ k = rest.back out in rw h (omega arith) }
-    at false h rest =
-        let none : filter (λ x. nat_lt x.thread t) es ≡ [] = none_below t e es up.0 h in
-        let zero_count : count_below t es ≡ 0 = ap length none in
-        record { front = λ in_. let r : k < count_below t es = rest.front in_ in absurd (omega arith); back = λ out. rw (h, none) (omega arith) }
 
 pub lt_is : (a b : ℕ) → a < b → nat_lt a b ≡ true
 lt_is a b h = grind (arith, nat_tests)
@@ -331,13 +246,8 @@ lane_others slot k tid es apart =
     subst (Every (is_others tid)) (sym (left_rest slot k tid es) ∙ ap (λ xs. lane_of slot k (offers_of xs)) (filter_every (λ e. not (nat_eq tid.0 e.thread)) es apart)) (Every-passes (is_others tid) (lane_of slot k (offers_of es)))
 
 -- those below and those above are all
-pub record IsBetween (t : ℕ) (es : List PlainEntry) : Type 0 where
-  pub front : take (count_below t es) es ≡ filter (λ x. nat_lt x.thread t) es
-  pub back : drop (count_below t es) es ≡ filter (λ x. nat_lt t x.thread) es
-  pub whole : filter (λ x. nat_lt x.thread t) es ++ filter (λ x. nat_lt t x.thread) es ≡ es
-
-pub between : (t : ℕ) (es : List PlainEntry) → IsSorted es → Every (λ e. not (nat_eq t e.thread)) es → IsBetween t es
-between t [] up apart = record { front = refl; back = refl; whole = refl }
+pub between : (t : ℕ) (es : List PlainEntry) → IsSorted es → Every (λ e. not (nat_eq t e.thread)) es → filter (λ x. nat_lt x.thread t) es ++ filter (λ x. nat_lt t x.thread) es ≡ es
+between t [] up apart = refl
 between t (e ∷ es) up apart = at (nat_lt e.thread t) refl (between t es up.1 apart.1)
   where
     high_off : (a t : ℕ) → nat_lt a t ≡ true → nat_lt t a ≡ false
@@ -349,16 +259,17 @@ between t (e ∷ es) up apart = at (nat_lt e.thread t) refl (between t es up.1 a
     over : (a b t : ℕ) → nat_lt t a ≡ true → nat_lt a b ≡ true → nat_lt t b ≡ true
     over a b t h k = grind (arith, nat_tests)
 
-    at : (b : Bool) → nat_lt e.thread t ≡ b → IsBetween t es → IsBetween t (e ∷ es)
-    at true h r =
+    at : (b : Bool) → nat_lt e.thread t ≡ b → filter (λ x. nat_lt x.thread t) es ++ filter (λ x. nat_lt t x.thread) es ≡ es
+        → filter (λ x. nat_lt x.thread t) (e ∷ es) ++ filter (λ x. nat_lt t x.thread) (e ∷ es) ≡ e ∷ es
+    at true h whole =
         let off : nat_lt t e.thread ≡ false = high_off e.thread t h in
-        record { front = rw h (ap (λ xs. e ∷ xs) r.front); back = rw (h, off) r.back; whole = rw (h, off) (ap (λ xs. e ∷ xs) r.whole) }
-    at false h r =
+        rw (h, off) (ap (λ xs. e ∷ xs) whole)
+    at false h whole =
         let on : nat_lt t e.thread ≡ true = high_on e.thread t h apart.0 in
         let none : filter (λ x. nat_lt x.thread t) es ≡ [] = none_below t e es up.0 h in
         let later : Every (λ x. nat_lt t x.thread) es = Every-weaker (λ x. nat_lt e.thread x.thread) (λ x. nat_lt t x.thread) es (λ x k. over e.thread x.thread t on k) up.0 in
         let rest : filter (λ x. nat_lt t x.thread) es ≡ es = all_above t es later in
-        record { front = rw (h, none) refl; back = rw (h, none, on, rest) refl; whole = rw (h, none, on, rest) refl }
+        rw (h, none, on, rest) refl
 
 -- the offers with those of one more entry
 pub offers_with : (e : PlainEntry) (es : List PlainEntry)
@@ -388,7 +299,7 @@ came_count p e es up apart =
     let low : List PlainEntry = filter (λ x. nat_lt x.thread e.thread) es in
     let high : List PlainEntry = filter (λ x. nat_lt e.thread x.thread) es in
     let f : PlainEntry → List PlainOffer = λ x. leaves_from x.thread 0 (bases x.group) in
-    let both : offers_of es ≡ offers_of low ++ offers_of high = ap offers_of (sym (between e.thread es up apart).whole) ∙ flat_map-append f low high in
+    let both : offers_of es ≡ offers_of low ++ offers_of high = ap offers_of (sym (between e.thread es up apart)) ∙ flat_map-append f low high in
     let three : offers_of (with_entry e es) ≡ offers_of low ++ (f e ++ offers_of high) = flat_map-append f low (e ∷ high) in
     let a : length (filter P (offers_of es)) ≡ length (filter P (offers_of low)) + length (filter P (offers_of high)) =
     ap (λ os. length (filter P os)) both ∙ ap length (filter-append P (offers_of low) (offers_of high)) ∙ length-append (filter P (offers_of low)) (filter P (offers_of high)) in
@@ -404,7 +315,7 @@ came_all e es up apart =
     let low : List PlainEntry = filter (λ x. nat_lt x.thread e.thread) es in
     let high : List PlainEntry = filter (λ x. nat_lt e.thread x.thread) es in
     let f : PlainEntry → List PlainOffer = λ x. leaves_from x.thread 0 (bases x.group) in
-    let a : length (offers_of es) ≡ length (offers_of low) + length (offers_of high) = ap length (ap offers_of (sym (between e.thread es up apart).whole) ∙ flat_map-append f low high) ∙ length-append (offers_of low) (offers_of high) in
+    let a : length (offers_of es) ≡ length (offers_of low) + length (offers_of high) = ap length (ap offers_of (sym (between e.thread es up apart)) ∙ flat_map-append f low high) ∙ length-append (offers_of low) (offers_of high) in
     let b : length (f e ++ offers_of high) ≡ length (f e) + length (offers_of high) = length-append (f e) (offers_of high) in
     let c : length (offers_of (with_entry e es)) ≡ length (offers_of low) + length (f e ++ offers_of high) = ap length (flat_map-append f low (e ∷ high)) ∙ length-append (offers_of low) (f e ++ offers_of high) in
     let d : length (f e) ≡ length (bases e.group) = leaves_all e.thread 0 (bases e.group) in

@@ -95,10 +95,6 @@ abbrev pub came_leaves : Option (Tid × Bor PlainGroup) → ℕ
 came_leaves None = 0
 came_leaves (Some c) = length (bases c.1.now)
 
--- how many of these threads are below this one
-abbrev pub count_below : ℕ → List PlainEntry → ℕ
-count_below thread entries = length (filter (λ e. nat_lt e.thread thread) entries)
-
 -- The codes of the above: trees of numbers from which they can be read back. The toolchain asks for them; no rule speaks of them.
 abbrev pub kind_gv : Pairing → ℕ
 kind_gv Channel = 0

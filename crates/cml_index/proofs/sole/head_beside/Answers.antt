@@ -17,7 +17,7 @@ other_at-requires-clause-own c =
     let hs = c.args.heads.now.places in
     let tid = c.in-Some.tid in
     let own : c.own_len-own.result ≡ length (filter (is_own tid) hs) = c.own_len-own.ensures
-    ∙ ap (λ es. length (filter (is_own tid) (lane_of slot_of c.args.slot (offers_of es)))) c.deref.ensures.value ∙ ap (λ ps. length (filter (is_own tid) ps)) (sym c.requires.there) in
+    ∙ ap (λ ps. length (filter (is_own tid) ps)) (sym c.requires.there) in
     let sum = own_and_others tid hs in
     omega (arith, own, sum)
 
