@@ -1,5 +1,5 @@
 -- The seat of a thread: who is in it, and what changes where a thread comes or goes.
-use Rattle.std.proofs.Common.{◌≡◌, ◌≢◌, ℕ, zero, suc, ◌+◌, ◌-◌, ◌<◌, ◌≤◌, Bool, true, false, not, cond, nat_eq, nat_lt, List, [], ◌∷◌, ◌++◌, length, take, drop, get_or, Option, Some, None, refl, ap, sym, subst, ◌∙◌, arith, length-append}
+use Rattle.std.proofs.Common.{◌≡◌, ◌≢◌, ℕ, zero, suc, ◌+◌, ◌-◌, ◌<◌, Bool, true, false, not, nat_eq, nat_lt, List, [], ◌∷◌, ◌++◌, length, take, drop, get_or, Option, Some, None, refl, ap, sym, subst, ◌∙◌, arith, length-append}
 use Rattle.std.specs.Prelude.{All, Any, slice_set, is_some}
 use Rattle.std.specs.List.{filter, insert, list_any}
 use Rattle.std.specs.Option.{option_copied}
@@ -11,8 +11,8 @@ use Rattle.cml_scan.specs.Order.{Every, Ascends}
 use Rattle.cml_scan.specs.Table.{with_entry, without}
 use Rattle.cml_index.specs.declared.entries.Seat.{Seat}
 use Rattle.cml_index.specs.Seats.{with_one, seated, seat_before, is_its_own, count_seats, own_entries, IsEntryOf, AreSeats}
-use Rattle.cml_index.proofs.Parted.{filter_fewer, gone_one, there_any}
-use Rattle.cml_index.proofs.Seated.{AreSides, IsPlaced, its_thread, own_between, rest_between, with_between, sides_at, sides_between, seated-append, seated_at, seated_set, seated_parts, seated_full, own_at, own_set, ascends_set, seats_with, full_ascend, full_own, is_empty}
+use Rattle.cml_index.proofs.Parted.{gone_one, there_any}
+use Rattle.cml_index.proofs.Seated.{its_thread, own_between, rest_between, with_between, sides_at, sides_between, seated-append, seated_at, seated_set, seated_parts, seated_full, own_at, own_set, ascends_set, seats_with, full_ascend, full_own, is_empty}
 
 equal : (a b : ℕ) → b ≡ a → nat_eq a b ≡ true
 equal a b h = grind (arith, nat_tests)
@@ -142,7 +142,7 @@ pub taken : (t : Tid) (ss new : List Seat) (pending n : ℕ) (now : List PlainEn
 taken t ss new pending n now o e are at view there set in_ some =
     let here = subst (Any (λ (x : PlainEntry). x.thread ≡ t.0)) (sym view) there in
     gone t ss new pending e are (seat_there t.0 ss are.ascend are.own here) (sym (in_ no_seat ∙ ap (λ m. (get_or ss m no_seat).entry) at) ∙ some)
-        (set no_seat ∙ ap (λ m. slice_set ss m (record { tid = (get_or ss m no_seat).tid; entry = None })) at)
+    (set no_seat ∙ ap (λ m. slice_set ss m (record { tid = (get_or ss m no_seat).tid; entry = None })) at)
 
 pub seat_found : (t : Tid) (ss : List Seat) (pending : ℕ) (now : List PlainEntry) → AreSeats ss pending → seated ss ≡ now → Any (λ x. x.thread ≡ t.0) now → HasSeat t.0 ss
 seat_found t ss pending now are view there = seat_there t.0 ss are.ascend are.own (subst (Any (λ (x : PlainEntry). x.thread ≡ t.0)) (sym view) there)
@@ -221,12 +221,12 @@ pub back_at : (ss new : List Seat) (pending n : ℕ) (now : List PlainEntry) (e 
 back_at ss new pending n now e t are at view thread apart found set =
     let has : HasSeat t.0 ss = record { within = subst (λ m. m < length ss) at found.0; its = λ d. ap (λ m. (get_or ss m d).tid.0) (sym at) ∙ found.1 d } in
     come_back t.0 ss new pending e are has thread (subst (λ xs. All (λ (x : PlainEntry). x.thread ≢ t.0) xs) (sym view) (subst (λ m. All (λ (x : PlainEntry). x.thread ≢ m) now) thread apart))
-        (set no_seat ∙ ap (λ m. slice_set ss m (record { tid = (get_or ss m no_seat).tid; entry = Some e })) at)
+    (set no_seat ∙ ap (λ m. slice_set ss m (record { tid = (get_or ss m no_seat).tid; entry = Some e })) at)
 
 -- the thread comes to a new seat, where none was found
 pub new_at : (ss new : List Seat) (pending n : ℕ) (e : PlainEntry) (t : Tid) → AreSeats ss pending → n ≡ count_seats t.0 ss → e.thread ≡ t.0
     → ((n < length ss) × ((d : Seat) → (get_or ss n d).tid.0 ≡ t.0) → ⊥) → new ≡ insert ss n (record { tid = t; entry = Some e }) → IsCome e ss new pending
 new_at ss new pending n e t are at thread off set =
     come_new t ss new pending e are
-        (λ d within is. off (subst (λ m. m < length ss) (sym at) within, λ f. ap (λ m. (get_or ss m f).tid.0) at ∙ ap (λ (s : Seat). s.tid.0) (read_any (count_seats t.0 ss) ss f d within) ∙ is))
-        thread (set ∙ ap (λ m. insert ss m (record { tid = t; entry = Some e })) at)
+    (λ d within is. off (subst (λ m. m < length ss) (sym at) within, λ f. ap (λ m. (get_or ss m f).tid.0) at ∙ ap (λ (s : Seat). s.tid.0) (read_any (count_seats t.0 ss) ss f d within) ∙ is))
+    thread (set ∙ ap (λ m. insert ss m (record { tid = t; entry = Some e })) at)

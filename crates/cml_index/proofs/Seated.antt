@@ -1,5 +1,5 @@
 -- What stands in the seats, and where a thread's seat is.
-use Rattle.std.proofs.Common.{◌≡◌, ◌≢◌, ℕ, zero, suc, ◌+◌, ◌<◌, ◌≤◌, Bool, true, false, not, cond, nat_eq, nat_lt, List, [], ◌∷◌, ◌++◌, map, length, take, drop, get_or, Option, Some, None, refl, ap, sym, subst, ◌∙◌, arith}
+use Rattle.std.proofs.Common.{◌≡◌, ◌≢◌, ℕ, zero, suc, ◌+◌, ◌<◌, ◌≤◌, Bool, true, false, not, cond, nat_eq, nat_lt, List, [], ◌∷◌, ◌++◌, length, take, drop, get_or, Option, Some, None, refl, ap, sym, subst, ◌∙◌, arith}
 use Rattle.std.specs.Prelude.{All, slice_set, is_some}
 use Rattle.std.specs.List.{filter, insert}
 use Rattle.std.proofs.lemmas.Bool.Decides.{nat_tests}
@@ -191,7 +191,7 @@ module _ (t : ℕ) (low high : List Seat) (is : AreSides t low high) where
       let one : filter p (seated low ++ seated high) ≡ seated low = filter-append p (seated low) (seated high) ∙ ap (λ xs. xs ++ filter p (seated high)) low_lt ∙ ap (λ xs. seated low ++ xs) high_lt ∙ append-nil (seated low) in
       let two : filter q (seated low ++ seated high) ≡ seated high = filter-append q (seated low) (seated high) ∙ ap (λ xs. xs ++ filter q (seated high)) low_gt ∙ high_gt in
       let both : with_entry e (seated low ++ seated high) ≡ filter p (seated low ++ seated high) ++ e ∷ filter q (seated low ++ seated high) =
-          ap (λ n. filter (λ (x : PlainEntry). nat_lt x.thread n) (seated low ++ seated high) ++ e ∷ filter (λ (x : PlainEntry). nat_lt n x.thread) (seated low ++ seated high)) is_t in
+      ap (λ n. filter (λ (x : PlainEntry). nat_lt x.thread n) (seated low ++ seated high) ++ e ∷ filter (λ (x : PlainEntry). nat_lt n x.thread) (seated low ++ seated high)) is_t in
       both ∙ ap (λ xs. xs ++ e ∷ filter q (seated low ++ seated high)) one ∙ ap (λ xs. seated low ++ e ∷ xs) two
 
 -- a list with one element put in another's place

@@ -21,7 +21,6 @@ use Rattle.cml_channel.specs.declared.lane.Whom.{Whom}
 use Rattle.cml_index.specs.Slot.{met_by}
 use Rattle.cml_index.specs.Posts.{told}
 use Rattle.cml_index.proofs.Parted.{leaves_all, filter_fewer}
-use Rattle.cml_index.proofs.Lit.{at_place}
 use Rattle.cml_index.proofs.Pairs.{any_by, partner_met}
 use Rattle.cml_index.proofs.Receivers.{met_dark}
 

@@ -1,10 +1,9 @@
-use Rattle.std.proofs.Common.{◌≡◌, ◌∙◌, ◌<◌, ◌++◌, ◌∷◌, ◌+◌, List, Some, take, drop, length, map, ap, sym, subst, arith}
+use Rattle.std.proofs.Common.{◌≡◌, ◌∙◌, ◌++◌, ◌∷◌, ◌+◌, take, drop, length, map, ap, sym, subst, arith}
 use Rattle.std.specs.Prelude.{slice_get}
 use Rattle.std.specs.List.{filter}
 use Rattle.std.proofs.lemmas.List.{length-map}
 use Rattle.cml_value.specs.Group.{bases}
 use Rattle.cml_scan.specs.Order.{place, before, IsSorted}
-use Rattle.cml_scan.specs.World.{PlainEntry}
 use Rattle.cml_scan.specs.Scan.{offers_of, leaves_from}
 use Rattle.cml_index.specs.Heads.{is_sought, IsAnswer, EndsThere}
 use Rattle.cml_index.specs.Seats.{seated}

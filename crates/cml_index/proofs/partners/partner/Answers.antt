@@ -1,8 +1,6 @@
 use Rattle.std.proofs.Common.{◌∙◌, ◌<◌, length, ap, sym, subst, arith}
 use Rattle.std.specs.Prelude.{slice_get}
 use Rattle.std.specs.Option.{option_copied}
-use Rattle.cml_scan.specs.Order.{base_at}
-use Rattle.cml_scan.specs.Scan.{offers_of}
 use Rattle.cml_index.specs.Posts as spec
 use Rattle.cml_index.proofs.Receivers.{found_rows, found_none}
 use Rattle.cml_index.proofs.partners.partner.Goals as goal

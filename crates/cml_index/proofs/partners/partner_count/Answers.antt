@@ -1,7 +1,5 @@
 use Rattle.std.proofs.Common.{◌∙◌, length, ap, sym}
 use Rattle.std.specs.Option.{option_copied}
-use Rattle.cml_scan.specs.Order.{base_at}
-use Rattle.cml_scan.specs.Scan.{offers_of}
 use Rattle.cml_index.specs.Posts as spec
 use Rattle.cml_index.proofs.Receivers.{found_rows, found_none}
 use Rattle.cml_index.proofs.partners.partner_count.Goals as goal

@@ -1,4 +1,4 @@
-use Rattle.std.proofs.Common.{◌≡◌, ◌∙◌, ◌++◌, map, ap, sym}
+use Rattle.std.proofs.Common.{◌∙◌, ◌++◌, map, ap, sym}
 use Rattle.std.specs.List.{filter}
 use Rattle.cml_scan.specs.Light.{lit_by}
 use Rattle.cml_scan.specs.Scan.{PlainOffer, single, offers_of, scan_of}

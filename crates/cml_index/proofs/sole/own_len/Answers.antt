@@ -1,4 +1,4 @@
-use Rattle.std.proofs.Common.{◌≡◌, ◌∙◌, length, ap, sym}
+use Rattle.std.proofs.Common.{◌∙◌, length, ap, sym}
 use Rattle.cml_index.specs.Posts as spec
 use Rattle.cml_index.proofs.Parted.{left_lane}
 use Rattle.cml_index.proofs.OneObject.{none_own}

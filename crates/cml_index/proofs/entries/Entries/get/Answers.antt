@@ -34,4 +34,4 @@ returns c =
     let within : n < length ss = omega (arith, at, c.if-at-len.false, c.len.ensures, c.deref.ensures.len, ap length c.deref.ensures.value) in
     let its : (get_or ss n seen).tid.0 ≡ t = ap (λ (s : Seat). s.tid.0) (sym read) ∙ c.if-seat-tid.false in
     rw (← c.self.view_is) (is_entry_of c.args.tid (spec.seated ss) c.entry.result (get_or ss n seen).entry (c.entry.ensures ∙ ap (λ (s : Seat). s.entry) read)
-        (own_of t ss seen c.self.invariant.ascend c.self.invariant.own within its) (its_entry t ss seen c.self.invariant.own within its))
+    (own_of t ss seen c.self.invariant.ascend c.self.invariant.own within its) (its_entry t ss seen c.self.invariant.own within its))

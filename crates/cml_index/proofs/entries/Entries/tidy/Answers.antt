@@ -1,4 +1,4 @@
-use Rattle.std.proofs.Common.{◌≡◌, ◌∙◌, ap}
+use Rattle.std.proofs.Common.{◌∙◌, ap}
 use Rattle.cml_index.specs.Seats as spec
 use Rattle.cml_index.proofs.Seated.{seated_full}
 use Rattle.cml_index.proofs.OwnSeat.{tidied}

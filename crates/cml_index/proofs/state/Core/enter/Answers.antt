@@ -1,4 +1,4 @@
-use Rattle.std.proofs.Common.{◌≡◌, ℕ, true, false, [], ◌≤◌, ◌+◌, ◌*◌, ◌∙◌, ◌++◌, ◌∷◌, length, drop, nat_eq, nat_lt, not, map, ap, sym, subst, arith}
+use Rattle.std.proofs.Common.{◌≡◌, ℕ, true, false, [], ◌≤◌, ◌+◌, ◌*◌, ◌∙◌, length, nat_eq, nat_lt, not, map, ap, sym, subst, arith}
 use Rattle.std.specs.List.{filter}
 use Rattle.cml_value.specs.Group.{bases}
 use Rattle.cml_scan.specs.World.{PlainEntry}

@@ -1,7 +1,6 @@
-use Rattle.std.proofs.Common.{◌≡◌, ℕ, true, false, ◌≤◌, ◌-◌, ◌+◌, ◌*◌, ◌∙◌, [], ◌∷◌, length, get_or, nat_eq, not, ap, sym, subst, arith}
+use Rattle.std.proofs.Common.{◌≡◌, ℕ, true, false, ◌≤◌, ◌-◌, ◌+◌, ◌*◌, ◌∙◌, [], ◌∷◌, length, nat_eq, not, ap, sym, subst, arith}
 use Rattle.std.specs.List.{filter}
 use Rattle.cml_value.specs.Group.{bases}
-use Rattle.cml_scan.specs.World.{PlainEntry}
 use Rattle.cml_scan.specs.Scan.{offers_of}
 use Rattle.cml_scan.specs.Table.{without}
 use Rattle.cml_scan.specs.Light.{lit_by}
