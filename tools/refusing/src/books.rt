@@ -66,7 +66,10 @@ pub fn answer<T: Table + Drop + Fresh>(rt: &HostRuntime, trace: &[u8], one_by_on
             work.run(rt, commands);
         }
         match stop {
-            Stop::Rows => say_bytes(rt, again!(rt, "rows", rows_text(alloc, &work.book)).as_slice()),
+            Stop::Rows => say_bytes(
+                rt,
+                again!(rt, "rows", rows_text(alloc, &work.book)).as_slice(),
+            ),
             Stop::Bad(number) => {
                 say_bytes(rt, again!(bad_text(alloc, number)).as_slice());
                 return;

@@ -94,7 +94,11 @@ fn begun(rt: &HostRuntime, program: &Prog) -> Hub {
             Ok(hub) => return hub,
             Err(failed) => {
                 refused(rt, "begin");
-                expect(rt, failed.value.same(program), "begin has lost the program\n");
+                expect(
+                    rt,
+                    failed.value.same(program),
+                    "begin has lost the program\n",
+                );
                 given = failed.value;
             }
         }
