@@ -43,18 +43,22 @@ use cml_index::OfferIndex;
 use cml_kept::KeptRows;
 use std::io::Read;
 
+// The most bytes of a case.
+const MOST: usize = 1_048_600;
+
 fn main(rt: HostRuntime) {
-    // (on the stack, so that nothing is refused before the case stands there)
-    let mut text = [0; 65_536];
+    let mut text = again!(Vec::with_capacity(rt.alloc(), MOST));
     let mut input = rt.stdin();
-    let mut length = 0;
-    while let Ok(count) = input.read(&mut text[length..]) {
-        if count == 0 {
+    let mut piece = [0; 4_096];
+    while let Ok(count) = input.read(&mut piece) {
+        if count == 0 || text.len() + count > MOST {
             break;
         }
-        length += count;
+        for byte in &piece[..count] {
+            text.push_reserved(*byte);
+        }
     }
-    let (calls, case) = cut(&text[..length]);
+    let (calls, case) = cut(text.as_slice());
     match calls {
         [b'l', b'k'] => books::answer::<KeptRows>(&rt, case, false),
         [b'l', b'i'] => books::answer::<OfferIndex>(&rt, case, false),
