@@ -4,7 +4,7 @@ use crate::making::{MEMORY, group, value};
 use cml_base::{Register, Source};
 use cml_book::{Book, Command, Fault, Reply};
 use cml_index::OfferIndex;
-use cml_queues::{Mailbox, Multicast, Port, copy_port, post};
+use cml_queues::{Mailbox, Multicast, Port, copy_port, post, prepare};
 use cml_scan::{Light, Meet, Table};
 use cml_syncvar::{MVar, MVarWant};
 use cml_value::{IVarId, MVarId, MboxId, McastId, PortId, Tid, Value, ValueKind};
@@ -203,10 +203,28 @@ fn a_message_is_posted_and_copied(rt: HostRuntime) {
     assert!(rt; channel.add(PortId(0)).is_ok());
     assert!(rt; ports.make(Port::new(rt.alloc())).is_ok());
     let message = Value::new(ValueKind::Int(2));
+    let prepared = prepare(rt.alloc(), &channel, &mut ports, &message);
+    assert!(rt; matches!(&prepared, Ok(copies) if copies.len() == 1));
+    drop(prepared);
     assert!(rt; post(rt.alloc(), &channel, &mut ports, message).is_ok());
     let copy = copy_port(rt.alloc(), ports.get(0).expect(&rt, "a port"));
     assert!(rt; copy.is_ok());
     drop(copy);
     drop(channel);
     drop(ports);
+}
+
+#[test]
+fn a_row_is_written(rt: HostRuntime) {
+    let mut text = String::new(rt.alloc());
+    assert!(rt; FIRST.push_numbers(&mut text).is_ok());
+    let pair = Meet::Pair {
+        head: Tid(1),
+        head_leaf: 2,
+        other: Tid(3),
+        other_leaf: 4,
+    };
+    assert!(rt; pair.push_numbers(&mut text).is_ok());
+    assert!(rt; text.as_str() == " 0 0 1 2 3 4");
+    drop(text);
 }

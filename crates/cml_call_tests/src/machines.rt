@@ -13,7 +13,7 @@ ghost use Rattle.cml_step.specs.Machines.{machine_term, Fits};
 
 use crate::making::{MEMORY, make, program_of};
 use cml_check::Prog;
-use cml_step::{Answer, Ask, Machine, slice};
+use cml_step::{Answer, Ask, Machine, run_slice, slice};
 use cml_value::{
     Base, BaseKind, ChanId, FnRef, Group, GroupKind, IVarId, MVarId, MboxId, McastId, NackId,
     PortId, SwapId, Tid, Value, ValueKind,
@@ -489,6 +489,16 @@ fn go_on(
 {
     match ask {
         Ask::Nothing => Some(end),
+        Ask::Nack => {
+            let room = end.reserve_nack(rt.alloc(), NackId(0)).expect(rt, MEMORY);
+            let copy = end.copy(rt.alloc()).expect(rt, MEMORY);
+            let with_room = copy.answered_nack(room);
+            let nack = Answer::Nack(NackId(0));
+            let answered = end.answered(rt.alloc(), nack).expect(rt, MEMORY);
+            assert!(rt; with_room.same(&answered), "the answer");
+            drop(with_room);
+            Some(answered)
+        }
         _ => match answer_to(rt, ask) {
             Some(answer) => Some(end.answered(rt.alloc(), answer).expect(rt, MEMORY)),
             None => {
@@ -535,11 +545,15 @@ fn slice_of(
 {
     let copy = machine.copy(rt.alloc()).expect(rt, MEMORY);
     assert!(rt; copy.same(&machine), "a copy");
+    let alone = run_slice(rt.alloc(), program, &machine).expect(rt, MEMORY);
     let ran = slice(rt.alloc(), program, machine).expect(rt, MEMORY);
     assert!(rt; ran.program().same(program), "the program");
     assert!(rt; ran.start().same(&copy), "the start");
     assert!(rt; ran.end().thread() == copy.thread(), "the thread");
     drop(copy);
+    assert!(rt; alone.steps == ran.steps(), "the steps");
+    assert!(rt; alone.end.same(ran.end()), "the end");
+    drop(alone);
     let ended = matches!(ran.ask(), Ask::End);
     let steps = ran.steps();
     let (end, ask) = ran.into_end();
