@@ -1,28 +1,31 @@
 -- What a command did, by what it told of the hub that it had.
-use Rattle.std.proofs.Common.{◌≡◌, ◌∙◌, ◌⊎◌, ℕ, List, [], ◌++◌, true, length, Option, Some, None, inl, inr, refl, sym, ap, subst, append-nil}
+use Rattle.std.proofs.Common.{◌≡◌, ◌∙◌, ◌⊎◌, ℕ, List, [], true, Option, Some, None, inl, inr, refl, subst}
 use Rattle.std.specs.String.{string_bytes}
 use Rattle.cml_check.specs.Sizes.{size_of}
 use Rattle.cml_check.specs.Syntax.{PlainFunction}
 use Rattle.cml_hub.specs.Courses.{run_of}
-use Rattle.cml_hub.specs.Kept.{Kept, IsBegun, Continues, IsOver}
+use Rattle.cml_hub.specs.Kept.{Kept, IsBegun}
 use Rattle.cml_hub.specs.Runs.{Run, ending, over}
-use Rattle.cml_hub.specs.declared.fault.End.{End}
 use Rattle.cml_monitor.specs.Reports.{PlainReport}
 use Rattle.cml_schedule.specs.declared.item.Item.{Item}
 use Rattle.cml_schedule.specs.Written.{schedule_text}
 use Rattle.cml_stream.specs.Streams.{Counted, stream, counted_stream, Takes, Says, IsIdle}
 use Rattle.std.proofs.KnownBytes.{Appends-trans}
 use Rattle.cml_words.specs.declared.RunOptions.{RunOptions}
+use Rattle.cml_work.specs.Works.{IsWorked}
 use Rattle.cml_host.specs.declared.run.Record.{Record}
 use Rattle.cml_host.specs.declared.said.Refusal.{Refusal}
 use Rattle.cml_host.specs.declared.said.Refusal.TheVariants.{Unread, Wrong, Memory}
-use Rattle.cml_host.specs.Replaying.{IsHubOf, IsNotRun, PlanRan, ScheduleRan}
-use Rattle.cml_host.specs.Running.{HasEnded, record_name, IsRecorded, RecordBroke, EndRan, ProgramRan, RunRan, BegunRan, EndedRan, IsMade, RecordRan}
+use Rattle.cml_host.specs.declared.workers.Cause.{Cause}
+use Rattle.cml_host.specs.declared.workers.Cause.TheVariants as cause
+use Rattle.cml_host.specs.declared.workers.Stopped.{Stopped}
+use Rattle.cml_host.specs.Replaying.{IsHubOf, IsNotRun, ScheduleRan}
+use Rattle.cml_host.specs.Running.{HasEnded, record_name, IsRecorded, RecordBroke, EndRan, AreLive, ProgramRan, RunRan, BegunRan, AreToldBy, IsStopped, StopRan, EndedRan, IsMade, RecordRan}
 use Rattle.cml_host.specs.Said.{RefusalRan}
 use Rattle.cml_host.specs.Scripts.{IsOpened, IsNotOpened, NoScriptRan}
 use Rattle.cml_host.specs.Stores.{Content, Shelf, Becomes, IsSaved, IsUnchanged}
-use Rattle.cml_host.specs.Told.{IsRunOf, AllReported, reports_text, whole_output, end_status, IsTold, IsNotTold, IsCutOff}
-use Rattle.cml_host.proofs.TellLemmas.{says_behind}
+use Rattle.cml_host.specs.Told.{IsRunOf, AllReported, reports_text, whole_output, end_status, IsTold, IsNotTold, OutputNotTold, IsCutOff, IsLiveCutOff, IsForeign}
+use Rattle.cml_host.proofs.TellLemmas.{says_behind, reports_broke, cut_behind, cut_behind_all, output_behind, told_behind, live_cut_behind}
 
 -- the hub's run is one of this program
 run_is : (p : List (PlainFunction ℕ)) (watch : Option ℕ) (items : List Item) (h : Kept) → h.course.program ≡ p → h.watch ≡ watch → h.course.items ≡ items →
@@ -87,23 +90,18 @@ scheduled p watch name content h output errors status found run told =
 -- ---- run
 
 pub not_told_ran : (name : Option (List ℕ)) (h : Kept) (output errors : Counted) (store : Shelf) (status : ℕ) → IsUnchanged store.before store.after →
-    IsNotTold h.reports h.course.output (whole_output h.budget (run_of h.course)) output errors status → EndedRan name h output errors store status
+    OutputNotTold [] h.course.output (whole_output h.budget (run_of h.course)) output errors status → EndedRan name h [] output errors store status
 not_told_ran name h output errors store status same (inl broke) = inl (inr (inr (broke, same)))
 not_told_ran name h output errors store status same (inr cut) = inr (cut, same)
 
 pub recorded : (name : List ℕ) (h : Kept) (made : Record) (output : Counted) (a b d : Option (List ℕ)) (before broke after failed given : ℕ) (store : Shelf) (status : ℕ) →
-    IsMade h name made → IsTold h.reports (whole_output h.budget (run_of h.course)) output (counted_stream a b before broke) →
+    IsMade h name made → IsTold [] (whole_output h.budget (run_of h.course)) output (counted_stream a b before broke) →
     given ≡ end_status (ending h.budget (run_of h.course)) →
     RecordRan name made given (counted_stream b d after failed) store status →
-    EndedRan (Some name) h output (counted_stream a d after failed) store status
+    EndedRan (Some name) h [] output (counted_stream a d after failed) store status
 recorded name h made output a b d before broke after failed given store status is told ends (inl saved) =
     inl (inl (
-      (
-        subst (λ (ts : List ℕ). Takes (stream a d) ts) (append-nil (reports_text h.reports)) (Appends-trans a b d (reports_text h.reports) [] told.0 saved.2),
-        saved.3,
-        told.2,
-        told.3,
-      ),
+      (Appends-trans a b d [] [] told.0 saved.2, saved.3, told.2, told.3),
       subst (λ (ts : List ℕ). IsSaved store.before store.after name ts) is.0 saved.0,
       saved.1 ∙ ends,
     ))
@@ -111,17 +109,41 @@ recorded name h made output a b d before broke after failed given store status i
     inl (inr (inl (
       told.2,
       told.3,
-      says_behind a b d after failed (reports_text h.reports) _ told.0 (subst (λ (ts : List ℕ). Says (counted_stream b d after failed) ts) is.1 refused.1),
+      says_behind a b d after failed [] _ told.0 (subst (λ (ts : List ℕ). Says (counted_stream b d after failed) ts) is.1 refused.1),
       refused.2,
       refused.0,
     )))
 
-pub ended_ran : (p : List (PlainFunction ℕ)) (options : RunOptions) (begun h : Kept) (end : End) (output errors : Counted) (store : Shelf) (status : ℕ) →
-    IsBegun p options.steps options.watch begun → Continues begun h → IsOver end h →
-    IsRunOf h.course.program h.watch h.course.items h.reports (run_of h.course) → EndedRan (record_name options) h output errors store status →
+record_broke_behind : (name : Option (List ℕ)) (a b d : Option (List ℕ)) (reports : List PlainReport) (text : List ℕ) (output : Counted) (calls failed : ℕ)
+    (store : Shelf) (status : ℕ) → Takes (stream a b) (reports_text reports) → RecordBroke name [] text output (counted_stream b d calls failed) store status →
+    RecordBroke name reports text output (counted_stream a d calls failed) store status
+record_broke_behind None a b d reports text output calls failed store status before broke = absurd broke
+record_broke_behind (Some name) a b d reports text output calls failed store status before broke =
+    (broke.0, broke.1, says_behind a b d calls failed (reports_text reports) _ before broke.2, broke.3, broke.4)
+
+-- what was told of the output, behind the reports that were told before
+pub ended_behind : (name : Option (List ℕ)) (h : Kept) (a b d : Option (List ℕ)) (output : Counted) (calls failed : ℕ) (store : Shelf) (status : ℕ) →
+    Takes (stream a b) (reports_text h.reports) → EndedRan name h [] output (counted_stream b d calls failed) store status →
+    EndRan name (schedule_text h.budget (size_of h.course.program) h.course.items) h.reports h.budget (run_of h.course) output
+    (counted_stream a d calls failed) store status
+    ⊎ (IsCutOff h.reports h.course.output output (counted_stream a d calls failed) status × IsUnchanged store.before store.after)
+ended_behind name h a b d output calls failed store status before (inl (inl told)) =
+    inl (inl (told_behind a b d h.reports (whole_output h.budget (run_of h.course)) output calls failed before told.0, told.1, told.2))
+ended_behind name h a b d output calls failed store status before (inl (inr (inl broke))) =
+    inl (inr (inl (record_broke_behind name a b d h.reports (whole_output h.budget (run_of h.course)) output calls failed store status before broke)))
+ended_behind name h a b d output calls failed store status before (inl (inr (inr broke))) =
+    inl (inr (inr (output_behind a b d h.reports (whole_output h.budget (run_of h.course)) output calls failed status before broke.0, broke.1)))
+ended_behind name h a b d output calls failed store status before (inr cut) =
+    inr (cut_behind_all a b d h.reports h.course.output output calls failed status before cut.0, cut.1)
+
+pub ended_ran : (p : List (PlainFunction ℕ)) (options : RunOptions) (begun h : Kept) (output errors : Counted) (store : Shelf) (status : ℕ) →
+    IsBegun p options.steps options.watch begun → IsWorked begun h → IsRunOf h.course.program h.watch h.course.items h.reports (run_of h.course) →
+    (EndRan (record_name options) (schedule_text h.budget (size_of h.course.program) h.course.items) h.reports h.budget (run_of h.course) output errors store status
+    ⊎ (IsCutOff h.reports h.course.output output errors status × IsUnchanged store.before store.after)) →
     ProgramRan p options output errors store status
-ended_ran p options begun h end output errors store status begins more is_over run (inl ended) =
+ended_ran p options begun h output errors store status begins worked run (inl ended) =
     let r = run_of h.course in
+    let more = worked.goes_on in
     let program : h.course.program ≡ p = more.program ∙ begins.program in
     let budget : h.budget ≡ options.steps = more.budget ∙ begins.budget_is in
     let watch : h.watch ≡ options.watch = more.watch ∙ begins.watch_is in
@@ -134,19 +156,65 @@ ended_ran p options begun h end output errors store status begins more is_over r
       run_is p options.watch h.course.items h program watch refl run,
       inl (
         (
-          subst (λ (b : ℕ). over b r ≡ true) budget is_over.over_is,
-          subst (λ (w : Option ℕ). AllReported w h.course.items h.reports) watch is_over.none_due,
+          subst (λ (b : ℕ). over b r ≡ true) budget worked.over_is,
+          subst (λ (w : Option ℕ). AllReported w h.course.items h.reports) watch worked.none_due,
         ),
         all,
       ),
     )
-ended_ran p options begun h end output errors store status begins more is_over run (inr cut) = (
-  h.course.items,
-  h.reports,
-  run_of h.course,
-  run_is p options.watch h.course.items h (more.program ∙ begins.program) (more.watch ∙ begins.watch_is) refl run,
-  inr cut,
-)
+ended_ran p options begun h output errors store status begins worked run (inr cut) =
+    let more = worked.goes_on in (
+      h.course.items,
+      h.reports,
+      run_of h.course,
+      run_is p options.watch h.course.items h (more.program ∙ begins.program) (more.watch ∙ begins.watch_is) refl run,
+      inr (inl cut),
+    )
+
+-- how a run that was stopped is told, behind what was written of its reports
+stop_behind : (options : RunOptions) (h : Kept) (why : Cause) (a b d : Option (List ℕ)) (output : Counted) (calls failed status : ℕ) →
+    AreToldBy options h why (stream a b) → StopRan h why output (counted_stream b d calls failed) status →
+    IsCutOff h.reports h.course.output output (counted_stream a d calls failed) status
+    ⊎ (AreLive options × (IsLiveCutOff h.course.output output (counted_stream a d calls failed) status
+    ⊎ IsForeign h.reports output (counted_stream a d calls failed) status))
+stop_behind options h cause.Memory a b d output calls failed status (inl before) stopped =
+    inl (cut_behind a b d h.reports before.0 h.course.output output calls failed status before.1 stopped)
+stop_behind options h cause.Memory a b d output calls failed status (inr live) stopped =
+    inr (live.0, inl (live_cut_behind a b d live.1.0 h.course.output output calls failed status live.1.1 stopped))
+stop_behind options h cause.Write a b d output calls failed status (inl part) stopped =
+    inl (inl (reports_broke a b d h.reports output calls failed status part stopped.0 stopped.1 stopped.2))
+stop_behind options h cause.Write a b d output calls failed status (inr live) stopped =
+    inr (live.0, inl (live.1.0, inl (reports_broke a b d live.1.0 output calls failed status live.1.1 stopped.0 stopped.1 stopped.2)))
+stop_behind options h cause.Foreign a b d output calls failed status live stopped =
+    inr (live.0, inr (live.1.0, live.1.1, says_behind a b d calls failed (reports_text live.1.0) _ live.1.2 stopped.0, stopped.1, stopped.2))
+
+pub stopped_ran : (p : List (PlainFunction ℕ)) (options : RunOptions) (begun : Kept) (stopped : Stopped) (a b d : Option (List ℕ)) (output : Counted)
+    (before broke calls failed : ℕ) (store : Shelf) (status : ℕ) → IsBegun p options.steps options.watch begun →
+    IsStopped options begun stopped (counted_stream a b before broke) →
+    IsRunOf stopped.hub.course.program stopped.hub.watch stopped.hub.course.items stopped.hub.reports (run_of stopped.hub.course) →
+    StopRan stopped.hub stopped.cause output (counted_stream b d calls failed) status → IsUnchanged store.before store.after →
+    ProgramRan p options output (counted_stream a d calls failed) store status
+stopped_ran p options begun stopped a b d output before broke calls failed store status begins stops run tells same =
+    let h = stopped.hub in
+    let more = stops.0 in (
+      h.course.items,
+      h.reports,
+      run_of h.course,
+      run_is p options.watch h.course.items h (more.program ∙ begins.program) (more.watch ∙ begins.watch_is) refl run,
+      go (stop_behind options h stopped.cause a b d output calls failed status stops.1 tells),
+    )
+  where
+    go : IsCutOff stopped.hub.reports stopped.hub.course.output output (counted_stream a d calls failed) status
+        ⊎ (AreLive options × (IsLiveCutOff stopped.hub.course.output output (counted_stream a d calls failed) status
+        ⊎ IsForeign stopped.hub.reports output (counted_stream a d calls failed) status)) →
+        (HasEnded options.steps options.watch stopped.hub.course.items stopped.hub.reports (run_of stopped.hub.course)
+        × EndRan (record_name options) (schedule_text options.steps (size_of p) stopped.hub.course.items) stopped.hub.reports options.steps
+        (run_of stopped.hub.course) output (counted_stream a d calls failed) store status)
+        ⊎ (IsCutOff stopped.hub.reports stopped.hub.course.output output (counted_stream a d calls failed) status × IsUnchanged store.before store.after)
+        ⊎ (AreLive options × (IsLiveCutOff stopped.hub.course.output output (counted_stream a d calls failed) status
+        ⊎ IsForeign stopped.hub.reports output (counted_stream a d calls failed) status) × IsUnchanged store.before store.after)
+    go (inl cut) = inr (inl (cut, same))
+    go (inr live) = inr (inr (live.0, live.1, same))
 
 -- ---- a store that was read first
 
@@ -190,8 +258,10 @@ program_behind old mid new p options output errors status same (items, reports, 
     end_behind old mid new (record_name options) (schedule_text options.steps (size_of p) items) reports options.steps r output errors status same ended.1,
   ),
 )
-program_behind old mid new p options output errors status same (items, reports, r, run, inr cut) =
-    (items, reports, r, run, inr (cut.0, λ n. cut.1 n ∙ same n))
+program_behind old mid new p options output errors status same (items, reports, r, run, inr (inl cut)) =
+    (items, reports, r, run, inr (inl (cut.0, λ n. cut.1 n ∙ same n)))
+program_behind old mid new p options output errors status same (items, reports, r, run, inr (inr live)) =
+    (items, reports, r, run, inr (inr (live.0, live.1, λ n. live.2 n ∙ same n)))
 
 -- the program that was opened was run, or memory ran out before it began
 pub run_ran : (old mid new : List ℕ → Content) (p : List (PlainFunction ℕ)) (options : RunOptions) (output errors : Counted) (status : ℕ) →
@@ -201,16 +271,3 @@ run_ran old mid new p options output errors status same opened (inl ran) =
     inl (p, opened, program_behind old mid new p options output errors status same ran)
 run_ran old mid new p options output errors status same opened (inr memory) =
     inr (inr (inr memory.0), memory.1, λ n. memory.2 n ∙ same n)
-
--- a run that was cut off on the way
-pub cut_ran : (p : List (PlainFunction ℕ)) (options : RunOptions) (begun h : Kept) (output errors : Counted) (store : Shelf) (status : ℕ) →
-    IsBegun p options.steps options.watch begun → Continues begun h →
-    IsRunOf h.course.program h.watch h.course.items h.reports (run_of h.course) → IsCutOff h.reports h.course.output output errors status →
-    IsUnchanged store.before store.after → ProgramRan p options output errors store status
-cut_ran p options begun h output errors store status begins more run cut same = (
-  h.course.items,
-  h.reports,
-  run_of h.course,
-  run_is p options.watch h.course.items h (more.program ∙ begins.program) (more.watch ∙ begins.watch_is) refl run,
-  inr (cut, same),
-)

@@ -1,8 +1,6 @@
 -- What was written of several texts, one after another.
-use Rattle.std.proofs.Common.{◌≡◌, ◌∙◌, ◌⊎◌, ◌+◌, ◌<◌, ◌≤◌, ℕ, List, [], ◌∷◌, ◌++◌, Option, Err, take, drop, length, get_or, refl, sym, ap, subst, inl, inr, append_assoc, append-nil, take_all, arith}
-use Rattle.std.specs.List.{flat_map}
-use Rattle.std.specs.Io.KnownBytes.{Appends, Keeps}
-use Rattle.std.proofs.KnownBytes.{Appends-trans, Appends-nil}
+use Rattle.std.proofs.Common.{◌≡◌, ◌∙◌, ◌⊎◌, ◌+◌, ◌<◌, ℕ, List, [], ◌∷◌, ◌++◌, Option, Err, take, drop, length, get_or, sym, ap, subst, inl, inr, append_assoc, append-nil, take_all, arith}
+use Rattle.std.proofs.KnownBytes.{Appends-trans}
 use Rattle.std.proofs.lemmas.Grind.{flat_map-append}
 use Rattle.std.proofs.lemmas.List.{take-append-drop, take_more}
 use Rattle.cml_hub.specs.declared.fault.End.{End}
@@ -10,7 +8,7 @@ use Rattle.cml_hub.specs.Runs.{Run, ending}
 use Rattle.cml_monitor.specs.Reports.{PlainReport, report_text}
 use Rattle.cml_scan.specs.World.{pending}
 use Rattle.cml_stream.specs.Streams.{Counted, stream, counted_stream, Takes, TakesStart, Says, IsIdle}
-use Rattle.cml_host.specs.Told.{reports_text, end_line, whole_output, cannot_write, SaysStill, Breaks, ReportsBroke, MemoryBroke, OutputBroke, IsCutOff, AreSent, IsReportSent}
+use Rattle.cml_host.specs.Told.{reports_text, end_line, whole_output, cannot_write, SaysStill, Breaks, ReportsBroke, MemoryBroke, OutputBroke, OutputNotTold, IsTold, IsNotTold, IsCutOff, IsLiveCutOff, AreSent, IsReportSent}
 use Rattle.cml_host.specs.declared.tell.ReportFault.{ReportFault}
 use Rattle.cml_host.specs.declared.tell.ReportFault.TheVariants.{Write, Memory}
 
@@ -98,7 +96,14 @@ cut_behind a b c reports n text output calls failed status before (inl broke) =
 cut_behind a b c reports n text output calls failed status before (inr broke) =
     inr (n, inr (broke.0, broke.1, says_behind a b c calls failed (reports_text (take n reports)) _ before broke.2, broke.3))
 
--- the same behind all reports
+-- how it is told that the output could not be, behind reports that were told
+pub output_behind : (a b c : Option (List ℕ)) (reports : List PlainReport) (text : List ℕ) (output : Counted) (calls failed status : ℕ) →
+    Takes (stream a b) (reports_text reports) → OutputBroke [] text output (counted_stream b c calls failed) status →
+    OutputBroke reports text output (counted_stream a c calls failed) status
+output_behind a b c reports text output calls failed status before broke =
+    (broke.0, broke.1, says_behind a b c calls failed (reports_text reports) _ before broke.2, broke.3)
+
+-- the same where all reports were told
 pub cut_behind_all : (a b c : Option (List ℕ)) (reports : List PlainReport) (text : List ℕ) (output : Counted) (calls failed status : ℕ) →
     Takes (stream a b) (reports_text reports) →
     MemoryBroke [] text output (counted_stream b c calls failed) status ⊎ OutputBroke [] text output (counted_stream b c calls failed) status →
@@ -106,6 +111,33 @@ pub cut_behind_all : (a b c : Option (List ℕ)) (reports : List PlainReport) (t
 cut_behind_all a b c reports text output calls failed status before broke =
     cut_behind a b c reports (length reports) text output calls failed status
     (subst (λ (rs : List PlainReport). Takes (stream a b) (reports_text rs)) (sym (take_all (length reports) reports (omega arith))) before) broke
+
+pub not_told_behind : (a b c : Option (List ℕ)) (reports : List PlainReport) (so_far text : List ℕ) (output : Counted) (calls failed status : ℕ) →
+    Takes (stream a b) (reports_text reports) → OutputNotTold [] so_far text output (counted_stream b c calls failed) status →
+    IsNotTold reports so_far text output (counted_stream a c calls failed) status
+not_told_behind a b c reports so_far text output calls failed status before (inl broke) =
+    inl (output_behind a b c reports text output calls failed status before broke)
+not_told_behind a b c reports so_far text output calls failed status before (inr cut) =
+    inr (cut_behind_all a b c reports so_far output calls failed status before cut)
+
+-- reports were told, and then the output
+pub told_behind : (a b c : Option (List ℕ)) (reports : List PlainReport) (text : List ℕ) (output : Counted) (calls failed : ℕ) →
+    Takes (stream a b) (reports_text reports) → IsTold [] text output (counted_stream b c calls failed) →
+    IsTold reports text output (counted_stream a c calls failed)
+told_behind a b c reports text output calls failed before told =
+    (subst (λ (ts : List ℕ). Takes (stream a c) ts) (append-nil (reports_text reports)) (Appends-trans a b c (reports_text reports) [] before told.0), told.1, told.2, told.3)
+
+-- ---- reports that were written while the program ran
+
+-- a beginning of some reports, and then how it is told that the output could not be
+pub live_cut_behind : (a b c : Option (List ℕ)) (seen : List PlainReport) (text : List ℕ) (output : Counted) (calls failed status : ℕ) →
+    TakesStart (stream a b) (reports_text seen) →
+    MemoryBroke [] text output (counted_stream b c calls failed) status ⊎ OutputBroke [] text output (counted_stream b c calls failed) status →
+    IsLiveCutOff text output (counted_stream a c calls failed) status
+live_cut_behind a b c seen text output calls failed status part (inl broke) =
+    (seen, inr (part.0, part.1, part.2, inl (broke.0, broke.1, says_behind a b c calls failed part.0 _ part.3 broke.2, broke.3)))
+live_cut_behind a b c seen text output calls failed status part (inr broke) =
+    (seen, inr (part.0, part.1, part.2, inr (broke.0, broke.1, says_behind a b c calls failed part.0 _ part.3 broke.2, broke.3)))
 
 -- the output with the end line
 pub whole_is : (out told : List ℕ) (end : End) (waiting budget : ℕ) (r : Run) → out ≡ r.output → told ≡ end_line end waiting →

@@ -1,5 +1,5 @@
 -- The command `run`: what it does with a script.
-use Rattle.std.specs.Prelude.{◌≡◌, ◌⊎◌, ℕ, List, [], ◌++◌, true, codes, Option, Some, None, option_map}
+use Rattle.std.specs.Prelude.{◌≡◌, ◌≢◌, ◌⊎◌, ℕ, ◌<◌, List, [], ◌++◌, take, true, codes, Option, Some, None, option_map}
 use Rattle.std.specs.String.{string_bytes}
 use Rattle.cml_check.specs.Sizes.{size_of}
 use Rattle.cml_check.specs.Syntax.{PlainFunction}
@@ -9,14 +9,21 @@ use Rattle.cml_hub.specs.Runs.{Run, ending, over}
 use Rattle.cml_monitor.specs.Reports.{PlainReport}
 use Rattle.cml_schedule.specs.declared.item.Item.{Item}
 use Rattle.cml_schedule.specs.Written.{schedule_text}
-use Rattle.cml_stream.specs.Streams.{Counted, IsIdle, Says, Takes}
+use Rattle.cml_stream.specs.Streams.{Counted, Stream, IsIdle, Says, Takes, TakesStart}
 use Rattle.cml_text.specs.Lines.{line}
 use Rattle.cml_words.specs.declared.RunOptions.{RunOptions}
+use Rattle.cml_work.specs.Seen.{BreaksOff}
+use Rattle.cml_work.specs.Works.{GoesOnFrom, IsWorked}
+use Rattle.cml_work.specs.declared.fault.WorkFault.{WorkFault}
+use Rattle.cml_work.specs.declared.fault.WorkFault.TheVariants as fault
 use Rattle.cml_host.specs.declared.run.Record.{Record}
+use Rattle.cml_host.specs.declared.workers.Cause.{Cause}
+use Rattle.cml_host.specs.declared.workers.Cause.TheVariants as cause
+use Rattle.cml_host.specs.declared.workers.Stopped.{Stopped}
 use Rattle.cml_host.specs.Stores.{Shelf, IsSaved, IsUnchanged}
 use Rattle.cml_host.specs.Said.{MemoryRan}
 use Rattle.cml_host.specs.Scripts.{IsOpened, NoScriptRan}
-use Rattle.cml_host.specs.Told.{IsRunOf, AllReported, reports_text, whole_output, end_status, IsTold, OutputBroke, IsCutOff}
+use Rattle.cml_host.specs.Told.{IsRunOf, AllReported, reports_text, whole_output, end_status, cannot_write, IsTold, SaysStill, OutputBroke, MemoryBroke, IsCutOff, IsLiveCutOff, IsForeign}
 
 -- the run is over under this budget: nothing is left to do, or the budget is used; and no report is due
 abbrev pub HasEnded : ℕ → Option ℕ → List Item → List PlainReport → Run → Type 0
@@ -47,13 +54,21 @@ EndRan name schedule reports budget r output errors store status =
     ⊎ RecordBroke name reports (whole_output budget r) output errors store status
     ⊎ (OutputBroke reports (whole_output budget r) output errors status × IsUnchanged store.before store.after)
 
--- The program was run: it came to its end, and that was told; or it was cut off on the way, and nothing was saved.
+-- the reports are written while the program runs: where they are asked for, and more workers than one
+abbrev pub AreLive : RunOptions → Type 0
+AreLive options = (1 < options.workers) × (options.watch ≢ None)
+
+-- The program was run: it came to its end, and that was told; or it was cut off on the way, and nothing was saved. Only where reports are
+-- written while the program runs it is not known, at a fault, whose reports stand before it; and where they are found not to be those of
+-- the run, that is told.
 abbrev pub ProgramRan : List (PlainFunction ℕ) → RunOptions → Counted → Counted → Shelf → ℕ → Type 0
 ProgramRan p options output errors store status =
     (items : List Item) × (reports : List PlainReport) × (r : Run) × IsRunOf p options.watch items reports r
     × ((HasEnded options.steps options.watch items reports r
     × EndRan (record_name options) (schedule_text options.steps (size_of p) items) reports options.steps r output errors store status)
-    ⊎ (IsCutOff reports r.output output errors status × IsUnchanged store.before store.after))
+    ⊎ (IsCutOff reports r.output output errors status × IsUnchanged store.before store.after)
+    ⊎ (AreLive options × (IsLiveCutOff r.output output errors status ⊎ IsForeign reports output errors status)
+    × IsUnchanged store.before store.after))
 
 -- `run`: the script that lies under the name was run; or there is none, and nothing was written to the output or saved.
 abbrev pub RunRan : RunOptions → Counted → Counted → Shelf → ℕ → Type 0
@@ -70,11 +85,60 @@ BegunRan p options output errors store status =
     ProgramRan p options output errors store status
     ⊎ (MemoryRan errors status × IsIdle output × IsUnchanged store.before store.after)
 
--- a hub that is over was told, and its schedule saved, as far as that could be
-abbrev pub EndedRan : Option (List ℕ) → Kept → Counted → Counted → Shelf → ℕ → Type 0
-EndedRan name h output errors store status =
-    EndRan name (schedule_text h.budget (size_of h.course.program) h.course.items) h.reports h.budget (run_of h.course) output errors store status
-    ⊎ (IsCutOff h.reports h.course.output output errors status × IsUnchanged store.before store.after)
+-- The hub has run to its end, and its reports went to the errors.
+abbrev pub HasRun : Kept → Kept → Counted → Type 0
+HasRun hub new errors = IsWorked hub new × Takes errors.bytes (reports_text new.reports) × (errors.counts.failed ≡ 0)
+
+-- how many writes to the errors have failed where this is why
+abbrev pub failed_by : Cause → ℕ
+failed_by cause.Write = 1
+failed_by _ = 0
+
+-- What was written of the reports, where this is why: the first of them, or a beginning of them; or where they are written while the
+-- program runs, a beginning of some reports; or the reports of another run.
+abbrev pub AreToldBy : RunOptions → Kept → Cause → Stream → Type 0
+AreToldBy options h cause.Memory errors =
+    ((n : ℕ) × Takes errors (reports_text (take n h.reports))) ⊎ (AreLive options × BreaksOff errors)
+AreToldBy options h cause.Write errors = TakesStart errors (reports_text h.reports) ⊎ (AreLive options × BreaksOff errors)
+AreToldBy options h cause.Foreign errors =
+    AreLive options × ((seen : List PlainReport) × (seen ≢ h.reports) × Takes errors (reports_text seen))
+
+-- the hub has gone on so far, and is not told as one that has run to its end
+abbrev pub IsStopped : RunOptions → Kept → Stopped → Counted → Type 0
+IsStopped options hub stopped errors =
+    GoesOnFrom hub stopped.hub × AreToldBy options stopped.hub stopped.cause errors.bytes × (errors.counts.failed ≡ failed_by stopped.cause)
+
+-- the hub that the fault of a run of workers carries, and why it does
+abbrev pub hub_of : WorkFault → Kept
+hub_of (fault.Count hub) = hub
+hub_of (fault.Memory hub) = hub
+hub_of (fault.Start hub) = hub
+hub_of (fault.Write hub) = hub
+hub_of (fault.Foreign hub seen) = hub
+
+abbrev pub cause_of : WorkFault → Cause
+cause_of (fault.Write hub) = cause.Write
+cause_of (fault.Foreign hub seen) = cause.Foreign
+cause_of _ = cause.Memory
+
+-- the number of workers was not at fault
+abbrev pub IsCounted : WorkFault → Type 0
+IsCounted (fault.Count hub) = ⊥
+IsCounted _ = Unit {0}
+
+-- what is told where the run was stopped for this, behind what was written of its reports
+abbrev pub StopRan : Kept → Cause → Counted → Counted → ℕ → Type 0
+StopRan h cause.Memory output errors status =
+    MemoryBroke [] h.course.output output errors status ⊎ OutputBroke [] h.course.output output errors status
+StopRan h cause.Write output errors status = SaysStill errors [] cannot_write × IsIdle output × (status ≡ 1)
+StopRan h cause.Foreign output errors status = Says errors (line (codes "foreign hub")) × IsIdle output × (status ≡ 1)
+
+-- a hub that is over was told behind these reports, and its schedule saved, as far as that could be
+abbrev pub EndedRan : Option (List ℕ) → Kept → List PlainReport → Counted → Counted → Shelf → ℕ → Type 0
+EndedRan name h reports output errors store status =
+    EndRan name (schedule_text h.budget (size_of h.course.program) h.course.items) reports h.budget (run_of h.course) output errors store status
+    ⊎ ((MemoryBroke reports h.course.output output errors status ⊎ OutputBroke reports h.course.output output errors status)
+    × IsUnchanged store.before store.after)
 
 -- what there is to save of a hub under this name, and what is said where that can't be
 abbrev pub IsMade : Kept → List ℕ → Record → Type 0

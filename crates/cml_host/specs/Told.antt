@@ -1,5 +1,5 @@
 -- What is told of a run of a script: its reports to the errors, its output and its end line to the output.
-use Rattle.std.specs.Prelude.{◌≡◌, ◌⊎◌, ℕ, List, [], ◌++◌, length, take, codes, Option, Some, Result, Ok, Err}
+use Rattle.std.specs.Prelude.{◌≡◌, ◌≢◌, ◌⊎◌, ℕ, List, [], ◌++◌, length, take, codes, Option, Some, Result, Ok, Err}
 use Rattle.std.specs.List.{flat_map}
 use Rattle.cml_check.specs.Syntax.{PlainFunction}
 use Rattle.cml_hub.specs.declared.fault.End.{End}
@@ -78,17 +78,24 @@ abbrev pub ReportsBroke : List PlainReport → Counted → Counted → ℕ → T
 ReportsBroke reports output errors status =
     Breaks errors (reports_text reports) cannot_write × IsIdle output × (status ≡ 1)
 
--- a write of the text to the output failed, after these reports
-abbrev pub OutputBroke : List PlainReport → List ℕ → Counted → Counted → ℕ → Type 0
-OutputBroke reports text output errors status =
+-- a write of the text to the output failed, after this was written to the errors
+abbrev pub OutputBrokeAfter : List ℕ → List ℕ → Counted → Counted → ℕ → Type 0
+OutputBrokeAfter before text output errors status =
     TakesStart output.bytes text × (output.counts.failed ≡ 1)
-    × Says errors (reports_text reports ++ cannot_write) × (status ≡ 1)
+    × Says errors (before ++ cannot_write) × (status ≡ 1)
 
--- memory ran out: after these reports, the output so far went out, and no end line
-abbrev pub MemoryBroke : List PlainReport → List ℕ → Counted → Counted → ℕ → Type 0
-MemoryBroke reports text output errors status =
+-- memory ran out: after this was written to the errors, the output so far went out, and no end line
+abbrev pub MemoryBrokeAfter : List ℕ → List ℕ → Counted → Counted → ℕ → Type 0
+MemoryBrokeAfter before text output errors status =
     Takes output.bytes text × (output.counts.failed ≡ 0)
-    × Says errors (reports_text reports ++ line (codes "memory")) × (status ≡ 5)
+    × Says errors (before ++ line (codes "memory")) × (status ≡ 5)
+
+-- the same after these reports
+abbrev pub OutputBroke : List PlainReport → List ℕ → Counted → Counted → ℕ → Type 0
+OutputBroke reports = OutputBrokeAfter (reports_text reports)
+
+abbrev pub MemoryBroke : List PlainReport → List ℕ → Counted → Counted → ℕ → Type 0
+MemoryBroke reports = MemoryBrokeAfter (reports_text reports)
 
 -- Memory ran out, in the run or at one of its reports: those before it were told, and the output so far; or a write of that failed. Where
 -- a write of the reports failed, that was the end.
@@ -97,12 +104,33 @@ IsCutOff reports text output errors status =
     ReportsBroke reports output errors status
     ⊎ ((n : ℕ) × (MemoryBroke (take n reports) text output errors status ⊎ OutputBroke (take n reports) text output errors status))
 
+-- Reports that are written while the program runs: memory ran out, or a write of them failed. Of what was written before, it is known that
+-- it is the lines of some reports, the last of them perhaps not whole.
+abbrev pub IsLiveCutOff : List ℕ → Counted → Counted → ℕ → Type 0
+IsLiveCutOff text output errors status =
+    (seen : List PlainReport) × (ReportsBroke seen output errors status
+    ⊎ ((part : List ℕ) × (unwritten : List ℕ) × (reports_text seen ≡ part ++ unwritten)
+    × (MemoryBrokeAfter part text output errors status ⊎ OutputBrokeAfter part text output errors status)))
+
+-- The reports that were written while the program ran are not those of the run: the errors tell that behind them, and the output was not
+-- called.
+abbrev pub IsForeign : List PlainReport → Counted → Counted → ℕ → Type 0
+IsForeign reports output errors status =
+    (seen : List PlainReport) × (seen ≢ reports) × Says errors (reports_text seen ++ line (codes "foreign hub"))
+    × IsIdle output × (status ≡ 1)
+
 -- how the telling of a run that has come to its end is ended by a fault
 abbrev pub IsNotTold : List PlainReport → List ℕ → List ℕ → Counted → Counted → ℕ → Type 0
 IsNotTold reports so_far text output errors status =
     OutputBroke reports text output errors status ⊎ IsCutOff reports so_far output errors status
 
 -- ---- what private functions say
+
+-- The output and the end line were not told, after these reports: a write of them failed, or memory ran out.
+abbrev pub OutputNotTold : List PlainReport → List ℕ → List ℕ → Counted → Counted → ℕ → Type 0
+OutputNotTold reports so_far text output errors status =
+    OutputBroke reports text output errors status
+    ⊎ (MemoryBroke reports so_far output errors status ⊎ OutputBroke reports so_far output errors status)
 
 -- how the writing of reports ends
 abbrev pub AreSent : List PlainReport → Result (Unit {0}) ReportFault → Counted → Type 0

@@ -19,21 +19,30 @@ use cml_stream::Counting;
 use cml_words::{Answer, Task, read_words};
 use std::alloc::{AllocError, Global};
 use std::io::{Read, Write};
+use std::sync::Wait;
+use std::thread::Threads;
 
 /// Runs the command that the words name, the first of which names the program, and answers the status of the process.
 ///
 /// It reads the input or a file of the store, and writes what the command says to the output and what went wrong to the errors. The
 /// status is 0 where all was done, 1 where the words, the input, a file or the output are at fault, 2 where a text is refused, 3 where a
 /// schedule is, 4 where a script did not end within its steps, and 5 where memory ran out.
-pub fn run_command<R: Read, O: Write, E: Write, S: Store>(
+pub fn run_command<R, I, O, E, S>(
+    rt: &R,
     alloc: Global,
     words: &[String],
-    input: &mut R,
+    input: &mut I,
     out: &mut O,
     err: &mut E,
     store: &mut S,
 ) -> u8
-    ensures { let given = stream (R.remaining input.old) (R.remaining input.new) in
+where
+    R: Threads + Wait + Sync,
+    I: Read,
+    O: Write,
+    E: Write + Send,
+    S: Store,
+    ensures { let given = stream (I.remaining input.old) (I.remaining input.new) in
         let output = stream (O.contents out.old) (O.contents out.new) in
         let errors = stream (E.contents err.old) (E.contents err.new) in
         let shelf : Shelf = record { before = S.holds store.old; after = S.holds store.new } in
@@ -42,25 +51,32 @@ pub fn run_command<R: Read, O: Write, E: Write, S: Store>(
     let mut input = Counting::new(input);
     let mut out = Counting::new(out);
     let mut err = Counting::new(err);
-    run_command_counted(alloc, words, &mut input, &mut out, &mut err, store)
+    run_command_counted(rt, alloc, words, &mut input, &mut out, &mut err, store)
 }
 
 /// Runs the command as [`run_command`] does, over streams whose calls are counted, and of which none was called yet. A fault of the input
 /// is told only where a read failed, or 2,097,152 reads came to no end; a fault of the output only where a write failed or took nothing;
 /// and what is told goes to the errors whole, but where a write of it failed.
-pub fn run_command_counted<R: Read, O: Write, E: Write, S: Store>(
+pub fn run_command_counted<R, I, O, E, S>(
+    rt: &R,
     alloc: Global,
     words: &[String],
-    input: &mut Counting<'_, R>,
+    input: &mut Counting<'_, I>,
     out: &mut Counting<'_, O>,
     err: &mut Counting<'_, E>,
     store: &mut S,
 ) -> u8
+where
+    R: Threads + Wait + Sync,
+    I: Read,
+    O: Write,
+    E: Write + Send,
+    S: Store,
     requires reads { (input.old.calls ≡ 0) × (input.old.failed ≡ 0) }
     requires writes { (out.old.calls ≡ 0) × (out.old.failed ≡ 0) }
     requires complaints { (err.old.calls ≡ 0) × (err.old.failed ≡ 0) }
     ensures ran { let around : Surroundings = record {
-      input = counted_stream (R.remaining input.old.stream.now) (R.remaining input.new.stream.now) input.new.calls input.new.failed;
+      input = counted_stream (I.remaining input.old.stream.now) (I.remaining input.new.stream.now) input.new.calls input.new.failed;
       output = counted_stream (O.contents out.old.stream.now) (O.contents out.new.stream.now) out.new.calls out.new.failed;
       errors = counted_stream (E.contents err.old.stream.now) (E.contents err.new.stream.now) err.new.calls err.new.failed;
       store = record { before = S.holds store.old; after = S.holds store.new };
@@ -75,7 +91,7 @@ pub fn run_command_counted<R: Read, O: Write, E: Write, S: Store>(
         Ok(Answer::Task(Task::Trace)) => trace(alloc, input, out, err),
         Ok(Answer::Task(Task::Check(name))) => check_file(alloc, name, out, err, store),
         Ok(Answer::Task(Task::Fmt(name))) => print_file(alloc, name, out, err, store),
-        Ok(Answer::Task(Task::Run(options))) => run_file(alloc, &options, out, err, store),
+        Ok(Answer::Task(Task::Run(options))) => run_file(rt, alloc, &options, out, err, store),
         Ok(Answer::Task(Task::Replay(options))) => replay_file(alloc, &options, out, err, store),
         Ok(Answer::Help(text)) => send_text(text.as_bytes(), out, err),
         Ok(Answer::Fault(text)) => {

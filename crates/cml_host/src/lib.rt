@@ -13,6 +13,7 @@ mod script;
 mod store;
 mod tell;
 mod trace;
+mod workers;
 
 pub use command::{run_command, run_command_counted};
 pub use file::{load_from, save_to};

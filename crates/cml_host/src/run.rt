@@ -1,22 +1,26 @@
 //! The command `run`: a script runs to its end, and its schedule is saved where that is asked for.
 
-ghost use Rattle.std.specs.Prelude.{◌≡◌, IfOk};
-ghost use Rattle.cml_hub.specs.Kept.{Continues, IsOver, IsBudget, IsWatch};
+ghost use Rattle.std.specs.Prelude.{◌≡◌, [], IfOk};
+ghost use Rattle.cml_hub.specs.Kept.{IsBudget, IsWatch};
 ghost use Rattle.cml_host.specs.Running.{RunRan, BegunRan, EndedRan, record_name, IsMade, RecordRan};
 ghost use Rattle.cml_host.specs.Stores.{Shelf};
 ghost use Rattle.cml_stream.specs.Streams.{counted_stream};
+ghost use Rattle.cml_work.specs.Works.{IsCount};
 
 use crate::output::say;
 use crate::said::refuse;
 use crate::script::open_script;
 use crate::store::Store;
-use crate::tell::{cut_off, hub_is_a_run, tell};
+use crate::tell::{cut_output, hub_is_a_run, stop, tell_output};
+use crate::workers::run_hub;
 use cml_check::Prog;
-use cml_hub::{End, First, Hub, Seeded};
+use cml_hub::Hub;
 use cml_stream::Counting;
 use cml_words::RunOptions;
 use std::alloc::{AllocError, Global};
 use std::io::Write;
+use std::sync::Wait;
+use std::thread::Threads;
 
 // What there is to save of a run, and what is said where that can't be.
 #[derive(Drop)]
@@ -26,14 +30,20 @@ struct Record {
 }
 
 /// Runs the script that lies under the name.
-pub fn run_file<O: Write, E: Write, S: Store>(
+pub fn run_file<R, O, E, S>(
+    rt: &R,
     alloc: Global,
     options: &RunOptions<'_>,
     out: &mut Counting<'_, O>,
     err: &mut Counting<'_, E>,
     store: &mut S,
 ) -> u8
-    requires counts { IsBudget options.now.steps × IsWatch options.now.watch }
+where
+    R: Threads + Wait + Sync,
+    O: Write,
+    E: Write + Send,
+    S: Store,
+    requires counts { IsCount options.now.workers × IsBudget options.now.steps × IsWatch options.now.watch }
     requires fresh { (out.old.calls ≡ 0) × (out.old.failed ≡ 0) × (err.old.calls ≡ 0) × (err.old.failed ≡ 0) }
     ensures ran { let output = counted_stream (O.contents out.old.stream.now) (O.contents out.new.stream.now) out.new.calls out.new.failed in
         let errors = counted_stream (E.contents err.old.stream.now) (E.contents err.new.stream.now) err.new.calls err.new.failed in
@@ -43,13 +53,14 @@ pub fn run_file<O: Write, E: Write, S: Store>(
     ensures same_err { err.new.stream.ghost_name ≡ err.old.stream.ghost_name }
 {
     match open_script(alloc, options.file, store) {
-        Ok(program) => run_program(alloc, program, options, out, err, store),
+        Ok(program) => run_program(rt, alloc, program, options, out, err, store),
         Err(why) => refuse(alloc, options.file, why, 2, err),
     }
 }
 
 // Runs the program.
-fn run_program<O: Write, E: Write, S: Store>(
+fn run_program<R, O, E, S>(
+    rt: &R,
     alloc: Global,
     program: Prog,
     options: &RunOptions<'_>,
@@ -57,7 +68,12 @@ fn run_program<O: Write, E: Write, S: Store>(
     err: &mut Counting<'_, E>,
     store: &mut S,
 ) -> u8
-    requires counts { IsBudget options.now.steps × IsWatch options.now.watch }
+where
+    R: Threads + Wait + Sync,
+    O: Write,
+    E: Write + Send,
+    S: Store,
+    requires counts { IsCount options.now.workers × IsBudget options.now.steps × IsWatch options.now.watch }
     requires fresh { (out.old.calls ≡ 0) × (out.old.failed ≡ 0) × (err.old.calls ≡ 0) × (err.old.failed ≡ 0) }
     ensures ran { let output = counted_stream (O.contents out.old.stream.now) (O.contents out.new.stream.now) out.new.calls out.new.failed in
         let errors = counted_stream (E.contents err.old.stream.now) (E.contents err.new.stream.now) err.new.calls err.new.failed in
@@ -66,30 +82,24 @@ fn run_program<O: Write, E: Write, S: Store>(
     ensures same_out { out.new.stream.ghost_name ≡ out.old.stream.ghost_name }
     ensures same_err { err.new.stream.ghost_name ≡ err.old.stream.ghost_name }
 {
-    let Ok(mut hub) = Hub::begin(alloc, program, options.steps, options.watch) else {
+    let Ok(hub) = Hub::begin(alloc, program, options.steps, options.watch) else {
         say(err, b"memory\n");
         return 5;
     };
-    let ended = run_hub(alloc, &mut hub, options.seed);
-    hub_is_a_run(&hub);
-    match ended {
-        Ok(_) => end(alloc, &hub, options, out, err, store),
-        Err(AllocError) => cut_off(alloc, &hub, out, err),
+    match run_hub(rt, alloc, hub, options, err) {
+        Ok(hub) => {
+            hub_is_a_run(&hub);
+            end(alloc, &hub, options, out, err, store)
+        }
+        Err(stopped) => {
+            hub_is_a_run(&stopped.hub);
+            stop(&stopped, out, err)
+        }
     }
 }
 
-// Runs the hub to its end. With a seed it chooses by that, else always the first.
-fn run_hub(alloc: Global, hub: &mut Hub, seed: Option<u64>) -> Result<End, AllocError>
-    ensures more { Continues hub.old hub.new }
-    ensures ok { IfOk result (λ end. IsOver end hub.new) }
-{
-    match seed {
-        Some(seed) => hub.run_alone(alloc, &mut Seeded::new(seed)),
-        None => hub.run_alone(alloc, &mut First),
-    }
-}
-
-// Tells of a run that is over, and saves its schedule, where that was asked for. What is saved is made before anything is told.
+// Tells the output of a run that is over, whose reports are told, and saves its schedule, where that was asked for. What is saved is made
+// before the output is told.
 fn end<O: Write, E: Write, S: Store>(
     alloc: Global,
     hub: &Hub,
@@ -98,24 +108,24 @@ fn end<O: Write, E: Write, S: Store>(
     err: &mut Counting<'_, E>,
     store: &mut S,
 ) -> u8
-    requires fresh { (out.old.calls ≡ 0) × (out.old.failed ≡ 0) × (err.old.calls ≡ 0) × (err.old.failed ≡ 0) }
+    requires fresh { (out.old.failed ≡ 0) × (err.old.failed ≡ 0) }
     ensures ran { let output = counted_stream (O.contents out.old.stream.now) (O.contents out.new.stream.now) out.new.calls out.new.failed in
         let errors = counted_stream (E.contents err.old.stream.now) (E.contents err.new.stream.now) err.new.calls err.new.failed in
         let shelf : Shelf = record { before = S.holds store.old; after = S.holds store.new } in
-        EndedRan (record_name options.now) hub.now output errors shelf result }
+        EndedRan (record_name options.now) hub.now [] output errors shelf result }
     ensures same_out { out.new.stream.ghost_name ≡ out.old.stream.ghost_name }
     ensures same_err { err.new.stream.ghost_name ≡ err.old.stream.ghost_name }
 {
     let Some(name) = options.record else {
-        return match tell(alloc, hub, out, err) {
+        return match tell_output(alloc, hub, out, err) {
             Ok(status) => status,
             Err(status) => status,
         };
     };
     let Ok(record) = make_record(alloc, hub, name) else {
-        return cut_off(alloc, hub, out, err);
+        return cut_output(hub.out(), out, err);
     };
-    match tell(alloc, hub, out, err) {
+    match tell_output(alloc, hub, out, err) {
         Ok(status) => save_record(name, &record, status, err, store),
         Err(status) => status,
     }

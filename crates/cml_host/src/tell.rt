@@ -5,10 +5,12 @@ ghost use Rattle.std.specs.String.{string_bytes};
 ghost use Rattle.cml_hub.specs.Runs.{ending};
 ghost use Rattle.cml_hub.specs.Courses.{run_of};
 ghost use Rattle.cml_host.specs.Told as spec;
-ghost use Rattle.cml_host.specs.Told.{IsRunOf, IsTold, IsNotTold, IsCutOff, AreSent, IsReportSent, SaysStill, MemoryBroke, OutputBroke, whole_output, cannot_write};
+ghost use Rattle.cml_host.specs.Running.{StopRan, failed_by};
+ghost use Rattle.cml_host.specs.Told.{IsRunOf, IsTold, IsNotTold, OutputNotTold, AreSent, IsReportSent, SaysStill, MemoryBroke, OutputBroke, whole_output, cannot_write};
 ghost use Rattle.cml_stream.specs.Streams.{counted_stream, stream, Says, Takes, TakesStart};
 
 use crate::output::say;
+use crate::workers::{Cause, Stopped};
 use cml_hub::{End, Hub};
 use cml_monitor::{Report, render};
 use cml_stream::Counting;
@@ -37,7 +39,7 @@ pub fn tell<O: Write, E: Write>(
     out: &mut Counting<'_, O>,
     err: &mut Counting<'_, E>,
 ) -> Result<u8, u8>
-    requires fresh { (out.old.calls ≡ 0) × (out.old.failed ≡ 0) × (err.old.calls ≡ 0) × (err.old.failed ≡ 0) }
+    requires fresh { (out.old.calls ≡ 0) × (out.old.failed ≡ 0) × (err.old.failed ≡ 0) }
     ensures told { let output = counted_stream (O.contents out.old.stream.now) (O.contents out.new.stream.now) out.new.calls out.new.failed in
         let errors = counted_stream (E.contents err.old.stream.now) (E.contents err.new.stream.now) err.new.calls err.new.failed in
         IfOk result (λ status. IsTold hub.now.reports (whole_output hub.now.budget (run_of hub.now.course)) output errors
@@ -48,39 +50,65 @@ pub fn tell<O: Write, E: Write>(
     ensures same_out { out.new.stream.ghost_name ≡ out.old.stream.ghost_name }
     ensures same_err { err.new.stream.ghost_name ≡ err.old.stream.ghost_name }
 {
-    let Ok(line) = end_line(alloc, hub.end(), hub.pending()) else {
-        return Err(cut_off(alloc, hub, out, err));
-    };
     match send_reports(alloc, hub.reports(), err) {
-        Ok(()) => {}
-        Err(ReportFault::Write) => return Err(refuse_reports(err)),
-        Err(ReportFault::Memory) => return Err(cut_output(hub.out(), out, err)),
+        Ok(()) => tell_output(alloc, hub, out, err),
+        Err(ReportFault::Write) => Err(refuse_reports(err)),
+        Err(ReportFault::Memory) => Err(cut_output(hub.out(), out, err)),
     }
+}
+
+/// Tells the output and the end line of a run that has come to its end, whose reports are told. It answers the status of such an end.
+///
+/// # Errors
+/// The status, where not all was told, and the errors tell why: a write failed, behind which nothing is written; or memory ran out, where
+/// the output is written, and no end line.
+pub fn tell_output<O: Write, E: Write>(
+    alloc: Global,
+    hub: &Hub,
+    out: &mut Counting<'_, O>,
+    err: &mut Counting<'_, E>,
+) -> Result<u8, u8>
+    requires fresh { (out.old.failed ≡ 0) × (err.old.failed ≡ 0) }
+    ensures told { let output = counted_stream (O.contents out.old.stream.now) (O.contents out.new.stream.now) out.new.calls out.new.failed in
+        let errors = counted_stream (E.contents err.old.stream.now) (E.contents err.new.stream.now) err.new.calls err.new.failed in
+        IfOk result (λ status. IsTold [] (whole_output hub.now.budget (run_of hub.now.course)) output errors
+        × (status ≡ spec.end_status (ending hub.now.budget (run_of hub.now.course)))) }
+    ensures not_told { let output = counted_stream (O.contents out.old.stream.now) (O.contents out.new.stream.now) out.new.calls out.new.failed in
+        let errors = counted_stream (E.contents err.old.stream.now) (E.contents err.new.stream.now) err.new.calls err.new.failed in
+        IfErr result (OutputNotTold [] hub.now.course.output (whole_output hub.now.budget (run_of hub.now.course)) output errors) }
+    ensures same_out { out.new.stream.ghost_name ≡ out.old.stream.ghost_name }
+    ensures same_err { err.new.stream.ghost_name ≡ err.old.stream.ghost_name }
+{
+    let Ok(line) = end_line(alloc, hub.end(), hub.pending()) else {
+        return Err(cut_output(hub.out(), out, err));
+    };
     match send_both(out, hub.out(), line.as_str()) {
         Ok(()) => Ok(end_status(hub.end())),
         Err(_) => Err(refuse_output(err)),
     }
 }
 
-/// Tells of a run at which memory ran out: its reports so far, as many as can be made still, and its output so far. It answers the
-/// status.
-pub fn cut_off<O: Write, E: Write>(
-    alloc: Global,
-    hub: &Hub,
+/// Tells why a run has not come to its end, behind what is written of its reports: that memory ran out, where its output so far is
+/// written; that a write of the reports failed; or that the reports are not its own. It answers the status.
+pub fn stop<O: Write, E: Write>(
+    stopped: &Stopped,
     out: &mut Counting<'_, O>,
     err: &mut Counting<'_, E>,
 ) -> u8
-    requires fresh { (out.old.calls ≡ 0) × (out.old.failed ≡ 0) × (err.old.calls ≡ 0) × (err.old.failed ≡ 0) }
+    requires fresh { (out.old.calls ≡ 0) × (out.old.failed ≡ 0) × (err.old.failed ≡ failed_by stopped.now.cause) }
     ensures told { let output = counted_stream (O.contents out.old.stream.now) (O.contents out.new.stream.now) out.new.calls out.new.failed in
         let errors = counted_stream (E.contents err.old.stream.now) (E.contents err.new.stream.now) err.new.calls err.new.failed in
-        IsCutOff hub.now.reports hub.now.course.output output errors result }
+        StopRan stopped.now.hub stopped.now.cause output errors result }
     ensures same_out { out.new.stream.ghost_name ≡ out.old.stream.ghost_name }
     ensures same_err { err.new.stream.ghost_name ≡ err.old.stream.ghost_name }
 {
-    match send_reports(alloc, hub.reports(), err) {
-        Ok(()) => cut_output(hub.out(), out, err),
-        Err(ReportFault::Write) => refuse_reports(err),
-        Err(ReportFault::Memory) => cut_output(hub.out(), out, err),
+    match stopped.cause {
+        Cause::Memory => cut_output(stopped.hub.out(), out, err),
+        Cause::Write => refuse_reports(err),
+        Cause::Foreign => {
+            say(err, b"foreign hub\n");
+            1
+        }
     }
 }
 
@@ -120,8 +148,11 @@ fn end_status(end: End) -> u8
     }
 }
 
-// Writes the lines of the reports, one report after another.
-fn send_reports<E: Write>(
+/// Writes the lines of the reports, one report after another.
+///
+/// # Errors
+/// A write failed, or memory ran out.
+pub fn send_reports<E: Write>(
     alloc: Global,
     reports: &[Report],
     err: &mut Counting<'_, E>,
@@ -181,8 +212,8 @@ fn refuse_output<E: Write>(err: &mut Counting<'_, E>) -> u8
     1
 }
 
-// Writes the output, and says that memory ran out.
-fn cut_output<O: Write, E: Write>(
+/// Writes the output, and says that memory ran out.
+pub fn cut_output<O: Write, E: Write>(
     text: &str,
     out: &mut Counting<'_, O>,
     err: &mut Counting<'_, E>,

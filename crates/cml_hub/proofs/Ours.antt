@@ -60,3 +60,10 @@ program_ours c ran t m s r h e run is both y prog = (
   λ yes. (sym (prog.0 yes), (t, record { running = run; machine = machine_at c t m h run is ∙ ap (λ x. Some x) (both.0 y) })),
   λ o. prog.1 (sym o.0),
 )
+
+pub current_ours : (c : PlainCourse) (ran : PlainRan) (t : ℕ) (m : PlainMachine) (s : Bool) → Leads c → t ≡ ran.start.thread → slice_get c.world.threads t ≡ Some running → m ≡ slice_index_or c.machines t m
+    → (IsTrue s ↔ (m ≡ ran.start)) → ran.program ≡ c.program → IsTrue s ↔ IsOurs c ran
+current_ours c ran t m s h e run is both prog = (
+  λ yes. (prog, (t, record { running = run; machine = machine_at c t m h run is ∙ ap (λ x. Some x) (both.0 yes) })),
+  λ o. (let k = (ours_own c ran h o).machine in let a = rw e at (machine_at c t m h run is) in let same : m ≡ ran.start = cc in both.1 same),
+)

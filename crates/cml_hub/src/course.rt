@@ -225,6 +225,19 @@ impl Course {
         self.program.same(ran.program())
     }
 
+    // The same of a slice that is known to be of this program: some running thread has the machine with which it began.
+    pub(crate) fn is_current(&self, ran: &Ran) -> bool
+        requires { ran.now.program ≡ self.now.program }
+        ensures { IsTrue result ↔ IsOurs self.now ran.now }
+    {
+        let start = ran.start();
+        let thread = start.thread();
+        if !self.threads.is_running(thread) {
+            return false;
+        }
+        self.machines[thread.0 as usize].same(start)
+    }
+
     // A turn of the thread.
     pub(crate) fn turn(&mut self, alloc: Global, thread: Tid) -> Result<Gone, AllocError>
         requires { slice_get self.old.world.threads thread.0 ≡ Some running }

@@ -9,7 +9,7 @@ ghost use Rattle.cml_schedule.specs.Written.{schedule_text};
 ghost use Rattle.cml_schedule.specs.Reading.{ReadsAs};
 ghost use Rattle.cml_step.specs.Calls.{text_of};
 ghost use Rattle.cml_hub.specs.Runs as spec;
-ghost use Rattle.cml_hub.specs.Courses.{run_of, Takes, Adds};
+ghost use Rattle.cml_hub.specs.Courses.{run_of, Takes, Adds, IsOurs};
 ghost use Rattle.cml_hub.specs.Reports.{AreReports, IsDueReport};
 ghost use Rattle.cml_hub.specs.Kept.{IsBudget, IsWatch, IsBegun, Continues, Extends, HandsOut, is_ended, NoneDue, NoneOut, AllOut, Gives, IsOver, Replays, FitsSize};
 ghost use Rattle.cml_hub.specs.Moves.{IsNext, marks_after, PartiesAway, marks_met, Moves, TakesBack, Reported, HandedOut, MovedOn, CalledBack, GoesAlone, with_report};
@@ -395,9 +395,33 @@ impl Hub {
     pub fn give(&mut self, alloc: Global, ran: Ran) -> Result<(), GiveFault>
         ensures { Gives self.old ran result self.new }
     {
-        if !self.course.is_ours(&ran) {
-            return Err(GiveFault::Stranger(ran));
+        if self.course.is_ours(&ran) {
+            self.take_back(alloc, ran)
+        } else {
+            Err(GiveFault::Stranger(ran))
         }
+    }
+
+    /// The same of a slice that is known to be of the hub's own program, which is not compared.
+    ///
+    /// # Errors
+    /// A slice of an older machine; or out of memory. The slice comes back, and nothing has changed.
+    pub fn give_own(&mut self, alloc: Global, ran: Ran) -> Result<(), GiveFault>
+        requires { ran.program ≡ self.old.course.program }
+        ensures { Gives self.old ran result self.new }
+    {
+        if self.course.is_current(&ran) {
+            self.take_back(alloc, ran)
+        } else {
+            Err(GiveFault::Stranger(ran))
+        }
+    }
+
+    // Takes back a slice of this program that begins where a running thread stands.
+    fn take_back(&mut self, alloc: Global, ran: Ran) -> Result<(), GiveFault>
+        requires { IsOurs self.old.course ran }
+        ensures { Gives self.old ran result self.new }
+    {
         let Ok(report) = due(alloc, &self.course, self.watch, &mut self.reports) else {
             return Err(GiveFault::Memory(ran));
         };

@@ -13,6 +13,8 @@ use cml_stream::input_output::{WriteFault, write_out};
 use std::alloc::Global;
 use std::io::{ErrorKind, Read, Write};
 use std::rt::{Env, Files};
+use std::sync::Wait;
+use std::thread::Threads;
 use std::{env, fs, io};
 
 /// The files of the system. What they hold is not known, since other programs write to them too.
@@ -73,12 +75,12 @@ fn send_memory<E: Write>(err: &mut E) -> Result<(), WriteFault>
 ///
 /// # Errors
 /// Words that cannot be read as text. Nothing is read or written then.
-pub fn run_on_system<R: AllocGlobal + Env + Files, I: Read, O: Write, E: Write>(
-    rt: &R,
-    input: &mut I,
-    out: &mut O,
-    err: &mut E,
-) -> io::Result<u8>
+pub fn run_on_system<R, I, O, E>(rt: &R, input: &mut I, out: &mut O, err: &mut E) -> io::Result<u8>
+where
+    R: AllocGlobal + Env + Files + Threads + Wait + Sync,
+    I: Read,
+    O: Write,
+    E: Write + Send,
     ensures { let given = stream (I.remaining input.old) (I.remaining input.new) in
         let output = stream (O.contents out.old) (O.contents out.new) in
         let errors = stream (E.contents err.old) (E.contents err.new) in
@@ -86,7 +88,15 @@ pub fn run_on_system<R: AllocGlobal + Env + Files, I: Read, O: Write, E: Write>(
 {
     let alloc = rt.alloc();
     match words(rt) {
-        Ok(words) => Ok(run_command(alloc, words.as_slice(), input, out, err, &mut Disk::new(rt))),
+        Ok(words) => Ok(run_command(
+            rt,
+            alloc,
+            words.as_slice(),
+            input,
+            out,
+            err,
+            &mut Disk::new(rt),
+        )),
         Err(error) if error.kind() == ErrorKind::OutOfMemory => {
             say_memory(err);
             Ok(5)

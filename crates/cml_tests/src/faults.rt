@@ -7,7 +7,9 @@ use cml_host::{Store, run_command};
 use std::alloc::Global;
 use std::io::{Error, ErrorKind, Read, Result as IoResult, Write};
 use std::process::Abort;
+use std::sync::Wait;
 use std::test::Fail;
+use std::thread::Threads;
 
 // Traces with the text that answers them.
 const TRACES: &[(&str, &str)] = &[
@@ -91,7 +93,7 @@ impl Write for Narrow {
 // What comes of the words, with the text as input and in the file `F`, and streams that fail after so many good calls: what was taken,
 // what goes to the errors, the status.
 fn ends(
-    rt: &impl Abort,
+    rt: &(impl Abort + Threads + Wait + Sync),
     alloc: Global,
     (line, text): (&str, &str),
     reads: usize,
@@ -108,6 +110,7 @@ fn ends(
     let mut store = MemoryStore::new(alloc);
     assert!(rt; store.save("F", text.as_bytes()).is_ok());
     let status = run_command(
+        rt,
         alloc,
         words.as_slice(),
         &mut reader,
@@ -162,7 +165,7 @@ fn each_read_fails(rt: HostRuntime) -> Result<(), Fail> {
 
 // Each write of what is written in answer to these words fails in turn, or takes nothing.
 fn writes_fail(
-    rt: &impl Abort,
+    rt: &(impl Abort + Threads + Wait + Sync),
     alloc: Global,
     line: &str,
     input: &str,

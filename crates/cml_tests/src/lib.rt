@@ -30,3 +30,5 @@ mod scripts;
 mod stores;
 #[cfg(test)]
 mod words;
+#[cfg(test)]
+mod workers;

@@ -4,7 +4,9 @@ use crate::memory_store::MemoryStore;
 use cml_host::run_command;
 use std::alloc::{AllocError, Global};
 use std::process::Abort;
+use std::sync::Wait;
 use std::test::Fail;
+use std::thread::Threads;
 
 /// A part of a text.
 pub enum Part {
@@ -99,13 +101,19 @@ fn push_part(text: &mut String, part: &Part) -> Result<(), AllocError> {
 }
 
 /// The program writes on these words and this input what the run says.
-pub fn gives(rt: &impl Abort, alloc: Global, name: &str, run: Run<'_>) -> Result<(), Fail> {
+pub fn gives(
+    rt: &(impl Abort + Threads + Wait + Sync),
+    alloc: Global,
+    name: &str,
+    run: Run<'_>,
+) -> Result<(), Fail> {
     let words = words(alloc, run.words)?;
     let mut reader = run.input.as_bytes();
     let mut out = Vec::new(alloc);
     let mut err = Vec::new(alloc);
     let mut store = MemoryStore::new(alloc);
     let status = run_command(
+        rt,
         alloc,
         words.as_slice(),
         &mut reader,
@@ -124,7 +132,11 @@ pub fn gives(rt: &impl Abort, alloc: Global, name: &str, run: Run<'_>) -> Result
 }
 
 /// Each of the traces is answered as its case says.
-pub fn all_hold(rt: &impl Abort, alloc: Global, cases: &[Case]) -> Result<(), Fail> {
+pub fn all_hold(
+    rt: &(impl Abort + Threads + Wait + Sync),
+    alloc: Global,
+    cases: &[Case],
+) -> Result<(), Fail> {
     for case in cases {
         trace_gives(rt, alloc, case.name, case.input, case.output, case.status)?;
     }
@@ -132,7 +144,11 @@ pub fn all_hold(rt: &impl Abort, alloc: Global, cases: &[Case]) -> Result<(), Fa
 }
 
 /// The same, of traces that are made of parts.
-pub fn each_holds(rt: &impl Abort, alloc: Global, cases: &[Long]) -> Result<(), Fail> {
+pub fn each_holds(
+    rt: &(impl Abort + Threads + Wait + Sync),
+    alloc: Global,
+    cases: &[Long],
+) -> Result<(), Fail> {
     for case in cases {
         let input = whole(alloc, case.input)?;
         let output = whole(alloc, case.output)?;
@@ -152,7 +168,7 @@ pub fn each_holds(rt: &impl Abort, alloc: Global, cases: &[Long]) -> Result<(), 
 
 // The trace is answered by this text, with this status, and nothing goes to the errors.
 fn trace_gives(
-    rt: &impl Abort,
+    rt: &(impl Abort + Threads + Wait + Sync),
     alloc: Global,
     name: &str,
     input: &str,

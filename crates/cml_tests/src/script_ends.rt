@@ -7,7 +7,9 @@ use rand_core::{Rng, SeedableRng};
 use rand_pcg::Pcg32;
 use std::alloc::Global;
 use std::process::Abort;
+use std::sync::Wait;
 use std::test::Fail;
+use std::thread::Threads;
 
 const SCHEDULE: &str =
     "schedule 2 1000000 3 6\nturn 0\nturn 0\nturn 1\nturn 0\ncommit 1 0 0 0\nturn 1\nturn 0\nturn 0\nend\n";
@@ -21,7 +23,12 @@ struct Left {
 }
 
 // The program on these words, with the script that adds in the file `A`, and these bytes in the file `F`.
-fn run_beside(rt: &impl Abort, alloc: Global, line: &str, bytes: &[u8]) -> Result<Left, Fail> {
+fn run_beside(
+    rt: &(impl Abort + Threads + Wait + Sync),
+    alloc: Global,
+    line: &str,
+    bytes: &[u8],
+) -> Result<Left, Fail> {
     let words = words(alloc, line)?;
     let mut store = filled(rt, alloc, &[("A", ADDITION)]);
     assert!(rt; store.save("F", bytes).is_ok(), "save");
@@ -29,6 +36,7 @@ fn run_beside(rt: &impl Abort, alloc: Global, line: &str, bytes: &[u8]) -> Resul
     let mut output = Vec::new(alloc);
     let mut errors = Vec::new(alloc);
     let status = run_command(
+        rt,
         alloc,
         words.as_slice(),
         &mut input,

@@ -6,7 +6,9 @@ use crate::script_run::filled;
 use cml_host::run_command;
 use std::alloc::Global;
 use std::process::Abort;
+use std::sync::Wait;
 use std::test::Fail;
+use std::thread::Threads;
 
 struct Example {
     name: &'static str,
@@ -80,7 +82,7 @@ const EXAMPLES: &[Example] = &[
 
 // The program on these words writes what the example says.
 fn writes(
-    rt: &impl Abort,
+    rt: &(impl Abort + Threads + Wait + Sync),
     alloc: Global,
     line: &str,
     example: &Example,
@@ -91,6 +93,7 @@ fn writes(
     let mut out = Vec::new(alloc);
     let mut err = Vec::new(alloc);
     let status = run_command(
+        rt,
         alloc,
         words.as_slice(),
         &mut input,

@@ -6,7 +6,9 @@ use crate::script_run::{ADDITION, filled};
 use cml_host::{Store, StoreFault, run_command};
 use std::alloc::Global;
 use std::process::Abort;
+use std::sync::Wait;
 use std::test::Fail;
+use std::thread::Threads;
 
 const FILES: &[(&str, &str)] = &[
     ("A", ADDITION),
@@ -54,7 +56,7 @@ struct Left {
 
 // The program on these words, over writers that fail, and a store that may be closed.
 fn leaves(
-    rt: &impl Abort,
+    rt: &(impl Abort + Threads + Wait + Sync),
     alloc: Global,
     line: &str,
     mut out: Narrow,
@@ -68,6 +70,7 @@ fn leaves(
     }
     let mut input = "".as_bytes();
     let status = run_command(
+        rt,
         alloc,
         words.as_slice(),
         &mut input,
@@ -156,6 +159,47 @@ fn a_record_is_refused(rt: HostRuntime) -> Result<(), Fail> {
             is_cut(&rt, &left, output, errors, "can");
             drop(left);
         }
+    }
+    Ok(())
+}
+
+// With workers the reports are on their way before the output is known: which of them come first is open, and what is told of a write that
+// fails is not.
+#[test]
+fn each_write_beside_workers_fails(rt: HostRuntime) -> Result<(), Fail> {
+    let alloc = rt.alloc();
+    let line = "run A --workers 4 --watch 1 --record S";
+    for good in 0..60usize {
+        let err = taking(alloc, good, false);
+        let left = leaves(
+            &rt,
+            alloc,
+            line,
+            taking(alloc, usize::MAX, false),
+            err,
+            false,
+        )?;
+        assert!(rt; left.output.is_empty() && left.status == 1 && !left.is_saved);
+        assert!(rt; left.errors.ends_with(CANNOT_WRITE.as_bytes()));
+        assert!(rt; left.errors.len() == good + CANNOT_WRITE.len());
+        drop(left);
+    }
+    let output = "42\nend quiet pending 0\n".as_bytes();
+    for good in 0..output.len() {
+        let out = taking(alloc, good, false);
+        let left = leaves(
+            &rt,
+            alloc,
+            line,
+            out,
+            taking(alloc, usize::MAX, false),
+            false,
+        )?;
+        assert!(rt;
+            left.output.as_slice() == &output[..good] && left.status == 1 && !left.is_saved
+        );
+        assert!(rt; left.errors.ends_with(CANNOT_WRITE.as_bytes()));
+        drop(left);
     }
     Ok(())
 }

@@ -5,7 +5,9 @@ use crate::run::{Part, whole, words};
 use cml_host::{Store, StoreFault, run_command};
 use std::alloc::Global;
 use std::process::Abort;
+use std::sync::Wait;
 use std::test::Fail;
+use std::thread::Threads;
 
 /// One thread sends to another, through a wrap.
 pub const ADDITION: &str =
@@ -95,13 +97,18 @@ fn is_saved(
 }
 
 // The program on these words over these files writes and saves what the case says.
-fn holds(rt: &impl Abort, alloc: Global, case: &Case) -> Result<(), Fail> {
+fn holds(
+    rt: &(impl Abort + Threads + Wait + Sync),
+    alloc: Global,
+    case: &Case,
+) -> Result<(), Fail> {
     let words = words(alloc, case.words)?;
     let mut store = filled(rt, alloc, case.files);
     let mut input = "spawn\n".as_bytes();
     let mut out = Vec::new(alloc);
     let mut err = Vec::new(alloc);
     let status = run_command(
+        rt,
         alloc,
         words.as_slice(),
         &mut input,
@@ -128,7 +135,11 @@ fn holds(rt: &impl Abort, alloc: Global, case: &Case) -> Result<(), Fail> {
 }
 
 /// Each of the cases comes out as it says.
-pub fn all_come_out(rt: &impl Abort, alloc: Global, cases: &[Case]) -> Result<(), Fail> {
+pub fn all_come_out(
+    rt: &(impl Abort + Threads + Wait + Sync),
+    alloc: Global,
+    cases: &[Case],
+) -> Result<(), Fail> {
     for case in cases {
         holds(rt, alloc, case)?;
     }

@@ -7,7 +7,9 @@ use rand_core::{Rng, SeedableRng};
 use rand_pcg::Pcg32;
 use std::alloc::{AllocError, Global};
 use std::process::Abort;
+use std::sync::Wait;
 use std::test::Fail;
+use std::thread::Threads;
 
 // A text that lies in the file `F`, and what a command says of it.
 struct Script {
@@ -282,7 +284,12 @@ struct Left {
 }
 
 // The program on these words, with this text in the file `F`.
-fn run_on(alloc: Global, line: &str, text: &[u8]) -> Result<Left, AllocError> {
+fn run_on(
+    rt: &(impl Threads + Wait + Sync),
+    alloc: Global,
+    line: &str,
+    text: &[u8],
+) -> Result<Left, AllocError> {
     let words = words(alloc, line)?;
     let mut store = MemoryStore::new(alloc);
     if store.save("F", text).is_err() {
@@ -292,6 +299,7 @@ fn run_on(alloc: Global, line: &str, text: &[u8]) -> Result<Left, AllocError> {
     let mut output = Vec::new(alloc);
     let mut errors = Vec::new(alloc);
     let status = run_command(
+        rt,
         alloc,
         words.as_slice(),
         &mut input,
@@ -310,7 +318,7 @@ fn run_on(alloc: Global, line: &str, text: &[u8]) -> Result<Left, AllocError> {
 fn scripts(rt: HostRuntime) -> Result<(), Fail> {
     for script in SCRIPTS {
         let text = whole(rt.alloc(), script.text)?;
-        let left = run_on(rt.alloc(), script.words, text.as_bytes())?;
+        let left = run_on(&rt, rt.alloc(), script.words, text.as_bytes())?;
         let name = script.name;
         assert!(rt;
             left.output.as_slice() == script.output.as_bytes(),
@@ -331,7 +339,7 @@ fn scripts(rt: HostRuntime) -> Result<(), Fail> {
 fn a_long_text_is_printed(rt: HostRuntime) -> Result<(), Fail> {
     let text = whole(rt.alloc(), &[Part::Times("ab ", 30_000)])?;
     let printed = whole(rt.alloc(), &[Part::Times("ab\n", 30_000)])?;
-    let left = run_on(rt.alloc(), "fmt F", text.as_bytes())?;
+    let left = run_on(&rt, rt.alloc(), "fmt F", text.as_bytes())?;
     assert!(rt; left.output.as_slice() == printed.as_bytes());
     assert!(rt; left.errors.is_empty());
     assert!(rt; left.status == 0);
@@ -343,7 +351,7 @@ fn a_long_text_is_printed(rt: HostRuntime) -> Result<(), Fail> {
 
 #[test]
 fn bytes_that_are_no_text(rt: HostRuntime) -> Result<(), Fail> {
-    let left = run_on(rt.alloc(), "fmt F", b"\xff")?;
+    let left = run_on(&rt, rt.alloc(), "fmt F", b"\xff")?;
     assert!(rt; left.output.is_empty());
     assert!(rt; left.errors.as_slice() == b"text 8 utf8 at 0\n".as_slice());
     assert!(rt; left.status == 2);
@@ -355,11 +363,11 @@ fn bytes_that_are_no_text(rt: HostRuntime) -> Result<(), Fail> {
 fn beginnings_of_scripts(rt: HostRuntime) -> Result<(), Fail> {
     for program in PROGRAMS {
         for length in 0..program.len() {
-            let left = run_on(rt.alloc(), "check F", &program.as_bytes()[..length])?;
+            let left = run_on(&rt, rt.alloc(), "check F", &program.as_bytes()[..length])?;
             assert!(rt; left.status == 2, "{length}");
             drop(left);
         }
-        let left = run_on(rt.alloc(), "check F", program.as_bytes())?;
+        let left = run_on(&rt, rt.alloc(), "check F", program.as_bytes())?;
         assert!(rt; left.status == 0);
         drop(left);
     }
@@ -374,7 +382,7 @@ fn random_bytes(rt: HostRuntime) -> Result<(), Fail> {
         random.fill_bytes(bytes.as_mut_slice());
         let length = random.next_u32() as usize % 201;
         for line in ["check F", "fmt F"] {
-            let left = run_on(rt.alloc(), line, &bytes[..length])?;
+            let left = run_on(&rt, rt.alloc(), line, &bytes[..length])?;
             assert!(rt; matches!(left.status, 0 | 2), "{line}");
             drop(left);
         }

@@ -55,7 +55,7 @@ const WORDS: &[Asked] = &[
     },
     Asked {
         words: "run --help",
-        output: "Runs a script\n\nUsage: cml run [OPTIONS] <FILE>\n\nArguments:\n  <FILE>  \n\nOptions:\n      --steps <B>      How many steps it may take, 1 to 1000000000 [default: 1000000]\n      --seed <S>       Draws the choices from this number\n      --watch <K>      Reports after every K items of the schedule, 1 to 1000000000\n      --record <FILE>  Saves the schedule of the run\n  -h, --help           Print help\n",
+        output: "Runs a script\n\nUsage: cml run [OPTIONS] <FILE>\n\nArguments:\n  <FILE>  \n\nOptions:\n      --workers <N>    How many workers run its threads, 1 to 64 [default: 1]\n      --steps <B>      How many steps it may take, 1 to 1000000000 [default: 1000000]\n      --seed <S>       Draws the choices from this number\n      --watch <K>      Reports after every K items of the schedule, 1 to 1000000000\n      --record <FILE>  Saves the schedule of the run\n  -h, --help           Print help\n",
         errors: "",
         status: 0,
     },
@@ -99,6 +99,24 @@ const WORDS: &[Asked] = &[
         words: "replay x.cml y --watch 1000000001",
         output: "",
         errors: "error: invalid value '1000000001' for '--watch <K>': 1000000001 is not in 1..=1000000000\n\nFor more information, try '--help'.\n",
+        status: 1,
+    },
+    Asked {
+        words: "run x.cml --workers 0",
+        output: "",
+        errors: "error: invalid value '0' for '--workers <N>': 0 is not in 1..=64\n\nFor more information, try '--help'.\n",
+        status: 1,
+    },
+    Asked {
+        words: "run x.cml --workers 65",
+        output: "",
+        errors: "error: invalid value '65' for '--workers <N>': 65 is not in 1..=64\n\nFor more information, try '--help'.\n",
+        status: 1,
+    },
+    Asked {
+        words: "run x.cml --workers 64",
+        output: "",
+        errors: "cannot read x.cml\n",
         status: 1,
     },
     Asked {

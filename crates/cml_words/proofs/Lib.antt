@@ -1,3 +1,4 @@
+mod Added
 mod Answers
 mod Entered
 mod Filled

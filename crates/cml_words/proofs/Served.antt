@@ -1,6 +1,7 @@
 -- What an argument that was served gives.
-use Rattle.std.proofs.Common.{◌≡◌, ◌&&◌, ap, ℕ, Bool, cond, true, false, refl, sym, subst, arith, List, [], ◌∷◌, Option, Some, None, IfSome, is_some, option_map, true≢false}
+use Rattle.std.proofs.Common.{◌≡◌, ◌&&◌, ◌≤◌, ap, ℕ, Bool, cond, true, false, refl, sym, subst, arith, List, [], ◌∷◌, Option, Some, None, IfSome, is_some, option_map, true≢false}
 use Rattle.std.specs.Prelude.{Ok, Err, Result, option_and_then, slice_get, unwrap_or}
+use Rattle.std.specs.Int.{IsInRange}
 use Rattle.std.specs.List.{find, list_all}
 use Rattle.std.specs.Option.{option_map_or}
 use Rattle.std.specs.Str.{bytes_eq}
@@ -15,7 +16,7 @@ use Rattle.clap.specs.declared.builder.value_parser.Reading.TheVariants.{AsWritt
 use Rattle.clap.specs.declared.builder.value_parser.ValueParser.TheVariants as vp
 use Rattle.clap.proofs.ValueTestLemmas.{Accepts-accepts, accepts-Accepts}
 use Rattle.clap.proofs.WalkLemmas.{both}
-use Rattle.cml_words.specs.Words.{any_rule, count_rule, file_rule, is_as_written, is_filled, is_served, number_of, number_rule, IsCount}
+use Rattle.cml_words.specs.Words.{any_rule, count_rule, file_rule, is_as_written, is_filled, is_served, number_of, number_rule, workers_rule, IsCount, IsWorkers}
 
 pub as_written : (how : Reading) → is_as_written how ≡ true → how ≡ AsWritten
 as_written AsWritten plain = refl
@@ -72,28 +73,43 @@ number_cases least most given id served P none some = go (find (λ row. bytes_eq
     go (Some row) filled =
         row_case (is_unsigned_in least most) row.values row.reading filled P (λ text within. some text (accepts-Accepts false (vp.Unsigned least most) text within))
 
--- what counts is a number
-pub count_is_number : (given : List Row) (id : Text) → is_served given (count_rule id) ≡ true → is_served given (any_rule id) ≡ true
-count_is_number given id served = go (find (λ row. bytes_eq row.id id) given) served
+-- a number within bounds is a number
+pub ranged_is_number : (least most : ℕ) → most ≤ 18446744073709551615 → (given : List Row) (id : Text) → is_served given (number_rule least most id) ≡ true
+    → is_served given (any_rule id) ≡ true
+ranged_is_number least most bound given id served = go (find (λ row. bytes_eq row.id id) given) served
   where
-    wider : (text : Text) → is_unsigned_in 1 1000000000 text ≡ true → is_unsigned_in 0 18446744073709551615 text ≡ true
+    wider : (text : Text) → is_unsigned_in least most text ≡ true → is_unsigned_in 0 18446744073709551615 text ≡ true
     wider text within =
-        let is = accepts-Accepts false (vp.Unsigned 1 1000000000) text within in
-        Accepts-accepts false (vp.Unsigned 0 18446744073709551615) text (is.0, is.1, omega arith, omega (arith, is.3))
+        let is = accepts-Accepts false (vp.Unsigned least most) text within in
+        let below : digits_value 10 (without_leading_plus text) ≤ most = is.3 in
+        Accepts-accepts false (vp.Unsigned 0 18446744073709551615) text (is.0, is.1, omega arith, omega (arith, below, bound))
 
-    go : (o : Option Row) → option_map_or (is_filled (count_rule id)) o true ≡ true → option_map_or (is_filled (any_rule id)) o true ≡ true
+    go : (o : Option Row) → option_map_or (is_filled (number_rule least most id)) o true ≡ true → option_map_or (is_filled (any_rule id)) o true ≡ true
     go None filled = refl
     go (Some row) filled =
         let parts = both _ _ filled in
         let plain : is_as_written row.reading ≡ true = parts.0 in
-        let first = filled_first (is_unsigned_in 1 1000000000) row.values parts.1 in
+        let first = filled_first (is_unsigned_in least most) row.values parts.1 in
         let here : slice_get row.values 0 ≡ Some first.0 = first.1 in
         rw (plain, here) (wider first.0 first.2)
 
--- and lies within the bounds
+pub count_is_number : (given : List Row) (id : Text) → is_served given (count_rule id) ≡ true → is_served given (any_rule id) ≡ true
+count_is_number given id served = ranged_is_number 1 1000000000 (omega arith) given id served
+
+pub workers_are_number : (given : List Row) (id : Text) → is_served given (workers_rule id) ≡ true → is_served given (any_rule id) ≡ true
+workers_are_number given id served = ranged_is_number 1 64 (omega arith) given id served
+
+-- and lies within them
+ranged : (least most : ℕ) (given : List Row) (id : Text) → is_served given (number_rule least most id) ≡ true → IfSome (number_of id given) (IsInRange least most)
+ranged least most given id served =
+    number_cases least most given id served
+    (λ one first. IfSome (option_map (λ text. digits_value 10 (without_leading_plus text)) first) (IsInRange least most)) tt (λ text within. (within.2, within.3))
+
 pub counts : (given : List Row) (id : Text) → is_served given (count_rule id) ≡ true → IfSome (number_of id given) IsCount
-counts given id served =
-    number_cases 1 1000000000 given id served (λ one first. IfSome (option_map (λ text. digits_value 10 (without_leading_plus text)) first) IsCount) tt (λ text within. (within.2, within.3))
+counts given id served = ranged 1 1000000000 given id served
+
+pub few : (given : List Row) (id : Text) → is_served given (workers_rule id) ≡ true → IfSome (number_of id given) IsWorkers
+few given id served = ranged 1 64 given id served
 
 -- the number that `get_one` reads is the one that was given
 pub reads_number : (E : Type 0) (G : List ℕ → Result ℕ E → Type 0) (given : List Row) (id : Text) (r : Option ℕ) → is_served given (any_rule id) ≡ true
@@ -112,3 +128,8 @@ reads_number E G given id r served only none some =
 pub steps_count : (o : Option ℕ) → IfSome o IsCount → IsCount (unwrap_or o 1000000)
 steps_count None within = (omega arith, omega arith)
 steps_count (Some n) within = within
+
+-- and the number of workers, which is 1 where none was given
+pub workers_count : (o : Option ℕ) → IfSome o IsWorkers → IsWorkers (unwrap_or o 1)
+workers_count None within = (omega arith, omega arith)
+workers_count (Some n) within = within

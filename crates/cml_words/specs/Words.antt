@@ -41,6 +41,10 @@ any_rule = number_rule 0 18446744073709551615
 abbrev pub count_rule : Text → Rule
 count_rule = number_rule 1 1000000000
 
+-- a number of workers, from 1 to 64
+abbrev pub workers_rule : Text → Rule
+workers_rule = number_rule 1 64
+
 -- a command with these arguments
 abbrev pub command_of : Text → List Rule → Shape
 command_of name rules = record (new_app name).top { rules = rules }
@@ -51,7 +55,7 @@ file_command name = command_of name (file_rule (codes "FILE") ∷ [])
 
 abbrev pub run_command : Shape
 run_command = command_of (codes "run")
-    (file_rule (codes "FILE") ∷ count_rule (codes "steps") ∷ any_rule (codes "seed") ∷ count_rule (codes "watch") ∷ option_rule (codes "record") ∷ [])
+    (file_rule (codes "FILE") ∷ workers_rule (codes "workers") ∷ count_rule (codes "steps") ∷ any_rule (codes "seed") ∷ count_rule (codes "watch") ∷ option_rule (codes "record") ∷ [])
 
 abbrev pub replay_command : Shape
 replay_command = command_of (codes "replay") (file_rule (codes "FILE") ∷ file_rule (codes "SCHEDULE") ∷ count_rule (codes "watch") ∷ [])
@@ -81,14 +85,18 @@ number_of option given = option_map (λ text. digits_value 10 (without_leading_p
 abbrev pub IsCount : ℕ → Type 0
 IsCount = IsInRange 1 1000000000
 
--- the options of `run` are what was given, and 1,000,000 steps where no number of steps was
+abbrev pub IsWorkers : ℕ → Type 0
+IsWorkers = IsInRange 1 64
+
+-- the options of `run` are what was given; where no number of workers was, one worker, and where no number of steps was, 1,000,000
 pub record IsRun (given : List Row) (options : RunOptions) : Type 0 where
   pub file : first_of (codes "FILE") given ≡ Some options.file.now
+  pub workers : options.workers ≡ unwrap_or (number_of (codes "workers") given) 1
   pub steps : options.steps ≡ unwrap_or (number_of (codes "steps") given) 1000000
   pub seed : options.seed ≡ number_of (codes "seed") given
   pub watch : options.watch ≡ number_of (codes "watch") given
   pub record_file : option_map (λ name. name.now) options.record ≡ first_of (codes "record") given
-  pub counts : IsCount options.steps × IfSome options.watch IsCount
+  pub counts : IsWorkers options.workers × IsCount options.steps × IfSome options.watch IsCount
 
 -- and those of `replay`
 pub record IsReplay (given : List Row) (options : ReplayOptions) : Type 0 where

@@ -6,7 +6,7 @@ ghost use Rattle.std.specs.List.{list_all};
 ghost use Rattle.std.specs.String.{string_bytes};
 ghost use Rattle.clap.specs.Words.{app_of, first_of, found_of, kind_of, rows_of, rule_of, shape_of, subcommand_rows_of};
 ghost use Rattle.clap.specs.declared.builder.command.Command.TheViews.{out-Command};
-ghost use Rattle.cml_words.specs.Words.{any_rule, command_of, commands, count_rule, file_command, file_rule, option_rule, replay_command, run_command};
+ghost use Rattle.cml_words.specs.Words.{any_rule, command_of, commands, count_rule, file_command, file_rule, option_rule, replay_command, run_command, workers_rule};
 ghost use Rattle.cml_words.specs.Words.{is_complete, is_served, number_of, AnswersError, IsAnswer, IsReplay, IsRun, Names};
 
 use clap::error::ErrorKind;
@@ -18,6 +18,9 @@ const MOST: i64 = 1_000_000_000;
 
 // How many steps a script may take where no number is given.
 const DEFAULT_STEPS: u64 = 1_000_000;
+
+// The most workers.
+const MOST_WORKERS: i64 = 64;
 
 /// A command of the program.
 #[derive(Clone, Copy, PartialEq, Eq)]
@@ -39,6 +42,8 @@ pub enum Task<'a> {
 pub struct RunOptions<'a> {
     /// The file of the script.
     pub file: &'a str,
+    /// How many workers run its threads, from 1 to 64; where the words give no number, 1.
+    pub workers: usize,
     /// How many steps the run may take, from 1 to 1,000,000,000; where the words give no number, 1,000,000.
     pub steps: u64,
     /// What choices are drawn from; without it the first that can be taken is.
@@ -109,6 +114,7 @@ fn run_options<'a>(matches: &ArgMatches<'a>) -> RunOptions<'a>
 {
     RunOptions {
         file: given(matches, "FILE"),
+        workers: number(matches, "workers").unwrap_or(1) as usize,
         steps: number(matches, "steps").unwrap_or(DEFAULT_STEPS),
         seed: number(matches, "seed"),
         watch: number(matches, "watch"),
@@ -195,6 +201,7 @@ fn run<'a>(alloc: Global) -> Result<Command<'a>, AllocError>
     ensures shape { IfOk result (λ command. shape_of command ≡ run_command) }
     ensures globals { IfOk result (λ command. (out-Command command).has_globals ≡ false) }
 {
+    let workers = workers(alloc);
     let steps = count(
         alloc,
         "steps",
@@ -205,6 +212,7 @@ fn run<'a>(alloc: Global) -> Result<Command<'a>, AllocError>
     let watch = watch(alloc);
     let record = option(alloc, "record", "FILE", "Saves the schedule of the run");
     on_file(alloc, "run", "Runs a script")?
+        .arg(workers)?
         .arg(steps)?
         .arg(seed)?
         .arg(watch)?
@@ -262,6 +270,20 @@ fn count<'a>(alloc: Global, name: &'a str, value: &'a str, help: &'a str) -> Arg
     ensures global { result.global ≡ false }
 {
     option(alloc, name, value, help).value_parser(value_parser!(u64).range(1..=MOST))
+}
+
+// The option that says how many workers run the threads.
+fn workers<'a>(alloc: Global) -> Arg<'a>
+    ensures rule { rule_of result ≡ workers_rule (codes "workers") }
+    ensures global { result.global ≡ false }
+{
+    option(
+        alloc,
+        "workers",
+        "N",
+        "How many workers run its threads, 1 to 64 [default: 1]",
+    )
+    .value_parser(value_parser!(u64).range(1..=MOST_WORKERS))
 }
 
 // The option that asks for reports.

@@ -3,7 +3,14 @@ use Rattle.std.specs.String.{string_bytes}
 use Rattle.cml_words.specs.declared.Task.TheVariants.{Trace, Check, Fmt, Run, Replay}
 use Rattle.cml_words.specs.declared.Answer.TheVariants as answer
 use Rattle.cml_words.specs.Words.{IsAnswer}
+use Rattle.cml_host.proofs.CountLemmas.{counted}
 use Rattle.cml_host.proofs.command.run_command_counted.Goals as goal
+
+pub run_file-requires-clause-counts : goal.run_file-requires-clause-counts
+run_file-requires-clause-counts g c κs within =
+    let words = map string_bytes c.args.words.now in
+    let is = c.in-Ok-Task-Run.field-0-is ∙ ap answer.Task c.in-Ok-Task-Run.field-0-0-is in
+    counted words c.in-Ok-Task-Run.options (subst (IsAnswer words) is c.in-Ok-Task-Run.ensures)
 
 pub returns-in-Ok-Task-Trace-clause-ran : goal.returns-in-Ok-Task-Trace-clause-ran
 returns-in-Ok-Task-Trace-clause-ran g c =

@@ -1,25 +1,34 @@
 use Rattle.std.proofs.Common.{inl, refl}
 use Rattle.cml_stream.specs.Streams.{counted_stream}
+use Rattle.cml_host.specs.Running.{record_name}
 use Rattle.cml_host.specs.Stores.{Shelf}
-use Rattle.cml_host.proofs.RanLemmas.{ended_ran, cut_ran}
+use Rattle.cml_host.proofs.RanLemmas.{ended_behind, ended_ran, stopped_ran}
 use Rattle.cml_host.proofs.run.run_program.Goals as goal
 
-pub returns-in-Ok-ended-clause-ran : goal.returns-in-Ok-ended-clause-ran
-returns-in-Ok-ended-clause-ran g c =
+pub returns-in-Ok-run_hub-clause-ran : goal.returns-in-Ok-run_hub-clause-ran
+returns-in-Ok-run_hub-clause-ran g c =
+    let a = g.E.Write.contents c.args.err.now.stream.now in
+    let b = g.E.Write.contents c.run_hub.new.err.stream.now in
+    let d = g.E.Write.contents c.end.new.err.stream.now in
     let output = counted_stream (g.O.Write.contents c.args.out.now.stream.now) (g.O.Write.contents c.end.new.out.stream.now) c.end.new.out.calls c.end.new.out.failed in
-    let errors = counted_stream (g.E.Write.contents c.args.err.now.stream.now) (g.E.Write.contents c.end.new.err.stream.now) c.end.new.err.calls c.end.new.err.failed in
+    let errors = counted_stream a d c.end.new.err.calls c.end.new.err.failed in
     let store : Shelf = record { before = g.S.Store.holds c.args.store.now; after = g.S.Store.holds c.end.new.store } in
     inl (
-    ended_ran c.args.program c.args.options.now c.in-Ok.hub c.run_hub-ended.new.hub c.in-Ok-ended.field-0 output errors store c.end.result
-    c.in-Ok.ensures.ok c.run_hub-ended.ensures.more c.in-Ok-ended.ensures.ok c.hub_is_a_run.ensures c.end.ensures.ran
+    ended_ran c.args.program c.args.options.now c.in-Ok.hub c.in-Ok-run_hub.hub output errors store c.end.result
+    c.in-Ok.ensures.ok c.in-Ok-run_hub.ensures.ok.0 c.hub_is_a_run.ensures
+    (ended_behind (record_name c.args.options.now) c.in-Ok-run_hub.hub a b d output c.end.new.err.calls c.end.new.err.failed store c.end.result
+    c.in-Ok-run_hub.ensures.ok.1 c.end.ensures.ran)
     )
 
-pub returns-clause-ran : goal.returns-clause-ran
-returns-clause-ran g c =
-    let output = counted_stream (g.O.Write.contents c.args.out.now.stream.now) (g.O.Write.contents c.cut_off.new.out.stream.now) c.cut_off.new.out.calls c.cut_off.new.out.failed in
-    let errors = counted_stream (g.E.Write.contents c.args.err.now.stream.now) (g.E.Write.contents c.cut_off.new.err.stream.now) c.cut_off.new.err.calls c.cut_off.new.err.failed in
+pub returns-in-Err-clause-ran : goal.returns-in-Err-clause-ran
+returns-in-Err-clause-ran g c =
+    let a = g.E.Write.contents c.args.err.now.stream.now in
+    let b = g.E.Write.contents c.run_hub.new.err.stream.now in
+    let d = g.E.Write.contents c.stop.new.err.stream.now in
+    let output = counted_stream (g.O.Write.contents c.args.out.now.stream.now) (g.O.Write.contents c.stop.new.out.stream.now) c.stop.new.out.calls c.stop.new.out.failed in
     let store : Shelf = record { before = g.S.Store.holds c.args.store.now; after = g.S.Store.holds c.args.store.now } in
     inl (
-    cut_ran c.args.program c.args.options.now c.in-Ok.hub c.run_hub-ended.new.hub output errors store c.cut_off.result
-    c.in-Ok.ensures.ok c.run_hub-ended.ensures.more c.hub_is_a_run.ensures c.cut_off.ensures.told (λ name. refl)
+    stopped_ran c.args.program c.args.options.now c.in-Ok.hub c.in-Err.stopped a b d output
+    c.run_hub.new.err.calls c.run_hub.new.err.failed c.stop.new.err.calls c.stop.new.err.failed store c.stop.result
+    c.in-Ok.ensures.ok c.in-Err.ensures.err c.hub_is_a_run-in-Err.ensures c.stop.ensures.told (λ name. refl)
     )

@@ -1,9 +1,41 @@
-use Rattle.std.proofs.Common.{rules, ◌≡◌, ◌∙◌, ◌++◌, List, ℕ, inl, inr, subst}
+use Rattle.std.proofs.Common.{rules, inl, inr}
+use Rattle.std.proofs.lemmas.Result.{IfOk-weaker, IfErr-weaker}
 use Rattle.cml_hub.specs.Courses.{run_of}
 use Rattle.cml_host.specs.Told.{whole_output}
-use Rattle.cml_host.proofs.TellLemmas.{reports_broke, cut_behind, says_behind, whole_is}
-use Rattle.cml_stream.specs.Streams.{stream, counted_stream, TakesStart}
+use Rattle.cml_host.proofs.TellLemmas.{reports_broke, cut_behind, told_behind, not_told_behind}
+use Rattle.cml_stream.specs.Streams.{counted_stream}
 use Rattle.cml_host.proofs.tell.tell.Goals as goal
+
+pub returns-in-Ok-clause-told : goal.returns-in-Ok-clause-told
+returns-in-Ok-clause-told g c =
+    let a = g.E.Write.contents c.args.err.now.stream.now in
+    let b = g.E.Write.contents c.send_reports.new.err.stream.now in
+    let d = g.E.Write.contents c.tell_output.new.err.stream.now in
+    let output = counted_stream (g.O.Write.contents c.args.out.now.stream.now) (g.O.Write.contents c.tell_output.new.out.stream.now) c.tell_output.new.out.calls c.tell_output.new.out.failed in
+    let h = c.args.hub.now in
+    rw (← c.reports.ensures.reports) (
+    IfOk-weaker c.tell_output.result _ _
+    (λ status told. (
+      told_behind a b d c.reports.result.now (whole_output h.budget (run_of h.course)) output c.tell_output.new.err.calls c.tell_output.new.err.failed
+          c.in-Ok.ensures.sent.0 told.0,
+      told.1,
+    ))
+    c.tell_output.ensures.told
+    )
+
+pub returns-in-Ok-clause-not_told : goal.returns-in-Ok-clause-not_told
+returns-in-Ok-clause-not_told g c =
+    let a = g.E.Write.contents c.args.err.now.stream.now in
+    let b = g.E.Write.contents c.send_reports.new.err.stream.now in
+    let d = g.E.Write.contents c.tell_output.new.err.stream.now in
+    let output = counted_stream (g.O.Write.contents c.args.out.now.stream.now) (g.O.Write.contents c.tell_output.new.out.stream.now) c.tell_output.new.out.calls c.tell_output.new.out.failed in
+    let h = c.args.hub.now in
+    rw (← c.reports.ensures.reports) (
+    IfErr-weaker c.tell_output.result _ _
+    (λ status broke. not_told_behind a b d c.reports.result.now h.course.output (whole_output h.budget (run_of h.course)) output
+    c.tell_output.new.err.calls c.tell_output.new.err.failed status c.in-Ok.ensures.sent.0 broke)
+    c.tell_output.ensures.not_told
+    )
 
 pub returns-in-Err-Write-clause-not_told : goal.returns-in-Err-Write-clause-not_told
 returns-in-Err-Write-clause-not_told g c =
@@ -32,25 +64,5 @@ returns-in-Err-Memory-clause-not_told g c =
     rw (← c.reports.ensures.reports, ← c.out.ensures) (
     cut_behind a b d c.reports.result.now sent.0 c.out.result.now _ c.cut_output.new.err.calls c.cut_output.new.err.failed c.cut_output.result
     sent.1 c.cut_output.ensures.told
-    )
-    )
-
-pub returns-clause-not_told : goal.returns-clause-not_told
-returns-clause-not_told g c =
-    let a = g.E.Write.contents c.args.err.now.stream.now in
-    let b = g.E.Write.contents c.send_reports.new.err.stream.now in
-    let d = g.E.Write.contents c.refuse_output.new.err.stream.now in
-    let output = stream (g.O.Write.contents c.args.out.now.stream.now) (g.O.Write.contents c.send_both.new.out.stream.now) in
-    let h = c.args.hub.now in
-    let whole : c.out-2.result.now ++ c.as_str.result.now ≡ whole_output h.budget (run_of h.course) =
-    whole_is c.out-2.result.now c.as_str.result.now c.end.result c.pending.result h.budget (run_of h.course)
-    c.out-2.ensures (c.as_str.ensures.value ∙ c.in-Ok.ensures) c.end.ensures c.pending.ensures in
-    rw (← c.reports.ensures.reports) (
-    inl (
-      subst (λ (ts : List ℕ). TakesStart output ts) whole c.in-Err.ensures.err.0,
-      c.in-Err.ensures.err.1,
-      says_behind a b d c.refuse_output.new.err.calls c.refuse_output.new.err.failed _ _
-          c.in-Ok-send_reports.ensures.sent.0 c.refuse_output.ensures.said,
-      c.refuse_output.ensures.status,
     )
     )

@@ -1,25 +1,23 @@
-use Rattle.std.proofs.Common.{◌≡◌, true, sym, ap, subst, refl, ◌∙◌}
+use Rattle.std.proofs.Common.{◌≡◌, sym, ap, subst, refl, ◌∙◌}
 use Rattle.cml_hub.specs.Courses.{IsOurs}
+use Rattle.cml_hub.specs.Kept.{Kept}
 use Rattle.cml_hub.specs.Moves.{IsNext, marks_after, with_report}
 use Rattle.cml_hub.proofs.Keeping.{next_turned}
 use Rattle.cml_hub.proofs.Giving.{kept_of, same_kept, there_given, kept_stands, kept_given}
-use Rattle.cml_hub.proofs.hub.Hub.give.Goals.{in-Some-2, in-None-2}
-use Rattle.cml_hub.proofs.hub.Hub.give.Goals as goal
-
-pub returns-then-not-is_ours : goal.returns-then-not-is_ours
-returns-then-not-is_ours c = rw (← c.self.view_is) ((λ o. let t : c.is_ours.result ≡ true = c.is_ours.ensures.1 o in let f = c.if-not-is_ours.true in cc), refl, refl)
+use Rattle.cml_hub.proofs.hub.Hub.take_back.Goals.{in-Some-2, in-None-2}
+use Rattle.cml_hub.proofs.hub.Hub.take_back.Goals as goal
 
 pub returns-in_default : goal.returns-in_default
 returns-in_default c =
     let s = c.self.inside in
-    let ours = c.is_ours.ensures.0 c.if-not-is_ours.false in
+    let ours : IsOurs s.course c.args.ran = subst (λ (h : Kept). IsOurs h.course c.args.ran) (sym c.self.view_is) c.requires in
     rw (← c.self.view_is)
     (ours, refl, same_kept s.course s.course s.budget s.watch s.marks.marks s.marks.marks c.due.new.reports.items s.reports.items refl refl c.in_default.ensures.items)
 
 pub returns-in_default-reserve : goal.returns-in_default-reserve
 returns-in_default-reserve c =
     let s = c.self.inside in
-    let ours = c.is_ours.ensures.0 c.if-not-is_ours.false in
+    let ours : IsOurs s.course c.args.ran = subst (λ (h : Kept). IsOurs h.course c.args.ran) (sym c.self.view_is) c.requires in
     rw (← c.self.view_is)
     (ours, refl, same_kept s.course s.course s.budget s.watch c.reserve.new.self.marks s.marks.marks c.due.new.reports.items s.reports.items refl c.in_default-reserve.ensures.marks c.in-Ok.ensures.items)
 
@@ -50,7 +48,7 @@ pub returns-in-Ok-give : goal.returns-in-Ok-give
 returns-in-Ok-give c =
     let s = c.self.inside in
     let g = c.in-Ok-give in
-    let ours = c.is_ours.ensures.0 c.if-not-is_ours.false in
+    let ours : IsOurs s.course c.args.ran = subst (λ (h : Kept). IsOurs h.course c.args.ran) (sym c.self.view_is) c.requires in
     let ms = c.place.ensures ∙ ap (λ m. marks_after g.thread.0 g.gone m) c.reserve.ensures.marks in
     let rs = c.add_report.ensures ∙ ap (λ l. with_report l c.in-Ok.report) c.in-Ok.ensures.items in
     rw (← c.self.view_is) (
@@ -62,9 +60,7 @@ returns-in-Ok-give c =
 pub returns-in-Err : goal.returns-in-Err
 returns-in-Err c =
     let s = c.self.inside in
-    let ours : IsOurs s.course c.args.ran = c.is_ours.ensures.0 c.if-not-is_ours.false in
-    let still : IsOurs c.args.self.now.course c.args.ran = rw (← c.self.view_is) ours in
     let k = kept_of c.give.new.self s.budget s.watch c.reserve.new.self.marks c.due.new.reports.items in
     let is : c.match-report-2.self ≡ k = elim c.match-report-2.branch [ in-Some-2 w ↦ w.self-is | in-None-2 w ↦ w.self-is ] in
     let same = same_kept c.give.new.self s.course s.budget s.watch c.reserve.new.self.marks s.marks.marks c.due.new.reports.items s.reports.items c.in-Err.ensures.err.1 c.reserve.ensures.marks c.in-Ok.ensures.items in
-    (still, c.in-Err.ensures.err.0, is ∙ (same ∙ c.self.view_is))
+    (c.requires, c.in-Err.ensures.err.0, is ∙ (same ∙ c.self.view_is))

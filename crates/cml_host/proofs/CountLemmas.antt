@@ -1,0 +1,30 @@
+-- The numbers that `run` is given lie within their bounds.
+use Rattle.std.proofs.Common.{ℕ, List, Option, Some, None, IfSome}
+use Rattle.std.specs.Prelude.{IsSomeAnd}
+use Rattle.cml_hub.specs.Kept.{IsBudget, IsWatch}
+use Rattle.cml_words.specs.Words.{IsAnswer, IsRun, Names}
+use Rattle.cml_words.specs.Words as words
+use Rattle.cml_words.specs.declared.Answer.TheVariants as answer
+use Rattle.cml_words.specs.declared.RunOptions.{RunOptions}
+use Rattle.cml_words.specs.declared.Task.TheVariants.{Run}
+use Rattle.cml_work.specs.Works.{IsCount}
+
+watched : (watch : Option ℕ) → IfSome watch words.IsCount → IsWatch watch
+watched None within = tt
+watched (Some k) within = (within.0, within.1)
+
+some_gives : {T : Type 0} (o : Option T) (P : T → Type 0) (Q : Type 0) → ((x : T) → P x → Q) → IsSomeAnd o P → Q
+some_gives None P Q from is = absurd is
+some_gives (Some x) P Q from is = from x is
+
+run_counts : (options : RunOptions) (given : _) → IsRun given options → IsCount options.workers × IsBudget options.steps × IsWatch options.watch
+run_counts options given is = (
+  (is.counts.0.0, is.counts.0.1),
+  (is.counts.1.0, is.counts.1.1),
+  watched options.watch is.counts.2,
+)
+
+pub counted : (given : List (List ℕ)) (options : RunOptions) → IsAnswer given (answer.Task (Run options)) →
+    IsCount options.workers × IsBudget options.steps × IsWatch options.watch
+counted given options is =
+    some_gives _ (λ named. Names named (Run options)) _ (λ named names. run_counts options named.1 names.1) is.1

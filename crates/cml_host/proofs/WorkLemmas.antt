@@ -1,0 +1,107 @@
+-- How a hub was run: by one thread, or by workers.
+use Rattle.std.proofs.Common.{◌≡◌, ◌∙◌, ap, ℕ, List, [], Option, Result, Ok, Err, IfOk, OnOk, length, inl, inr, refl, sym, subst, take_all, arith}
+use Rattle.std.proofs.KnownBytes.{Appends-nil}
+use Rattle.cml_hub.specs.Kept.{Kept, Continues, IsOver}
+use Rattle.cml_hub.specs.declared.fault.End.{End}
+use Rattle.cml_monitor.specs.Reports.{PlainReport}
+use Rattle.cml_stream.specs.Counts.{counted}
+use Rattle.cml_stream.specs.Streams.{stream, counted_stream, Takes}
+use Rattle.cml_words.specs.declared.RunOptions.{RunOptions}
+use Rattle.cml_work.specs.Seen.{FaultWrites, failed_after_all}
+use Rattle.cml_work.specs.Works.{IsCount, GoesOnFrom, IsWorked, Works, WatchFails}
+use Rattle.cml_work.specs.declared.fault.WorkFault.{WorkFault}
+use Rattle.cml_work.specs.declared.fault.WorkFault.TheVariants as fault
+use Rattle.cml_host.specs.Running.{AreLive, HasRun, AreToldBy, IsStopped, IsCounted, failed_by, hub_of, cause_of}
+use Rattle.cml_host.specs.Told.{reports_text}
+use Rattle.cml_host.specs.declared.workers.Cause.{Cause}
+use Rattle.cml_host.specs.declared.workers.Cause.TheVariants as cause
+use Rattle.cml_host.specs.declared.workers.Stopped.{Stopped}
+
+-- ---- by one thread
+
+pub goes_on : (old new : Kept) → Continues old new → GoesOnFrom old new
+goes_on old new more =
+    record { program = more.program; budget = more.budget; watch = more.watch; more = more.more; items = more.items }
+
+pub worked : (old new : Kept) (end : End) → Continues old new → IsOver end new → IsWorked old new
+worked old new end more is_over =
+    record { goes_on = goes_on old new more; over_is = is_over.over_is; none_out = is_over.none_out; none_due = is_over.none_due }
+
+-- the reports were told, and the hub has run to its end
+pub has_run : {E : Type 0} (old new : Kept) (ended : Result End E) (a b : Option (List ℕ)) (calls failed : ℕ) → Continues old new →
+    IfOk ended (λ end. IsOver end new) → OnOk ended (Takes (stream a b) (reports_text new.reports) × (failed ≡ 0)) → (x : End) → ended ≡ Ok x →
+    HasRun old new (counted_stream a b calls failed)
+has_run old new (Ok end) a b calls failed more is_over sent x is = (worked old new end more is_over, sent.0, sent.1)
+has_run old new (Err e) a b calls failed more is_over sent x is = cc
+
+-- they were told, and memory had run out
+pub all_told : (options : RunOptions) (old new : Kept) (a b : Option (List ℕ)) (calls failed : ℕ) → Continues old new →
+    Takes (stream a b) (reports_text new.reports) → failed ≡ 0 →
+    IsStopped options old (record { hub = new; cause = cause.Memory }) (counted_stream a b calls failed)
+all_told options old new a b calls failed more told none = (
+  goes_on old new more,
+  inl (
+    length new.reports,
+    subst (λ (rs : List PlainReport). Takes (stream a b) (reports_text rs)) (sym (take_all (length new.reports) new.reports (omega arith))) told,
+  ),
+  none,
+)
+
+-- ---- by workers
+
+pub is_counted : (hub : Kept) (workers : ℕ) (f : WorkFault) → IsCount workers → Works hub workers (Err f) → IsCounted f
+is_counted hub workers (fault.Count new) count works = absurd (works.0 count)
+is_counted hub workers (fault.Memory new) count works = tt
+is_counted hub workers (fault.Start new) count works = tt
+is_counted hub workers (fault.Write new) count works = tt
+is_counted hub workers (fault.Foreign new seen) count works = tt
+
+pub is_counted_watched : (hub : Kept) (workers : ℕ) (f : WorkFault) → IsCount workers → WatchFails hub workers f → IsCounted f
+is_counted_watched hub workers (fault.Count new) count fails = absurd (fails.0 count)
+is_counted_watched hub workers (fault.Memory new) count fails = tt
+is_counted_watched hub workers (fault.Start new) count fails = tt
+is_counted_watched hub workers (fault.Write new) count fails = tt
+is_counted_watched hub workers (fault.Foreign new seen) count fails = tt
+
+pub ran_out : (hub : Kept) (workers : ℕ) (f : WorkFault) → IsCount workers → Works hub workers (Err f) →
+    GoesOnFrom hub (hub_of f) × (cause_of f ≡ cause.Memory)
+ran_out hub workers (fault.Count new) count works = absurd (works.0 count)
+ran_out hub workers (fault.Memory new) count works = (works.1, refl)
+ran_out hub workers (fault.Start new) count works = absurd works
+ran_out hub workers (fault.Write new) count works = absurd works
+ran_out hub workers (fault.Foreign new seen) count works = absurd works
+
+-- the hub was stopped, without a report asked for
+pub stopped_silent : (options : RunOptions) (hub : Kept) (stopped : Stopped) (a : Option (List ℕ)) (calls failed : ℕ) →
+    GoesOnFrom hub stopped.hub → stopped.cause ≡ cause.Memory → failed ≡ 0 → IsStopped options hub stopped (counted_stream a a calls failed)
+stopped_silent options hub stopped a calls failed more is none = (
+  more,
+  subst (λ (why : Cause). AreToldBy options stopped.hub why (stream a a)) (sym is) (inl (0, Appends-nil a)),
+  subst (λ (why : Cause). failed ≡ failed_by why) (sym is) none,
+)
+
+pub run_silent : (hub new : Kept) (a : Option (List ℕ)) (calls failed : ℕ) → IsWorked hub new → new.reports ≡ [] → failed ≡ 0 →
+    HasRun hub new (counted_stream a a calls failed)
+run_silent hub new a calls failed works none good =
+    (works, subst (λ (rs : List PlainReport). Takes (stream a a) (reports_text rs)) (sym none) (Appends-nil a), good)
+
+-- what a fault beside a watcher says of the hub that it carries, and of what was written
+live_fault : (A : Type 0) (options : RunOptions) (hub : Kept) (f : WorkFault) (a b : Option (List ℕ)) (was failed : ℕ) → AreLive options →
+    IsCount options.workers → WatchFails hub options.workers f → FaultWrites (stream a b) f → was ≡ 0 → failed ≡ failed_after_all {A = A} (Err f) was →
+    GoesOnFrom hub (hub_of f) × AreToldBy options (hub_of f) (cause_of f) (stream a b) × (failed ≡ failed_by (cause_of f))
+live_fault A options hub (fault.Count new) a b was failed live count fails writes none is = absurd (fails.0 count)
+live_fault A options hub (fault.Memory new) a b was failed live count fails writes none is = (fails.1, inr (live, writes), is ∙ none)
+live_fault A options hub (fault.Start new) a b was failed live count fails writes none is = (fails.1.0, inr (live, writes), is ∙ none)
+live_fault A options hub (fault.Write new) a b was failed live count fails writes none is = (fails.1, inr (live, writes), is ∙ ap counted none)
+live_fault A options hub (fault.Foreign new seen) a b was failed live count fails writes none is =
+    (fails.1.0.goes_on, (live, (seen.items, fails.1.1, writes)), is ∙ none)
+
+-- the answer says only of which type it is
+pub stopped_live : (A : Type 0) (answer : Result A WorkFault) (options : RunOptions) (hub : Kept) (f : WorkFault) (stopped : Stopped) (a b : Option (List ℕ)) (was calls failed : ℕ) →
+    AreLive options → IsCount options.workers → WatchFails hub options.workers f → FaultWrites (stream a b) f → was ≡ 0 →
+    failed ≡ failed_after_all {A = A} (Err f) was → stopped.hub ≡ hub_of f → stopped.cause ≡ cause_of f →
+    IsStopped options hub stopped (counted_stream a b calls failed)
+stopped_live A answer options hub f stopped a b was calls failed live count fails writes none is same_hub same_cause =
+    let all = live_fault A options hub f a b was failed live count fails writes none is in
+    subst (λ (h : Kept). GoesOnFrom hub h × AreToldBy options h stopped.cause (stream a b) × (failed ≡ failed_by stopped.cause)) (sym same_hub)
+    (subst (λ (why : Cause). GoesOnFrom hub (hub_of f) × AreToldBy options (hub_of f) why (stream a b) × (failed ≡ failed_by why)) (sym same_cause) all)

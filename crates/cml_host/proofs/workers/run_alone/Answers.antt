@@ -1,0 +1,14 @@
+use Rattle.std.proofs.Common.{List, subst}
+use Rattle.cml_monitor.specs.Reports.{PlainReport}
+use Rattle.cml_stream.specs.Streams.{stream, Takes}
+use Rattle.cml_host.specs.Told.{reports_text}
+use Rattle.cml_host.proofs.WorkLemmas.{all_told}
+use Rattle.cml_host.proofs.workers.run_alone.Goals as goal
+
+pub returns-clause-err : goal.returns-clause-err
+returns-clause-err g c =
+    let a = g.E.Write.contents c.args.err.now.stream.now in
+    let b = g.E.Write.contents c.send_reports.new.err.stream.now in
+    all_told c.args.options.now c.args.hub c.run_alone-ended.new.self a b c.send_reports.new.err.calls c.send_reports.new.err.failed
+    c.run_alone-ended.ensures.more
+    (subst (λ (rs : List PlainReport). Takes (stream a b) (reports_text rs)) c.reports.ensures.reports c.in-Ok.ensures.sent.0) c.in-Ok.ensures.sent.1

@@ -1,0 +1,17 @@
+-- A command with one more argument.
+use Rattle.std.proofs.Common.{◌≡◌, ◌∙◌, ◌++◌, ◌∷◌, [], ◌||◌, ap, ap₂, false}
+use Rattle.clap.specs.Words.{AddsArg, App, Rule, Shape, rule_of, shape_of}
+use Rattle.clap.specs.declared.builder.arg.Arg.{Arg}
+use Rattle.clap.specs.declared.builder.command.Command.{Command}
+use Rattle.clap.specs.declared.builder.command.Command.TheViews.{out-Command}
+
+abbrev pub with_more : Shape → Rule → Shape
+with_more s r = record s { rules = s.rules ++ r ∷ [] }
+
+pub added_shape : (old new : Command) (a : Arg) (s : Shape) (r : Rule) → AddsArg old a new → a.global ≡ false → shape_of old ≡ s → rule_of a ≡ r
+    → shape_of new ≡ with_more s r
+added_shape old new a s r adds off was is = ap (λ (app : App). app.top) (adds.shape off) ∙ ap₂ with_more was is
+
+pub added_globals : (old new : Command) (a : Arg) → AddsArg old a new → a.global ≡ false → (out-Command old).has_globals ≡ false
+    → (out-Command new).has_globals ≡ false
+added_globals old new a adds off was = adds.globals ∙ ap₂ (λ x y. x || y) was off

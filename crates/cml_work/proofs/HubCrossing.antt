@@ -1,0 +1,89 @@
+-- A hub may cross threads, with its table, its objects and its machines.
+use denote.RattleType.{RattleType}
+use mathlib.Core.List.{[], ◌∷◌}
+use denote.Struct.Tuple.{TupleAt}
+use denote.Param.Send.{IsSend, IsSync, sendable}
+use Rattle.std.specs.contracts.alloc.Global as Global
+use Rattle.std.specs.contracts.impls.GlobalAllocator.TheImpl.{ghosts as heap}
+use Rattle.std.proofs.Crossing.{crosses}
+use Rattle.std.proofs.MapsCrossing.{crosses as maps}
+use Rattle.std.proofs.MapsCrossingOver.{crosses as sets}
+use Rattle.indexmap.specs.contracts.map.IndexMap as IndexMap
+use Rattle.indexmap.specs.contracts.columns.Columns as Columns
+use Rattle.indexmap.specs.contracts.index_table.IndexTable as IndexTable
+use Rattle.cml_index.specs.contracts.index.OfferIndex as OfferIndex
+use Rattle.cml_index.specs.contracts.entries.Entries as Entries
+use Rattle.cml_index.specs.contracts.entry.Entry as Entry
+use Rattle.cml_index.specs.contracts.runs.Runs as Runs
+use Rattle.cml_base.specs.contracts.register.Register as Register
+use Rattle.cml_signal.specs.contracts.clock.Clock as Clock
+use Rattle.cml_book.specs.contracts.state.State as State
+use Rattle.cml_book.specs.contracts.book.Book as Book
+use Rattle.cml_step.specs.contracts.machine.Machine as Machine
+use Rattle.cml_hub.specs.contracts.course.Course as Course
+use Rattle.cml_hub.specs.contracts.hub.Hub as Hub
+use Rattle.cml_stream.specs.contracts.counts.Counting as Counting
+use Rattle.cml_work.specs.contracts.shared.Locked as Locked
+use Rattle.cml_work.specs.contracts.shared.Shared as Shared
+use Rattle.cml_work.proofs.Crossing.{all_cross}
+
+-- a map of the table, by its two columns and its places
+columns_send : (K V : RattleType) → IsSend K → IsSend V → IsSend (Columns.the_row K V Global.the_row heap)
+columns_send K V k v = search (sendable, crosses) depth 60 fits 100000
+
+places_send : IsSend (IndexTable.the_row Global.the_row heap)
+places_send = search (sendable, crosses) depth 60 fits 100000
+
+map_send : (K V S H : RattleType) (e : _) (h : _) (b : _) (r : _) → IsSend K → IsSend V → IsSend S → IsSend (IndexMap.the_row K V S Global.the_row H e h b r heap)
+map_send K V S H e h b r k v s = let c = columns_send K V k v in let p = places_send in search (sendable, crosses) depth 60 fits 100000
+
+-- the table
+runs_send : IsSend Runs.the_row
+runs_send = search (sendable, crosses, map_send) depth 60 fits 100000
+
+entry_send : IsSend Entry.the_row
+entry_send = search (all_cross, runs_send) depth 60 fits 100000
+
+entries_send : IsSend Entries.the_row
+entries_send = search (sendable, crosses, entry_send) depth 60 fits 100000
+
+index_send : IsSend OfferIndex.the_row
+index_send = search (sendable, crosses, entries_send, map_send) depth 60 fits 100000
+
+-- the book
+clock_send : IsSend Clock.the_row
+clock_send = search (sendable, crosses, maps) depth 60 fits 100000
+
+register_send : (S W F : RattleType) (k : _) → IsSend S → IsSend (Register.the_row S W F k)
+register_send S W F k s = search (sendable, crosses, maps, sets) depth 60 fits 100000
+
+state_send : IsSend State.the_row
+state_send = search (all_cross, clock_send, register_send) depth 60 fits 100000
+
+book_send : (T : RattleType) (k : _) → IsSend T → IsSend (Book.the_row T k)
+book_send T k s = search (all_cross, state_send) depth 60 fits 100000
+
+-- the machines
+machine_send : IsSend Machine.the_row
+machine_send = search all_cross depth 60 fits 100000
+
+-- the hub
+course_send : IsSend Course.the_row
+course_send = search (all_cross, index_send, book_send, machine_send) depth 60 fits 100000
+
+hub_send : IsSend Hub.the_row
+hub_send = search (all_cross, course_send) depth 60 fits 100000
+
+-- what lies under the lock, and the lock
+locked_send : (O C : RattleType) (o : _) (c : _) → IsSend O → IsSend C → IsSend (Locked.the_row O C o c)
+locked_send O C o c s u = search (sendable, crosses, hub_send) depth 60 fits 100000
+
+pub shared_sync : (O C : RattleType) (o : _) (c : _) → IsSend O → IsSend C → IsSync (Shared.the_row O C o c)
+shared_sync O C o c s u = let l = locked_send O C o c s u in search (sendable, crosses) depth 60 fits 100000
+
+-- a stream that is counted, and what a closure has captured
+pub counting_send : (ℓ : _) (W : RattleType) → IsSend W → IsSend (Counting.the_row ℓ W)
+counting_send ℓ W s = search (sendable, crosses) depth 60 fits 100000
+
+pub captured_send : (name : _) (A B C D : RattleType) → IsSend A → IsSend B → IsSend C → IsSend D → IsSend (TupleAt name (A ∷ B ∷ C ∷ D ∷ []))
+captured_send name A B C D a b c d = search sendable depth 60 fits 100000

@@ -1,0 +1,7 @@
+mod Crossing
+mod Finding
+mod Going
+mod Handing
+mod HubCrossing
+mod Leaving
+mod Writing

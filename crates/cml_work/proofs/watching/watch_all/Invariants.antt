@@ -1,0 +1,11 @@
+use Rattle.std.proofs.Common.{◌≡◌}
+use Rattle.std.specs.Io.KnownBytes.{Appends}
+use Rattle.cml_work.specs.Seen.{texts_of}
+use Rattle.cml_work.proofs.watching.watch_all.Given as goal
+
+-- the lines of those that were seen were written
+abbrev pub invariant-loop : goal.invariant-loop
+invariant-loop g l =
+    Appends (g.W.Write.contents l.fn.writer.stream.now) (g.W.Write.contents l.writer.stream.now) (texts_of l.seen.items)
+    × (l.writer.stream.ghost_name ≡ l.fn.writer.stream.ghost_name)
+    × (l.writer.failed ≡ l.fn.writer.failed)

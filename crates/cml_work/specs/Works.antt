@@ -1,0 +1,89 @@
+-- How runs of workers end.
+use Rattle.std.specs.Prelude.{ℕ, ◌≡◌, ◌≢◌, ◌≤◌, true, List, ◌++◌, Option, Result, Ok, Err}
+use Rattle.cml_check.specs.Syntax.{PlainFunction as PlainItem}
+use Rattle.cml_monitor.specs.Reports.{PlainReport}
+use Rattle.cml_schedule.specs.declared.item.Item.{Item}
+use Rattle.cml_hub.specs.Courses.{run_of}
+use Rattle.cml_hub.specs.Dones.{GoesOn}
+use Rattle.cml_hub.specs.Runs.{over}
+use Rattle.cml_hub.specs.Kept.{Kept, NoneOut, NoneDue}
+use Rattle.cml_work.specs.declared.shared.Found.{Found}
+use Rattle.cml_work.specs.declared.shared.Found.TheVariants as found
+use Rattle.cml_work.specs.declared.fault.WorkFault.{WorkFault}
+use Rattle.cml_work.specs.declared.fault.WorkFault.TheVariants.{Count, Memory, Start, Write, Foreign}
+
+-- as many workers as there may be
+abbrev pub IsCount : ℕ → Type 0
+IsCount workers = (1 ≤ workers) × (workers ≤ 64)
+
+-- what of a hub stays to the end of a run that begins with it: its program, budget and watch; and its schedule, which grows
+pub record PlainOpening : Type 0 where
+  pub program : List (PlainItem ℕ)
+  pub budget : ℕ
+  pub watch : Option ℕ
+  pub items : List Item
+
+abbrev pub opening_of : Kept → PlainOpening
+opening_of h = record { program = h.course.program; budget = h.budget; watch = h.watch; items = h.course.items }
+
+-- the hub is of this program, budget and watch, and its schedule begins with this one
+pub record Follows (opening : PlainOpening) (h : Kept) : Type 0 where
+  pub program : h.course.program ≡ opening.program
+  pub budget : h.budget ≡ opening.budget
+  pub watch : h.watch ≡ opening.watch
+  pub more : List Item
+  pub items : h.course.items ≡ opening.items ++ more
+
+-- The hub goes on from the other. (That its schedule leads to where it stands, and that its reports are those of its schedule, holds of
+-- every hub.)
+abbrev pub GoesOnFrom : Kept → Kept → Type 0
+GoesOnFrom old new = Follows (opening_of old) new
+
+-- it goes on from the other, and has run to its end: nothing is left to do, or the budget is used
+pub record IsWorked (old new : Kept) : Type 0 where
+  pub goes_on : GoesOnFrom old new
+  pub over_is : over new.budget (run_of new.course) ≡ true
+  pub none_out : NoneOut new
+  pub none_due : NoneDue new
+
+-- What `run_workers` answers: a hub that has gone on to its end; or it was asked for another number of workers, and the hub comes back; or
+-- memory ran out, and the hub has gone on so far.
+abbrev pub Works : Kept → ℕ → Result Kept WorkFault → Type 0
+Works hub workers (Ok new) = IsCount workers × IsWorked hub new
+Works hub workers (Err (Count new)) = (IsCount workers → ⊥) × (new ≡ hub)
+Works hub workers (Err (Memory new)) = IsCount workers × GoesOnFrom hub new
+Works hub workers (Err (Start new)) = ⊥
+Works hub workers (Err (Write new)) = ⊥
+Works hub workers (Err (Foreign new seen)) = ⊥
+
+-- Why a run with a watcher breaks off: memory ran out, or a write failed, and the hub has gone on so far;
+-- or no thread could be started, and the schedule is as it was; or the hub has gone on to its end, but the reports that were seen are not
+-- the hub's.
+abbrev pub WatchBreaks : Kept → WorkFault → Type 0
+WatchBreaks hub (Count new) = ⊥
+WatchBreaks hub (Memory new) = GoesOnFrom hub new
+WatchBreaks hub (Start new) = GoesOnFrom hub new × (new.course.items ≡ hub.course.items)
+WatchBreaks hub (Write new) = GoesOnFrom hub new
+WatchBreaks hub (Foreign new seen) = IsWorked hub new × (seen.items ≢ new.reports)
+
+-- Why `run_watched` answers none: it was asked for another number of workers, and the hub comes back; or the run broke off.
+abbrev pub WatchFails : Kept → ℕ → WorkFault → Type 0
+WatchFails hub workers (Count new) = (IsCount workers → ⊥) × (new ≡ hub)
+WatchFails hub workers fault = IsCount workers × WatchBreaks hub fault
+
+-- what is found under the lock, if it is a job, is one of a thread of this program that can go on
+abbrev pub IsJob : List (PlainItem ℕ) → Found → Type 0
+IsJob program (found.Job p m) = (p ≡ program) × GoesOn p m
+IsJob program _ = Unit {0}
+
+-- the hub was compared with the reports that were seen, which are not its own; the fault hands over both
+abbrev pub IsForeign : Kept → List PlainReport → WorkFault → Type 0
+IsForeign hub reports (Foreign new seen) = (new ≡ hub) × (seen.items ≡ reports) × (reports ≢ hub.reports)
+IsForeign hub reports _ = ⊥
+
+-- What the workers left, with the reports that were seen, is not answered by a hub that has run to its end: memory ran out, or the reports
+-- are not the hub's.
+abbrev pub IsLeft : Kept → List PlainReport → WorkFault → Type 0
+IsLeft hub reports (Memory new) = GoesOnFrom hub new
+IsLeft hub reports (Foreign new seen) = IsWorked hub new × (seen.items ≡ reports) × (reports ≢ new.reports)
+IsLeft hub reports _ = ⊥

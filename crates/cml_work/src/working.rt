@@ -1,0 +1,91 @@
+//! One worker.
+
+ghost use Rattle.std.specs.Prelude.{◌≡◌, IfOk};
+ghost use Rattle.cml_step.specs.Answers.{awaited, nothing};
+ghost use Rattle.cml_step.specs.Machines.{machine_term, Fits};
+
+use crate::desk::{Desk, Gate};
+use cml_check::Prog;
+use cml_hub::GiveFault;
+use cml_step::{Machine, Ran, slice};
+use std::alloc::{AllocError, Global};
+use std::sync::Wait;
+
+// Runs a slice.
+#[tactic(none)]
+fn run(alloc: Global, program: &Prog, machine: Machine) -> Result<Ran, AllocError>
+    requires fits { Fits program.now machine }
+    requires awaits { awaited (machine_term program.now machine) ≡ nothing }
+    ensures program { IfOk result (λ ran. ran.program ≡ program.now) }
+    ensures start { IfOk result (λ ran. ran.start ≡ machine) }
+{
+    match slice(alloc, program, machine) {
+        Ok(ran) => Ok(ran),
+        Err(fault) => {
+            drop(fault);
+            Err(AllocError)
+        }
+    }
+}
+
+// A slice that is a stranger by now is dropped.
+fn settled(given: Result<(), GiveFault>) -> Result<(), AllocError> {
+    let is_refused = matches!(&given, Err(GiveFault::Memory(_)));
+    drop(given);
+    if is_refused { Err(AllocError) } else { Ok(()) }
+}
+
+// Runs one slice and gives it back.
+#[tactic(none)]
+fn work_once<R: Wait, D: Desk>(
+    rt: &R,
+    alloc: Global,
+    desk: &D,
+    program: Prog,
+    machine: Machine,
+) -> Result<(), AllocError>
+    requires fits { Fits program machine }
+    requires awaits { awaited (machine_term program machine) ≡ nothing }
+    requires hands { D.hands desk.now program machine }
+{
+    let answer = run(alloc, &program, machine);
+    drop(program);
+    let ran = answer?;
+    settled(desk.give(rt, alloc, ran))
+}
+
+// Runs slices, one after another, until none is left.
+#[tactic(none)]
+fn work_on<R: Wait, D: Desk, G: Gate>(
+    rt: &R,
+    alloc: Global,
+    desk: &D,
+    gate: &G,
+) -> Result<(), AllocError> {
+    for _ in rt.forever() {
+        let Some((program, machine)) = desk.next(rt, alloc)? else {
+            break;
+        };
+        gate.enter(machine.thread());
+        work_once(rt, alloc, desk, program, machine)?;
+    }
+    Ok(())
+}
+
+/// Runs slices, one after another, until none is left. It gives back only slices of what it was handed. A slice that is a stranger when it
+/// comes back is dropped.
+///
+/// # Errors
+/// Out of memory. The desk is stopped then.
+pub fn worker<R: Wait, D: Desk, G: Gate>(
+    rt: &R,
+    alloc: Global,
+    desk: &D,
+    gate: &G,
+) -> Result<(), AllocError> {
+    let answer = work_on(rt, alloc, desk, gate);
+    if answer.is_err() {
+        desk.stop(rt);
+    }
+    answer
+}
