@@ -20,7 +20,7 @@ use Rattle.cml_step.specs.Answers as await
 use Rattle.cml_step.specs.Answers.{PlainAwait, awaited, awaited_by, answer_for, answered, with_nack_number}
 use Rattle.cml_step.specs.Asks.{PlainAnswer, a_value, a_nack, a_commit}
 use Rattle.cml_step.specs.Calls.{entry_of, entry_in, entry_for, placed_in, text_of, slots_with, WaitFits}
-use Rattle.cml_step.specs.Machines.{names_of}
+use Rattle.cml_step.specs.Machines.{PlainHeld, plain_held, names_of}
 use Rattle.cml_step.specs.Stacks.{CallFits, entry_view, term_of, StackFits}
 use Rattle.cml_step.specs.Terms.{Program, runs, drops, gives, call, force, wraps, Term, call_of}
 use Rattle.cml_step.proofs.AwaitLemmas.{begun_runs}
@@ -68,14 +68,14 @@ nack_top : (g : PlainEvent) (asked : Bool) (below : Term) → awaited (force g a
 nack_top g true below h = by_nack (unforced g) h
 nack_top g false below h = absurd (cc)
 
-pub value_last : (p : List (PlainItem ℕ)) (es : List Entry) (e : Entry) → awaited (term_of p (es ++ e ∷ [])) ≡ await.value → IsCall e
-value_last p es e h = value_top p e (term_of p es) (ap awaited (sym (term_pushed p es e)) ∙ h)
+pub value_last : (p : List (PlainItem ℕ)) (es : List PlainHeld) (e : Entry) → awaited (term_of p (es ++ plain_held e ∷ [])) ≡ await.value → IsCall e
+value_last p es e h = value_top p e (term_of p es) (ap awaited (sym (term_pushed p es (plain_held e))) ∙ h)
 
-pub commit_last : (p : List (PlainItem ℕ)) (es : List Entry) (e : Entry) → awaited (term_of p (es ++ e ∷ [])) ≡ await.commit → IsForce e
-commit_last p es e h = commit_top p e (term_of p es) (ap awaited (sym (term_pushed p es e)) ∙ h)
+pub commit_last : (p : List (PlainItem ℕ)) (es : List PlainHeld) (e : Entry) → awaited (term_of p (es ++ plain_held e ∷ [])) ≡ await.commit → IsForce e
+commit_last p es e h = commit_top p e (term_of p es) (ap awaited (sym (term_pushed p es (plain_held e))) ∙ h)
 
-pub nack_last : (p : List (PlainItem ℕ)) (es : List Entry) (g : PlainEvent) (asked : Bool) → awaited (term_of p (es ++ entry.Force g asked ∷ [])) ≡ await.nack → AwaitsNack g
-nack_last p es g asked h = nack_top g asked (term_of p es) (ap awaited (sym (term_pushed p es (entry.Force g asked))) ∙ h)
+pub nack_last : (p : List (PlainItem ℕ)) (es : List PlainHeld) (g : PlainEvent) (asked : Bool) → awaited (term_of p (es ++ plain_held (entry.Force g asked) ∷ [])) ≡ await.nack → AwaitsNack g
+nack_last p es g asked h = nack_top g asked (term_of p es) (ap awaited (sym (term_pushed p es (plain_held (entry.Force g asked)))) ∙ h)
 
 -- a function of a program in order
 got : (p : List (PlainItem ℕ)) (g : ℕ) (d : PlainItem ℕ) → g < length p → slice_get p g ≡ Some (slice_index_or p g d)
@@ -95,40 +95,40 @@ filled_call p f c d v below o i h e w s =
     let q : entry_of p d ≡ entry_for f d = ap (λ n. entry_in (slice_get p n) d) e.0 ∙ ap (λ x. entry_in x d) o in
     ap (λ x. x ∷ below) (q ∙ filled_for f c d v i room e w s) ∙ ap (λ x. answered (text_of p) (a_value v) (entry_in x c ∷ below)) (sym o)
 
-pub value_given : (p : List (PlainItem ℕ)) (es : List Entry) (c d : Call) (v : PlainValue) → InOrder p → StackFits p (es ++ entry.Call c ∷ []) →
+pub value_given : (p : List (PlainItem ℕ)) (es : List PlainHeld) (c d : Call) (v : PlainValue) → InOrder p → StackFits p (es ++ plain_held (entry.Call c) ∷ []) →
     (d.func ≡ c.func) × (d.at ≡ c.at) × (d.path ≡ c.path) → d.wait ≡ wait.Runs → d.slots.items ≡ slots_with c.wait v c.slots.items →
-    term_of p (es ++ entry.Call d ∷ []) ≡ answered (text_of p) (a_value v) (term_of p (es ++ entry.Call c ∷ []))
+    term_of p (es ++ plain_held (entry.Call d) ∷ []) ≡ answered (text_of p) (a_value v) (term_of p (es ++ plain_held (entry.Call c) ∷ []))
 value_given p es c d v r h e w s =
-    let fits : CallFits p c = (fits_popped p es (entry.Call c) h).1 in
-    term_pushed p es (entry.Call d)
+    let fits : CallFits p c = (fits_popped p es (plain_held (entry.Call c)) h).1 in
+    term_pushed p es (plain_held (entry.Call d))
     ∙ filled_call p (slice_index_or p c.func nowhere) c d v (term_of p es) (got p c.func nowhere fits.there) (r c.func nowhere fits.there).distinct fits e w s
-    ∙ ap (answered (text_of p) (a_value v)) (sym (term_pushed p es (entry.Call c)))
+    ∙ ap (answered (text_of p) (a_value v)) (sym (term_pushed p es (plain_held (entry.Call c))))
 
-pub value_given_fits : (p : List (PlainItem ℕ)) (es : List Entry) (c d : Call) (v : PlainValue) → StackFits p (es ++ entry.Call c ∷ []) → value_agrees (arities p) v ≡ true →
-    d.func ≡ c.func → d.wait ≡ wait.Runs → d.slots.items ≡ slots_with c.wait v c.slots.items → StackFits p (es ++ entry.Call d ∷ [])
+pub value_given_fits : (p : List (PlainItem ℕ)) (es : List PlainHeld) (c d : Call) (v : PlainValue) → StackFits p (es ++ plain_held (entry.Call c) ∷ []) → value_agrees (arities p) v ≡ true →
+    d.func ≡ c.func → d.wait ≡ wait.Runs → d.slots.items ≡ slots_with c.wait v c.slots.items → StackFits p (es ++ plain_held (entry.Call d) ∷ [])
 value_given_fits p es c d v h g e w s =
-    let r = fits_popped p es (entry.Call c) h in fits_pushed p es (entry.Call d) r.0 (filled_fits p c d v r.1 g e w s)
+    let r = fits_popped p es (plain_held (entry.Call c)) h in fits_pushed p es (plain_held (entry.Call d)) r.0 (filled_fits p c d v r.1 g e w s)
 
 -- wraps in the place of an event
 functions_turned : (ns : List ℕ) (fs gs : List PlainFunction) → functions_agree ns fs ≡ true → functions_agree ns gs ≡ true → functions_agree ns (reverse_aux fs gs) ≡ true
 functions_turned ns [] gs h g = g
 functions_turned ns (f ∷ fs) gs h g = functions_turned ns fs (f ∷ gs) (and_parts (function_agrees ns 1 f) _ h).1 (and_from (function_agrees ns 1 f) _ (and_parts _ _ h).0 g)
 
-pub commit_given : (p : List (PlainItem ℕ)) (es : List Entry) (g : PlainEvent) (asked : Bool) (w : Wraps) (fs : List PlainFunction) (v : PlainValue) → w.left.items ≡ reverse fs → w.value ≡ v →
-    term_of p (es ++ entry.Wraps w ∷ []) ≡ answered (text_of p) (a_commit v fs) (force g asked ∷ term_of p es)
+pub commit_given : (p : List (PlainItem ℕ)) (es : List PlainHeld) (g : PlainEvent) (asked : Bool) (w : Wraps) (fs : List PlainFunction) (v : PlainValue) → w.left.items ≡ reverse fs → w.value ≡ v →
+    term_of p (es ++ plain_held (entry.Wraps w) ∷ []) ≡ answered (text_of p) (a_commit v fs) (force g asked ∷ term_of p es)
 commit_given p es g asked w fs v h e =
-    term_pushed p es (entry.Wraps w) ∙ ap (λ gs. wraps (reverse gs) w.value ∷ term_of p es) h ∙ ap (λ gs. wraps gs w.value ∷ term_of p es) (reverse-reverse fs)
+    term_pushed p es (plain_held (entry.Wraps w)) ∙ ap (λ gs. wraps (reverse gs) w.value ∷ term_of p es) h ∙ ap (λ gs. wraps gs w.value ∷ term_of p es) (reverse-reverse fs)
     ∙ ap (λ x. wraps fs x ∷ term_of p es) e
 
-pub commit_given_fits : (p : List (PlainItem ℕ)) (es : List Entry) (e : Entry) (w : Wraps) (fs : List PlainFunction) (v : PlainValue) → StackFits p (es ++ e ∷ []) →
-    (value_agrees (arities p) v && functions_agree (arities p) fs) ≡ true → w.left.items ≡ reverse fs → w.value ≡ v → StackFits p (es ++ entry.Wraps w ∷ [])
-commit_given_fits p es e w fs v h g i j = fits_pushed p es (entry.Wraps w) (fits_popped p es e h).0 (record {
+pub commit_given_fits : (p : List (PlainItem ℕ)) (es : List PlainHeld) (e : Entry) (w : Wraps) (fs : List PlainFunction) (v : PlainValue) → StackFits p (es ++ plain_held e ∷ []) →
+    (value_agrees (arities p) v && functions_agree (arities p) fs) ≡ true → w.left.items ≡ reverse fs → w.value ≡ v → StackFits p (es ++ plain_held (entry.Wraps w) ∷ [])
+commit_given_fits p es e w fs v h g i j = fits_pushed p es (plain_held (entry.Wraps w)) (fits_popped p es (plain_held e) h).0 (record {
   functions = ap (functions_agree (arities p)) i ∙ functions_turned (arities p) fs [] (and_parts (value_agrees (arities p) v) _ g).1 refl;
   value = ap (value_agrees (arities p)) j ∙ (and_parts _ _ g).0;
 })
 
 -- a nack, and the call of the withNack's function
-pub nack_given : (p : List (PlainItem ℕ)) (es : List Entry) (g new : PlainEvent) (asked : Bool) (k : ℕ) (f : PlainFunction) (c : Call) → unforced g ≡ Some (needs_nack f) →
+pub nack_given : (p : List (PlainItem ℕ)) (es : List PlainHeld) (g new : PlainEvent) (asked : Bool) (k : ℕ) (f : PlainFunction) (c : Call) → unforced g ≡ Some (needs_nack f) →
     new ≡ replaced (scope k (guard (given_nack k f))) g → entry_of p c ≡ call_of (text_of p) (given_nack k f) →
     entry_of p c ∷ force new false ∷ term_of p es ≡ answered (text_of p) (a_nack k) (force g asked ∷ term_of p es)
 nack_given p es g new asked k f c u n e =
@@ -142,21 +142,21 @@ pub nack_given_agrees : (ns : List ℕ) (g new : PlainEvent) (f : PlainFunction)
     new ≡ replaced (scope k (guard (given_nack k f))) g → event_agrees ns new ≡ true
 nack_given_agrees ns g new f k h u n = ap (event_agrees ns) n ∙ replaced_agrees ns (scope k (guard (given_nack k f))) g (nack_agrees ns g f k h u) h
 
-pub nack_term : (p : List (PlainItem ℕ)) (es : List Entry) (g new : PlainEvent) (asked : Bool) (k : ℕ) (f : PlainFunction) (c : Call) → unforced g ≡ Some (needs_nack f) →
+pub nack_term : (p : List (PlainItem ℕ)) (es : List PlainHeld) (g new : PlainEvent) (asked : Bool) (k : ℕ) (f : PlainFunction) (c : Call) → unforced g ≡ Some (needs_nack f) →
     new ≡ replaced (scope k (guard (given_nack k f))) g → entry_of p c ≡ call_of (text_of p) (given_nack k f) →
-    term_of p ((es ++ entry.Force new false ∷ []) ++ entry.Call c ∷ []) ≡ answered (text_of p) (a_nack k) (term_of p (es ++ entry.Force g asked ∷ []))
+    term_of p ((es ++ plain_held (entry.Force new false) ∷ []) ++ plain_held (entry.Call c) ∷ []) ≡ answered (text_of p) (a_nack k) (term_of p (es ++ plain_held (entry.Force g asked) ∷ []))
 nack_term p es g new asked k f c u n e =
-    term_pushed p (es ++ entry.Force new false ∷ []) (entry.Call c) ∙ ap (λ t. entry_of p c ∷ t) (term_pushed p es (entry.Force new false))
-    ∙ nack_given p es g new asked k f c u n e ∙ ap (answered (text_of p) (a_nack k)) (sym (term_pushed p es (entry.Force g asked)))
+    term_pushed p (es ++ plain_held (entry.Force new false) ∷ []) (plain_held (entry.Call c)) ∙ ap (λ t. entry_of p c ∷ t) (term_pushed p es (plain_held (entry.Force new false)))
+    ∙ nack_given p es g new asked k f c u n e ∙ ap (answered (text_of p) (a_nack k)) (sym (term_pushed p es (plain_held (entry.Force g asked))))
 
-pub nack_fits : (p : List (PlainItem ℕ)) (es : List Entry) (g new : PlainEvent) (asked : Bool) (k : ℕ) (f : PlainFunction) (c : Call) → unforced g ≡ Some (needs_nack f) →
+pub nack_fits : (p : List (PlainItem ℕ)) (es : List PlainHeld) (g new : PlainEvent) (asked : Bool) (k : ℕ) (f : PlainFunction) (c : Call) → unforced g ≡ Some (needs_nack f) →
     new ≡ replaced (scope k (guard (given_nack k f))) g → unforced new ≡ Some (calls (given_nack k f)) →
-    (function_agrees (arities p) 0 (given_nack k f) ≡ true → CallFits p c) → StackFits p (es ++ entry.Force g asked ∷ []) →
-    StackFits p ((es ++ entry.Force new false ∷ []) ++ entry.Call c ∷ [])
+    (function_agrees (arities p) 0 (given_nack k f) ≡ true → CallFits p c) → StackFits p (es ++ plain_held (entry.Force g asked) ∷ []) →
+    StackFits p ((es ++ plain_held (entry.Force new false) ∷ []) ++ plain_held (entry.Call c) ∷ [])
 nack_fits p es g new asked k f c u n a i h =
-    let r = fits_popped p es (entry.Force g asked) h in
-    fits_pushed p (es ++ entry.Force new false ∷ []) (entry.Call c)
-    (beneath_pushed p es (entry.Force new false) r.0 (nack_given_agrees (arities p) g new f k r.1 u n, (given_nack k f, a)))
+    let r = fits_popped p es (plain_held (entry.Force g asked)) h in
+    fits_pushed p (es ++ plain_held (entry.Force new false) ∷ []) (plain_held (entry.Call c))
+    (beneath_pushed p es (plain_held (entry.Force new false)) r.0 (nack_given_agrees (arities p) g new f k r.1 u n, (given_nack k f, a)))
     (i (nack_agrees (arities p) g f k r.1 u))
 
 -- an answered thread waits for nothing

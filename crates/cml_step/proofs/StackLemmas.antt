@@ -28,38 +28,38 @@ use Rattle.cml_step.specs.declared.entry.Entry.{Entry}
 use Rattle.cml_step.specs.declared.entry.Entry.TheVariants as entry
 use Rattle.cml_step.specs.Terms.{Program, call, wraps, Term, list_of, started, call_of}
 use Rattle.cml_step.specs.Agrees.{functions_agree}
-use Rattle.cml_step.specs.Machines.{names_of}
-use Rattle.cml_step.specs.Stacks.{CallFits, entry_view, term_on, term_of, EntryFits, BeneathFits, EachBeneath, StackFits}
+use Rattle.cml_step.specs.Machines.{PlainHeld, plain_held, held_entry, held_on, HeldFits, HeldFitsBeneath, names_of}
+use Rattle.cml_step.specs.Stacks.{CallFits, entry_view, term_of, EntryFits, BeneathFits, EachBeneath, StackFits}
 
-term_on_pushed : (p : List (PlainItem ℕ)) (es : List Entry) (e : Entry) (below : Term) → term_on p (es ++ e ∷ []) below ≡ entry_view p e ∷ term_on p es below
+term_on_pushed : (p : List (PlainItem ℕ)) (es : List PlainHeld) (e : PlainHeld) (below : Term) → held_on p (es ++ e ∷ []) below ≡ held_entry p e ∷ held_on p es below
 term_on_pushed p [] e below = refl
-term_on_pushed p (x ∷ es) e below = term_on_pushed p es e (entry_view p x ∷ below)
+term_on_pushed p (x ∷ es) e below = term_on_pushed p es e (held_entry p x ∷ below)
 
-pub term_pushed : (p : List (PlainItem ℕ)) (es : List Entry) (e : Entry) → term_of p (es ++ e ∷ []) ≡ entry_view p e ∷ term_of p es
+pub term_pushed : (p : List (PlainItem ℕ)) (es : List PlainHeld) (e : PlainHeld) → term_of p (es ++ e ∷ []) ≡ held_entry p e ∷ term_of p es
 term_pushed p es e = term_on_pushed p es e []
 
-term_on_length : (p : List (PlainItem ℕ)) (es : List Entry) (below : Term) → length (term_on p es below) ≡ length es + length below
+term_on_length : (p : List (PlainItem ℕ)) (es : List PlainHeld) (below : Term) → length (held_on p es below) ≡ length es + length below
 term_on_length p [] below = omega arith
-term_on_length p (e ∷ es) below = omega (arith, term_on_length p es (entry_view p e ∷ below))
+term_on_length p (e ∷ es) below = omega (arith, term_on_length p es (held_entry p e ∷ below))
 
-pub term_length : (p : List (PlainItem ℕ)) (es : List Entry) → length (term_of p es) ≡ length es
+pub term_length : (p : List (PlainItem ℕ)) (es : List PlainHeld) → length (term_of p es) ≡ length es
 term_length p es = omega (arith, term_on_length p es [])
 
-pub fits_pushed : (p : List (PlainItem ℕ)) (es : List Entry) (e : Entry) → EachBeneath p es → EntryFits p e → StackFits p (es ++ e ∷ [])
+pub fits_pushed : (p : List (PlainItem ℕ)) (es : List PlainHeld) (e : PlainHeld) → EachBeneath p es → HeldFits p e → StackFits p (es ++ e ∷ [])
 fits_pushed p [] e h f = f
 fits_pushed p (x ∷ []) e h f = (h.0, f)
 fits_pushed p (x ∷ y ∷ es) e h f = (h.0, fits_pushed p (y ∷ es) e h.1 f)
 
-pub fits_popped : (p : List (PlainItem ℕ)) (es : List Entry) (e : Entry) → StackFits p (es ++ e ∷ []) → EachBeneath p es × EntryFits p e
+pub fits_popped : (p : List (PlainItem ℕ)) (es : List PlainHeld) (e : PlainHeld) → StackFits p (es ++ e ∷ []) → EachBeneath p es × HeldFits p e
 fits_popped p [] e h = (tt, h)
 fits_popped p (x ∷ []) e h = ((h.0, tt), h.1)
 fits_popped p (x ∷ y ∷ es) e h = let r = fits_popped p (y ∷ es) e h.1 in ((h.0, r.0), r.1)
 
-pub beneath_pushed : (p : List (PlainItem ℕ)) (es : List Entry) (e : Entry) → EachBeneath p es → BeneathFits p e → EachBeneath p (es ++ e ∷ [])
+pub beneath_pushed : (p : List (PlainItem ℕ)) (es : List PlainHeld) (e : PlainHeld) → EachBeneath p es → HeldFitsBeneath p e → EachBeneath p (es ++ e ∷ [])
 beneath_pushed p [] e h f = (f, tt)
 beneath_pushed p (x ∷ es) e h f = (h.0, beneath_pushed p es e h.1 f)
 
-pub beneath_popped : (p : List (PlainItem ℕ)) (es : List Entry) (e : Entry) → EachBeneath p (es ++ e ∷ []) → EachBeneath p es × BeneathFits p e
+pub beneath_popped : (p : List (PlainItem ℕ)) (es : List PlainHeld) (e : PlainHeld) → EachBeneath p (es ++ e ∷ []) → EachBeneath p es × HeldFitsBeneath p e
 beneath_popped p [] e h = (tt, h.0)
 beneath_popped p (x ∷ es) e h = let r = beneath_popped p es e h.1 in ((h.0, r.0), r.1)
 
@@ -136,19 +136,19 @@ filled_for f c d v i h e w s =
     ∙ ap (λ x. call (stmts_map (name_at f.names) (left_at f.body c.path.items c.at)) x runs) (ap (bound f.names) s ∙ sym (filled_is f.names c.slots.items c.wait v i h))
 
 -- what delivering to it comes to
-pub delivered_call : (p : List (PlainItem ℕ)) (f : PlainItem ℕ) (c d : Call) (v : PlainValue) (es : List Entry) → CallFits p c → f ≡ get_or p c.func f → AreDistinct f.names →
+pub delivered_call : (p : List (PlainItem ℕ)) (f : PlainItem ℕ) (c d : Call) (v : PlainValue) (es : List PlainHeld) → CallFits p c → f ≡ get_or p c.func f → AreDistinct f.names →
     (d.func ≡ c.func) × (d.at ≡ c.at) × (d.path ≡ c.path) → d.wait ≡ wait.Runs → d.slots.items ≡ slots_with c.wait v c.slots.items →
-    delivered v (entry_of p c ∷ term_of p es) ≡ goes_on (term_of p (es ++ entry.Call d ∷ []))
+    delivered v (entry_of p c ∷ term_of p es) ≡ goes_on (term_of p (es ++ plain_held (entry.Call d) ∷ []))
 delivered_call p f c d v es h g i e w s =
     let o : slice_get p c.func ≡ Some f = fun_at p c.func f h.there g in
     let room : WaitFits c.wait (length f.names) (length c.slots.items) = subst (λ x. WaitFits c.wait (names_of x) (length c.slots.items)) o h.waits in
     let q : entry_of p d ≡ entry_for f d = ap (λ n. entry_in (slice_get p n) d) e.0 ∙ ap (λ x. entry_in x d) o in
     ap (λ x. delivered v (entry_in x c ∷ term_of p es)) o
     ∙ ap (λ x. goes_on (x ∷ term_of p es)) (sym (q ∙ filled_for f c d v i room e w s))
-    ∙ ap goes_on (sym (term_pushed p es (entry.Call d)))
+    ∙ ap goes_on (sym (term_pushed p es (plain_held (entry.Call d))))
 
 -- an entry put on top, with what it waits for
-pub pushed_is : (p : List (PlainItem ℕ)) (es fs : List Entry) (e : Entry) → fs ≡ es ++ e ∷ [] → term_of p fs ≡ entry_view p e ∷ term_of p es
+pub pushed_is : (p : List (PlainItem ℕ)) (es fs : List PlainHeld) (e : PlainHeld) → fs ≡ es ++ e ∷ [] → term_of p fs ≡ held_entry p e ∷ term_of p es
 pushed_is p es fs e h = ap (term_of p) h ∙ term_pushed p es e
 
 -- the entry of a call of this function

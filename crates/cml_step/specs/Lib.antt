@@ -17,6 +17,7 @@ pub mod Calls
 pub mod Machines
 pub mod Stacks
 pub mod MachineCodes
+pub mod Shared
 pub mod AskCodes
 pub mod Rans
 pub mod AnswerViews

@@ -1,5 +1,6 @@
 -- Room for the answer of a fresh nack.
-use Rattle.std.specs.Prelude.{◌≡◌, ℕ, ◌<◌, false, List, [], ◌∷◌, length, vec_capacity}
+use Rattle.std.specs.Prelude.{◌≡◌, ℕ, false, List, [], ◌∷◌, ◌++◌}
+use Rattle.cml_value.specs.Value.{PlainEvent}
 use Rattle.cml_check.specs.Syntax.{PlainFunction as PlainItem}
 use Rattle.cml_step.specs.declared.entry.Entry.TheVariants as entry
 use Rattle.cml_step.specs.declared.nack.NackRoom.{NackRoom}
@@ -14,14 +15,13 @@ topped_by a b [] = []
 topped_by a b (h ∷ []) = a ∷ b ∷ []
 topped_by a b (h ∷ g ∷ hs) = h ∷ topped_by a b (g ∷ hs)
 
--- the machine in which the event that waited for the nack gives way to the one under the nack's scope, and the call stands above it
+-- the machine with the entries that were made for it, the call above them
 abbrev pub nack_given : NackRoom → PlainMachine → PlainMachine
-nack_given r m = record { thread = m.thread; stack = topped_by (force r.event false) (plain_held (entry.Call r.call)) m.stack }
+nack_given r m = record { thread = m.thread; stack = r.below ++ plain_held (entry.Call r.call) ∷ [] }
 
--- There is room for this machine's answer of the nack: for its entries and one more, and with the event and the call the machine becomes
--- what the answer makes of it.
+-- There is room for this machine's answer of the nack: its top entry gives way to an event and the call, and so the machine becomes what the
+-- answer makes of it.
 pub record IsNackRoom (m : PlainMachine) (r : NackRoom) : Type 0 where
-  pub empty : r.stack.items ≡ []
-  pub room : length m.stack < vec_capacity r.stack
+  pub made : (e : PlainEvent) × ((nack_given r m).stack ≡ topped_by (force e false) (plain_held (entry.Call r.call)) m.stack)
   pub meant : (p : List (PlainItem ℕ)) → Fits p m → machine_term p (nack_given r m) ≡ answered (text_of p) (a_nack r.nack.0) (machine_term p m)
   pub fits : (p : List (PlainItem ℕ)) → Fits p m → Fits p (nack_given r m)

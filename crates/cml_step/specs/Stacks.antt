@@ -1,5 +1,5 @@
 -- The stack of the machine, and the term that it stands for under a program.
-use Rattle.std.specs.Prelude.{◌≡◌, ℕ, true, List, [], ◌∷◌, map, Result, Ok, Err}
+use Rattle.std.specs.Prelude.{◌≡◌, ℕ, true, List, [], ◌∷◌, Result, Ok, Err}
 use Rattle.cml_check.specs.Syntax.{PlainFunction as PlainItem}
 use Rattle.cml_check.specs.InOrder.{arities}
 use Rattle.cml_step.specs.declared.ask.Ask.{Ask}
@@ -12,17 +12,14 @@ use Rattle.cml_step.specs.Terms.{PlainEntry, Term}
 use Rattle.cml_step.specs.AskViews.{plain_ask}
 use Rattle.cml_step.specs.Agrees.{ask_agrees}
 use Rattle.cml_step.specs.Steps.{PlainStep, asks, fails}
-use Rattle.cml_step.specs.Machines.{plain_held, held_entry, held_on, IsCallOf, AreWrapsOf, HeldFits, HeldFitsBeneath, AllHeldFit}
+use Rattle.cml_step.specs.Machines.{PlainHeld, plain_held, held_entry, held_on, IsCallOf, AreWrapsOf, HeldFits, HeldFitsBeneath, AllHeldFit}
 
 abbrev pub entry_view : List (PlainItem ℕ) → Entry → PlainEntry
 entry_view p e = held_entry p (plain_held e)
 
--- the entries, the top one last, above those of `below`
-abbrev pub term_on : List (PlainItem ℕ) → List Entry → Term → Term
-term_on p es below = held_on p (map plain_held es) below
-
-abbrev pub term_of : List (PlainItem ℕ) → List Entry → Term
-term_of p es = term_on p es []
+-- the term of these entries, the top one last
+abbrev pub term_of : List (PlainItem ℕ) → List PlainHeld → Term
+term_of p hs = held_on p hs []
 
 abbrev pub CallFits : List (PlainItem ℕ) → Call → Type 0
 CallFits p c = IsCallOf p c.func c.slots.items c.wait
@@ -37,19 +34,19 @@ EntryFits p e = HeldFits p (plain_held e)
 abbrev pub BeneathFits : List (PlainItem ℕ) → Entry → Type 0
 BeneathFits p e = HeldFitsBeneath p (plain_held e)
 
-abbrev pub EachBeneath : List (PlainItem ℕ) → List Entry → Type 0
+abbrev pub EachBeneath : List (PlainItem ℕ) → List PlainHeld → Type 0
 EachBeneath p [] = Unit {0}
-EachBeneath p (e ∷ es) = BeneathFits p e × EachBeneath p es
+EachBeneath p (h ∷ hs) = HeldFitsBeneath p h × EachBeneath p hs
 
-abbrev pub StackFits : List (PlainItem ℕ) → List Entry → Type 0
-StackFits p es = AllHeldFit p (map plain_held es)
+abbrev pub StackFits : List (PlainItem ℕ) → List PlainHeld → Type 0
+StackFits p hs = AllHeldFit p hs
 
 -- what a step of the machine came to
-abbrev pub IsStep : List (PlainItem ℕ) → Result Ask Stop → PlainStep → List Entry → Type 0
+abbrev pub IsStep : List (PlainItem ℕ) → Result Ask Stop → PlainStep → List PlainHeld → Type 0
 IsStep p (Ok a) step es = step ≡ asks (plain_ask a) (term_of p es)
 IsStep p (Err (stop.Fault why)) step es = step ≡ fails why
 IsStep p (Err stop.Memory) step es = Unit {0}
 
-abbrev pub StepFits : List (PlainItem ℕ) → Result Ask Stop → List Entry → Type 0
+abbrev pub StepFits : List (PlainItem ℕ) → Result Ask Stop → List PlainHeld → Type 0
 StepFits p (Ok a) es = StackFits p es × (ask_agrees (arities p) (plain_ask a) ≡ true)
 StepFits p (Err e) es = Unit {0}

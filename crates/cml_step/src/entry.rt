@@ -1,6 +1,6 @@
 //! The entries of a thread's stack.
 
-ghost use Rattle.std.specs.Prelude.{◌≡◌, ◌↔◌, IsTrue, IfOk, List, ℕ, true, map, length};
+ghost use Rattle.std.specs.Prelude.{◌≡◌, ◌↔◌, IsTrue, IfOk, List, ℕ, true};
 ghost use Rattle.cml_check.specs.Syntax.{PlainFunction as PlainItem};
 ghost use Rattle.cml_check.specs.InOrder.{arities};
 ghost use Rattle.cml_step.specs.Agrees.{function_agrees};
@@ -157,8 +157,8 @@ fn same_functions(functions: &[FnRef], others: &[FnRef]) -> bool
     true
 }
 
-// Whether the two may be the same: no value is looked at.
-fn may_be_same(entry: &Entry, other: &Entry) -> bool
+/// Whether the two may be the same: no value is looked at.
+pub(crate) fn may_be_same(entry: &Entry, other: &Entry) -> bool
     ensures { plain_held entry.now ≡ plain_held other.now → IsTrue result }
 {
     match (entry, other) {
@@ -169,8 +169,8 @@ fn may_be_same(entry: &Entry, other: &Entry) -> bool
     }
 }
 
-// Whether the two are the same entry.
-fn same_entry(entry: &Entry, other: &Entry) -> bool
+/// Whether the two are the same entry.
+pub(crate) fn same_entry(entry: &Entry, other: &Entry) -> bool
     ensures { IsTrue result ↔ (plain_held entry.now ≡ plain_held other.now) }
 {
     match (entry, other) {
@@ -185,37 +185,4 @@ fn same_entry(entry: &Entry, other: &Entry) -> bool
         }
         _ => false,
     }
-}
-
-// Whether two stacks of one height may be the same: no value is looked at.
-fn may_all_be_same(entries: &[Entry], others: &[Entry]) -> bool
-    requires { length entries.now ≡ length others.now }
-    ensures { map plain_held entries.now ≡ map plain_held others.now → IsTrue result }
-{
-    for i in 0..entries.len() {
-        if !may_be_same(&entries[i], &others[i]) {
-            return false;
-        }
-    }
-    true
-}
-
-// Whether two stacks of one height are the same, entry by entry.
-fn all_same(entries: &[Entry], others: &[Entry]) -> bool
-    requires { length entries.now ≡ length others.now }
-    ensures { IsTrue result ↔ (map plain_held entries.now ≡ map plain_held others.now) }
-{
-    for i in 0..entries.len() {
-        if !same_entry(&entries[i], &others[i]) {
-            return false;
-        }
-    }
-    true
-}
-
-/// Whether the two are the same stack: functions and places are looked at before values.
-pub(crate) fn same_stack(entries: &[Entry], others: &[Entry]) -> bool
-    ensures { IsTrue result ↔ (map plain_held entries.now ≡ map plain_held others.now) }
-{
-    entries.len() == others.len() && may_all_be_same(entries, others) && all_same(entries, others)
 }

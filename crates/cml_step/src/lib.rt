@@ -4,6 +4,7 @@
 mod answer;
 mod ask;
 mod call;
+mod entries;
 mod entry;
 mod evaluate;
 mod fault;

@@ -1,6 +1,6 @@
 //! A thread of a script.
 
-ghost use Rattle.std.specs.Prelude.{◌≡◌, ℕ, List, [], ◌∷◌, true, Some, IfOk, IfErr, OnOk, OnErr, ◌↔◌, IsTrue, map};
+ghost use Rattle.std.specs.Prelude.{◌≡◌, ℕ, List, [], ◌∷◌, true, Some, None, IfOk, IfErr, OnErr, ◌↔◌, IsTrue};
 ghost use Rattle.cml_check.specs.Syntax.{PlainFunction as PlainItem};
 ghost use Rattle.cml_check.specs.InOrder.{InOrder, arities};
 ghost use Rattle.cml_step.specs.Agrees.{ask_agrees, answer_agrees, function_agrees, value_agrees};
@@ -10,8 +10,9 @@ ghost use Rattle.cml_step.specs.AnswerViews.{plain_answer, Awaits, IsNack};
 ghost use Rattle.cml_step.specs.AskViews.{plain_ask};
 ghost use Rattle.cml_step.specs.Asks.{a_value, a_nack, a_commit};
 ghost use Rattle.cml_step.specs.Calls.{text_of};
-ghost use Rattle.cml_step.specs.Machines.{plain_held, machine_term, Fits};
+ghost use Rattle.cml_step.specs.Machines.{PlainHeld, machine_term, Fits};
 ghost use Rattle.cml_step.specs.Nacks.{nack_given, IsNackRoom};
+ghost use Rattle.cml_step.specs.Shared.{left_of, topped};
 ghost use Rattle.cml_step.specs.Slices.{sliced};
 ghost use Rattle.cml_step.specs.Stacks.{StackFits, term_of};
 ghost use Rattle.cml_step.specs.Terms.{call_of};
@@ -19,7 +20,8 @@ ghost use Rattle.cml_step.specs.Terms.{call_of};
 use crate::answer::Answer;
 use crate::ask::Ask;
 use crate::call::fill;
-use crate::entry::{Entry, Wraps, begin, copy_entry, same_stack};
+use crate::entries::{Frames, Stack, Walk, same_entries};
+use crate::entry::{Entry, Wraps, begin, copy_entry};
 use crate::nack::{NackRoom, nacked};
 use crate::steps::{MAX_STEPS, run};
 use cml_check::Prog;
@@ -31,128 +33,81 @@ use std::marker::Model;
 #[derive(Drop)]
 pub struct Machine {
     thread: Tid,
-    stack: Vec<Entry>,
+    top: Option<Entry>,
+    below: Frames,
 }
 
 impl Model for Machine {
-    ghost use Rattle.std.specs.Prelude.{map};
-    ghost use Rattle.cml_step.specs.Machines.{PlainMachine, plain_held};
+    ghost use Rattle.cml_step.specs.Machines.{PlainMachine};
     ghost use Rattle.cml_step.specs.MachineCodes.{machine_code};
 
     ghost Value = { PlainMachine };
 
     ghost coded = { machine_code };
 
-    ghost view = { λ a. record { thread = a.thread.0; stack = map plain_held a.stack.items } };
+    ghost use Rattle.std.specs.Prelude.{◌≡◌, None, []};
+    ghost use Rattle.cml_step.specs.Shared.{topped};
+
+    ghost view = { λ a. record { thread = a.thread.0; stack = topped a.below a.top } };
+
+    // So an answer that puts nothing on the stack takes no memory.
+    ghost invariant = { λ a. a.top ≡ None → a.below ≡ [] };
 }
 
-// A stack of one call, of the function.
-fn first(alloc: Global, function: &FnRef) -> Result<Vec<Entry>, AllocError>
-    ensures term { IfOk result (λ es. (p : List (PlainItem ℕ)) →
-        term_of p es.items ≡ call_of (text_of p) function.now ∷ []) }
-    ensures fits { IfOk result (λ es. (p : List (PlainItem ℕ)) →
-        function_agrees (arities p) 0 function.now ≡ true → StackFits p es.items) }
+// The same entry, if there is one, whose values have one more owner each.
+fn copy_top(alloc: Global, top: &Option<Entry>) -> Result<Option<Entry>, AllocError>
+    ensures same { IfOk result (λ copy. (hs : List PlainHeld) → topped hs copy ≡ topped hs top.now) }
+    ensures there { IfOk result (λ copy. copy ≡ None → top.now ≡ None) }
 {
-    let call = begin(alloc, function)?;
-    let mut stack = Vec::new(alloc);
-    stack.push(Entry::Call(call))?;
-    Ok(stack)
-}
-
-// The same stack, whose values have one more owner each.
-fn copy_stack(alloc: Global, stack: &[Entry]) -> Result<Vec<Entry>, AllocError>
-    ensures { IfOk result (λ es. map plain_held es.items ≡ map plain_held stack.now) }
-{
-    let mut copies = Vec::new(alloc);
-    for entry in stack {
-        copies.push(copy_entry(alloc, entry)?)?;
+    match top {
+        None => Ok(None),
+        Some(entry) => Ok(Some(copy_entry(alloc, entry)?)),
     }
-    Ok(copies)
 }
 
-// The value comes that the call on top waits for.
-fn give_value(stack: &mut Vec<Entry>, value: Value)
-    requires awaits { (p : List (PlainItem ℕ)) × StackFits p stack.old.items
-        × (awaited (term_of p stack.old.items) ≡ answers.value) }
-    ensures term { (p : List (PlainItem ℕ)) → InOrder p → StackFits p stack.old.items
-        → term_of p stack.new.items
-        ≡ plain_answered (text_of p) (a_value value) (term_of p stack.old.items) }
-    ensures fits { (p : List (PlainItem ℕ)) → StackFits p stack.old.items
-        → answer_agrees (arities p) (a_value value) ≡ true → StackFits p stack.new.items }
+// What the entry on top becomes once the value has come that it waits for: a call, which goes on.
+fn given_value(top: Entry, value: Value) -> Entry
+    requires { (p : List (PlainItem ℕ)) × (hs : List PlainHeld)
+        × StackFits p (topped hs (Some top))
+        × (awaited (term_of p (topped hs (Some top))) ≡ answers.value) }
+    ensures term { (p : List (PlainItem ℕ)) (hs : List PlainHeld) → InOrder p
+        → StackFits p (topped hs (Some top))
+        → term_of p (topped hs (Some result))
+        ≡ plain_answered (text_of p) (a_value value) (term_of p (topped hs (Some top))) }
+    ensures fits { (p : List (PlainItem ℕ)) (hs : List PlainHeld) →
+        StackFits p (topped hs (Some top)) → answer_agrees (arities p) (a_value value) ≡ true
+        → StackFits p (topped hs (Some result)) }
 {
-    let Some(top) = stack.pop() else {
-        drop(value);
-        return;
-    };
     match top {
         Entry::Call(waiting) => {
             let mut call = waiting;
             fill(&mut call, value);
-            stack.push_reserved(Entry::Call(call));
+            Entry::Call(call)
         }
         // A value is awaited, so a call is on top.
         other => {
             drop(value);
-            drop(other);
+            other
         }
     }
 }
 
-// The nack comes that the event on top waits for: the withNack's function is called.
-fn give_nack(alloc: Global, stack: &mut Vec<Entry>, nack: NackId) -> Result<(), AllocError>
-    requires awaits { (p : List (PlainItem ℕ)) × StackFits p stack.old.items
-        × (awaited (term_of p stack.old.items) ≡ answers.nack) }
-    ensures term { OnOk result ((p : List (PlainItem ℕ)) → StackFits p stack.old.items
-        → term_of p stack.new.items
-        ≡ plain_answered (text_of p) (a_nack nack.0) (term_of p stack.old.items)) }
-    ensures fits { OnOk result ((p : List (PlainItem ℕ)) →
-        StackFits p stack.old.items → StackFits p stack.new.items) }
-    ensures err { OnErr result (stack.new.items ≡ stack.old.items) }
-{
-    stack.reserve(1)?;
-    let Some(top) = stack.pop() else {
-        return Err(AllocError);
-    };
-    match top {
-        Entry::Force(forcing, asked) => match nacked(alloc, &forcing, nack) {
-            Ok((next, call)) => {
-                stack.push_reserved(Entry::Force(next, false));
-                stack.push_reserved(Entry::Call(call));
-                Ok(())
-            }
-            Err(error) => {
-                stack.push_reserved(Entry::Force(forcing, asked));
-                Err(error)
-            }
-        },
-        // A nack is awaited, so an event is on top.
-        other => {
-            stack.push_reserved(other);
-            Err(AllocError)
-        }
-    }
-}
-
-// The event on top was committed: what is left of it are the wraps that the value goes through.
-fn give_commit(stack: &mut Vec<Entry>, value: Value, wraps: Vec<FnRef>)
-    requires awaits { (p : List (PlainItem ℕ)) × StackFits p stack.old.items
-        × (awaited (term_of p stack.old.items) ≡ answers.commit) }
-    ensures term { (p : List (PlainItem ℕ)) → term_of p stack.new.items
-        ≡ plain_answered (text_of p) (a_commit value wraps.items) (term_of p stack.old.items) }
-    ensures fits { (p : List (PlainItem ℕ)) → StackFits p stack.old.items
+// What the event on top becomes once it was committed: the wraps that the value goes through.
+fn given_commit(top: Entry, value: Value, wraps: Vec<FnRef>) -> Entry
+    requires { (p : List (PlainItem ℕ)) × (hs : List PlainHeld)
+        × (awaited (term_of p (topped hs (Some top))) ≡ answers.commit) }
+    ensures term { (p : List (PlainItem ℕ)) (hs : List PlainHeld) →
+        term_of p (topped hs (Some result))
+        ≡ plain_answered (text_of p) (a_commit value wraps.items) (term_of p (topped hs (Some top))) }
+    ensures fits { (p : List (PlainItem ℕ)) (hs : List PlainHeld) →
+        StackFits p (topped hs (Some top))
         → answer_agrees (arities p) (a_commit value wraps.items) ≡ true
-        → StackFits p stack.new.items }
+        → StackFits p (topped hs (Some result)) }
 {
-    // A commit is awaited, so an event is on top.
-    let Some(top) = stack.pop() else {
-        drop(value);
-        drop(wraps);
-        return;
-    };
     drop(top);
     let mut left = wraps;
     left.reverse();
-    stack.push_reserved(Entry::Wraps(Wraps { left, value }));
+    Entry::Wraps(Wraps { left, value })
 }
 
 impl Machine {
@@ -176,10 +131,14 @@ impl Machine {
         ensures err { IfErr result (λ back. back.value ≡ function) }
     {
         let _count = program.functions();
-        match first(alloc, &function) {
-            Ok(stack) => {
+        match begin(alloc, &function) {
+            Ok(call) => {
                 drop(function);
-                Ok(Machine { thread, stack })
+                Ok(Machine {
+                    thread,
+                    top: Some(Entry::Call(call)),
+                    below: Frames::new(),
+                })
             }
             Err(_) => Err(AllocFailed { value: function }),
         }
@@ -189,8 +148,12 @@ impl Machine {
     pub fn ended(alloc: Global, thread: Tid) -> Machine
         ensures { result ≡ record { thread = thread.0; stack = [] } }
     {
-        let stack = Vec::new(alloc);
-        Machine { thread, stack }
+        let _alloc = alloc;
+        Machine {
+            thread,
+            top: None,
+            below: Frames::new(),
+        }
     }
 
     /// The number of the thread.
@@ -200,17 +163,19 @@ impl Machine {
         self.thread
     }
 
-    /// The same thread at the same place. It takes a count for each value that a variable has, and the time of the stack.
+    /// The same thread at the same place. It takes a count for each value that a variable of the top entry has, whatever stands below it.
     ///
     /// # Errors
     /// Want of memory.
     pub fn copy(&self, alloc: Global) -> Result<Machine, AllocError>
         ensures { IfOk result (λ m. m ≡ self.now) }
     {
-        let stack = copy_stack(alloc, self.stack.as_slice())?;
+        let below = self.below.copy()?;
+        let top = copy_top(alloc, &self.top)?;
         Ok(Machine {
             thread: self.thread,
-            stack,
+            top,
+            below,
         })
     }
 
@@ -218,27 +183,54 @@ impl Machine {
     pub fn same(&self, other: &Machine) -> bool
         ensures { IsTrue result ↔ (self.now ≡ other.now) }
     {
-        self.thread == other.thread && same_stack(self.stack.as_slice(), other.stack.as_slice())
+        self.thread == other.thread && same_entries(self.entries(), other.entries())
     }
 
-    // A slice of steps: what is asked in the end, and how many they were.
-    pub(crate) fn run(&mut self, alloc: Global, program: &Prog) -> Result<(Ask, u32), AllocError>
-        requires fits { Fits program.now self.old }
-        requires awaits { awaited (machine_term program.now self.old) ≡ answers.nothing }
-        ensures meant { IfOk result (λ r.
-            sliced (text_of program.now) self.old.thread (machine_term program.now self.old)
-            ≡ record {
-              ask = plain_ask r.0;
-              end = machine_term program.now self.new;
-              steps = r.1;
-            }) }
-        ensures fits { IfOk result (λ r. Fits program.now self.new) }
-        ensures agrees { IfOk result (λ r.
-            ask_agrees (arities program.now) (plain_ask r.0) ≡ true) }
-        ensures thread { self.new.thread ≡ self.old.thread }
+    // The entries, from the top.
+    fn entries(&self) -> Walk<'_>
+        ensures { left_of result ≡ self.now.stack }
     {
-        let (ask, steps) = run(alloc, self.thread, program, &mut self.stack, MAX_STEPS)?;
-        Ok((ask, steps))
+        Walk::through(&self.top, &self.below)
+    }
+
+    // The thread of this number with these entries.
+    fn with(alloc: Global, thread: Tid, stack: Stack) -> Result<Machine, AllocError>
+        ensures { IfOk result (λ m. m ≡ record { thread = thread.0; stack = stack }) }
+    {
+        let (top, below) = stack.parts(alloc)?;
+        Ok(Machine { thread, top, below })
+    }
+
+    // A slice of steps: the machine after it, what is asked in the end, and how many they were.
+    pub(crate) fn run(
+        self,
+        alloc: Global,
+        program: &Prog,
+    ) -> Result<(Machine, Ask, u32), AllocError>
+        requires fits { Fits program.now self }
+        requires awaits { awaited (machine_term program.now self) ≡ answers.nothing }
+        ensures meant { IfOk result (λ r.
+            sliced (text_of program.now) self.thread (machine_term program.now self)
+            ≡ record {
+              ask = plain_ask r.1;
+              end = machine_term program.now r.0;
+              steps = r.2;
+            }) }
+        ensures fits { IfOk result (λ r. Fits program.now r.0) }
+        ensures agrees { IfOk result (λ r.
+            ask_agrees (arities program.now) (plain_ask r.1) ≡ true) }
+        ensures thread { IfOk result (λ r. r.0.thread ≡ self.thread) }
+    {
+        let Machine { thread, top, below } = self;
+        let mut stack = Stack::of(top, below);
+        let (ask, steps) = run(alloc, thread, program, &mut stack, MAX_STEPS)?;
+        match Machine::with(alloc, thread, stack) {
+            Ok(end) => Ok((end, ask, steps)),
+            Err(error) => {
+                drop(ask);
+                Err(error)
+            }
+        }
     }
 
     /// Room for the answer of this nack, so that [`answered_nack`](Machine::answered_nack) takes no memory.
@@ -250,20 +242,17 @@ impl Machine {
         ensures room { IfOk result (λ r. IsNackRoom self.now r) }
         ensures nack { IfOk result (λ r. r.nack ≡ nack) }
     {
-        let stack = Vec::with_capacity(alloc, self.stack.len() + 1)?;
-        match self.stack.last() {
-            Some(Entry::Force(forcing, _)) => {
-                let (event, call) = nacked(alloc, forcing, nack)?;
-                Ok(NackRoom {
-                    nack,
-                    event,
-                    call,
-                    stack,
-                })
-            }
-            // A nack is awaited, so an event is on top.
-            _ => Err(AllocError),
-        }
+        // A nack is awaited, so an event is on top.
+        let Some(top) = &self.top else {
+            return Err(AllocError);
+        };
+        let Entry::Force(forcing, _) = top else {
+            return Err(AllocError);
+        };
+        let (event, call) = nacked(alloc, forcing, nack)?;
+        let others = self.below.copy()?;
+        let below = others.with(alloc, Entry::Force(event, false))?;
+        Ok(NackRoom { nack, call, below })
     }
 
     /// The thread once it is answered by the nack that there is room for. It takes no memory.
@@ -278,23 +267,54 @@ impl Machine {
             → awaited (machine_term p result) ≡ answers.nothing }
         ensures thread { result.thread ≡ self.thread }
     {
-        let mut machine = self;
-        let Some(top) = machine.stack.pop() else {
-            drop(room);
-            return machine;
-        };
-        drop(top);
-        let mut stack = room.stack;
-        match stack.append(&mut machine.stack) {
-            Ok(()) => {
-                stack.push_reserved(Entry::Force(room.event, false));
-                stack.push_reserved(Entry::Call(room.call));
-                machine.stack = stack;
-                machine
-            }
-            // There is room for all entries.
-            Err(_) => unreachable!(),
+        Machine {
+            thread: self.thread,
+            top: Some(Entry::Call(room.call)),
+            below: room.below,
         }
+    }
+
+    // The thread once the value has come that it waits for.
+    fn with_value(self, value: Value) -> Machine
+        requires { Awaits self (a_value value) }
+        ensures meant { (p : List (PlainItem ℕ)) → Fits p self → machine_term p result
+            ≡ plain_answered (text_of p) (a_value value) (machine_term p self) }
+        ensures fits { (p : List (PlainItem ℕ)) → Fits p self →
+            answer_agrees (arities p) (a_value value) ≡ true → Fits p result }
+        ensures thread { result.thread ≡ self.thread }
+    {
+        let Machine { thread, top, below } = self;
+        let top = match top {
+            Some(entry) => Some(given_value(entry, value)),
+            // A value is awaited, so the thread has not ended.
+            None => {
+                drop(value);
+                None
+            }
+        };
+        Machine { thread, top, below }
+    }
+
+    // The thread once its event was committed.
+    fn with_commit(self, value: Value, wraps: Vec<FnRef>) -> Machine
+        requires { Awaits self (a_commit value wraps.items) }
+        ensures meant { (p : List (PlainItem ℕ)) → Fits p self → machine_term p result
+            ≡ plain_answered (text_of p) (a_commit value wraps.items) (machine_term p self) }
+        ensures fits { (p : List (PlainItem ℕ)) → Fits p self →
+            answer_agrees (arities p) (a_commit value wraps.items) ≡ true → Fits p result }
+        ensures thread { result.thread ≡ self.thread }
+    {
+        let Machine { thread, top, below } = self;
+        let top = match top {
+            Some(entry) => Some(given_commit(entry, value, wraps)),
+            // A commit is awaited, so the thread has not ended.
+            None => {
+                drop(value);
+                drop(wraps);
+                None
+            }
+        };
+        Machine { thread, top, below }
     }
 
     /// The thread once it is answered. Only the answer to a withNack, whose function is called then, takes memory.
@@ -315,19 +335,12 @@ impl Machine {
         ensures err { IfErr result (λ back. back.value ≡ self) }
         ensures memory { OnErr result (IsNack (plain_answer answer)) }
     {
-        let mut machine = self;
         match answer {
-            Answer::Value(value) => {
-                give_value(&mut machine.stack, value);
-                Ok(machine)
-            }
-            Answer::Commit(value, wraps) => {
-                give_commit(&mut machine.stack, value, wraps);
-                Ok(machine)
-            }
-            Answer::Nack(nack) => match give_nack(alloc, &mut machine.stack, nack) {
-                Ok(()) => Ok(machine),
-                Err(_) => Err(AllocFailed { value: machine }),
+            Answer::Value(value) => Ok(self.with_value(value)),
+            Answer::Commit(value, wraps) => Ok(self.with_commit(value, wraps)),
+            Answer::Nack(nack) => match self.reserve_nack(alloc, nack) {
+                Ok(room) => Ok(self.answered_nack(room)),
+                Err(_) => Err(AllocFailed { value: self }),
             },
         }
     }

@@ -11,7 +11,8 @@ ghost use Rattle.cml_step.specs.Stacks.{CallFits};
 ghost use Rattle.cml_step.specs.Terms.{call_of};
 
 use crate::call::Call;
-use crate::entry::{Entry, begin};
+use crate::entries::Frames;
+use crate::entry::begin;
 use cml_group::Forcing;
 use cml_value::NackId;
 use std::alloc::{AllocError, Global};
@@ -20,11 +21,9 @@ use std::alloc::{AllocError, Global};
 #[derive(Drop)]
 pub struct NackRoom {
     pub(crate) nack: NackId,
-    // The event under the scope of the nack, and the call of the withNack's function.
-    pub(crate) event: Forcing,
+    // The call of the withNack's function, and the machine's entries below it: the event under the scope of the nack is the top one.
     pub(crate) call: Call,
-    // Room for the machine's entries and one more.
-    pub(crate) stack: Vec<Entry>,
+    pub(crate) below: Frames,
 }
 
 impl NackRoom {

@@ -16,6 +16,7 @@ ghost use Rattle.cml_step.specs.Slices.{GoesIn};
 ghost use Rattle.cml_step.specs.Stacks.{term_of, CallFits, EachBeneath, StackFits};
 
 use crate::call::{Call, Did, Wait, assign, branch, repeat};
+use crate::entries::Stack;
 use crate::entry::Entry;
 use crate::fault::Stop;
 use crate::place::settle;
@@ -115,20 +116,20 @@ fn quiet_call(
     alloc: Global,
     program: &Prog,
     call: Call,
-    below: &mut Vec<Entry>,
+    below: &mut Stack,
     most: u32,
 ) -> Result<u32, AllocError>
     requires fits { CallFits program.now call }
-    requires beneath { EachBeneath program.now below.old.items }
-    ensures fits { IfOk result (λ _. StackFits program.now below.new.items) }
+    requires beneath { EachBeneath program.now below.old }
+    ensures fits { IfOk result (λ _. StackFits program.now below.new) }
     ensures within { IfOk result (λ n. n ≤ most) }
     ensures goes { IfOk result (λ n. (self : ℕ) → GoesIn (text_of program.now) self n
-        (entry_of program.now call ∷ term_of program.now below.old.items)
-        (term_of program.now below.new.items)) }
+        (entry_of program.now call ∷ term_of program.now below.old)
+        (term_of program.now below.new)) }
 {
     let mut call = call;
     let done = quiet_run(alloc, program, &mut call, most);
-    below.push(Entry::Call(call))?;
+    below.push(alloc, Entry::Call(call))?;
     Ok(done)
 }
 
@@ -137,19 +138,19 @@ fn quiet_call(
 pub(crate) fn quiet_steps(
     alloc: Global,
     program: &Prog,
-    stack: &mut Vec<Entry>,
+    stack: &mut Stack,
     most: u32,
 ) -> Result<u32, AllocError>
-    requires { StackFits program.now stack.old.items }
-    ensures fits { IfOk result (λ _. StackFits program.now stack.new.items) }
+    requires { StackFits program.now stack.old }
+    ensures fits { IfOk result (λ _. StackFits program.now stack.new) }
     ensures within { IfOk result (λ n. n ≤ most) }
     ensures goes { IfOk result (λ n. (self : ℕ) → GoesIn (text_of program.now) self n
-        (term_of program.now stack.old.items) (term_of program.now stack.new.items)) }
+        (term_of program.now stack.old) (term_of program.now stack.new)) }
 {
-    match stack.pop() {
+    match stack.pop(alloc)? {
         Some(Entry::Call(call)) => quiet_call(alloc, program, call, stack, most),
         Some(other) => {
-            stack.push(other)?;
+            stack.push(alloc, other)?;
             Ok(0)
         }
         None => Ok(0),

@@ -39,7 +39,6 @@ pub fn run_slice(alloc: Global, program: &Prog, machine: &Machine) -> Result<Sli
       steps = s.steps;
     })) }
 {
-    let mut end = machine.copy(alloc)?;
-    let (ask, steps) = end.run(alloc, program)?;
+    let (end, ask, steps) = machine.copy(alloc)?.run(alloc, program)?;
     Ok(Slice { end, ask, steps })
 }

@@ -16,6 +16,7 @@ ghost use Rattle.cml_step.specs.Stacks.{entry_view, term_of, EntryFits, EachBene
 
 use crate::ask::Ask;
 use crate::call::{Call, Did, Wait, call_step, fill};
+use crate::entries::Stack;
 use crate::entry::{Entry, Wraps, copies};
 use crate::fault::{Fault, Stop};
 use crate::kind::event_of;
@@ -29,16 +30,16 @@ const MAX_ENTRIES: usize = 1024;
 
 // The entry on top, if there is room.
 #[tactic(auto, using(crate::proofs::StackLemmas::term_pushed, crate::proofs::StackLemmas::term_length, crate::proofs::StackLemmas::fits_pushed))]
-fn push(entry: Entry, below: &mut Vec<Entry>) -> Result<Ask, Stop>
+fn push(alloc: Global, entry: Entry, below: &mut Stack) -> Result<Ask, Stop>
     ensures meant { (p : List (PlainItem ℕ)) → IsStep p result
-        (steps.pushed (entry_view p entry) (term_of p below.old.items)) below.new.items }
+        (steps.pushed (entry_view p entry) (term_of p below.old)) below.new }
     ensures fits { (p : List (PlainItem ℕ)) → EntryFits p entry
-        → EachBeneath p below.old.items → StepFits p result below.new.items }
+        → EachBeneath p below.old → StepFits p result below.new }
 {
     if below.len() >= MAX_ENTRIES {
         return Err(Stop::Fault(Fault::Stack));
     }
-    below.push(entry)?;
+    below.push(alloc, entry)?;
     Ok(Ask::Nothing)
 }
 
@@ -49,16 +50,16 @@ fn push_call(
     program: &Prog,
     func: u32,
     args: Vec<Value>,
-    below: &mut Vec<Entry>,
+    below: &mut Stack,
 ) -> Result<Ask, Stop>
     requires agrees { let f = function func (values args.items) in
         function_agrees (arities program.now) 0 f ≡ true }
-    requires beneath { EachBeneath program.now below.old.items }
+    requires beneath { EachBeneath program.now below.old }
     ensures meant { let f = function func (values args.items) in
         let entry = call_of (text_of program.now) f in
         IsStep program.now result
-        (steps.pushed entry (term_of program.now below.old.items)) below.new.items }
-    ensures fits { StepFits program.now result below.new.items }
+        (steps.pushed entry (term_of program.now below.old)) below.new }
+    ensures fits { StepFits program.now result below.new }
 {
     let call = Call {
         func,
@@ -67,22 +68,17 @@ fn push_call(
         slots: args,
         wait: Wait::Runs,
     };
-    push(Entry::Call(call), below)
+    push(alloc, Entry::Call(call), below)
 }
 
 // The same of a function with captured values, and those that it is given besides.
-fn push_function(
-    alloc: Global,
-    program: &Prog,
-    f: &FnRef,
-    below: &mut Vec<Entry>,
-) -> Result<Ask, Stop>
+fn push_function(alloc: Global, program: &Prog, f: &FnRef, below: &mut Stack) -> Result<Ask, Stop>
     requires agrees { function_agrees (arities program.now) 0 f.now ≡ true }
-    requires beneath { EachBeneath program.now below.old.items }
+    requires beneath { EachBeneath program.now below.old }
     ensures meant { let entry = call_of (text_of program.now) f.now in
         IsStep program.now result
-        (steps.pushed entry (term_of program.now below.old.items)) below.new.items }
-    ensures fits { StepFits program.now result below.new.items }
+        (steps.pushed entry (term_of program.now below.old)) below.new }
+    ensures fits { StepFits program.now result below.new }
 {
     let args = copies(alloc, f.args())?;
     push_call(alloc, program, f.func(), args, below)
@@ -91,23 +87,24 @@ fn push_function(
 // The value goes to a call that waits for it.
 #[tactic(auto, using(crate::proofs::StackLemmas::fits_pushed, crate::proofs::StackLemmas::filled_fits, crate::proofs::StackLemmas::filled_room))]
 fn deliver_to_call(
+    alloc: Global,
     program: &Prog,
     call: Call,
     value: Value,
-    below: &mut Vec<Entry>,
+    below: &mut Stack,
 ) -> Result<Ask, Stop>
     requires fits { CallFits program.now call }
     requires agrees { value_agrees (arities program.now) value ≡ true }
-    requires beneath { EachBeneath program.now below.old.items }
+    requires beneath { EachBeneath program.now below.old }
     ensures meant { IsStep program.now result
         (steps.delivered value
-        (entry_of program.now call ∷ term_of program.now below.old.items)) below.new.items }
-    ensures fits { StepFits program.now result below.new.items }
+        (entry_of program.now call ∷ term_of program.now below.old)) below.new }
+    ensures fits { StepFits program.now result below.new }
 {
     let _f = program.function(call.func);
     let mut call = call;
     fill(&mut call, value);
-    below.push(Entry::Call(call))?;
+    below.push(alloc, Entry::Call(call))?;
     Ok(Ask::Nothing)
 }
 
@@ -118,23 +115,23 @@ fn deliver_to_force(
     program: &Prog,
     forcing: Forcing,
     value: Value,
-    below: &mut Vec<Entry>,
+    below: &mut Stack,
 ) -> Result<Ask, Stop>
     requires fits { event_agrees (arities program.now) forcing ≡ true }
     requires awaits { AwaitsEvent forcing }
     requires agrees { value_agrees (arities program.now) value ≡ true }
-    requires beneath { EachBeneath program.now below.old.items }
+    requires beneath { EachBeneath program.now below.old }
     ensures meant { (asked : Bool) → IsStep program.now result
         (steps.delivered value
-        (force forcing asked ∷ term_of program.now below.old.items)) below.new.items }
-    ensures fits { StepFits program.now result below.new.items }
+        (force forcing asked ∷ term_of program.now below.old)) below.new }
+    ensures fits { StepFits program.now result below.new }
 {
     let answer = event_of(&value)?;
     drop(value);
     let mut forcing = forcing;
     match forcing.answer_event(alloc, answer) {
         Ok(()) => {
-            below.push(Entry::Force(forcing, false))?;
+            below.push(alloc, Entry::Force(forcing, false))?;
             Ok(Ask::Nothing)
         }
         Err(ForceFault::Deep(back)) => {
@@ -151,97 +148,99 @@ fn deliver_to_force(
 // The value is the one that has come so far to wraps in progress.
 #[tactic(auto, using(crate::proofs::StackLemmas::term_pushed, crate::proofs::StackLemmas::fits_pushed))]
 fn deliver_to_wraps(
+    alloc: Global,
     program: &Prog,
     wraps: Wraps,
     value: Value,
-    below: &mut Vec<Entry>,
+    below: &mut Stack,
 ) -> Result<Ask, Stop>
     requires fits { WrapsFit program.now wraps }
     requires agrees { value_agrees (arities program.now) value ≡ true }
-    requires beneath { EachBeneath program.now below.old.items }
+    requires beneath { EachBeneath program.now below.old }
     ensures meant { IsStep program.now result
         (steps.delivered value
-        (entry_view program.now (Entry.Wraps wraps) ∷ term_of program.now below.old.items)) below.new.items }
-    ensures fits { StepFits program.now result below.new.items }
+        (entry_view program.now (Entry.Wraps wraps) ∷ term_of program.now below.old)) below.new }
+    ensures fits { StepFits program.now result below.new }
 {
     let left = wraps.left;
-    below.push(Entry::Wraps(Wraps { left, value }))?;
+    below.push(alloc, Entry::Wraps(Wraps { left, value }))?;
     Ok(Ask::Nothing)
 }
 
 // The value is delivered to what waits beneath.
 #[tactic(auto, using(crate::proofs::StackLemmas::term_pushed, crate::proofs::StackLemmas::beneath_popped))]
-fn deliver(alloc: Global, program: &Prog, value: Value, below: &mut Vec<Entry>) -> Result<Ask, Stop>
+fn deliver(alloc: Global, program: &Prog, value: Value, below: &mut Stack) -> Result<Ask, Stop>
     requires agrees { value_agrees (arities program.now) value ≡ true }
-    requires beneath { EachBeneath program.now below.old.items }
+    requires beneath { EachBeneath program.now below.old }
     ensures meant { IsStep program.now result
-        (steps.delivered value (term_of program.now below.old.items)) below.new.items }
-    ensures fits { StepFits program.now result below.new.items }
+        (steps.delivered value (term_of program.now below.old)) below.new }
+    ensures fits { StepFits program.now result below.new }
 {
-    match below.pop() {
+    match below.pop(alloc)? {
         None => {
             drop(value);
             Ok(Ask::End)
         }
-        Some(Entry::Call(call)) => deliver_to_call(program, call, value, below),
+        Some(Entry::Call(call)) => deliver_to_call(alloc, program, call, value, below),
         Some(Entry::Force(forcing, _)) => {
             deliver_to_force(alloc, program, forcing, value, below)
         }
-        Some(Entry::Wraps(wraps)) => deliver_to_wraps(program, wraps, value, below),
+        Some(Entry::Wraps(wraps)) => deliver_to_wraps(alloc, program, wraps, value, below),
     }
 }
 
 // The call goes back on top.
 #[tactic(auto, using(crate::proofs::StackLemmas::term_pushed, crate::proofs::StackLemmas::fits_pushed, crate::proofs::StackLemmas::beneath_pushed))]
-fn keep(program: &Prog, call: Call, below: &mut Vec<Entry>) -> Result<(), Stop>
+fn keep(alloc: Global, program: &Prog, call: Call, below: &mut Stack) -> Result<(), Stop>
     requires fits { CallFits program.now call }
-    requires beneath { EachBeneath program.now below.old.items }
-    ensures term { IfOk result (λ _. term_of program.now below.new.items
-        ≡ entry_of program.now call ∷ term_of program.now below.old.items) }
-    ensures beneath { IfOk result (λ _. EachBeneath program.now below.new.items) }
-    ensures stack { IfOk result (λ _. StackFits program.now below.new.items) }
+    requires beneath { EachBeneath program.now below.old }
+    ensures term { IfOk result (λ _. term_of program.now below.new
+        ≡ entry_of program.now call ∷ term_of program.now below.old) }
+    ensures beneath { IfOk result (λ _. EachBeneath program.now below.new) }
+    ensures stack { IfOk result (λ _. StackFits program.now below.new) }
     ensures memory { IfErr result (λ e. e ≡ Stop.Memory) }
 {
-    below.push(Entry::Call(call))?;
+    below.push(alloc, Entry::Call(call))?;
     Ok(())
 }
 
 // What comes of what a call did.
+
 fn after_call(
     alloc: Global,
     program: &Prog,
     did: Did,
     call: Call,
-    below: &mut Vec<Entry>,
+    below: &mut Stack,
 ) -> Result<Ask, Stop>
     requires fits { CallFits program.now call }
     requires did { DidAgrees (arities program.now) (Ok did) }
-    requires beneath { EachBeneath program.now below.old.items }
+    requires beneath { EachBeneath program.now below.old }
     ensures meant { (step : PlainStep) → MovesTo program.now (Ok did)
-        (entry_of program.now call) (term_of program.now below.old.items) step
-        → IsStep program.now result step below.new.items }
-    ensures fits { StepFits program.now result below.new.items }
+        (entry_of program.now call) (term_of program.now below.old) step
+        → IsStep program.now result step below.new }
+    ensures fits { StepFits program.now result below.new }
 {
     match did {
         Did::Goes => {
-            keep(program, call, below)?;
+            keep(alloc, program, call, below)?;
             Ok(Ask::Nothing)
         }
         Did::Calls(func, args) => {
-            keep(program, call, below)?;
+            keep(alloc, program, call, below)?;
             push_call(alloc, program, func, args, below)
         }
         Did::Forces(event) => {
-            keep(program, call, below)?;
+            keep(alloc, program, call, below)?;
             let forcing = Forcing::start(alloc, event)?;
-            push(Entry::Force(forcing, false), below)
+            push(alloc, Entry::Force(forcing, false), below)
         }
         Did::Returns(value) => {
             drop(call);
             deliver(alloc, program, value, below)
         }
         Did::Asks(ask) => {
-            keep(program, call, below)?;
+            keep(alloc, program, call, below)?;
             Ok(ask)
         }
         Did::Ends => {
@@ -258,16 +257,16 @@ fn step_call(
     thread: Tid,
     program: &Prog,
     call: Call,
-    below: &mut Vec<Entry>,
+    below: &mut Stack,
 ) -> Result<Ask, Stop>
     requires fits { CallFits program.now call }
     requires runs { call.wait ≡ Wait.Runs }
-    requires beneath { EachBeneath program.now below.old.items }
+    requires beneath { EachBeneath program.now below.old }
     ensures meant { let before = entry_of program.now call in
         IsStep program.now result
         (steps.next (text_of program.now) thread.0
-        (before ∷ term_of program.now below.old.items)) below.new.items }
-    ensures fits { StepFits program.now result below.new.items }
+        (before ∷ term_of program.now below.old)) below.new }
+    ensures fits { StepFits program.now result below.new }
 {
     let f = program.function(call.func);
     let mut call = call;
@@ -282,31 +281,37 @@ fn call_guard(
     program: &Prog,
     forcing: Forcing,
     f: FnRef,
-    below: &mut Vec<Entry>,
+    below: &mut Stack,
 ) -> Result<Ask, Stop>
     requires fits { event_agrees (arities program.now) forcing ≡ true }
     requires calls { unforced forcing ≡ Some (calls f) }
-    requires beneath { EachBeneath program.now below.old.items }
+    requires beneath { EachBeneath program.now below.old }
     ensures meant { IsStep program.now result
         (steps.next (text_of program.now) 0
-        (force forcing false ∷ term_of program.now below.old.items)) below.new.items }
-    ensures fits { StepFits program.now result below.new.items }
+        (force forcing false ∷ term_of program.now below.old)) below.new }
+    ensures fits { StepFits program.now result below.new }
 {
-    below.push(Entry::Force(forcing, false))?;
+    below.push(alloc, Entry::Force(forcing, false))?;
     push_function(alloc, program, &f, below)
 }
 
 // The event asks, and waits for the answer.
 #[tactic(auto, using(crate::proofs::StackLemmas::term_pushed, crate::proofs::StackLemmas::fits_pushed))]
-fn ask_for(program: &Prog, forcing: Forcing, ask: Ask, below: &mut Vec<Entry>) -> Result<Ask, Stop>
+fn ask_for(
+    alloc: Global,
+    program: &Prog,
+    forcing: Forcing,
+    ask: Ask,
+    below: &mut Stack,
+) -> Result<Ask, Stop>
     requires fits { event_agrees (arities program.now) forcing ≡ true }
     requires agrees { ask_agrees (arities program.now) (plain_ask ask) ≡ true }
-    requires beneath { EachBeneath program.now below.old.items }
+    requires beneath { EachBeneath program.now below.old }
     ensures meant { IsStep program.now result (steps.asks (plain_ask ask)
-        (force forcing true ∷ term_of program.now below.old.items)) below.new.items }
-    ensures fits { StepFits program.now result below.new.items }
+        (force forcing true ∷ term_of program.now below.old)) below.new }
+    ensures fits { StepFits program.now result below.new }
 {
-    below.push(Entry::Force(forcing, true))?;
+    below.push(alloc, Entry::Force(forcing, true))?;
     Ok(ask)
 }
 
@@ -328,26 +333,26 @@ fn step_force(
     alloc: Global,
     program: &Prog,
     forcing: Forcing,
-    below: &mut Vec<Entry>,
+    below: &mut Stack,
 ) -> Result<Ask, Stop>
     requires fits { event_agrees (arities program.now) forcing ≡ true }
-    requires beneath { EachBeneath program.now below.old.items }
+    requires beneath { EachBeneath program.now below.old }
     ensures meant { IsStep program.now result
         (steps.next (text_of program.now) 0
-        (force forcing false ∷ term_of program.now below.old.items)) below.new.items }
-    ensures fits { StepFits program.now result below.new.items }
+        (force forcing false ∷ term_of program.now below.old)) below.new }
+    ensures fits { StepFits program.now result below.new }
 {
     match forcing.next()? {
         Next::Call(f) => call_guard(alloc, program, forcing, f, below),
         Next::NeedNack => {
-            if below.len() + 1 >= MAX_ENTRIES {
+            if below.len() >= MAX_ENTRIES - 1 {
                 return Err(Stop::Fault(Fault::Stack));
             }
-            ask_for(program, forcing, Ask::Nack, below)
+            ask_for(alloc, program, forcing, Ask::Nack, below)
         }
         Next::Ready => {
             let group = group_ready(alloc, &forcing)?;
-            ask_for(program, forcing, Ask::Sync(group), below)
+            ask_for(alloc, program, forcing, Ask::Sync(group), below)
         }
     }
 }
@@ -358,15 +363,15 @@ fn last_call(
     program: &Prog,
     f: &FnRef,
     value: Value,
-    below: &mut Vec<Entry>,
+    below: &mut Stack,
 ) -> Result<Ask, Stop>
     requires takes { function_agrees (arities program.now) 1 f.now ≡ true }
     requires agrees { value_agrees (arities program.now) value ≡ true }
-    requires beneath { EachBeneath program.now below.old.items }
+    requires beneath { EachBeneath program.now below.old }
     ensures meant { let entry = call_of (text_of program.now) (given f.now value) in
         IsStep program.now result
-        (steps.pushed entry (term_of program.now below.old.items)) below.new.items }
-    ensures fits { StepFits program.now result below.new.items }
+        (steps.pushed entry (term_of program.now below.old)) below.new }
+    ensures fits { StepFits program.now result below.new }
 {
     let mut args = copies(alloc, f.args())?;
     args.push(value)?;
@@ -375,19 +380,14 @@ fn last_call(
 
 // A step of wraps in progress.
 #[tactic(auto, using(crate::proofs::StackLemmas::last_next, crate::proofs::StackLemmas::wraps_popped, crate::proofs::StackLemmas::term_pushed, crate::proofs::StackLemmas::beneath_pushed))]
-fn step_wraps(
-    alloc: Global,
-    program: &Prog,
-    wraps: Wraps,
-    below: &mut Vec<Entry>,
-) -> Result<Ask, Stop>
+fn step_wraps(alloc: Global, program: &Prog, wraps: Wraps, below: &mut Stack) -> Result<Ask, Stop>
     requires fits { WrapsFit program.now wraps }
-    requires beneath { EachBeneath program.now below.old.items }
+    requires beneath { EachBeneath program.now below.old }
     ensures meant { IsStep program.now result
         (steps.next (text_of program.now) 0
         (entry_view program.now (Entry.Wraps wraps)
-        ∷ term_of program.now below.old.items)) below.new.items }
-    ensures fits { StepFits program.now result below.new.items }
+        ∷ term_of program.now below.old)) below.new }
+    ensures fits { StepFits program.now result below.new }
 {
     let mut left = wraps.left;
     let value = wraps.value;
@@ -398,10 +398,13 @@ fn step_wraps(
         }
         Some(f) => {
             let so_far = value.copy()?;
-            below.push(Entry::Wraps(Wraps {
-                left,
-                value: so_far,
-            }))?;
+            below.push(
+                alloc,
+                Entry::Wraps(Wraps {
+                    left,
+                    value: so_far,
+                }),
+            )?;
             last_call(alloc, program, &f, value, below)
         }
     }
@@ -414,20 +417,20 @@ fn step_if_runs(
     thread: Tid,
     program: &Prog,
     call: Call,
-    below: &mut Vec<Entry>,
+    below: &mut Stack,
 ) -> Result<Ask, Stop>
     requires fits { CallFits program.now call }
-    requires beneath { EachBeneath program.now below.old.items }
+    requires beneath { EachBeneath program.now below.old }
     ensures meant { let before = entry_of program.now call in
         IsStep program.now result
         (steps.next (text_of program.now) thread.0
-        (before ∷ term_of program.now below.old.items)) below.new.items }
-    ensures fits { StepFits program.now result below.new.items }
+        (before ∷ term_of program.now below.old)) below.new }
+    ensures fits { StepFits program.now result below.new }
 {
     match call.wait {
         Wait::Runs => step_call(alloc, thread, program, call, below),
         Wait::Drops | Wait::Gives(_) => {
-            keep(program, call, below)?;
+            keep(alloc, program, call, below)?;
             Ok(Ask::Nothing)
         }
     }
@@ -439,20 +442,20 @@ pub(crate) fn step(
     alloc: Global,
     thread: Tid,
     program: &Prog,
-    stack: &mut Vec<Entry>,
+    stack: &mut Stack,
 ) -> Result<Ask, Stop>
-    requires { StackFits program.now stack.old.items }
+    requires { StackFits program.now stack.old }
     ensures meant { IsStep program.now result
-        (steps.next (text_of program.now) thread.0 (term_of program.now stack.old.items))
-        stack.new.items }
-    ensures fits { StepFits program.now result stack.new.items }
+        (steps.next (text_of program.now) thread.0 (term_of program.now stack.old))
+        stack.new }
+    ensures fits { StepFits program.now result stack.new }
 {
-    match stack.pop() {
+    match stack.pop(alloc)? {
         None => Ok(Ask::End),
         Some(Entry::Call(call)) => step_if_runs(alloc, thread, program, call, stack),
         Some(Entry::Force(forcing, false)) => step_force(alloc, program, forcing, stack),
         Some(Entry::Force(forcing, true)) => {
-            stack.push(Entry::Force(forcing, true))?;
+            stack.push(alloc, Entry::Force(forcing, true))?;
             Ok(Ask::Nothing)
         }
         Some(Entry::Wraps(wraps)) => step_wraps(alloc, program, wraps, stack),

@@ -10,7 +10,7 @@ ghost use Rattle.cml_step.specs.Calls.{text_of};
 ghost use Rattle.cml_step.specs.Stacks.{term_of, StackFits};
 
 use crate::ask::Ask;
-use crate::entry::Entry;
+use crate::entries::Stack;
 use crate::fault::{Fault, Stop};
 use crate::quiet::quiet_steps;
 use crate::stack::step;
@@ -26,13 +26,13 @@ fn step_or_fault(
     alloc: Global,
     thread: Tid,
     program: &Prog,
-    stack: &mut Vec<Entry>,
+    stack: &mut Stack,
 ) -> Result<Ask, AllocError>
-    requires { StackFits program.now stack.old.items }
+    requires { StackFits program.now stack.old }
     ensures meant { IfOk result (λ a.
-        next (text_of program.now) thread.0 (term_of program.now stack.old.items)
-        ≡ asks (plain_ask a) (term_of program.now stack.new.items)) }
-    ensures fits { IfOk result (λ _. StackFits program.now stack.new.items) }
+        next (text_of program.now) thread.0 (term_of program.now stack.old)
+        ≡ asks (plain_ask a) (term_of program.now stack.new)) }
+    ensures fits { IfOk result (λ _. StackFits program.now stack.new) }
     ensures agrees { IfOk result (λ a. ask_agrees (arities program.now) (plain_ask a) ≡ true) }
 {
     match step(alloc, thread, program, stack) {
@@ -43,9 +43,9 @@ fn step_or_fault(
 }
 
 // The fault ends the thread: nothing is on its stack.
-fn failed(fault: Fault, stack: &mut Vec<Entry>) -> Ask
+fn failed(fault: Fault, stack: &mut Stack) -> Ask
     ensures ask { result ≡ Ask.Fault fault }
-    ensures stack { stack.new.items ≡ [] }
+    ensures stack { stack.new ≡ [] }
 {
     stack.clear();
     Ask::Fault(fault)
@@ -57,18 +57,18 @@ pub(crate) fn run(
     alloc: Global,
     thread: Tid,
     program: &Prog,
-    stack: &mut Vec<Entry>,
+    stack: &mut Stack,
     most: u32,
 ) -> Result<(Ask, u32), AllocError>
-    requires { StackFits program.now stack.old.items }
+    requires { StackFits program.now stack.old }
     ensures meant { IfOk result (λ r.
-        sliced_from (text_of program.now) thread.0 most 0 (term_of program.now stack.old.items)
+        sliced_from (text_of program.now) thread.0 most 0 (term_of program.now stack.old)
         ≡ record {
           ask = plain_ask r.0;
-          end = term_of program.now stack.new.items;
+          end = term_of program.now stack.new;
           steps = r.1;
         }) }
-    ensures fits { IfOk result (λ r. StackFits program.now stack.new.items) }
+    ensures fits { IfOk result (λ r. StackFits program.now stack.new) }
     ensures agrees { IfOk result (λ r.
         ask_agrees (arities program.now) (plain_ask r.0) ≡ true) }
 {

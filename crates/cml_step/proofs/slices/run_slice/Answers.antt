@@ -12,15 +12,15 @@ pub returns : goal.returns
 returns c =
     let p = c.args.program.now in
     let m = c.args.machine.now in
-    let end : PlainSlice = record { ask = plain_ask c.in_ok-ask.ask; end = machine_term p c.run.new.self; steps = c.in_ok-ask.steps } in
-    let meant : sliced (text_of p) m.thread (machine_term p m) ≡ end = ap (λ n. sliced (text_of p) n.thread (machine_term p n)) (sym c.in_ok-end.ensures) ∙ c.in_ok-ask.ensures.meant in
+    let end : PlainSlice = record { ask = plain_ask c.in_ok-end.ask; end = machine_term p c.in_ok-end.end; steps = c.in_ok-end.steps } in
+    let meant : sliced (text_of p) m.thread (machine_term p m) ≡ end = ap (λ n. sliced (text_of p) n.thread (machine_term p n)) (sym c.in_ok-copy.ensures) ∙ c.in_ok-end.ensures.meant in
     let counts = slice_counts (text_of p) m.thread 999 0 (machine_term p m) in
     record {
       meant = meant;
       some = subst (λ s. 1 ≤ s.steps) meant counts.0;
       few = subst (λ s. s.steps ≤ max_steps) meant counts.1;
-      thread = c.run.ensures.thread ∙ ap (λ n. n.thread) c.in_ok-end.ensures;
-      fits = c.in_ok-ask.ensures.fits;
+      thread = c.in_ok-end.ensures.thread ∙ ap (λ n. n.thread) c.in_ok-copy.ensures;
+      fits = c.in_ok-end.ensures.fits;
       awaits = subst (λ s. awaited s.end ≡ answer_to s.ask) meant (sliced_waits (text_of p) m.thread max_steps 0 (machine_term p m) c.requires.awaits);
-      agrees = c.in_ok-ask.ensures.agrees;
+      agrees = c.in_ok-end.ensures.agrees;
     }

@@ -18,7 +18,7 @@ push_call-requires-clause-agrees c =
 
 pub returns-clause-meant : goal.returns-clause-meant
 returns-clause-meant c =
-    subst (λ g. IsStep c.args.program.now c.push_call.result (pushed (call_of (text_of c.args.program.now) g) (term_of c.args.program.now c.args.below.now.items)) c.push_call.new.below.items)
+    subst (λ g. IsStep c.args.program.now c.push_call.result (pushed (call_of (text_of c.args.program.now) g) (term_of c.args.program.now c.args.below.now)) c.push_call.new.below)
     (sym
     (given_is c.args.f.now c.func.result c.args-2.result.now c.push.new.self.items c.args.value c.func.ensures c.args-2.ensures
     (c.in_ok-push.ensures.items ∙ ap (λ vs. vs ++ c.args.value ∷ []) c.in_ok-args.ensures)))

@@ -13,7 +13,7 @@ after_call-requires-clause-fits c =
 
 pub returns-clause-meant : goal.returns-clause-meant
 returns-clause-meant c =
-    let below : Term = term_of c.args.program.now c.args.below.now.items in
+    let below : Term = term_of c.args.program.now c.args.below.now in
     c.after_call.ensures.meant (next (text_of c.args.program.now) c.args.thread.0 (entry_of c.args.program.now c.args.call ∷ below))
     (subst
     (λ (e : PlainEntry). MovesTo c.args.program.now (Ok c.in_ok-did.did) e below (next (text_of c.args.program.now) c.args.thread.0 (entry_of c.args.program.now c.args.call ∷ below)))

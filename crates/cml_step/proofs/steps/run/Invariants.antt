@@ -7,10 +7,10 @@ use Rattle.cml_step.proofs.steps.run.Given as goal
 abbrev pub invariant-loop-done : goal.invariant-loop-done
 invariant-loop-done l = record {
   within : l.done ≤ l.most;
-  fits : StackFits l.program l.stack.items;
+  fits : StackFits l.program l.stack;
   left :
-      sliced_from (text_of l.program) l.thread.0 l.most 0 (term_of l.program l.initial.stack.items)
-      ≡ sliced_from (text_of l.program) l.thread.0 (l.most - l.done) l.done (term_of l.program l.stack.items);
+      sliced_from (text_of l.program) l.thread.0 l.most 0 (term_of l.program l.initial.stack)
+      ≡ sliced_from (text_of l.program) l.thread.0 (l.most - l.done) l.done (term_of l.program l.stack);
 }
 
 abbrev pub decreases-loop-done : goal.decreases-loop-done

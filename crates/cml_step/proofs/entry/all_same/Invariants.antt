@@ -1,8 +1,0 @@
-use Rattle.std.proofs.Common.{◌≡◌, ◌↔◌, drop, map}
-use Rattle.cml_step.specs.Machines.{plain_held}
-use Rattle.cml_step.proofs.entry.all_same.Given as goal
-
--- what the loop has seen is the same, so the rest decides
-abbrev pub invariant-loop-i : goal.invariant-loop-i
-invariant-loop-i l =
-    (map plain_held l.entries ≡ map plain_held l.others) ↔ (map plain_held (drop l.i l.entries) ≡ map plain_held (drop l.i l.others))
