@@ -250,6 +250,10 @@ impl Stack {
     pub fn push(&mut self, alloc: Global, entry: Entry) -> Result<(), AllocError>
         ensures items { IfOk result (λ _. self.new ≡ self.old ++ plain_held entry ∷ []) }
     {
+        if self.top.is_none() {
+            self.top = Some(entry);
+            return Ok(());
+        }
         let below = replace(&mut self.below, Frames::new());
         match with_top(alloc, self.top.take(), below) {
             Ok(below) => {
@@ -268,15 +272,13 @@ impl Stack {
     pub fn pop(&mut self, alloc: Global) -> Result<Option<Entry>, AllocError>
         ensures { IfOk result (λ o. TakesOff o self.old self.new) }
     {
-        match self.top.take() {
-            Some(entry) => Ok(Some(entry)),
-            None => {
-                let below = replace(&mut self.below, Frames::new());
-                let (entry, rest) = below.parts(alloc)?;
-                self.below = rest;
-                Ok(entry)
-            }
+        if self.top.is_some() {
+            return Ok(self.top.take());
         }
+        let below = replace(&mut self.below, Frames::new());
+        let (entry, rest) = below.parts(alloc)?;
+        self.below = rest;
+        Ok(entry)
     }
 }
 
