@@ -12,7 +12,7 @@ use Rattle.cml_step.specs.Answers.{answered}
 use Rattle.cml_step.specs.AnswerViews.{Awaits}
 use Rattle.cml_step.specs.Asks.{a_nack}
 use Rattle.cml_step.specs.Calls.{entry_of, text_of}
-use Rattle.cml_step.specs.Machines.{PlainHeld, PlainMachine, force, plain_held, machine_term, AllHeldFit, Fits}
+use Rattle.cml_step.specs.Machines.{PlainHeld, PlainMachine, plain_held, machine_term, AllHeldFit}
 use Rattle.cml_step.specs.Nacks.{topped_by, nack_given, IsNackRoom}
 use Rattle.cml_step.specs.Stacks.{CallFits, term_of}
 use Rattle.cml_step.specs.Terms.{call_of}

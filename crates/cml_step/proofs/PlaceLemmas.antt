@@ -1,5 +1,5 @@
 -- Places in a function's body.
-use Rattle.std.proofs.Common.{◌≡◌, ℕ, zero, suc, ◌+◌, ◌<◌, ◌≤◌, List, [], ◌∷◌, ◌++◌, length, refl, ap, sym, ◌∙◌, arith, Option, Some, None, slice_get, add-one, Bool, true, false, ◌&&◌, get_or, drop}
+use Rattle.std.proofs.Common.{◌≡◌, ℕ, zero, suc, ◌+◌, ◌<◌, ◌≤◌, List, [], ◌∷◌, ◌++◌, length, refl, ap, sym, ◌∙◌, arith, Option, Some, None, slice_get, add-one, true, ◌&&◌, get_or, drop}
 use Rattle.std.proofs.lemmas.Bool.{and_parts}
 use Rattle.cml_check.specs.Syntax.{PlainExpr, expr_map, PlainStmt, if_so, while_so, let_be, set_to, just_do, return_with, PlainStmts, no_stmts, stmts_and, stmts, stmts_map}
 use Rattle.cml_step.specs.declared.place.Arm.{Arm}

@@ -1,5 +1,5 @@
 -- No thread's stack has more than 1,024 entries.
-use Rattle.std.proofs.Common.{◌≡◌, ℕ, zero, suc, ◌+◌, ◌≤◌, ◌<◌, Bool, true, false, if◌then◌else◌, nat_lt, List, [], ◌∷◌, length, refl, ap, sym, ◌∙◌, subst, arith, Option, Some, None, Ok, Err, slice_get}
+use Rattle.std.proofs.Common.{◌≡◌, ℕ, zero, suc, ◌+◌, ◌≤◌, ◌<◌, Bool, true, false, if◌then◌else◌, nat_lt, List, [], ◌∷◌, length, refl, sym, ◌∙◌, subst, arith, Option, Some, None, Ok, Err, slice_get}
 use Rattle.std.proofs.lemmas.Bool.Decides.{nat_tests}
 use Rattle.cml_value.specs.Value.{PlainValue, unit, thread, PlainFunction, function, PlainEvent, values}
 use Rattle.cml_value.specs.Limits.{event_fits}
@@ -27,7 +27,7 @@ use Rattle.cml_step.specs.Asks as ask
 use Rattle.cml_step.specs.Asks.{PlainAsk, PlainAnswer, a_value, a_nack, a_commit}
 use Rattle.cml_step.specs.AnswerViews.{Awaits}
 use Rattle.cml_step.specs.Calls.{placed_in, text_of}
-use Rattle.cml_step.specs.Forced.{group_of, given}
+use Rattle.cml_step.specs.Forced.{given}
 use Rattle.cml_step.specs.Answers as await
 use Rattle.cml_step.specs.Answers.{PlainAwait, awaited, awaited_by, answer_to, answer_for, answered, with_nack_number, entries_to_come, IsShort}
 use Rattle.cml_step.specs.Machines.{PlainHeld, PlainMachine, held_entry, held_on, machine_term, AllHeldFit, Fits}

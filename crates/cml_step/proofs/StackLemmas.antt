@@ -24,12 +24,11 @@ use Rattle.cml_step.specs.Calls.{entry_for, slots_with}
 use Rattle.cml_step.proofs.CallLemmas.{filled_is, agree_filled, wait_room}
 use Rattle.cml_step.proofs.AgreeLemmas.{all_values}
 use Rattle.cml_step.proofs.ForceLemmas.{list_values}
-use Rattle.cml_step.specs.declared.entry.Entry.{Entry}
 use Rattle.cml_step.specs.declared.entry.Entry.TheVariants as entry
 use Rattle.cml_step.specs.Terms.{Program, call, wraps, Term, list_of, started, call_of}
 use Rattle.cml_step.specs.Agrees.{functions_agree}
 use Rattle.cml_step.specs.Machines.{PlainHeld, plain_held, held_entry, held_on, HeldFits, HeldFitsBeneath, names_of}
-use Rattle.cml_step.specs.Stacks.{CallFits, entry_view, term_of, EntryFits, BeneathFits, EachBeneath, StackFits}
+use Rattle.cml_step.specs.Stacks.{CallFits, term_of, EachBeneath, StackFits}
 
 term_on_pushed : (p : List (PlainItem ℕ)) (es : List PlainHeld) (e : PlainHeld) (below : Term) → held_on p (es ++ e ∷ []) below ≡ held_entry p e ∷ held_on p es below
 term_on_pushed p [] e below = refl

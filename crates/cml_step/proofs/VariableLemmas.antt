@@ -1,5 +1,5 @@
 -- The variables of a call by name, beside their values by slot.
-use Rattle.std.proofs.Common.{◌≡◌, ℕ, zero, suc, ◌<◌, Bool, true, false, ◌&&◌, ◌||◌, cond, List, [], ◌∷◌, ◌++◌, length, set, refl, ap, ◌∙◌, arith, Ok, Some, unwrap_or}
+use Rattle.std.proofs.Common.{◌≡◌, ℕ, zero, suc, ◌<◌, Bool, true, false, cond, List, [], ◌∷◌, ◌++◌, length, set, refl, ap, ◌∙◌, arith, Ok, Some, unwrap_or}
 use Rattle.std.specs.Str.{bytes_eq}
 use Rattle.std.specs.Map.{lookup, set_value}
 use Rattle.std.specs.Cmp.Lexicographic.{nat_list_eq_equiv, bytes_decides}

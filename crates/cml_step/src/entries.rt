@@ -1,9 +1,10 @@
 //! The entries of a thread's stack, of which copies share all but the top one.
 
 ghost use Rattle.std.specs.Prelude.{◌≡◌, ◌↔◌, ◌++◌, ◌<◌, ◌∷◌, List, [], length, IfOk, IsTrue, MatchOption, option_copied};
-ghost use Rattle.cml_step.specs.Machines.{plain_held};
+ghost use Rattle.cml_step.specs.Machines.{PlainHeld, plain_held};
 ghost use Rattle.cml_step.specs.Shared.{TakesOff, framed, left_of, topped, within};
 
+use crate::call::Call;
 use crate::entry::{Entry, copy_entry, may_be_same, same_entry};
 use std::alloc::{AllocError, Global};
 use std::marker::Model;
@@ -103,11 +104,7 @@ fn opened(alloc: Global, frame: Arc<Frame>) -> Result<(Entry, Option<Arc<Frame>>
 }
 
 // The entry on top of those in the frame.
-fn on_top(
-    alloc: Global,
-    entry: Entry,
-    below: Option<Arc<Frame>>,
-) -> Result<Arc<Frame>, AllocError>
+fn on_top(alloc: Global, entry: Entry, below: Option<Arc<Frame>>) -> Result<Arc<Frame>, AllocError>
     ensures { IfOk result (λ f. f.value ≡ framed below ++ plain_held entry ∷ []) }
 {
     match Arc::new(alloc, Frame { entry, below }) {
@@ -238,6 +235,17 @@ impl Stack {
         }
     }
 
+    /// Whether a call is on top, and stands in its place.
+    pub fn has_call(&self) -> bool
+        ensures { IsTrue result → (hs : List PlainHeld) × (c : Call)
+            × (self.now ≡ hs ++ plain_held (Entry.Call c) ∷ []) }
+    {
+        match &self.top {
+            Some(entry) => is_call(entry),
+            None => false,
+        }
+    }
+
     /// Takes all entries off.
     pub fn clear(&mut self)
         ensures { self.new ≡ [] }
@@ -280,6 +288,13 @@ impl Stack {
         self.below = rest;
         Ok(entry)
     }
+}
+
+// Whether the entry is a call.
+fn is_call(entry: &Entry) -> bool
+    ensures { IsTrue result → (c : Call) × (entry.now ≡ Entry.Call c) }
+{
+    matches!(entry, Entry::Call(_))
 }
 
 // The entries with this one on top, if there is one.

@@ -147,6 +147,9 @@ pub(crate) fn quiet_steps(
     ensures goes { IfOk result (λ n. (self : ℕ) → GoesIn (text_of program.now) self n
         (term_of program.now stack.old) (term_of program.now stack.new)) }
 {
+    if !stack.has_call() {
+        return Ok(0);
+    }
     match stack.pop(alloc)? {
         Some(Entry::Call(call)) => quiet_call(alloc, program, call, stack, most),
         Some(other) => {

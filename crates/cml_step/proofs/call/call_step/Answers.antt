@@ -1,5 +1,4 @@
 use Rattle.std.proofs.Common.{ap, sym, option_copied, ◌∙◌, subst}
-use Rattle.cml_step.specs.Places.{stmt_at, block_at}
 use Rattle.cml_step.specs.Calls.{Moves, text_of}
 use Rattle.cml_step.proofs.CallLemmas.{stepped}
 use Rattle.cml_step.proofs.call.call_step.Goals as goal

@@ -1,7 +1,7 @@
 use Rattle.std.proofs.Common.{ap, sym, ◌∙◌, refl, ◌++◌, ◌∷◌, []}
 use Rattle.cml_step.specs.declared.entry.Entry.TheVariants as entry
 use Rattle.cml_step.specs.declared.entry.Wraps.{Wraps}
-use Rattle.cml_step.specs.Answers.{awaited, answered}
+use Rattle.cml_step.specs.Answers.{answered}
 use Rattle.cml_step.specs.Asks.{a_commit}
 use Rattle.cml_step.specs.Calls.{text_of}
 use Rattle.cml_step.specs.Machines.{plain_held}

@@ -1,5 +1,4 @@
 use Rattle.std.proofs.Common.{ap, sym, option_copied, ◌∙◌}
-use Rattle.cml_step.specs.Places.{stmt_at, block_at}
 use Rattle.cml_step.specs.Calls.{text_of}
 use Rattle.cml_step.proofs.CallLemmas.{stepped}
 use Rattle.cml_step.proofs.quiet.quiet_step.Goals as goal
