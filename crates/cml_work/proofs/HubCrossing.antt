@@ -2,6 +2,9 @@
 use denote.RattleType.{RattleType}
 use mathlib.Core.List.{[], ◌∷◌}
 use denote.Struct.Tuple.{TupleAt}
+use denote.Model.Local.{Parts, rows}
+use denote.Model.Goals.{send, sync, has_of, part_has}
+use denote.Model.Marks.{both_send, both_sync}
 use denote.Param.Send.{IsSend, IsSync, sendable}
 use Rattle.std.specs.contracts.alloc.Global as Global
 use Rattle.std.specs.contracts.impls.GlobalAllocator.TheImpl.{ghosts as heap}
@@ -19,6 +22,9 @@ use Rattle.cml_base.specs.contracts.register.Register as Register
 use Rattle.cml_signal.specs.contracts.clock.Clock as Clock
 use Rattle.cml_book.specs.contracts.state.State as State
 use Rattle.cml_book.specs.contracts.book.Book as Book
+use Rattle.cml_step.specs.contracts.entries.Frame.TheKnot as frame
+use Rattle.cml_step.specs.contracts.entries.Frame as Frame
+use Rattle.cml_step.specs.declared.entries.Frame.TheDeep as frames
 use Rattle.cml_step.specs.contracts.machine.Machine as Machine
 use Rattle.cml_hub.specs.contracts.course.Course as Course
 use Rattle.cml_hub.specs.contracts.hub.Hub as Hub
@@ -63,9 +69,22 @@ state_send = search (all_cross, clock_send, register_send) depth 60 fits 100000
 book_send : (T : RattleType) (k : _) → IsSend T → IsSend (Book.the_row T k)
 book_send T k s = search (all_cross, state_send) depth 60 fits 100000
 
--- the machines
+-- the machines: a frame of a stack reaches those below it
+module _ (p : Parts frame.frame) (s : (j : frames.the_members) → IsSend (rows frame.frame p j)) (y : (j : frames.the_members) → IsSync (rows frame.frame p j)) where
+  frame_sends : (i : frames.the_members) → IsSend (rows frame.frame (frame.step p) i)
+  frame_sends frames.member-Frame = has_of frame.frame send (frame.step p) frames.member-Frame (part_has send (frame.view-Frame p) (search all_cross depth 60 fits 100000))
+
+  frame_syncs : (i : frames.the_members) → IsSync (rows frame.frame (frame.step p) i)
+  frame_syncs frames.member-Frame = has_of frame.frame sync (frame.step p) frames.member-Frame (part_has sync (frame.view-Frame p) (search all_cross depth 60 fits 100000))
+
+frame_send : IsSend Frame.the_row
+frame_send = both_send frame.frame frame.step frame.sizes frame_sends frame_syncs frames.member-Frame
+
+frame_sync : IsSync Frame.the_row
+frame_sync = both_sync frame.frame frame.step frame.sizes frame_sends frame_syncs frames.member-Frame
+
 machine_send : IsSend Machine.the_row
-machine_send = search all_cross depth 60 fits 100000
+machine_send = search (all_cross, frame_send, frame_sync) depth 60 fits 100000
 
 -- the hub
 course_send : IsSend Course.the_row
