@@ -94,8 +94,8 @@ abbrev pub failed_by : Cause → ℕ
 failed_by cause.Write = 1
 failed_by _ = 0
 
--- What was written of the reports, where this is why: the first of them, or a beginning of them; or where they are written while the
--- program runs, a beginning of some reports; or the reports of another run.
+-- What was written of the reports, where this is why: the first of them, or a prefix of them; or where they are written while the
+-- program runs, a prefix of some reports; or the reports of another run.
 abbrev pub AreToldBy : RunOptions → Kept → Cause → Stream → Type 0
 AreToldBy options h cause.Memory errors =
     ((n : ℕ) × Takes errors (reports_text (take n h.reports))) ⊎ (AreLive options × BreaksOff errors)

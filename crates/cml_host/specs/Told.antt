@@ -62,13 +62,13 @@ IsTold reports text output errors =
 abbrev pub cannot_write : List ℕ
 cannot_write = line (codes "cannot write output")
 
--- after a write that failed the line was written, or where that failed too a beginning of it
+-- after a write that failed the line was written, or where that failed too a prefix of it
 abbrev pub SaysStill : Counted → List ℕ → List ℕ → Type 0
 SaysStill errors part told =
     (Takes errors.bytes (part ++ told) × (errors.counts.failed ≡ 1))
     ⊎ ((said : List ℕ) × (unsaid : List ℕ) × (told ≡ said ++ unsaid) × Takes errors.bytes (part ++ said) × (errors.counts.failed ≡ 2))
 
--- a write of the text failed after a beginning of it, and then the line was said
+-- a write of the text failed after a prefix of it, and then the line was said
 abbrev pub Breaks : Counted → List ℕ → List ℕ → Type 0
 Breaks errors text told =
     (part : List ℕ) × (unwritten : List ℕ) × (text ≡ part ++ unwritten) × SaysStill errors part told

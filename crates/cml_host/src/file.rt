@@ -42,7 +42,7 @@ pub fn load_from<R: Read>(
     }
 }
 
-/// Writes all of the bytes. Where that is refused, what went out is a beginning of them.
+/// Writes all of the bytes. Where that is refused, what went out is a prefix of them.
 ///
 /// # Errors
 /// A refusal exactly where a write failed, an interrupted one included, or took nothing.

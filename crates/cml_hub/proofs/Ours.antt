@@ -47,20 +47,6 @@ not_running_ours c ran t b h e r n = (
   λ o. (let k = (ours_own c ran h o).running in let f : is_running c.world ran.start.thread ≡ true = rw k refl in let g = rw e at r in cc),
 )
 
-pub other_machine_ours : (c : PlainCourse) (ran : PlainRan) (t : ℕ) (m : PlainMachine) (s : Bool) → Leads c → t ≡ ran.start.thread → slice_get c.world.threads t ≡ Some running → m ≡ slice_index_or c.machines t m
-    → (IsTrue s ↔ (m ≡ ran.start)) → s ≡ false → IsTrue false ↔ IsOurs c ran
-other_machine_ours c ran t m s h e run is both n = (
-  λ yes. cc,
-  λ o. (let k = (ours_own c ran h o).machine in let a = rw e at (machine_at c t m h run is) in let same : m ≡ ran.start = cc in let f : IsTrue s = both.1 same in cc),
-)
-
-pub program_ours : (c : PlainCourse) (ran : PlainRan) (t : ℕ) (m : PlainMachine) (s r : Bool) → Leads c → t ≡ ran.start.thread → slice_get c.world.threads t ≡ Some running → m ≡ slice_index_or c.machines t m
-    → (IsTrue s ↔ (m ≡ ran.start)) → s ≡ true → (IsTrue r ↔ (c.program ≡ ran.program)) → IsTrue r ↔ IsOurs c ran
-program_ours c ran t m s r h e run is both y prog = (
-  λ yes. (sym (prog.0 yes), (t, record { running = run; machine = machine_at c t m h run is ∙ ap (λ x. Some x) (both.0 y) })),
-  λ o. prog.1 (sym o.0),
-)
-
 pub current_ours : (c : PlainCourse) (ran : PlainRan) (t : ℕ) (m : PlainMachine) (s : Bool) → Leads c → t ≡ ran.start.thread → slice_get c.world.threads t ≡ Some running → m ≡ slice_index_or c.machines t m
     → (IsTrue s ↔ (m ≡ ran.start)) → ran.program ≡ c.program → IsTrue s ↔ IsOurs c ran
 current_ours c ran t m s h e run is both prog = (

@@ -214,15 +214,7 @@ impl Course {
     pub(crate) fn is_ours(&self, ran: &Ran) -> bool
         ensures { IsTrue result ↔ IsOurs self.now ran.now }
     {
-        let start = ran.start();
-        let thread = start.thread();
-        if !self.threads.is_running(thread) {
-            return false;
-        }
-        if !self.machines[thread.0 as usize].same(start) {
-            return false;
-        }
-        self.program.same(ran.program())
+        self.program.same(ran.program()) && self.is_current(ran)
     }
 
     // The same of a slice that is known to be of this program: some running thread has the machine with which it began.

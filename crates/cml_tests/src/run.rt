@@ -100,6 +100,43 @@ fn push_part(text: &mut String, part: &Part) -> Result<(), AllocError> {
     Ok(())
 }
 
+/// What a run left.
+#[derive(Drop)]
+pub struct Left {
+    pub output: Vec<u8>,
+    pub errors: Vec<u8>,
+    pub status: u8,
+}
+
+/// What the program leaves that is run on this line of words and this input, over the store.
+pub fn left_by(
+    rt: &(impl Threads + Wait + Sync),
+    alloc: Global,
+    line: &str,
+    input: &str,
+    store: &mut MemoryStore,
+) -> Result<Left, AllocError> {
+    let words = words(alloc, line)?;
+    let mut reader = input.as_bytes();
+    let mut output = Vec::new(alloc);
+    let mut errors = Vec::new(alloc);
+    let status = run_command(
+        rt,
+        alloc,
+        words.as_slice(),
+        &mut reader,
+        &mut output,
+        &mut errors,
+        store,
+    );
+    drop(words);
+    Ok(Left {
+        output,
+        errors,
+        status,
+    })
+}
+
 /// The program writes on these words and this input what the run says.
 pub fn gives(
     rt: &(impl Abort + Threads + Wait + Sync),
@@ -107,26 +144,18 @@ pub fn gives(
     name: &str,
     run: Run<'_>,
 ) -> Result<(), Fail> {
-    let words = words(alloc, run.words)?;
-    let mut reader = run.input.as_bytes();
-    let mut out = Vec::new(alloc);
-    let mut err = Vec::new(alloc);
     let mut store = MemoryStore::new(alloc);
-    let status = run_command(
-        rt,
-        alloc,
-        words.as_slice(),
-        &mut reader,
-        &mut out,
-        &mut err,
-        &mut store,
+    let left = left_by(rt, alloc, run.words, run.input, &mut store)?;
+    assert!(rt;
+        left.output.as_slice() == run.output.as_bytes(),
+        "output of {name}"
     );
-    assert!(rt; out.as_slice() == run.output.as_bytes(), "output of {name}");
-    assert!(rt; err.as_slice() == run.errors.as_bytes(), "errors of {name}");
-    assert!(rt; status == run.status, "status of {name}");
-    drop(words);
-    drop(out);
-    drop(err);
+    assert!(rt;
+        left.errors.as_slice() == run.errors.as_bytes(),
+        "errors of {name}"
+    );
+    assert!(rt; left.status == run.status, "status of {name}");
+    drop(left);
     drop(store);
     Ok(())
 }

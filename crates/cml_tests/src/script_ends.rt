@@ -1,8 +1,8 @@
 //! Schedules that are cut off, and random bytes in the place of scripts and schedules.
 
-use crate::run::words;
+use crate::run::{Left, left_by};
 use crate::script_run::{ADDITION, filled};
-use cml_host::{Store, run_command};
+use cml_host::Store;
 use rand_core::{Rng, SeedableRng};
 use rand_pcg::Pcg32;
 use std::alloc::Global;
@@ -14,14 +14,6 @@ use std::thread::Threads;
 const SCHEDULE: &str =
     "schedule 2 1000000 3 6\nturn 0\nturn 0\nturn 1\nturn 0\ncommit 1 0 0 0\nturn 1\nturn 0\nturn 0\nend\n";
 
-// What a run left.
-#[derive(Drop)]
-struct Left {
-    output: Vec<u8>,
-    errors: Vec<u8>,
-    status: u8,
-}
-
 // The program on these words, with the script that adds in the file `A`, and these bytes in the file `F`.
 fn run_beside(
     rt: &(impl Abort + Threads + Wait + Sync),
@@ -29,28 +21,11 @@ fn run_beside(
     line: &str,
     bytes: &[u8],
 ) -> Result<Left, Fail> {
-    let words = words(alloc, line)?;
     let mut store = filled(rt, alloc, &[("A", ADDITION)]);
     assert!(rt; store.save("F", bytes).is_ok(), "save");
-    let mut input = "".as_bytes();
-    let mut output = Vec::new(alloc);
-    let mut errors = Vec::new(alloc);
-    let status = run_command(
-        rt,
-        alloc,
-        words.as_slice(),
-        &mut input,
-        &mut output,
-        &mut errors,
-        &mut store,
-    );
-    drop(words);
+    let left = left_by(rt, alloc, line, "", &mut store)?;
     drop(store);
-    Ok(Left {
-        output,
-        errors,
-        status,
-    })
+    Ok(left)
 }
 
 #[test]

@@ -1,9 +1,8 @@
 //! The scripts of the folder `examples`, each with the text beside it: they are run, and then run again by the schedule that was recorded.
 
 use crate::memory_store::MemoryStore;
-use crate::run::words;
+use crate::run::left_by;
 use crate::script_run::filled;
-use cml_host::run_command;
 use std::alloc::Global;
 use std::process::Abort;
 use std::sync::Wait;
@@ -88,28 +87,17 @@ fn writes(
     example: &Example,
     store: &mut MemoryStore,
 ) -> Result<(), Fail> {
-    let words = words(alloc, line)?;
-    let mut input = "".as_bytes();
-    let mut out = Vec::new(alloc);
-    let mut err = Vec::new(alloc);
-    let status = run_command(
-        rt,
-        alloc,
-        words.as_slice(),
-        &mut input,
-        &mut out,
-        &mut err,
-        store,
-    );
+    let left = left_by(rt, alloc, line, "", store)?;
     let name = example.name;
-    assert!(rt; err.is_empty() && status == 0, "{line}: {name}");
     assert!(rt;
-        out.as_slice() == example.output.as_bytes(),
+        left.errors.is_empty() && left.status == 0,
         "{line}: {name}"
     );
-    drop(words);
-    drop(out);
-    drop(err);
+    assert!(rt;
+        left.output.as_slice() == example.output.as_bytes(),
+        "{line}: {name}"
+    );
+    drop(left);
     Ok(())
 }
 

@@ -1,8 +1,8 @@
 //! The program on scripts and schedules in a store, over memory.
 
 use crate::memory_store::MemoryStore;
-use crate::run::{Part, whole, words};
-use cml_host::{Store, StoreFault, run_command};
+use crate::run::{Part, left_by, whole};
+use cml_host::{Store, StoreFault};
 use std::alloc::Global;
 use std::process::Abort;
 use std::sync::Wait;
@@ -102,34 +102,20 @@ fn holds(
     alloc: Global,
     case: &Case,
 ) -> Result<(), Fail> {
-    let words = words(alloc, case.words)?;
     let mut store = filled(rt, alloc, case.files);
-    let mut input = "spawn\n".as_bytes();
-    let mut out = Vec::new(alloc);
-    let mut err = Vec::new(alloc);
-    let status = run_command(
-        rt,
-        alloc,
-        words.as_slice(),
-        &mut input,
-        &mut out,
-        &mut err,
-        &mut store,
-    );
+    let left = left_by(rt, alloc, case.words, "spawn\n", &mut store)?;
     let name = case.name;
     assert!(rt;
-        out.as_slice() == case.output.as_bytes(),
+        left.output.as_slice() == case.output.as_bytes(),
         "output of {name}"
     );
     assert!(rt;
-        err.as_slice() == case.errors.as_bytes(),
+        left.errors.as_slice() == case.errors.as_bytes(),
         "errors of {name}"
     );
-    assert!(rt; status == case.status, "status of {name}");
+    assert!(rt; left.status == case.status, "status of {name}");
     is_saved(rt, alloc, case, &mut store)?;
-    drop(words);
-    drop(out);
-    drop(err);
+    drop(left);
     drop(store);
     Ok(())
 }

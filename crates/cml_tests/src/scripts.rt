@@ -1,8 +1,8 @@
 //! Scripts and texts in a file of the store: what `check` and `fmt` say of them.
 
 use crate::memory_store::MemoryStore;
-use crate::run::{Part, whole, words};
-use cml_host::{Store, run_command};
+use crate::run::{Left, Part, left_by, whole};
+use cml_host::Store;
 use rand_core::{Rng, SeedableRng};
 use rand_pcg::Pcg32;
 use std::alloc::{AllocError, Global};
@@ -275,14 +275,6 @@ const PROGRAMS: &[&str] = &[
     "(fn add (m) (let x (sync (mtake m))) (mput m (+ x 1))) (fn main () (let m (mvar 0)) (let a (spawn add m)) (let b (spawn add m)) (sync (join a)) (sync (join b)) (let x (sync (mget m))) (print x))",
 ];
 
-// What a run of the program left.
-#[derive(Drop)]
-struct Left {
-    output: Vec<u8>,
-    errors: Vec<u8>,
-    status: u8,
-}
-
 // The program on these words, with this text in the file `F`.
 fn run_on(
     rt: &(impl Threads + Wait + Sync),
@@ -290,28 +282,13 @@ fn run_on(
     line: &str,
     text: &[u8],
 ) -> Result<Left, AllocError> {
-    let words = words(alloc, line)?;
     let mut store = MemoryStore::new(alloc);
     if store.save("F", text).is_err() {
         return Err(AllocError);
     }
-    let mut input = "spawn\n".as_bytes();
-    let mut output = Vec::new(alloc);
-    let mut errors = Vec::new(alloc);
-    let status = run_command(
-        rt,
-        alloc,
-        words.as_slice(),
-        &mut input,
-        &mut output,
-        &mut errors,
-        &mut store,
-    );
-    Ok(Left {
-        output,
-        errors,
-        status,
-    })
+    let left = left_by(rt, alloc, line, "spawn\n", &mut store)?;
+    drop(store);
+    Ok(left)
 }
 
 #[test]

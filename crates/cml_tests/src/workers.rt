@@ -1,9 +1,9 @@
 //! Scripts that workers run: what they write, and that their schedules lead to the same again.
 
 use crate::memory_store::MemoryStore;
-use crate::run::words;
+use crate::run::left_by;
 use crate::script_run::{ADDITION, CANCELLED, COUNTER, Case, SWAPPED, all_come_out, filled};
-use cml_host::{Store, run_command};
+use cml_host::Store;
 use std::alloc::Global;
 use std::process::Abort;
 use std::sync::Wait;
@@ -152,41 +152,6 @@ const RECORDED: &[(&str, &str)] = &[
     ),
 ];
 
-// What a run left.
-#[derive(Drop)]
-struct Left {
-    output: Vec<u8>,
-    errors: Vec<u8>,
-    status: u8,
-}
-
-fn left_by(
-    rt: &(impl Threads + Wait + Sync),
-    alloc: Global,
-    line: &str,
-    store: &mut MemoryStore,
-) -> Result<Left, Fail> {
-    let words = words(alloc, line)?;
-    let mut input = "".as_bytes();
-    let mut output = Vec::new(alloc);
-    let mut errors = Vec::new(alloc);
-    let status = run_command(
-        rt,
-        alloc,
-        words.as_slice(),
-        &mut input,
-        &mut output,
-        &mut errors,
-        store,
-    );
-    drop(words);
-    Ok(Left {
-        output,
-        errors,
-        status,
-    })
-}
-
 // How many lines begin with this word.
 fn lines_with(text: &[u8], word: &[u8]) -> usize {
     let mut count = 0usize;
@@ -206,8 +171,8 @@ fn leads_again(
     (run, replay): (&str, &str),
 ) -> Result<(), Fail> {
     let mut store = filled(rt, alloc, &[("A", script)]);
-    let ran = left_by(rt, alloc, run, &mut store)?;
-    let again = left_by(rt, alloc, replay, &mut store)?;
+    let ran = left_by(rt, alloc, run, "", &mut store)?;
+    let again = left_by(rt, alloc, replay, "", &mut store)?;
     assert!(rt;
         ran.output.as_slice() == again.output.as_slice(),
         "output of {run}"

@@ -18,7 +18,7 @@ abbrev pub BreaksOff : Stream → Type 0
 BreaksOff output = (reports : List PlainReport) × TakesStart output (texts_of reports)
 
 -- What was written where there is no hub that has run to its end with the reports that were seen: nothing where the number of workers is
--- not one there may be; those that were seen where they are not the hub's; else a beginning of some reports.
+-- not one there may be; those that were seen where they are not the hub's; else a prefix of some reports.
 abbrev pub FaultWrites : Stream → WorkFault → Type 0
 FaultWrites output (Count hub) = Takes output []
 FaultWrites output (Foreign hub seen) = Takes output (texts_of seen.items)
