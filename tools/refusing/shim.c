@@ -51,9 +51,15 @@ __attribute__((constructor)) static void begin(void)
     which = words ? strtoul(words, 0, 10) : 0;
 }
 
+/* (several threads may count at once) */
+static unsigned long one_more(unsigned long *count)
+{
+    return __atomic_add_fetch(count, 1, __ATOMIC_SEQ_CST);
+}
+
 static int no_memory(void)
 {
-    if (++seen->growths == which && kind == ALLOC) {
+    if (one_more(&seen->growths) == which && kind == ALLOC) {
         errno = ENOMEM;
         return 1;
     }
@@ -90,7 +96,7 @@ void *aligned_alloc(size_t align, size_t size)
 
 static int fails(void)
 {
-    if (++seen->calls == which && kind == IO) {
+    if (one_more(&seen->calls) == which && kind == IO) {
         errno = EIO;
         return 1;
     }
@@ -99,14 +105,14 @@ static int fails(void)
 
 static size_t moved(size_t size)
 {
-    if (size > 1 && ++seen->several == which && kind == SHORT)
+    if (size > 1 && one_more(&seen->several) == which && kind == SHORT)
         return 1;
     return size;
 }
 
 ssize_t read(int file, void *bytes, size_t size)
 {
-    seen->reads++;
+    one_more(&seen->reads);
     if (kind == INTERRUPT) {
         errno = EINTR;
         return -1;
