@@ -93,6 +93,10 @@ def cases_of(module):
         found += names[name] if isinstance(names[name], list) else []
     made = []
     for kind, fields in (it for it in found if isinstance(it, tuple)):
+        fields.pop("shows", None)
+        lines = fields.pop("lines", ())
+        fields["input"] = "".join(f"{line}\n" for line, _ in lines) or fields.get("input", "")
+        fields["output"] = "".join(f"{answer}\n" for _, answer in lines if answer) or fields.get("output", "")
         for field in ("input", "output", "saved"):
             if isinstance(fields.get(field), list):
                 fields[field] = whole(fields[field])

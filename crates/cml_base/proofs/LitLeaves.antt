@@ -11,7 +11,7 @@ use Rattle.std.proofs.lemmas.Bool.{false≢true}
 use Rattle.std.proofs.lemmas.Bool.Decides.{nat_tests}
 use Rattle.std.proofs.lemmas.Cmp.{ranked}
 use Rattle.cml_value.specs.declared.number.Tid.{Tid}
-use Rattle.cml_base.specs.Registered.{PlainWait, WaitsForLit, ComesBefore}
+use Rattle.cml_base.specs.Registered.{WaitingLeaf, WaitsForLit, ComesBefore}
 
 -- a leaf by its thread's number, and by its thread
 abbrev pub Leaf : Type 0
@@ -21,14 +21,14 @@ abbrev pub named : Leaf → Tid × ℕ
 named q = (record { 0 = q.0 }, q.1)
 
 -- as the register compares its waits
-abbrev pub wait_cmp : PlainWait → PlainWait → Ordering
+abbrev pub wait_cmp : WaitingLeaf → WaitingLeaf → Ordering
 wait_cmp a b = ordering_then (ordering_then (nat_cmp a.0.0 b.0.0) (nat_cmp a.0.1 b.0.1)) (nat_cmp a.1 b.1)
 
 abbrev pub is_last : Option Leaf → Leaf → Bool
 is_last last q = option_eq (λ (x y : Leaf). (x.0 == y.0) && (x.1 == y.1)) last (Some q)
 
 -- the leaves of lit waits, where `last` was listed before them
-abbrev pub lit_leaves_after : (ℕ → Bool) → Option Leaf → List PlainWait → List (Tid × ℕ)
+abbrev pub lit_leaves_after : (ℕ → Bool) → Option Leaf → List WaitingLeaf → List (Tid × ℕ)
 lit_leaves_after lit last [] = []
 lit_leaves_after lit last (w ∷ ws) = if not (is_last last w.0) && lit w.1 then named w.0 ∷ lit_leaves_after lit (Some w.0) ws else lit_leaves_after lit last ws
 
@@ -83,14 +83,14 @@ less_step a b Equal Greater q e f h = cc
 less_step a b Greater p q e f h = cc
 
 -- of two waits in order the leaf of the first is that of the second, or stands before it
-less_leaves : (a b : PlainWait) → wait_cmp a b ≡ Less → (a.0 ≡ b.0) ⊎ ComesBefore (named a.0) (named b.0)
+less_leaves : (a b : WaitingLeaf) → wait_cmp a b ≡ Less → (a.0 ≡ b.0) ⊎ ComesBefore (named a.0) (named b.0)
 less_leaves a b h = less_step a.0 b.0 (nat_cmp a.0.0 b.0.0) (nat_cmp a.0.1 b.0.1) (nat_cmp a.1 b.1) refl refl h
 
 comes_trans : (p q r : Tid × ℕ) → ComesBefore p q → ComesBefore q r → ComesBefore p r
 comes_trans p q r h k = grind arith
 
--- no wait of a leaf before `last` follows, and a leaf stands behind it
-abbrev NotBelow : Option Leaf → PlainWait → Type 0
+-- no wait of a leaf before `last` follows, and a leaf stands after it
+abbrev NotBelow : Option Leaf → WaitingLeaf → Type 0
 NotBelow None w = Unit {0}
 NotBelow (Some p) w = (p ≡ w.0) ⊎ ComesBefore (named p) (named w.0)
 
@@ -108,7 +108,7 @@ last_is (Some p) q h =
 last_itself : (q : Leaf) → is_last (Some q) q ≡ true
 last_itself q = grind (arith, nat_tests)
 
-behind_last : (last : Option Leaf) (w : PlainWait) → is_last last w.0 ≡ false → NotBelow last w → IsBehind last (named w.0)
+behind_last : (last : Option Leaf) (w : WaitingLeaf) → is_last last w.0 ≡ false → NotBelow last w → IsBehind last (named w.0)
 behind_last None w h k = tt
 behind_last (Some p) w h k =
     elim k [
@@ -116,27 +116,27 @@ behind_last (Some p) w h k =
       | inr c ↦ c
     ]
 
-behind_more : (last : Option Leaf) (w : PlainWait) (q : Tid × ℕ) → IsBehind last (named w.0) → ComesBefore (named w.0) q → IsBehind last q
+behind_more : (last : Option Leaf) (w : WaitingLeaf) (q : Tid × ℕ) → IsBehind last (named w.0) → ComesBefore (named w.0) q → IsBehind last q
 behind_more None w q h k = tt
 behind_more (Some p) w q h k = comes_trans (named p) (named w.0) q h k
 
-none_below : (ws : List PlainWait) → AllByRecursion (NotBelow None) ws
+none_below : (ws : List WaitingLeaf) → AllByRecursion (NotBelow None) ws
 none_below [] = tt
 none_below (w ∷ ws) = (tt, none_below ws)
 
-later_leaves : (w : PlainWait) (ws : List PlainWait) → AllByRecursion (λ y. wait_cmp w y ≡ Less) ws → AllByRecursion (NotBelow (Some w.0)) ws
+later_leaves : (w : WaitingLeaf) (ws : List WaitingLeaf) → AllByRecursion (λ y. wait_cmp w y ≡ Less) ws → AllByRecursion (NotBelow (Some w.0)) ws
 later_leaves w ws h = each_map (λ y. wait_cmp w y ≡ Less) (NotBelow (Some w.0)) ws (less_leaves w) h
 
--- the list ascends, behind `last`
+-- the list ascends, after `last`
 
-behind_step : (last : Option Leaf) (w : PlainWait) (new rest : List (Tid × ℕ)) (b1 b2 : Bool) → is_last last w.0 ≡ b1 → NotBelow last w → AllByRecursion (IsBehind (Some w.0)) new → AllByRecursion (IsBehind last) rest → AllByRecursion (IsBehind last) (if not b1 && b2 then named w.0 ∷ new else rest)
+behind_step : (last : Option Leaf) (w : WaitingLeaf) (new rest : List (Tid × ℕ)) (b1 b2 : Bool) → is_last last w.0 ≡ b1 → NotBelow last w → AllByRecursion (IsBehind (Some w.0)) new → AllByRecursion (IsBehind last) rest → AllByRecursion (IsBehind last) (if not b1 && b2 then named w.0 ∷ new else rest)
 behind_step last w new rest false true e k a b =
     let h : IsBehind last (named w.0) = behind_last last w e k in
     (h, each_map (IsBehind (Some w.0)) (IsBehind last) new (λ q. behind_more last w q h) a)
 behind_step last w new rest false false e k a b = b
 behind_step last w new rest true b2 e k a b = b
 
-leaves_behind : (lit : ℕ → Bool) (last : Option Leaf) (ws : List PlainWait) → IsStrictlySortedBy wait_cmp ws → AllByRecursion (NotBelow last) ws → AllByRecursion (IsBehind last) (lit_leaves_after lit last ws)
+leaves_behind : (lit : ℕ → Bool) (last : Option Leaf) (ws : List WaitingLeaf) → IsStrictlySortedBy wait_cmp ws → AllByRecursion (NotBelow last) ws → AllByRecursion (IsBehind last) (lit_leaves_after lit last ws)
 unfolding IsStrictlySortedBy
 leaves_behind lit last [] h k = tt
 leaves_behind lit last (w ∷ ws) h k =
@@ -144,12 +144,12 @@ leaves_behind lit last (w ∷ ws) h k =
     (leaves_behind lit (Some w.0) ws h.1 (later_leaves w ws h.0))
     (leaves_behind lit last ws h.1 k.1)
 
-ascend_step : (w : PlainWait) (new rest : List (Tid × ℕ)) (b1 b2 : Bool) → AllByRecursion (ComesBefore (named w.0)) new → Ascending ComesBefore new → Ascending ComesBefore rest → Ascending ComesBefore (if not b1 && b2 then named w.0 ∷ new else rest)
+ascend_step : (w : WaitingLeaf) (new rest : List (Tid × ℕ)) (b1 b2 : Bool) → AllByRecursion (ComesBefore (named w.0)) new → Ascending ComesBefore new → Ascending ComesBefore rest → Ascending ComesBefore (if not b1 && b2 then named w.0 ∷ new else rest)
 ascend_step w new rest false true a h k = (a, h)
 ascend_step w new rest false false a h k = k
 ascend_step w new rest true b2 a h k = k
 
-leaves_ascend : (lit : ℕ → Bool) (last : Option Leaf) (ws : List PlainWait) → IsStrictlySortedBy wait_cmp ws → Ascending ComesBefore (lit_leaves_after lit last ws)
+leaves_ascend : (lit : ℕ → Bool) (last : Option Leaf) (ws : List WaitingLeaf) → IsStrictlySortedBy wait_cmp ws → Ascending ComesBefore (lit_leaves_after lit last ws)
 unfolding IsStrictlySortedBy
 leaves_ascend lit last [] h = tt
 leaves_ascend lit last (w ∷ ws) h =
@@ -158,21 +158,21 @@ leaves_ascend lit last (w ∷ ws) h =
     (leaves_ascend lit (Some w.0) ws h.1)
     (leaves_ascend lit last ws h.1)
 
-pub lit_leaves_in_order : (lit : ℕ → Bool) (ws : List PlainWait) → IsStrictlySortedBy wait_cmp ws → AllPairs ComesBefore (lit_leaves_after lit None ws)
+pub lit_leaves_in_order : (lit : ℕ → Bool) (ws : List WaitingLeaf) → IsStrictlySortedBy wait_cmp ws → AllPairs ComesBefore (lit_leaves_after lit None ws)
 lit_leaves_in_order lit ws h = pairs_ascending ComesBefore (lit_leaves_after lit None ws) (leaves_ascend lit None ws h)
 
 -- the list has exactly the leaves that wait for a lit object
 
-abbrev WaitsAmong : (ℕ → Bool) → List PlainWait → Tid × ℕ → Type 0
+abbrev WaitsAmong : (ℕ → Bool) → List WaitingLeaf → Tid × ℕ → Type 0
 WaitsAmong lit [] p = ⊥
 WaitsAmong lit (w ∷ ws) p = ((named w.0 ≡ p) × IsTrue (lit w.1)) ⊎ WaitsAmong lit ws p
 
-sound_step : (P : Type 0) (p : Tid × ℕ) (w : PlainWait) (new rest : List (Tid × ℕ)) (l b1 b2 : Bool) → l ≡ b2 → (Has new p → P) → (Has rest p → P) → Has (if not b1 && b2 then named w.0 ∷ new else rest) p → ((named w.0 ≡ p) × IsTrue l) ⊎ P
+sound_step : (P : Type 0) (p : Tid × ℕ) (w : WaitingLeaf) (new rest : List (Tid × ℕ)) (l b1 b2 : Bool) → l ≡ b2 → (Has new p → P) → (Has rest p → P) → Has (if not b1 && b2 then named w.0 ∷ new else rest) p → ((named w.0 ≡ p) × IsTrue l) ⊎ P
 sound_step P p w new rest l false true e f g h = elim h [ inl i ↦ inl (i, e) | inr j ↦ inr (f j) ]
 sound_step P p w new rest l false false e f g h = inr (g h)
 sound_step P p w new rest l true b2 e f g h = inr (g h)
 
-leaves_wait : (lit : ℕ → Bool) (last : Option Leaf) (ws : List PlainWait) (p : Tid × ℕ) → Has (lit_leaves_after lit last ws) p → WaitsAmong lit ws p
+leaves_wait : (lit : ℕ → Bool) (last : Option Leaf) (ws : List WaitingLeaf) (p : Tid × ℕ) → Has (lit_leaves_after lit last ws) p → WaitsAmong lit ws p
 leaves_wait lit last [] p h = h
 leaves_wait lit last (w ∷ ws) p h =
     sound_step (WaitsAmong lit ws p) p w (lit_leaves_after lit (Some w.0) ws) (lit_leaves_after lit last ws) (lit w.1) (is_last last w.0) (lit w.1) refl
@@ -185,7 +185,7 @@ IsNamed (Some q) p = named q ≡ p
 named_last : (last : Option Leaf) (q : Leaf) (p : Tid × ℕ) → last ≡ Some q → named q ≡ p → IsNamed last p
 named_last last q p e h = rw e h
 
-whole_step : (P : Type 0) (p : Tid × ℕ) (last : Option Leaf) (w : PlainWait) (new rest : List (Tid × ℕ)) (l b1 b2 : Bool) → l ≡ b2 → is_last last w.0 ≡ b1 → (P → Has new p ⊎ (named w.0 ≡ p)) → (P → Has rest p ⊎ IsNamed last p) → ((named w.0 ≡ p) × IsTrue l) ⊎ P → Has (if not b1 && b2 then named w.0 ∷ new else rest) p ⊎ IsNamed last p
+whole_step : (P : Type 0) (p : Tid × ℕ) (last : Option Leaf) (w : WaitingLeaf) (new rest : List (Tid × ℕ)) (l b1 b2 : Bool) → l ≡ b2 → is_last last w.0 ≡ b1 → (P → Has new p ⊎ (named w.0 ≡ p)) → (P → Has rest p ⊎ IsNamed last p) → ((named w.0 ≡ p) × IsTrue l) ⊎ P → Has (if not b1 && b2 then named w.0 ∷ new else rest) p ⊎ IsNamed last p
 whole_step P p last w new rest l false true e d f g (inl h) = inl (inl h.0)
 whole_step P p last w new rest l false true e d f g (inr h) = elim (f h) [ inl i ↦ inl (inr i) | inr i ↦ inl (inl i) ]
 whole_step P p last w new rest l true b2 e d f g (inl h) = inr (named_last last w.0 p (last_is last w.0 d) h.0)
@@ -193,23 +193,23 @@ whole_step P p last w new rest l true b2 e d f g (inr h) = g h
 whole_step P p last w new rest l false false e d f g (inl h) = absurd (false≢true (sym e ∙ h.1))
 whole_step P p last w new rest l false false e d f g (inr h) = g h
 
-waits_listed : (lit : ℕ → Bool) (last : Option Leaf) (ws : List PlainWait) (p : Tid × ℕ) → WaitsAmong lit ws p → Has (lit_leaves_after lit last ws) p ⊎ IsNamed last p
+waits_listed : (lit : ℕ → Bool) (last : Option Leaf) (ws : List WaitingLeaf) (p : Tid × ℕ) → WaitsAmong lit ws p → Has (lit_leaves_after lit last ws) p ⊎ IsNamed last p
 waits_listed lit last [] p h = absurd h
 waits_listed lit last (w ∷ ws) p h =
     whole_step (WaitsAmong lit ws p) p last w (lit_leaves_after lit (Some w.0) ws) (lit_leaves_after lit last ws) (lit w.1) (is_last last w.0) (lit w.1) refl refl
     (waits_listed lit (Some w.0) ws p) (waits_listed lit last ws p) h
 
-among_waits : (lit : ℕ → Bool) (ws : List PlainWait) (p : Tid × ℕ) (id : ℕ) → IsTrue (lit id) → Has ws ((p.0.0, p.1), id) → WaitsAmong lit ws p
+among_waits : (lit : ℕ → Bool) (ws : List WaitingLeaf) (p : Tid × ℕ) (id : ℕ) → IsTrue (lit id) → Has ws ((p.0.0, p.1), id) → WaitsAmong lit ws p
 among_waits lit [] p id h k = k
-among_waits lit (w ∷ ws) p id h (inl e) = inl (ap (λ (v : PlainWait). named v.0) e, rw e h)
+among_waits lit (w ∷ ws) p id h (inl e) = inl (ap (λ (v : WaitingLeaf). named v.0) e, rw e h)
 among_waits lit (w ∷ ws) p id h (inr k) = inr (among_waits lit ws p id h k)
 
-waits_among : (lit : ℕ → Bool) (ws : List PlainWait) (p : Tid × ℕ) → WaitsAmong lit ws p → (id : ℕ) × IsTrue (lit id) × Has ws ((p.0.0, p.1), id)
+waits_among : (lit : ℕ → Bool) (ws : List WaitingLeaf) (p : Tid × ℕ) → WaitsAmong lit ws p → (id : ℕ) × IsTrue (lit id) × Has ws ((p.0.0, p.1), id)
 waits_among lit [] p h = absurd h
-waits_among lit (w ∷ ws) p (inl h) = (w.1, h.1, inl (ap (λ (q : Tid × ℕ). let r : PlainWait = ((q.0.0, q.1), w.1) in r) h.0))
+waits_among lit (w ∷ ws) p (inl h) = (w.1, h.1, inl (ap (λ (q : Tid × ℕ). let r : WaitingLeaf = ((q.0.0, q.1), w.1) in r) h.0))
 waits_among lit (w ∷ ws) p (inr h) = (let r = waits_among lit ws p h in (r.0, r.1, inr r.2))
 
-pub lit_leaves_exact : (lit : ℕ → Bool) (ws : List PlainWait) (p : Tid × ℕ) → Contains (lit_leaves_after lit None ws) p ↔ WaitsForLit lit ws p
+pub lit_leaves_exact : (lit : ℕ → Bool) (ws : List WaitingLeaf) (p : Tid × ℕ) → Contains (lit_leaves_after lit None ws) p ↔ WaitsForLit lit ws p
 lit_leaves_exact lit ws p = (
   (λ h. let r = waits_among lit ws p (leaves_wait lit None ws p (has_contains (lit_leaves_after lit None ws) p h)) in (r.0, r.1, contains_has ws ((p.0.0, p.1), r.0) r.2)),
   (λ h. elim (waits_listed lit None ws p (among_waits lit ws p h.0 h.1 (has_contains ws ((p.0.0, p.1), h.0) h.2))) [

@@ -16,7 +16,7 @@ IsAccepted (Ok s) = Unit {0}
 IsAccepted (Err why) = ⊥
 
 -- The call does what `outcome` says of this feed, from the state `old` to the state `new`. A refused feed comes back, and nothing
--- changes. Memory is wanted only where the feed would be accepted.
+-- changes. Memory runs out only where the feed would be accepted.
 abbrev pub Feeds : {S F : Type 0} → Result (Unit {0}) (FeedFault F) → Result S PlainRefusal → F → S → S → Type 0
 Feeds (Ok done) outcome feed old new = outcome ≡ Ok new
 Feeds (Err (Put back)) outcome feed old new = (outcome ≡ Err put) × (new ≡ old) × (back ≡ feed)
@@ -24,7 +24,7 @@ Feeds (Err (Full back)) outcome feed old new = (outcome ≡ Err full) × (new �
 Feeds (Err (Spent back)) outcome feed old new = (outcome ≡ Err spent) × (new ≡ old) × (back ≡ feed)
 Feeds (Err (Memory back)) outcome feed old new = IsAccepted outcome × (new ≡ old) × (back ≡ feed)
 
--- whatever else is answered, it is not want of memory
+-- whatever the result is, it is not that memory ran out
 abbrev pub WantsNoMemory : {F : Type 0} → Result (Unit {0}) (FeedFault F) → Type 0
 WantsNoMemory (Err (Memory back)) = ⊥
 WantsNoMemory _ = Unit {0}

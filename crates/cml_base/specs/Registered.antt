@@ -5,13 +5,13 @@ use Rattle.cml_value.specs.declared.number.Tid.{Tid}
 use Rattle.cml_base.specs.Feeds.{PlainRefusal}
 
 -- a leaf of a thread that waits for an object: the thread and the number of the leaf, and then the number of the object
-abbrev pub PlainWait : Type 0
-PlainWait = (ℕ × ℕ) × ℕ
+abbrev pub WaitingLeaf : Type 0
+WaitingLeaf = (ℕ × ℕ) × ℕ
 
 -- the objects by their numbers, and who waits for them; `room` more objects can be made without memory
 pub record Registered (K : Type 0) : Type 0 where
   pub objects : List K
-  pub waits : List PlainWait
+  pub waits : List WaitingLeaf
   pub room : ℕ
 
 -- there is an object of this number, and it is lit
@@ -43,16 +43,16 @@ KeepsRoom has_room old new = (j : ℕ) → HasRoomAt has_room old j → HasRoomA
 abbrev pub KeepsOthers : {K : Type 0} → List K → List K → ℕ → Type 0
 KeepsOthers old new id = (j : ℕ) → j ≢ id → slice_get new j ≡ slice_get old j
 
--- this wait comes to the others
-abbrev pub AddsWait : PlainWait → List PlainWait → List PlainWait → Type 0
-AddsWait wait old new = (other : PlainWait) → Contains new other ↔ ((other ≡ wait) ⊎ Contains old other)
+-- this wait is added to the others
+abbrev pub AddsWait : WaitingLeaf → List WaitingLeaf → List WaitingLeaf → Type 0
+AddsWait wait old new = (other : WaitingLeaf) → Contains new other ↔ ((other ≡ wait) ⊎ Contains old other)
 
 -- this wait goes, and no other
-unfoldable pub RemovesWait : PlainWait → List PlainWait → List PlainWait → Type 0
-RemovesWait wait old new = (other : PlainWait) → Contains new other ↔ ((other ≢ wait) × Contains old other)
+unfoldable pub RemovesWait : WaitingLeaf → List WaitingLeaf → List WaitingLeaf → Type 0
+RemovesWait wait old new = (other : WaitingLeaf) → Contains new other ↔ ((other ≢ wait) × Contains old other)
 
 -- the leaf waits for an object that is lit
-abbrev pub WaitsForLit : (ℕ → Bool) → List PlainWait → Tid × ℕ → Type 0
+abbrev pub WaitsForLit : (ℕ → Bool) → List WaitingLeaf → Tid × ℕ → Type 0
 WaitsForLit lit waits leaf = (id : ℕ) × IsTrue (lit id) × Contains waits ((leaf.0.0, leaf.1), id)
 
 -- by thread, and then by the number of the leaf

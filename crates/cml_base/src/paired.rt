@@ -59,7 +59,7 @@ pub trait Paired {
     fn place(base: &Base) -> Option<(u32, bool)>
         ensures { result ≡ option_map (λ side. (key_of side, is_head side)) (side_of base.now) };
 
-    /// Two sides meet exactly where their keys are equal and, but in a kind with one lane, exactly one of them heads.
+    /// Two sides meet exactly where their keys are equal and, except in a kind with one lane, exactly one of them heads.
     ghost meeting: { (a b : Self.Side) →
         IsTrue (do_meet a b) ↔ ((key_of a ≡ key_of b) × (IsTrue ONE_LANE ⊎ (is_head a ≢ is_head b))) };
 

@@ -20,7 +20,7 @@ pub const MAX_OBJECTS: usize = 65_536;
 /// Objects of one kind by their numbers, and the leaves of pending threads that wait for them.
 ///
 /// A wait is a leaf (the thread, and the number of the leaf in it) and the number of the object. To wait and to leave takes time
-/// by the number of digits of the number of waits.
+/// logarithmic in the number of waits.
 #[derive(Drop)]
 pub struct Register<K: Source> {
     objects: Vec<K>,
@@ -63,7 +63,7 @@ impl<K: Source> Register<K> {
     /// One more object, which gets the next number. It takes up the room of one `make`, where it succeeds, and none of a feed.
     ///
     /// # Errors
-    /// Want of memory, but for a `room` before it: the object comes back, and nothing changes.
+    /// Out of memory, unless `room` was called before: the object comes back, and nothing changes.
     pub fn make(&mut self, object: K) -> Result<u32, AllocFailed<K>>
         requires { length self.old.objects < MAX_OBJECTS }
         ensures id { IfOk result (λ id. id ≡ length self.old.objects) }
@@ -91,7 +91,7 @@ impl<K: Source> Register<K> {
     /// The leaf waits for the object from now on. A wait that is there already stays as it is.
     ///
     /// # Errors
-    /// Want of memory: nothing changes.
+    /// Out of memory: nothing changes.
     pub fn wait(&mut self, id: u32, thread: Tid, leaf: u32) -> Result<(), AllocError>
         ensures ok { OnOk result (AddsWait ((thread.0, leaf), id) self.old.waits self.new.waits) }
         ensures err { OnErr result (self.new.waits ≡ self.old.waits) }
@@ -115,7 +115,7 @@ impl<K: Source> Register<K> {
     /// room there was stays, also at an error.
     ///
     /// # Errors
-    /// Want of memory; with a number never, where the kind is `ROOMY`.
+    /// Out of memory; with a number never, where the kind is `ROOMY`.
     pub fn room(&mut self, id: Option<u32>) -> Result<(), AllocError>
         requires { IfSome id (λ i. i < length self.old.objects) }
         ensures make { OnOk result (IsNone id → 0 < self.new.room) }
@@ -139,7 +139,7 @@ impl<K: Source> Register<K> {
     /// Feeds the object of this number. The room of a `make` and of each other object stays.
     ///
     /// # Errors
-    /// As the object refuses it: the feed comes back, and nothing changes; its room stays too.
+    /// What the object refuses it with: the feed comes back, and nothing changes; its room stays too.
     pub fn feed(&mut self, id: u32, feed: K::Feed) -> Result<(), FeedFault<K::Feed>>
         requires { id < length self.old.objects }
         ensures states { let old = map K.state self.old.objects in
@@ -156,8 +156,8 @@ impl<K: Source> Register<K> {
         feed_object(&mut self.objects, id, feed)
     }
 
-    /// What the object of this number gives for the want. The copy is what it spared for that want. It takes no memory,
-    /// and what room there was stays.
+    /// Returns what the object of this number gives for the want. The copy is what it spared for that want. It takes no
+    /// memory, and what room there was stays.
     pub fn give(&mut self, id: u32, want: K::Want, copy: Option<Value>) -> Value
         requires lit { IsTrue (lit_at K.is_lit (map K.state self.old.objects) id) }
         requires spared { copy ≡
@@ -179,7 +179,7 @@ impl<K: Source> Register<K> {
     /// The leaves that wait for an object that is lit, by thread and then leaf, each once.
     ///
     /// # Errors
-    /// Want of memory.
+    /// Out of memory.
     pub fn lit_waiters(&self, alloc: Global) -> Result<Vec<(Tid, u32)>, AllocError>
         ensures exact { IfOk result (λ list. (leaf : Tid × ℕ) → Contains list.items leaf ↔
             WaitsForLit (lit_at K.is_lit (map K.state self.now.objects)) self.now.waits leaf) }
@@ -200,7 +200,7 @@ fn is_lit_at<K: Source>(objects: &[K], id: u32) -> bool
     }
 }
 
-// That wait goes, and no other.
+// Removes that wait, and no other.
 fn remove_wait(waits: &mut BTreeSet<((u32, u32), u32)>, wait: ((u32, u32), u32))
     ensures { RemovesWait wait waits.old.keys waits.new.keys }
 {

@@ -16,7 +16,7 @@ pub enum FeedFault<F> {
     Full(F),
     /// The object takes no such feed any more, or not yet.
     Spent(F),
-    /// Want of memory.
+    /// Out of memory.
     Memory(F),
 }
 
@@ -30,7 +30,7 @@ pub trait Source: Drop {
     /// What changes it from outside.
     type Feed;
 
-    /// What an object holds, with no memory in it.
+    /// What an object holds, apart from how it lies in memory.
     ghost State: { Type 0 };
 
     ghost state: { Self → State };
@@ -58,7 +58,7 @@ pub trait Source: Drop {
 
     const STICKY: bool;
 
-    /// Whether no feed ever wants memory.
+    /// Whether no feed ever needs memory.
     ghost ROOMY: { Bool };
 
     const ROOMY: bool;
@@ -67,7 +67,7 @@ pub trait Source: Drop {
     fn lit(&self) -> bool
         ensures { result ≡ is_lit (state self.now) };
 
-    /// Whether it is still lit once the want was given its value. A table of communications is told so beforehand.
+    /// Whether it is still lit once the want was given its value. A table of communications is told of this beforehand.
     fn stays_lit_after(&self, want: &Self::Want) -> bool
         requires { IsTrue (is_lit (state self.now)) }
         ensures { result ≡ is_lit (after (state self.now) want.now) };
@@ -75,7 +75,7 @@ pub trait Source: Drop {
     /// The copy that `give` will need for the want.
     ///
     /// # Errors
-    /// Want of memory.
+    /// Out of memory.
     fn spare(&self, want: &Self::Want) -> Result<Option<Value>, AllocError>
         requires { IsTrue (is_lit (state self.now)) }
         ensures { IfOk result (λ copy. copy ≡ spared (state self.now) want.now) };
@@ -91,7 +91,7 @@ pub trait Source: Drop {
     /// Changes the object from outside.
     ///
     /// # Errors
-    /// What the kind says, and want of memory; nothing changes, and what room there was stays.
+    /// What the kind says, or out of memory; nothing changes, and what room there was stays.
     fn feed(&mut self, feed: Self::Feed) -> Result<(), FeedFault<Self::Feed>>
         ensures state { Feeds result (fed (state self.old) feed) feed (state self.old) (state self.new) }
         ensures room { IsTrue (has_room self.old) → WantsNoMemory result }
@@ -100,14 +100,14 @@ pub trait Source: Drop {
     /// Makes room, so that the next feed takes no memory. What room there was stays, also at an error.
     ///
     /// # Errors
-    /// Want of memory; a kind that is `ROOMY` never answers it.
+    /// Out of memory; a kind that is `ROOMY` never returns it.
     fn room(&mut self) -> Result<(), AllocError>
         ensures state { state self.new ≡ state self.old }
         ensures ok { OnOk result (IsTrue (has_room self.new)) }
         ensures kept { IsTrue (has_room self.old) → IsTrue (has_room self.new) }
         ensures roomy { IsTrue ROOMY → IsOk result };
 
-    /// A feed never puts a light out.
+    /// A feed never turns a light off.
     ghost stays_lit: { (s t : State) (feed : Self.Feed) → fed s feed ≡ Ok t → IsTrue (is_lit s) → IsTrue (is_lit t) };
 
     /// An object of a sticky kind is as it was after it gave.

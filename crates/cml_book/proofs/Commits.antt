@@ -26,9 +26,9 @@ use Rattle.cml_scan.proofs.Told.{scan_of-told}
 use Rattle.cml_scan.proofs.Enabling.{scan-members, Contains-has_row, has_row-scan}
 use Rattle.cml_book.specs.Commit.{awaited, group_awaited, base_awaited, base_or_unit, wraps_or_none, commit, after, hands, given, taken, copied, rest_of, released, resume}
 use Rattle.cml_book.specs.Threads.{flat_of}
-use Rattle.cml_book.specs.Keeping.{Room, Fits, Keeps, AreLive, nack_light, lights_in, times_awaited}
+use Rattle.cml_book.specs.Keeping.{Room, FitsIn, Keeps, AreLiveNacks, nack_light, lights_in, times_awaited}
 use Rattle.cml_book.specs.Clock.{bases_awaited}
-use Rattle.cml_book.specs.Leaving.{put_out, unless_item, can_give, is_left}
+use Rattle.cml_book.specs.Leaving.{turned_off, unless_item, can_give, is_left}
 use Rattle.cml_book.specs.Parties.{WaitsOn}
 use Rattle.cml_book.specs.Resumes.{PlainResume}
 use Rattle.cml_book.specs.declared.refusal.Refusal.TheVariants as refusal
@@ -78,8 +78,8 @@ pub record Party (w : PlainWorld) (room : Room) (t n : ℕ) (b : PlainBase) : Ty
   pub waits : slice_get w.threads t ≡ Some (pending_on group)
   pub base_is : base_or_unit (pick group n) ≡ b
   pub within : n < leaf_count group
-  pub alive : AreLive (nacks_of (scopes group)) w.nacks
-  pub fits : Fits group room
+  pub alive : AreLiveNacks (nacks_of (scopes group)) w.nacks
+  pub fits : FitsIn group room
 
 pick_at : (ls : List PlainLeaf) (n : ℕ) (b : PlainBase) → slice_get (map (λ l. l.base) ls) n ≡ Some b → (base_or_unit (slice_get ls n) ≡ b) × (n < length ls)
 pick_at [] n b h = cc
@@ -98,7 +98,7 @@ party_of w es told room t n b k h = at (slice_get w.threads t) refl h
           base_is = p.0;
           within = p.1;
           alive = record { each = λ j. let a = nacks-resume j 0 t w.threads g e in let l = k.nacks_live j in omega arith };
-          fits = entry_at (λ x. Fits x.group room) 0 t w.threads g e (rw (← k.told_groups) k.roomy);
+          fits = entry_at (λ x. FitsIn x.group room) 0 t w.threads g e (rw (← k.told_groups) k.roomy);
         }
     at _ e h = cc
 
@@ -228,13 +228,13 @@ gone_one t = one t.0
 -- what a book keeps when one thread has gone on, and its base was taken
 pub keeps_single : (w : PlainWorld) (es : List PlainEntry) (told : Light → Bool) (room : Room) (t : Tid) (n : ℕ) (g : PlainGroup) (b : PlainBase) (es' : List PlainEntry) (told' : Light → Bool) (w1 w2 : PlainWorld) (lit unlit : List Light) (room' : Room)
     → Keeps w es told room → slice_get w.threads t.0 ≡ Some (pending_on g) → can_give w b ≡ true → w1 ≡ released w t.0 n → w2 ≡ taken w1 b
-    → lit ≡ map nack_light (lost g n) → unlit ≡ put_out w b ++ left_lights (bases_awaited (pending w)) (bases g) [] → es' ≡ without (t ∷ []) es
+    → lit ≡ map nack_light (lost g n) → unlit ≡ turned_off w b ++ left_lights (bases_awaited (pending w)) (bases g) [] → es' ≡ without (t ∷ []) es
     → ((l : Light) → told' l ≡ lit_after lit unlit l (told l)) → room' ≡ room
     → Keeps w2 es' told' room'
 keeps_single w es told room t n g b es' told' w1 w2 lit unlit room' k waits gives one two lights dark gone tells size =
     let r : PlainWorld = released w t.0 n in
     let world : w2 ≡ taken r b = two ∙ ap (λ x. taken x b) one in
-    let out : List Light = put_out r b ++ left_lights (bases_awaited (pending w)) (bases g) [] in
+    let out : List Light = turned_off r b ++ left_lights (bases_awaited (pending w)) (bases g) [] in
     let is_out : unlit ≡ out = dark ∙ ap (λ x. x ++ left_lights (bases_awaited (pending w)) (bases g) []) (sym (put_out_after w t.0 n b)) in
     let k1 = keeps_resume w es told room t n g k waits in
     let counts : (u : ℕ) → times_awaited u (bases_awaited (pending w)) ≡ times_awaited u (bases_awaited (pending r)) + (times_awaited u (bases g) + times_awaited u []) =
@@ -258,9 +258,9 @@ single_gives w room t n b p flat x on same at_leaf =
     let base : x ≡ b = sym (base_found (pick flat n) x at_leaf) ∙ ap (λ g. base_or_unit (pick g n)) same ∙ p.base_is in
     rw base (lit_gives w b on)
 
--- what the table is told that goes out
-pub told_out : (w : PlainWorld) (b : PlainBase) (before pushed more told : List Light) (flat g : PlainGroup) → before ≡ [] → flat ≡ g → pushed ≡ before ++ put_out w b
-    → more ≡ pushed ++ left_lights (bases_awaited (pending w)) (bases flat) [] → told ≡ more → told ≡ put_out w b ++ left_lights (bases_awaited (pending w)) (bases g) []
+-- which lights the table is told to be turned off
+pub told_out : (w : PlainWorld) (b : PlainBase) (before pushed more told : List Light) (flat g : PlainGroup) → before ≡ [] → flat ≡ g → pushed ≡ before ++ turned_off w b
+    → more ≡ pushed ++ left_lights (bases_awaited (pending w)) (bases flat) [] → told ≡ more → told ≡ turned_off w b ++ left_lights (bases_awaited (pending w)) (bases g) []
 told_out w b before pushed more told flat g none is e1 e2 f = f ∙ e2 ∙ rw (e1, none, is) refl
 
 pub told_both_out : (w : PlainWorld) (before pushed more told : List Light) (flat1 flat2 a g : PlainGroup) → before ≡ [] → flat1 ≡ a → flat2 ≡ g
@@ -284,8 +284,8 @@ few_unless : (i : Bool) (l : Light) → length (unless_item i l) ≤ 1
 few_unless true l = omega arith
 few_unless false l = omega arith
 
--- at most one light goes out for a base
-pub few_out : (w : PlainWorld) (b : PlainBase) → length (put_out w b) ≤ 1
+-- at most one light is turned off for a base
+pub few_out : (w : PlainWorld) (b : PlainBase) → length (turned_off w b) ≤ 1
 few_out w (mtake m) = omega arith
 few_out w (mail_recv b) = few_unless (has_item (Some (rest_of (slice_get w.mailboxes b)))) (of.Mbox (record { 0 = b }))
 few_out w (port_recv p) = few_unless (has_item (Some (rest_of (slice_get w.ports p)))) (of.Port (record { 0 = p }))
@@ -304,11 +304,11 @@ few_left p (b ∷ bs) = at (p b) (light b) refl (few_left p bs)
     at true o e ih = let more = one (light b) in omega arith
     at false o e ih = omega arith
 
--- there is room for what goes out
-pub room_for_out : (w : PlainWorld) (b : PlainBase) (before pushed : List Light) (flat g : PlainGroup) (room : ℕ) → before ≡ [] → flat ≡ g → pushed ≡ before ++ put_out w b
+-- there is room for the lights that are turned off
+pub room_for_out : (w : PlainWorld) (b : PlainBase) (before pushed : List Light) (flat g : PlainGroup) (room : ℕ) → before ≡ [] → flat ≡ g → pushed ≡ before ++ turned_off w b
     → 2 * leaf_count g + 1 ≤ room → length pushed + leaf_count flat ≤ room
 room_for_out w b before pushed flat g room none is e fits =
-    let size : length pushed ≡ length (put_out w b) = ap length e ∙ ap (λ x. length (x ++ put_out w b)) none in
+    let size : length pushed ≡ length (turned_off w b) = ap length e ∙ ap (λ x. length (x ++ turned_off w b)) none in
     let one = few_out w b in
     rw (is, size) (omega (arith, one, fits))
 
@@ -320,7 +320,7 @@ room_for_both all before pushed flat1 flat2 a g room none is1 is2 e fits1 fits2 
     let leaves_are : length (bases a) ≡ leaf_count a = length-map (leaves a) (λ (l : PlainLeaf). l.base) in
     rw (is2, size) (omega (arith, most, leaves_are, fits1, fits2))
 
--- what the call for a single answers
+-- what the call for a single returns
 pub single_returns : (w : PlainWorld) (t : Tid) (n : ℕ) (b : PlainBase) (ws : List PlainFunction) (v : PlainValue) (fs : List ℕ) (w1 w2 : PlainWorld) (r : PlainResume)
     → has_row (scan w) (Single t n) ≡ true → pick (group_awaited w t.0) n ≡ Some (record { base = b; wraps = ws })
     → w1 ≡ released w t.0 n → v ≡ given w1 b → w2 ≡ taken w1 b → fs ≡ lost (group_awaited w t.0) n
@@ -341,7 +341,7 @@ pub second_waits : (w : PlainWorld) (es : List PlainEntry) (told : Light → Boo
 second_waits w es told room h i o j a g w1 k first second differ within one =
     let waits : slice_get (released w h.0 i).threads o.0 ≡ Some (pending_on g) = get-set_other w.threads h.0 o.0 running differ ∙ second in
     let k1 = keeps_resume w es told room h i a k first in
-    let alive : AreLive (nacks_of (scopes g)) (released w h.0 i).nacks = record { each = λ n. let x = nacks-resume n 0 o.0 (released w h.0 i).threads g waits in let y = k1.nacks_live n in omega arith } in
+    let alive : AreLiveNacks (nacks_of (scopes g)) (released w h.0 i).nacks = record { each = λ n. let x = nacks-resume n 0 o.0 (released w h.0 i).threads g waits in let y = k1.nacks_live n in omega arith } in
     rw (one, waits) (record { waits = waits; within = within; alive = alive })
 
 -- what a book keeps when both parties have gone on
@@ -382,7 +382,7 @@ chosen_meet w room h i o j b d ws us w1 p one picked1 picked2 =
     let base2 : d ≡ p.other_base = sym (ap base_or_unit picked2) ∙ ap (λ g. base_or_unit (pick g j)) group2 ∙ p.other.base_is in
     rw (base1, base2) p.meet
 
--- what the call for a pair answers
+-- what the call for a pair returns
 pub pair_returns : (w : PlainWorld) (h : Tid) (i : ℕ) (o : Tid) (j : ℕ) (b d : PlainBase) (ws us : List PlainFunction) (v u : PlainValue) (fs es : List ℕ) (w1 w2 : PlainWorld) (r q : PlainResume)
     → has_row (scan w) (Pair h i o j) ≡ true → h.0 ≢ o.0 → w1 ≡ released w h.0 i → w2 ≡ released w1 o.0 j
     → pick (group_awaited w h.0) i ≡ Some (record { base = b; wraps = ws }) → fs ≡ lost (group_awaited w h.0) i

@@ -1,4 +1,4 @@
--- What a table that was told which lights went out still knows.
+-- What a table that was told which lights were turned off still knows.
 use Rattle.std.proofs.Common.{◌≡◌, ◌≢◌, ℕ, ◌+◌, ◌<◌, ◌≤◌, Bool, true, false, ◌&&◌, ◌||◌, nat_eq, nat_lt, nat_le, cond, List, [], ◌∷◌, ◌++◌, map, refl, ap, sym, ◌∙◌, arith, Option, Some, None, slice_index_or, subst}
 use Rattle.std.specs.Prelude.{All, Contains, slice_get, slice_set}
 use Rattle.std.specs.List.{filter}
@@ -18,7 +18,7 @@ use Rattle.cml_scan.proofs.Telling.{same_light_is}
 use Rattle.cml_book.specs.Clock.{bases_awaited}
 use Rattle.cml_book.specs.Commit.{taken, released, rest_of}
 use Rattle.cml_book.specs.Keeping.{nack_light, lights_in, times_awaited, Room, Keeps}
-use Rattle.cml_book.specs.Leaving.{comes, is_left, unless_item, put_out, can_give}
+use Rattle.cml_book.specs.Leaving.{comes, is_left, unless_item, turned_off, can_give}
 use Rattle.cml_book.proofs.Awaited.{awaited_there}
 use Rattle.cml_book.proofs.NackLemmas.{get-set_same, get-set_other}
 
@@ -132,8 +132,8 @@ queue_told qs b n rest l m same h = at (nat_eq n b) (has_item (Some rest)) refl 
     at false true e f = sym (queue_right qs b n rest false e h)
     at false false e f = rw (same, e) (sym (queue_right qs b n rest false e h))
 
--- the light that goes out is told, and no other
-pub put_out_right : (w : PlainWorld) (b : PlainBase) → can_give w b ≡ true → (l : Light) → cond (has_light (put_out w b) l) false (light_of w l) ≡ light_of (taken w b) l
+-- the light that is turned off is told, and no other
+pub put_out_right : (w : PlainWorld) (b : PlainBase) → can_give w b ≡ true → (l : Light) → cond (has_light (turned_off w b) l) false (light_of w l) ≡ light_of (taken w b) l
 put_out_right w (mtake m) h (of.MVar x) = at (nat_eq x.0 m) refl
   where
     at : (s : Bool) → nat_eq x.0 m ≡ s → cond (s || false) false (is_full (slice_get w.mvars x.0)) ≡ is_full (slice_get (slice_set w.mvars m None) x.0)
@@ -160,7 +160,7 @@ put_out_right w (port_recv p) h l = at (has_item (Some (rest_of (slice_get w.por
     at false = refl
 put_out_right w _ h l = refl
 
-pub put_out_after : (w : PlainWorld) (t n : ℕ) (b : PlainBase) → put_out (released w t n) b ≡ put_out w b
+pub put_out_after : (w : PlainWorld) (t n : ℕ) (b : PlainBase) → turned_off (released w t n) b ≡ turned_off w b
 put_out_after w t n (always v) = refl
 put_out_after w t n _ = refl
 
@@ -186,8 +186,8 @@ pub taken-nacks : (w : PlainWorld) (b : PlainBase) → (taken w b).nacks ≡ w.n
 taken-nacks w (always v) = refl
 taken-nacks w _ = refl
 
--- no nack goes out
-no_nack_put_out : (w : PlainWorld) (b : PlainBase) (k : ℕ) → has_light (put_out w b) (nack_light k) ≡ false
+-- no nack's light is turned off
+no_nack_put_out : (w : PlainWorld) (b : PlainBase) (k : ℕ) → has_light (turned_off w b) (nack_light k) ≡ false
 no_nack_put_out w (mtake m) k = refl
 no_nack_put_out w (mail_recv b) k = at (has_item (Some (rest_of (slice_get w.mailboxes b))))
   where
@@ -208,12 +208,12 @@ no_nack_left all xs ys k = at (has_light (lights_in (filter (is_left all xs ys) 
     at true e = let f = left_alarm all xs ys xs (nack_light k) e in let same : nack_light k ≡ of.Alarm f.0 = f.1 in cc
     at false e = refl
 
--- what goes out when these leaves are left, one after the other
+-- the lights that are turned off when these leaves are left, one after the other
 abbrev pub left_lights : List PlainBase → List PlainBase → List PlainBase → List Light
 left_lights all xs ys = lights_in (filter (is_left all xs ys) xs)
 
-pub single_apart : (w : PlainWorld) (b : PlainBase) (all xs ys : List PlainBase) (k : ℕ) → has_light (put_out w b ++ left_lights all xs ys) (nack_light k) ≡ false
-single_apart w b all xs ys k = list_any-append (same_light (nack_light k)) (put_out w b) (left_lights all xs ys) ∙ rw (no_nack_put_out w b k, no_nack_left all xs ys k) refl
+pub single_apart : (w : PlainWorld) (b : PlainBase) (all xs ys : List PlainBase) (k : ℕ) → has_light (turned_off w b ++ left_lights all xs ys) (nack_light k) ≡ false
+single_apart w b all xs ys k = list_any-append (same_light (nack_light k)) (turned_off w b) (left_lights all xs ys) ∙ rw (no_nack_put_out w b k, no_nack_left all xs ys k) refl
 
 pub pair_apart : (all xs ys us vs : List PlainBase) (k : ℕ) → has_light (left_lights all xs ys ++ left_lights all us vs) (nack_light k) ≡ false
 pair_apart all xs ys us vs k = list_any-append (same_light (nack_light k)) (left_lights all xs ys) (left_lights all us vs) ∙ rw (no_nack_left all xs ys k, no_nack_left all us vs k) refl
@@ -229,7 +229,7 @@ nack_apart (k ∷ ks) unlit h l e = at (same_light l (nack_light k)) refl e (nac
     at true f g ih = ap (has_light unlit) (same_light_is l (nack_light k) f) ∙ h k
     at false f g ih = ih g
 
--- what goes out is told after what lights
+-- which lights are turned off is told after which are turned on
 pub told_dimmed : (ks : List ℕ) (unlit : List Light) → ((k : ℕ) → has_light unlit (nack_light k) ≡ false) → (l : Light) (was : Bool)
     → lit_after (map nack_light ks) unlit l was ≡ cond (has_light unlit l) false (lit_after (map nack_light ks) [] l was)
 told_dimmed ks unlit h l was = at (has_light (map nack_light ks) l) (has_light unlit l) (nack_apart ks unlit h l)
@@ -258,7 +258,7 @@ not_gone bs all xs ys h l waits = at (has_light (left_lights all xs ys) l) refl
     at true e = absurd (gone_tick bs all xs ys h l waits e)
     at false e = refl
 
--- what a book keeps when some lights have gone out
+-- what a book keeps when some lights were turned off
 pub keeps_dim : (w w' : PlainWorld) (es : List PlainEntry) (told told' : Light → Bool) (room : Room) (unlit : List Light)
     → Keeps w es told room → w'.threads ≡ w.threads → w'.nacks ≡ w.nacks
     → ((l : Light) → told' l ≡ cond (has_light unlit l) false (told l))
@@ -274,10 +274,10 @@ keeps_dim w w' es told told' room unlit k threads nacks tells right = record {
 -- one thread has gone on, and its base was taken
 pub right_single : (w : PlainWorld) (b : PlainBase) (all xs ys : List PlainBase) → can_give w b ≡ true
     → ((t : ℕ) → times_awaited t all ≡ times_awaited t (bases_awaited (pending w)) + (times_awaited t xs + times_awaited t ys))
-    → (l : Light) → Waits (bases_awaited (pending w)) l → cond (has_light (put_out w b ++ left_lights all xs ys) l) false (light_of w l) ≡ light_of (taken w b) l
+    → (l : Light) → Waits (bases_awaited (pending w)) l → cond (has_light (turned_off w b ++ left_lights all xs ys) l) false (light_of w l) ≡ light_of (taken w b) l
 right_single w b all xs ys gives h l waits =
     let none = not_gone (bases_awaited (pending w)) all xs ys h l waits in
-    let split : has_light (put_out w b ++ left_lights all xs ys) l ≡ has_light (put_out w b) l = list_any-append (same_light l) (put_out w b) (left_lights all xs ys) ∙ rw none (or_false (has_light (put_out w b) l)) in
+    let split : has_light (turned_off w b ++ left_lights all xs ys) l ≡ has_light (turned_off w b) l = list_any-append (same_light l) (turned_off w b) (left_lights all xs ys) ∙ rw none (or_false (has_light (turned_off w b) l)) in
     rw split (put_out_right w b gives l)
 
 -- two threads have gone on

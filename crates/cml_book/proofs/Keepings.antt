@@ -25,7 +25,7 @@ use Rattle.cml_book.specs.MakeSwap.{make_swap}
 use Rattle.cml_book.specs.Nack.{nack}
 use Rattle.cml_book.specs.Sync.{times_named, waiting}
 use Rattle.cml_book.specs.Commit.{released, settled}
-use Rattle.cml_book.specs.Keeping.{AreLive, nack_light, lights_in, Room, Fits, Grows, Keeps}
+use Rattle.cml_book.specs.Keeping.{AreLiveNacks, nack_light, lights_in, Room, FitsIn, RoomGrows, Keeps}
 use Rattle.cml_book.proofs.Pendings.{pending-push, pending-end, pending-wait, pending-resume, without_none}
 use Rattle.cml_book.proofs.LightLemmas.{agree_still, has_ended-push, has_ended-set, has_fired-push, light_of-same}
 use Rattle.cml_book.proofs.NackLemmas.{CanEnter, lives-push, nacks-wait, nacks-resume, lives-settled_group, fired-settled_group, lives-enter, fired-enter, get-set_other}
@@ -56,12 +56,12 @@ module _ (w : PlainWorld) (es : List PlainEntry) (told : Light → Bool) (room :
   }
 
   -- and with more room
-  pub keeps_roomier : (room' : Room) → Grows room room' → Keeps w es told room → Keeps w es told room'
+  pub keeps_roomier : (room' : Room) → RoomGrows room room' → Keeps w es told room → Keeps w es told room'
   keeps_roomier room' more k = record {
     told_groups = k.told_groups;
     told_lights = k.told_lights;
     nacks_live = k.nacks_live;
-    roomy = All-weaker (λ (x : PlainEntry). Fits x.group room) (λ x. Fits x.group room') (λ x h. more x.group h) es k.roomy;
+    roomy = All-weaker (λ (x : PlainEntry). FitsIn x.group room) (λ x. FitsIn x.group room') (λ x h. more x.group h) es k.roomy;
   }
 
   -- a new thread
@@ -159,7 +159,7 @@ module _ (w : PlainWorld) (es : List PlainEntry) (told : Light → Bool) (room :
 
   -- a running thread waits on a group, whose lights are told as they are
   pub keeps_wait : (t : ℕ) (g : PlainGroup) (room' : Room) (es' : List PlainEntry) (told' : Light → Bool) → Keeps w es told room → slice_get w.threads t ≡ Some running
-      → CanEnter t (nacks_of (scopes g)) w.nacks → Fits g room' → ((x : PlainGroup) → Fits x room → Fits x room')
+      → CanEnter t (nacks_of (scopes g)) w.nacks → FitsIn g room' → ((x : PlainGroup) → FitsIn x room → FitsIn x room')
       → es' ≡ with_entry (record { thread = t; group = g }) (without [] es)
       → ((l : Light) → told' l ≡ lit_after (filter (light_of w) (lights_in (bases g))) (filter (λ x. not (light_of w x)) (lights_in (bases g))) l (told l))
       → Keeps (waiting w t g) es' told' room'
@@ -179,18 +179,18 @@ module _ (w : PlainWorld) (es : List PlainEntry) (told : Light → Bool) (room :
         told_groups = now ∙ sym new;
         told_lights = rw new (AgreeFor-with_entry e (pending w) told' (light_of w') old_lights new_lights);
         nacks_live = λ j. nacks-wait j 0 t w.threads g runs ∙ ap (λ n. n + times_named j (nacks_of (scopes g))) (k.nacks_live j) ∙ sym (lives-enter t (nacks_of (scopes g)) w.nacks j enters);
-        roomy = rw now (All-append (λ (x : PlainEntry). Fits x.group room') (filter (λ x. nat_lt x.thread t) (pending w)) (e ∷ filter (λ x. nat_lt t x.thread) (pending w))
-            (some_roomy (λ x. nat_lt x.thread t)) (All-cons (λ (x : PlainEntry). Fits x.group room') e (filter (λ x. nat_lt t x.thread) (pending w)) own (some_roomy (λ x. nat_lt t x.thread))));
+        roomy = rw now (All-append (λ (x : PlainEntry). FitsIn x.group room') (filter (λ x. nat_lt x.thread t) (pending w)) (e ∷ filter (λ x. nat_lt t x.thread) (pending w))
+            (some_roomy (λ x. nat_lt x.thread t)) (All-cons (λ (x : PlainEntry). FitsIn x.group room') e (filter (λ x. nat_lt t x.thread) (pending w)) own (some_roomy (λ x. nat_lt t x.thread))));
       }
     where
       told_as : (a b : Light → Bool) → ((l : Light) → a l ≡ b l) → (o : Option Light) → is_told a o ≡ is_told b o
       told_as a b h None = refl
       told_as a b h (Some l) = h l
 
-      some_roomy : (test : PlainEntry → Bool) → All (λ x. Fits x.group room') (filter test (pending w))
+      some_roomy : (test : PlainEntry → Bool) → All (λ x. FitsIn x.group room') (filter test (pending w))
       some_roomy test =
-          All-filter test (λ x. Fits x.group room') (pending w)
-          (rw (← k.told_groups) (All-weaker (λ (x : PlainEntry). Fits x.group room) (λ x. Fits x.group room') (λ x h. more x.group h) es k.roomy))
+          All-filter test (λ x. FitsIn x.group room') (pending w)
+          (rw (← k.told_groups) (All-weaker (λ (x : PlainEntry). FitsIn x.group room) (λ x. FitsIn x.group room') (λ x h. more x.group h) es k.roomy))
 
   -- a pending thread goes on from a leaf, and the nacks that the leaf loses are told to be lit
   pub keeps_resume : (t : Tid) (n : ℕ) (g : PlainGroup) → Keeps w es told room → slice_get w.threads t.0 ≡ Some (pending_on g)
@@ -207,10 +207,10 @@ module _ (w : PlainWorld) (es : List PlainEntry) (told : Light → Bool) (room :
             let b = k.nacks_live j in
             let d = lives-settled_group n g w.nacks j alive in
             omega arith;
-        roomy = All-filter _ (λ x. Fits x.group room) es k.roomy;
+        roomy = All-filter _ (λ x. FitsIn x.group room) es k.roomy;
       })
     where
-      alive : AreLive (nacks_of (scopes g)) w.nacks
+      alive : AreLiveNacks (nacks_of (scopes g)) w.nacks
       alive = record { each = λ j. let a = nacks-resume j 0 t.0 w.threads g waits in let b = k.nacks_live j in omega arith }
 
       after : (l : Light) → told l ≡ light_of w l → lit_after (map nack_light (lost g n)) [] l (told l) ≡ light_of (record w { threads = slice_set w.threads t.0 running; nacks = settled n g w.nacks }) l

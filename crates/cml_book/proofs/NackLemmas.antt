@@ -9,7 +9,7 @@ use Rattle.cml_scan.specs.World.{PlainThread, running, pending_on, ended, PlainN
 use Rattle.cml_scan.specs.Light.{has_fired}
 use Rattle.cml_book.specs.Sync.{times_named, with_each, is_fresh_for, can_enter}
 use Rattle.cml_book.specs.Commit.{settled}
-use Rattle.cml_book.specs.Keeping.{pending_nacks, lives, AreLive, AreFresh, is_fresh}
+use Rattle.cml_book.specs.Keeping.{pending_nacks, lives, AreLiveNacks, AreFresh, is_fresh}
 
 -- a new fresh nack is not live
 pub lives-push : (ns : List PlainNack) (k t : ℕ) → lives (slice_get (ns ++ fresh_of t ∷ []) k) ≡ lives (slice_get ns k)
@@ -82,7 +82,7 @@ pub lives-le : (o : Option PlainNack) → lives o ≤ 1
 lives-le (Some live) = omega arith
 lives-le _ = omega arith
 
-pub first_live : (k : ℕ) (ks : List ℕ) (ns : List PlainNack) → AreLive (k ∷ ks) ns → slice_get ns k ≡ Some live
+pub first_live : (k : ℕ) (ks : List ℕ) (ns : List PlainNack) → AreLiveNacks (k ∷ ks) ns → slice_get ns k ≡ Some live
 first_live k ks ns h =
     let e = h.each k in
     let one : nat_eq k k ≡ true = grind (arith, nat_tests) in
@@ -90,7 +90,7 @@ first_live k ks ns h =
     lives-live (slice_get ns k) (omega arith)
 
 -- the others are live still, once the first is not
-pub rest_live : (k : ℕ) (ks : List ℕ) (ns : List PlainNack) (n : PlainNack) → lives (Some n) ≡ 0 → AreLive (k ∷ ks) ns → AreLive ks (slice_set ns k n)
+pub rest_live : (k : ℕ) (ks : List ℕ) (ns : List PlainNack) (n : PlainNack) → lives (Some n) ≡ 0 → AreLiveNacks (k ∷ ks) ns → AreLiveNacks ks (slice_set ns k n)
 rest_live k ks ns n dead h = record { each = λ j. at j (nat_eq k j) refl }
   where
     at : (j : ℕ) (b : Bool) → nat_eq k j ≡ b → times_named j ks ≤ lives (slice_get (slice_set ns k n) j)
@@ -124,7 +124,7 @@ settled_one-dead n s = at (lies_outside n s)
     at false = refl
 
 -- The nacks of a group that goes on are live no more, and the others as before.
-pub lives-settled : (n : ℕ) (ss : List PlainScope) (ns : List PlainNack) (k : ℕ) → AreLive (nacks_of ss) ns
+pub lives-settled : (n : ℕ) (ss : List PlainScope) (ns : List PlainNack) (k : ℕ) → AreLiveNacks (nacks_of ss) ns
     → lives (slice_get (settled_in_turn n ss ns) k) + times_named k (nacks_of ss) ≡ lives (slice_get ns k)
 lives-settled n [] ns k h = omega arith
 lives-settled n (s ∷ ss) ns k h =
@@ -147,7 +147,7 @@ lives-settled n (s ∷ ss) ns k h =
         omega arith
 
 -- A nack has fired where it had, or where it is one of those that the leaf loses.
-pub fired-settled : (n : ℕ) (ss : List PlainScope) (ns : List PlainNack) (k : ℕ) → AreLive (nacks_of ss) ns
+pub fired-settled : (n : ℕ) (ss : List PlainScope) (ns : List PlainNack) (k : ℕ) → AreLiveNacks (nacks_of ss) ns
     → has_fired (slice_get (settled_in_turn n ss ns) k) ≡ list_any (λ j. nat_eq j k) (nacks_of (filter (lies_outside n) ss)) || has_fired (slice_get ns k)
 fired-settled n [] ns k h = refl
 fired-settled n (s ∷ ss) ns k h =
@@ -312,7 +312,7 @@ with_each-set (k ∷ ks) so x ns j h = at (nat_eq k j) refl (with_each-set ks so
         ap (with_each ks so) (set-set_other ns j k x so differ) ∙ ih (omega arith)
 
 -- one after another is all held, and then those of the branches in which the leaf does not lie fired
-pub settled_is : (n : ℕ) (ss : List PlainScope) (ns : List PlainNack) → AreLive (nacks_of ss) ns
+pub settled_is : (n : ℕ) (ss : List PlainScope) (ns : List PlainNack) → AreLiveNacks (nacks_of ss) ns
     → settled_in_turn n ss ns ≡ with_each (nacks_of (filter (lies_outside n) ss)) fired (with_each (nacks_of ss) held ns)
 settled_is n [] ns h = refl
 settled_is n (s ∷ ss) ns h =
@@ -338,11 +338,11 @@ settled_is n (s ∷ ss) ns h =
         rw e (ap (with_each lost fired) (first ∙ sym second))
     at false e = rw e refl
 
-pub lives-settled_group : (n : ℕ) (g : PlainGroup) (ns : List PlainNack) (k : ℕ) → AreLive (nacks_of (scopes g)) ns
+pub lives-settled_group : (n : ℕ) (g : PlainGroup) (ns : List PlainNack) (k : ℕ) → AreLiveNacks (nacks_of (scopes g)) ns
     → lives (slice_get (settled n g ns) k) + times_named k (nacks_of (scopes g)) ≡ lives (slice_get ns k)
 lives-settled_group n g ns k h = ap (λ l. lives (slice_get l k) + times_named k (nacks_of (scopes g))) (sym (settled_is n (scopes g) ns h)) ∙ lives-settled n (scopes g) ns k h
 
-pub fired-settled_group : (n : ℕ) (g : PlainGroup) (ns : List PlainNack) (k : ℕ) → AreLive (nacks_of (scopes g)) ns
+pub fired-settled_group : (n : ℕ) (g : PlainGroup) (ns : List PlainNack) (k : ℕ) → AreLiveNacks (nacks_of (scopes g)) ns
     → has_fired (slice_get (settled n g ns) k) ≡ list_any (λ j. nat_eq j k) (nacks_of (filter (lies_outside n) (scopes g))) || has_fired (slice_get ns k)
 fired-settled_group n g ns k h = ap (λ l. has_fired (slice_get l k)) (sym (settled_is n (scopes g) ns h)) ∙ fired-settled n (scopes g) ns k h
 

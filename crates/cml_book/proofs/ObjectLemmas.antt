@@ -75,7 +75,7 @@ test_same f (y ∷ xs) zero (suc j) x h p q = refl
 test_same f (y ∷ xs) (suc i) zero x h p q = refl
 test_same f (y ∷ xs) (suc i) (suc j) x h p q = test_same f xs i j x (omega arith) p q
 
--- the same, after something was put behind all
+-- the same, after something was put after all
 pub test_push : {X : Type 0} (f : Option X → Bool) (xs : List X) (j : ℕ) (x : X) → f (Some x) ≡ true
     → f (slice_get (xs ++ x ∷ []) j) ≡ cond (nat_eq j (length xs) || false) true (f (slice_get xs j))
 test_push f xs j x p = at (nat_eq j (length xs)) refl
@@ -169,7 +169,7 @@ pub queues_push : (qs : List PlainQueue) (q : PlainQueue) (s : List PlainValue) 
 queues_push [] q s e = ap (λ (items : List PlainValue). items ∷ []) e
 queues_push (x ∷ qs) q s e = ap (λ (rest : List (List PlainValue)). x.items ∷ rest) (queues_push qs q s e)
 
--- a value that is put behind the items of a queue which takes it
+-- a value that is put after the items of a queue which takes it
 pub mail_there : (qs : List (List PlainValue)) (b : ℕ) (v : PlainValue) → is_full_at qs b ≡ false → fed_at queued qs b v ≡ Ok (added_at qs b v)
 mail_there qs b v h = at (slice_get qs b) h
   where

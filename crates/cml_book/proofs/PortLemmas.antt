@@ -7,9 +7,9 @@ use Rattle.cml_value.specs.declared.number.PortId.{PortId}
 use Rattle.cml_value.specs.declared.number.McastId.{McastId}
 use Rattle.cml_base.specs.Registered.{HasRoomAt}
 use Rattle.cml_queues.specs.PlainMulticast.{PlainMulticast}
-use Rattle.cml_queues.specs.Posts.{numbers}
+use Rattle.cml_queues.specs.Posts.{port_numbers}
 use Rattle.cml_book.specs.MakePort.{ports_at, has_port, with_port, heard_by}
-use Rattle.cml_book.specs.Homes.{is_home, numbers_of, HaveHomes, ArePorts, AreBelow, has_room}
+use Rattle.cml_book.specs.Homes.{is_home, channel_numbers, HaveHomes, ArePorts, AreBelow, has_room}
 use Rattle.cml_book.specs.Views.{ports_of}
 use Rattle.cml_book.proofs.NackLemmas.{get-set_other}
 use Rattle.cml_book.proofs.ObjectLemmas.{there_set, there_push, other_push, quiet_push}
@@ -24,26 +24,26 @@ set_same [] i x e = refl
 set_same (y ∷ ys) zero x e = cc
 set_same (y ∷ ys) (suc i) x e = ap (λ (r : List _). y ∷ r) (set_same ys i x e)
 
-ports_set : (cs : List PlainMulticast) (i : ℕ) (c : PlainMulticast) → ports_of (slice_set cs i c) ≡ slice_set (ports_of cs) i (numbers c.ports)
+ports_set : (cs : List PlainMulticast) (i : ℕ) (c : PlainMulticast) → ports_of (slice_set cs i c) ≡ slice_set (ports_of cs) i (port_numbers c.ports)
 ports_set [] i c = refl
 ports_set (d ∷ cs) zero c = refl
-ports_set (d ∷ cs) (suc i) c = ap (λ (r : List (List ℕ)). numbers d.ports ∷ r) (ports_set cs i c)
+ports_set (d ∷ cs) (suc i) c = ap (λ (r : List (List ℕ)). port_numbers d.ports ∷ r) (ports_set cs i c)
 
-ports_get : (cs : List PlainMulticast) (i : ℕ) (c : PlainMulticast) → slice_get cs i ≡ Some c → slice_get (ports_of cs) i ≡ Some (numbers c.ports)
+ports_get : (cs : List PlainMulticast) (i : ℕ) (c : PlainMulticast) → slice_get cs i ≡ Some c → slice_get (ports_of cs) i ≡ Some (port_numbers c.ports)
 ports_get [] i c e = cc
 ports_get (d ∷ cs) zero c e = cc
 ports_get (d ∷ cs) (suc i) c e = ports_get cs i c e
 
-pub ports_found : (cs : List PlainMulticast) (i : ℕ) (c : PlainMulticast) → slice_get cs i ≡ Some c → ports_at (ports_of cs) i ≡ numbers c.ports
+pub ports_found : (cs : List PlainMulticast) (i : ℕ) (c : PlainMulticast) → slice_get cs i ≡ Some c → ports_at (ports_of cs) i ≡ port_numbers c.ports
 ports_found cs i c e = ap (λ (o : Option (List ℕ)). unwrap_or o []) (ports_get cs i c e)
 
-numbers_push : (ps : List PortId) (p : PortId) → numbers (ps ++ p ∷ []) ≡ numbers ps ++ p.0 ∷ []
+numbers_push : (ps : List PortId) (p : PortId) → port_numbers (ps ++ p ∷ []) ≡ port_numbers ps ++ p.0 ∷ []
 numbers_push [] p = refl
 numbers_push (q ∷ ps) p = ap (λ (r : List ℕ). q.0 ∷ r) (numbers_push ps p)
 
 -- room in a channel changes no port
 pub room_made : (cs : List PlainMulticast) (i : ℕ) (c d : PlainMulticast) → slice_get cs i ≡ Some c → d.ports ≡ c.ports → ports_of (slice_set cs i d) ≡ ports_of cs
-room_made cs i c d e same = ports_set cs i d ∙ ap (λ (ps : List PortId). slice_set (ports_of cs) i (numbers ps)) same ∙ set_same (ports_of cs) i (numbers c.ports) (ports_get cs i c e)
+room_made cs i c d e same = ports_set cs i d ∙ ap (λ (ps : List PortId). slice_set (ports_of cs) i (port_numbers ps)) same ∙ set_same (ports_of cs) i (port_numbers c.ports) (ports_get cs i c e)
 
 pub room_there : {E : Type 0} (cs : List PlainMulticast) (i : ℕ) (d : PlainMulticast) (r : Result (Unit {0}) E) → i < length cs → OnOk r (0 < d.room) → OnOk r (HasRoomAt has_room (slice_set cs i d) i)
 room_there cs i d (Ok x) h k = let e = there_set cs i d h in rw e (grind (arith, nat_tests))
@@ -56,12 +56,12 @@ room_found cs i c e h = let t : IsTrue (nat_lt 0 c.room) = rw e at h in grind (a
 pub port_added : (cs : List PlainMulticast) (i : ℕ) (c d : PlainMulticast) (p : PortId) → slice_get cs i ≡ Some c → d.ports ≡ c.ports ++ p ∷ [] → ports_of (slice_set cs i d) ≡ with_port (ports_of cs) i p.0
 port_added cs i c d p e more =
     ports_set cs i d ∙ ap (λ (ps : List ℕ). slice_set (ports_of cs) i ps)
-    (ap numbers more ∙ numbers_push c.ports p ∙ ap (λ (ps : List ℕ). ps ++ p.0 ∷ []) (sym (ports_found cs i c e)))
+    (ap port_numbers more ∙ numbers_push c.ports p ∙ ap (λ (ps : List ℕ). ps ++ p.0 ∷ []) (sym (ports_found cs i c e)))
 
 eq_self : (n : ℕ) → nat_eq n n ≡ true
 eq_self n = grind (arith, nat_tests)
 
-has_there : (ps : List PortId) (k : ℕ) (d : PortId) → k < length ps → has_port (numbers ps) (slice_index_or ps k d).0 ≡ true
+has_there : (ps : List PortId) (k : ℕ) (d : PortId) → k < length ps → has_port (port_numbers ps) (slice_index_or ps k d).0 ≡ true
 has_there [] k d h = absurd (omega arith)
 has_there (p ∷ ps) zero d h = rw (eq_self p.0) refl
 has_there (p ∷ ps) (suc k) d h = or_right (nat_eq p.0 (slice_index_or ps k d).0) _ (has_there ps k d (omega arith))
@@ -128,16 +128,16 @@ housed_more cs hs x h housed y q = at (nat_eq y x) (nat_eq (length hs) q) refl r
         home true f = let last : q ≡ length hs = grind (arith, nat_tests) in let other : nat_eq x y ≡ false = grind (arith, nat_tests) in rw (last, there_push hs x, beyond hs y, other) refl
         home false f = let differ : q ≢ length hs = grind (arith, nat_tests) in rw (other_push hs q x differ) refl
 
-numbers_of-push : (hs : List McastId) (x : McastId) → numbers_of (hs ++ x ∷ []) ≡ numbers_of hs ++ x.0 ∷ []
+numbers_of-push : (hs : List McastId) (x : McastId) → channel_numbers (hs ++ x ∷ []) ≡ channel_numbers hs ++ x.0 ∷ []
 numbers_of-push [] x = refl
 numbers_of-push (h ∷ hs) x = ap (λ (r : List ℕ). h.0 ∷ r) (numbers_of-push hs x)
 
 pub ports_more : (cs ds : List PlainMulticast) (hs : List McastId) (x : McastId) (n : ℕ) → x.0 < length cs → ArePorts cs hs n → ports_of ds ≡ with_port (ports_of cs) x.0 n → ArePorts ds (hs ++ x ∷ []) (suc n)
 ports_more cs ds hs x n h are e =
-    let count : length (numbers_of hs) ≡ n = length-map hs (λ (m : McastId). m.0) ∙ are.each in
-    let long : x.0 < length (ports_of cs) = (let l = length-map cs (λ (c : PlainMulticast). numbers c.ports) in omega (arith, l)) in
+    let count : length (channel_numbers hs) ≡ n = length-map hs (λ (m : McastId). m.0) ∙ are.each in
+    let long : x.0 < length (ports_of cs) = (let l = length-map cs (λ (c : PlainMulticast). port_numbers c.ports) in omega (arith, l)) in
     record {
-      housed = rw (e, numbers_of-push hs x, ← count) (housed_more (ports_of cs) (numbers_of hs) x.0 long are.housed);
+      housed = rw (e, numbers_of-push hs x, ← count) (housed_more (ports_of cs) (channel_numbers hs) x.0 long are.housed);
       each = (let l = length-push hs x in omega (arith, l, are.each));
     }
   where
@@ -147,8 +147,8 @@ ports_more cs ds hs x n h are e =
 
 -- a new channel without ports
 pub channel_push : (cs : List PlainMulticast) (c : PlainMulticast) → c.ports ≡ [] → ports_of (cs ++ c ∷ []) ≡ ports_of cs ++ [] ∷ []
-channel_push [] c e = ap (λ (ps : List PortId). numbers ps ∷ []) e
-channel_push (d ∷ cs) c e = ap (λ (r : List (List ℕ)). numbers d.ports ∷ r) (channel_push cs c e)
+channel_push [] c e = ap (λ (ps : List PortId). port_numbers ps ∷ []) e
+channel_push (d ∷ cs) c e = ap (λ (r : List (List ℕ)). port_numbers d.ports ∷ r) (channel_push cs c e)
 
 pub ports_stay : (cs ds : List PlainMulticast) (hs : List McastId) (n : ℕ) → ArePorts cs hs n → ports_of ds ≡ ports_of cs ++ [] ∷ [] → ArePorts ds hs n
 ports_stay cs ds hs n are e = record {
@@ -194,4 +194,4 @@ home_there cs hs p home housed e = within cs home (housed home p ∙ ap (is_home
     within (c ∷ cs) (suc x) k = let i = within cs x k in omega (arith, i)
 
 pub ports_below : (cs : List PlainMulticast) (hs : List McastId) (n x : ℕ) → ArePorts cs hs n → AreBelow (ports_of cs) x n
-ports_below cs hs n x are = housed_below (ports_of cs) (numbers_of hs) x n are.housed (length-map hs (λ (m : McastId). m.0) ∙ are.each)
+ports_below cs hs n x are = housed_below (ports_of cs) (channel_numbers hs) x n are.housed (length-map hs (λ (m : McastId). m.0) ∙ are.each)

@@ -15,8 +15,8 @@ use Rattle.cml_queues.specs.declared.delivery.PostFault.{PostFault}
 use Rattle.cml_queues.specs.declared.delivery.PostFault.TheVariants as post
 use Rattle.cml_book.specs.Outcomes.{Does, max_objects}
 use Rattle.cml_book.specs.MakePort.{ports_at, with_port, copy_port}
-use Rattle.cml_book.specs.Multicast.{multicast, fault_of}
-use Rattle.cml_book.specs.Homes.{HaveHomes, numbers_of}
+use Rattle.cml_book.specs.Multicast.{multicast, fault_of_post}
+use Rattle.cml_book.specs.Homes.{HaveHomes, channel_numbers}
 use Rattle.cml_book.specs.Views.{queues_of, ports_of}
 use Rattle.cml_book.proofs.PortLemmas.{copy_heard}
 
@@ -32,7 +32,7 @@ queue_get [] i q e = cc
 queue_get (x ∷ qs) zero q e = cc
 queue_get (x ∷ qs) (suc i) q e = queue_get qs i q e
 
-pub home_get : (hs : List McastId) (i : ℕ) (h : McastId) → slice_get hs i ≡ Some h → slice_get (numbers_of hs) i ≡ Some h.0
+pub home_get : (hs : List McastId) (i : ℕ) (h : McastId) → slice_get hs i ≡ Some h → slice_get (channel_numbers hs) i ≡ Some h.0
 home_get [] i h e = cc
 home_get (x ∷ hs) zero h e = cc
 home_get (x ∷ hs) (suc i) h e = home_get hs i h e
@@ -50,7 +50,7 @@ pub multicast_does : (w : PlainWorld) (x : ℕ) (v : PlainValue) → x < length 
 multicast_does w x v there fits free = let here : nat_lt x (length w.mchans) ≡ true = grind (arith, nat_tests) in rw (here, fits, free) refl
 
 pub multicast_not : (X : Type 0) (w w' : PlainWorld) (x : ℕ) (v : PlainValue) (fault : PostFault) → x < length w.mchans → value_fits v ≡ true
-    → says_full {X = X} (Err fault) ≡ any_is_full (ports_at w.mchans x) w.ports → w' ≡ w → Does {R = Unit {0}} (Err (fault_of fault)) (multicast w x v) w w'
+    → says_full {X = X} (Err fault) ≡ any_is_full (ports_at w.mchans x) w.ports → w' ≡ w → Does {R = Unit {0}} (Err (fault_of_post fault)) (multicast w x v) w w'
 multicast_not X w w' x v post.Full there fits full same =
     let here : nat_lt x (length w.mchans) ≡ true = grind (arith, nat_tests) in
     (rw (here, fits, ← full) refl, same)

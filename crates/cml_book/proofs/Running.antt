@@ -12,7 +12,7 @@ use Rattle.cml_queues.specs.Queues.{is_full_at}
 use Rattle.cml_queues.specs.Posts.{any_is_full}
 use Rattle.cml_scan.specs.Light.{lit, is_full}
 use Rattle.cml_scan.specs.Scan.{scan, has_row}
-use Rattle.cml_scan.specs.Order.{lit_at, meet_at}
+use Rattle.cml_scan.specs.Order.{is_lit_there, meet_at}
 use Rattle.cml_scan.specs.Enabled.{leaf_of}
 use Rattle.cml_scan.specs.declared.meet.Meet.{Meet}
 use Rattle.cml_scan.specs.declared.meet.Meet.TheVariants.{Single, Pair}
@@ -89,8 +89,8 @@ made (y ∷ ts) (suc t) = made ts t ∙ ap (λ b. b || run_at ts t) (sym (both_m
 single_there : (w : PlainWorld) (t : Tid) (n : ℕ) → has_row (scan w) (Single t n) ≡ true → t.0 < length w.threads
 single_there w t n e = at (slice_get w.threads t.0) refl (sym (has_row-scan w (Single t n)) ∙ e)
   where
-    at : (o : Option PlainThread) → slice_get w.threads t.0 ≡ o → lit_at (lit w) (leaf_of (slice_get w.threads t.0) n) ≡ true → t.0 < length w.threads
-    at None is e = (let no : lit_at (lit w) (leaf_of None n) ≡ true = rw is at e in cc)
+    at : (o : Option PlainThread) → slice_get w.threads t.0 ≡ o → is_lit_there (lit w) (leaf_of (slice_get w.threads t.0) n) ≡ true → t.0 < length w.threads
+    at None is e = (let no : is_lit_there (lit w) (leaf_of None n) ≡ true = rw is at e in cc)
     at (Some x) is e = slice_get_within w.threads t.0 x is
 
 no_second : (a b : ℕ) (o : Option PlainBase) → meet_at a b o None ≡ false

@@ -37,7 +37,7 @@ goes_on commands before left replies replies' old now now' c g e told stands = r
   stands = stands ∙ ap (λ w. (step w c).0) g.stands ∙ sym (world_push g.done c old);
 }
 
--- the run stops at a command, which comes back with those behind it
+-- the run stops at a command, which comes back with those after it
 pub stops : (commands before left final : List Command) (replies replies' : List Reply) (old now now' : PlainWorld) (c back : Command) → Goes commands before replies old now → before ≡ left ++ c ∷ []
     → back ≡ c → final ≡ reverse (left ++ back ∷ []) → replies' ≡ replies → now' ≡ now → HasStopped commands replies' final old now'
 stops commands before left final replies replies' old now now' c back g e same is told stands =

@@ -7,7 +7,7 @@ use Rattle.cml_value.specs.declared.number.NackId.{NackId}
 use Rattle.cml_group.specs.Leaves.{numbers}
 use Rattle.cml_scan.specs.declared.object.Light.{Light}
 use Rattle.cml_value.specs.Nack.{PlainNack, live, fired, held}
-use Rattle.cml_book.specs.Keeping.{nack_light, AreLive}
+use Rattle.cml_book.specs.Keeping.{nack_light, AreLiveNacks}
 use Rattle.cml_book.proofs.NackLemmas.{first_live, rest_live, settled_one, settled_in_turn, settled_one-dead}
 
 -- the scope at a place, by its nack and by whether the leaf lies outside it
@@ -41,19 +41,19 @@ lights_from n i ss k is_lost seen all p h =
 
 -- one more scope was settled
 pub settle_step : (n i : ℕ) (ss : List PlainScope) (k : ℕ) (is_lost : Bool) (ns new all : List PlainNack) → IsScopeAt n i ss k is_lost → new ≡ slice_set ns k (cond is_lost fired held)
-    → settled_in_turn n (drop i ss) ns ≡ all → AreLive (nacks_of (drop i ss)) ns → (settled_in_turn n (drop (suc i) ss) new ≡ all) × AreLive (nacks_of (drop (suc i) ss)) new
+    → settled_in_turn n (drop i ss) ns ≡ all → AreLiveNacks (nacks_of (drop i ss)) ns → (settled_in_turn n (drop (suc i) ss) new ≡ all) × AreLiveNacks (nacks_of (drop (suc i) ss)) new
 settle_step n i ss k is_lost ns new all p is leads alive =
     let now : new ≡ slice_set ns p.scope.nack (settled_one n p.scope) = is ∙ rw (p.nack_is, p.lost_is) refl in
-    let before = subst (λ xs. AreLive (nacks_of xs) ns) p.found alive in
+    let before = subst (λ xs. AreLiveNacks (nacks_of xs) ns) p.found alive in
     rw now (
       ap (λ xs. settled_in_turn n xs ns) (sym p.found) ∙ leads,
       rest_live p.scope.nack (nacks_of (drop (suc i) ss)) ns (settled_one n p.scope) (settled_one-dead n p.scope) before,
     )
 
 -- the nack that comes next is live
-pub next_live : (n i : ℕ) (ss : List PlainScope) (k : ℕ) (is_lost : Bool) (ns : List PlainNack) → IsScopeAt n i ss k is_lost → AreLive (nacks_of (drop i ss)) ns → slice_get ns k ≡ Some live
+pub next_live : (n i : ℕ) (ss : List PlainScope) (k : ℕ) (is_lost : Bool) (ns : List PlainNack) → IsScopeAt n i ss k is_lost → AreLiveNacks (nacks_of (drop i ss)) ns → slice_get ns k ≡ Some live
 next_live n i ss k is_lost ns p alive =
-    rw (← p.nack_is) (first_live p.scope.nack (nacks_of (drop (suc i) ss)) ns (subst (λ xs. AreLive (nacks_of xs) ns) p.found alive))
+    rw (← p.nack_is) (first_live p.scope.nack (nacks_of (drop (suc i) ss)) ns (subst (λ xs. AreLiveNacks (nacks_of xs) ns) p.found alive))
 
 -- as many nacks as scopes
 pub length_nacks : (ss : List PlainScope) (ks : List NackId) → numbers ks ≡ nacks_of ss → length ks ≡ length ss

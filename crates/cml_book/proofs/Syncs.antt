@@ -14,7 +14,7 @@ use Rattle.cml_book.specs.Entering.{entered}
 use Rattle.cml_book.specs.Sync.{sync, sync_refusal, waiting, with_each}
 use Rattle.cml_book.specs.Outcomes.{with_thread}
 use Rattle.cml_book.specs.Commit.{awaited, group_awaited}
-use Rattle.cml_book.specs.Keeping.{lights_in, AreFresh, Room, Fits, Keeps}
+use Rattle.cml_book.specs.Keeping.{lights_in, AreFresh, Room, FitsIn, Keeps}
 use Rattle.cml_book.proofs.Given.{set_back}
 use Rattle.cml_book.proofs.Accepted.{Accepted}
 use Rattle.cml_book.proofs.Entered.{scopes-entered}
@@ -61,7 +61,7 @@ enters_flat w t g flat a is =
 -- what a book keeps when a group has arrived
 pub keeps_arrives : (w : PlainWorld) (es : List PlainEntry) (told : Light → Bool) (room : Room) (t : ℕ) (g flat : PlainGroup) (room' : Room) (es' : List PlainEntry) (told' : Light → Bool) (lit unlit : List Light) (shown : PlainGroup)
     → Keeps w es told room → Accepted w t g → flat ≡ entered w.tick g
-    → Fits flat room' → ((x : PlainGroup) → Fits x room → Fits x room')
+    → FitsIn flat room' → ((x : PlainGroup) → FitsIn x room → FitsIn x room')
     → shown ≡ flat → es' ≡ with_entry (record { thread = t; group = shown }) (without [] es)
     → ((l : Light) → told' l ≡ lit_after lit unlit l (told l))
     → lit ≡ filter (light_of w) (lights_in (bases flat)) → unlit ≡ filter (λ l. not (light_of w l)) (lights_in (bases flat))

@@ -24,7 +24,7 @@ bases-wrap g f = bases-wrapped f (leaves g)
 pub bases-groups_and : (g : PlainGroup) (gs : PlainGroups) → bases_of_all (groups_and g gs) ≡ bases g ++ bases_of_all gs
 bases-groups_and g gs = map-append (λ (l : PlainLeaf). l.base) (leaves g) (leaves_of_all gs)
 
--- the groups from a member on are that member and those behind it
+-- the groups from a member on are that member and those after it
 groups-drop : (gs : List PlainGroup) (i : ℕ) (g : PlainGroup) → i < length gs → g ≡ get_or gs i g → groups (drop i gs) ≡ groups_and g (groups (drop (i + 1) gs))
 groups-drop gs i g h is = rw add-one (ap groups (drop-cons gs i g h) ∙ ap (λ x. groups_and x (groups (drop (suc i) gs))) (sym is))
 
@@ -111,7 +111,7 @@ was_each_other-append so (j ∷ js) ks marks =
     and_assoc true b c = refl
     and_assoc false b c = refl
 
--- the marks of the members from one on are those of that member, and then of those behind it
+-- the marks of the members from one on are those of that member, and then of those after it
 pub set_goes_on : (so : Bool) (gs : List PlainGroup) (i : ℕ) (g : PlainGroup) (marks : List Bool) → i < length gs → g ≡ get_or gs i g
     → with_each (nacks_of_all (groups (drop i gs))) so marks ≡ with_each (nacks_of_all (groups (drop (i + 1) gs))) so (with_each (nacks_of (scopes g)) so marks)
 set_goes_on so gs i g marks h is =

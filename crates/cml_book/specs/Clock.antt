@@ -8,7 +8,8 @@ use Rattle.cml_book.specs.declared.refusal.Refusal.TheVariants as refusal
 use Rattle.cml_book.specs.Entering.{max_tick}
 use Rattle.cml_book.specs.Outcomes.{Outcome, refuse_if}
 
--- The clock comes to this tick, which is not before now and not above the greatest. The time is ours: it moves by this command alone.
+-- The clock moves to this tick, which must be neither before now nor above the greatest. This time is the project's own: it moves by this
+-- command alone.
 abbrev pub clock : PlainWorld → ℕ → Outcome (Unit {0})
 clock w to =
     refuse_if (nat_lt to w.tick) refusal.Clock

@@ -1,4 +1,4 @@
--- A code of what a thread gets: a tree of numbers from which it can be read back. The toolchain asks for one; no rule speaks of it.
+-- A code of what a thread gets: a tree of numbers from which it can be read back. The toolchain asks for one; no rule uses it.
 use Rattle.std.specs.Prelude.{ℕ, List, refl}
 use Rattle.std.specs.Coded.{Coded, code_by, coded×, coded_list, coded_ℕ}
 use Rattle.cml_value.specs.Value.{PlainValue, PlainFunction}

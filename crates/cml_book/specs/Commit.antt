@@ -13,7 +13,7 @@ use Rattle.cml_book.specs.Outcomes.{Outcome, refuse_if}
 use Rattle.cml_book.specs.Sync.{with_each}
 use Rattle.cml_book.specs.Resumes.{PlainResume}
 
--- the group that a thread waits on; any other thread waits on nothing
+-- the group that a pending thread waits on; of any other thread, the group that never happens
 abbrev pub awaited : Option PlainThread → PlainGroup
 awaited (Some (pending_on g)) = g
 awaited _ = never
@@ -22,12 +22,12 @@ awaited _ = never
 abbrev pub group_awaited : PlainWorld → ℕ → PlainGroup
 group_awaited w t = awaited (slice_get w.threads t)
 
--- the base event of a leaf; one that is not there has nothing to give
+-- the base event of a leaf; without a leaf, an alwaysEvt of unit
 abbrev pub base_or_unit : Option PlainLeaf → PlainBase
 base_or_unit None = always unit
 base_or_unit (Some l) = l.base
 
--- its wraps, innermost first
+-- the wraps of a leaf, innermost first; without a leaf, none
 abbrev pub wraps_or_none : Option PlainLeaf → List PlainFunction
 wraps_or_none None = []
 wraps_or_none (Some l) = l.wraps
@@ -46,7 +46,7 @@ abbrev pub first_of : Option (List PlainValue) → PlainValue
 first_of (Some (v ∷ vs)) = v
 first_of _ = unit
 
--- the items behind the first
+-- the items after the first
 abbrev pub rest_of : Option (List PlainValue) → List PlainValue
 rest_of (Some (v ∷ vs)) = vs
 rest_of _ = []
@@ -63,8 +63,8 @@ given w (mail_recv b) = first_of (slice_get w.mailboxes b)
 given w (port_recv p) = first_of (slice_get w.ports p)
 given w _ = unit
 
--- The world in which it was taken: an mTake leaves its variable empty, an mSwap leaves its own value there, and a receive from a
--- mailbox or a port leaves the items behind the first.
+-- The world after the base event was taken alone: an mTake leaves its variable empty, an mSwap leaves its own value there, and a receive
+-- from a mailbox or a port leaves the items after the first.
 abbrev pub taken : PlainWorld → PlainBase → PlainWorld
 taken w (mtake m) = record w { mvars = slice_set w.mvars m None }
 taken w (mswap m v) = record w { mvars = slice_set w.mvars m (Some v) }
@@ -83,13 +83,13 @@ abbrev pub held_in : Option (Option PlainValue) → Option PlainValue
 held_in None = None
 held_in (Some value) = value
 
--- the copy that is handed over
+-- the copy that is handed over, where the base event reads a full variable
 abbrev pub copied : PlainWorld → PlainBase → Option PlainValue
 copied w (iget i) = held_in (slice_get w.ivars i)
 copied w (mget m) = held_in (slice_get w.mvars m)
 copied w _ = None
 
--- the row takes such a base event
+-- the row takes a base event that reads in this way
 abbrev pub is_reading : PlainWorld → Meet → Bool
 is_reading w (Single t n) = is_read (base_awaited w t.0 n)
 is_reading w (Pair h i o j) = false
@@ -103,7 +103,7 @@ resume w t n v = record {
   fired = lost (group_awaited w t) n;
 }
 
--- What the parties of a row get: each of a pair what the other hands over, and a single the value of its base event.
+-- What the parties of a row get: each party of a pair gets what the other hands over, and a single gets the value of its base event.
 abbrev pub hands : PlainWorld → Meet → Committed
 hands w (Single t n) = record { head = resume w t.0 n (given w (base_awaited w t.0 n)); partner = None }
 hands w (Pair h i o j) = record {
@@ -111,8 +111,8 @@ hands w (Pair h i o j) = record {
   partner = Some (resume w o.0 j (handed (base_awaited w h.0 i)));
 }
 
--- The nacks after the leaf of this number was chosen from the group: of its scopes' nacks those that the leaf fires have fired, and the
--- others are held (Reppy's withNack).
+-- The nacks after the leaf of this number was chosen from the group. Of the nacks of its scopes, those that the choice fires have fired,
+-- and the others are held (Reppy's withNack).
 abbrev pub settled : ℕ → PlainGroup → List PlainNack → List PlainNack
 settled n g nacks = with_each (lost g n) fired (with_each (nacks_of (scopes g)) held nacks)
 

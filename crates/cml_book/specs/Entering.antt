@@ -1,4 +1,4 @@
--- How a group enters: what comes after so many ticks comes at a tick from now on.
+-- How a group enters: an event after some ticks becomes an event at a tick, counted from now.
 use Rattle.std.specs.Prelude.{ℕ, ◌+◌, ◌^◌, Bool, false, nat_lt}
 use Rattle.cml_value.specs.Value.{PlainBase, at_tick, after_ticks}
 use Rattle.cml_value.specs.Group.{PlainGroup, never, leaf, choose, wrap, scope, PlainGroups, no_groups, groups_and}
@@ -9,7 +9,7 @@ entered_base tick (after_ticks d) = at_tick (tick + d)
 entered_base tick b = b
 
 abbrev mutual
-  -- the group as it enters at this tick: each of its leaves so
+  -- the group as it enters at this tick: each of its leaves enters in this way
   pub entered : ℕ → PlainGroup → PlainGroup
   entered tick never = never
   entered tick (leaf b) = leaf (entered_base tick b)

@@ -9,22 +9,22 @@ use Rattle.cml_scan.specs.declared.object.Light.TheVariants as light
 use Rattle.cml_book.specs.MakePort.{ports_at, has_port}
 use Rattle.cml_book.specs.Views.{ports_of}
 
--- this is the channel, if there is one
+-- there is a home, and it is this channel
 abbrev pub is_home : ℕ → Option ℕ → Bool
 is_home x None = false
 is_home x (Some home) = home == x
 
 -- the numbers of channels
-abbrev pub numbers_of : List McastId → List ℕ
-numbers_of channels = map (λ channel. channel.0) channels
+abbrev pub channel_numbers : List McastId → List ℕ
+channel_numbers channels = map (λ channel. channel.0) channels
 
 -- a port stands in the list of the channel that is its home, and in no other
 abbrev pub HaveHomes : List (List ℕ) → List ℕ → Type 0
 HaveHomes channels homes = (x p : ℕ) → has_port (ports_at channels x) p ≡ is_home x (slice_get homes p)
 
--- each of so many ports has its home among these channels
+-- each of this many ports has its home among these channels
 pub record ArePorts (channels : List PlainMulticast) (homes : List McastId) (ports : ℕ) : Type 0 where
-  pub housed : HaveHomes (ports_of channels) (numbers_of homes)
+  pub housed : HaveHomes (ports_of channels) (channel_numbers homes)
   pub each : length homes ≡ ports
 
 -- one more port can be added to the channel without memory

@@ -6,7 +6,7 @@ use Rattle.cml_group.specs.LaidOut.{max_leaves}
 use Rattle.cml_scan.specs.World.{PlainThread, PlainNack, fresh_of, live, PlainWorld, PlainEntry, pending, pending_from}
 use Rattle.cml_scan.specs.Table.{TellsLights}
 use Rattle.cml_value.specs.Value.{PlainBase, at_tick}
-use Rattle.cml_base.specs.Registered.{PlainWait}
+use Rattle.cml_base.specs.Registered.{WaitingLeaf}
 use Rattle.cml_signal.specs.Clocks.{leaves_at}
 use Rattle.cml_scan.specs.Light.{light as light_seen}
 use Rattle.cml_scan.specs.declared.object.Light.{Light}
@@ -24,7 +24,7 @@ abbrev pub lives : Option PlainNack → ℕ
 lives (Some live) = 1
 lives _ = 0
 
--- A nack is live exactly where a pending group has its branch, and then just one branch of one group is its own.
+-- A nack is live exactly where a pending group has its branch, and then it has just one branch, in one group.
 abbrev pub NacksLive : PlainWorld → Type 0
 NacksLive w = (k : ℕ) → count_by (λ j. j == k) (pending_nacks (pending w)) ≡ lives (slice_get w.nacks k)
 
@@ -36,7 +36,7 @@ nack_light k = light.Nack (record { 0 = k })
 abbrev pub lights_in : List PlainBase → List Light
 lights_in bs = filter_map light_seen bs
 
--- a test as it should come out
+-- whether the two truth values are the same
 abbrev pub is_so : Bool → Bool → Bool
 is_so true b = b
 is_so false b = not b
@@ -67,8 +67,8 @@ pub record Counts (threads : List PlainThread) (waited : List (ℕ × ℕ)) : Ty
   pub counted : (t : ℕ) → leaves_at waited t ≡ times_awaited t (bases_awaited (pending_from 0 threads))
   pub narrow : All (λ e. leaf_count e.group ≤ max_leaves) (pending_from 0 threads)
 
--- The registers were told no waiters: who waits for which object is the table's knowledge alone.
-pub record AreUntold (ivars mvars mailboxes ports nacks : List PlainWait) : Type 0 where
+-- The registers were told no waiters: only the table knows who waits for which object.
+pub record AreUntold (ivars mvars mailboxes ports nacks : List WaitingLeaf) : Type 0 where
   pub untold_ivars : ivars ≡ []
   pub untold_mvars : mvars ≡ []
   pub untold_mailboxes : mailboxes ≡ []
@@ -76,7 +76,7 @@ pub record AreUntold (ivars mvars mailboxes ports nacks : List PlainWait) : Type
   pub untold_nacks : nacks ≡ []
 
 -- each of these nacks is live, and named once
-pub record AreLive (ks : List ℕ) (ns : List PlainNack) : Type 0 where
+pub record AreLiveNacks (ks : List ℕ) (ns : List PlainNack) : Type 0 where
   pub each : (k : ℕ) → times_named k ks ≤ lives (slice_get ns k)
 
 -- the nack is there, and fresh
@@ -89,24 +89,25 @@ pub record AreFresh (ks : List ℕ) (ns : List PlainNack) : Type 0 where
   pub once : (k : ℕ) → times_named k ks ≤ 1
   pub each : (k : ℕ) → 1 ≤ times_named k ks → is_fresh (slice_get ns k) ≡ true
 
--- how many lights there is room for: of those that a commit lights, and of those that it puts out
+-- how many lights there is room for: of those that a commit turns on, and of those that it turns off
 pub record Room : Type 0 where
   pub lit : ℕ
   pub unlit : ℕ
 
--- There is room for what two such groups light and put out: each nack of their scopes, each tick that a leaf waits for, and one more.
-pub record Fits (g : PlainGroup) (room : Room) : Type 0 where
+-- There is room for the lights that two such groups turn on and off: each nack of their scopes, each tick that a leaf waits for, and one
+-- more.
+pub record FitsIn (g : PlainGroup) (room : Room) : Type 0 where
   pub nacks : 2 * length (scopes g) ≤ room.lit
   pub ticks : 2 * leaf_count g + 1 ≤ room.unlit
 
--- what there was room for, there is room for
-abbrev pub Grows : Room → Room → Type 0
-Grows old new = (g : PlainGroup) → Fits g old → Fits g new
+-- each group for which there was room in the old still has room in the new
+abbrev pub RoomGrows : Room → Room → Type 0
+RoomGrows old new = (g : PlainGroup) → FitsIn g old → FitsIn g new
 
 -- The table was told the pending groups, and of each light that one of their leaves waits for whether it is lit. The nacks of the
--- pending groups are live. There is room for the lights that a commit can light and put out.
+-- pending groups are live. There is room for the lights that a commit can turn on and off.
 pub record Keeps (w : PlainWorld) (entries : List PlainEntry) (told : Light → Bool) (room : Room) : Type 0 where
   pub told_groups : entries ≡ pending w
   pub told_lights : TellsLights w told
   pub nacks_live : NacksLive w
-  pub roomy : All (λ e. Fits e.group room) entries
+  pub roomy : All (λ e. FitsIn e.group room) entries

@@ -1,4 +1,4 @@
--- What goes out when the parties of a row leave, and what lights when the clock moves.
+-- Which lights are turned off when the parties of a row leave, and which are turned on when the clock moves.
 use Rattle.std.specs.Prelude.{ℕ, ◌+◌, ◌==◌, ◌&&◌, nat_lt, nat_le, Bool, true, false, List, [], ◌∷◌, Option, Some, None, slice_get}
 use Rattle.std.specs.Borrow.{Bor}
 use Rattle.cml_value.specs.Value.{PlainBase, iget, mtake, mget, mswap, mail_recv, port_recv, at_tick}
@@ -20,7 +20,7 @@ abbrev pub bases_of : Option (Bor PlainGroup) → List PlainBase
 bases_of None = []
 bases_of (Some g) = bases g.now
 
--- the base waits for a tick, and of all these bases that do only those of these two lists are there
+-- the base waits for a tick for which, of all bases, only those of these two lists wait
 abbrev pub is_left : List PlainBase → List PlainBase → List PlainBase → PlainBase → Bool
 is_left all xs ys (at_tick t) = times_awaited t all == times_awaited t xs + times_awaited t ys
 is_left all xs ys _ = false
@@ -30,7 +30,7 @@ abbrev pub unless_item : Bool → Light → List Light
 unless_item true l = []
 unless_item false l = l ∷ []
 
--- the object that the base takes something from, if there is one, has it
+-- the object that the base takes a value from, if there is one, has one
 abbrev pub can_give : PlainWorld → PlainBase → Bool
 can_give w (iget i) = is_full (slice_get w.ivars i)
 can_give w (mtake m) = is_full (slice_get w.mvars m)
@@ -40,9 +40,9 @@ can_give w (mail_recv b) = has_item (slice_get w.mailboxes b)
 can_give w (port_recv p) = has_item (slice_get w.ports p)
 can_give w _ = true
 
--- The light that goes out when the base is taken alone: a take leaves an M-variable empty, and a receive may leave a mailbox or a port so.
-abbrev pub put_out : PlainWorld → PlainBase → List Light
-put_out w (mtake m) = of.MVar (record { 0 = m }) ∷ []
-put_out w (mail_recv b) = unless_item (has_item (Some (rest_of (slice_get w.mailboxes b)))) (of.Mbox (record { 0 = b }))
-put_out w (port_recv p) = unless_item (has_item (Some (rest_of (slice_get w.ports p)))) (of.Port (record { 0 = p }))
-put_out w _ = []
+-- The light that is turned off when the base is taken alone: a take empties an M-variable, and a receive may empty a mailbox or a port.
+abbrev pub turned_off : PlainWorld → PlainBase → List Light
+turned_off w (mtake m) = of.MVar (record { 0 = m }) ∷ []
+turned_off w (mail_recv b) = unless_item (has_item (Some (rest_of (slice_get w.mailboxes b)))) (of.Mbox (record { 0 = b }))
+turned_off w (port_recv p) = unless_item (has_item (Some (rest_of (slice_get w.ports p)))) (of.Port (record { 0 = p }))
+turned_off w _ = []

@@ -7,7 +7,7 @@ use Rattle.cml_scan.specs.World.{PlainWorld}
 use Rattle.cml_book.specs.declared.refusal.Refusal.TheVariants.{Object, Deep, Full}
 use Rattle.cml_book.specs.Outcomes.{Outcome, refuse_if}
 
--- The value is put behind the items of the mailbox, and nobody waits (Reppy's send to a mailbox). That a mailbox can be full is a rule
+-- The value is put after the items of the mailbox, and nobody waits (Reppy's send to a mailbox). That a mailbox can be full is a rule
 -- of our own.
 abbrev pub mail : PlainWorld → ℕ → PlainValue → Outcome (Unit {0})
 mail w b v =

@@ -14,7 +14,7 @@ ports_at channels x = unwrap_or (slice_get channels x) []
 abbrev pub has_port : List ℕ → ℕ → Bool
 has_port ports p = list_any (λ q. q == p) ports
 
--- the channel of this number has this port behind its others
+-- the channel of this number has this port after its others
 abbrev pub with_port : List (List ℕ) → ℕ → ℕ → List (List ℕ)
 with_port channels x port = slice_set channels x (ports_at channels x ++ port ∷ [])
 

@@ -1,13 +1,13 @@
 -- Marks at places of a list, by which it is found whether a place is named twice.
 use Rattle.std.specs.Prelude.{◌≡◌, ℕ, Bool, true, false, not, ◌&&◌, List, [], ◌∷◌, Option, Some, None, slice_get, slice_set}
 
--- this is what stands there, if anything does
+-- there is a mark, and it is this one
 abbrev pub is_that : Bool → Option Bool → Bool
 is_that so None = false
 is_that true (Some b) = b
 is_that false (Some b) = not b
 
--- each of these places was not yet so when its turn came to be set so
+-- when the places are marked in this way one after another, none of them has this mark before its turn
 abbrev pub was_each_other : Bool → List ℕ → List Bool → Bool
 was_each_other so [] marks = true
 was_each_other so (k ∷ ks) marks = not (is_that so (slice_get marks k)) && was_each_other so ks (slice_set marks k so)

@@ -22,6 +22,6 @@ multicast w x v =
     (Ok (record w { ports = posted v (ports_at w.mchans x) w.ports }, tt))))
 
 -- why a post was not made
-abbrev pub fault_of : PostFault → Fault
-fault_of post.Full = Refused Full
-fault_of post.Memory = Memory
+abbrev pub fault_of_post : PostFault → Fault
+fault_of_post post.Full = Refused Full
+fault_of_post post.Memory = Memory

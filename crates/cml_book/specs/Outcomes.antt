@@ -1,4 +1,4 @@
--- What a command comes to: the world after it and an answer, or a refusal.
+-- The outcome of a command: the world after it and an answer, or a refusal.
 use Rattle.std.specs.Prelude.{◌≡◌, ℕ, Bool, true, false, Option, Some, None, Result, Ok, Err, IsOk, slice_set}
 use Rattle.cml_scan.specs.World.{PlainThread, running, pending_on, ended, PlainWorld}
 use Rattle.cml_book.specs.declared.refusal.Refusal.{Refusal}
@@ -45,12 +45,12 @@ thread_refusal (Some running) = None
 thread_refusal (Some (pending_on g)) = Some refusal.State
 thread_refusal (Some ended) = Some refusal.State
 
--- the world with this thread so
+-- the world with this thread in this state
 abbrev pub with_thread : PlainWorld → ℕ → PlainThread → PlainWorld
 with_thread w t thread = record w { threads = slice_set w.threads t thread }
 
--- The call does what the definition says: it answers that; or it is refused as the definition says, and changes nothing; or it wants
--- memory, which it says only where the definition accepts, and changes nothing.
+-- The call does what the definition says, and returns its answer; or it is refused as the definition says, and changes nothing; or it runs
+-- out of memory, which can happen only where the definition accepts, and changes nothing.
 abbrev pub Does : {R : Type 0} → Result R Fault → Outcome R → PlainWorld → PlainWorld → Type 0
 Does (Ok r) outcome old new = outcome ≡ Ok (new, r)
 Does (Err (Refused why)) outcome old new = (outcome ≡ Err why) × (new ≡ old)

@@ -11,8 +11,8 @@ use Rattle.cml_book.specs.declared.command.Reply.TheVariants as reply
 abbrev pub is_party : ℕ → Committed → Bool
 is_party t c = (c.head.thread == t) || option_map_or (λ r. r.thread == t) c.partner false
 
--- Whether a thread runs after a command that answered so, where this says whether it ran before. A thread that was made runs; one that
--- waits, or has ended, runs no more; the parties of a row that was taken run again; and every other thread is as it was.
+-- Whether a thread runs after a command with this reply, where the last argument says whether it ran before. A thread that was made runs;
+-- one that waits, or has ended, runs no more; the parties of a row that was taken run again; and every other thread is as it was.
 abbrev pub runs_after : Reply → Command → ℕ → Bool → Bool
 runs_after (reply.Thread made) c t ran = (made.0 == t) || ran
 runs_after reply.Done (command.Sync u g) t ran = not (u.0 == t) && ran

@@ -1,4 +1,4 @@
--- What each command does, and a list of them.
+-- What each command does, and what a list of commands does.
 use Rattle.std.specs.Prelude.{◌≡◌, ◌≢◌, List, [], ◌∷◌, ◌++◌, Result, Ok, Err}
 use Rattle.cml_scan.specs.World.{PlainWorld}
 use Rattle.cml_book.specs.declared.refusal.Fault.{Fault}
@@ -28,7 +28,7 @@ abbrev pub answered : {R : Type 0} → (R → Reply) → PlainWorld → Outcome 
 answered reply_for w (Ok next) = (next.0, reply_for next.1)
 answered reply_for w (Err why) = (w, reply.Refused why)
 
--- one command, by cases
+-- what one command does, by cases
 abbrev pub step : PlainWorld → Command → PlainWorld × Reply
 step w command.Spawn = answered reply.Thread w (spawn w)
 step w command.MakeChan = answered reply.Chan w (make_chan w)
@@ -54,7 +54,7 @@ abbrev pub replies_of : List Command → PlainWorld → List Reply
 replies_of [] w = []
 replies_of (c ∷ cs) w = (step w c).1 ∷ replies_of cs (step w c).0
 
--- the world after them
+-- the world after a list of commands
 abbrev pub world_after : List Command → PlainWorld → PlainWorld
 world_after [] w = w
 world_after (c ∷ cs) w = world_after cs (step w c).0
@@ -67,11 +67,11 @@ pub record HasStopped (commands : List Command) (replies : List Reply) (left : L
   pub stands : new ≡ world_after done old
   pub some_left : left ≢ []
 
--- the world in which nothing is, at time 0
+-- the empty world, at time 0
 abbrev pub empty_world : PlainWorld
 empty_world = record { threads = []; channels = 0; swaps = 0; ivars = []; mvars = []; mailboxes = []; mchans = []; ports = []; nacks = []; tick = 0 }
 
--- a refusal is a reply; for want of memory the command comes back
+-- a refusal is a reply; where memory runs out the command comes back
 abbrev pub refused_reply : Fault → Command → Result Reply (Returned Command)
 refused_reply (Refused why) c = Ok (reply.Refused why)
 refused_reply Memory c = Err (record { value = c; fault = Memory })

@@ -11,7 +11,7 @@ use Rattle.cml_book.specs.declared.refusal.Refusal.TheVariants as refusal
 use Rattle.cml_book.specs.Entering.{entered, is_far}
 use Rattle.cml_book.specs.Outcomes.{Outcome, refuse_by, first_if, first_of_both, thread_refusal}
 
--- the list after each of these places was set so
+-- the list after each of these places was set to this
 abbrev pub with_each : {X : Type 0} → List ℕ → X → List X → List X
 with_each [] so xs = xs
 with_each (k ∷ ks) so xs = with_each ks so (slice_set xs k so)

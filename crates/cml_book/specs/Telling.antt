@@ -1,11 +1,11 @@
--- How the table is told when an object lights.
+-- How the table is told when the light of an object is turned on.
 use Rattle.std.specs.Prelude.{◌≡◌, Bool, true, false, List, [], ◌∷◌}
 use Rattle.cml_scan.specs.World.{PlainWorld, PlainEntry}
 use Rattle.cml_scan.specs.Light.{light_of}
 use Rattle.cml_scan.specs.declared.object.Light.{Light}
 use Rattle.cml_book.specs.Keeping.{Keeps, Room}
 
--- what a table is told of a light that comes on: nothing, where it was on before
+-- what a table is told of a light that is turned on: nothing, where it was on before
 abbrev pub newly_lit : Bool → Light → List Light
 newly_lit true light = []
 newly_lit false light = light ∷ []

@@ -1,4 +1,4 @@
--- What a thread of a book is seen as, from its one field, and what registers and lists of objects are seen as.
+-- The view of a thread of a book, made from its one field, and the views of registers and of lists of objects.
 use Rattle.std.specs.Prelude.{ℕ, List, map}
 use Rattle.cml_value.specs.Value.{PlainValue}
 use Rattle.cml_queues.specs.PlainQueue.{PlainQueue}
@@ -7,10 +7,10 @@ use Rattle.cml_scan.specs.World.{PlainThread, running, pending_on, ended}
 use Rattle.cml_book.specs.declared.thread.Doing.{Doing}
 use Rattle.cml_book.specs.declared.thread.Doing.TheVariants as doing
 
-abbrev pub thread_of : Doing → PlainThread
-thread_of doing.Running = running
-thread_of (doing.Pending flat) = pending_on flat
-thread_of doing.Ended = ended
+abbrev pub plain_doing : Doing → PlainThread
+plain_doing doing.Running = running
+plain_doing (doing.Pending flat) = pending_on flat
+plain_doing doing.Ended = ended
 
 -- the items of each mailbox, and the unread messages of each port
 abbrev pub queues_of : List PlainQueue → List (List PlainValue)

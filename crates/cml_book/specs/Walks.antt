@@ -1,4 +1,4 @@
--- What a thread and its group are asked before it waits.
+-- What is checked of a thread and its group before the thread waits.
 use Rattle.std.specs.Prelude.{ℕ, Bool, true, false, not, nat_lt, Option, None, slice_get}
 use Rattle.std.specs.List.{list_any}
 use Rattle.std.specs.Option.{option_map_or}
@@ -20,7 +20,7 @@ runs _ = false
 abbrev pub is_running : PlainWorld → ℕ → Bool
 is_running w t = option_map_or runs (slice_get w.threads t) false
 
--- the first refusal of a wait but the last one, which speaks of the nacks of the scopes
+-- the first refusal of a wait, without regard to the last one, which is about the nacks of the scopes
 abbrev pub shape_refusal : PlainWorld → ℕ → PlainGroup → Option Refusal
 shape_refusal w t g =
     first_of_both (thread_refusal (slice_get w.threads t))

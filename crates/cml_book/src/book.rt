@@ -43,7 +43,7 @@ pub const MAX_OBJECTS: usize = 65_536;
 pub struct Book<T: Table> {
     pub(crate) state: State,
     pub(crate) table: T,
-    // empty between the calls; their room is for the lights that a commit lights, and those that it puts out
+    // empty between the calls; their room is for the lights that a commit turns on, and those that it turns off
     lit: Vec<Light>,
     unlit: Vec<Light>,
 }
@@ -70,7 +70,7 @@ impl<T: Table> Model for Book<T> {
 impl<T: Table> Book<T> {
     ghost use Rattle.std.specs.Prelude.{[]};
 
-    /// A book in which nothing is, over a table that was told nothing.
+    /// An empty book, over a table that was told nothing.
     pub fn new(alloc: Global, table: T) -> Book<T>
         requires { T.entries table ≡ [] }
         ensures { result ≡ empty_world }
@@ -86,7 +86,7 @@ impl<T: Table> Book<T> {
     /// Makes a thread, which runs.
     ///
     /// # Errors
-    /// Refused where there are 4,096 of them; want of memory.
+    /// Refused where there are 4,096 of them; or memory runs out.
     pub fn spawn(&mut self) -> Result<Tid, Fault>
         ensures { Does result (spawned self.old) self.old self.new }
     {
@@ -118,19 +118,19 @@ impl<T: Table> Book<T> {
     /// Makes a fresh nack for the thread.
     ///
     /// # Errors
-    /// Refused where there is no such thread, where it does not run, or where there are 65,536 nacks; want of memory.
+    /// Refused where there is no such thread, where it does not run, or where there are 65,536 nacks; or memory runs out.
     pub fn nack(&mut self, owner: Tid) -> Result<NackId, Fault>
         ensures { Does result (nack_spec.nack self.old owner.0) self.old self.new }
     {
         self.state.nack(owner)
     }
 
-    /// The thread waits on the group, of which a copy enters. Its `after` count from now on.
+    /// The thread waits on the group, of which a copy is kept. The ticks of its `after` events count from now on.
     ///
     /// # Errors
     /// Refused where there is no such thread or it does not run, where a base or a scope names what does not exist, where the
     /// group has more than 256 leaves, is too deep or has too many nodes, where a tick lies too far, or where a scope's nack is
-    /// not fresh, not the thread's, or named twice; the first of these. Want of memory.
+    /// not fresh, not the thread's, or named twice; the first of these. Or memory runs out.
     pub fn sync(&mut self, alloc: Global, thread: Tid, group: &Group) -> Result<(), Fault>
         ensures { Does result (sync_spec.sync self.old thread.0 group.now) self.old self.new }
     {
@@ -165,7 +165,7 @@ impl<T: Table> Book<T> {
     /// The thread ends.
     ///
     /// # Errors
-    /// Refused where there is no such thread, or where it does not run; want of memory.
+    /// Refused where there is no such thread, or where it does not run; or memory runs out.
     pub fn end(&mut self, alloc: Global, thread: Tid) -> Result<(), Fault>
         ensures { Does result (end_spec.end self.old thread.0) self.old self.new }
     {
@@ -181,7 +181,7 @@ impl<T: Table> Book<T> {
     /// The clock moves to this tick.
     ///
     /// # Errors
-    /// Refused where the tick is before now, or above 2^62; want of memory.
+    /// Refused where the tick is before now, or above 2^62; or memory runs out.
     pub fn clock(&mut self, alloc: Global, to: u64) -> Result<(), Fault>
         ensures { Does result (clock_spec.clock self.old to) self.old self.new }
     {
@@ -203,8 +203,8 @@ impl<T: Table> Book<T> {
     /// Takes the row: its parties go on, with what it hands them.
     ///
     /// # Errors
-    /// Refused exactly where the row is not in the table; want of memory. Over a table whose changes are sure, want of memory
-    /// is answered only where the row reads a variable and leaves its value there, of which a copy is made.
+    /// Refused exactly where the row is not in the table; or memory runs out. Over a table whose changes are sure, memory runs out
+    /// only where the row reads a variable and leaves its value there, since then a copy is made.
     pub fn commit(&mut self, alloc: Global, row: Meet) -> Result<Committed, Fault>
         ensures step { Does result (commit_spec.commit self.old row) self.old self.new }
         ensures sure { IsTrue T.SURE → is_reading self.old row ≡ false → result ≢ Err Fault.Memory }
@@ -289,7 +289,7 @@ impl<T: Table> Book<T> {
     /// The pending threads, ascending.
     ///
     /// # Errors
-    /// Want of memory.
+    /// Out of memory.
     pub fn pending(&self, alloc: Global) -> Result<Vec<Tid>, AllocError>
         ensures { IfOk result (λ threads. map (λ t. t.0) threads.items ≡ map (λ e. e.thread) (pending self.now)) }
     {
@@ -307,7 +307,7 @@ impl<T: Table> Book<T> {
         let base = flat.leaf(leaf as usize);
         let copy = self.state.spare(base)?;
         push_lights(&mut self.lit, flat, leaf as usize);
-        self.state.push_put_out(&mut self.unlit, base);
+        self.state.push_turned_off(&mut self.unlit, base);
         self.state.push_left_ticks(&mut self.unlit, flat, None);
         let changed = self
             .table

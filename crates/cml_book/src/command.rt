@@ -1,4 +1,4 @@
-//! The commands of a book, and what they answer.
+//! The commands of a book, and the replies to them.
 
 use crate::refusal::Refusal;
 use cml_scan::Meet;
@@ -66,9 +66,9 @@ pub enum Command {
     IPut(IVarId, Value),
     /// Writes the value into the empty M-variable.
     MPut(MVarId, Value),
-    /// Puts the value behind the items of the mailbox.
+    /// Puts the value after the items of the mailbox.
     Mail(MboxId, Value),
-    /// Puts the value behind the unread messages of every port of the channel.
+    /// Puts the value after the unread messages of every port of the channel.
     Multicast(McastId, Value),
     /// Makes a fresh nack for the thread.
     Nack(Tid),
@@ -82,7 +82,7 @@ pub enum Command {
     Clock(u64),
 }
 
-/// What a command answers.
+/// The reply to a command.
 #[derive(Drop)]
 pub enum Reply {
     /// A thread was made.
@@ -111,11 +111,11 @@ pub enum Reply {
     Refused(Refusal),
 }
 
-/// A run that wanted memory: the replies to the commands that were done, and the commands that were not.
+/// A run that was stopped since memory ran out: the replies to the commands that were done, and the commands that were not.
 #[derive(Drop)]
 pub struct Stopped {
     /// The replies to the commands that were done, in order.
     pub replies: Vec<Reply>,
-    /// The commands that were not done, in order, of which the first wanted memory.
+    /// The commands that were not done, in order. Memory ran out at the first of them.
     pub left: Vec<Command>,
 }

@@ -1,4 +1,4 @@
-//! How a group enters: what comes after so many ticks comes at a tick from now on.
+//! How a group enters: an event after some ticks becomes an event at a tick, counted from now.
 
 ghost use Rattle.std.specs.Prelude.{◌≡◌, false, IfOk};
 ghost use Rattle.std.specs.List.{list_any};
@@ -19,10 +19,10 @@ fn entering_base(base: &Base, tick: u64) -> Result<Base, AllocError>
     }
 }
 
-/// The group as it enters at this tick: each of its leaves so. No leaf waits for a tick above the greatest.
+/// The group as it enters at this tick: each of its leaves enters in this way. No leaf waits for a tick above the greatest.
 ///
 /// # Errors
-/// Want of memory.
+/// Out of memory.
 #[tactic(auto, using(crate::proofs::Entered::entered_steps))]
 pub(crate) fn entering(alloc: Global, group: &Group, tick: u64) -> Result<Group, AllocError>
     requires { list_any (is_far tick) (bases group.now) ≡ false }

@@ -1,4 +1,4 @@
-//! Objects that light when they are fed.
+//! Objects whose lights are turned on when they are fed.
 
 ghost use Rattle.std.specs.Prelude.{◌≡◌, ◌<◌, Ok, [], length, map, OnOk, OnErr, IfErr};
 ghost use Rattle.cml_scan.specs.Table.{lit_after};
@@ -22,11 +22,11 @@ pub(crate) fn is_lit_at<K: Source>(objects: &Register<K>, id: u32) -> bool
     }
 }
 
-/// Feeds the object of this number a value that it takes and that lights it. The table is told so before, if the object was not
-/// lit; room was made for the value first, so nothing can fail any more once the table is told.
+/// Feeds the object of this number a value that it takes and that turns its light on. If the light was off, the table is told
+/// first. Room for the value is made before that, so nothing can fail any more once the table is told.
 ///
 /// # Errors
-/// Want of memory: the value comes back, and neither the objects nor what the table was told has changed.
+/// Out of memory: the value comes back, and neither the objects nor what the table was told has changed.
 pub(crate) fn feed<K: Source<Feed = Value>, T: Table>(
     alloc: Global,
     objects: &mut Register<K>,
@@ -64,7 +64,7 @@ pub(crate) fn feed<K: Source<Feed = Value>, T: Table>(
 /// Tells the table that the light is on, unless there is nothing to tell: it was on before, or stays off.
 ///
 /// # Errors
-/// Want of memory: nothing was told.
+/// Out of memory: nothing was told.
 pub(crate) fn tell_lit<T: Table>(
     alloc: Global,
     table: &mut T,

@@ -56,7 +56,7 @@ impl State {
         Ok(Arrival { flat, lit, unlit })
     }
 
-    // Those of the lights that are so: lit, or not.
+    // Those of the lights that are lit, or those that are not.
     fn lights_that_are(
         &self,
         alloc: Global,
@@ -86,7 +86,7 @@ fn awaited_lights(alloc: Global, flat: &Flat) -> Result<Vec<Light>, AllocError>
     Ok(lights)
 }
 
-// The light of the base event behind the others, if it has one.
+// Appends the light of the base event, if it has one.
 fn push_awaited(lights: &mut Vec<Light>, base: &Base) -> Result<(), AllocError>
     ensures { OnOk result (lights.new.items ≡ lights.old.items ++ lights_in (base.now ∷ [])) }
 {

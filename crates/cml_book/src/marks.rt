@@ -10,7 +10,7 @@ use cml_value::{Group, GroupKind, NackId};
 use std::alloc::{AllocError, Global};
 use std::marker::Model;
 
-/// So many numbers can be marked. None is, between the calls.
+/// Marks for the numbers below some number. None of them is set between the calls.
 #[derive(Drop)]
 pub struct Marks {
     marks: Vec<bool>,
@@ -36,7 +36,7 @@ impl Marks {
         }
     }
 
-    /// One number more can be marked.
+    /// Adds a mark for one more number.
     pub fn grow(&mut self) -> Result<(), AllocError>
         ensures ok { OnOk result (self.new ≡ self.old + 1) }
         ensures err { OnErr result (self.new ≡ self.old) }
@@ -58,7 +58,7 @@ impl Marks {
     }
 }
 
-// Sets the mark of each scope's nack; whether each was not yet so when its turn came.
+// Sets the mark of each scope's nack to this. Returns whether none of them had this mark before its turn.
 #[tactic(auto, using(crate::proofs::Walks::nack_steps))]
 fn set_each(marks: &mut Vec<bool>, group: &Group, so: bool) -> bool
     ensures marks { marks.new.items ≡ with_each (nacks_of (scopes group.now)) so marks.old.items }

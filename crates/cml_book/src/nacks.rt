@@ -7,7 +7,7 @@ ghost use Rattle.cml_value.specs.Nack.{live, fired, held};
 ghost use Rattle.cml_group.specs.Leaves.{numbers};
 ghost use Rattle.cml_book.specs.Commit.{settled};
 ghost use Rattle.cml_book.specs.Sync.{with_each};
-ghost use Rattle.cml_book.specs.Keeping.{nack_light, AreLive, AreFresh, is_fresh, Fits, Grows};
+ghost use Rattle.cml_book.specs.Keeping.{nack_light, AreLiveNacks, AreFresh, is_fresh, FitsIn, RoomGrows};
 
 use cml_base::Register;
 use cml_group::Flat;
@@ -16,10 +16,10 @@ use cml_signal::{NackCell, NackFeed};
 use cml_value::NackId;
 use std::alloc::AllocError;
 
-/// Makes room for the lights that a commit of the group and another such group lights and puts out.
+/// Makes room for the lights that a commit of the group and of another such group turns on and off.
 ///
 /// # Errors
-/// Want of memory. What there was room for before, there still is.
+/// Out of memory. What there was room for before, there still is.
 pub fn make_room(
     lit: &mut Vec<Light>,
     unlit: &mut Vec<Light>,
@@ -28,15 +28,15 @@ pub fn make_room(
     ensures lit { lit.new.items ≡ lit.old.items }
     ensures unlit { unlit.new.items ≡ unlit.old.items }
     ensures fits { OnOk result (lit.old.items ≡ [] → unlit.old.items ≡ [] →
-        Fits flat.now (record { lit = vec_capacity lit.new; unlit = vec_capacity unlit.new })) }
-    ensures grows { Grows (record { lit = vec_capacity lit.old; unlit = vec_capacity unlit.old })
+        FitsIn flat.now (record { lit = vec_capacity lit.new; unlit = vec_capacity unlit.new })) }
+    ensures grows { RoomGrows (record { lit = vec_capacity lit.old; unlit = vec_capacity unlit.old })
         (record { lit = vec_capacity lit.new; unlit = vec_capacity unlit.new }) }
 {
     lit.reserve(2 * flat.scopes().len())?;
     unlit.reserve(2 * flat.len() + 1)
 }
 
-/// Puts the lights of the nacks that choosing the leaf fires behind those that stand there. There is room for them.
+/// Appends the lights of the nacks that choosing the leaf fires. There is room for them.
 pub fn push_lights(lights: &mut Vec<Light>, flat: &Flat, leaf: usize)
     requires leaf { leaf < leaf_count flat.now }
     requires room { length lights.old.items + length (scopes flat.now) ≤ vec_capacity lights.old }
@@ -62,7 +62,7 @@ fn push_light(lights: &mut Vec<Light>, nack: NackId, is_lost: bool)
 /// Fires the nacks in whose branches the leaf does not lie, and holds the others.
 pub fn settle(cells: &mut Register<NackCell>, flat: &Flat, leaf: usize)
     requires leaf { leaf < leaf_count flat.now }
-    requires alive { AreLive (nacks_of (scopes flat.now)) cells.old.objects }
+    requires alive { AreLiveNacks (nacks_of (scopes flat.now)) cells.old.objects }
     ensures objects { cells.new.objects ≡ settled leaf flat.now cells.old.objects }
     ensures waits { cells.new.waits ≡ cells.old.waits }
 {

@@ -17,7 +17,7 @@ impl<T: Table> Book<T> {
     /// Makes an empty I-variable.
     ///
     /// # Errors
-    /// Refused where there are 65,536 of them; want of memory.
+    /// Refused where there are 65,536 of them; or memory runs out.
     pub fn make_ivar(&mut self) -> Result<IVarId, Fault>
         ensures { Does result (make_spec.make_ivar self.old) self.old self.new }
     {
@@ -27,7 +27,7 @@ impl<T: Table> Book<T> {
     /// Makes an M-variable, which is empty or holds the value.
     ///
     /// # Errors
-    /// Refused where the value is too deep or has too many nodes, or where there are 65,536 of them; want of memory. The value
+    /// Refused where the value is too deep or has too many nodes, or where there are 65,536 of them; or memory runs out. The value
     /// comes back.
     pub fn make_mvar(
         &mut self,
@@ -42,7 +42,7 @@ impl<T: Table> Book<T> {
     /// Makes a mailbox without items.
     ///
     /// # Errors
-    /// Refused where there are 65,536 of them; want of memory.
+    /// Refused where there are 65,536 of them; or memory runs out.
     pub fn make_mailbox(&mut self, alloc: Global) -> Result<MboxId, Fault>
         ensures { Does result (make_spec.make_mailbox self.old) self.old self.new }
     {
@@ -52,7 +52,7 @@ impl<T: Table> Book<T> {
     /// Makes a multicast channel without ports.
     ///
     /// # Errors
-    /// Refused where there are 65,536 of them; want of memory.
+    /// Refused where there are 65,536 of them; or memory runs out.
     pub fn make_mchan(&mut self, alloc: Global) -> Result<McastId, Fault>
         ensures { Does result (make_spec.make_mchan self.old) self.old self.new }
     {
@@ -62,7 +62,7 @@ impl<T: Table> Book<T> {
     /// Makes a port of the channel, to which the messages come that are sent from now on.
     ///
     /// # Errors
-    /// Refused where there is no such channel, or where there are 65,536 ports; want of memory.
+    /// Refused where there is no such channel, or where there are 65,536 ports; or memory runs out.
     pub fn make_port(&mut self, alloc: Global, channel: McastId) -> Result<PortId, Fault>
         ensures { Does result (port_spec.make_port self.old channel.0) self.old self.new }
     {
@@ -72,7 +72,7 @@ impl<T: Table> Book<T> {
     /// Makes a port of the same channel, with the same unread messages.
     ///
     /// # Errors
-    /// Refused where there is no such port, or where there are 65,536 ports; want of memory.
+    /// Refused where there is no such port, or where there are 65,536 ports; or memory runs out.
     pub fn copy_port(&mut self, alloc: Global, port: PortId) -> Result<PortId, Fault>
         ensures { Does result (port_spec.copy_port self.old port.0) self.old self.new }
     {
@@ -82,8 +82,8 @@ impl<T: Table> Book<T> {
     /// Puts the value into the I-variable.
     ///
     /// # Errors
-    /// Refused where there is no such variable, where it is full, or where the value is too deep or has too many nodes; want of
-    /// memory. The value comes back.
+    /// Refused where there is no such variable, where it is full, or where the value is too deep or has too many nodes; or memory
+    /// runs out. The value comes back.
     pub fn iput(&mut self, alloc: Global, ivar: IVarId, value: Value) -> Result<(), Returned<Value>>
         ensures { DoesWith result value (put_spec.iput self.old ivar.0 value) self.old self.new }
     {
@@ -93,19 +93,19 @@ impl<T: Table> Book<T> {
     /// Puts the value into the M-variable.
     ///
     /// # Errors
-    /// Refused where there is no such variable, where it is full, or where the value is too deep or has too many nodes; want of
-    /// memory. The value comes back.
+    /// Refused where there is no such variable, where it is full, or where the value is too deep or has too many nodes; or memory
+    /// runs out. The value comes back.
     pub fn mput(&mut self, alloc: Global, mvar: MVarId, value: Value) -> Result<(), Returned<Value>>
         ensures { DoesWith result value (put_spec.mput self.old mvar.0 value) self.old self.new }
     {
         self.state.mput(alloc, &mut self.table, mvar, value)
     }
 
-    /// Puts the value behind the items of the mailbox.
+    /// Puts the value after the items of the mailbox.
     ///
     /// # Errors
     /// Refused where there is no such mailbox, where the value is too deep or has too many nodes, or where the mailbox has 65,536
-    /// items; want of memory. The value comes back.
+    /// items; or memory runs out. The value comes back.
     pub fn mail(
         &mut self,
         alloc: Global,
@@ -118,11 +118,11 @@ impl<T: Table> Book<T> {
         self.state.mail(alloc, &mut self.table, mailbox, value)
     }
 
-    /// Puts the message behind the unread ones of every port of the channel. A channel without ports drops it.
+    /// Puts the message after the unread ones of every port of the channel. A channel without ports drops it.
     ///
     /// # Errors
     /// Refused where there is no such channel, where the message is too deep or has too many nodes, or where one of the ports has
-    /// 65,536 unread messages; want of memory. The message comes back, and no port has got it.
+    /// 65,536 unread messages; or memory runs out. The message comes back, and no port has got it.
     pub fn multicast(
         &mut self,
         alloc: Global,

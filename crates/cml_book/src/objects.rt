@@ -13,8 +13,8 @@ ghost use Rattle.cml_book.specs.Views.{queues_of};
 
 use crate::book::MAX_OBJECTS;
 use crate::feeding::{feed, tell_lit};
+use crate::fullness::{ivar_is_full, mvar_is_full};
 use crate::refusal::{Fault, Refusal, Returned};
-use crate::seen::{ivar_is_full, mvar_is_full};
 use crate::state::State;
 use cml_base::Register;
 use cml_queues::Mailbox;
@@ -57,11 +57,11 @@ impl State {
             return Err(Returned::refused(held, Refusal::Full));
         }
         let Ok(()) = self.mvars.room(None) else {
-            return Err(Returned::unserved(held));
+            return Err(Returned::out_of_memory(held));
         };
         let mvar = MVarId(self.mvars.len() as u32);
         let Ok(()) = tell_lit(alloc, table, held.is_none(), Light::MVar(mvar)) else {
-            return Err(Returned::unserved(held));
+            return Err(Returned::out_of_memory(held));
         };
         let Ok(_) = self.mvars.make(MVar::new(held)) else {
             unreachable!();
@@ -114,7 +114,7 @@ impl State {
             table,
             Light::IVar(ivar),
         ) {
-            return Err(Returned::unserved(value));
+            return Err(Returned::out_of_memory(value));
         }
         Ok(())
     }
@@ -149,12 +149,12 @@ impl State {
             table,
             Light::MVar(mvar),
         ) {
-            return Err(Returned::unserved(value));
+            return Err(Returned::out_of_memory(value));
         }
         Ok(())
     }
 
-    /// Puts the value behind the items of the mailbox, and tells the table if it is the first.
+    /// Puts the value after the items of the mailbox, and tells the table if it is the first.
     pub(crate) fn mail<T: Table>(
         &mut self,
         alloc: Global,
@@ -184,7 +184,7 @@ impl State {
             table,
             Light::Mbox(mailbox),
         ) {
-            return Err(Returned::unserved(value));
+            return Err(Returned::out_of_memory(value));
         }
         Ok(())
     }

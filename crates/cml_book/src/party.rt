@@ -12,7 +12,7 @@ ghost use Rattle.cml_book.specs.Sync.{with_each};
 ghost use Rattle.cml_book.specs.Commit as spec;
 ghost use Rattle.cml_book.specs.Commit.{awaited, base_awaited, group_awaited, released, copied, is_read};
 ghost use Rattle.cml_book.specs.Keeping.{AreFresh, Counts};
-ghost use Rattle.cml_book.specs.Leaving.{can_give, put_out};
+ghost use Rattle.cml_book.specs.Leaving.{can_give, turned_off};
 ghost use Rattle.cml_book.specs.Parties.{WaitsOn};
 ghost use Rattle.cml_book.specs.Swaps.{is_swap, are_swaps};
 ghost use Rattle.cml_book.specs.Threads.{flat_of};
@@ -33,7 +33,7 @@ impl State {
     /// The thread, which runs, waits on the group from now on. The nacks of its scopes are as they were.
     ///
     /// # Errors
-    /// Want of memory: nothing changes.
+    /// Out of memory: nothing changes.
     pub fn wait(&mut self, thread: Tid, flat: Flat) -> Result<(), AllocError>
         requires { slice_get self.old.threads thread.0 ≡ Some running }
         ensures ok { OnOk result (self.new ≡ with_thread self.old thread.0 (pending_on flat)) }
@@ -116,7 +116,7 @@ impl State {
     /// The copy that `given` needs for the base event, which can be taken alone.
     ///
     /// # Errors
-    /// Want of memory, where the event reads a variable and leaves its value there.
+    /// Out of memory, where the event reads a variable and leaves its value there.
     pub fn spare(&self, base: &Base) -> Result<Option<Value>, AllocError>
         requires { can_give self.now base.now ≡ true }
         ensures copy { IfOk result (λ copy. copy ≡ copied self.now base.now) }
@@ -129,7 +129,7 @@ impl State {
         }
     }
 
-    /// The value of a base event that is taken alone, and what the taking changes. The copy is what was spared for it.
+    /// Takes the base event alone: changes its object, and returns its value. The copy is the one that `spare` returned.
     pub fn given(&mut self, base: Base, copy: Option<Value>) -> Value
         requires stock { can_give self.old base ≡ true }
         requires copy { copy ≡ copied self.old base }
@@ -148,11 +148,11 @@ impl State {
         }
     }
 
-    /// Puts the light that goes out when the base event is taken alone behind those that stand there, if one does. There is room.
-    pub fn push_put_out(&self, lights: &mut Vec<Light>, base: &Base)
+    /// Appends the light that is turned off when the base event is taken alone, if one is. There is room for it.
+    pub fn push_turned_off(&self, lights: &mut Vec<Light>, base: &Base)
         requires stock { can_give self.now base.now ≡ true }
         requires room { length lights.old.items + 1 ≤ vec_capacity lights.old }
-        ensures lights { lights.new.items ≡ lights.old.items ++ put_out self.now base.now }
+        ensures lights { lights.new.items ≡ lights.old.items ++ turned_off self.now base.now }
         ensures room { vec_capacity lights.new ≡ vec_capacity lights.old }
     {
         match base.kind() {
@@ -200,7 +200,7 @@ fn stays_lit<K: Source>(objects: &Register<K>, id: u32, want: &K::Want) -> bool
     }
 }
 
-// The thread runs from now on; the group that it waited on comes out, and its leaves are counted no more.
+// The thread runs from now on. The group that it waited on is returned, and its leaves are counted no more.
 fn release(threads: &mut Vec<Thread>, clock: &mut Clock, thread: Tid) -> Flat
     requires waits { IsSome (option_and_then flat_of (slice_get threads.old.items thread.0)) }
     requires counts { Counts threads.old.items clock.old.waited }
@@ -221,7 +221,7 @@ fn release(threads: &mut Vec<Thread>, clock: &mut Clock, thread: Tid) -> Flat
     flat
 }
 
-// Makes the nacks of the group live that the thread waits on, if it does.
+// Makes the nacks of the group that the thread waits on live, if it waits.
 fn enter_all(cells: &mut Register<NackCell>, threads: &Vec<Thread>, thread: Tid)
     requires { AreFresh (nacks_of (scopes (awaited (slice_get threads.now.items thread.0)))) cells.old.objects }
     ensures objects { cells.new.objects

@@ -6,7 +6,7 @@ ghost use Rattle.cml_scan.specs.Light.{has_item};
 ghost use Rattle.cml_scan.specs.Table.{lit_after};
 ghost use Rattle.cml_scan.specs.declared.object.Light.{Light};
 ghost use Rattle.cml_base.specs.Registered.{HasRoomAt};
-ghost use Rattle.cml_queues.specs.Posts.{numbers, unread, any_is_full, posted, says_full};
+ghost use Rattle.cml_queues.specs.Posts.{port_numbers, unread, any_is_full, posted, says_full};
 ghost use Rattle.cml_book.specs.Outcomes.{Does, DoesWith, max_objects};
 ghost use Rattle.cml_book.specs.MakeObjects.{make_mchan};
 ghost use Rattle.cml_book.specs.MakePort as spec;
@@ -18,8 +18,8 @@ ghost use Rattle.cml_book.specs.Views.{queues_of, ports_of};
 
 use crate::book::MAX_OBJECTS;
 use crate::feeding::tell_lit;
+use crate::fullness::port_has_item;
 use crate::refusal::{Fault, Refusal, Returned};
-use crate::seen::port_has_item;
 use crate::state::State;
 use cml_base::{Register, Source};
 use cml_queues::{Multicast, Port, PostFault, deliver, prepare};
@@ -113,7 +113,7 @@ impl State {
         Ok(made)
     }
 
-    /// Puts the message behind the unread ones of every port of the channel, or of none, and tells the table of those for which it
+    /// Puts the message after the unread ones of every port of the channel, or of none, and tells the table of those for which it
     /// is the first.
     pub(crate) fn multicast<T: Table>(
         &mut self,
@@ -145,9 +145,9 @@ impl State {
     }
 }
 
-// Why a call did nothing, as the post says it.
+// Why a call did nothing, from the fault of the post.
 fn post_fault(fault: PostFault) -> Fault
-    ensures { result ≡ multicast_spec.fault_of fault }
+    ensures { result ≡ multicast_spec.fault_of_post fault }
 {
     match fault {
         PostFault::Full => Fault::Refused(Refusal::Full),
@@ -251,10 +251,10 @@ fn send<T: Table>(
 ) -> Result<(), PostFault>
     requires there { All (λ port. port.0 < length ports.old.objects) channel.now.ports }
     ensures full { let old = unread ports.old.objects in
-        says_full result ≡ any_is_full (numbers channel.now.ports) old }
-    ensures ok { let new = posted message.now (numbers channel.now.ports) (unread ports.old.objects) in
+        says_full result ≡ any_is_full (port_numbers channel.now.ports) old }
+    ensures ok { let new = posted message.now (port_numbers channel.now.ports) (unread ports.old.objects) in
         OnOk result (unread ports.new.objects ≡ new) }
-    ensures ok_told { let ids = numbers channel.now.ports in
+    ensures ok_told { let ids = port_numbers channel.now.ports in
         let first = first_lights ids (unread ports.old.objects) in
         OnOk result ((l : Light) →
         T.is_lit table.new l ≡ lit_after first [] l (T.is_lit table.old l)) }
@@ -273,14 +273,14 @@ fn send<T: Table>(
     Ok(())
 }
 
-// Tells the table to light those of these ports that have no message yet.
+// Tells the table that the lights of those of these ports that have no message yet are turned on.
 fn tell_first<T: Table>(
     alloc: Global,
     table: &mut T,
     ports: &Register<Port>,
     ids: &[PortId],
 ) -> Result<(), AllocError>
-    ensures ok { let first = first_lights (numbers ids.now) (unread ports.now.objects) in
+    ensures ok { let first = first_lights (port_numbers ids.now) (unread ports.now.objects) in
         OnOk result ((l : Light) →
         T.is_lit table.new l ≡ lit_after first [] l (T.is_lit table.old l)) }
     ensures err { OnErr result ((l : Light) → T.is_lit table.new l ≡ T.is_lit table.old l) }
@@ -300,7 +300,7 @@ fn unlit_ports(
     ids: &[PortId],
 ) -> Result<Vec<Light>, AllocError>
     ensures { IfOk result
-        (λ lights. lights.items ≡ first_lights (numbers ids.now) (unread ports.now.objects)) }
+        (λ lights. lights.items ≡ first_lights (port_numbers ids.now) (unread ports.now.objects)) }
 {
     let mut lights = Vec::new(alloc);
     for id in ids {

@@ -6,7 +6,7 @@ ghost use Rattle.cml_book.specs.Refusals.{number_of, name_of};
 use std::alloc::AllocError;
 use thiserror::Error;
 
-/// Why a command was refused. The first that fits, in this order, is the answer, and the command changes nothing.
+/// Why a command was refused. The first that fits, in this order, is returned, and the command changes nothing.
 #[derive(Clone, Copy, Debug, PartialEq, Eq)]
 pub enum Refusal {
     /// The thread that does the command does not exist.
@@ -79,7 +79,7 @@ pub enum Fault {
     /// The rules refuse it.
     #[error("the command is refused")]
     Refused(Refusal),
-    /// A growth was refused, of a command that the rules accept.
+    /// Memory ran out for a command that the rules accept.
     #[error("out of memory")]
     Memory,
 }
@@ -107,8 +107,8 @@ impl<V> Returned<V> {
         }
     }
 
-    // A growth was refused.
-    pub(crate) fn unserved(value: V) -> Returned<V>
+    // Memory ran out.
+    pub(crate) fn out_of_memory(value: V) -> Returned<V>
         ensures { result ≡ record { value = value; fault = Memory } }
     {
         Returned {

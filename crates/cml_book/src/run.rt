@@ -1,4 +1,4 @@
-//! Commands by the list.
+//! Lists of commands, done by one call.
 
 ghost use Rattle.std.specs.Prelude.{◌≡◌, ◌++◌, ◌∷◌, [], Ok, IfOk, IfErr, OnOk, OnErr};
 ghost use Rattle.cml_book.specs.Outcomes.{DoesWith};
@@ -14,7 +14,7 @@ impl<T: Table> Book<T> {
     /// The reply to one command, as `run` replies to each of a list. A refusal is a reply.
     ///
     /// # Errors
-    /// Want of memory: the command comes back, and nothing changes.
+    /// Out of memory: the command comes back, and nothing changes.
     pub fn perform(&mut self, alloc: Global, command: Command) -> Result<Reply, Returned<Command>>
         ensures { DoesWith result command (Ok (spec.step self.old command)) self.old self.new }
     {
@@ -67,7 +67,7 @@ impl<T: Table> Book<T> {
     /// The reply to each command in order.
     ///
     /// # Errors
-    /// Want of memory ends the run. The replies so far and the commands that were not done come back.
+    /// Out of memory, which ends the run: the replies so far and the commands that were not done come back.
     pub fn run(&mut self, alloc: Global, mut commands: Vec<Command>) -> Result<Vec<Reply>, Stopped>
         ensures replies { IfOk result (λ replies. replies.items ≡ spec.replies_of commands.items self.old) }
         ensures world { OnOk result (self.new ≡ spec.world_after commands.items self.old) }
@@ -89,7 +89,7 @@ impl<T: Table> Book<T> {
         Ok(replies)
     }
 
-    // One command, whose reply is put behind the others. For want of memory it comes back.
+    // Does one command and appends its reply. Where memory runs out the command comes back.
     fn perform_into(
         &mut self,
         alloc: Global,
@@ -116,7 +116,7 @@ impl<T: Table> Book<T> {
     }
 }
 
-// The reply to a command that was refused; for want of memory it comes back.
+// The reply to a command that was refused. Where memory ran out the command comes back.
 pub(crate) fn refused(fault: Fault, command: Command) -> Result<Reply, Returned<Command>>
     ensures { result ≡ spec.refused_reply fault command }
 {

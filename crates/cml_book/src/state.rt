@@ -1,4 +1,4 @@
-//! What a book holds beside its table: threads, objects, nacks and the time.
+//! What a book holds besides its table: threads, objects, nacks and the time.
 
 ghost use Rattle.std.specs.Prelude.{◌≡◌, ◌≢◌, ◌≤◌, Some, Err, IfOk, IfSome, IfNone, ℕ, length, map, slice_get, slice_set};
 ghost use Rattle.cml_scan.specs.World.{running, ended, pending};
@@ -14,9 +14,9 @@ ghost use Rattle.cml_book.specs.Clock.{IsAlarm};
 ghost use Rattle.cml_book.specs.Walks.{is_running};
 
 use crate::book::{MAX_OBJECTS, MAX_THREADS};
+use crate::fullness::{has_fired, ivar_is_full, mailbox_has_item, mvar_is_full, port_has_item};
 use crate::marks::Marks;
 use crate::refusal::{Fault, Refusal};
-use crate::seen::{has_fired, ivar_is_full, mailbox_has_item, mvar_is_full, port_has_item};
 use crate::thread::{Thread, pending_count, pending_threads};
 use cml_base::Register;
 use cml_queues::{Mailbox, Multicast, Port};
@@ -86,7 +86,7 @@ impl Model for State {
 impl State {
     ghost use Rattle.cml_book.specs.Step.{empty_world};
 
-    /// The world in which nothing is.
+    /// The empty world.
     pub fn new(alloc: Global) -> State
         ensures { result ≡ empty_world }
     {
@@ -239,7 +239,7 @@ impl State {
         put(&mut self.threads, thread, Thread::ended());
     }
 
-    /// The clock comes to this tick, which is at most 2^62.
+    /// The clock moves to this tick, which is at most 2^62.
     pub fn advance(&mut self, to: u64)
         requires later { self.old.tick ≤ to }
         requires limit { to ≤ max_tick }
@@ -249,7 +249,7 @@ impl State {
     }
 }
 
-// The thread is so from now on, if it is there.
+// Puts the thread into this state, if it is there.
 pub(crate) fn put(threads: &mut Vec<Thread>, thread: Tid, so: Thread)
     ensures { threads.new.items ≡ slice_set threads.old.items thread.0 so }
 {

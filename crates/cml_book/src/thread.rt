@@ -27,13 +27,13 @@ enum Doing {
 impl Model for Thread {
     ghost use Rattle.cml_scan.specs.World.{PlainThread};
     ghost use Rattle.cml_scan.specs.Codes.{thread_code};
-    ghost use Rattle.cml_book.specs.Views.{thread_of};
+    ghost use Rattle.cml_book.specs.Views.{plain_doing};
 
     ghost Value = { PlainThread };
 
     ghost coded = { thread_code };
 
-    ghost view = { λ t. thread_of t.doing };
+    ghost view = { λ t. plain_doing t.doing };
 }
 
 impl Thread {
@@ -96,7 +96,7 @@ impl Thread {
         }
     }
 
-    /// It runs from now on; the group that it waited on comes out.
+    /// It runs from now on. Returns the group that it waited on, if it did.
     pub fn release(&mut self) -> Option<Flat>
         ensures value { result ≡ flat_of self.old }
         ensures runs { self.new ≡ running }

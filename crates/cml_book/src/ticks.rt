@@ -114,7 +114,7 @@ impl State {
     /// The lights of the ticks that come when the clock moves to this one: those for which leaves of pending threads wait.
     ///
     /// # Errors
-    /// Want of memory.
+    /// Out of memory.
     pub fn ticks_until(&self, alloc: Global, to: u64) -> Result<Vec<Light>, AllocError>
         requires { self.now.tick ≤ to }
         ensures only { IfOk result (λ lights. (l : Light) → has_light lights.items l ≡ true → comes (self.now.tick) to l ≡ true) }
@@ -125,8 +125,8 @@ impl State {
         alarms_at(alloc, &ticks)
     }
 
-    /// Puts the ticks of the group for which only its own leaves and those of the other group wait behind the lights that stand
-    /// there. There is room for them.
+    /// Appends the lights of those ticks of the group for which only its own leaves and those of the other group wait. There is room
+    /// for them.
     pub fn push_left_ticks(&self, lights: &mut Vec<Light>, flat: &Flat, other: Option<&Flat>)
         requires { length lights.old.items + leaf_count flat.now ≤ vec_capacity lights.old }
         ensures lights { lights.new.items ≡ lights.old.items

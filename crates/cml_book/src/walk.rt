@@ -20,7 +20,7 @@ use cml_value::{Base, BaseKind, Group, GroupKind, NackId, Tid};
 /// The greatest tick.
 pub(crate) const MAX_TICK: u64 = 4_611_686_018_427_387_904;
 
-// What each base event of a group is asked.
+// A test of the base events of a group.
 pub(crate) trait BaseTest {
     ghost passes: { Self → PlainBase → Bool };
 
@@ -28,7 +28,7 @@ pub(crate) trait BaseTest {
         ensures { result ≡ passes self.now base.now };
 }
 
-// What the nack of each scope of a group is asked.
+// A test of the nacks of the scopes of a group.
 pub(crate) trait NackTest {
     ghost passes: { Self → ℕ → Bool };
 
@@ -77,7 +77,7 @@ pub(crate) fn all_nacks<P: NackTest>(test: &P, group: &Group) -> bool
     }
 }
 
-// What is left of a budget of leaves, where it is enough.
+// What is left of a budget of leaves after the group, where it is enough.
 #[tactic(auto, using(std::proofs::lemmas::Bool::Decides::nat_tests, crate::proofs::Walks::leaf_steps))]
 fn spend_leaves(group: &Group, budget: usize) -> Option<usize>
     ensures enough { is_some result ≡ nat_le (leaf_count group.now) budget }
@@ -195,7 +195,7 @@ impl State {
         None
     }
 
-    // The same, but for what speaks of the nacks of the scopes alone.
+    // The same, without the refusal that is only about the nacks of the scopes.
     #[tactic(auto, using(crate::proofs::Walks::refusal_steps))]
     fn shape_refusal(&self, thread: Tid, group: &Group) -> Option<Refusal>
         ensures { result ≡ shape_refusal self.now thread.0 group.now }

@@ -1,4 +1,4 @@
-//! With memory to spare no call wants memory: one test for each call that may say so by its contract.
+//! With memory to spare no call runs out of memory: one test for each call that may say so by its contract.
 
 use crate::making::{MEMORY, group, value};
 use cml_base::{Register, Source};
@@ -15,7 +15,7 @@ const FIRST: Meet = Meet::Single {
     leaf: 0,
 };
 
-// A book with so many threads, over the index.
+// A book with this many threads, over the index.
 fn book_of(rt: &(impl Abort + AllocGlobal), threads: u32) -> Book<OfferIndex> {
     let mut book = Book::new(rt.alloc(), OfferIndex::new(rt.alloc()));
     for number in 0..threads {
@@ -24,7 +24,7 @@ fn book_of(rt: &(impl Abort + AllocGlobal), threads: u32) -> Book<OfferIndex> {
     book
 }
 
-// The thread waits on the group that the words make.
+// The thread waits on the group that the text makes.
 fn wait(rt: &(impl Abort + AllocGlobal), book: &mut Book<OfferIndex>, thread: u32, text: &str) {
     let group = group(rt, text);
     assert!(rt; book.sync(rt.alloc(), Tid(thread), &group) == Ok(()));
@@ -46,8 +46,8 @@ fn a_wait_with_a_scope_enters(rt: HostRuntime) {
     assert!(rt; book.make_chan().is_ok());
     let nack = book.nack(Tid(0));
     assert!(rt; nack.is_ok());
-    wait(&rt, &mut book, 0, "0 recv 3 after 2 choose 0 scope");
-    wait(&rt, &mut book, 1, "0 nack");
+    wait(&rt, &mut book, 0, "(scope 0 (choose (recv 0) (after 3)))");
+    wait(&rt, &mut book, 1, "(nack 0)");
     assert!(rt; !book.is_running(Tid(0)) && !book.is_running(Tid(1)));
     assert!(rt; !book.is_running(Tid(2)));
     assert!(rt; book.pending_count() == 2);
@@ -59,16 +59,16 @@ fn a_read_of_a_variable_is_taken(rt: HostRuntime) {
     let mut book = book_of(&rt, 1);
     assert!(rt; book.make_ivar() == Ok(IVarId(0)));
     assert!(rt;
-        book.iput(rt.alloc(), IVarId(0), value(&rt, "1 2 pair"))
+        book.iput(rt.alloc(), IVarId(0), value(&rt, "(pair 1 2)"))
             .is_ok()
     );
-    wait(&rt, &mut book, 0, "0 iget");
-    takes(&rt, &mut book, "1 2 pair");
+    wait(&rt, &mut book, 0, "(iget 0)");
+    takes(&rt, &mut book, "(pair 1 2)");
     let held = Some(value(&rt, "7"));
     assert!(rt; book.make_mvar(rt.alloc(), held).is_ok());
-    wait(&rt, &mut book, 0, "0 mget");
+    wait(&rt, &mut book, 0, "(mget 0)");
     takes(&rt, &mut book, "7");
-    wait(&rt, &mut book, 0, "0 mtake");
+    wait(&rt, &mut book, 0, "(mtake 0)");
     takes(&rt, &mut book, "7");
     assert!(rt; book.mput(rt.alloc(), MVarId(0), value(&rt, "8")).is_ok());
     drop(book);
@@ -78,7 +78,7 @@ fn a_read_of_a_variable_is_taken(rt: HostRuntime) {
 fn an_item_of_a_mailbox_is_taken(rt: HostRuntime) {
     let mut book = book_of(&rt, 1);
     assert!(rt; book.make_mailbox(rt.alloc()) == Ok(MboxId(0)));
-    wait(&rt, &mut book, 0, "0 mail_recv");
+    wait(&rt, &mut book, 0, "(mailrecv 0)");
     assert!(rt; !book.table().has(&FIRST));
     assert!(rt; book.mail(rt.alloc(), MboxId(0), value(&rt, "5")).is_ok());
     takes(&rt, &mut book, "5");
@@ -95,7 +95,7 @@ fn a_copied_port_has_the_message(rt: HostRuntime) {
             .is_ok()
     );
     assert!(rt; book.copy_port(rt.alloc(), PortId(0)) == Ok(PortId(1)));
-    wait(&rt, &mut book, 0, "1 port_recv");
+    wait(&rt, &mut book, 0, "(portrecv 1)");
     takes(&rt, &mut book, "4");
     drop(book);
 }
@@ -103,8 +103,8 @@ fn a_copied_port_has_the_message(rt: HostRuntime) {
 #[test]
 fn a_thread_ends_and_the_clock_moves(rt: HostRuntime) {
     let mut book = book_of(&rt, 3);
-    wait(&rt, &mut book, 0, "1 join");
-    wait(&rt, &mut book, 2, "9 at");
+    wait(&rt, &mut book, 0, "(join 1)");
+    wait(&rt, &mut book, 2, "(at 9)");
     assert!(rt; book.end(rt.alloc(), Tid(1)) == Ok(()));
     assert!(rt; book.clock(rt.alloc(), 9) == Ok(()));
     assert!(rt; book.now() == 9);
@@ -145,7 +145,7 @@ fn a_thousand_commands_are_done_and_one_more(rt: HostRuntime) {
 #[test]
 fn a_refusal_is_a_reply(rt: HostRuntime) {
     let mut book = book_of(&rt, 1);
-    let waits = Command::Sync(Tid(0), group(&rt, "0 recv"));
+    let waits = Command::Sync(Tid(0), group(&rt, "(recv 0)"));
     let reply = book.perform(rt.alloc(), waits).ok().expect(&rt, MEMORY);
     assert!(rt; matches!(reply, Reply::Refused(_)));
     drop(reply);
@@ -186,7 +186,7 @@ fn a_register_makes_room(rt: HostRuntime) {
 #[test]
 fn an_arrival_is_told(rt: HostRuntime) {
     let mut table = OfferIndex::new(rt.alloc());
-    let take = group(&rt, "0 mtake 0 recv 2 choose");
+    let take = group(&rt, "(choose (mtake 0) (recv 0))");
     let lights = [Light::MVar(MVarId(0))];
     let came = Some((Tid(0), &take));
     assert!(rt; table.change(rt.alloc(), &[], came, &lights, &[]).is_ok());

@@ -34,11 +34,11 @@ const FIRST: Meet = Meet::Single {
 
 // What thread 0 can't wait on in a book of one thread and one channel, and why.
 const REFUSED: [(&str, Refusal); 5] = [
-    ("0 iget", Refusal::Object),
-    ("1 join", Refusal::Object),
-    ("1 recv", Refusal::Object),
-    ("0 1 swap", Refusal::Object),
-    ("0 nack", Refusal::Object),
+    ("(iget 0)", Refusal::Object),
+    ("(join 1)", Refusal::Object),
+    ("(recv 1)", Refusal::Object),
+    ("(swap 0 1)", Refusal::Object),
+    ("(nack 0)", Refusal::Object),
 ];
 
 // Ticks, and why thread 0 can't wait for them, if it can't.
@@ -48,7 +48,7 @@ const TICKS: [(u64, Option<Refusal>); 3] = [
     (4_611_686_018_427_387_904, None),
 ];
 
-// A book with so many threads, and one channel.
+// A book with this many threads, and one channel.
 fn book_of(rt: &(impl Abort + AllocGlobal), threads: u32) -> Book<KeptRows> {
     let mut book = Book::new(rt.alloc(), KeptRows::new(rt.alloc()));
     for number in 0..threads {
@@ -58,7 +58,7 @@ fn book_of(rt: &(impl Abort + AllocGlobal), threads: u32) -> Book<KeptRows> {
     book
 }
 
-// The thread waits on the group that the words make.
+// The thread waits on the group that the text makes.
 fn wait(
     rt: &(impl Abort + AllocGlobal),
     book: &mut Book<KeptRows>,
@@ -71,7 +71,7 @@ fn wait(
     waits
 }
 
-// The party is this thread, and goes on with the value that the words make, and nothing else.
+// The party is this thread, and goes on with the value that the text makes, and nothing else.
 fn goes_on(rt: &(impl Abort + AllocGlobal), party: Resume, thread: u32, text: &str) {
     let wanted = value(rt, text);
     assert!(rt; party.tid == Tid(thread));
@@ -107,14 +107,14 @@ fn shows_the_exchange(rt: &(impl Abort + AllocGlobal), table: &KeptRows) {
 fn a_value_is_handed_over(rt: HostRuntime) {
     let mut book = book_of(&rt, 2);
     assert!(rt; book.next_thread() == Tid(2));
-    assert!(rt; wait(&rt, &mut book, 1, "0 5 send") == Ok(()));
+    assert!(rt; wait(&rt, &mut book, 1, "(send 0 5)") == Ok(()));
     assert!(rt; book.table().head_count() == 0);
-    assert!(rt; wait(&rt, &mut book, 0, "0 recv") == Ok(()));
+    assert!(rt; wait(&rt, &mut book, 0, "(recv 0)") == Ok(()));
     assert!(rt; pending_count(&rt, &book) == 2);
     shows_the_exchange(&rt, book.table());
     assert!(rt; !book.swaps(&EXCHANGE));
     let committed = book.commit(rt.alloc(), EXCHANGE).expect(&rt, MEMORY);
-    goes_on(&rt, committed.head, 1, "unit");
+    goes_on(&rt, committed.head, 1, "()");
     goes_on(&rt, committed.partner.expect(&rt, "a receiver"), 0, "5");
     assert!(rt; pending_count(&rt, &book) == 0);
     assert!(rt; book.table().head_count() == 0);
@@ -125,9 +125,9 @@ fn a_value_is_handed_over(rt: HostRuntime) {
 fn two_values_are_swapped(rt: HostRuntime) {
     let mut book = book_of(&rt, 2);
     assert!(rt; book.make_swap() == Ok(SwapId(0)));
-    assert!(rt; wait(&rt, &mut book, 1, "0 5 swap") == Ok(()));
+    assert!(rt; wait(&rt, &mut book, 1, "(swap 0 5)") == Ok(()));
     assert!(rt; !book.swaps(&SWAP));
-    assert!(rt; wait(&rt, &mut book, 0, "0 7 swap") == Ok(()));
+    assert!(rt; wait(&rt, &mut book, 0, "(swap 0 7)") == Ok(()));
     assert!(rt; book.swaps(&SWAP) && !book.swaps(&EXCHANGE) && !book.swaps(&FIRST));
     let committed = book.commit(rt.alloc(), SWAP).expect(&rt, MEMORY);
     goes_on(&rt, committed.head, 0, "5");
@@ -142,15 +142,15 @@ fn a_join_is_lit_by_the_end(rt: HostRuntime) {
     assert!(rt; book.nack(Tid(2)) == Err(Fault::Refused(Refusal::Thread)));
     assert!(rt; book.nack(Tid(1)) == Ok(NackId(0)));
     assert!(rt; book.next_nack() == NackId(1));
-    assert!(rt; wait(&rt, &mut book, 0, "1 join") == Ok(()));
+    assert!(rt; wait(&rt, &mut book, 0, "(join 1)") == Ok(()));
     assert!(rt; !book.table().has(&FIRST));
     assert!(rt; book.end(rt.alloc(), Tid(1)) == Ok(()));
     let again = book.end(rt.alloc(), Tid(1));
     assert!(rt; again == Err(Fault::Refused(Refusal::State)));
     let committed = book.commit(rt.alloc(), FIRST).expect(&rt, MEMORY);
     assert!(rt; committed.partner.is_none());
-    goes_on(&rt, committed.head, 0, "unit");
-    assert!(rt; wait(&rt, &mut book, 0, "0 after") == Ok(()));
+    goes_on(&rt, committed.head, 0, "()");
+    assert!(rt; wait(&rt, &mut book, 0, "(after 0)") == Ok(()));
     assert!(rt; book.table().has(&FIRST));
     drop(book);
 }
@@ -203,7 +203,7 @@ fn a_book_knows_its_next_alarm(rt: HostRuntime) {
 #[test]
 fn a_light_is_lit_and_put_out(rt: HostRuntime) {
     let mut table = KeptRows::new(rt.alloc());
-    let take = group(&rt, "3 mtake");
+    let take = group(&rt, "(mtake 3)");
     let light = Light::MVar(MVarId(3));
     let came = Some((Tid(0), &take));
     table

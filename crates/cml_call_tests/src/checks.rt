@@ -180,7 +180,7 @@ fn answers_the_first_fault_of_a_script(rt: HostRuntime) {
     }
 }
 
-// A text so many times between two others, with the first fault of the whole.
+// A text this many times between two others, with the first fault of the whole.
 const MANY: [(&str, &str, usize, &str, Option<(CheckKind, usize)>); 7] = [
     ("(fn main ()", "(exit)", 4096, ")", None),
     (
@@ -217,13 +217,13 @@ const MANY: [(&str, &str, usize, &str, Option<(CheckKind, usize)>); 7] = [
 
 #[test]
 fn keeps_to_the_limit_of_statements(rt: HostRuntime) {
-    for &(before, part, times, behind, expected) in &MANY {
+    for &(before, part, times, after, expected) in &MANY {
         let mut script = String::new(rt.alloc());
         script.push_str(before).expect(&rt, MEMORY);
         for _ in 0..times {
             script.push_str(part).expect(&rt, MEMORY);
         }
-        script.push_str(behind).expect(&rt, MEMORY);
+        script.push_str(after).expect(&rt, MEMORY);
         let found = fault(&rt, script.as_str());
         drop(script);
         let expected = expected.map(|(kind, at)| CheckFault::At { kind, at });

@@ -32,7 +32,7 @@ fn object(random: &mut Pcg32) -> u32 {
     random.next_u32() % 3
 }
 
-// One of the last of so many things.
+// One of the last of this many things.
 fn late(random: &mut Pcg32, count: u32) -> u32 {
     count.saturating_sub(below_eight(random)).saturating_sub(1)
 }

@@ -1,50 +1,69 @@
 //! What forcings of events ask for, and what they end with.
 
-use crate::making::{MEMORY, group, make};
+use crate::making::{MEMORY, group, make, many};
 use cml_group::{ForceFault, Forcing, Next};
 use cml_value::{Event, FnRef, Group, GroupKind, NackId};
 use std::process::Abort;
 
-// An event; the answers of the functions that are called, the last one first; what is asked for, with the number of each function
-// and how many arguments it has; and the group that it is forced to, or what is refused.
-const FORCINGS: [(&str, &str, &str, &str); 7] = [
-    ("0 recv", "", "", "0 recv"),
-    ("never", "", "", "never"),
+// An event that is forced.
+struct Case {
+    event: &'static str,
+    // What the functions answer that are called, the last one first.
+    answers: &'static str,
+    // What is asked for, with the number of each function and how many arguments it has.
+    asked: &'static str,
+    // The group that the event is forced to.
+    forced: &'static str,
+}
+
+const FORCINGS: [Case; 7] = [
+    Case {
+        event: "(recv 0)",
+        answers: "",
+        asked: "",
+        forced: "(recv 0)",
+    },
+    Case {
+        event: "never",
+        answers: "",
+        asked: "",
+        forced: "never",
+    },
     // from the left, the answer of a withNack in a scope
-    (
-        "0 7 function guard 0 recv 1 0 8 function wrap 1 1 9 function with_nack 3 choose",
-        "2 recv 1 recv",
-        "call 7(0) nack 9(2) call 9(2)",
-        "1 recv 0 recv 1 0 8 function wrap 2 recv 0 scope 3 choose",
-    ),
+    Case {
+        event: "(choose (guard 7) (wrap (recv 0) 8) (withnack 9 1))",
+        answers: "(recv 2) (recv 1)",
+        asked: "call 7(0) nack 9(2) call 9(2)",
+        forced: "(choose (recv 1) (wrap (recv 0) 8) (scope 0 (recv 2)))",
+    },
     // a guard that answers a guard, which goes before what stands on the right
-    (
-        "0 7 function guard 0 9 function guard 2 choose 5 6 2 3 function wrap",
-        "2 recv 1 recv 0 8 function guard",
-        "call 7(0) call 8(0) call 9(0)",
-        "1 recv 2 recv 2 choose 5 6 2 3 function wrap",
-    ),
+    Case {
+        event: "(wrap (choose (guard 7) (guard 9)) 3 5 6)",
+        answers: "(recv 2) (recv 1) (guard 8)",
+        asked: "call 7(0) call 8(0) call 9(0)",
+        forced: "(wrap (choose (recv 1) (recv 2)) 3 5 6)",
+    },
     // an event among captured values is not forced, and neither is one in a base event's value
-    (
-        "0 7 function guard event 1 8 function guard 0 6 function guard event always 2 choose",
-        "never",
-        "call 8(1)",
-        "never 0 6 function guard event always 2 choose",
-    ),
-    // a withNack in a withNack, and members before and behind it
-    (
-        "0 5 function with_nack never 2 choose",
-        "never 0 recv 0 6 function with_nack 1 recv 3 choose",
-        "nack 5(1) call 5(1) nack 6(1) call 6(1)",
-        "0 recv never 1 scope 1 recv 3 choose 0 scope never 2 choose",
-    ),
+    Case {
+        event: "(choose (guard 8 (event (guard 7))) (always (event (guard 6))))",
+        answers: "never",
+        asked: "call 8(1)",
+        forced: "(choose never (always (event (guard 6))))",
+    },
+    // a withNack in a withNack, and members before and after it
+    Case {
+        event: "(choose (withnack 5) never)",
+        answers: "never (choose (recv 0) (withnack 6) (recv 1))",
+        asked: "nack 5(1) call 5(1) nack 6(1) call 6(1)",
+        forced: "(choose (scope 0 (choose (recv 0) (scope 1 never) (recv 1))) never)",
+    },
     // many members
-    (
-        "never 0 1 function guard never never 0 2 function guard never never never 0 3 function guard 9 choose",
-        "3 recv 2 recv 1 recv",
-        "call 1(0) call 2(0) call 3(0)",
-        "never 1 recv never never 2 recv never never never 3 recv 9 choose",
-    ),
+    Case {
+        event: "(choose never (guard 1) never never (guard 2) never never never (guard 3))",
+        answers: "(recv 3) (recv 2) (recv 1)",
+        asked: "call 1(0) call 2(0) call 3(0)",
+        forced: "(choose never (recv 1) never never (recv 2) never never never (recv 3))",
+    },
 ];
 
 fn push_call(rt: &impl Abort, text: &mut String, word: &str, function: &FnRef) {
@@ -60,7 +79,7 @@ fn push_call(rt: &impl Abort, text: &mut String, word: &str, function: &FnRef) {
     .expect(rt, MEMORY);
 }
 
-// The function that is called answers this event.
+// The function that is called returns this event.
 fn put(
     rt: &(impl Abort + AllocGlobal),
     forcing: &mut Forcing,
@@ -83,9 +102,9 @@ fn forced(rt: &impl Abort, forcing: Forcing) -> Group {
     }
 }
 
-fn goes_so(rt: &(impl Abort + AllocGlobal), event: &str, answers: &str, asked: &str, end: &str) {
-    let mut made = make(rt, event);
-    let mut answered = make(rt, answers);
+fn goes_so(rt: &(impl Abort + AllocGlobal), case: &Case) {
+    let mut made = make(rt, case.event);
+    let mut answered = make(rt, case.answers);
     let event = made.event(rt);
     let mut forcing = Forcing::start(rt.alloc(), event).expect(rt, MEMORY);
     let mut text = String::new(rt.alloc());
@@ -113,10 +132,10 @@ fn goes_so(rt: &(impl Abort + AllocGlobal), event: &str, answers: &str, asked: &
         let copy = forcing.copy(rt.alloc()).expect(rt, MEMORY);
         drop(std::mem::replace(&mut forcing, copy));
     }
-    assert!(rt; text.as_str() == asked);
+    assert!(rt; text.as_str() == case.asked);
     let group_forced = forced(rt, forcing);
-    let wanted = group(rt, end);
-    assert!(rt; group_forced.same(&wanted), "{end}");
+    let wanted = group(rt, case.forced);
+    assert!(rt; group_forced.same(&wanted), "{}", case.forced);
     drop(group_forced);
     drop(wanted);
     drop(text);
@@ -126,8 +145,8 @@ fn goes_so(rt: &(impl Abort + AllocGlobal), event: &str, answers: &str, asked: &
 
 #[test]
 fn forcings_ask_from_the_left(rt: HostRuntime) {
-    for &(event, answers, asked, end) in &FORCINGS {
-        goes_so(&rt, event, answers, asked, end);
+    for case in &FORCINGS {
+        goes_so(&rt, case);
     }
 }
 
@@ -135,15 +154,15 @@ fn forcings_ask_from_the_left(rt: HostRuntime) {
 #[test]
 fn measured_as_a_whole(rt: HostRuntime) {
     for depth in 60..66 {
-        let mut made = make(&rt, "0 7 function guard");
+        let mut made = make(&rt, "(guard 7)");
         for _ in 0..3 {
-            made.say(&rt, "1 choose");
+            made.around(&rt, "(choose it)");
         }
         let event = made.event(&rt);
         let mut forcing = Forcing::start(rt.alloc(), event).expect(&rt, MEMORY);
         let mut answers = make(&rt, "never");
         for _ in 1..depth {
-            answers.say(&rt, "1 choose");
+            answers.around(&rt, "(choose it)");
         }
         let answer = answers.event(&rt);
         let answered = put(&rt, &mut forcing, answer);
@@ -162,15 +181,12 @@ fn measured_as_a_whole(rt: HostRuntime) {
 // Many members and many answers.
 #[test]
 fn many_answers(rt: HostRuntime) {
-    let mut made = make(&rt, "");
-    for _ in 0..20000 {
-        made.say(&rt, "0 7 function guard");
-    }
-    made.say(&rt, "20000 choose");
+    let mut made = many(&rt, 20000, "(guard 7)");
+    made.around(&rt, "(choose it)");
     let event = made.event(&rt);
     let mut forcing = Forcing::start(rt.alloc(), event).expect(&rt, MEMORY);
     for _ in 0..20000 {
-        let mut answers = make(&rt, "0 recv");
+        let mut answers = make(&rt, "(recv 0)");
         let answer = answers.event(&rt);
         let answered = put(&rt, &mut forcing, answer);
         assert!(rt; answered.is_ok(), "within the limits");

@@ -1,7 +1,7 @@
-//! What groups laid flat answer.
+//! What groups laid flat return.
 
 use crate::choosing::chosen;
-use crate::making::{MEMORY, Made, group};
+use crate::making::{MEMORY, group, many};
 use cml_group::{Flat, FlatFault, flatten};
 use cml_value::{Base, BaseKind, FnRef, Group, GroupKind, NackId};
 use std::process::Abort;
@@ -11,64 +11,52 @@ use std::process::Abort;
 const GROUPS: [(&str, &str, &str); 8] = [
     // the branch of nack 0 has both leaves, that of nack 1 the second alone
     (
-        "0 recv 1 recv 1 scope 2 choose 0 scope",
+        "(scope 0 (choose (recv 0) (scope 1 (recv 1))))",
         " 0 1",
         "recv 0 runs fires 1\nrecv 1 runs fires\n",
     ),
     // a scope without leaves
     (
-        "never 0 scope 3 always 2 choose",
+        "(choose (scope 0 never) (always 3))",
         " 0",
         "other runs fires 0\n",
     ),
-    ("1 always 0 scope", " 0", "other runs fires\n"),
+    ("(scope 0 (always 1))", " 0", "other runs fires\n"),
     // under two wraps the inner function runs first
     (
-        "4 always 1 1 7 function wrap 0 8 function wrap",
+        "(wrap (wrap (always 4) 7 1) 8)",
         "",
         "other runs 7(1) 8 fires\n",
     ),
-    ("never 0 scope never 0 scope 2 choose", " 0 0", ""),
+    ("(choose (scope 0 never) (scope 0 never))", " 0 0", ""),
     ("never", "", ""),
     // a wrap stands over all members of its choice, and over none beside it
     (
-        "0 recv never 1 recv 3 choose 0 1 function wrap 2 recv 2 choose",
+        "(choose (wrap (choose (recv 0) never (recv 1)) 1) (recv 2))",
         "",
         "recv 0 runs 1 fires\nrecv 1 runs 1 fires\nrecv 2 runs fires\n",
     ),
     // beside a leaf stand a branch without leaves, and a branch with a branch in it
     (
-        "unit always never 3 scope 0 recv 1 recv 4 scope 2 choose 0 1 function wrap 5 scope 3 choose",
+        "(choose (always ()) (scope 3 never) (scope 5 (wrap (choose (recv 0) (scope 4 (recv 1))) 1)))",
         " 3 5 4",
         "other runs fires 3 5 4\nrecv 0 runs 1 fires 3 4\nrecv 1 runs 1 fires 3\n",
     ),
 ];
 
-// So many members, one choice of them, and so many choices round it: how many leaves there are, or why it is refused.
-const LIMITS: [(&str, u32, &str, u32, &str); 5] = [
-    ("0 recv ", 256, "256 choose", 0, "256"),
+// A member, how many of it there are, and how many choices stand round them, one in another; and how many leaves that has, or why it is
+// refused.
+const LIMITS: [(&str, u32, u32, &str); 5] = [
+    ("(recv 0)", 256, 1, "256"),
+    ("(recv 0)", 257, 1, "the group has more than 256 leaves"),
+    ("never", 1, 63, "0"),
     (
-        "0 recv ",
-        257,
-        "257 choose",
-        0,
-        "the group has more than 256 leaves",
-    ),
-    ("never ", 1, "1 choose", 62, "0"),
-    (
-        "never ",
+        "never",
         1,
-        "1 choose",
-        63,
+        64,
         "the group nests too deep or has too many nodes",
     ),
-    (
-        "0 recv ",
-        257,
-        "257 choose",
-        64,
-        "the group has more than 256 leaves",
-    ),
+    ("(recv 0)", 257, 65, "the group has more than 256 leaves"),
 ];
 
 fn push_nacks(rt: &impl Abort, text: &mut String, nacks: &[NackId]) {
@@ -187,14 +175,10 @@ fn answers(rt: &(impl Abort + AllocGlobal), group: Group, expected: &str) {
 
 #[test]
 fn limits(rt: HostRuntime) {
-    for &(member, members, choice, choices, expected) in &LIMITS {
-        let mut made = Made::new(&rt);
-        for _ in 0..members {
-            made.say(&rt, member);
-        }
-        made.say(&rt, choice);
+    for &(member, members, choices, expected) in &LIMITS {
+        let mut made = many(&rt, members, member);
         for _ in 0..choices {
-            made.say(&rt, "1 choose");
+            made.around(&rt, "(choose it)");
         }
         let group = made.group(&rt);
         drop(made);

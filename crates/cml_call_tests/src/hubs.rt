@@ -21,7 +21,7 @@ const ADDITION: &str =
 const ADDED: &str =
     "schedule 2 1000000 3 6\nturn 0\nturn 0\nturn 1\nturn 0\ncommit 1 0 0 0\nturn 1\nturn 0\nturn 0\nend\n";
 
-// The same but for the number that is sent: its threads begin with the same machines.
+// The same except for the number that is sent: its threads begin with the same machines.
 const OTHER_ADDITION: &str =
     "(fn add (a b) (return (+ a b))) (fn give (c) (sync (send c 40))) (fn main () (let c (chan)) (spawn give c) (let x (sync (wrap (recv c) add 1))) (print x))";
 
@@ -212,7 +212,7 @@ const CASES: [Case; 12] = [
     },
 ];
 
-// A script, a schedule of it, an item in place of another, and whether it may come there. The items are numbered from 1.
+// A script, a schedule of it, an item in place of another, and whether it is allowed there. The items are numbered from 1.
 const CHANGES: [(&str, &str, usize, Item, bool); 8] = [
     (ADDITION, ADDED, 2, Item::Turn(Tid(1)), false),
     (ADDITION, ADDED, 5, Item::Exchange(SENT), false),

@@ -9,6 +9,7 @@ use cml_signal::{Alarm, Clock, Joined, NackCell, NackFeed, Spent};
 use cml_syncvar::{IVar, MVar, MVarWant};
 use cml_value::{Base, BaseKind, ChanId, IVarId, PortId, SwapId, Tid, Value, ValueKind};
 use std::alloc::{AllocError, Global};
+use std::process::Abort;
 use std::test::Fail;
 
 // What is done with the objects of a register.
@@ -18,7 +19,7 @@ enum Step {
     Make(u64),
     /// A leaf waits for an object: the object, the thread and the leaf.
     Wait(u32, u32, u32),
-    /// It does so no more.
+    /// It no longer waits for it.
     Leave(u32, u32, u32),
     /// Room in an object, and then it is fed what this number stands for.
     Feed(u32, u64),
@@ -182,10 +183,10 @@ where
 
 fn say_given(alloc: Global, text: &mut String, given: Option<(Value, bool)>) -> Result<(), Fail> {
     match given {
-        None => text.push_str(" nothing")?,
+        None => text.push_str("nothing")?,
         Some((value, stays)) => {
             let shown = value.show(alloc)?;
-            write!(text, " {shown} {}", if stays { "stays" } else { "leaves" })?;
+            write!(text, "{shown} {}", if stays { "stays" } else { "leaves" })?;
             drop(shown);
             drop(value);
         }
@@ -198,7 +199,7 @@ fn say_lit<K: Numbered>(
     text: &mut String,
     register: &Register<K>,
 ) -> Result<(), Fail> {
-    text.push_str(" lit")?;
+    text.push_str("lit")?;
     let leaves = register.lit_waiters(alloc)?;
     for (thread, leaf) in &leaves {
         write!(text, " {}.{leaf}", thread.0)?;
@@ -207,160 +208,155 @@ fn say_lit<K: Numbered>(
     Ok(())
 }
 
-// What the steps answer.
-fn answers<K: Numbered>(alloc: Global, steps: &[Step]) -> Result<String, Fail>
+// The step is done, and what it answers is written.
+fn take_step<K: Numbered>(
+    alloc: Global,
+    text: &mut String,
+    register: &mut Register<K>,
+    step: Step,
+) -> Result<(), Fail>
 where
     K::Want: Drop,
     K::Feed: Drop,
 {
-    let mut register: Register<K> = Register::new(alloc);
-    let mut text = String::new(alloc);
-    for step in steps {
-        match *step {
-            Make(n) => {
-                if register.len() < 100 {
-                    register.room(None)?;
-                    let made = register.make(K::made(alloc, n)).is_ok();
-                    text.push_str(if made { " made" } else { " refused" })?;
-                }
+    match step {
+        Make(n) => {
+            if register.len() < 100 {
+                register.room(None)?;
+                let made = register.make(K::made(alloc, n)).is_ok();
+                text.push_str(if made { "made" } else { "refused" })?;
             }
-            Wait(id, thread, leaf) => register.wait(id, Tid(thread), leaf)?,
-            Leave(id, thread, leaf) => register.leave(id, Tid(thread), leaf),
-            Feed(id, n) => {
-                let word = feed(&mut register, id, n)?;
-                write!(text, " {word}")?;
-            }
-            Ask(id, n) => {
-                let given = ask(&mut register, id, n)?;
-                say_given(alloc, &mut text, given)?;
-            }
-            Lit => say_lit(alloc, &mut text, &register)?,
         }
+        Wait(id, thread, leaf) => register.wait(id, Tid(thread), leaf)?,
+        Leave(id, thread, leaf) => register.leave(id, Tid(thread), leaf),
+        Feed(id, n) => text.push_str(feed(register, id, n)?)?,
+        Ask(id, n) => {
+            let given = ask(register, id, n)?;
+            say_given(alloc, text, given)?;
+        }
+        Lit => say_lit(alloc, text, register)?,
     }
-    drop(register);
-    Ok(text)
+    Ok(())
 }
 
-const IVARS: [Step; 16] = [
-    Make(0),
-    Make(0),
-    Wait(1, 1, 0),
-    Wait(0, 2, 0),
-    Wait(1, 0, 1),
-    Wait(1, 0, 0),
-    Wait(0, 0, 0),
-    Lit,
-    Feed(1, 7),
-    Feed(1, 8),
-    Lit,
-    Leave(1, 0, 1),
-    Lit,
-    Ask(1, 0),
-    Ask(0, 0),
-    Feed(2, 7),
+// Each step answers so.
+fn answer<K: Numbered>(rt: &(impl Abort + AllocGlobal), steps: &[(Step, &str)]) -> Result<(), Fail>
+where
+    K::Want: Drop,
+    K::Feed: Drop,
+{
+    let alloc = rt.alloc();
+    let mut register: Register<K> = Register::new(alloc);
+    let mut text = String::new(alloc);
+    for &(step, answered) in steps {
+        take_step(alloc, &mut text, &mut register, step)?;
+        assert!(rt; text.as_str() == answered);
+        text.clear();
+    }
+    drop(text);
+    drop(register);
+    Ok(())
+}
+
+// Two I-variables: one is filled, and lights the leaves that wait for it; it is not filled again. There is no third one.
+const IVARS: [(Step, &str); 16] = [
+    (Make(0), "made"),
+    (Make(0), "made"),
+    (Wait(1, 1, 0), ""),
+    (Wait(0, 2, 0), ""),
+    (Wait(1, 0, 1), ""),
+    (Wait(1, 0, 0), ""),
+    (Wait(0, 0, 0), ""),
+    (Lit, "lit"),
+    (Feed(1, 7), "fed"),
+    (Feed(1, 8), "put"),
+    (Lit, "lit 0.0 0.1 1.0"),
+    (Leave(1, 0, 1), ""),
+    (Lit, "lit 0.0 1.0"),
+    (Ask(1, 0), "7 stays"),
+    (Ask(0, 0), "nothing"),
+    (Feed(2, 7), "nowhere"),
 ];
 
-const MVARS: [Step; 13] = [
-    Make(8),
-    Wait(0, 0, 0),
-    Wait(0, 1, 0),
-    Lit,
-    Ask(0, 1),
-    Ask(0, 9),
-    Feed(0, 3),
-    Ask(0, 0),
-    Lit,
-    Ask(0, 0),
-    Feed(0, 3),
-    Lit,
-    Ask(0, 1),
+// An M-variable with a value: it is read, its value is swapped and taken, and it is filled again.
+const MVARS: [(Step, &str); 13] = [
+    (Make(8), "made"),
+    (Wait(0, 0, 0), ""),
+    (Wait(0, 1, 0), ""),
+    (Lit, "lit 0.0 1.0"),
+    (Ask(0, 1), "8 stays"),
+    (Ask(0, 9), "8 stays"),
+    (Feed(0, 3), "put"),
+    (Ask(0, 0), "9 leaves"),
+    (Lit, "lit"),
+    (Ask(0, 0), "nothing"),
+    (Feed(0, 3), "fed"),
+    (Lit, "lit 0.0 1.0"),
+    (Ask(0, 1), "3 stays"),
 ];
 
-const MAILBOXES: [Step; 8] = [
-    Make(0),
-    Wait(0, 3, 2),
-    Feed(0, 1),
-    Feed(0, 2),
-    Ask(0, 0),
-    Lit,
-    Ask(0, 0),
-    Lit,
+// A mailbox gives its items in the order in which they came, and lights a leaf as long as it has one.
+const MAILBOXES: [(Step, &str); 8] = [
+    (Make(0), "made"),
+    (Wait(0, 3, 2), ""),
+    (Feed(0, 1), "fed"),
+    (Feed(0, 2), "fed"),
+    (Ask(0, 0), "1 stays"),
+    (Lit, "lit 3.2"),
+    (Ask(0, 0), "2 leaves"),
+    (Lit, "lit"),
 ];
 
-const ENDS: [Step; 7] = [
-    Make(0),
-    Wait(0, 1, 0),
-    Lit,
-    Feed(0, 0),
-    Feed(0, 0),
-    Ask(0, 0),
-    Lit,
+// A thread ends once, and then stays ended.
+const ENDS: [(Step, &str); 7] = [
+    (Make(0), "made"),
+    (Wait(0, 1, 0), ""),
+    (Lit, "lit"),
+    (Feed(0, 0), "fed"),
+    (Feed(0, 0), "spent"),
+    (Ask(0, 0), "() stays"),
+    (Lit, "lit 1.0"),
 ];
 
-// The clock stands at 5 where they are made.
-const ALARMS: [Step; 11] = [
-    Make(5),
-    Make(6),
-    Wait(0, 0, 0),
-    Wait(1, 1, 0),
-    Lit,
-    Feed(0, 5),
-    Feed(1, 5),
-    Lit,
-    Feed(1, 6),
-    Lit,
-    Ask(1, 0),
+// Two alarms, made where the clock stands at 5: the second one rings at 6.
+const ALARMS: [(Step, &str); 11] = [
+    (Make(5), "made"),
+    (Make(6), "made"),
+    (Wait(0, 0, 0), ""),
+    (Wait(1, 1, 0), ""),
+    (Lit, "lit 0.0"),
+    (Feed(0, 5), "fed"),
+    (Feed(1, 5), "fed"),
+    (Lit, "lit 0.0"),
+    (Feed(1, 6), "fed"),
+    (Lit, "lit 0.0 1.0"),
+    (Ask(1, 0), "() stays"),
 ];
 
-const NACKS: [Step; 12] = [
-    Make(3),
-    Make(3),
-    Wait(0, 0, 0),
-    Feed(0, 1),
-    Feed(0, 2),
-    Feed(0, 0),
-    Feed(0, 0),
-    Feed(0, 1),
-    Lit,
-    Feed(0, 2),
-    Ask(0, 0),
-    Feed(1, 0),
+// Two nacks: one is entered, then fires, and does neither again; it is not held after it.
+const NACKS: [(Step, &str); 12] = [
+    (Make(3), "made"),
+    (Make(3), "made"),
+    (Wait(0, 0, 0), ""),
+    (Feed(0, 1), "spent"),
+    (Feed(0, 2), "spent"),
+    (Feed(0, 0), "fed"),
+    (Feed(0, 0), "spent"),
+    (Feed(0, 1), "fed"),
+    (Lit, "lit 0.0"),
+    (Feed(0, 2), "spent"),
+    (Ask(0, 0), "() stays"),
+    (Feed(1, 0), "fed"),
 ];
 
 #[test]
 fn objects_answer(rt: HostRuntime) -> Result<(), Fail> {
-    let alloc = rt.alloc();
-    let answers = [
-        (
-            answers::<IVar>(alloc, &IVARS)?,
-            " made made lit fed put lit 0.0 0.1 1.0 lit 0.0 1.0 7 stays nothing nowhere",
-        ),
-        (
-            answers::<MVar>(alloc, &MVARS)?,
-            " made lit 0.0 1.0 8 stays 8 stays put 9 leaves lit nothing fed lit 0.0 1.0 3 stays",
-        ),
-        (
-            answers::<Mailbox>(alloc, &MAILBOXES)?,
-            " made fed fed 1 stays lit 3.2 2 leaves lit",
-        ),
-        (
-            answers::<Joined>(alloc, &ENDS)?,
-            " made lit fed spent () stays lit 1.0",
-        ),
-        (
-            answers::<Alarm>(alloc, &ALARMS)?,
-            " made made lit 0.0 fed fed lit 0.0 fed lit 0.0 1.0 () stays",
-        ),
-        (
-            answers::<NackCell>(alloc, &NACKS)?,
-            " made made spent spent fed spent fed lit 0.0 spent () stays fed",
-        ),
-    ];
-    for (found, wanted) in &answers {
-        assert!(rt; found.as_str() == *wanted);
-    }
-    drop(answers);
-    Ok(())
+    answer::<IVar>(&rt, &IVARS)?;
+    answer::<MVar>(&rt, &MVARS)?;
+    answer::<Mailbox>(&rt, &MAILBOXES)?;
+    answer::<Joined>(&rt, &ENDS)?;
+    answer::<Alarm>(&rt, &ALARMS)?;
+    answer::<NackCell>(&rt, &NACKS)
 }
 
 #[test]
@@ -429,6 +425,7 @@ fn shown(alloc: Global, ports: &mut Register<Port>, id: u32) -> Result<String, F
     ensures { length ports.new.objects ≡ length ports.old.objects }
 {
     let mut text = String::new(alloc);
+    text.push_str(" ")?;
     let given = ask(ports, id, 0)?;
     say_given(alloc, &mut text, given)?;
     Ok(text)
@@ -528,7 +525,7 @@ fn a_copied_port_goes_its_own_way(rt: HostRuntime) -> Result<(), Fail> {
 enum Tick {
     /// A leaf waits for a tick.
     Awaits(u64),
-    /// It does so no more.
+    /// It no longer waits for it.
     Leaves(u64),
     /// The clock moves.
     To(u64),

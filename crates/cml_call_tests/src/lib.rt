@@ -36,5 +36,3 @@ mod tables;
 mod texts;
 #[cfg(test)]
 mod values;
-#[cfg(test)]
-mod words;

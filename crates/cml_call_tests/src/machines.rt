@@ -6,7 +6,7 @@ ghost use Rattle.cml_group.specs.Force.{event_of};
 ghost use Rattle.cml_check.specs.InOrder.{arities};
 ghost use Rattle.cml_step.specs.Agrees.{value_agrees, base_agrees, event_agrees, function_agrees, answer_agrees, ask_agrees};
 ghost use Rattle.cml_step.specs.Answers as answers;
-ghost use Rattle.cml_step.specs.Answers.{awaited};
+ghost use Rattle.cml_step.specs.Answers.{top_await};
 ghost use Rattle.cml_step.specs.AnswerViews.{plain_answer};
 ghost use Rattle.cml_step.specs.AskViews.{plain_ask};
 ghost use Rattle.cml_step.specs.Machines.{machine_term, Fits};
@@ -31,7 +31,7 @@ const CANCELLED: &str =
 const SWAPPED: &str =
     "(fn other (s) (let y (sync (swap s 2))) (print y)) (fn main () (let s (swapchan)) (spawn other s) (let x (sync (swap s 1))) (print x))";
 
-// A script, and for each slice of its thread 0 how many steps it takes and what it asks; behind `then` the same of the thread that it
+// A script, and for each slice of its thread 0 how many steps it takes and what it asks; after `then` the same of the thread that it
 // spawns. That is thread 1, each new object is number 0, and the tick is 5. A synchronization is committed by the last leaf of its
 // group, which gets 41 where it receives something; one without leaves waits for ever. A thread is watched for six slices.
 const SCRIPTS: [(&str, &str); 77] = [
@@ -56,7 +56,7 @@ const SCRIPTS: [(&str, &str); 77] = [
         "(fn g () (return (guard g))) (fn main () (sync (guard g)))",
         "1000 nothing, 1000 nothing, 1000 nothing, 1000 nothing, 1000 nothing, 1000 nothing",
     ),
-    // an ask at the thousandth step, and one behind it
+    // an ask at the thousandth step, and one after it
     (
         "(fn main () (let x 498) (let y x) (while (< 0 x) (set x (- x 1))) (yield))",
         "1000 yield, 1 end",
@@ -291,58 +291,58 @@ const SCRIPTS: [(&str, &str); 77] = [
     ),
 ];
 
-// A script, and the groups that its thread 0 synchronizes on, and then the thread that it spawns, by the words of `making`.
+// A script, and the groups that its thread 0 synchronizes on, and then the thread that it spawns, as traces spell them.
 const GROUPS: [(&str, &str); 22] = [
-    (ADDITION, "0 recv 1 1 0 function wrap 0 41 send"),
+    (ADDITION, "(wrap (recv 0) 0 1) (send 0 41)"),
     // the branch of the nack, and the value at once; and the other thread, which waits until the branch is cancelled
-    (CANCELLED, "0 recv 0 scope 7 always 2 choose 0 nack"),
-    (SWAPPED, "0 1 swap 0 2 swap"),
+    (CANCELLED, "(choose (scope 0 (recv 0)) (always 7)) (nack 0)"),
+    (SWAPPED, "(swap 0 1) (swap 0 2)"),
     ("(fn main () (sync never))", "never"),
-    ("(fn main () (sync (always \"a\")))", "\"a\" always"),
+    ("(fn main () (sync (always \"a\")))", r#"(always "a")"#),
     (
         "(fn main () (let c (chan)) (sync (send c unit)))",
-        "0 unit send",
+        "(send 0 ())",
     ),
-    ("(fn main () (let c (chan)) (sync (recv c)))", "0 recv"),
-    ("(fn main () (let i (ivar)) (sync (iget i)))", "0 iget"),
-    ("(fn main () (let m (mvar)) (sync (mtake m)))", "0 mtake"),
-    ("(fn main () (let m (mvar)) (sync (mget m)))", "0 mget"),
+    ("(fn main () (let c (chan)) (sync (recv c)))", "(recv 0)"),
+    ("(fn main () (let i (ivar)) (sync (iget i)))", "(iget 0)"),
+    ("(fn main () (let m (mvar)) (sync (mtake m)))", "(mtake 0)"),
+    ("(fn main () (let m (mvar)) (sync (mget m)))", "(mget 0)"),
     (
         "(fn main () (let m (mvar)) (sync (mswap m 1)))",
-        "0 1 mswap",
+        "(mswap 0 1)",
     ),
     (
         "(fn main () (let b (mailbox)) (sync (mailrecv b)))",
-        "0 mail_recv",
+        "(mailrecv 0)",
     ),
     (
         "(fn main () (let x (mchan)) (let p (port x)) (sync (portrecv p)))",
-        "0 port_recv",
+        "(portrecv 0)",
     ),
-    ("(fn main () (let t (self)) (sync (join t)))", "0 join"),
-    ("(fn main () (sync (at 3)))", "3 at"),
-    ("(fn main () (sync (after 4)))", "4 after"),
-    ("(fn main () (sync (choose)))", "0 choose"),
+    ("(fn main () (let t (self)) (sync (join t)))", "(join 0)"),
+    ("(fn main () (sync (at 3)))", "(at 3)"),
+    ("(fn main () (sync (after 4)))", "(after 4)"),
+    ("(fn main () (sync (choose)))", "(choose)"),
     (
         "(fn main () (sync (choose never (at 3) (choose (after 4)))))",
-        "never 3 at 4 after 1 choose 3 choose",
+        "(choose never (at 3) (choose (after 4)))",
     ),
     (
         "(fn f (a b c)) (fn main () (sync (wrap never f 1 true)))",
-        "never 1 true 2 0 function wrap",
+        "(wrap never 0 1 true)",
     ),
     (
         "(fn g (a b) (return (at (- a b)))) (fn main () (sync (guard g 9 2)))",
-        "7 at",
+        "(at 7)",
     ),
     (
         "(fn g (a n) (return (choose n (at a)))) (fn main () (sync (withnack g 3)))",
-        "0 nack 3 at 2 choose 0 scope",
+        "(scope 0 (choose (nack 0) (at 3)))",
     ),
     // a guard among captured values is not forced
     (
         "(fn g () (exit)) (fn main () (sync (always (guard g))))",
-        "0 0 function guard event always",
+        "(always (event (guard 0)))",
     ),
 ];
 
@@ -384,7 +384,7 @@ fn said(ask: &Ask) -> (&str, Option<u32>, Option<&Value>) {
 // The value that answers, where a value does.
 fn value_for(ask: &Ask) -> Option<ValueKind>
     ensures wanted { IfSome result (λ _.
-        answers.answer_to (plain_ask ask.now) ≡ answers.value) }
+        answers.await_of (plain_ask ask.now) ≡ answers.value) }
     ensures agrees { (fs : List ℕ) →
         IfSome result (λ kind. value_agrees fs (plain_value kind) ≡ true) }
 {
@@ -458,7 +458,7 @@ fn commit_of(rt: &(impl Abort + AllocGlobal), group: &Group) -> Option<Answer>
 // The answer to what is asked, if there is one.
 fn answer_to(rt: &(impl Abort + AllocGlobal), ask: &Ask) -> Option<Answer>
     ensures wanted { IfSome result (λ a. answers.answer_for (plain_answer a)
-        ≡ answers.answer_to (plain_ask ask.now)) }
+        ≡ answers.await_of (plain_ask ask.now)) }
     ensures agrees { (fs : List ℕ) → ask_agrees fs (plain_ask ask.now) ≡ true →
         IfSome result (λ a. answer_agrees fs (plain_answer a) ≡ true) }
 {
@@ -480,12 +480,12 @@ fn go_on(
     ask: &Ask,
 ) -> Option<Machine>
     requires fits { Fits program.now end }
-    requires awaits { awaited (machine_term program.now end)
-        ≡ answers.answer_to (plain_ask ask.now) }
+    requires awaits { top_await (machine_term program.now end)
+        ≡ answers.await_of (plain_ask ask.now) }
     requires agrees { ask_agrees (arities program.now) (plain_ask ask.now) ≡ true }
     ensures fits { IfSome result (λ m. Fits program.now m) }
     ensures awaits { IfSome result (λ m.
-        awaited (machine_term program.now m) ≡ answers.nothing) }
+        top_await (machine_term program.now m) ≡ answers.nothing) }
 {
     match ask {
         Ask::Nothing => Some(end),
@@ -537,10 +537,10 @@ fn slice_of(
     machine: Machine,
 ) -> (Machine, Ask, u32)
     requires fits { Fits program.now machine }
-    requires awaits { awaited (machine_term program.now machine) ≡ answers.nothing }
+    requires awaits { top_await (machine_term program.now machine) ≡ answers.nothing }
     ensures fits { Fits program.now result.0 }
-    ensures awaits { awaited (machine_term program.now result.0)
-        ≡ answers.answer_to (plain_ask result.1) }
+    ensures awaits { top_await (machine_term program.now result.0)
+        ≡ answers.await_of (plain_ask result.1) }
     ensures agrees { ask_agrees (arities program.now) (plain_ask result.1) ≡ true }
 {
     let copy = machine.copy(rt.alloc()).expect(rt, MEMORY);
@@ -620,9 +620,9 @@ fn scripts_go_so(rt: HostRuntime) {
 
 #[test]
 fn scripts_synchronize_on_groups(rt: HostRuntime) {
-    for (script, words) in &GROUPS {
+    for (script, groups) in &GROUPS {
         let course = course_of(&rt, script);
-        let wanted = make(&rt, words);
+        let wanted = make(&rt, groups);
         assert!(rt; course.groups.len() == wanted.groups.len(), "{script}");
         for i in 0..course.groups.len() {
             assert!(rt; course.groups[i].same(&wanted.groups[i]), "{script}");

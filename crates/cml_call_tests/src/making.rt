@@ -1,16 +1,20 @@
-//! Values, functions, events and groups by texts, as `1 2 pair` or `0 5 send 1 recv 2 choose`: each word takes what it is made of
-//! from the things that stand before it. Every event is made as a group too, where a guard and a withNack are never. And programs, by their
-//! scripts.
+//! Values, functions, events and groups by texts, as traces spell them: `(pair 1 2)`, `(choose (send 0 5) (recv 1))`. What no trace
+//! can say is spelled in the same way: `(event E)` is an event as a value, and `(guard F V ..)` and `(withnack F V ..)` name a function and what it
+//! captures, as a `wrap` does. The name `it` is all that was made before. Every event is made as a group too, where a guard and a
+//! withNack are never. And programs, by their scripts.
 //!
-//! A want of memory ends the test, so that no return stands in the way on which all that was made had to be dropped.
+//! Running out of memory ends the test, so that no early return has to drop all that was made.
 
-use crate::words::{Word, word_of};
+ghost use Rattle.std.specs.Prelude.{◌<◌, IfSome};
+ghost use Rattle.cml_text.specs.Forms.{plain_forms, nesting, nesting_of};
+
 use cml_check::{Prog, check};
 use cml_text::{Sexpr, Shape, read};
 use cml_value::{
     Base, BaseKind, ChanId, Event, EventKind, FnRef, Group, GroupKind, IVarId, MVarId, MboxId,
     McastId, NackId, PortId, SwapId, Tid, Value, ValueKind,
 };
+use std::alloc::Global;
 use std::process::Abort;
 
 pub const MEMORY: &str = "memory";
@@ -18,16 +22,25 @@ pub const MEMORY: &str = "memory";
 /// What was made and stands there.
 #[derive(Drop)]
 pub struct Made {
+    alloc: Global,
     pub values: Vec<Value>,
-    functions: Vec<FnRef>,
     pub events: Vec<Event>,
     pub groups: Vec<Group>,
 }
 
-/// What the words of the text make.
+/// What the text makes.
 pub fn make(rt: &(impl Abort + AllocGlobal), text: &str) -> Made {
-    let mut made = Made::new(rt);
-    made.say(rt, text);
+    many(rt, 1, text)
+}
+
+/// What the text makes, so many times.
+pub fn many(rt: &(impl Abort + AllocGlobal), times: u32, text: &str) -> Made {
+    let nothing = Made::new(rt.alloc());
+    let mut made = Made::new(rt.alloc());
+    for _ in 0..times {
+        made.say(rt, text, &nothing);
+    }
+    drop(nothing);
     made
 }
 
@@ -39,7 +52,7 @@ pub fn program_of(rt: &(impl Abort + AllocGlobal), script: &str) -> Prog {
     program
 }
 
-/// The value that the words make.
+/// The value that the text makes.
 pub fn value(rt: &(impl Abort + AllocGlobal), text: &str) -> Value {
     let mut made = make(rt, text);
     let value = made.value(rt);
@@ -47,7 +60,7 @@ pub fn value(rt: &(impl Abort + AllocGlobal), text: &str) -> Value {
     value
 }
 
-/// The group that the words make.
+/// The group that the text makes.
 pub fn group(rt: &(impl Abort + AllocGlobal), text: &str) -> Group {
     let mut made = make(rt, text);
     let group = made.group(rt);
@@ -55,90 +68,168 @@ pub fn group(rt: &(impl Abort + AllocGlobal), text: &str) -> Group {
     group
 }
 
-// The value of a thread or an object by its number.
-fn object(word: Word, n: u32) -> Option<ValueKind> {
+// The thread or the object that the word names by its number.
+fn object(word: &str, n: u32) -> Option<ValueKind> {
     match word {
-        Word::Thread => Some(ValueKind::Thread(Tid(n))),
-        Word::Chan => Some(ValueKind::Chan(ChanId(n))),
-        Word::SwapChan => Some(ValueKind::Swap(SwapId(n))),
-        Word::IVar => Some(ValueKind::IVar(IVarId(n))),
-        Word::MVar => Some(ValueKind::MVar(MVarId(n))),
-        Word::Mailbox => Some(ValueKind::Mailbox(MboxId(n))),
-        Word::Mchan => Some(ValueKind::Mchan(McastId(n))),
-        Word::Port => Some(ValueKind::Port(PortId(n))),
+        "thread" => Some(ValueKind::Thread(Tid(n))),
+        "chan" => Some(ValueKind::Chan(ChanId(n))),
+        "swapchan" => Some(ValueKind::Swap(SwapId(n))),
+        "ivar" => Some(ValueKind::IVar(IVarId(n))),
+        "mvar" => Some(ValueKind::MVar(MVarId(n))),
+        "mailbox" => Some(ValueKind::Mailbox(MboxId(n))),
+        "mchan" => Some(ValueKind::Mchan(McastId(n))),
+        "port" => Some(ValueKind::Port(PortId(n))),
         _ => None,
     }
 }
 
-// The base event that waits for a thread, an object or a tick by its number.
-fn wait(word: Word, n: u32) -> Option<BaseKind> {
+// The base event that the word says of a thread, an object, a nack or a tick by its number.
+fn wait(word: &str, n: u32) -> Option<BaseKind> {
     match word {
-        Word::Recv => Some(BaseKind::Recv(ChanId(n))),
-        Word::IGet => Some(BaseKind::IGet(IVarId(n))),
-        Word::MTake => Some(BaseKind::MTake(MVarId(n))),
-        Word::MGet => Some(BaseKind::MGet(MVarId(n))),
-        Word::MailRecv => Some(BaseKind::MailRecv(MboxId(n))),
-        Word::PortRecv => Some(BaseKind::PortRecv(PortId(n))),
-        Word::Join => Some(BaseKind::Join(Tid(n))),
-        Word::At => Some(BaseKind::At(n as u64)),
-        Word::After => Some(BaseKind::After(n as u64)),
-        Word::Nack => Some(BaseKind::Nack(NackId(n))),
+        "recv" => Some(BaseKind::Recv(ChanId(n))),
+        "iget" => Some(BaseKind::IGet(IVarId(n))),
+        "mtake" => Some(BaseKind::MTake(MVarId(n))),
+        "mget" => Some(BaseKind::MGet(MVarId(n))),
+        "mailrecv" => Some(BaseKind::MailRecv(MboxId(n))),
+        "portrecv" => Some(BaseKind::PortRecv(PortId(n))),
+        "join" => Some(BaseKind::Join(Tid(n))),
+        "at" => Some(BaseKind::At(n as u64)),
+        "after" => Some(BaseKind::After(n as u64)),
+        "nack" => Some(BaseKind::Nack(NackId(n))),
+        _ => None,
+    }
+}
+
+// The base event that the word says of an object by its number, and of a value.
+fn handing(word: &str, n: u32, value: Value) -> BaseKind {
+    match word {
+        "send" => BaseKind::Send(ChanId(n), value),
+        "swap" => BaseKind::Swap(SwapId(n), value),
+        _ => BaseKind::MSwap(MVarId(n), value),
+    }
+}
+
+// The word at the head of a list, and the forms after it.
+#[tactic(auto, using(crate::proofs::FormLemmas::parts_below))]
+fn list_head(form: &Sexpr) -> Option<(&str, &[Sexpr])>
+    ensures { IfSome result (λ head. nesting_of (plain_forms head.1.now) < nesting form.now) }
+{
+    match form.shape() {
+        Shape::List([first, parts @ ..]) => match first.shape() {
+            Shape::Name(name) => Some((name.as_str(), parts)),
+            _ => None,
+        },
         _ => None,
     }
 }
 
 impl Made {
     /// Nothing yet.
-    pub fn new(rt: &impl AllocGlobal) -> Made {
+    pub fn new(alloc: Global) -> Made {
         Made {
-            values: Vec::new(rt.alloc()),
-            functions: Vec::new(rt.alloc()),
-            events: Vec::new(rt.alloc()),
-            groups: Vec::new(rt.alloc()),
+            alloc,
+            values: Vec::new(alloc),
+            events: Vec::new(alloc),
+            groups: Vec::new(alloc),
         }
     }
 
-    /// What the words of the text make besides.
-    pub fn say(&mut self, rt: &(impl Abort + AllocGlobal), text: &str) {
-        let forms = read(rt.alloc(), text.as_bytes()).expect(rt, "words");
+    /// What the text makes, in place of all that was made before, which is `it` in the text.
+    pub fn around(&mut self, rt: &impl Abort, text: &str) {
+        let it = std::mem::replace(self, Made::new(self.alloc));
+        self.say(rt, text, &it);
+        drop(it);
+    }
+
+    // What the text makes besides.
+    fn say(&mut self, rt: &impl Abort, text: &str, it: &Made) {
+        let forms = read(self.alloc, text.as_bytes()).expect(rt, text);
         for form in &forms {
-            self.take(rt, form);
+            self.take(rt, form, it);
         }
         drop(forms);
     }
 
-    fn take(&mut self, rt: &(impl Abort + AllocGlobal), form: &Sexpr) {
-        match form.shape() {
-            Shape::Int(z) => self.put(rt, ValueKind::Int(z)),
-            Shape::Text(text) => {
-                let value = Value::text(rt.alloc(), text).expect(rt, MEMORY);
-                self.push_value(rt, value);
+    fn take(&mut self, rt: &impl Abort, form: &Sexpr, it: &Made) {
+        match list_head(form) {
+            Some((word, parts)) => {
+                let values = self.values.len();
+                let events = self.events.len();
+                for part in parts {
+                    self.take(rt, part, it);
+                }
+                self.close(rt, word, values, events);
             }
-            Shape::Name(name) => {
-                let word = word_of(name.as_str()).expect(rt, "a word");
-                self.take_word(rt, word);
-            }
-            Shape::List(_) => assert!(rt; false, "no list"),
+            None => self.take_alone(rt, form, it),
         }
     }
 
-    fn take_word(&mut self, rt: &(impl Abort + AllocGlobal), word: Word) {
-        match word {
-            Word::Unit => self.put(rt, ValueKind::Unit),
-            Word::True => self.put(rt, ValueKind::Bool(true)),
-            Word::False => self.put(rt, ValueKind::Bool(false)),
-            Word::Pair => self.pair(rt),
-            Word::Copy => self.copy(rt),
-            Word::Event => self.hold(rt),
-            Word::Function => self.function(rt),
-            Word::Never => self.push(rt, EventKind::Never, GroupKind::Never),
-            Word::Choose => self.choose(rt),
-            Word::Wrap => self.wrap(rt),
-            Word::Guard | Word::WithNack => self.guard(rt, word),
-            Word::Scope => self.scope(rt),
-            Word::Always | Word::Send | Word::Swap | Word::MSwap => self.give(rt, word),
-            _ => self.name(rt, word),
+    // A form that is no list but the empty one.
+    fn take_alone(&mut self, rt: &impl Abort, form: &Sexpr, it: &Made) {
+        match form.shape() {
+            Shape::Int(z) => self.put(rt, ValueKind::Int(z)),
+            Shape::Text(text) => {
+                let value = Value::text(self.alloc, text).expect(rt, MEMORY);
+                self.push_value(rt, value);
+            }
+            Shape::Name(name) => self.name(rt, name.as_str(), it),
+            Shape::List([]) => self.put(rt, ValueKind::Unit),
+            Shape::List(_) => rt.panic("a word at the head of a list"),
         }
+    }
+
+    fn name(&mut self, rt: &impl Abort, name: &str, it: &Made) {
+        match name {
+            "true" => self.put(rt, ValueKind::Bool(true)),
+            "false" => self.put(rt, ValueKind::Bool(false)),
+            "never" => self.push(rt, EventKind::Never, GroupKind::Never),
+            "it" => {
+                self.copy_values(rt, &it.values);
+                self.copy_events(rt, it);
+            }
+            _ => rt.panic(name),
+        }
+    }
+
+    fn copy_values(&mut self, rt: &impl Abort, values: &[Value]) {
+        for value in values {
+            let copy = value.copy().expect(rt, MEMORY);
+            self.push_value(rt, copy);
+        }
+    }
+
+    fn copy_events(&mut self, rt: &impl Abort, it: &Made) {
+        for (event, group) in it.events.iter().zip(it.groups.iter()) {
+            let event = event.copy().expect(rt, MEMORY);
+            let group = group.copy().expect(rt, MEMORY);
+            self.push_both(rt, event, group);
+        }
+    }
+
+    // What the word at the head of a list makes of all that was made in it: there were so many values and events before.
+    fn close(&mut self, rt: &impl Abort, word: &str, values: usize, events: usize) {
+        match word {
+            "pair" => self.pair(rt),
+            "event" => self.hold(rt),
+            "choose" => self.choose(rt, events),
+            "wrap" => {
+                let function = self.function(rt, values);
+                self.wrap(rt, function);
+            }
+            "guard" => {
+                let function = self.function(rt, values);
+                self.push(rt, EventKind::Guard(function), GroupKind::Never);
+            }
+            "withnack" => {
+                let function = self.function(rt, values);
+                self.push(rt, EventKind::WithNack(function), GroupKind::Never);
+            }
+            "scope" => self.scope(rt),
+            _ => self.simple(rt, word),
+        }
+        let one_more = values.saturating_add(events).saturating_add(1);
+        let is_one = self.values.len().saturating_add(self.events.len()) == one_more;
+        assert!(rt; is_one, "all parts of {word}");
     }
 
     fn push_value(&mut self, rt: &impl Abort, value: Value) {
@@ -182,108 +273,85 @@ impl Made {
         u32::try_from(z).expect(rt, "a number of 32 bits")
     }
 
-    fn pair(&mut self, rt: &(impl Abort + AllocGlobal)) {
+    fn pair(&mut self, rt: &impl Abort) {
         let second = self.value(rt);
         let first = self.value(rt);
-        let both = Value::pair(rt.alloc(), first, second).expect(rt, MEMORY);
+        let both = Value::pair(self.alloc, first, second).expect(rt, MEMORY);
         self.push_value(rt, both);
     }
 
-    fn copy(&mut self, rt: &impl Abort) {
-        let value = self.value(rt);
-        let copy = value.copy().expect(rt, MEMORY);
-        self.push_value(rt, value);
-        self.push_value(rt, copy);
-    }
-
-    fn hold(&mut self, rt: &(impl Abort + AllocGlobal)) {
+    fn hold(&mut self, rt: &impl Abort) {
         let group = self.group(rt);
         drop(group);
         let event = self.event(rt);
-        let value = Value::event(rt.alloc(), event).expect(rt, MEMORY);
+        let value = Value::event(self.alloc, event).expect(rt, MEMORY);
         self.push_value(rt, value);
     }
 
-    /// The function of this number, which captures so many of the last values.
-    pub fn capture(&mut self, rt: &(impl Abort + AllocGlobal), func: u32, count: usize) {
-        let first = self.values.len().checked_sub(count).expect(rt, "values");
-        let args = self.values.split_off(first).expect(rt, MEMORY);
-        let function = FnRef::new(rt.alloc(), func, args).expect(rt, MEMORY);
-        self.functions.push(function).expect(rt, MEMORY);
+    /// The function that is spelled by the values from this place on: its number, and what it captures.
+    pub fn function(&mut self, rt: &impl Abort, first: usize) -> FnRef {
+        assert!(rt; first < self.values.len(), "a function");
+        let captured = self.values.split_off(first + 1).expect(rt, MEMORY);
+        let number = self.number(rt);
+        FnRef::new(self.alloc, number, captured).expect(rt, MEMORY)
     }
 
-    fn function(&mut self, rt: &(impl Abort + AllocGlobal)) {
-        let func = self.number(rt);
-        let count = self.number(rt);
-        self.capture(rt, func, count as usize);
-    }
-
-    /// The last function.
-    pub fn last_function(&mut self, rt: &impl Abort) -> FnRef {
-        self.functions.pop().expect(rt, "a function")
-    }
-
-    fn choose(&mut self, rt: &(impl Abort + AllocGlobal)) {
-        let count = self.number(rt) as usize;
-        let first = self.events.len().checked_sub(count).expect(rt, "events");
+    // The choice of the events from this place on.
+    fn choose(&mut self, rt: &impl Abort, first: usize) {
+        assert!(rt; first <= self.events.len(), "events");
         let events = self.events.split_off(first).expect(rt, MEMORY);
-        let event = Event::choose(rt.alloc(), events).expect(rt, MEMORY);
-        let first = self.groups.len().checked_sub(count).expect(rt, "groups");
+        let event = Event::choose(self.alloc, events).expect(rt, MEMORY);
+        assert!(rt; first <= self.groups.len(), "groups");
         let groups = self.groups.split_off(first).expect(rt, MEMORY);
-        let group = Group::choose(rt.alloc(), groups).expect(rt, MEMORY);
+        let group = Group::choose(self.alloc, groups).expect(rt, MEMORY);
         self.push_both(rt, event, group);
     }
 
-    /// The last event under the last function.
-    pub fn wrap(&mut self, rt: &(impl Abort + AllocGlobal)) {
-        let function = self.last_function(rt);
+    /// The last event under the function.
+    pub fn wrap(&mut self, rt: &impl Abort, function: FnRef) {
         let copy = function.copy().expect(rt, MEMORY);
-        let event = self.event(rt).wrap(rt.alloc(), copy).expect(rt, MEMORY);
-        let group = self.group(rt).wrap(rt.alloc(), function).expect(rt, MEMORY);
+        let event = self.event(rt).wrap(self.alloc, copy).expect(rt, MEMORY);
+        let group = self.group(rt).wrap(self.alloc, function).expect(rt, MEMORY);
         self.push_both(rt, event, group);
     }
 
-    fn guard(&mut self, rt: &impl Abort, word: Word) {
-        let function = self.last_function(rt);
-        let kind = match word {
-            Word::Guard => EventKind::Guard(function),
-            _ => EventKind::WithNack(function),
-        };
-        self.push(rt, kind, GroupKind::Never);
-    }
-
-    fn scope(&mut self, rt: &(impl Abort + AllocGlobal)) {
+    fn scope(&mut self, rt: &impl Abort) {
         let nack = NackId(self.number(rt));
-        let event = self.event(rt).scope(rt.alloc(), nack).expect(rt, MEMORY);
-        let group = self.group(rt).scope(rt.alloc(), nack).expect(rt, MEMORY);
+        let event = self.event(rt).scope(self.alloc, nack).expect(rt, MEMORY);
+        let group = self.group(rt).scope(self.alloc, nack).expect(rt, MEMORY);
         self.push_both(rt, event, group);
     }
 
-    fn give(&mut self, rt: &impl Abort, word: Word) {
-        let value = self.value(rt);
-        let kind = match word {
-            Word::Always => BaseKind::Always(value),
-            Word::Send => BaseKind::Send(ChanId(self.number(rt)), value),
-            Word::Swap => BaseKind::Swap(SwapId(self.number(rt)), value),
-            _ => BaseKind::MSwap(MVarId(self.number(rt)), value),
-        };
-        self.leaf(rt, kind);
+    // A base event, a thread or an object.
+    fn simple(&mut self, rt: &impl Abort, word: &str) {
+        match word {
+            "always" => {
+                let value = self.value(rt);
+                self.leaf(rt, BaseKind::Always(value));
+            }
+            "send" | "swap" | "mswap" => {
+                let value = self.value(rt);
+                let number = self.number(rt);
+                self.leaf(rt, handing(word, number, value));
+            }
+            _ => self.numbered(rt, word),
+        }
+    }
+
+    fn numbered(&mut self, rt: &impl Abort, word: &str) {
+        let n = self.number(rt);
+        match object(word, n) {
+            Some(kind) => self.put(rt, kind),
+            None => {
+                let kind = wait(word, n).expect(rt, word);
+                self.leaf(rt, kind);
+            }
+        }
     }
 
     fn leaf(&mut self, rt: &impl Abort, kind: BaseKind) {
         let base = Base::new(kind);
         let copy = base.copy().expect(rt, MEMORY);
         self.push(rt, EventKind::Leaf(copy), GroupKind::Leaf(base));
-    }
-
-    fn name(&mut self, rt: &impl Abort, word: Word) {
-        let n = self.number(rt);
-        match object(word, n) {
-            Some(kind) => self.put(rt, kind),
-            None => {
-                let kind = wait(word, n).expect(rt, "a word with a number");
-                self.leaf(rt, kind);
-            }
-        }
     }
 }

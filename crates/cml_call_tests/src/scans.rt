@@ -10,86 +10,80 @@ use std::process::Abort;
 
 const FRESH: NackState = NackState::Fresh(Tid(0));
 
-// What the threads do, the value of M-variable 0, what has become of nack 0, the time, and the rows, each as `thread.leaf`, a pair
-// with a dash.
-const WORLDS: [(&str, Option<i64>, NackState, u64, &str); 22] = [
-    ("0 5 send / 0 recv", None, FRESH, 0, "0.0-1.0 "),
-    ("running / running", None, FRESH, 0, ""),
-    ("0 1 send 0 recv 2 choose", None, FRESH, 0, ""),
+// What the threads of a world do, and its rows, each as `thread.leaf`, a pair with a dash.
+const WORLDS: [(&str, &str); 12] = [
+    ("(send 0 5) / (recv 0)", "0.0-1.0 "),
+    ("running / running", ""),
+    ("(choose (send 0 1) (recv 0))", ""),
     (
-        "0 1 send 0 recv 2 choose / 0 1 send 0 recv 2 choose",
-        None,
-        FRESH,
-        0,
+        "(choose (send 0 1) (recv 0)) / (choose (send 0 1) (recv 0))",
         "0.0-1.1 1.0-0.1 ",
     ),
     // two swaps on one swap channel, of two threads, the lower one first; a channel of the same number is another thing
-    ("0 5 swap / 0 6 swap", None, FRESH, 0, "0.0-1.0 "),
-    ("0 5 swap / 1 6 swap", None, FRESH, 0, ""),
-    ("0 5 swap 0 6 swap 2 choose", None, FRESH, 0, ""),
-    ("0 5 swap / 0 recv / 0 6 send", None, FRESH, 0, "2.0-1.0 "),
+    ("(swap 0 5) / (swap 0 6)", "0.0-1.0 "),
+    ("(swap 0 5) / (swap 1 6)", ""),
+    ("(choose (swap 0 5) (swap 0 6))", ""),
+    ("(swap 0 5) / (recv 0) / (send 0 6)", "2.0-1.0 "),
     (
-        "0 1 swap 0 2 swap 2 choose / running / 0 3 swap",
-        None,
-        FRESH,
-        0,
+        "(choose (swap 0 1) (swap 0 2)) / running / (swap 0 3)",
         "0.0-2.0 0.1-2.0 ",
     ),
     (
-        "0 1 swap 0 2 swap 2 choose / 0 3 swap / 0 4 swap",
-        None,
-        FRESH,
-        0,
+        "(choose (swap 0 1) (swap 0 2)) / (swap 0 3) / (swap 0 4)",
         "0.0-1.0 0.0-2.0 0.1-1.0 0.1-2.0 1.0-2.0 ",
     ),
+    ("ended / (join 0) / (join 1)", "1.0 "),
+    ("(choose (always 0) (recv 0)) / (send 0 2)", "0.0 1.0-0.1 "),
+];
+
+// The same of worlds with this value of M-variable 0, this nack 0, and at this time.
+const STATES: [(&str, Option<i64>, NackState, u64, &str); 10] = [
     (
-        "0 mtake / 0 mtake / 0 mget",
+        "(mtake 0) / (mtake 0) / (mget 0)",
         Some(8),
         FRESH,
         0,
         "0.0 1.0 2.0 ",
     ),
-    ("running / 0 mtake / 0 mget", None, FRESH, 0, ""),
-    ("running / 0 mtake / 0 mget", Some(9), FRESH, 0, "1.0 2.0 "),
-    ("running / 0 mtake / running", Some(9), FRESH, 0, "1.0 "),
-    ("running / 0 nack / running", None, FRESH, 0, ""),
+    ("running / (mtake 0) / (mget 0)", None, FRESH, 0, ""),
     (
-        "running / 0 nack / 0 nack",
+        "running / (mtake 0) / (mget 0)",
+        Some(9),
+        FRESH,
+        0,
+        "1.0 2.0 ",
+    ),
+    ("running / (mtake 0) / running", Some(9), FRESH, 0, "1.0 "),
+    ("running / (nack 0) / running", None, FRESH, 0, ""),
+    (
+        "running / (nack 0) / (nack 0)",
         None,
         NackState::Fired,
         0,
         "1.0 2.0 ",
     ),
-    ("running / 0 nack", None, NackState::Held, 0, ""),
-    ("15 at / running", None, FRESH, 14, ""),
-    ("15 at / running", None, FRESH, 15, "0.0 "),
-    ("15 at / 15 at", None, FRESH, 15, "0.0 1.0 "),
-    ("ended / 0 join / 1 join", None, FRESH, 0, "1.0 "),
-    (
-        "0 always 0 recv 2 choose / 0 2 send",
-        None,
-        FRESH,
-        0,
-        "0.0 1.0-0.1 ",
-    ),
+    ("running / (nack 0)", None, NackState::Held, 0, ""),
+    ("(at 15) / running", None, FRESH, 14, ""),
+    ("(at 15) / running", None, FRESH, 15, "0.0 "),
+    ("(at 15) / (at 15)", None, FRESH, 15, "0.0 1.0 "),
 ];
 
 // Base events with their lights.
 const LIGHTS: [(&str, Option<Light>); 14] = [
-    ("1 always", None),
-    ("1 1 send", None),
-    ("2 recv", None),
-    ("2 1 swap", None),
-    ("11 after", None),
-    ("3 iget", Some(Light::IVar(IVarId(3)))),
-    ("4 mtake", Some(Light::MVar(MVarId(4)))),
-    ("5 mget", Some(Light::MVar(MVarId(5)))),
-    ("6 1 mswap", Some(Light::MVar(MVarId(6)))),
-    ("7 mail_recv", Some(Light::Mbox(MboxId(7)))),
-    ("8 port_recv", Some(Light::Port(PortId(8)))),
-    ("9 join", Some(Light::Joined(Tid(9)))),
-    ("10 at", Some(Light::Alarm(10))),
-    ("12 nack", Some(Light::Nack(NackId(12)))),
+    ("(always 1)", None),
+    ("(send 1 1)", None),
+    ("(recv 2)", None),
+    ("(swap 2 1)", None),
+    ("(after 11)", None),
+    ("(iget 3)", Some(Light::IVar(IVarId(3)))),
+    ("(mtake 4)", Some(Light::MVar(MVarId(4)))),
+    ("(mget 5)", Some(Light::MVar(MVarId(5)))),
+    ("(mswap 6 1)", Some(Light::MVar(MVarId(6)))),
+    ("(mailrecv 7)", Some(Light::Mbox(MboxId(7)))),
+    ("(portrecv 8)", Some(Light::Port(PortId(8)))),
+    ("(join 9)", Some(Light::Joined(Tid(9)))),
+    ("(at 10)", Some(Light::Alarm(10))),
+    ("(nack 12)", Some(Light::Nack(NackId(12)))),
 ];
 
 fn thread(rt: &(impl Abort + AllocGlobal), text: &str) -> ThreadState {
@@ -139,17 +133,31 @@ fn rows_are(rt: &(impl Abort + AllocGlobal), found: &[Meet], expected: &str) {
     drop(text);
 }
 
+fn has_rows(
+    rt: &(impl Abort + AllocGlobal),
+    threads: &str,
+    mvar: Option<i64>,
+    nack: NackState,
+    tick: u64,
+    expected: &str,
+) {
+    let mut world = world(rt, threads);
+    world.mvars.push(mvar.map(int)).expect(rt, MEMORY);
+    world.nacks.push(nack).expect(rt, MEMORY);
+    world.tick = tick;
+    let found = scan(rt.alloc(), &world).expect(rt, MEMORY);
+    drop(world);
+    rows_are(rt, &found, expected);
+    drop(found);
+}
+
 #[test]
 fn rows_of_worlds(rt: HostRuntime) {
-    for &(threads, mvar, nack, tick, expected) in &WORLDS {
-        let mut world = world(&rt, threads);
-        world.mvars.push(mvar.map(int)).expect(&rt, MEMORY);
-        world.nacks.push(nack).expect(&rt, MEMORY);
-        world.tick = tick;
-        let found = scan(rt.alloc(), &world).expect(&rt, MEMORY);
-        drop(world);
-        rows_are(&rt, &found, expected);
-        drop(found);
+    for &(threads, expected) in &WORLDS {
+        has_rows(&rt, threads, None, FRESH, 0, expected);
+    }
+    for &(threads, mvar, nack, tick, expected) in &STATES {
+        has_rows(&rt, threads, mvar, nack, tick, expected);
     }
 }
 
@@ -212,7 +220,7 @@ fn lights_of_a_world(rt: HostRuntime) {
 }
 
 // A leaf below a wrap, beside the branch of nack 0, which holds a receive on channel 3.
-const BRANCH: &str = "1 always 0 0 function wrap never 3 recv 2 choose 0 scope 2 choose";
+const BRANCH: &str = "(choose (wrap (always 1) 0) (scope 0 (choose never (recv 3))))";
 
 // The leaves of that group, offered by thread 4.
 fn offered(rt: &(impl Abort + AllocGlobal)) -> Vec<Offer> {
@@ -235,11 +243,11 @@ fn leaves_of_a_group(rt: HostRuntime) {
 
 #[test]
 fn rows_of_offers(rt: HostRuntime) {
-    let world = world(&rt, "3 2 send");
+    let world = world(&rt, "(send 3 2)");
     let mut all = offers(rt.alloc(), &world).expect(&rt, MEMORY);
-    let mut behind = offered(&rt);
-    all.append(&mut behind).expect(&rt, MEMORY);
-    drop(behind);
+    let mut more = offered(&rt);
+    all.append(&mut more).expect(&rt, MEMORY);
+    drop(more);
     let found = rows(rt.alloc(), &all, &world).expect(&rt, MEMORY);
     drop(all);
     drop(world);

@@ -177,7 +177,7 @@ fn random_commands(rt: HostRuntime) {
     drop(books);
 }
 
-// A group of so many leaves that wait in this one way.
+// A group of this many leaves that wait in this one way.
 fn offers(rt: &(impl Abort + AllocGlobal), count: u32, kind: BaseKind) -> Group {
     let base = Base::new(kind);
     let mut members = Vec::new(rt.alloc());
@@ -190,7 +190,7 @@ fn offers(rt: &(impl Abort + AllocGlobal), count: u32, kind: BaseKind) -> Group 
     Group::choose(rt.alloc(), members).expect(rt, MEMORY)
 }
 
-// So many threads come that wait on the group.
+// This many threads come that wait on the group.
 fn come<T: Table>(rt: &(impl Abort + AllocGlobal), book: &mut Book<T>, count: u32, group: &Group) {
     for _ in 0..count {
         let thread = book.spawn().expect(rt, "a thread");
@@ -198,7 +198,7 @@ fn come<T: Table>(rt: &(impl Abort + AllocGlobal), book: &mut Book<T>, count: u3
     }
 }
 
-// So many threads offer so many sends each, and then as many that many receives, all on one channel.
+// This many threads offer this many sends each, and then as many threads offer that many receives each, all on one channel.
 fn crowd<T: Table>(rt: &(impl Abort + AllocGlobal), book: &mut Book<T>, threads: u32, leaves: u32) {
     assert!(rt; book.make_chan() == Ok(ChanId(0)));
     let unit = Value::new(ValueKind::Unit);

@@ -78,7 +78,7 @@ fn prints_what_is_read(rt: HostRuntime) {
     }
 }
 
-// Texts of one byte so many times, between quotes or not, with the first fault of each. Those of 1,048,576 bytes are as long as a text
+// Texts of one byte this many times, between quotes or not, with the first fault of each. Those of 1,048,576 bytes are as long as a text
 // may be.
 const LONG: [(u8, usize, bool, Option<(FaultKind, usize)>); 10] = [
     (b'(', 257, false, Some((FaultKind::Deep, 256))),

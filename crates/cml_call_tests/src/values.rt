@@ -2,106 +2,101 @@
 
 use crate::making::{MEMORY, Made, make, value};
 use cml_value::{
-    Base, BaseKind, Event, EventKind, Group, GroupKind, MAX_DEPTH, MAX_NODES, MVarId, NackId,
-    Value, ValueKind,
+    Base, BaseKind, Event, EventKind, FnRef, Group, GroupKind, MAX_DEPTH, MAX_NODES, MVarId,
+    NackId, Value, ValueKind,
 };
 use std::process::Abort;
 
-// A value with its depth, its nodes and its text, each counted or written by hand.
-const VALUES: [(&str, u64, u64, &str); 29] = [
-    ("unit", 1, 1, "()"),
-    ("0", 1, 1, "0"),
-    ("-1", 1, 1, "-1"),
-    ("9223372036854775807", 1, 1, "9223372036854775807"),
-    ("-9223372036854775808", 1, 1, "-9223372036854775808"),
-    ("true", 1, 1, "true"),
-    ("false", 1, 1, "false"),
-    ("0 thread", 1, 1, "(thread 0)"),
-    ("1 chan", 1, 1, "(chan 1)"),
-    ("4294967295 swapchan", 1, 1, "(swapchan 4294967295)"),
-    ("22 ivar", 1, 1, "(ivar 22)"),
-    ("333 mvar", 1, 1, "(mvar 333)"),
-    ("65535 mailbox", 1, 1, "(mailbox 65535)"),
-    ("10 mchan", 1, 1, "(mchan 10)"),
-    ("4294967295 port", 1, 1, "(port 4294967295)"),
-    ("\"of many characters\"", 1, 1, "\"of many characters\""),
-    ("1 2 pair", 2, 3, "(pair 1 2)"),
-    ("unit 1 2 pair pair", 3, 5, "(pair () (pair 1 2))"),
+// A value, spelled as it is shown, with its depth and its nodes, counted by hand.
+const VALUES: [(&str, u64, u64); 21] = [
+    ("()", 1, 1),
+    ("0", 1, 1),
+    ("-1", 1, 1),
+    ("9223372036854775807", 1, 1),
+    ("-9223372036854775808", 1, 1),
+    ("true", 1, 1),
+    ("false", 1, 1),
+    ("(thread 0)", 1, 1),
+    ("(chan 1)", 1, 1),
+    ("(swapchan 4294967295)", 1, 1),
+    ("(ivar 22)", 1, 1),
+    ("(mvar 333)", 1, 1),
+    ("(mailbox 65535)", 1, 1),
+    ("(mchan 10)", 1, 1),
+    ("(port 4294967295)", 1, 1),
+    ("\"of many characters\"", 1, 1),
+    ("(pair 1 2)", 2, 3),
+    ("(pair () (pair 1 2))", 3, 5),
+    ("(pair (pair () (pair 1 2)) ())", 4, 7),
+    ("(pair (pair 1 2) (pair 1 2))", 3, 7),
+    (r#"(pair -5 (pair "a\"b" ()))"#, 3, 5),
+];
+
+// The same of values that hold events, and what they are shown as.
+const HOLDING: [(&str, u64, u64, &str); 8] = [
     (
-        "unit 1 2 pair pair unit pair",
-        4,
-        7,
-        "(pair (pair () (pair 1 2)) ())",
-    ),
-    (
-        "1 2 pair 1 2 pair pair",
-        3,
-        7,
-        "(pair (pair 1 2) (pair 1 2))",
-    ),
-    (
-        r#"-5 "a\"b" unit pair pair"#,
+        "(pair (pair 1 2) (event never))",
         3,
         5,
-        r#"(pair -5 (pair "a\"b" ()))"#,
+        "(pair (pair 1 2) event)",
     ),
-    ("1 2 pair never event pair", 3, 5, "(pair (pair 1 2) event)"),
-    ("never event", 1, 1, "event"),
-    ("1 0 1 2 pair send event pair", 4, 6, "(pair 1 event)"),
-    ("0 0 function guard event", 1, 1, "event"),
-    ("5 1 2 pair 2 1 function guard event", 3, 5, "event"),
-    ("0 0 function with_nack event", 1, 1, "event"),
-    ("5 1 2 pair 2 1 function with_nack event", 3, 5, "event"),
+    ("(event never)", 1, 1, "event"),
     (
-        "never 0 scope event 1 2 function guard event",
-        3,
-        3,
-        "event",
+        "(pair 1 (event (send 0 (pair 1 2))))",
+        4,
+        6,
+        "(pair 1 event)",
     ),
+    ("(event (guard 0))", 1, 1, "event"),
+    ("(event (guard 1 5 (pair 1 2)))", 3, 5, "event"),
+    ("(event (withnack 0))", 1, 1, "event"),
+    ("(event (withnack 1 5 (pair 1 2)))", 3, 5, "event"),
+    ("(event (guard 2 (event (scope 0 never))))", 3, 3, "event"),
 ];
 
 // An event that is a group too, with its depth and its nodes.
 const EVENTS: [(&str, u64, u64); 15] = [
     ("never", 1, 1),
-    ("0 recv", 1, 1),
-    ("4294967295 at", 1, 1),
-    ("7 nack", 1, 1),
-    ("unit always", 2, 2),
-    ("1 2 pair always", 3, 4),
-    ("0 1 2 pair send", 3, 4),
-    ("0 1 2 pair swap", 3, 4),
-    ("0 1 2 pair mswap", 3, 4),
-    ("0 choose", 1, 1),
-    ("never 0 1 send 2 choose", 3, 4),
-    ("never 0 0 function wrap", 2, 2),
-    ("never 5 1 2 pair 2 1 function wrap", 3, 6),
-    ("1 always 0 0 function wrap", 3, 3),
-    ("never 0 1 send 2 choose 3 scope 0 0 function wrap", 5, 6),
+    ("(recv 0)", 1, 1),
+    ("(at 4294967295)", 1, 1),
+    ("(nack 7)", 1, 1),
+    ("(always ())", 2, 2),
+    ("(always (pair 1 2))", 3, 4),
+    ("(send 0 (pair 1 2))", 3, 4),
+    ("(swap 0 (pair 1 2))", 3, 4),
+    ("(mswap 0 (pair 1 2))", 3, 4),
+    ("(choose)", 1, 1),
+    ("(choose never (send 0 1))", 3, 4),
+    ("(wrap never 0)", 2, 2),
+    ("(wrap never 1 5 (pair 1 2))", 3, 6),
+    ("(wrap (always 1) 0)", 3, 3),
+    ("(wrap (scope 3 (choose never (send 0 1))) 0)", 5, 6),
 ];
 
-// 67 values of which no two are the same, each by the words from the one before it on.
+// 67 values of which no two are the same.
 const APART: &str = r#"
-    unit 0 -9223372036854775808 9223372036854775807 false true 0 thread 0 chan 1 chan 0 swapchan 1 swapchan 0 ivar 0 mvar 0 mailbox
-    0 mchan 0 port "" "a" "A"
+    () 0 -9223372036854775808 9223372036854775807 false true (thread 0) (chan 0) (chan 1) (swapchan 0) (swapchan 1) (ivar 0) (mvar 0) (mailbox 0)
+    (mchan 0) (port 0) "" "a" "A"
     ; an accented letter, and the same letter with an accent of its own
-    "é" "é" 1 2 pair 1 3 pair 2 1 pair
+    "é" "é" (pair 1 2) (pair 1 3) (pair 2 1)
     ; events, by their base events
-    unit always event 0 always event 0 0 send event 0 1 send event 1 0 send event 0 recv event 1 recv event
-    0 0 swap event 0 1 swap event 1 0 swap event 0 iget event 0 mtake event 0 mget event 0 0 mswap event 0 unit mswap event 0 mail_recv event
-    0 port_recv event 0 join event 0 at event 4294967295 at event 0 after event 0 nack event 1 nack event
+    (event (always ())) (event (always 0)) (event (send 0 0)) (event (send 0 1)) (event (send 1 0)) (event (recv 0)) (event (recv 1))
+    (event (swap 0 0)) (event (swap 0 1)) (event (swap 1 0)) (event (iget 0)) (event (mtake 0)) (event (mget 0)) (event (mswap 0 0)) (event (mswap 0 ())) (event (mailrecv 0))
+    (event (portrecv 0)) (event (join 0)) (event (at 0)) (event (at 4294967295)) (event (after 0)) (event (nack 0)) (event (nack 1))
     ; by their functions
-    0 0 function guard event 0 1 function guard event 1 1 0 function guard event 2 1 0 function guard event
-    1 2 2 0 function guard event 2 1 2 0 function guard event 1 1 0 function with_nack event
+    (event (guard 0)) (event (guard 1)) (event (guard 0 1)) (event (guard 0 2))
+    (event (guard 0 1 2)) (event (guard 0 2 1)) (event (withnack 0 1))
     ; and by their form
-    never event 0 choose event never 1 choose event never 0 recv 2 choose event 0 recv never 2 choose event
-    never 0 0 function wrap event never 1 1 0 function wrap event never 2 1 0 function wrap event
-    0 recv 2 1 0 function wrap event never 0 scope event never 1 scope event 0 recv 0 scope event
-    never 0 scope 0 scope event
+    (event never) (event (choose)) (event (choose never)) (event (choose never (recv 0))) (event (choose (recv 0) never))
+    (event (wrap never 0)) (event (wrap never 0 1)) (event (wrap never 0 2))
+    (event (wrap (recv 0) 0 2)) (event (scope 0 never)) (event (scope 1 never)) (event (scope 0 (recv 0)))
+    (event (scope 0 (scope 0 never)))
 "#;
 
 // Groups of which no two are the same.
-const GROUPS_APART: &str = "never 0 recv 1 recv 0 choose never 0 recv 2 choose 0 recv never 2 choose
-    0 recv 1 1 0 function wrap 0 recv 2 1 0 function wrap 0 recv 0 scope 0 recv 1 scope";
+const GROUPS_APART: &str =
+    "never (recv 0) (recv 1) (choose) (choose never (recv 0)) (choose (recv 0) never)
+    (wrap (recv 0) 0 1) (wrap (recv 0) 0 2) (scope 0 (recv 0)) (scope 1 (recv 0))";
 
 // Texts with their literals.
 const LITERALS: [(&str, &str); 10] = [
@@ -117,13 +112,21 @@ const LITERALS: [(&str, &str); 10] = [
     ("é€😀\u{feff}", "\"é€😀\u{feff}\""),
 ];
 
+// The value that the text makes has this depth and so many nodes, and is shown so.
+fn is_so(rt: &(impl Abort + AllocGlobal), text: &str, depth: u64, nodes: u64, shown: &str) {
+    let value = value(rt, text);
+    assert!(rt; (value.depth(), value.nodes()) == (depth, nodes), "{text}");
+    shows(rt, &value, shown);
+    drop(value);
+}
+
 #[test]
 fn values_by_hand(rt: HostRuntime) {
-    for &(text, depth, nodes, shown) in &VALUES {
-        let value = value(&rt, text);
-        assert!(rt; (value.depth(), value.nodes()) == (depth, nodes), "{text}");
-        shows(&rt, &value, shown);
-        drop(value);
+    for &(text, depth, nodes) in &VALUES {
+        is_so(&rt, text, depth, nodes, text);
+    }
+    for &(text, depth, nodes, shown) in &HOLDING {
+        is_so(&rt, text, depth, nodes, shown);
     }
 }
 
@@ -232,13 +235,13 @@ fn a_value_of_a_million_nodes(rt: HostRuntime) {
     drop(copy);
 }
 
-// The same shape by wraps, each with a tree captured, round a choice of one value.
+// The same shape by wraps, each with a tree captured, around a choice of one value.
 fn long_event(rt: &(impl Abort + AllocGlobal), text: &str) -> Made {
     let mut made = make(rt, text);
     for _ in 0..245 {
-        made.values.push(tree(rt, 11, 0)).expect(rt, MEMORY);
-        made.capture(rt, 0, 1);
-        made.wrap(rt);
+        let captured = Vec::from_array(rt.alloc(), [tree(rt, 11, 0)]).expect(rt, MEMORY);
+        let function = FnRef::new(rt.alloc(), 0, captured).expect(rt, MEMORY);
+        made.wrap(rt, function);
     }
     made
 }
@@ -261,15 +264,15 @@ fn same_as_made(
 
 #[test]
 fn an_event_of_a_million_nodes(rt: HostRuntime) {
-    let mut made = long_event(&rt, "0 always 1 choose");
+    let mut made = long_event(&rt, "(choose (always 0))");
     let event = made.event(&rt);
     let group = made.group(&rt);
     drop(made);
     assert!(rt; (event.depth(), event.nodes()) == (257, 1_003_523));
     assert!(rt; (group.depth(), group.nodes()) == (257, 1_003_523));
     assert!(rt; !event.fits() && !group.fits());
-    assert!(rt; same_as_made(&rt, &event, &group, "0 always 1 choose") == (true, true));
-    assert!(rt; same_as_made(&rt, &event, &group, "1 always 1 choose") == (false, false));
+    assert!(rt; same_as_made(&rt, &event, &group, "(choose (always 0))") == (true, true));
+    assert!(rt; same_as_made(&rt, &event, &group, "(choose (always 1))") == (false, false));
     let copy = event.copy().expect(&rt, MEMORY);
     drop(event);
     assert!(rt; copy.depth() == 257);
@@ -280,16 +283,17 @@ fn an_event_of_a_million_nodes(rt: HostRuntime) {
     drop(copy);
 }
 
-// What stands first, what is done to it so many times and what in the end, and whether all of it is within the limits. Where each
-// pair has one value twice, 60 of them are 2^61 - 1 nodes: a walk through all of those would not end in our time.
+// What there is at first, what is made of it so many times, and what of that in the end: `it` is all that was made before. And whether the whole
+// is within the limits. Where each pair has one value twice, 60 of them are 2^61 - 1 nodes: a walk through all of those would not end
+// in our time.
 const LIMITS: [(&str, &str, u32, &str, bool); 7] = [
-    ("unit", " unit pair", 63, "", true),
-    ("unit", " unit pair", 64, "", false),
-    ("never", " 0 scope", 63, "", true),
-    ("never", " 0 scope", 64, "", false),
-    ("unit", " copy pair", 60, "", false),
-    ("unit", " copy pair", 60, " always", false),
-    ("never unit", " copy pair", 60, " 1 0 function wrap", false),
+    ("()", "(pair it ())", 63, "it", true),
+    ("()", "(pair it ())", 64, "it", false),
+    ("never", "(scope 0 it)", 63, "it", true),
+    ("never", "(scope 0 it)", 64, "it", false),
+    ("()", "(pair it it)", 60, "it", false),
+    ("()", "(pair it it)", 60, "(always it)", false),
+    ("()", "(pair it it)", 60, "(wrap never 0 it)", false),
 ];
 
 fn fit(rt: &impl Abort, made: &Made, expected: bool) {
@@ -310,30 +314,36 @@ fn limits(rt: HostRuntime) {
     for &(first, step, times, last, fits) in &LIMITS {
         let mut made = make(&rt, first);
         for _ in 0..times {
-            made.say(&rt, step);
+            made.around(&rt, step);
         }
-        made.say(&rt, last);
+        made.around(&rt, last);
+        fit(&rt, &made, fits);
+        drop(made);
+    }
+}
+
+// What is made of a value of 65,535 nodes, and whether it is within the limits: an event and a group of 65,536 nodes are, and a value,
+// an event and a group of 65,537 each are not.
+const OF_MANY_NODES: [(&str, bool); 2] = [
+    ("it (always it)", true),
+    ("(pair it ()) (scope 0 (always it))", false),
+];
+
+#[test]
+fn limit_of_nodes(rt: HostRuntime) {
+    for &(text, fits) in &OF_MANY_NODES {
+        let mut made = Made::new(rt.alloc());
+        made.values.push(tree(&rt, 15, 0)).expect(&rt, MEMORY);
+        made.around(&rt, text);
         fit(&rt, &made, fits);
         drop(made);
     }
 }
 
 #[test]
-fn limit_of_nodes(rt: HostRuntime) {
-    let mut made = Made::new(&rt);
-    made.values.push(tree(&rt, 15, 0)).expect(&rt, MEMORY);
-    made.say(&rt, "copy always");
-    fit(&rt, &made, true);
-    // 65,535 nodes in the value and 65,536 in the event and the group, and then 65,537 in each
-    made.say(&rt, "unit pair 0 scope");
-    fit(&rt, &made, false);
-    drop(made);
-}
-
-#[test]
 fn parts_of_a_function(rt: HostRuntime) {
-    let mut made = make(&rt, "1 unit 2 12 function");
-    let function = made.last_function(&rt);
+    let mut made = make(&rt, "12 1 ()");
+    let function = made.function(&rt, 0);
     drop(made);
     assert!(rt; function.func() == 12);
     assert!(rt; function.args().len() == 2);
@@ -343,7 +353,7 @@ fn parts_of_a_function(rt: HostRuntime) {
 
 #[test]
 fn parts_of_a_pair(rt: HostRuntime) {
-    match value(&rt, "7 never event pair").into_kind() {
+    match value(&rt, "(pair 7 (event never))").into_kind() {
         ValueKind::Pair(parts) => {
             assert!(rt; matches!(parts.0.kind(), ValueKind::Int(7)));
             assert!(rt; matches!(parts.1.kind(), ValueKind::Event(_)));
@@ -380,7 +390,7 @@ fn is_wrapped_group_scope(group: &Group) -> bool {
 
 #[test]
 fn parts_of_an_event(rt: HostRuntime) {
-    let mut made = make(&rt, "3 8 mswap 6 scope 0 5 function wrap");
+    let mut made = make(&rt, "(wrap (scope 6 (mswap 3 8)) 5)");
     let event = made.event(&rt);
     assert!(rt; is_wrapped_scope(&event));
     drop(event);

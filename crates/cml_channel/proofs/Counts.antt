@@ -59,7 +59,7 @@ counted bound (p ∷ ps) (suc k) d up within = at (under bound p) refl (counted 
         let zero_count : count_under bound ps ≡ 0 = ap length none in
         record { below = λ in_. let h : k < count_under bound ps = rest.below in_ in absurd (omega arith); above = λ out. rw (e, none) (omega arith) }
 
--- so many more looks are allowed as the gap has binary digits
+-- as many more looks are allowed as the gap has binary digits
 pub halved : (gap less now later most : ℕ) → 0 < gap → 2 * less ≤ gap → later ≤ now + 1 → (left : ℕ) × (gap < 2 ^ left) × (now + left ≤ most) → (left : ℕ) × (less < 2 ^ left) × (later + left ≤ most)
 halved gap less now later most some half more (zero, small, within) = absurd (omega arith)
 halved gap less now later most some half more (suc left, small, within) = (left, omega arith, omega arith)
@@ -101,7 +101,7 @@ above_is tid q e = at q.tid.0 tid.0 e
     at : (a t : ℕ) → not (nat_eq t a) ≡ true → not (nat_lt a t) ≡ nat_lt t a
     at a t e = grind (arith, nat_tests)
 
--- a run that is put in behind the offers of lower threads stands where it belongs
+-- a run that is put in after the offers of lower threads stands where it belongs
 pub inserted : (tid : Tid) (leaves : List ℕ) (ps : List Place) → Ascends before ps → Every (is_others tid) ps
     → take (count_under (Below tid) ps) ps ++ (run tid leaves ++ drop (count_under (Below tid) ps) ps) ≡ with_run tid leaves ps
 inserted tid leaves ps up away =
@@ -172,7 +172,7 @@ filter_fewer p (x ∷ xs) = at (p x) (filter_fewer p xs)
     at true h = omega arith
     at false h = omega arith
 
--- the offers of other threads are those before the thread's own and those behind them
+-- the offers of other threads are those before the thread's own and those after them
 
 low_high : (tid : Tid) (p : Place) → under (Below tid) p ≡ true → under (UpTo tid) p ≡ true
 low_high tid p e = at p.tid.0 tid.0 e
@@ -249,7 +249,7 @@ others_many tid ps up =
     let parts : length (filter (is_own tid) ps) + length (others tid ps) ≡ length ps = length-filter_both (is_own tid) (is_others tid) (λ _. refl) ps in
     record { low = low; high = omega arith; many = omega arith; own = omega arith }
 
--- the lane without a run is what stands before it and behind it
+-- the lane without a run is what stands before it and after it
 pub removed : (tid : Tid) (ps : List Place) → Ascends before ps
     → take (count_under (Below tid) ps) ps ++ drop (count_under (Below tid) ps + length (filter (is_own tid) ps)) ps ≡ others tid ps
 removed tid ps up =
@@ -352,7 +352,7 @@ last_above tid ps e up some = at (nat_lt tid.0 (get_or ps (length ps - 1) e).tid
         let none : length (those (Above tid) ps) ≡ 0 = omega (arith, m.many, high) in
         sym (any_none (is_of (Above tid)) ps (nil_from_length (those (Above tid) ps) none))
 
--- the same, where so many of the offers are not of those threads
+-- the same, where this many of the offers are not of those threads
 pub above_behind : (tid : Tid) (ps : List Place) (own j : ℕ) (d : Place) → Ascends before ps → own + length (those (Above tid) ps) ≡ length ps → get_or (those (Above tid) ps) j d ≡ get_or ps (own + j) d
 above_behind tid ps own j d up rest =
     let m = above_many tid ps in

@@ -113,7 +113,7 @@ module _ {S : Type 0} (kind : Pairing) (key_of : S → ℕ) (is_head : S → Boo
       at false e = refl
 
 -- two base events are the sides of one communication where they are sides of one kind that meet, the first as the head
-as_sides : (b c : PlainBase) → meets b c ≡ led_in channels.is_sender channels.meet (channels.side_in b) (channels.side_in c) || led_in swaps.heads swaps.meet (swaps.side_in b) (swaps.side_in c)
+as_sides : (b c : PlainBase) → meets b c ≡ led_in channels.is_sender channels.meet (channels.side_in b) (channels.side_in c) || led_in swaps.can_stand_first swaps.meet (swaps.side_in b) (swaps.side_in c)
 as_sides (send c v) (recv d) = sym (or_false (nat_eq c d))
 as_sides (send c v) (send d w) = refl
 as_sides (send c v) _ = refl
@@ -134,7 +134,7 @@ abbrev sent_place : Option ChannelSide → Option SidePlace
 sent_place x = placed Channel channels.channel_of channels.is_sender x
 
 abbrev swap_place : Option SwapSide → Option SidePlace
-swap_place x = placed Swap swaps.channel_of swaps.heads x
+swap_place x = placed Swap swaps.channel_of swaps.can_stand_first x
 
 -- The law of all kinds: two base events are the sides of one communication, the first as its head, exactly where their places say so.
 pub meets_by_place : (b c : PlainBase) → meets b c ≡ leads_by (side_place b) (side_place c)
@@ -142,7 +142,7 @@ meets_by_place b c =
     as_sides b c
     ∙ rw (
       led_by_place Channel channels.channel_of channels.is_sender channels.meet false refl channel_laws.meeting-law channel_laws.leading-law (channels.side_in b) (channels.side_in c),
-      led_by_place Swap swaps.channel_of swaps.heads swaps.meet true refl swap_laws.meeting-law swap_laws.leading-law (swaps.side_in b) (swaps.side_in c),
+      led_by_place Swap swaps.channel_of swaps.can_stand_first swaps.meet true refl swap_laws.meeting-law swap_laws.leading-law (swaps.side_in b) (swaps.side_in c),
     )
     (at (channels.side_in b) (channels.side_in c) (swaps.side_in b) (swaps.side_in c) (no_two b) (no_two c))
   where

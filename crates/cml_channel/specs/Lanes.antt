@@ -37,7 +37,7 @@ those whom ps = filter (is_of whom) ps
 abbrev pub run : Tid → List ℕ → List Place
 run tid leaves = map (λ leaf. record { tid = tid; leaf = leaf }) leaves
 
--- with the offers of one more thread: behind those of the threads below it, and before those of the threads above it
+-- the offers with those of one more thread: after those of the threads below it, and before those of the threads above it
 abbrev pub with_run : Tid → List ℕ → List Place → List Place
 with_run tid leaves ps = filter (λ q. nat_lt q.tid.0 tid.0) ps ++ (run tid leaves ++ filter (λ q. nat_lt tid.0 q.tid.0) ps)
 

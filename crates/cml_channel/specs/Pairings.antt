@@ -1,4 +1,4 @@
--- The kinds of objects over which two threads meet: for each kind a line here. What is said of sides is said by the kind's own words.
+-- The kinds of objects over which two threads meet: for each kind a line here. What is said of sides is said by the kind's own definitions.
 use Rattle.std.specs.Prelude.{ℕ, ◌≡◌, Bool, true, false, ◌&&◌, if◌then◌else◌, Option, Some, None, option_map}
 use Rattle.std.specs.Bool.{beq}
 use Rattle.std.specs.Option.{option_or}
@@ -19,7 +19,7 @@ abbrev pub one_lane : Pairing → Bool
 one_lane Channel = false
 one_lane Swap = true
 
--- the two are one object
+-- the two are the same object
 abbrev pub same_object : PairedId → PairedId → Bool
 same_object = derived.ghosts.eq
 
@@ -30,10 +30,10 @@ placed kind key_of is_head side = option_map (λ s. record { object = record { k
 -- the place of the side that a base event is, if it is one
 abbrev pub side_place : PlainBase → Option SidePlace
 side_place b =
-    option_or (placed Channel channels.channel_of channels.is_sender (channels.side_in b)) (placed Swap swaps.channel_of swaps.heads (swaps.side_in b))
+    option_or (placed Channel channels.channel_of channels.is_sender (channels.side_in b)) (placed Swap swaps.channel_of swaps.can_stand_first (swaps.side_in b))
 
--- The first heads, and the second stands where those are whom it meets: on the other side of the object, or, where all sides
--- are alike, on the same.
+-- The first is a head, and the second stands where those are whom the first meets: on the other side of the object, or, where all sides
+-- are alike, on the same side.
 abbrev pub leads : SidePlace → SidePlace → Bool
 leads s t = s.heads && (same_object s.object t.object && beq (one_lane s.object.kind) t.heads)
 

@@ -9,8 +9,8 @@ abbrev pub channel_of : SwapSide → ℕ
 channel_of s = s.on.0
 
 -- each of the two could stand first
-abbrev pub heads : SwapSide → Bool
-heads s = true
+abbrev pub can_stand_first : SwapSide → Bool
+can_stand_first s = true
 
 -- each hands over its value
 abbrev pub handed_by : SwapSide → PlainValue

@@ -37,14 +37,14 @@ impl Whom {
 // Where a search in a lane ends.
 #[derive(Clone, Copy)]
 enum Bound {
-    // Behind the offers of the threads below this one.
+    // After the offers of the threads below this one.
     Below(Tid),
-    // Behind the offers of this thread and of those below it.
+    // After the offers of this thread and of those below it.
     UpTo(Tid),
 }
 
 /// Offers of leaves by thread and leaf, as those of one side of one channel. The offers of one thread
-/// come and go at once. One can be read by [`Lane::look`] alone, which counts the look.
+/// come and go at once. An offer can be read only by [`Lane::look`], which counts the look.
 #[derive(Drop)]
 pub struct Lane {
     places: Vec<Place>,
@@ -185,7 +185,7 @@ impl Lane {
     /// Makes room for this many more offers.
     ///
     /// # Errors
-    /// Want of memory. The offers are as they were.
+    /// Out of memory. The offers are as they were.
     pub fn reserve(&mut self, additional: usize) -> Result<(), AllocError>
         ensures same { self.new.places ≡ self.old.places }
         ensures ok { OnOk result (additional ≤ self.new.room) }
@@ -194,7 +194,7 @@ impl Lane {
         self.places.reserve(additional)
     }
 
-    /// The offers of these leaves of the thread come, for which there is room. It takes no memory.
+    /// Adds the offers of these leaves of the thread, for which there is room. It takes no memory.
     pub fn come(&mut self, tid: Tid, leaves: &[u32], tally: &mut Tally)
         requires room { length leaves.now ≤ self.old.room }
         requires new { Every (spec.is_others tid) self.old.places }
@@ -210,7 +210,7 @@ impl Lane {
         move_tail_to(&mut self.places, tail, at);
     }
 
-    /// All offers of the thread go, of which there are this many. It takes no memory.
+    /// Removes all offers of the thread, of which there are this many. It takes no memory.
     pub fn go(&mut self, tid: Tid, count: usize, tally: &mut Tally)
         requires { count ≡ length (filter (spec.is_own tid) self.old.places) }
         ensures places { self.new.places ≡ spec.others tid self.old.places }
@@ -232,7 +232,7 @@ fn is_under(bound: Bound, place: Place) -> bool
     }
 }
 
-// Puts the offers behind those that stand there. It takes no memory.
+// Appends the offers. It takes no memory.
 fn push_run(places: &mut Vec<Place>, tid: Tid, leaves: &[u32])
     requires { length leaves.now ≤ vec_capacity places.old - vec_len places.old }
     ensures items { places.new.items ≡ places.old.items ++ spec.run tid leaves.now }

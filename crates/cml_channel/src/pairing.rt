@@ -49,7 +49,7 @@ impl Pairing {
         }
     }
 
-    /// Whom an offer of the thread meets that stands first, in the lane of those whom it can meet.
+    /// Whom an offer of the thread that stands first meets, in the lane of those whom it can meet.
     pub fn whom(self, tid: Tid) -> Whom
         ensures { result ≡ spec.whom self tid }
     {
@@ -105,7 +105,7 @@ pub fn do_meet(head: Tid, first: &Base, other: Tid, second: &Base) -> bool
     }
 }
 
-// What the two are given that meet in this kind.
+// What the two that meet in this kind are given.
 fn hands_in<P: Paired>(head: Base, other: Base) -> (Value, Value)
     requires { spec.do_meet_in P.do_meet (P.side_of head) (P.side_of other) ≡ true }
     ensures { spec.HandedIn P.handed (P.side_of head) (P.side_of other) result }

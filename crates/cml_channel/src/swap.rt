@@ -18,7 +18,7 @@ pub struct SwapChannels;
 
 impl Paired for SwapChannels {
     ghost use Rattle.std.specs.Prelude.{true};
-    ghost use Rattle.cml_channel.specs.Swaps.{channel_of, heads, handed_by, meet, side_in};
+    ghost use Rattle.cml_channel.specs.Swaps.{channel_of, can_stand_first, handed_by, meet, side_in};
     ghost use Rattle.cml_channel.specs.SwapLaws.{sides_meet, sides_lead};
 
     type Side = SwapSide;
@@ -27,7 +27,7 @@ impl Paired for SwapChannels {
 
     ghost key_of = { channel_of };
 
-    ghost is_head = { heads };
+    ghost is_head = { can_stand_first };
 
     ghost handed = { handed_by };
 

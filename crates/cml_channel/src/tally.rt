@@ -19,7 +19,7 @@ impl Model for Tally {
 }
 
 impl Tally {
-    /// No look.
+    /// A count of no looks.
     pub fn new() -> Tally
         ensures { result ≡ 0 }
     {
@@ -33,7 +33,7 @@ impl Tally {
         self.count
     }
 
-    /// One more look; at `u64::MAX` the count stays.
+    /// Counts one more look, saturating at `u64::MAX`.
     pub fn add(&mut self)
         ensures more { self.old < u64.MAX → self.new ≡ self.old + 1 }
         ensures stays { self.old ≡ u64.MAX → self.new ≡ self.old }

@@ -11,7 +11,7 @@ use Rattle.cml_check.specs.declared.syntax.Unary.{Unary}
 use Rattle.cml_check.specs.declared.syntax.Binary.{Binary}
 use Rattle.cml_check.specs.declared.word.Word.TheVariants as word
 use Rattle.cml_check.specs.Syntax.{Name, PlainExpr, number, text, choose, guard, with_nack, PlainExprs, no_exprs, exprs_and, exprs, expr_map, exprs_map}
-use Rattle.cml_check.specs.Checked.{Checked, ◌>>=◌, Fails, fault_at}
+use Rattle.cml_check.specs.Checked.{Checked, ◌>>=◌, Fails, check_fault}
 use Rattle.cml_check.specs.Words.{word_of, word_from}
 use Rattle.cml_check.specs.Heads.{PlainHead, function_in}
 use Rattle.cml_check.specs.Expressions.{count, name_in, expr_in, list_in, exprs_in, called_in}
@@ -41,7 +41,7 @@ unfolding expr_in
 name_form heads names form name h = ap (expr_in heads names) h
 
 pub empty_form : (heads : List PlainHead) (names : List Name) (form : PlainSexpr) (forms : PlainForms) → is_headed form ≡ false → form ≡ plain_list (span_of form) forms →
-    expr_in heads names form ≡ fault_at Form (span_of form)
+    expr_in heads names form ≡ check_fault Form (span_of form)
 unfolding expr_in
 empty_form heads names (plain_list span no_forms) forms h e = refl
 empty_form heads names (plain_list span (forms_and first behind)) forms h e = absurd (true≢false h)
@@ -71,14 +71,14 @@ list_unary heads names span op (forms_and p no_forms) = refl
 list_unary heads names span op (forms_and p (forms_and q forms)) = refl
 
 pub no_unary : (heads : List PlainHead) (names : List Name) (span : Span) (op : Unary) (behind : List PlainSexpr) → length behind ≢ 1 →
-    unary_in heads names span op (plain_forms behind) ≡ fault_at Form span
+    unary_in heads names span op (plain_forms behind) ≡ check_fault Form span
 unfolding unary_in
 no_unary heads names span op [] h = refl
 no_unary heads names span op (p ∷ []) h = absurd (h refl)
 no_unary heads names span op (p ∷ q ∷ behind) h = refl
 
 pub no_binary : (heads : List PlainHead) (names : List Name) (span : Span) (op : Binary) (behind : List PlainSexpr) → length behind ≢ 2 →
-    binary_in heads names span op (plain_forms behind) ≡ fault_at Form span
+    binary_in heads names span op (plain_forms behind) ≡ check_fault Form span
 unfolding binary_in
 no_binary heads names span op [] h = refl
 no_binary heads names span op (p ∷ []) h = refl
@@ -86,7 +86,7 @@ no_binary heads names span op (p ∷ q ∷ []) h = absurd (h refl)
 no_binary heads names span op (p ∷ q ∷ r ∷ behind) h = refl
 
 pub no_wrap : (heads : List PlainHead) (names : List Name) (span : Span) (behind : List PlainSexpr) → length behind < 2 →
-    wrap_in heads names span (plain_forms behind) ≡ fault_at Form span
+    wrap_in heads names span (plain_forms behind) ≡ check_fault Form span
 unfolding wrap_in
 no_wrap heads names span [] h = refl
 no_wrap heads names span (p ∷ []) h = refl

@@ -5,8 +5,8 @@ use Rattle.cml_text.specs.Forms.{PlainSexpr, PlainForms, plain_forms, span_of}
 use Rattle.cml_check.specs.declared.fault.CheckFault.{CheckFault}
 use Rattle.cml_check.specs.declared.statement.Scope.{Scope}
 use Rattle.cml_check.specs.Checked.{Checked, ◌>>=◌, Fails}
-use Rattle.cml_check.specs.Names.{is_among, with_name}
-use Rattle.cml_check.specs.Statements.{counted, stmt_in, stmts_in}
+use Rattle.cml_check.specs.Names.{has_name, with_name}
+use Rattle.cml_check.specs.Statements.{statement_counted, stmt_in, stmts_in}
 use Rattle.cml_check.proofs.CheckedLemmas.{fails-as, drop-at}
 use Rattle.std.proofs.lemmas.Bool.{ltb-true, lt-ltb, and_parts, and_from}
 use Rattle.std.proofs.lemmas.List.{length-append}
@@ -169,7 +169,7 @@ grown_alike old new g v lt = same_slot old g.0 v lt ∙ ap (λ names. name_at na
 grown_longer : (old new : List Name) → Grows old new → length old ≤ length new
 grown_longer old new g = rw (g.1, length-append) (omega arith)
 
--- in the words of what grows
+-- in terms of what grows
 pub expr-grown : (ar : List ℕ) (old new : List Name) → Grows old new → (e : PlainExpr ℕ) → expr_fits ar (length old) e ≡ true →
     (expr_map (name_at old) e ≡ expr_map (name_at new) e) × (expr_fits ar (length new) e ≡ true)
 expr-grown ar old new g e p = (expr_alike _ _ ar _ (grown_alike old new g) e p, expr_wider ar _ _ (grown_longer old new g) e p)
@@ -193,7 +193,7 @@ with_name_grows names name true = grows_same names
 with_name_grows names name false = (name ∷ [], refl)
 
 pub grows-with_name : (names : List Name) (name : Name) → Grows names (with_name names name)
-grows-with_name names name = with_name_grows names name (is_among names name)
+grows-with_name names name = with_name_grows names name (has_name names name)
 
 -- ---- the loop over statements
 
@@ -253,27 +253,27 @@ abbrev walk : List PlainHead → PlainForms → PlainStmt Name × Scope → Chec
 walk heads forms s = stmts_in heads s.1 forms >>= behind s.0
 
 step : (heads : List PlainHead) (scope : Scope) (forms : List PlainSexpr) (i : ℕ) (form : PlainSexpr) → i < length forms → form ≡ get_or forms i form →
-    stmts_in heads scope (plain_forms (drop i forms)) ≡ (counted scope (span_of form) >>= λ at. stmt_in heads at form >>= walk heads (plain_forms (drop (i + 1) forms)))
+    stmts_in heads scope (plain_forms (drop i forms)) ≡ (statement_counted scope (span_of form) >>= λ at. stmt_in heads at form >>= walk heads (plain_forms (drop (i + 1) forms)))
 unfolding stmts_in
 step heads scope forms i form lt is = ap (λ fs. stmts_in heads scope (plain_forms fs)) (drop-at forms i form lt is)
 
 pub count-fails : (err : CheckFault) (heads : List PlainHead) (scope : Scope) (forms : List PlainSexpr) (i : ℕ) (form : PlainSexpr) (ss : List (PlainStmt Name)) (all : Checked (PlainStmts Name × Scope)) →
-    i < length forms → form ≡ get_or forms i form → front ss (stmts_in heads scope (plain_forms (drop i forms))) ≡ all → Fails err (counted scope (span_of form)) → Fails err all
+    i < length forms → form ≡ get_or forms i form → front ss (stmts_in heads scope (plain_forms (drop i forms))) ≡ all → Fails err (statement_counted scope (span_of form)) → Fails err all
 count-fails err heads scope forms i form ss all lt is inv h =
-    fails-as err (counted scope (span_of form)) _ all
-    (sym (after (counted scope (span_of form)) (λ at. stmt_in heads at form >>= walk heads (plain_forms (drop (i + 1) forms))) (λ rest. Ok (onto ss rest.0, rest.1)))
+    fails-as err (statement_counted scope (span_of form)) _ all
+    (sym (after (statement_counted scope (span_of form)) (λ at. stmt_in heads at form >>= walk heads (plain_forms (drop (i + 1) forms))) (λ rest. Ok (onto ss rest.0, rest.1)))
     ∙ ap (front ss) (sym (step heads scope forms i form lt is)) ∙ inv) h
 
 -- the statement was counted
 stepped : (heads : List PlainHead) (scope at : Scope) (forms : List PlainSexpr) (i : ℕ) (form : PlainSexpr) (ss : List (PlainStmt Name)) (all : Checked (PlainStmts Name × Scope)) →
-    i < length forms → form ≡ get_or forms i form → front ss (stmts_in heads scope (plain_forms (drop i forms))) ≡ all → counted scope (span_of form) ≡ Ok at →
+    i < length forms → form ≡ get_or forms i form → front ss (stmts_in heads scope (plain_forms (drop i forms))) ≡ all → statement_counted scope (span_of form) ≡ Ok at →
     front ss (stmt_in heads at form >>= walk heads (plain_forms (drop (i + 1) forms))) ≡ all
 stepped heads scope at forms i form ss all lt is inv h =
     ap (λ r. front ss (r >>= λ at. stmt_in heads at form >>= walk heads (plain_forms (drop (i + 1) forms)))) (sym h)
     ∙ ap (front ss) (sym (step heads scope forms i form lt is)) ∙ inv
 
 pub stmt-fails : (err : CheckFault) (heads : List PlainHead) (scope at : Scope) (forms : List PlainSexpr) (i : ℕ) (form : PlainSexpr) (ss : List (PlainStmt Name)) (all : Checked (PlainStmts Name × Scope)) →
-    i < length forms → form ≡ get_or forms i form → front ss (stmts_in heads scope (plain_forms (drop i forms))) ≡ all → counted scope (span_of form) ≡ Ok at →
+    i < length forms → form ≡ get_or forms i form → front ss (stmts_in heads scope (plain_forms (drop i forms))) ≡ all → statement_counted scope (span_of form) ≡ Ok at →
     Fails err (stmt_in heads at form) → Fails err all
 stmt-fails err heads scope at forms i form ss all lt is inv h f =
     fails-as err (stmt_in heads at form) _ all
@@ -281,7 +281,7 @@ stmt-fails err heads scope at forms i form ss all lt is inv h f =
     ∙ stepped heads scope at forms i form ss all lt is inv h) f
 
 pub stmt-next : (heads : List PlainHead) (scope at new : Scope) (forms : List PlainSexpr) (i : ℕ) (form : PlainSexpr) (ss : List (PlainStmt Name)) (s : PlainStmt Name) (all : Checked (PlainStmts Name × Scope)) →
-    i < length forms → form ≡ get_or forms i form → front ss (stmts_in heads scope (plain_forms (drop i forms))) ≡ all → counted scope (span_of form) ≡ Ok at →
+    i < length forms → form ≡ get_or forms i form → front ss (stmts_in heads scope (plain_forms (drop i forms))) ≡ all → statement_counted scope (span_of form) ≡ Ok at →
     stmt_in heads at form ≡ Ok (s, new) → front (ss ++ s ∷ []) (stmts_in heads new (plain_forms (drop (i + 1) forms))) ≡ all
 stmt-next heads scope at new forms i form ss s all lt is inv h f =
     sym (front-push ss s (stmts_in heads new (plain_forms (drop (i + 1) forms))))

@@ -13,9 +13,9 @@ use Rattle.cml_check.specs.declared.fault.CheckFault.{CheckFault}
 use Rattle.cml_check.specs.declared.fault.CheckKind.TheVariants.{Form, Double, Limit}
 use Rattle.cml_check.specs.declared.head.Head.{Head}
 use Rattle.cml_check.specs.Syntax.{Name}
-use Rattle.cml_check.specs.Checked.{Checked, ◌>>=◌, Fails, fault_at}
-use Rattle.cml_check.specs.Names.{is_among, with_name, free_name}
-use Rattle.cml_check.specs.Heads.{PlainHead, arities_of, takes, is_arity, place_of, parameters_in, parameters_from, heads_from, head_in, head_by, added}
+use Rattle.cml_check.specs.Checked.{Checked, ◌>>=◌, Fails, check_fault}
+use Rattle.cml_check.specs.Names.{has_name, with_name, free_name}
+use Rattle.cml_check.specs.Heads.{PlainHead, arities_of, takes, is_arity, name_place, parameters_in, parameters_from, heads_from, head_in, head_by, added}
 use Rattle.cml_check.specs.HeadViews.{plain_head, plain_heads, head_names}
 use Rattle.cml_text.specs.declared.sexpr.Span.{Span}
 use Rattle.cml_check.specs.declared.word.Word.TheVariants as word
@@ -46,20 +46,20 @@ pub takes-none : (heads : List Head) (n count : ℕ) → length heads ≤ n → 
 takes-none heads n count le =
     ap (λ o. is_arity o count) (arity-at heads n ∙ ap (option_map (λ head. length head.parameters)) (none-past heads n le))
 
-place-at : (heads : List Head) (n : ℕ) → place_of (plain_heads heads) n ≡ unwrap_or (option_map (λ head. head.at) (slice_get heads n)) 0
+place-at : (heads : List Head) (n : ℕ) → name_place (plain_heads heads) n ≡ unwrap_or (option_map (λ head. head.at) (slice_get heads n)) 0
 place-at heads n =
     sym (unwrap_or-slice_get (map (λ (head : PlainHead). head.at) (plain_heads heads)) n 0)
     ∙ ap (λ o. unwrap_or o 0) (slice_get-map (λ (head : PlainHead). head.at) (plain_heads heads) n
     ∙ ap (option_map (λ (head : PlainHead). head.at)) (slice_get-map plain_head heads n)
     ∙ composed (λ (head : PlainHead). head.at) plain_head (slice_get heads n))
 
-pub place-some : (heads : List Head) (n : ℕ) (head : Head) → n < length heads → head ≡ get_or heads n head → place_of (plain_heads heads) n ≡ head.at
+pub place-some : (heads : List Head) (n : ℕ) (head : Head) → n < length heads → head ≡ get_or heads n head → name_place (plain_heads heads) n ≡ head.at
 place-some heads n head lt is =
     place-at heads n ∙ ap (λ o. unwrap_or (option_map (λ head. head.at) o) 0) (slice_get_read heads (length heads) n head refl lt is)
 
 -- ---- parameters
 
-pub no_parameters : (form : PlainSexpr) → is_list form ≡ false → parameters_in form ≡ fault_at Form (span_of form)
+pub no_parameters : (form : PlainSexpr) → is_list form ≡ false → parameters_in form ≡ check_fault Form (span_of form)
 unfolding parameters_in
 no_parameters (plain_name span name) h = refl
 no_parameters (plain_int span z) h = refl
@@ -80,7 +80,7 @@ parameter-fails e found forms i form all lt is inv h =
 -- the next parameter is a name
 pub parameter-next : (found : List Name) (forms : List PlainSexpr) (i : ℕ) (form : PlainSexpr) (name : Name) (all : Checked (List Name)) →
     i < length forms → form ≡ get_or forms i form → parameters_from found (plain_forms (drop i forms)) ≡ all → free_name form ≡ Ok name →
-    cond (is_among found name) (fault_at Form (span_of form)) (parameters_from (found ++ name ∷ []) (plain_forms (drop (i + 1) forms))) ≡ all
+    cond (has_name found name) (check_fault Form (span_of form)) (parameters_from (found ++ name ∷ []) (plain_forms (drop (i + 1) forms))) ≡ all
 unfolding parameters_from
 parameter-next found forms i form name all lt is inv h =
     let step : parameters_from found (plain_forms (form ∷ drop (i + 1) forms)) ≡ all = ap (λ fs. parameters_from found (plain_forms fs)) (sym (drop-at forms i form lt is)) ∙ inv in
@@ -93,7 +93,7 @@ parameter-end found forms i all le inv = sym inv ∙ ap (λ fs. parameters_from 
 
 -- ---- heads
 
-pub no_head : (form : PlainSexpr) → is_headed form ≡ false → head_in form ≡ fault_at Form (span_of form)
+pub no_head : (form : PlainSexpr) → is_headed form ≡ false → head_in form ≡ check_fault Form (span_of form)
 unfolding head_in
 no_head (plain_name span name) h = refl
 no_head (plain_int span z) h = refl
@@ -105,7 +105,7 @@ pub headed_head : (form first : PlainSexpr) (behind : PlainForms) → form ≡ p
 unfolding head_in
 headed_head form first behind h = ap head_in h
 
-pub short_head : (span : Span) (behind : List PlainSexpr) → length behind < 2 → head_by span (Some word.Fn) (plain_forms behind) ≡ fault_at Form span
+pub short_head : (span : Span) (behind : List PlainSexpr) → length behind < 2 → head_by span (Some word.Fn) (plain_forms behind) ≡ check_fault Form span
 unfolding head_by
 short_head span [] h = refl
 short_head span (a ∷ []) h = refl
@@ -125,7 +125,7 @@ roomy found forms i form all lt is few inv =
     rw (lt-ltb (length found) 1024 few) at s
 
 pub head-limit : (found : List PlainHead) (forms : List PlainSexpr) (i : ℕ) (form : PlainSexpr) (all : Checked (List PlainHead)) →
-    i < length forms → form ≡ get_or forms i form → 1024 ≤ length found → heads_from found (drop i forms) ≡ all → all ≡ fault_at Limit (span_of form)
+    i < length forms → form ≡ get_or forms i form → 1024 ≤ length found → heads_from found (drop i forms) ≡ all → all ≡ check_fault Limit (span_of form)
 unfolding heads_from
 head-limit found forms i form all lt is many inv =
     let s : heads_from found (form ∷ drop (i + 1) forms) ≡ all = step found forms i form all lt is inv in
@@ -137,14 +137,14 @@ head-fails e found forms i form all lt is few inv h = fails-as e (head_in form) 
 
 pub head-double : (found : List PlainHead) (forms : List PlainSexpr) (i : ℕ) (form : PlainSexpr) (head : PlainHead) (all : Checked (List PlainHead)) →
     i < length forms → form ≡ get_or forms i form → length found < 1024 → heads_from found (drop i forms) ≡ all → head_in form ≡ Ok head →
-    is_among (head_names found) head.name ≡ true → all ≡ Err (record { kind = Double; at = head.at })
+    has_name (head_names found) head.name ≡ true → all ≡ Err (record { kind = Double; at = head.at })
 head-double found forms i form head all lt is few inv h among =
     let s : (head_in form >>= λ head. added found head >>= λ heads. heads_from heads (drop (i + 1) forms)) ≡ all = roomy found forms i form all lt is few inv in
     sym (rw (h, among) at s)
 
 pub head-next : (found : List PlainHead) (forms : List PlainSexpr) (i : ℕ) (form : PlainSexpr) (head : PlainHead) (all : Checked (List PlainHead)) →
     i < length forms → form ≡ get_or forms i form → length found < 1024 → heads_from found (drop i forms) ≡ all → head_in form ≡ Ok head →
-    is_among (head_names found) head.name ≡ false → heads_from (found ++ head ∷ []) (drop (i + 1) forms) ≡ all
+    has_name (head_names found) head.name ≡ false → heads_from (found ++ head ∷ []) (drop (i + 1) forms) ≡ all
 head-next found forms i form head all lt is few inv h among =
     let s : (head_in form >>= λ head. added found head >>= λ heads. heads_from heads (drop (i + 1) forms)) ≡ all = roomy found forms i form all lt is few inv in
     rw (h, among) at s
@@ -155,7 +155,7 @@ unfolding heads_from
 head-end found forms i all le inv = sym inv ∙ ap (heads_from found) (drop_of_length-le forms le)
 
 -- a name more, and a head more
-pub names-push : (heads : List Head) (head : Head) (names : List Name) → names ≡ head_names (plain_heads heads) → is_among names head.name.now ≡ false →
+pub names-push : (heads : List Head) (head : Head) (names : List Name) → names ≡ head_names (plain_heads heads) → has_name names head.name.now ≡ false →
     with_name names head.name.now ≡ head_names (plain_heads (heads ++ head ∷ []))
 names-push heads head names is new =
     ap (λ test. cond test names (names ++ head.name.now ∷ [])) new

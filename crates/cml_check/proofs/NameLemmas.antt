@@ -14,7 +14,7 @@ use Rattle.std.proofs.lemmas.List.Quantifiers.{position-Some}
 use Rattle.std.proofs.lemmas.Slice.Eq.{bytes_eq-Decides}
 use Rattle.indexmap.specs.IndexSet.{insert_key}
 use Rattle.cml_check.specs.Syntax.{Name, name_at}
-use Rattle.cml_check.specs.Names.{is_among, with_name, AreDistinct}
+use Rattle.cml_check.specs.Names.{has_name, with_name, AreDistinct}
 
 -- the names that a set keeps
 abbrev pub kept : List (Bor (List ℕ)) → List Name
@@ -34,7 +34,7 @@ position_or_len-kept name (k ∷ keys) = cc (position_or_len-kept name keys)
 pub position-kept : (name : Name) (keys : List (Bor (List ℕ))) → position (λ k. bytes_eq name k.now) keys ≡ position (bytes_eq name) (kept keys)
 position-kept name keys = rw (length-kept keys, ← position_or_len-kept name keys) refl
 
-pub among-kept : (name : Name) (keys : List (Bor (List ℕ))) → list_any (λ k. bytes_eq name k.now) keys ≡ is_among (kept keys) name
+pub among-kept : (name : Name) (keys : List (Bor (List ℕ))) → list_any (λ k. bytes_eq name k.now) keys ≡ has_name (kept keys) name
 among-kept name [] = refl
 among-kept name (k ∷ keys) = cc (among-kept name keys)
 
@@ -67,35 +67,35 @@ or_second false b h = h
 neither : (a b : Bool) → a ≡ false → b ≡ false → (a || (b || false)) ≡ false
 neither a b p q = rw (p, q) refl
 
-distinct_push : (names : List Name) (name : Name) → is_among names name ≡ false → AreDistinct names → AreDistinct (names ++ name ∷ [])
+distinct_push : (names : List Name) (name : Name) → has_name names name ≡ false → AreDistinct names → AreDistinct (names ++ name ∷ [])
 distinct_push [] name h d = (refl, tt)
 distinct_push (x ∷ xs) name h d =
-    let first : bytes_eq name x ≡ false = or_first (bytes_eq name x) (is_among xs name) h in
-    let rest : is_among xs name ≡ false = or_second (bytes_eq name x) (is_among xs name) h in
-    (list_any-append (bytes_eq x) xs (name ∷ []) ∙ neither (is_among xs x) (bytes_eq x name) d.0 (differs name x first), distinct_push xs name rest d.1)
+    let first : bytes_eq name x ≡ false = or_first (bytes_eq name x) (has_name xs name) h in
+    let rest : has_name xs name ≡ false = or_second (bytes_eq name x) (has_name xs name) h in
+    (list_any-append (bytes_eq x) xs (name ∷ []) ∙ neither (has_name xs x) (bytes_eq x name) d.0 (differs name x first), distinct_push xs name rest d.1)
 
-with_name_if : (names : List Name) (name : Name) (test : Bool) → is_among names name ≡ test → AreDistinct names → AreDistinct (cond test names (names ++ name ∷ []))
+with_name_if : (names : List Name) (name : Name) (test : Bool) → has_name names name ≡ test → AreDistinct names → AreDistinct (cond test names (names ++ name ∷ []))
 with_name_if names name true h d = d
 with_name_if names name false h d = distinct_push names name h d
 
 pub distinct-with_name : (names : List Name) (name : Name) → AreDistinct names → AreDistinct (with_name names name)
-distinct-with_name names name d = with_name_if names name (is_among names name) refl d
+distinct-with_name names name d = with_name_if names name (has_name names name) refl d
 
-among_at : (names : List Name) (name : Name) (i : ℕ) → i < length names → bytes_eq name (name_at names i) ≡ true → is_among names name ≡ true
+among_at : (names : List Name) (name : Name) (i : ℕ) → i < length names → bytes_eq name (name_at names i) ≡ true → has_name names name ≡ true
 among_at names name i lt h = list_any-from_Any (bytes_eq name) names (i, name_at names i, lt, get_or_default names i (name_at names i) [] lt, h)
 
 no_position : (test : Bool) (n : ℕ) → cond test (Some n) None ≡ None → test ≡ false
 no_position true n h = absurd cc
 no_position false n h = refl
 
-past_all : (names : List Name) (name : Name) → length names ≤ position_or_len (bytes_eq name) names → is_among names name ≡ false
+past_all : (names : List Name) (name : Name) → length names ≤ position_or_len (bytes_eq name) names → has_name names name ≡ false
 past_all names name le = list_any_none (bytes_eq name) names (λ i d lt. fails_before_first (bytes_eq name) names i d (omega arith))
 
 -- a name that has a position stands there, and one that has none is not among the names
-pub positioned : (names : List Name) (name : Name) (i : ℕ) → position (bytes_eq name) names ≡ Some i → (i < length names) × (name_at names i ≡ name) × (is_among names name ≡ true)
+pub positioned : (names : List Name) (name : Name) (i : ℕ) → position (bytes_eq name) names ≡ Some i → (i < length names) × (name_at names i ≡ name) × (has_name names name ≡ true)
 positioned names name i h =
     let found = position-Some (bytes_eq name) names i [] h in
     (found.0, sym ((bytes_eq-Decides name (name_at names i)).0 found.1), among_at names name i found.0 found.1)
 
-pub unpositioned : (names : List Name) (name : Name) → position (bytes_eq name) names ≡ None → is_among names name ≡ false
+pub unpositioned : (names : List Name) (name : Name) → position (bytes_eq name) names ≡ None → has_name names name ≡ false
 unpositioned names name h = past_all names name (ltb-false _ _ (no_position (ltb (position_or_len (bytes_eq name) names) (length names)) (position_or_len (bytes_eq name) names) h))

@@ -9,13 +9,13 @@ use Rattle.cml_check.specs.declared.fault.CheckKind.TheVariants.{Limit}
 use Rattle.cml_check.specs.declared.statement.Scope.{Scope}
 use Rattle.cml_check.specs.declared.word.Word.{Word}
 use Rattle.cml_check.specs.declared.word.Word.TheVariants as word
-use Rattle.cml_check.specs.Syntax.{Name, PlainExpr, PlainStmt, let_be, set_to, just_do, if_so, while_so, return_with, PlainStmts, no_stmts, stmts_and, PlainFunction, stmt_map, stmts_map, written}
-use Rattle.cml_check.specs.Checked.{Checked, ◌>>=◌, fault_at}
+use Rattle.cml_check.specs.Syntax.{Name, PlainExpr, PlainStmt, let_be, set_to, just_do, if_so, while_so, return_with, PlainStmts, no_stmts, stmts_and, PlainItem, stmt_map, stmts_map, written}
+use Rattle.cml_check.specs.Checked.{Checked, ◌>>=◌, check_fault}
 use Rattle.cml_check.specs.Words.{word_from}
 use Rattle.cml_check.specs.Names.{variable_in, free_name}
 use Rattle.cml_check.specs.Heads.{PlainHead}
 use Rattle.cml_check.specs.Expressions.{expr_in}
-use Rattle.cml_check.specs.Statements.{effect_in, source_in, counted, stmt_in, stmt_by, block_in, behind_do, stmts_in}
+use Rattle.cml_check.specs.Statements.{effect_in, source_in, statement_counted, stmt_in, stmt_by, block_in, behind_do, stmts_in}
 use Rattle.cml_check.specs.Shape.{function_by}
 use Rattle.cml_check.specs.Sizes.{stmt_count, stmts_count, statements_of}
 
@@ -53,11 +53,11 @@ Within scope (Ok at) = (at.statements ≡ scope.statements + 1) × (at.statement
 Within scope (Err e) = Unit {0}
 
 counted_by : (scope : Scope) (span : Span) (test : Bool) → nat_lt scope.statements 4096 ≡ test →
-    Within scope (if test then Ok (record scope { statements = scope.statements + 1 }) else fault_at Limit span)
+    Within scope (if test then Ok (record scope { statements = scope.statements + 1 }) else check_fault Limit span)
 counted_by scope span true is = let lt : scope.statements < 4096 = ltb-true scope.statements 4096 is in (refl, omega (arith, lt))
 counted_by scope span false is = tt
 
-counted_within : (scope : Scope) (span : Span) → Within scope (counted scope span)
+counted_within : (scope : Scope) (span : Span) → Within scope (statement_counted scope span)
 counted_within scope span = counted_by scope span (nat_lt scope.statements 4096) refl
 
 behind_last : (n : ℕ) (s : PlainStmt Name × Scope) (rest : Checked (PlainStmts Name × Scope)) → s.1.statements ≡ n + stmt_count s.0 → s.1.statements ≤ 4096 → Counts s.1.statements rest →
@@ -166,7 +166,7 @@ mutual
   stmts_counts : (heads : List PlainHead) (scope : Scope) (forms : PlainForms) → Counts scope.statements (stmts_in heads scope forms)
   stmts_counts heads scope no_forms = (omega arith, λ le. le)
   stmts_counts heads scope (forms_and form forms) =
-      behind_count scope (counted scope (span_of form)) (λ s. stmt_in heads s form) (λ s. stmts_in heads s forms) (counted_within scope (span_of form))
+      behind_count scope (statement_counted scope (span_of form)) (λ s. stmt_in heads s form) (λ s. stmts_in heads s forms) (counted_within scope (span_of form))
       (λ s. stmt_counts heads s form) (λ s. stmts_counts heads s forms)
 
 -- names do not count
@@ -183,7 +183,7 @@ mutual
   stmts_same f no_stmts = refl
   stmts_same f (stmts_and s ss) = rw (stmt_same f s, stmts_same f ss) refl
 
-abbrev CountsFunction : ℕ → Checked (PlainFunction Name × ℕ) → Type 0
+abbrev CountsFunction : ℕ → Checked (PlainItem Name × ℕ) → Type 0
 CountsFunction n (Ok f) = (f.1 ≡ n + stmts_count f.0.body) × (n ≤ 4096 → f.1 ≤ 4096)
 CountsFunction n (Err e) = Unit {0}
 
@@ -197,11 +197,11 @@ unfolding function_by
 function_counts heads n head = body_counts n head _ (stmts_counts heads (record { names = head.parameters; statements = n }) head.body)
 
 -- the statements so far, when a function was read
-pub count-next : (heads : List PlainHead) (head : PlainHead) (count new : ℕ) (fs : List (PlainFunction ℕ)) (f : PlainFunction ℕ) → function_by heads count head ≡ Ok (written f, new) →
+pub count-next : (heads : List PlainHead) (head : PlainHead) (count new : ℕ) (fs : List (PlainItem ℕ)) (f : PlainItem ℕ) → function_by heads count head ≡ Ok (written f, new) →
     count ≡ statements_of fs → count ≤ 4096 → (new ≡ statements_of (fs ++ f ∷ [])) × (new ≤ 4096)
 count-next heads head count new fs f is so le =
     let h : CountsFunction count (Ok (written f, new)) = subst (CountsFunction count) is (function_counts heads count head) in
     let same = stmts_same _ f.body in (
-      h.0 ∙ ap (λ n. count + n) same ∙ ap (λ n. n + stmts_count f.body) so ∙ sym (sum_by_push (λ (f : PlainFunction ℕ). stmts_count f.body) fs f),
+      h.0 ∙ ap (λ n. count + n) same ∙ ap (λ n. n + stmts_count f.body) so ∙ sym (sum_by_push (λ (f : PlainItem ℕ). stmts_count f.body) fs f),
       h.1 le,
     )

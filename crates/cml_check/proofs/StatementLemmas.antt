@@ -9,34 +9,34 @@ use Rattle.cml_check.specs.declared.syntax.ActOnOne.{ActOnOne}
 use Rattle.cml_check.specs.declared.syntax.ActOnTwo.{ActOnTwo}
 use Rattle.cml_check.specs.declared.word.Word.TheVariants as word
 use Rattle.cml_check.specs.Syntax.{Name}
-use Rattle.cml_check.specs.Checked.{fault_at}
+use Rattle.cml_check.specs.Checked.{check_fault}
 use Rattle.cml_check.specs.Words.{word_from}
 use Rattle.cml_check.specs.Parts.{is_headed}
 use Rattle.cml_check.specs.Heads.{PlainHead}
 use Rattle.cml_check.specs.Statements.{effect_in, source_by, source_in, form_source}
 
 pub no_act : (heads : List PlainHead) (names : List Name) (span : Span) (a : Act) (behind : List PlainSexpr) → 1 ≤ length behind →
-    effect_in heads names span (Some (word.Act a)) (plain_forms behind) ≡ fault_at Form span
+    effect_in heads names span (Some (word.Act a)) (plain_forms behind) ≡ check_fault Form span
 unfolding effect_in
 no_act heads names span a [] h = absurd (omega arith)
 no_act heads names span a (p ∷ behind) h = refl
 
 pub no_mvar : (heads : List PlainHead) (names : List Name) (span : Span) (behind : List PlainSexpr) → length behind ≢ 0 → length behind ≢ 1 →
-    effect_in heads names span (Some word.MVar) (plain_forms behind) ≡ fault_at Form span
+    effect_in heads names span (Some word.MVar) (plain_forms behind) ≡ check_fault Form span
 unfolding effect_in
 no_mvar heads names span [] h g = absurd (h refl)
 no_mvar heads names span (p ∷ []) h g = absurd (g refl)
 no_mvar heads names span (p ∷ q ∷ behind) h g = refl
 
 pub no_act_on_one : (heads : List PlainHead) (names : List Name) (span : Span) (a : ActOnOne) (behind : List PlainSexpr) → length behind ≢ 1 →
-    effect_in heads names span (Some (word.ActOnOne a)) (plain_forms behind) ≡ fault_at Form span
+    effect_in heads names span (Some (word.ActOnOne a)) (plain_forms behind) ≡ check_fault Form span
 unfolding effect_in
 no_act_on_one heads names span a [] h = refl
 no_act_on_one heads names span a (p ∷ []) h = absurd (h refl)
 no_act_on_one heads names span a (p ∷ q ∷ behind) h = refl
 
 pub no_act_on_two : (heads : List PlainHead) (names : List Name) (span : Span) (a : ActOnTwo) (behind : List PlainSexpr) → length behind ≢ 2 →
-    effect_in heads names span (Some (word.ActOnTwo a)) (plain_forms behind) ≡ fault_at Form span
+    effect_in heads names span (Some (word.ActOnTwo a)) (plain_forms behind) ≡ check_fault Form span
 unfolding effect_in
 no_act_on_two heads names span a [] h = refl
 no_act_on_two heads names span a (p ∷ []) h = refl

@@ -12,7 +12,7 @@ use Rattle.cml_check.specs.Names.{with_name, free_name}
 use Rattle.cml_check.specs.Expressions.{expr_in}
 use Rattle.cml_check.specs.InOrder.{expr_fits, source_fits, stmts_fit}
 use Rattle.cml_check.proofs.GrowthLemmas.{grows-with_name, grows-on, expr-grown, source-grown, stmts-grown}
-use Rattle.cml_check.specs.Checked.{fault_at}
+use Rattle.cml_check.specs.Checked.{check_fault}
 use Rattle.cml_check.specs.Words.{word_from}
 use Rattle.cml_check.specs.Parts.{is_headed}
 use Rattle.cml_check.specs.Heads.{PlainHead}
@@ -24,7 +24,7 @@ pub headed_stmt : (heads : List PlainHead) (scope : Scope) (form first : PlainSe
 unfolding stmt_in
 headed_stmt heads scope form first behind h = ap (stmt_in heads scope) h
 
-pub no_stmt : (heads : List PlainHead) (scope : Scope) (form : PlainSexpr) → is_headed form ≡ false → stmt_in heads scope form ≡ fault_at Form (span_of form)
+pub no_stmt : (heads : List PlainHead) (scope : Scope) (form : PlainSexpr) → is_headed form ≡ false → stmt_in heads scope form ≡ check_fault Form (span_of form)
 unfolding stmt_in
 no_stmt heads scope (plain_name span name) h = refl
 no_stmt heads scope (plain_int span z) h = refl
@@ -37,7 +37,7 @@ pub headed_block : (heads : List PlainHead) (scope : Scope) (form first : PlainS
 unfolding block_in
 headed_block heads scope form first behind h = ap (block_in heads scope) h
 
-pub no_block : (heads : List PlainHead) (scope : Scope) (form : PlainSexpr) → is_headed form ≡ false → block_in heads scope form ≡ fault_at Form (span_of form)
+pub no_block : (heads : List PlainHead) (scope : Scope) (form : PlainSexpr) → is_headed form ≡ false → block_in heads scope form ≡ check_fault Form (span_of form)
 unfolding block_in
 no_block heads scope (plain_name span name) h = refl
 no_block heads scope (plain_int span z) h = refl
@@ -78,21 +78,21 @@ list_return heads scope span no_forms = refl
 list_return heads scope span (forms_and x no_forms) = refl
 list_return heads scope span (forms_and x (forms_and r forms)) = refl
 
-pub no_let : (heads : List PlainHead) (scope : Scope) (span : Span) (behind : List PlainSexpr) → length behind ≢ 2 → let_in heads scope span (plain_forms behind) ≡ fault_at Form span
+pub no_let : (heads : List PlainHead) (scope : Scope) (span : Span) (behind : List PlainSexpr) → length behind ≢ 2 → let_in heads scope span (plain_forms behind) ≡ check_fault Form span
 unfolding let_in
 no_let heads scope span [] h = refl
 no_let heads scope span (p ∷ []) h = refl
 no_let heads scope span (p ∷ q ∷ []) h = absurd (h refl)
 no_let heads scope span (p ∷ q ∷ r ∷ behind) h = refl
 
-pub no_set : (heads : List PlainHead) (scope : Scope) (span : Span) (behind : List PlainSexpr) → length behind ≢ 2 → set_in heads scope span (plain_forms behind) ≡ fault_at Form span
+pub no_set : (heads : List PlainHead) (scope : Scope) (span : Span) (behind : List PlainSexpr) → length behind ≢ 2 → set_in heads scope span (plain_forms behind) ≡ check_fault Form span
 unfolding set_in
 no_set heads scope span [] h = refl
 no_set heads scope span (p ∷ []) h = refl
 no_set heads scope span (p ∷ q ∷ []) h = absurd (h refl)
 no_set heads scope span (p ∷ q ∷ r ∷ behind) h = refl
 
-pub no_if : (heads : List PlainHead) (scope : Scope) (span : Span) (behind : List PlainSexpr) → length behind ≢ 3 → if_in heads scope span (plain_forms behind) ≡ fault_at Form span
+pub no_if : (heads : List PlainHead) (scope : Scope) (span : Span) (behind : List PlainSexpr) → length behind ≢ 3 → if_in heads scope span (plain_forms behind) ≡ check_fault Form span
 unfolding if_in
 no_if heads scope span [] h = refl
 no_if heads scope span (p ∷ []) h = refl
@@ -100,7 +100,7 @@ no_if heads scope span (p ∷ q ∷ []) h = refl
 no_if heads scope span (p ∷ q ∷ r ∷ []) h = absurd (h refl)
 no_if heads scope span (p ∷ q ∷ r ∷ s ∷ behind) h = refl
 
-pub no_return : (heads : List PlainHead) (scope : Scope) (span : Span) (behind : List PlainSexpr) → length behind ≢ 1 → return_in heads scope span (plain_forms behind) ≡ fault_at Form span
+pub no_return : (heads : List PlainHead) (scope : Scope) (span : Span) (behind : List PlainSexpr) → length behind ≢ 1 → return_in heads scope span (plain_forms behind) ≡ check_fault Form span
 unfolding return_in
 no_return heads scope span [] h = refl
 no_return heads scope span (p ∷ []) h = absurd (h refl)

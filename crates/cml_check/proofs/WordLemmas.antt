@@ -1,4 +1,4 @@
--- What the spellings of words name.
+-- What the spellings of keywords name.
 use Rattle.std.proofs.Common.{refl}
 use Rattle.cml_check.specs.declared.word.Word.TheVariants as word
 use Rattle.cml_check.specs.declared.syntax.Constant.TheVariants as constant_of

@@ -16,15 +16,15 @@ abbrev pub ◌>>=◌ : {A B : Type 0} → Checked A → (A → Checked B) → Ch
 (Err e) >>= f = Err e
 
 -- the fault of this kind where a form of this span starts
-abbrev pub fault_at : {A : Type 0} → CheckKind → Span → Checked A
-fault_at kind span = Err (record { kind = kind; at = span.start })
+abbrev pub check_fault : {A : Type 0} → CheckKind → Span → Checked A
+check_fault kind span = Err (record { kind = kind; at = span.start })
 
 -- what a call failed with is what checking finds, unless memory ran out
 abbrev pub Fails : {Y : Type 0} → CheckFault → Checked Y → Type 0
 Fails fault.Memory found = Unit {0}
 Fails (fault.At kind at) found = found ≡ Err (record { kind = kind; at = at })
 
--- what a call answered, seen so, is what checking finds, unless memory ran out
-abbrev pub Gives : {X Y : Type 0} → (X → Y) → Result X CheckFault → Checked Y → Type 0
-Gives view (Ok x) found = found ≡ Ok (view x)
-Gives view (Err e) found = Fails e found
+-- what a call returned, under this view, is what checking finds, unless memory ran out
+abbrev pub Finds : {X Y : Type 0} → (X → Y) → Result X CheckFault → Checked Y → Type 0
+Finds view (Ok x) found = found ≡ Ok (view x)
+Finds view (Err e) found = Fails e found

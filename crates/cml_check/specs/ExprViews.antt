@@ -1,4 +1,4 @@
--- What each expression of `src/` is seen as, from its fields. The expressions inside are seen already.
+-- The view of each expression of `src/`, made from its fields. The expressions inside are given by their own views.
 use Rattle.std.specs.Prelude.{ℕ}
 use Rattle.std.specs.Arc.{arc_str_bytes}
 use Rattle.cml_check.specs.Syntax.{PlainExpr, constant, number, text, variable, unary, binary, choose, wrap, guard, with_nack}

@@ -6,7 +6,7 @@ use Rattle.cml_check.specs.declared.fault.CheckKind.TheVariants.{Form}
 use Rattle.cml_check.specs.declared.syntax.Unary.{Unary}
 use Rattle.cml_check.specs.declared.syntax.Binary.{Binary}
 use Rattle.cml_check.specs.Syntax.{Name, PlainExpr, choose, unary, binary, wrap, guard, with_nack}
-use Rattle.cml_check.specs.Checked.{Checked, ◌>>=◌, fault_at}
+use Rattle.cml_check.specs.Checked.{Checked, ◌>>=◌, check_fault}
 use Rattle.cml_check.specs.Heads.{PlainHead, function_in}
 use Rattle.cml_check.specs.Expressions.{count, expr_in, exprs_in, called_in}
 
@@ -14,14 +14,14 @@ unfoldable pub unary_in : List PlainHead → List Name → Span → Unary → Pl
 unary_in heads names span op (forms_and p no_forms) = do
   e ← expr_in heads names p
   Ok (unary op e)
-unary_in heads names span op forms = fault_at Form span
+unary_in heads names span op forms = check_fault Form span
 
 unfoldable pub binary_in : List PlainHead → List Name → Span → Binary → PlainForms → Checked (PlainExpr Name)
 binary_in heads names span op (forms_and p (forms_and q no_forms)) = do
   d ← expr_in heads names p
   e ← expr_in heads names q
   Ok (binary op d e)
-binary_in heads names span op forms = fault_at Form span
+binary_in heads names span op forms = check_fault Form span
 
 unfoldable pub wrap_in : List PlainHead → List Name → Span → PlainForms → Checked (PlainExpr Name)
 wrap_in heads names span (forms_and p (forms_and f forms)) = do
@@ -29,7 +29,7 @@ wrap_in heads names span (forms_and p (forms_and f forms)) = do
   n ← function_in heads (count forms + 1) f
   es ← exprs_in heads names forms
   Ok (wrap e n es)
-wrap_in heads names span forms = fault_at Form span
+wrap_in heads names span forms = check_fault Form span
 
 unfoldable pub choose_in : List PlainHead → List Name → PlainForms → Checked (PlainExpr Name)
 choose_in heads names forms = do

@@ -6,9 +6,9 @@ use Rattle.cml_check.specs.declared.fault.CheckKind.TheVariants.{Form, Unbound}
 use Rattle.cml_check.specs.declared.word.Word.{Word}
 use Rattle.cml_check.specs.declared.word.Word.TheVariants as word
 use Rattle.cml_check.specs.Syntax.{Name, PlainExpr, constant, number, text, variable, unary, binary, choose, wrap, guard, with_nack, PlainExprs, no_exprs, exprs_and}
-use Rattle.cml_check.specs.Checked.{Checked, ◌>>=◌, fault_at}
+use Rattle.cml_check.specs.Checked.{Checked, ◌>>=◌, check_fault}
 use Rattle.cml_check.specs.Words.{word_of, word_from}
-use Rattle.cml_check.specs.Names.{is_among}
+use Rattle.cml_check.specs.Names.{has_name}
 use Rattle.cml_check.specs.Heads.{PlainHead, function_in}
 
 -- how many forms these are
@@ -19,8 +19,8 @@ count (forms_and form forms) = count forms + 1
 -- a name: one of the four constants, or a variable
 abbrev pub name_in : List Name → Span → Name → Option Word → Checked (PlainExpr Name)
 name_in names span name (Some (word.Constant c)) = Ok (constant c)
-name_in names span name (Some word) = fault_at Form span
-name_in names span name None = if is_among names name then Ok (variable name) else fault_at Unbound span
+name_in names span name (Some word) = check_fault Form span
+name_in names span name None = if has_name names name then Ok (variable name) else check_fault Unbound span
 
 unfoldable mutual
   -- the expression that a form is, among these functions and where these names are declared
@@ -28,10 +28,10 @@ unfoldable mutual
   expr_in heads names (plain_int span z) = Ok (number z)
   expr_in heads names (plain_text span bytes) = Ok (text bytes)
   expr_in heads names (plain_name span name) = name_in names span name (word_of name)
-  expr_in heads names (plain_list span no_forms) = fault_at Form span
+  expr_in heads names (plain_list span no_forms) = check_fault Form span
   expr_in heads names (plain_list span (forms_and first behind)) = list_in heads names span (word_from first) behind
 
-  -- the expression of a list, by the word at its head and the forms behind it
+  -- the expression of a list, by the keyword at its head and the forms after it
   pub list_in : List PlainHead → List Name → Span → Option Word → PlainForms → Checked (PlainExpr Name)
   list_in heads names span (Some (word.Unary op)) (forms_and p no_forms) = do
     e ← expr_in heads names p
@@ -58,7 +58,7 @@ unfoldable mutual
     n ← function_in heads (count forms + 1) f
     es ← exprs_in heads names forms
     Ok (with_nack n es)
-  list_in heads names span first forms = fault_at Form span
+  list_in heads names span first forms = check_fault Form span
 
   -- the expressions that these forms are
   pub exprs_in : List PlainHead → List Name → PlainForms → Checked (PlainExprs Name)
@@ -70,7 +70,7 @@ unfoldable mutual
 
 -- a function by its name and what it is given: these values, and that many more, which it gets later
 unfoldable pub called_in : List PlainHead → List Name → Span → ℕ → PlainForms → Checked (ℕ × PlainExprs Name)
-called_in heads names span more no_forms = fault_at Form span
+called_in heads names span more no_forms = check_fault Form span
 called_in heads names span more (forms_and f forms) = do
   n ← function_in heads (count forms + more) f
   es ← exprs_in heads names forms

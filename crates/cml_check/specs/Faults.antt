@@ -1,4 +1,4 @@
--- What can be wrong with a script, and how fault lines call it.
+-- What can be wrong with a script, and how fault lines name it.
 use Rattle.std.specs.Prelude.{ℕ, List, ◌++◌, codes}
 use Rattle.std.specs.Fmt.{decimal}
 use Rattle.cml_check.specs.declared.fault.CheckKind.{CheckKind}
@@ -11,25 +11,25 @@ pub record PlainCheckFault : Type 0 where
   pub kind : CheckKind
   pub at : ℕ
 
-abbrev pub kind_number : CheckKind → ℕ
-kind_number Form = 1
-kind_number Double = 2
-kind_number Function = 3
-kind_number Unbound = 4
-kind_number Arity = 5
-kind_number Main = 6
-kind_number Limit = 7
+abbrev pub check_kind_number : CheckKind → ℕ
+check_kind_number Form = 1
+check_kind_number Double = 2
+check_kind_number Function = 3
+check_kind_number Unbound = 4
+check_kind_number Arity = 5
+check_kind_number Main = 6
+check_kind_number Limit = 7
 
-abbrev pub kind_name : CheckKind → List ℕ
-kind_name Form = codes "form"
-kind_name Double = codes "double"
-kind_name Function = codes "function"
-kind_name Unbound = codes "unbound"
-kind_name Arity = codes "arity"
-kind_name Main = codes "main"
-kind_name Limit = codes "limit"
+abbrev pub check_kind_name : CheckKind → List ℕ
+check_kind_name Form = codes "form"
+check_kind_name Double = codes "double"
+check_kind_name Function = codes "function"
+check_kind_name Unbound = codes "unbound"
+check_kind_name Arity = codes "arity"
+check_kind_name Main = codes "main"
+check_kind_name Limit = codes "limit"
 
 -- the line that reports a fault: its kind's number and name, and its place
-abbrev pub fault_line : CheckFault → List ℕ
-fault_line (At kind at) = codes "check " ++ (decimal (kind_number kind) ++ (codes " " ++ (kind_name kind ++ (codes " at " ++ decimal at))))
-fault_line Memory = codes "out of memory"
+abbrev pub check_fault_line : CheckFault → List ℕ
+check_fault_line (At kind at) = codes "check " ++ (decimal (check_kind_number kind) ++ (codes " " ++ (check_kind_name kind ++ (codes " at " ++ decimal at))))
+check_fault_line Memory = codes "out of memory"

@@ -1,4 +1,4 @@
--- What a head of `src/` is seen as, and what the heads of a script keep.
+-- The view of a head of `src/`, and what the heads of a script keep.
 use Rattle.std.specs.Prelude.{◌≡◌, ℕ, ◌≤◌, List, length, map, refl}
 use Rattle.std.specs.Coded.{Coded, code_by, coded×, coded_ℕ, coded_list}
 use Rattle.cml_text.specs.Forms.{PlainForms, plain_forms}

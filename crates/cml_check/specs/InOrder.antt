@@ -1,8 +1,8 @@
--- What makes a program in order: each slot is one of its function's, each function is there, and each gets as many values as it takes.
+-- When a program is in order: each slot is one of its function's, each function is there, and each gets as many values as it takes.
 use Rattle.std.specs.Prelude.{◌≡◌, ℕ, ◌+◌, ◌≤◌, List, length, map, All, Bool, true, ◌&&◌, nat_lt, codes, Some}
 use Rattle.cml_check.specs.Syntax.{PlainExpr, constant, number, text, variable, unary, binary, choose, wrap, guard, with_nack, PlainExprs, no_exprs, exprs_and}
 use Rattle.cml_check.specs.Syntax.{PlainEffect, act, act_on_one, act_on_two, call, spawn, PlainSource, value, effect}
-use Rattle.cml_check.specs.Syntax.{Name, PlainStmt, let_be, set_to, just_do, if_so, while_so, return_with, PlainStmts, no_stmts, stmts_and, PlainFunction}
+use Rattle.cml_check.specs.Syntax.{Name, PlainStmt, let_be, set_to, just_do, if_so, while_so, return_with, PlainStmts, no_stmts, stmts_and, PlainItem}
 use Rattle.cml_check.specs.Names.{AreDistinct}
 use Rattle.cml_check.specs.Heads.{takes, numbered}
 use Rattle.cml_check.specs.Sizes.{statements_of, size_of, IsWithinSize}
@@ -11,8 +11,8 @@ abbrev pub exprs_count : {V : Type 0} → PlainExprs V → ℕ
 exprs_count no_exprs = 0
 exprs_count (exprs_and e es) = exprs_count es + 1
 
--- Among functions of these arities, in a function of that many slots. A wrap and a guard with a nack hand their function one value
--- more than it has captured.
+-- Among functions of these arities, in a function of that many slots. A wrap and a withNack hand their function one value more than it
+-- has captured.
 abbrev mutual
   pub expr_fits : List ℕ → ℕ → PlainExpr ℕ → Bool
   expr_fits arities slots (constant c) = true
@@ -54,25 +54,25 @@ abbrev mutual
   stmts_fit arities slots no_stmts = true
   stmts_fit arities slots (stmts_and s ss) = stmt_fits arities slots s && stmts_fit arities slots ss
 
-abbrev pub arities : List (PlainFunction ℕ) → List ℕ
+abbrev pub arities : List (PlainItem ℕ) → List ℕ
 arities functions = map (λ f. f.arity) functions
 
 -- a function is in order among functions of these arities
-pub record FunctionFits (arities : List ℕ) (f : PlainFunction ℕ) : Type 0 where
+pub record FunctionFits (arities : List ℕ) (f : PlainItem ℕ) : Type 0 where
   pub distinct : AreDistinct f.names
   pub room : f.arity ≤ length f.names
   pub fits : stmts_fit arities (length f.names) f.body ≡ true
 
 -- each of the functions is in order among all of them
-abbrev pub InOrder : List (PlainFunction ℕ) → Type 0
+abbrev pub InOrder : List (PlainItem ℕ) → Type 0
 InOrder functions = All (FunctionFits (arities functions)) functions
 
-abbrev pub names_of : List (PlainFunction ℕ) → List Name
+abbrev pub names_of : List (PlainItem ℕ) → List Name
 names_of functions = map (λ f. f.name) functions
 
 -- a program of that many statements: each function is in order, the one of this number is `main`, which takes no value, and neither
 -- limit is passed
-pub record IsProgram (main statements : ℕ) (functions : List (PlainFunction ℕ)) : Type 0 where
+pub record IsProgram (main statements : ℕ) (functions : List (PlainItem ℕ)) : Type 0 where
   pub order : InOrder functions
   pub found : numbered (names_of functions) (codes "main") ≡ Some main
   pub takes : takes (arities functions) main 0 ≡ true

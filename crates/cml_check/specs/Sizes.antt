@@ -1,11 +1,11 @@
 -- How large a program is: how many functions it has, and how many statements.
 use Rattle.std.specs.Prelude.{ℕ, ◌+◌, ◌≤◌, List, length, sum_by}
 use Rattle.cml_check.specs.declared.size.Size.{Size}
-use Rattle.cml_check.specs.Syntax.{PlainStmt, let_be, set_to, just_do, if_so, while_so, return_with, PlainStmts, no_stmts, stmts_and, PlainFunction}
+use Rattle.cml_check.specs.Syntax.{PlainStmt, let_be, set_to, just_do, if_so, while_so, return_with, PlainStmts, no_stmts, stmts_and, PlainItem}
 use Rattle.cml_check.specs.Heads.{function_limit}
 use Rattle.cml_check.specs.Statements.{statement_limit}
 
--- A statement is one, and those of its branches are counted with it. The word `do` of a branch is no statement.
+-- A statement is one, and those of its branches are counted with it. The keyword `do` of a branch is no statement.
 abbrev mutual
   pub stmt_count : {V : Type 0} → PlainStmt V → ℕ
   stmt_count (let_be v r) = 1
@@ -20,10 +20,10 @@ abbrev mutual
   stmts_count (stmts_and s ss) = stmt_count s + stmts_count ss
 
 -- the statements of all these functions
-abbrev pub statements_of : {V : Type 0} → List (PlainFunction V) → ℕ
+abbrev pub statements_of : {V : Type 0} → List (PlainItem V) → ℕ
 statements_of functions = sum_by (λ f. stmts_count f.body) functions
 
-abbrev pub size_of : List (PlainFunction ℕ) → Size
+abbrev pub size_of : List (PlainItem ℕ) → Size
 size_of functions = record { functions = length functions; statements = statements_of functions }
 
 -- the size is one that a program may have: there is `main`, and neither limit is passed

@@ -6,13 +6,13 @@ use Rattle.cml_check.specs.declared.fault.CheckKind.TheVariants.{Form}
 use Rattle.cml_check.specs.declared.statement.Scope.{Scope}
 use Rattle.cml_check.specs.declared.word.Word.{Word}
 use Rattle.cml_check.specs.Syntax.{Name, PlainStmt, let_be, set_to, just_do, if_so, while_so, return_with}
-use Rattle.cml_check.specs.Checked.{Checked, ◌>>=◌, fault_at}
+use Rattle.cml_check.specs.Checked.{Checked, ◌>>=◌, check_fault}
 use Rattle.cml_check.specs.Names.{with_name, free_name, variable_in}
 use Rattle.cml_check.specs.Heads.{PlainHead}
 use Rattle.cml_check.specs.Expressions.{expr_in}
 use Rattle.cml_check.specs.Statements.{effect_in, source_in, block_in, stmts_in}
 
--- names were declared behind those there
+-- names were declared after the old ones
 abbrev pub Grows : List Name → List Name → Type 0
 Grows old new = (more : List Name) × (new ≡ old ++ more)
 
@@ -24,14 +24,14 @@ let_of heads scope x r = do
 
 unfoldable pub let_in : List PlainHead → Scope → Span → PlainForms → Checked (PlainStmt Name × Scope)
 let_in heads scope span (forms_and x (forms_and r no_forms)) = let_of heads scope x r
-let_in heads scope span forms = fault_at Form span
+let_in heads scope span forms = check_fault Form span
 
 unfoldable pub set_in : List PlainHead → Scope → Span → PlainForms → Checked (PlainStmt Name × Scope)
 set_in heads scope span (forms_and x (forms_and p no_forms)) = do
   name ← variable_in scope.names x
   e ← expr_in heads scope.names p
   Ok (set_to name e, scope)
-set_in heads scope span forms = fault_at Form span
+set_in heads scope span forms = check_fault Form span
 
 unfoldable pub if_of : List PlainHead → Scope → PlainSexpr → PlainSexpr → PlainSexpr → Checked (PlainStmt Name × Scope)
 if_of heads scope p x y = do
@@ -42,7 +42,7 @@ if_of heads scope p x y = do
 
 unfoldable pub if_in : List PlainHead → Scope → Span → PlainForms → Checked (PlainStmt Name × Scope)
 if_in heads scope span (forms_and p (forms_and x (forms_and y no_forms))) = if_of heads scope p x y
-if_in heads scope span forms = fault_at Form span
+if_in heads scope span forms = check_fault Form span
 
 unfoldable pub while_of : List PlainHead → Scope → PlainSexpr → PlainForms → Checked (PlainStmt Name × Scope)
 while_of heads scope p forms = do
@@ -52,13 +52,13 @@ while_of heads scope p forms = do
 
 unfoldable pub while_in : List PlainHead → Scope → Span → PlainForms → Checked (PlainStmt Name × Scope)
 while_in heads scope span (forms_and p forms) = while_of heads scope p forms
-while_in heads scope span forms = fault_at Form span
+while_in heads scope span forms = check_fault Form span
 
 unfoldable pub return_in : List PlainHead → Scope → Span → PlainForms → Checked (PlainStmt Name × Scope)
 return_in heads scope span (forms_and p no_forms) = do
   e ← expr_in heads scope.names p
   Ok (return_with e, scope)
-return_in heads scope span forms = fault_at Form span
+return_in heads scope span forms = check_fault Form span
 
 unfoldable pub do_in : List PlainHead → Scope → Span → Option Word → PlainForms → Checked (PlainStmt Name × Scope)
 do_in heads scope span first forms = do

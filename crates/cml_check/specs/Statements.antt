@@ -10,20 +10,20 @@ use Rattle.cml_check.specs.declared.word.Word.{Word}
 use Rattle.cml_check.specs.declared.word.Word.TheVariants as word
 use Rattle.cml_check.specs.Syntax.{Name, PlainEffect, act, act_on_one, act_on_two, call, spawn, PlainSource, value, effect}
 use Rattle.cml_check.specs.Syntax.{PlainStmt, let_be, set_to, just_do, if_so, while_so, return_with, PlainStmts, no_stmts, stmts_and}
-use Rattle.cml_check.specs.Checked.{Checked, ◌>>=◌, fault_at}
+use Rattle.cml_check.specs.Checked.{Checked, ◌>>=◌, check_fault}
 use Rattle.cml_check.specs.Words.{word_from}
 use Rattle.cml_check.specs.Names.{with_name, free_name, variable_in}
 use Rattle.cml_check.specs.Heads.{PlainHead}
 use Rattle.cml_check.specs.Expressions.{expr_in, list_in, called_in}
 
--- Where a walk through the statements has come is a scope: the names that the function has declared so far, and how many statements
--- the script had.
+-- How far a walk through the statements has come is a scope: the names that the function has declared so far, and how many statements
+-- the script had so far.
 
 -- the most statements of a script
 abbrev pub statement_limit : ℕ
 statement_limit = 4096
 
--- the effect of a list, by the word at its head and the forms behind it
+-- the effect of a list, by the keyword at its head and the forms after it
 unfoldable pub effect_in : List PlainHead → List Name → Span → Option Word → PlainForms → Checked (PlainEffect Name)
 effect_in heads names span (Some (word.Act a)) no_forms = Ok (act a)
 effect_in heads names span (Some word.MVar) no_forms = Ok (act act_of.MVar)
@@ -43,9 +43,9 @@ effect_in heads names span (Some word.Call) forms = do
 effect_in heads names span (Some word.Spawn) forms = do
   c ← called_in heads names span 0 forms
   Ok (spawn c.0 c.1)
-effect_in heads names span first forms = fault_at Form span
+effect_in heads names span first forms = check_fault Form span
 
--- the word begins an effect
+-- the keyword begins an effect
 abbrev pub is_effect : Option Word → Bool
 is_effect (Some (word.Act a)) = true
 is_effect (Some (word.ActOnOne a)) = true
@@ -55,7 +55,7 @@ is_effect (Some word.Call) = true
 is_effect (Some word.Spawn) = true
 is_effect _ = false
 
--- what a `let` gives its variable: an effect by its word, else an expression
+-- what a `let` gives its variable: an effect by its keyword, else an expression
 abbrev pub effect_source : List PlainHead → List Name → Span → Option Word → PlainForms → Checked (PlainSource Name)
 effect_source heads names span first forms = do
   e ← effect_in heads names span first forms
@@ -80,19 +80,19 @@ source_in heads names (plain_list span (forms_and first behind)) = source_by hea
 source_in heads names form = form_source heads names form
 
 -- one statement more, unless the script has as many as it may
-abbrev pub counted : Scope → Span → Checked Scope
-counted scope span = if nat_lt scope.statements statement_limit then Ok (record scope { statements = scope.statements + 1 }) else fault_at Limit span
+abbrev pub statement_counted : Scope → Span → Checked Scope
+statement_counted scope span = if nat_lt scope.statements statement_limit then Ok (record scope { statements = scope.statements + 1 }) else check_fault Limit span
 
--- what stands behind the word for a branch
+-- what follows the keyword for a branch
 abbrev pub behind_do : {A : Type 0} → Span → Option Word → Checked A → Checked A
 behind_do span (Some word.Do) found = found
-behind_do span first found = fault_at Form span
+behind_do span first found = check_fault Form span
 
 unfoldable mutual
-  -- the statement that a form is, and where the walk has come behind it
+  -- the statement that a form is, and how far the walk has come after it
   pub stmt_in : List PlainHead → Scope → PlainSexpr → Checked (PlainStmt Name × Scope)
   stmt_in heads scope (plain_list span (forms_and first behind)) = stmt_by heads scope span (word_from first) behind
-  stmt_in heads scope form = fault_at Form (span_of form)
+  stmt_in heads scope form = check_fault Form (span_of form)
 
   -- A `let` declares its name for all that follows it in the function's text, but not for what it gives that name.
   pub stmt_by : List PlainHead → Scope → Span → Option Word → PlainForms → Checked (PlainStmt Name × Scope)
@@ -123,13 +123,13 @@ unfoldable mutual
   -- the statements of a branch: `(do STATEMENT*)`
   pub block_in : List PlainHead → Scope → PlainSexpr → Checked (PlainStmts Name × Scope)
   block_in heads scope (plain_list span (forms_and first behind)) = behind_do span (word_from first) (stmts_in heads scope behind)
-  block_in heads scope form = fault_at Form (span_of form)
+  block_in heads scope form = check_fault Form (span_of form)
 
   -- the statements that these forms are: each is counted before it is looked at
   pub stmts_in : List PlainHead → Scope → PlainForms → Checked (PlainStmts Name × Scope)
   stmts_in heads scope no_forms = Ok (no_stmts, scope)
   stmts_in heads scope (forms_and form forms) = do
-    at ← counted scope (span_of form)
+    at ← statement_counted scope (span_of form)
     s ← stmt_in heads at form
     ss ← stmts_in heads s.1 forms
     Ok (stmts_and s.0 ss.0, ss.1)

@@ -1,4 +1,4 @@
--- What a statement is seen as.
+-- The view of a statement.
 use Rattle.std.specs.Prelude.{ℕ}
 use Rattle.cml_check.specs.Syntax.{PlainEffect, act, act_on_one, act_on_two, call, spawn, PlainSource, value, effect}
 use Rattle.cml_check.specs.Syntax.{PlainStmt, let_be, set_to, just_do, if_so, while_so, return_with}

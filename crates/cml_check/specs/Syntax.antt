@@ -1,4 +1,4 @@
--- A program, without what it takes in memory. V is what stands for a variable: its name in the text, its slot in the code.
+-- A program, apart from how it lies in memory. V is what stands for a variable: its name in the text, its slot in the code.
 use Rattle.std.specs.Prelude.{ℕ, ℤ, ◌+◌, max, List, [], ◌∷◌, get_or}
 use Rattle.cml_check.specs.declared.syntax.Constant.{Constant}
 use Rattle.cml_check.specs.declared.syntax.Unary.{Unary}
@@ -7,7 +7,7 @@ use Rattle.cml_check.specs.declared.syntax.Act.{Act}
 use Rattle.cml_check.specs.declared.syntax.ActOnOne.{ActOnOne}
 use Rattle.cml_check.specs.declared.syntax.ActOnTwo.{ActOnTwo}
 
--- An expression has a value and no effect. A function stands by its number, with the values that it captures behind it.
+-- An expression has a value and no effect. A function stands by its number, with the values that it captures after it.
 mutual
   pub data PlainExpr (V : Type 0) : Type 0 where
     constant : Constant → PlainExpr V
@@ -32,7 +32,7 @@ pub data PlainEffect (V : Type 0) : Type 0 where
   call : ℕ → PlainExprs V → PlainEffect V
   spawn : ℕ → PlainExprs V → PlainEffect V
 
--- what a `let` gives its variable: the value of an expression, or what an effect answers
+-- what a `let` gives its variable: the value of an expression, or what an effect returns
 pub data PlainSource (V : Type 0) : Type 0 where
   value : PlainExpr V → PlainSource V
   effect : PlainEffect V → PlainSource V
@@ -58,7 +58,7 @@ abbrev pub stmts : {V : Type 0} → List (PlainStmt V) → PlainStmts V
 stmts [] = no_stmts
 stmts (s ∷ ss) = stmts_and s (stmts ss)
 
--- the same, with each variable written anew
+-- the same, with each variable replaced by what the function makes of it
 abbrev mutual
   pub expr_map : {V W : Type 0} → (V → W) → PlainExpr V → PlainExpr W
   expr_map f (constant c) = constant c
@@ -109,7 +109,7 @@ Name = List ℕ
 
 -- A function: its name; the names that it declares, its parameters first and then those of its `let`s as they come; how many of them are
 -- parameters; and its statements.
-pub record PlainFunction (V : Type 0) : Type 0 where
+pub record PlainItem (V : Type 0) : Type 0 where
   pub name : Name
   pub names : List Name
   pub arity : ℕ
@@ -120,7 +120,7 @@ abbrev pub name_at : List Name → ℕ → Name
 name_at names slot = get_or names slot []
 
 -- the function as it is written
-abbrev pub written : PlainFunction ℕ → PlainFunction Name
+abbrev pub written : PlainItem ℕ → PlainItem Name
 written f = record { name = f.name; names = f.names; arity = f.arity; body = stmts_map (name_at f.names) f.body }
 
 -- how deep expressions, and statements, stand in one another

@@ -1,5 +1,5 @@
 -- A code of each piece of a program in slots: a tree of numbers from which it can be read back. The toolchain asks for one; no rule
--- speaks of it.
+-- uses it.
 use Rattle.std.specs.Prelude.{◌≡◌, ℕ, List, [], ◌∷◌, get_or, refl}
 use Rattle.std.specs.Coded.{Coded, code_by, coded×, coded_ℕ, coded_ℤ, coded_list}
 use Rattle.std.proofs.Common.{arith}
@@ -18,7 +18,7 @@ use Rattle.cml_check.specs.declared.syntax.ActOnTwo.{ActOnTwo}
 use Rattle.cml_check.specs.declared.syntax.ActOnTwo.TheVariants as two_of
 use Rattle.cml_check.specs.Syntax.{PlainExpr, constant, number, text, variable, unary, binary, choose, wrap, guard, with_nack, PlainExprs, no_exprs, exprs_and}
 use Rattle.cml_check.specs.Syntax.{PlainEffect, act, act_on_one, act_on_two, call, spawn, PlainSource, value, effect}
-use Rattle.cml_check.specs.Syntax.{PlainStmt, let_be, set_to, just_do, if_so, while_so, return_with, PlainStmts, no_stmts, stmts_and, PlainFunction, Name}
+use Rattle.cml_check.specs.Syntax.{PlainStmt, let_be, set_to, just_do, if_so, while_so, return_with, PlainStmts, no_stmts, stmts_and, PlainItem, Name}
 
 abbrev pub constant_number : Constant → ℕ
 constant_number constant_of.True = 0
@@ -273,7 +273,7 @@ stmt_code = record { code = stmt_gv; inj = stmt_gv_inj }
 abbrev pub stmts_code : Coded (PlainStmts ℕ)
 stmts_code = record { code = stmts_gv; inj = stmts_gv_inj }
 
-abbrev pub function_code : Coded (PlainFunction ℕ)
-function_code =
+abbrev pub plain_item_code : Coded (PlainItem ℕ)
+plain_item_code =
     code_by (Name × (List Name × (ℕ × PlainStmts ℕ))) (coded× (coded_list coded_ℕ) (coded× (coded_list (coded_list coded_ℕ)) (coded× coded_ℕ stmts_code)))
     (λ f. (f.name, (f.names, (f.arity, f.body)))) (λ p. record { name = p.0; names = p.1.0; arity = p.1.1.0; body = p.1.1.1 }) (λ _. refl)

@@ -1,4 +1,4 @@
--- The words that mean something in a script. No function, parameter or variable has one of them as its name.
+-- The keywords of a script. No function, parameter or variable has one of them as its name.
 use Rattle.std.specs.Prelude.{ℕ, List, [], ◌∷◌, codes, find, Option, None}
 use Rattle.std.specs.Str.{bytes_eq}
 use Rattle.cml_text.specs.Forms.{PlainSexpr, plain_name}
@@ -74,30 +74,30 @@ two_spelling two_of.MPut = codes "mput"
 two_spelling two_of.Mail = codes "mail"
 two_spelling two_of.Multicast = codes "multicast"
 
--- how each word is spelled
-abbrev pub spelling : Word → List ℕ
-spelling word.Fn = codes "fn"
-spelling word.Do = codes "do"
-spelling word.Let = codes "let"
-spelling word.Set = codes "set"
-spelling word.If = codes "if"
-spelling word.While = codes "while"
-spelling word.Return = codes "return"
-spelling word.Call = codes "call"
-spelling word.Spawn = codes "spawn"
-spelling word.Choose = codes "choose"
-spelling word.Wrap = codes "wrap"
-spelling word.Guard = codes "guard"
-spelling word.WithNack = codes "withnack"
-spelling word.MVar = codes "mvar"
-spelling (word.Constant constant) = constant_spelling constant
-spelling (word.Unary unary) = unary_spelling unary
-spelling (word.Binary binary) = binary_spelling binary
-spelling (word.Act act) = act_spelling act
-spelling (word.ActOnOne act) = one_spelling act
-spelling (word.ActOnTwo act) = two_spelling act
+-- how each keyword is spelled
+abbrev pub word_spelling : Word → List ℕ
+word_spelling word.Fn = codes "fn"
+word_spelling word.Do = codes "do"
+word_spelling word.Let = codes "let"
+word_spelling word.Set = codes "set"
+word_spelling word.If = codes "if"
+word_spelling word.While = codes "while"
+word_spelling word.Return = codes "return"
+word_spelling word.Call = codes "call"
+word_spelling word.Spawn = codes "spawn"
+word_spelling word.Choose = codes "choose"
+word_spelling word.Wrap = codes "wrap"
+word_spelling word.Guard = codes "guard"
+word_spelling word.WithNack = codes "withnack"
+word_spelling word.MVar = codes "mvar"
+word_spelling (word.Constant constant) = constant_spelling constant
+word_spelling (word.Unary unary) = unary_spelling unary
+word_spelling (word.Binary binary) = binary_spelling binary
+word_spelling (word.Act act) = act_spelling act
+word_spelling (word.ActOnOne act) = one_spelling act
+word_spelling (word.ActOnTwo act) = two_spelling act
 
--- each word once
+-- each keyword once
 abbrev pub all_words : List Word
 all_words =
     word.Fn ∷ word.Do ∷ word.Let ∷ word.Set ∷ word.If ∷ word.While ∷ word.Return ∷ word.Call ∷ word.Spawn ∷ word.Choose ∷ word.Wrap ∷ word.Guard ∷ word.WithNack ∷ word.MVar ∷
@@ -108,11 +108,11 @@ all_words =
     word.ActOnOne one_of.Sync ∷ word.ActOnOne one_of.Port ∷ word.ActOnOne one_of.Copy ∷ word.ActOnOne one_of.Print ∷
     word.ActOnTwo two_of.IPut ∷ word.ActOnTwo two_of.MPut ∷ word.ActOnTwo two_of.Mail ∷ word.ActOnTwo two_of.Multicast ∷ []
 
--- the word that is spelled so, if one is
+-- the keyword of this spelling, if there is one
 abbrev pub word_of : List ℕ → Option Word
-word_of name = find (λ word. bytes_eq (spelling word) name) all_words
+word_of name = find (λ word. bytes_eq (word_spelling word) name) all_words
 
--- the word that a form is, if it is one
+-- the keyword that a form is, if it is one
 abbrev pub word_from : PlainSexpr → Option Word
 word_from (plain_name span name) = word_of name
 word_from _ = None

@@ -2,7 +2,7 @@
 
 ghost use Rattle.std.specs.Prelude.{◌≡◌, ◌≤◌, IfOk, length, map};
 ghost use Rattle.cml_check.specs.Syntax.{written};
-ghost use Rattle.cml_check.specs.Checked.{Gives};
+ghost use Rattle.cml_check.specs.Checked.{Finds};
 ghost use Rattle.cml_check.specs.Heads.{arities_of, function_limit};
 ghost use Rattle.cml_check.specs.HeadViews.{plain_head};
 ghost use Rattle.cml_check.specs.InOrder.{InOrder, FunctionFits, arities, names_of};
@@ -19,11 +19,11 @@ use std::alloc::Global;
 
 /// The program that the forms of a script are.
 ///
-/// Where they are no program the answer is their first fault: first in the heads of all items, then of `main`, then in the statements
-/// of all functions. `CheckFault::Memory` comes where memory ran out.
+/// Where they are no program, their first fault is returned: first in the heads of all items, then of `main`, then in the statements
+/// of all functions. `CheckFault::Memory` is returned where memory ran out.
 #[tactic(auto, unfolding(crate::specs::Shape::shape))]
 pub fn check(alloc: Global, forms: &[Sexpr]) -> Result<Prog, CheckFault>
-    ensures { Gives (λ program. map written program) result (shape forms.now) }
+    ensures { Finds (λ program. map written program) result (shape forms.now) }
 {
     let heads = heads_of(alloc, forms)?;
     let main = main_function(&heads)?;
@@ -34,7 +34,7 @@ pub fn check(alloc: Global, forms: &[Sexpr]) -> Result<Prog, CheckFault>
 // The functions of these heads, and how many statements they have.
 fn functions(alloc: Global, heads: &Heads<'_>) -> Result<(Vec<Function>, u32), CheckFault>
     ensures gives { let found = functions_in heads.now 0 heads.now in
-        Gives (λ made. map written made.0.items) result found }
+        Finds (λ made. map written made.0.items) result found }
     ensures order { IfOk result (λ made. InOrder made.0.items) }
     ensures arities { IfOk result (λ made. arities made.0.items ≡ arities_of heads.now) }
     ensures names { IfOk result (λ made.
@@ -60,12 +60,12 @@ fn function(
     count: &mut usize,
 ) -> Result<Function, CheckFault>
     ensures gives { let found = function_by heads.now count.old (plain_head head.now) in
-        Gives (λ function. (written function, count.new)) result found }
+        Finds (λ function. (written function, count.new)) result found }
     ensures fits { IfOk result (λ function. FunctionFits (arities_of heads.now) function) }
     ensures arity { IfOk result (λ function. function.arity ≡ length head.now.parameters) }
     ensures name { IfOk result (λ function. function.name ≡ head.now.name.now) }
 {
-    // A function has fewer parameters than a text has bytes, so this never comes.
+    // A function has fewer parameters than a text has bytes, so this never happens.
     let Ok(arity) = u32::try_from(head.parameters.len()) else {
         return Err(CheckFault::Memory);
     };

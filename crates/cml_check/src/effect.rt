@@ -4,14 +4,14 @@ ghost use Rattle.std.specs.Prelude.{◌≡◌, IfOk, Some, length, true};
 ghost use Rattle.cml_text.specs.Forms.{plain_forms, span_of};
 ghost use Rattle.cml_check.specs.Syntax.{effect_map, source_map, name_at};
 ghost use Rattle.cml_check.specs.StmtViews.{plain_effect, plain_source};
-ghost use Rattle.cml_check.specs.Checked.{Gives};
+ghost use Rattle.cml_check.specs.Checked.{Finds};
 ghost use Rattle.cml_check.specs.Heads.{arities_of};
 ghost use Rattle.cml_check.specs.Statements as spec;
 ghost use Rattle.cml_check.specs.Statements.{effect_in, source_by, source_in, form_source};
 ghost use Rattle.cml_check.specs.InOrder.{effect_fits, source_fits};
 ghost use Rattle.cml_check.specs.declared.word.Word.TheVariants as words;
 
-use crate::expression::{called, expression, list_expression};
+use crate::expression::{expression, function_call, list_expression};
 use crate::fault::{CheckFault, CheckKind, fault_at};
 use crate::head::Heads;
 use crate::names::Names;
@@ -21,7 +21,7 @@ use crate::word::{Word, word_from};
 use cml_text::Sexpr;
 use std::alloc::Global;
 
-/// The effect of a list, by the word at its head and the forms behind it.
+/// The effect of a list, by the keyword at its head and the forms after it.
 #[tactic(auto, unfolding(crate::specs::Statements::effect_in))]
 pub fn effect(
     alloc: Global,
@@ -32,7 +32,7 @@ pub fn effect(
     behind: &[Sexpr],
 ) -> Result<Effect, CheckFault>
     ensures gives { let behind = plain_forms behind.now in
-        Gives (λ e. effect_map (name_at names.now) (plain_effect e)) result
+        Finds (λ e. effect_map (name_at names.now) (plain_effect e)) result
         (effect_in heads.now names.now (span_of form.now) word behind) }
     ensures fits { let arities = arities_of heads.now in
         IfOk result (λ e. effect_fits arities (length names.now) (plain_effect e) ≡ true) }
@@ -58,7 +58,7 @@ fn simple(
     behind: &[Sexpr],
 ) -> Result<Effect, CheckFault>
     ensures gives { let behind = plain_forms behind.now in
-        Gives (λ e. effect_map (name_at names.now) (plain_effect e)) result
+        Finds (λ e. effect_map (name_at names.now) (plain_effect e)) result
         (effect_in heads.now names.now (span_of form.now) (Some (words.Act act)) behind) }
     ensures fits { let arities = arities_of heads.now in
         IfOk result (λ e. effect_fits arities (length names.now) (plain_effect e) ≡ true) }
@@ -79,7 +79,7 @@ fn mvar(
     behind: &[Sexpr],
 ) -> Result<Effect, CheckFault>
     ensures gives { let behind = plain_forms behind.now in
-        Gives (λ e. effect_map (name_at names.now) (plain_effect e)) result
+        Finds (λ e. effect_map (name_at names.now) (plain_effect e)) result
         (effect_in heads.now names.now (span_of form.now) (Some words.MVar) behind) }
     ensures fits { let arities = arities_of heads.now in
         IfOk result (λ e. effect_fits arities (length names.now) (plain_effect e) ≡ true) }
@@ -105,7 +105,7 @@ fn on_one(
     behind: &[Sexpr],
 ) -> Result<Effect, CheckFault>
     ensures gives { let behind = plain_forms behind.now in
-        Gives (λ e. effect_map (name_at names.now) (plain_effect e)) result
+        Finds (λ e. effect_map (name_at names.now) (plain_effect e)) result
         (effect_in heads.now names.now (span_of form.now) (Some (words.ActOnOne act)) behind) }
     ensures fits { let arities = arities_of heads.now in
         IfOk result (λ e. effect_fits arities (length names.now) (plain_effect e) ≡ true) }
@@ -128,7 +128,7 @@ fn on_two(
     behind: &[Sexpr],
 ) -> Result<Effect, CheckFault>
     ensures gives { let behind = plain_forms behind.now in
-        Gives (λ e. effect_map (name_at names.now) (plain_effect e)) result
+        Finds (λ e. effect_map (name_at names.now) (plain_effect e)) result
         (effect_in heads.now names.now (span_of form.now) (Some (words.ActOnTwo act)) behind) }
     ensures fits { let arities = arities_of heads.now in
         IfOk result (λ e. effect_fits arities (length names.now) (plain_effect e) ≡ true) }
@@ -151,12 +151,12 @@ fn call(
     behind: &[Sexpr],
 ) -> Result<Effect, CheckFault>
     ensures gives { let behind = plain_forms behind.now in
-        Gives (λ e. effect_map (name_at names.now) (plain_effect e)) result
+        Finds (λ e. effect_map (name_at names.now) (plain_effect e)) result
         (effect_in heads.now names.now (span_of form.now) (Some words.Call) behind) }
     ensures fits { let arities = arities_of heads.now in
         IfOk result (λ e. effect_fits arities (length names.now) (plain_effect e) ≡ true) }
 {
-    let (number, values) = called(alloc, heads, names, form, 0, behind)?;
+    let (number, values) = function_call(alloc, heads, names, form, 0, behind)?;
     Ok(Effect::Call(number, values))
 }
 
@@ -170,16 +170,16 @@ fn spawn(
     behind: &[Sexpr],
 ) -> Result<Effect, CheckFault>
     ensures gives { let behind = plain_forms behind.now in
-        Gives (λ e. effect_map (name_at names.now) (plain_effect e)) result
+        Finds (λ e. effect_map (name_at names.now) (plain_effect e)) result
         (effect_in heads.now names.now (span_of form.now) (Some words.Spawn) behind) }
     ensures fits { let arities = arities_of heads.now in
         IfOk result (λ e. effect_fits arities (length names.now) (plain_effect e) ≡ true) }
 {
-    let (number, values) = called(alloc, heads, names, form, 0, behind)?;
+    let (number, values) = function_call(alloc, heads, names, form, 0, behind)?;
     Ok(Effect::Spawn(number, values))
 }
 
-// Whether the word begins an effect.
+// Whether the keyword begins an effect.
 fn is_effect(word: Option<Word>) -> bool
     ensures { result ≡ spec.is_effect word }
 {
@@ -203,7 +203,7 @@ pub fn source(
     form: &Sexpr,
 ) -> Result<Source, CheckFault>
     ensures gives { let found = source_in heads.now names.now form.now in
-        Gives (λ s. source_map (name_at names.now) (plain_source s)) result found }
+        Finds (λ s. source_map (name_at names.now) (plain_source s)) result found }
     ensures fits { let arities = arities_of heads.now in
         IfOk result (λ s. source_fits arities (length names.now) (plain_source s) ≡ true) }
 {
@@ -221,7 +221,7 @@ fn form_value(
     form: &Sexpr,
 ) -> Result<Source, CheckFault>
     ensures gives { let found = form_source heads.now names.now form.now in
-        Gives (λ s. source_map (name_at names.now) (plain_source s)) result found }
+        Finds (λ s. source_map (name_at names.now) (plain_source s)) result found }
     ensures fits { let arities = arities_of heads.now in
         IfOk result (λ s. source_fits arities (length names.now) (plain_source s) ≡ true) }
 {
@@ -229,7 +229,7 @@ fn form_value(
     Ok(Source::Value(value))
 }
 
-// The same of a list, by the word at its head and the forms behind it.
+// The same of a list, by the keyword at its head and the forms after it.
 #[tactic(auto, unfolding(crate::specs::Statements::source_by))]
 fn list_source(
     alloc: Global,
@@ -240,7 +240,7 @@ fn list_source(
     behind: &[Sexpr],
 ) -> Result<Source, CheckFault>
     ensures gives { let behind = plain_forms behind.now in
-        Gives (λ s. source_map (name_at names.now) (plain_source s)) result
+        Finds (λ s. source_map (name_at names.now) (plain_source s)) result
         (source_by heads.now names.now (span_of form.now) word behind) }
     ensures fits { let arities = arities_of heads.now in
         IfOk result (λ s. source_fits arities (length names.now) (plain_source s) ≡ true) }

@@ -3,7 +3,7 @@
 ghost use Rattle.std.specs.Prelude.{◌≡◌, ℕ, ◌+◌, ◌≤◌, IfOk, List, Some, length, true};
 ghost use Rattle.cml_text.specs.Forms.{plain_forms, span_of};
 ghost use Rattle.cml_check.specs.Syntax.{expr_map, exprs_map, call_map, name_at};
-ghost use Rattle.cml_check.specs.Checked.{Gives};
+ghost use Rattle.cml_check.specs.Checked.{Finds};
 ghost use Rattle.cml_check.specs.Heads.{arities_of, takes, function_in};
 ghost use Rattle.cml_check.specs.Expressions.{count, name_in, expr_in, list_in, exprs_in, called_in};
 ghost use Rattle.cml_check.specs.ExpressionParts.{unary_in, binary_in, wrap_in, choose_in, guard_in, nack_in};
@@ -31,7 +31,7 @@ pub fn expression(
     form: &Sexpr,
 ) -> Result<Expr, CheckFault>
     ensures gives { let found = expr_in heads.now names.now form.now in
-        Gives (expr_map (name_at names.now)) result found }
+        Finds (expr_map (name_at names.now)) result found }
     ensures fits { let arities = arities_of heads.now in
         IfOk result (λ e. expr_fits arities (length names.now) e ≡ true) }
 {
@@ -57,7 +57,7 @@ pub fn expression(
 #[tactic(auto, using(crate::proofs::NameLemmas::positioned, crate::proofs::NameLemmas::unpositioned))]
 fn named(names: &Names<'_>, form: &Sexpr, name: &str) -> Result<Expr, CheckFault>
     ensures gives { let word = word_spelled name.now in
-        Gives (expr_map (name_at names.now)) result
+        Finds (expr_map (name_at names.now)) result
         (name_in names.now (span_of form.now) name.now word) }
     ensures fits { (arities : List ℕ) →
         IfOk result (λ e. expr_fits arities (length names.now) e ≡ true) }
@@ -76,7 +76,7 @@ fn named(names: &Names<'_>, form: &Sexpr, name: &str) -> Result<Expr, CheckFault
     }
 }
 
-/// The expression of a list, by the word at its head and the forms behind it.
+/// The expression of a list, by the keyword at its head and the forms after it.
 #[cycle(expression)]
 #[tactic(auto, using(crate::proofs::ExpressionLemmas::list_unary, crate::proofs::ExpressionLemmas::list_binary, crate::proofs::ExpressionLemmas::list_choose, crate::proofs::ExpressionLemmas::list_wrap, crate::proofs::ExpressionLemmas::list_guard, crate::proofs::ExpressionLemmas::list_nack))]
 pub fn list_expression(
@@ -88,7 +88,7 @@ pub fn list_expression(
     behind: &[Sexpr],
 ) -> Result<Expr, CheckFault>
     ensures gives { let behind = plain_forms behind.now in
-        Gives (expr_map (name_at names.now)) result
+        Finds (expr_map (name_at names.now)) result
         (list_in heads.now names.now (span_of form.now) word behind) }
     ensures fits { let arities = arities_of heads.now in
         IfOk result (λ e. expr_fits arities (length names.now) e ≡ true) }
@@ -116,7 +116,7 @@ fn unary(
     behind: &[Sexpr],
 ) -> Result<Expr, CheckFault>
     ensures gives { let behind = plain_forms behind.now in
-        Gives (expr_map (name_at names.now)) result
+        Finds (expr_map (name_at names.now)) result
         (unary_in heads.now names.now (span_of form.now) operator behind) }
     ensures fits { let arities = arities_of heads.now in
         IfOk result (λ e. expr_fits arities (length names.now) e ≡ true) }
@@ -143,7 +143,7 @@ fn binary(
     behind: &[Sexpr],
 ) -> Result<Expr, CheckFault>
     ensures gives { let behind = plain_forms behind.now in
-        Gives (expr_map (name_at names.now)) result
+        Finds (expr_map (name_at names.now)) result
         (binary_in heads.now names.now (span_of form.now) operator behind) }
     ensures fits { let arities = arities_of heads.now in
         IfOk result (λ e. expr_fits arities (length names.now) e ≡ true) }
@@ -170,7 +170,7 @@ fn choose(
     behind: &[Sexpr],
 ) -> Result<Expr, CheckFault>
     ensures gives { let behind = plain_forms behind.now in
-        Gives (expr_map (name_at names.now)) result
+        Finds (expr_map (name_at names.now)) result
         (choose_in heads.now names.now behind) }
     ensures fits { let arities = arities_of heads.now in
         IfOk result (λ e. expr_fits arities (length names.now) e ≡ true) }
@@ -192,7 +192,7 @@ fn wrap(
     behind: &[Sexpr],
 ) -> Result<Expr, CheckFault>
     ensures gives { let behind = plain_forms behind.now in
-        Gives (expr_map (name_at names.now)) result
+        Finds (expr_map (name_at names.now)) result
         (wrap_in heads.now names.now (span_of form.now) behind) }
     ensures fits { let arities = arities_of heads.now in
         IfOk result (λ e. expr_fits arities (length names.now) e ≡ true) }
@@ -220,12 +220,12 @@ fn guard(
     behind: &[Sexpr],
 ) -> Result<Expr, CheckFault>
     ensures gives { let behind = plain_forms behind.now in
-        Gives (expr_map (name_at names.now)) result
+        Finds (expr_map (name_at names.now)) result
         (guard_in heads.now names.now (span_of form.now) behind) }
     ensures fits { let arities = arities_of heads.now in
         IfOk result (λ e. expr_fits arities (length names.now) e ≡ true) }
 {
-    let (number, values) = called(alloc, heads, names, form, 0, behind)?;
+    let (number, values) = function_call(alloc, heads, names, form, 0, behind)?;
     Ok(Expr {
         kind: ExprKind::Guard(number, values),
     })
@@ -242,12 +242,12 @@ fn with_nack(
     behind: &[Sexpr],
 ) -> Result<Expr, CheckFault>
     ensures gives { let behind = plain_forms behind.now in
-        Gives (expr_map (name_at names.now)) result
+        Finds (expr_map (name_at names.now)) result
         (nack_in heads.now names.now (span_of form.now) behind) }
     ensures fits { let arities = arities_of heads.now in
         IfOk result (λ e. expr_fits arities (length names.now) e ≡ true) }
 {
-    let (number, values) = called(alloc, heads, names, form, 1, behind)?;
+    let (number, values) = function_call(alloc, heads, names, form, 1, behind)?;
     Ok(Expr {
         kind: ExprKind::WithNack(number, values),
     })
@@ -256,7 +256,7 @@ fn with_nack(
 /// A function by its name and what it is given: these values, and that many more, which it gets later.
 #[cycle(expression)]
 #[tactic(auto, unfolding(crate::specs::Expressions::called_in))]
-pub fn called(
+pub fn function_call(
     alloc: Global,
     heads: &Heads<'_>,
     names: &Names<'_>,
@@ -266,7 +266,7 @@ pub fn called(
 ) -> Result<(u32, Exprs), CheckFault>
     requires few { more ≤ 1 }
     ensures gives { let behind = plain_forms behind.now in
-        Gives (call_map (name_at names.now)) result
+        Finds (call_map (name_at names.now)) result
         (called_in heads.now names.now (span_of form.now) more behind) }
     ensures fits { let arities = arities_of heads.now in
         IfOk result (λ call. exprs_fit arities (length names.now) call.1 ≡ true) }
@@ -291,7 +291,7 @@ fn function_for(
 ) -> Result<u32, CheckFault>
     requires few { more ≤ 1 }
     ensures gives { let values = count (plain_forms values.now) in
-        Gives (λ number. number) result (function_in heads.now (values + more) form.now) }
+        Finds (λ number. number) result (function_in heads.now (values + more) form.now) }
     ensures takes { let values = count (plain_forms values.now) in
         IfOk result (λ number. takes (arities_of heads.now) number (values + more) ≡ true) }
 {
@@ -307,7 +307,7 @@ fn expressions(
     forms: &[Sexpr],
 ) -> Result<Exprs, CheckFault>
     ensures gives { let found = exprs_in heads.now names.now (plain_forms forms.now) in
-        Gives (exprs_map (name_at names.now)) result found }
+        Finds (exprs_map (name_at names.now)) result found }
     ensures fits { let arities = arities_of heads.now in
         IfOk result (λ es. exprs_fit arities (length names.now) es ≡ true) }
     ensures count { IfOk result (λ es. exprs_count es ≡ count (plain_forms forms.now)) }

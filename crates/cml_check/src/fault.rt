@@ -2,7 +2,7 @@
 
 ghost use Rattle.std.specs.Prelude.{◌≡◌};
 ghost use Rattle.cml_text.specs.Forms.{span_of};
-ghost use Rattle.cml_check.specs.Faults.{kind_number, kind_name};
+ghost use Rattle.cml_check.specs.Faults.{check_kind_number, check_kind_name};
 ghost use Rattle.cml_check.specs.declared.fault.CheckFault.TheVariants.{At, Memory};
 
 use cml_text::Sexpr;
@@ -32,7 +32,7 @@ pub enum CheckKind {
 impl CheckKind {
     /// The number that fault lines give the kind, from 1.
     pub fn number(self) -> u8
-        ensures { result ≡ kind_number self }
+        ensures { result ≡ check_kind_number self }
     {
         match self {
             CheckKind::Form => 1,
@@ -47,7 +47,7 @@ impl CheckKind {
 
     /// The name that fault lines give the kind.
     pub fn name(self) -> &'static str
-        ensures { result.now ≡ kind_name self }
+        ensures { result.now ≡ check_kind_name self }
     {
         match self {
             CheckKind::Form => "form",
@@ -72,9 +72,9 @@ pub enum CheckFault {
 
 impl fmt::Display for CheckFault {
     ghost use Rattle.std.specs.Prelude.{Some};
-    ghost use Rattle.cml_check.specs.Faults.{fault_line};
+    ghost use Rattle.cml_check.specs.Faults.{check_fault_line};
 
-    ghost output = { λ fault. Some (fault_line fault) };
+    ghost output = { λ fault. Some (check_fault_line fault) };
 
     fn fmt<W: fmt::Write>(&self, f: &mut fmt::Formatter<W>) -> fmt::Result {
         match self {

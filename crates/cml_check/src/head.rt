@@ -2,9 +2,9 @@
 
 ghost use Rattle.std.specs.Prelude.{◌≡◌, ◌<◌, ◌≤◌, List, [], codes, length, IfSome, IfOk, true, Some};
 ghost use Rattle.cml_text.specs.Forms.{plain_forms, span_of};
-ghost use Rattle.cml_check.specs.Checked.{Gives};
+ghost use Rattle.cml_check.specs.Checked.{Finds};
 ghost use Rattle.cml_check.specs.Heads as spec;
-ghost use Rattle.cml_check.specs.Heads.{arities_of, function_limit, number_of, takes, place_of, heads_from};
+ghost use Rattle.cml_check.specs.Heads.{arities_of, function_limit, function_number, takes, name_place, heads_from};
 ghost use Rattle.cml_check.specs.HeadViews.{plain_head, plain_heads};
 ghost use Rattle.cml_check.specs.declared.word.Word.TheVariants as words;
 
@@ -53,7 +53,7 @@ impl<'a> Model for Heads<'a> {
 impl<'a> Heads<'a> {
     /// The number of the first function of this name.
     pub fn number(&self, name: &str) -> Option<u32>
-        ensures { result ≡ number_of self.now name.now }
+        ensures { result ≡ function_number self.now name.now }
     {
         let at = self.names.position(name)?;
         Some(at as u32)
@@ -79,7 +79,7 @@ impl<'a> Heads<'a> {
 
     // Where the name of the function of this number stands.
     fn place(&self, number: u32) -> usize
-        ensures { result ≡ place_of self.now number }
+        ensures { result ≡ name_place self.now number }
     {
         match self.items.get(number as usize) {
             Some(head) => head.at,
@@ -91,7 +91,7 @@ impl<'a> Heads<'a> {
 /// The number of the function that the form names, if it takes that many values.
 #[tactic(auto, unfolding(crate::specs::Heads::function_in))]
 pub fn function(heads: &Heads<'_>, form: &Sexpr, count: usize) -> Result<u32, CheckFault>
-    ensures gives { Gives (λ number. number) result (spec.function_in heads.now count form.now) }
+    ensures gives { Finds (λ number. number) result (spec.function_in heads.now count form.now) }
     ensures takes { IfOk result (λ number. takes (arities_of heads.now) number count ≡ true) }
 {
     let name = free_name(form)?;
@@ -107,7 +107,7 @@ pub fn function(heads: &Heads<'_>, form: &Sexpr, count: usize) -> Result<u32, Ch
 // The parameters of a list of names.
 #[tactic(auto, unfolding(crate::specs::Heads::parameters_in), using(crate::proofs::HeadLemmas::no_parameters, crate::proofs::HeadLemmas::list_parameters))]
 fn parameters(alloc: Global, form: &Sexpr) -> Result<Names<'_>, CheckFault>
-    ensures { Gives (λ names. names) result (spec.parameters_in form.now) }
+    ensures { Finds (λ names. names) result (spec.parameters_in form.now) }
 {
     match parts(form) {
         Some(forms) => parameters_of(alloc, forms),
@@ -117,7 +117,7 @@ fn parameters(alloc: Global, form: &Sexpr) -> Result<Names<'_>, CheckFault>
 
 // The names that these forms are, none twice.
 fn parameters_of(alloc: Global, forms: &[Sexpr]) -> Result<Names<'_>, CheckFault>
-    ensures { Gives (λ names. names) result (spec.parameters_from [] (plain_forms forms.now)) }
+    ensures { Finds (λ names. names) result (spec.parameters_from [] (plain_forms forms.now)) }
 {
     let mut names = Names::new(alloc);
     for form in forms {
@@ -133,7 +133,7 @@ fn parameters_of(alloc: Global, forms: &[Sexpr]) -> Result<Names<'_>, CheckFault
 // The head of an item.
 #[tactic(auto, using(crate::proofs::HeadLemmas::no_head, crate::proofs::HeadLemmas::headed_head))]
 fn head_of(alloc: Global, form: &Sexpr) -> Result<Head<'_>, CheckFault>
-    ensures { Gives plain_head result (spec.head_in form.now) }
+    ensures { Finds plain_head result (spec.head_in form.now) }
 {
     match headed(form) {
         Some((first, behind)) => head_by(alloc, form, word_from(first), behind),
@@ -141,7 +141,7 @@ fn head_of(alloc: Global, form: &Sexpr) -> Result<Head<'_>, CheckFault>
     }
 }
 
-// The head of an item whose parts are these, by the word that it begins with.
+// The head of an item whose parts are these, by the keyword that it begins with.
 #[tactic(auto, unfolding(crate::specs::Heads::head_by))]
 fn head_by<'a>(
     alloc: Global,
@@ -149,7 +149,7 @@ fn head_by<'a>(
     word: Option<Word>,
     behind: &'a [Sexpr],
 ) -> Result<Head<'a>, CheckFault>
-    ensures { Gives plain_head result
+    ensures { Finds plain_head result
         (spec.head_by (span_of form.now) word (plain_forms behind.now)) }
 {
     match word {
@@ -158,10 +158,10 @@ fn head_by<'a>(
     }
 }
 
-// The head of an item whose parts behind the word `fn` are these.
+// The head of an item whose parts after the keyword `fn` are these.
 #[tactic(auto, unfolding(crate::specs::Heads::head_by), using(crate::proofs::HeadLemmas::short_head))]
 fn fn_head<'a>(alloc: Global, form: &Sexpr, behind: &'a [Sexpr]) -> Result<Head<'a>, CheckFault>
-    ensures { Gives plain_head result
+    ensures { Finds plain_head result
         (spec.head_by (span_of form.now) (Some words.Fn) (plain_forms behind.now)) }
 {
     match behind {
@@ -182,7 +182,7 @@ fn fn_head<'a>(alloc: Global, form: &Sexpr, behind: &'a [Sexpr]) -> Result<Head<
 
 /// The heads of these items.
 pub fn heads_of(alloc: Global, forms: &[Sexpr]) -> Result<Heads<'_>, CheckFault>
-    ensures { Gives (λ heads. heads) result (heads_from [] forms.now) }
+    ensures { Finds (λ heads. heads) result (heads_from [] forms.now) }
 {
     let mut names = Names::new(alloc);
     let mut items = Vec::new(alloc);
@@ -206,8 +206,8 @@ pub fn heads_of(alloc: Global, forms: &[Sexpr]) -> Result<Heads<'_>, CheckFault>
 /// The number of `main`, which is there and has no parameter.
 #[tactic(auto, unfolding(crate::specs::Heads::main_in))]
 pub fn main_function(heads: &Heads<'_>) -> Result<u32, CheckFault>
-    ensures gives { Gives (λ _. Prim.tt) result (spec.main_in heads.now) }
-    ensures found { IfOk result (λ number. number_of heads.now (codes "main") ≡ Some number) }
+    ensures gives { Finds (λ _. Prim.tt) result (spec.main_in heads.now) }
+    ensures found { IfOk result (λ number. function_number heads.now (codes "main") ≡ Some number) }
     ensures takes { IfOk result (λ number. takes (arities_of heads.now) number 0 ≡ true) }
 {
     let Some(number) = heads.number("main") else {

@@ -1,4 +1,4 @@
-//! The checker of scripts: a program, in which each function and each variable stands by its position, or the first fault.
+//! The checker of scripts: a program, in which each function and each variable is given by its position, or the first fault.
 #![tactic(auto)]
 
 mod checker;

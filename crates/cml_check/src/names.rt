@@ -3,9 +3,9 @@
 ghost use Rattle.std.specs.Prelude.{◌≡◌, ◌<◌, false, List, [], length, IfSome, IfNone, IfOk, OnOk, OnErr, true, position, map};
 ghost use Rattle.std.specs.String.{string_bytes};
 ghost use Rattle.std.specs.Str.{bytes_eq};
-ghost use Rattle.cml_check.specs.Checked.{Gives};
+ghost use Rattle.cml_check.specs.Checked.{Finds};
 ghost use Rattle.cml_check.specs.Names as spec;
-ghost use Rattle.cml_check.specs.Names.{is_among, with_name, AreDistinct};
+ghost use Rattle.cml_check.specs.Names.{has_name, with_name, AreDistinct};
 ghost use Rattle.cml_check.specs.Syntax.{name_at};
 
 use crate::fault::{CheckFault, CheckKind, fault_at};
@@ -61,7 +61,7 @@ impl<'a> Names<'a> {
 
     /// Whether the name was declared.
     pub fn has(&self, name: &str) -> bool
-        ensures { result ≡ is_among self.now name.now }
+        ensures { result ≡ has_name self.now name.now }
     {
         self.set.contains(name)
     }
@@ -108,7 +108,7 @@ fn strings(alloc: Global, texts: &[&str]) -> Result<Vec<String>, AllocError>
 /// The name of a function or a variable that the form is.
 #[tactic(auto, unfolding(crate::specs::Names::free_name))]
 pub fn free_name(form: &Sexpr) -> Result<&str, CheckFault>
-    ensures { Gives (λ name. name.now) result (spec.free_name form.now) }
+    ensures { Finds (λ name. name.now) result (spec.free_name form.now) }
 {
     match form.shape() {
         Shape::Name(name) => {
@@ -124,7 +124,7 @@ pub fn free_name(form: &Sexpr) -> Result<&str, CheckFault>
 /// The position of the declared variable that the form names.
 #[tactic(auto, unfolding(crate::specs::Names::variable_in))]
 pub fn variable(names: &Names<'_>, form: &Sexpr) -> Result<usize, CheckFault>
-    ensures gives { Gives (name_at names.now) result (spec.variable_in names.now form.now) }
+    ensures gives { Finds (name_at names.now) result (spec.variable_in names.now form.now) }
     ensures below { IfOk result (λ slot. slot < length names.now) }
 {
     let name = free_name(form)?;

@@ -20,7 +20,7 @@ pub fn parts(form: &Sexpr) -> Option<&[Sexpr]>
     }
 }
 
-/// The first form of a list, and the forms behind it.
+/// The first form of a list, and the forms after it.
 pub fn headed(form: &Sexpr) -> Option<(&Sexpr, &[Sexpr])>
     ensures some { IfSome result (λ found. form.now
         ≡ plain_list (span_of form.now) (forms_and found.0.now (plain_forms found.1.now))) }

@@ -24,12 +24,12 @@ pub struct Function {
 impl Model for Function {
     ghost use Rattle.std.specs.Prelude.{ℕ, map};
     ghost use Rattle.std.specs.String.{string_bytes};
-    ghost use Rattle.cml_check.specs.Syntax.{PlainFunction};
-    ghost use Rattle.cml_check.specs.SyntaxCodes.{function_code};
+    ghost use Rattle.cml_check.specs.Syntax.{PlainItem};
+    ghost use Rattle.cml_check.specs.SyntaxCodes.{plain_item_code};
 
-    ghost Value = { PlainFunction ℕ };
+    ghost Value = { PlainItem ℕ };
 
-    ghost coded = { function_code };
+    ghost coded = { plain_item_code };
 
     ghost view = { λ a. record {
       name = string_bytes a.name;
@@ -50,12 +50,12 @@ pub struct Prog {
 impl Model for Prog {
     ghost use Rattle.std.specs.Prelude.{ℕ, List};
     ghost use Rattle.std.specs.Coded.{coded_list};
-    ghost use Rattle.cml_check.specs.Syntax.{PlainFunction};
-    ghost use Rattle.cml_check.specs.SyntaxCodes.{function_code};
+    ghost use Rattle.cml_check.specs.Syntax.{PlainItem};
+    ghost use Rattle.cml_check.specs.SyntaxCodes.{plain_item_code};
 
-    ghost Value = { List (PlainFunction ℕ) };
+    ghost Value = { List (PlainItem ℕ) };
 
-    ghost coded = { coded_list function_code };
+    ghost coded = { coded_list plain_item_code };
 
     ghost use Rattle.cml_check.specs.InOrder.{IsProgram};
 

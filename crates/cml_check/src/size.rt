@@ -5,6 +5,6 @@
 pub struct Size {
     /// How many functions it has.
     pub functions: u32,
-    /// How many statements, those of branches and loops with the others. The word `do` of a branch is none.
+    /// How many statements, those of branches and loops with the others. The keyword `do` of a branch is none.
     pub statements: u32,
 }

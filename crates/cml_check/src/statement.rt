@@ -3,9 +3,9 @@
 ghost use Rattle.std.specs.Prelude.{◌≡◌, IfOk, OnOk, Some, length, true};
 ghost use Rattle.cml_text.specs.Forms.{plain_forms, span_of};
 ghost use Rattle.cml_check.specs.Syntax.{stmt_map, stmts_map, name_at};
-ghost use Rattle.cml_check.specs.Checked.{Gives};
+ghost use Rattle.cml_check.specs.Checked.{Finds};
 ghost use Rattle.cml_check.specs.Heads.{arities_of};
-ghost use Rattle.cml_check.specs.Statements.{counted, stmt_in, stmt_by, block_in, behind_do, stmts_in};
+ghost use Rattle.cml_check.specs.Statements.{statement_counted, stmt_in, stmt_by, block_in, behind_do, stmts_in};
 ghost use Rattle.cml_check.specs.StatementParts.{Grows, let_of, let_in, set_in, if_of, if_in, while_of, while_in, return_in, do_in};
 ghost use Rattle.cml_check.specs.InOrder.{stmt_fits, stmts_fit};
 
@@ -23,8 +23,8 @@ use std::alloc::Global;
 // The most statements of a script.
 const STATEMENT_LIMIT: usize = 4096;
 
-/// Where a walk through the statements has come: the names that the function has declared so far, and how many statements the script
-/// had.
+/// How far a walk through the statements has come: the names that the function has declared so far, and how many statements the
+/// script had so far.
 #[derive(Drop)]
 pub struct Scope<'a> {
     pub names: Names<'a>,
@@ -41,7 +41,7 @@ fn statement<'a>(
     form: &'a Sexpr,
 ) -> Result<Stmt, CheckFault>
     ensures gives { let found = stmt_in heads.now scope.old form.now in
-        Gives (λ s. (stmt_map (name_at scope.new.names) s, scope.new)) result found }
+        Finds (λ s. (stmt_map (name_at scope.new.names) s, scope.new)) result found }
     ensures fits { let slots = length scope.new.names in
         IfOk result (λ s. stmt_fits (arities_of heads.now) slots s ≡ true) }
     ensures grows { OnOk result (Grows scope.old.names scope.new.names) }
@@ -59,7 +59,7 @@ fn statement<'a>(
     }
 }
 
-// The statement of a list, by the word at its head and the forms behind it.
+// The statement of a list, by the keyword at its head and the forms after it.
 #[cycle(statement)]
 #[tactic(auto, using(crate::proofs::StatementWalk::list_let, crate::proofs::StatementWalk::list_set, crate::proofs::StatementWalk::list_if, crate::proofs::StatementWalk::list_while, crate::proofs::StatementWalk::list_return))]
 fn list_statement<'a>(
@@ -71,7 +71,7 @@ fn list_statement<'a>(
     behind: &'a [Sexpr],
 ) -> Result<Stmt, CheckFault>
     ensures gives { let found = stmt_by heads.now scope.old (span_of form.now) word (plain_forms behind.now) in
-        Gives (λ s. (stmt_map (name_at scope.new.names) s, scope.new)) result found }
+        Finds (λ s. (stmt_map (name_at scope.new.names) s, scope.new)) result found }
     ensures fits { let slots = length scope.new.names in
         IfOk result (λ s. stmt_fits (arities_of heads.now) slots s ≡ true) }
     ensures grows { OnOk result (Grows scope.old.names scope.new.names) }
@@ -86,7 +86,7 @@ fn list_statement<'a>(
     }
 }
 
-// A `let`, which declares its name behind what it gives that name.
+// A `let`, which declares its name after what it gives that name.
 #[tactic(auto, unfolding(crate::specs::StatementParts::let_in), using(crate::proofs::StatementWalk::no_let))]
 fn let_statement<'a>(
     alloc: Global,
@@ -96,7 +96,7 @@ fn let_statement<'a>(
     behind: &'a [Sexpr],
 ) -> Result<Stmt, CheckFault>
     ensures gives { let found = let_in heads.now scope.old (span_of form.now) (plain_forms behind.now) in
-        Gives (λ s. (stmt_map (name_at scope.new.names) s, scope.new)) result found }
+        Finds (λ s. (stmt_map (name_at scope.new.names) s, scope.new)) result found }
     ensures fits { let slots = length scope.new.names in
         IfOk result (λ s. stmt_fits (arities_of heads.now) slots s ≡ true) }
     ensures grows { OnOk result (Grows scope.old.names scope.new.names) }
@@ -117,7 +117,7 @@ fn declare<'a>(
     given: &'a Sexpr,
 ) -> Result<Stmt, CheckFault>
     ensures gives { let found = let_of heads.now scope.old name.now given.now in
-        Gives (λ s. (stmt_map (name_at scope.new.names) s, scope.new)) result found }
+        Finds (λ s. (stmt_map (name_at scope.new.names) s, scope.new)) result found }
     ensures fits { let slots = length scope.new.names in
         IfOk result (λ s. stmt_fits (arities_of heads.now) slots s ≡ true) }
     ensures grows { OnOk result (Grows scope.old.names scope.new.names) }
@@ -140,7 +140,7 @@ fn set_statement<'a>(
     behind: &'a [Sexpr],
 ) -> Result<Stmt, CheckFault>
     ensures gives { let found = set_in heads.now scope.old (span_of form.now) (plain_forms behind.now) in
-        Gives (λ s. (stmt_map (name_at scope.new.names) s, scope.new)) result found }
+        Finds (λ s. (stmt_map (name_at scope.new.names) s, scope.new)) result found }
     ensures fits { let slots = length scope.new.names in
         IfOk result (λ s. stmt_fits (arities_of heads.now) slots s ≡ true) }
     ensures grows { OnOk result (Grows scope.old.names scope.new.names) }
@@ -166,7 +166,7 @@ fn if_statement<'a>(
     behind: &'a [Sexpr],
 ) -> Result<Stmt, CheckFault>
     ensures gives { let found = if_in heads.now scope.old (span_of form.now) (plain_forms behind.now) in
-        Gives (λ s. (stmt_map (name_at scope.new.names) s, scope.new)) result found }
+        Finds (λ s. (stmt_map (name_at scope.new.names) s, scope.new)) result found }
     ensures fits { let slots = length scope.new.names in
         IfOk result (λ s. stmt_fits (arities_of heads.now) slots s ≡ true) }
     ensures grows { OnOk result (Grows scope.old.names scope.new.names) }
@@ -189,7 +189,7 @@ fn branch<'a>(
     other: &'a Sexpr,
 ) -> Result<Stmt, CheckFault>
     ensures gives { let found = if_of heads.now scope.old condition.now then.now other.now in
-        Gives (λ s. (stmt_map (name_at scope.new.names) s, scope.new)) result found }
+        Finds (λ s. (stmt_map (name_at scope.new.names) s, scope.new)) result found }
     ensures fits { let slots = length scope.new.names in
         IfOk result (λ s. stmt_fits (arities_of heads.now) slots s ≡ true) }
     ensures grows { OnOk result (Grows scope.old.names scope.new.names) }
@@ -213,7 +213,7 @@ fn while_statement<'a>(
     behind: &'a [Sexpr],
 ) -> Result<Stmt, CheckFault>
     ensures gives { let found = while_in heads.now scope.old (span_of form.now) (plain_forms behind.now) in
-        Gives (λ s. (stmt_map (name_at scope.new.names) s, scope.new)) result found }
+        Finds (λ s. (stmt_map (name_at scope.new.names) s, scope.new)) result found }
     ensures fits { let slots = length scope.new.names in
         IfOk result (λ s. stmt_fits (arities_of heads.now) slots s ≡ true) }
     ensures grows { OnOk result (Grows scope.old.names scope.new.names) }
@@ -235,7 +235,7 @@ fn repeat<'a>(
     body: &'a [Sexpr],
 ) -> Result<Stmt, CheckFault>
     ensures gives { let found = while_of heads.now scope.old condition.now (plain_forms body.now) in
-        Gives (λ s. (stmt_map (name_at scope.new.names) s, scope.new)) result found }
+        Finds (λ s. (stmt_map (name_at scope.new.names) s, scope.new)) result found }
     ensures fits { let slots = length scope.new.names in
         IfOk result (λ s. stmt_fits (arities_of heads.now) slots s ≡ true) }
     ensures grows { OnOk result (Grows scope.old.names scope.new.names) }
@@ -257,7 +257,7 @@ fn return_statement<'a>(
     behind: &'a [Sexpr],
 ) -> Result<Stmt, CheckFault>
     ensures gives { let found = return_in heads.now scope.old (span_of form.now) (plain_forms behind.now) in
-        Gives (λ s. (stmt_map (name_at scope.new.names) s, scope.new)) result found }
+        Finds (λ s. (stmt_map (name_at scope.new.names) s, scope.new)) result found }
     ensures fits { let slots = length scope.new.names in
         IfOk result (λ s. stmt_fits (arities_of heads.now) slots s ≡ true) }
     ensures grows { OnOk result (Grows scope.old.names scope.new.names) }
@@ -282,7 +282,7 @@ fn effect_statement<'a>(
     behind: &'a [Sexpr],
 ) -> Result<Stmt, CheckFault>
     ensures gives { let found = do_in heads.now scope.old (span_of form.now) word (plain_forms behind.now) in
-        Gives (λ s. (stmt_map (name_at scope.new.names) s, scope.new)) result found }
+        Finds (λ s. (stmt_map (name_at scope.new.names) s, scope.new)) result found }
     ensures fits { let slots = length scope.new.names in
         IfOk result (λ s. stmt_fits (arities_of heads.now) slots s ≡ true) }
     ensures grows { OnOk result (Grows scope.old.names scope.new.names) }
@@ -303,7 +303,7 @@ fn block<'a>(
     form: &'a Sexpr,
 ) -> Result<Block, CheckFault>
     ensures gives { let found = block_in heads.now scope.old form.now in
-        Gives (λ ss. (stmts_map (name_at scope.new.names) ss, scope.new)) result found }
+        Finds (λ ss. (stmts_map (name_at scope.new.names) ss, scope.new)) result found }
     ensures fits { let slots = length scope.new.names in
         IfOk result (λ ss. stmts_fit (arities_of heads.now) slots ss ≡ true) }
     ensures grows { OnOk result (Grows scope.old.names scope.new.names) }
@@ -314,7 +314,7 @@ fn block<'a>(
     }
 }
 
-// The statements behind the word for a branch.
+// The statements after the keyword for a branch.
 #[cycle(statement)]
 fn do_block<'a>(
     alloc: Global,
@@ -325,7 +325,7 @@ fn do_block<'a>(
     behind: &'a [Sexpr],
 ) -> Result<Block, CheckFault>
     ensures gives { let found = stmts_in heads.now scope.old (plain_forms behind.now) in
-        Gives (λ ss. (stmts_map (name_at scope.new.names) ss, scope.new)) result
+        Finds (λ ss. (stmts_map (name_at scope.new.names) ss, scope.new)) result
         (behind_do (span_of form.now) word found) }
     ensures fits { let slots = length scope.new.names in
         IfOk result (λ ss. stmts_fit (arities_of heads.now) slots ss ≡ true) }
@@ -346,7 +346,7 @@ pub fn statements<'a>(
     forms: &'a [Sexpr],
 ) -> Result<Block, CheckFault>
     ensures gives { let found = stmts_in heads.now scope.old (plain_forms forms.now) in
-        Gives (λ ss. (stmts_map (name_at scope.new.names) ss, scope.new)) result found }
+        Finds (λ ss. (stmts_map (name_at scope.new.names) ss, scope.new)) result found }
     ensures fits { let slots = length scope.new.names in
         IfOk result (λ ss. stmts_fit (arities_of heads.now) slots ss ≡ true) }
     ensures grows { OnOk result (Grows scope.old.names scope.new.names) }
@@ -361,8 +361,8 @@ pub fn statements<'a>(
 
 // Counts the statement at the form.
 fn count_statement(scope: &mut Scope<'_>, form: &Sexpr) -> Result<(), CheckFault>
-    ensures gives { let found = counted scope.old (span_of form.now) in
-        Gives (λ _. scope.new) result found }
+    ensures gives { let found = statement_counted scope.old (span_of form.now) in
+        Finds (λ _. scope.new) result found }
     ensures names { scope.new.names ≡ scope.old.names }
 {
     if scope.statements >= STATEMENT_LIMIT {

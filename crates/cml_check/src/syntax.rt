@@ -1,11 +1,11 @@
-//! Programs as the checker makes them: what a variable is called in the text, here is a slot.
+//! Programs as the checker makes them: where the text has the name of a variable, they have a slot.
 
 ghost use Rattle.std.specs.Prelude.{◌≡◌};
 
 use std::marker::Model;
 use std::sync::ArcStr;
 
-/// An expression that is one word, and no variable.
+/// An expression that is one keyword: a constant.
 #[derive(Clone, Copy, PartialEq, Eq)]
 pub enum Constant {
     True,
@@ -115,7 +115,7 @@ pub struct Exprs {
     pub items: Vec<Expr>,
 }
 
-/// What is done.
+/// An effect.
 #[derive(Drop)]
 pub enum Effect {
     Act(Act),
@@ -125,7 +125,7 @@ pub enum Effect {
     Spawn(u32, Exprs),
 }
 
-/// What a variable is set to: the value of an expression, or what an effect answers.
+/// What a variable is set to: the value of an expression, or what an effect returns.
 #[derive(Drop)]
 pub enum Source {
     Value(Expr),

@@ -1,4 +1,4 @@
-//! The words that mean something in a script.
+//! The keywords of a script.
 
 ghost use Rattle.std.specs.Prelude.{◌≡◌, find};
 ghost use Rattle.std.specs.Str.{bytes_eq};
@@ -7,7 +7,7 @@ ghost use Rattle.cml_check.specs.Words as spec;
 use crate::syntax::{Act, ActOnOne, ActOnTwo, Binary, Constant, Unary};
 use cml_text::{Sexpr, Shape};
 
-/// A word that means something in a script. None is the name of a function or a variable.
+/// A keyword of scripts. None is the name of a function or a variable.
 #[derive(Clone, Copy, PartialEq, Eq)]
 pub enum Word {
     Fn,
@@ -34,9 +34,9 @@ pub enum Word {
 }
 
 impl Word {
-    // How the word is spelled.
+    // How the keyword is spelled.
     fn spelling(self) -> &'static str
-        ensures { result.now ≡ spec.spelling self }
+        ensures { result.now ≡ spec.word_spelling self }
     {
         match self {
             Word::Fn => "fn",
@@ -150,14 +150,14 @@ fn two_spelling(act: ActOnTwo) -> &'static str
     }
 }
 
-// The words that start with an `a`.
+// The keywords that start with an `a`.
 const STARTING_WITH_A: [Word; 3] = [
     Word::Unary(Unary::Always),
     Word::Unary(Unary::At),
     Word::Unary(Unary::After),
 ];
 
-// The words that start with a `c`.
+// The keywords that start with a `c`.
 const STARTING_WITH_C: [Word; 4] = [
     Word::Call,
     Word::Choose,
@@ -165,14 +165,14 @@ const STARTING_WITH_C: [Word; 4] = [
     Word::ActOnOne(ActOnOne::Copy),
 ];
 
-// The words that start with an `f`.
+// The keywords that start with an `f`.
 const STARTING_WITH_F: [Word; 3] = [
     Word::Fn,
     Word::Constant(Constant::False),
     Word::Unary(Unary::Fst),
 ];
 
-// The words that start with an `i`.
+// The keywords that start with an `i`.
 const STARTING_WITH_I: [Word; 4] = [
     Word::If,
     Word::Unary(Unary::IGet),
@@ -180,7 +180,7 @@ const STARTING_WITH_I: [Word; 4] = [
     Word::ActOnTwo(ActOnTwo::IPut),
 ];
 
-// The words that start with an `m`.
+// The keywords that start with an `m`.
 const STARTING_WITH_M: [Word; 10] = [
     Word::MVar,
     Word::Unary(Unary::MTake),
@@ -194,14 +194,14 @@ const STARTING_WITH_M: [Word; 10] = [
     Word::ActOnTwo(ActOnTwo::Multicast),
 ];
 
-// The words that start with an `n`.
+// The keywords that start with an `n`.
 const STARTING_WITH_N: [Word; 3] = [
     Word::Constant(Constant::Never),
     Word::Unary(Unary::Not),
     Word::Act(Act::Now),
 ];
 
-// The words that start with a `p`.
+// The keywords that start with a `p`.
 const STARTING_WITH_P: [Word; 4] = [
     Word::Unary(Unary::PortRecv),
     Word::Binary(Binary::Pair),
@@ -209,7 +209,7 @@ const STARTING_WITH_P: [Word; 4] = [
     Word::ActOnOne(ActOnOne::Print),
 ];
 
-// The words that start with an `s`.
+// The keywords that start with an `s`.
 const STARTING_WITH_S: [Word; 8] = [
     Word::Set,
     Word::Spawn,
@@ -221,7 +221,7 @@ const STARTING_WITH_S: [Word; 8] = [
     Word::ActOnOne(ActOnOne::Sync),
 ];
 
-/// The word that is spelled so, if one is.
+/// The keyword of this spelling, if there is one.
 pub fn word_of(name: &str) -> Option<Word>
     ensures { result ≡ spec.word_of name.now }
 {
@@ -253,14 +253,14 @@ pub fn word_of(name: &str) -> Option<Word>
     }
 }
 
-// The first of the words that is spelled so, if one is.
+// The first of these keywords that has this spelling, if there is one.
 fn among(name: &str, words: &[Word]) -> Option<Word>
-    ensures { result ≡ find (λ word. bytes_eq (spec.spelling word) name.now) words.now }
+    ensures { result ≡ find (λ word. bytes_eq (spec.word_spelling word) name.now) words.now }
 {
     words.iter().copied().find(|word| word.spelling() == name)
 }
 
-/// The word that the form is, if it is one.
+/// The keyword that the form is, if it is one.
 pub fn word_from(form: &Sexpr) -> Option<Word>
     ensures { result ≡ spec.word_from form.now }
 {

@@ -1,7 +1,7 @@
 -- What a forcing asks for and how an answer is put in, by how it keeps the event.
 use Rattle.std.proofs.Common.{◌≡◌, ℕ, Option, Some, None, List, refl, ap, sym, ◌∙◌}
 use Rattle.cml_value.specs.Value.{PlainEvent, guard, scope, PlainFunction}
-use Rattle.cml_group.specs.Force.{PlainAsk, calls, needs_nack, unforced, replaced, event_of}
+use Rattle.cml_group.specs.Force.{PlainNeed, calls, needs_nack, unforced, replaced, event_of}
 use Rattle.cml_group.specs.Frames.{PlainFrame, plug}
 use Rattle.cml_group.specs.FrameViews.{plain_hole, plain_part, hole_ask}
 use Rattle.cml_group.specs.declared.force.part.Hole.{Hole}
@@ -10,7 +10,7 @@ use Rattle.cml_group.specs.declared.force.part.Part.{Part}
 use Rattle.cml_group.specs.declared.force.part.Part.TheVariants as part
 use Rattle.cml_group.proofs.Plugs.{none_in, unforced_plug, replaced_plug}
 
-abbrev pub part_ask : Part → Option PlainAsk
+abbrev pub part_ask : Part → Option PlainNeed
 part_ask (part.Whole g) = None
 part_ask (part.Open frames h) = Some (hole_ask h)
 

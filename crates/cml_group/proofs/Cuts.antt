@@ -2,7 +2,7 @@
 use Rattle.std.proofs.Common.{◌≡◌, ◌↔◌, ℕ, zero, suc, ◌≤◌, List, [], ◌∷◌, ◌++◌, take, drop, length, append_assoc, refl, ap, sym, ◌∙◌, arith}
 use Rattle.std.proofs.lemmas.List.{take-append-drop}
 
--- their first parts are the same where the lists are, and so is what stands behind
+-- their first parts are the same where the lists are, and so is what stands after
 cut : {A : Type 0} (n : ℕ) (xs ys ps qs : List A) → n ≤ length xs → n ≤ length ys → xs ++ ps ≡ ys ++ qs →
     (take n xs ≡ take n ys) × (drop n xs ++ ps ≡ drop n ys ++ qs)
 cut zero xs ys ps qs a b h = (refl, h)

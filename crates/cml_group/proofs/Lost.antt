@@ -99,7 +99,7 @@ mutual
       let f = outside-append (scopes_from m g) (scopes_from_all (m + leaf_count g) gs) n in
       cc
 
--- the scopes of the groups behind the first one of a choice, as scopes of a choice of their own
+-- the scopes of the groups after the first one of a choice, as scopes of a choice of their own
 shift_to : (first n c r : ℕ) (gs : PlainGroups) → first ≡ c + 0 → n ≡ c + r → outside (scopes_from_all first gs) n ≡ outside (scopes_from_all 0 gs) r
 shift_to first n c r gs e f = rw (e, f) (outside_shifted_of c 0 r gs)
 

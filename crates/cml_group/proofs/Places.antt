@@ -82,7 +82,7 @@ get_end [] vs k (suc i) h = absurd (omega arith)
 get_end (u ∷ us) vs k zero h = absurd (omega arith)
 get_end (u ∷ us) vs k (suc i) h = get_end us vs k i (omega arith)
 
--- the nacks of the scopes that pass stand at their places, here behind the nacks of other scopes
+-- the nacks of the scopes that pass stand at their places, here after the nacks of other scopes
 nacks_at : (us : List ℕ) (i : ℕ) (p : PlainScope → Bool) (ss : List PlainScope) → length us ≡ i → map Some (nacks_of (filter p ss)) ≡ map (slice_get (us ++ nacks_of ss)) (places_from i p ss)
 nacks_at us i p [] h = refl
 nacks_at us i p (s ∷ ss) h =

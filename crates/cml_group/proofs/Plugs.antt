@@ -5,7 +5,7 @@ use Rattle.cml_value.specs.Value.{PlainFunction, function, func_of, args_of, eve
 use Rattle.cml_value.specs.Group.{PlainGroup, PlainGroups, no_groups, groups_and, groups, group_depth, groups_depth, group_nodes, groups_nodes}
 use Rattle.cml_value.specs.Group.{never as never_group, leaf as leaf_group, choose as choose_group, wrap as wrap_group, scope as scope_group}
 use Rattle.cml_value.specs.Limits.{event_depth, events_depth, event_nodes, events_nodes}
-use Rattle.cml_group.specs.Force.{PlainAsk, or_else, unforced, unforced_of_all, where_found, replaced, replaced_in_all, with_last, given_nack, event_of, events_of}
+use Rattle.cml_group.specs.Force.{PlainNeed, or_else, unforced, unforced_of_all, where_found, replaced, replaced_in_all, with_last, given_nack, event_of, events_of}
 use Rattle.cml_group.specs.Frames.{PlainFrame, in_choice, in_wrap, in_scope, choice, framed, plug, side_depth, side_nodes, sides_depth, sides_nodes}
 
 -- nothing is unforced in a forced event
@@ -67,12 +67,12 @@ pub plug_push : (fs : List PlainFrame) (f : PlainFrame) (e : PlainEvent) → plu
 plug_push [] f e = refl
 plug_push (g ∷ gs) f e = plug_push gs f (framed g e)
 
-unforced_choice : (gs : List PlainGroup) (e : PlainEvent) (es : List PlainEvent) (a : PlainAsk) → unforced e ≡ Some a → unforced (choice gs (e ∷ es)) ≡ Some a
+unforced_choice : (gs : List PlainGroup) (e : PlainEvent) (es : List PlainEvent) (a : PlainNeed) → unforced e ≡ Some a → unforced (choice gs (e ∷ es)) ≡ Some a
 unforced_choice [] e es a h = ap (λ o. or_else o (unforced_of_all (events es))) h
 unforced_choice (g ∷ gs) e es a h =
     ap (λ o. or_else o (unforced_of_all (events (map event_of gs ++ e ∷ es)))) (none_in g) ∙ unforced_choice gs e es a h
 
-replaced_choice : (new : PlainEvent) (gs : List PlainGroup) (e : PlainEvent) (es : List PlainEvent) (a : PlainAsk) → unforced e ≡ Some a →
+replaced_choice : (new : PlainEvent) (gs : List PlainGroup) (e : PlainEvent) (es : List PlainEvent) (a : PlainNeed) → unforced e ≡ Some a →
     replaced_in_all new (events (map event_of gs ++ e ∷ es)) ≡ events (map event_of gs ++ replaced new e ∷ es)
 replaced_choice new [] e es a h = ap (λ o. where_found o (events_and (replaced new e) (events es)) (events_and e (replaced_in_all new (events es)))) h
 replaced_choice new (g ∷ gs) e es a h =
@@ -80,23 +80,23 @@ replaced_choice new (g ∷ gs) e es a h =
     ap (λ o. where_found o (events_and (replaced new (event_of g)) rest) (events_and (event_of g) (replaced_in_all new rest))) (none_in g)
     ∙ ap (λ t. events_and (event_of g) t) (replaced_choice new gs e es a h)
 
-pub unforced_framed : (f : PlainFrame) (e : PlainEvent) (a : PlainAsk) → unforced e ≡ Some a → unforced (framed f e) ≡ Some a
+pub unforced_framed : (f : PlainFrame) (e : PlainEvent) (a : PlainNeed) → unforced e ≡ Some a → unforced (framed f e) ≡ Some a
 unforced_framed (in_choice gs es) e a h = unforced_choice gs e es a h
 unforced_framed (in_wrap f) e a h = h
 unforced_framed (in_scope k) e a h = h
 
-replaced_framed : (f : PlainFrame) (new e : PlainEvent) (a : PlainAsk) → unforced e ≡ Some a → replaced new (framed f e) ≡ framed f (replaced new e)
+replaced_framed : (f : PlainFrame) (new e : PlainEvent) (a : PlainNeed) → unforced e ≡ Some a → replaced new (framed f e) ≡ framed f (replaced new e)
 replaced_framed (in_choice gs es) new e a h = ap choose (replaced_choice new gs e es a h)
 replaced_framed (in_wrap f) new e a h = refl
 replaced_framed (in_scope k) new e a h = refl
 
 -- what is unforced at the place is the first that is unforced in the whole
-pub unforced_plug : (fs : List PlainFrame) (e : PlainEvent) (a : PlainAsk) → unforced e ≡ Some a → unforced (plug fs e) ≡ Some a
+pub unforced_plug : (fs : List PlainFrame) (e : PlainEvent) (a : PlainNeed) → unforced e ≡ Some a → unforced (plug fs e) ≡ Some a
 unforced_plug [] e a h = h
 unforced_plug (f ∷ fs) e a h = unforced_plug fs (framed f e) a (unforced_framed f e a h)
 
 -- and to replace it in the whole is to replace it at the place
-pub replaced_plug : (fs : List PlainFrame) (new e : PlainEvent) (a : PlainAsk) → unforced e ≡ Some a → replaced new (plug fs e) ≡ plug fs (replaced new e)
+pub replaced_plug : (fs : List PlainFrame) (new e : PlainEvent) (a : PlainNeed) → unforced e ≡ Some a → replaced new (plug fs e) ≡ plug fs (replaced new e)
 replaced_plug [] new e a h = refl
 replaced_plug (f ∷ fs) new e a h =
     replaced_plug fs new (framed f e) a (unforced_framed f e a h) ∙ ap (plug fs) (replaced_framed f new e a h)

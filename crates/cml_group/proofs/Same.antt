@@ -1,10 +1,10 @@
--- An event says how a forcing keeps it: what stands round the first of its guards and withNacks, frame by frame, and which one it
+-- An event says how a forcing keeps it: what stands around the first of its guards and withNacks, frame by frame, and which one it
 -- is; and where nothing is unforced, the group. So two forcings are the same event only where they keep the same.
 use Rattle.std.proofs.Common.{◌≡◌, ◌↔◌, Some, List, [], ◌∷◌, ◌++◌, map, append_assoc, append-nil, refl, ap, sym, ◌∙◌}
 use Rattle.cml_value.specs.Value.{PlainEvent, never, leaf, choose, wrap, guard, with_nack, scope, PlainEvents, no_events, events_and, events}
 use Rattle.cml_value.specs.Group.{PlainGroup, PlainGroups, no_groups, groups_and}
 use Rattle.cml_value.specs.Group.{never as never_group, leaf as leaf_group, choose as choose_group, wrap as wrap_group, scope as scope_group}
-use Rattle.cml_group.specs.Force.{PlainAsk, unforced, where_found, event_of, events_of}
+use Rattle.cml_group.specs.Force.{PlainNeed, unforced, where_found, event_of, events_of}
 use Rattle.cml_group.specs.Frames.{PlainFrame, in_choice, in_wrap, in_scope, framed, plug}
 use Rattle.cml_group.specs.FrameViews.{plain_hole, hole_ask}
 use Rattle.cml_group.specs.declared.force.part.Hole.{Hole}
@@ -47,7 +47,7 @@ listed_back : (es : List PlainEvent) → listed (events es) ≡ es
 listed_back [] = refl
 listed_back (e ∷ es) = ap (λ l. e ∷ l) (listed_back es)
 
--- what stands round the first that is unforced, the innermost first
+-- what stands around the first that is unforced, the innermost first
 abbrev mutual
   frames_of : PlainEvent → List PlainFrame
   frames_of never = []
@@ -62,7 +62,7 @@ abbrev mutual
   frames_of_all gs no_events = []
   frames_of_all gs (events_and e es) = where_found (unforced e) (frames_of e ++ in_choice gs (listed es) ∷ []) (frames_of_all (gs ++ group_of e ∷ []) es)
 
-frames_choice : (done gs : List PlainGroup) (e : PlainEvent) (es : List PlainEvent) (a : PlainAsk) → unforced e ≡ Some a →
+frames_choice : (done gs : List PlainGroup) (e : PlainEvent) (es : List PlainEvent) (a : PlainNeed) → unforced e ≡ Some a →
     frames_of_all done (events (map event_of gs ++ e ∷ es)) ≡ frames_of e ++ in_choice (done ++ gs) es ∷ []
 frames_choice done [] e es a h =
     ap (λ o. where_found o (frames_of e ++ in_choice done (listed (events es)) ∷ []) (frames_of_all (done ++ group_of e ∷ []) (events es))) h
@@ -75,12 +75,12 @@ frames_choice done (g ∷ gs) e es a h =
     ∙ frames_choice (done ++ g ∷ []) gs e es a h
     ∙ ap (λ l. frames_of e ++ in_choice l es ∷ []) (append_assoc done (g ∷ []) gs)
 
-frames_framed : (f : PlainFrame) (e : PlainEvent) (a : PlainAsk) → unforced e ≡ Some a → frames_of (framed f e) ≡ frames_of e ++ f ∷ []
+frames_framed : (f : PlainFrame) (e : PlainEvent) (a : PlainNeed) → unforced e ≡ Some a → frames_of (framed f e) ≡ frames_of e ++ f ∷ []
 frames_framed (in_choice gs es) e a h = frames_choice [] gs e es a h
 frames_framed (in_wrap f) e a h = refl
 frames_framed (in_scope k) e a h = refl
 
-frames_plug : (fs : List PlainFrame) (e : PlainEvent) (a : PlainAsk) → unforced e ≡ Some a → frames_of (plug fs e) ≡ frames_of e ++ fs
+frames_plug : (fs : List PlainFrame) (e : PlainEvent) (a : PlainNeed) → unforced e ≡ Some a → frames_of (plug fs e) ≡ frames_of e ++ fs
 frames_plug [] e a h = sym (append-nil (frames_of e))
 frames_plug (f ∷ fs) e a h =
     frames_plug fs (framed f e) a (unforced_framed f e a h) ∙ ap (λ l. l ++ fs) (frames_framed f e a h) ∙ append_assoc (frames_of e) (f ∷ []) fs

@@ -1,26 +1,26 @@
 -- What forcing an event means: tree rewriting. While a guard or a withNack is left in the event, the leftmost of the outermost
--- ones gives way to the event that its function answers, a withNack's within a scope of a fresh nack (Reppy's guard and
--- withNack; the order is this runtime's).
+-- ones is replaced by the event that its function returns, which for a withNack stands in a scope with a fresh nack (Reppy's
+-- guard and withNack; the order is this runtime's).
 use Rattle.std.specs.Prelude.{◌≡◌, ℕ, Option, Some, None}
 use Rattle.cml_value.specs.Value.{PlainValue, event, PlainValues, no_values, values_and, PlainFunction, function, nack}
 use Rattle.cml_value.specs.Value.{PlainEvent, never, leaf, choose, wrap, guard, with_nack, scope, PlainEvents, no_events, events_and}
 use Rattle.cml_value.specs.Group.{PlainGroup, PlainGroups, no_groups, groups_and}
 use Rattle.cml_value.specs.Group.{never as never_group, leaf as leaf_group, choose as choose_group, wrap as wrap_group, scope as scope_group}
 
--- what forcing waits for: the event that a guard's function answers, or a fresh nack for a withNack's function
-pub data PlainAsk : Type 0 where
-  calls : PlainFunction → PlainAsk
-  needs_nack : PlainFunction → PlainAsk
+-- what forcing waits for: the event that a guard's function returns, or a fresh nack for a withNack's function
+pub data PlainNeed : Type 0 where
+  calls : PlainFunction → PlainNeed
+  needs_nack : PlainFunction → PlainNeed
 
 -- the first of the two that is there
-abbrev pub or_else : Option PlainAsk → Option PlainAsk → Option PlainAsk
+abbrev pub or_else : Option PlainNeed → Option PlainNeed → Option PlainNeed
 or_else (Some a) b = Some a
 or_else None b = b
 
 abbrev mutual
   -- the leftmost of the outermost guards and withNacks, none where all is forced; an event among captured values or in a
   -- base event's value is a value there, and is not forced
-  pub unforced : PlainEvent → Option PlainAsk
+  pub unforced : PlainEvent → Option PlainNeed
   unforced never = None
   unforced (leaf b) = None
   unforced (choose es) = unforced_of_all es
@@ -29,12 +29,12 @@ abbrev mutual
   unforced (with_nack f) = Some (needs_nack f)
   unforced (scope k e) = unforced e
 
-  pub unforced_of_all : PlainEvents → Option PlainAsk
+  pub unforced_of_all : PlainEvents → Option PlainNeed
   unforced_of_all no_events = None
   unforced_of_all (events_and e es) = or_else (unforced e) (unforced_of_all es)
 
--- the one where something is found, the other where nothing is
-abbrev pub where_found : {A : Type 0} → Option PlainAsk → A → A → A
+-- the first where something is found, the second where nothing is
+abbrev pub where_found : {A : Type 0} → Option PlainNeed → A → A → A
 where_found (Some a) x y = x
 where_found None x y = y
 

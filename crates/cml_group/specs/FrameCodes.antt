@@ -1,4 +1,4 @@
--- A code of each frame: a tree of numbers from which it can be read back. The toolchain asks for one; no rule speaks of it.
+-- A code of each frame: a tree of numbers from which it can be read back. The toolchain asks for one; no rule uses it.
 use Rattle.std.specs.Prelude.{◌≡◌}
 use Rattle.std.specs.Coded.{Coded, coded_list}
 use base.Stored.{Gv, gnum, gcons}

@@ -1,7 +1,7 @@
--- What the parts of a forcing are seen as, from their fields.
+-- The views of the parts of a forcing, made from their fields.
 use Rattle.std.specs.Prelude.{ℕ, drop, Option}
 use Rattle.cml_value.specs.Value.{PlainEvent, guard, with_nack}
-use Rattle.cml_group.specs.Force.{PlainAsk, calls, needs_nack, event_of}
+use Rattle.cml_group.specs.Force.{PlainNeed, calls, needs_nack, event_of}
 use Rattle.cml_group.specs.Frames.{PlainFrame, in_choice, in_wrap, in_scope, plug, IsRoom}
 use Rattle.cml_group.specs.declared.force.frame.FrameKind.{FrameKind}
 use Rattle.cml_group.specs.declared.force.frame.FrameKind.TheVariants as frame_kind
@@ -19,8 +19,8 @@ abbrev pub plain_hole : Hole → PlainEvent
 plain_hole (hole.Guard f) = guard f
 plain_hole (hole.WithNack f) = with_nack f
 
--- what is asked for there
-abbrev pub hole_ask : Hole → PlainAsk
+-- what is asked for at the hole
+abbrev pub hole_ask : Hole → PlainNeed
 hole_ask (hole.Guard f) = calls f
 hole_ask (hole.WithNack f) = needs_nack f
 
@@ -28,7 +28,7 @@ abbrev pub plain_part : Part → PlainEvent
 plain_part (part.Whole g) = event_of g
 plain_part (part.Open frames h) = plug frames.items (plain_hole h)
 
--- the room is that of the frames, where there are any
+-- the room is that of the frames, where the part has frames
 abbrev pub IsRoomOf : Option ℕ → Part → Type 0
 IsRoomOf room (part.Whole g) = Unit {0}
 IsRoomOf room (part.Open frames h) = IsRoom room frames.items

@@ -1,5 +1,5 @@
--- How a forcing keeps the event: what stands round the place where it goes on, frame by frame, the innermost first. No rule
--- speaks of it.
+-- How a forcing keeps the event: what stands around the place where it goes on, frame by frame, the innermost first. No rule
+-- uses this.
 use Rattle.std.specs.Prelude.{◌≡◌, ℕ, ◌+◌, ◌≤◌, max, List, [], ◌∷◌, ◌++◌, map, length, Option, Some, None, false}
 use Rattle.cml_value.specs.Value.{PlainFunction, PlainEvent, choose, wrap, scope, events}
 use Rattle.cml_value.specs.Group.{PlainGroup, groups, groups_depth, groups_nodes}
@@ -12,7 +12,7 @@ pub data PlainFrame : Type 0 where
   in_wrap : PlainFunction → PlainFrame
   in_scope : ℕ → PlainFrame
 
--- the choice of these forced events and then these
+-- the choice of these forced events and, after them, these events
 abbrev pub choice : List PlainGroup → List PlainEvent → PlainEvent
 choice gs es = choose (events (map event_of gs ++ es))
 
@@ -27,7 +27,7 @@ abbrev pub plug : List PlainFrame → PlainEvent → PlainEvent
 plug [] e = e
 plug (f ∷ fs) e = plug fs (framed f e)
 
--- the depth and the nodes of a frame without what stands in it
+-- the depth and the nodes of a frame without the event in it
 abbrev pub side_depth : PlainFrame → ℕ
 side_depth (in_choice gs es) = max (groups_depth (groups gs)) (events_depth (events es)) + 1
 side_depth (in_wrap f) = function_depth f + 1
@@ -47,7 +47,7 @@ abbrev pub sides_nodes : List PlainFrame → ℕ
 sides_nodes [] = 0
 sides_nodes (f ∷ fs) = side_nodes f + sides_nodes fs
 
--- how many nodes may stand in these frames; none where no event may
+-- how many nodes an event in these frames may have; `None` where no event may stand there
 abbrev pub IsRoom : Option ℕ → List PlainFrame → Type 0
 IsRoom (Some room) fs = (sides_depth fs ≤ max_depth) × (room + sides_nodes fs ≡ max_nodes)
 IsRoom None fs = (e : PlainEvent) → event_fits (plug fs e) ≡ false

@@ -8,7 +8,7 @@ use Rattle.cml_value.specs.declared.number.NackId.{NackId}
 abbrev pub max_leaves : ℕ
 max_leaves = 256
 
--- at most so many leaves, and within the limits of depth and of nodes
+-- at most this many leaves, and within the limits of depth and of nodes
 pub record IsWithinLimits (g : PlainGroup) : Type 0 where
   pub few_leaves : leaf_count g ≤ max_leaves
   pub fits : group_fits g ≡ true

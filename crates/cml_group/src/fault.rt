@@ -13,7 +13,7 @@ pub enum FlatFault {
     /// It has few enough leaves, and nests too deep or is made of too many nodes.
     #[error("the group nests too deep or has too many nodes")]
     Deep(Group),
-    /// Want of memory.
+    /// Out of memory.
     #[error("out of memory")]
     Memory(Group),
 }
@@ -31,7 +31,7 @@ pub enum ForceFault {
     /// The event being forced would nest too deep or have too many nodes, what is still unforced included.
     #[error("the event being forced nests too deep or has too many nodes")]
     Deep(Event),
-    /// Want of memory.
+    /// Out of memory.
     #[error("out of memory")]
     Memory(Event),
 }

@@ -50,7 +50,7 @@ pub struct Chosen {
     pub lost: Vec<NackId>,
 }
 
-// Puts the nacks of those branches in which the leaf does not lie into the list, which has room for them.
+// Fills the list, which has room, with the nacks of those branches in which the leaf does not lie.
 fn fill(nacks: &mut Vec<NackId>, branches: &[Branch], leaf: usize)
     requires { length branches.now ≤ vec_capacity nacks.old }
     ensures { numbers nacks.new.items ≡ nacks_of (filter (lies_outside leaf) branches.now) }
@@ -63,7 +63,7 @@ fn fill(nacks: &mut Vec<NackId>, branches: &[Branch], leaf: usize)
     }
 }
 
-// The nacks of the branches, in a list of their number.
+// The nacks of the branches, in a list with room for all of them.
 fn nacks_in(alloc: Global, branches: &[Branch]) -> Result<Vec<NackId>, AllocError>
     ensures nacks { IfOk result (λ ks. numbers ks.items ≡ nacks_of branches.now) }
     ensures room { IfOk result (λ ks. length branches.now ≤ vec_capacity ks) }
@@ -75,13 +75,13 @@ fn nacks_in(alloc: Global, branches: &[Branch]) -> Result<Vec<NackId>, AllocErro
     Ok(nacks)
 }
 
-/// The group laid flat, which a thread offers the leaves of. All that [`Flat::choose`] will hand out is reserved here.
+/// The group laid flat: a thread offers its leaves. All that [`Flat::choose`] will hand out is reserved here.
 ///
 /// The leaves are counted exactly, up to the limit, by a walk over the tree, in which a shared part counts each time that it
 /// stands there. So a group of more than 65,536 nodes and few leaves takes as long as it has nodes; any other stops before.
 ///
 /// # Errors
-/// More than [`MAX_LEAVES`] leaves, then too much depth or too many nodes, then want of memory, each with the group.
+/// More than [`MAX_LEAVES`] leaves, then too much depth or too many nodes, then out of memory. Each hands the group back.
 pub fn flatten(alloc: Global, group: Group) -> Result<Flat, FlatFault>
     ensures within { IfOk result (λ flat. IsWithinLimits group) }
     ensures ok { IfOk result (λ flat. flat ≡ group) }
@@ -162,7 +162,7 @@ impl Flat {
     /// The nacks that fire where the leaf is chosen, in the order of [`Flat::scopes`].
     ///
     /// # Errors
-    /// Want of memory.
+    /// Out of memory.
     pub fn lost(&self, alloc: Global, n: usize) -> Result<Vec<NackId>, AllocError>
         requires { n < leaf_count self.now }
         ensures { IfOk result (λ ks. numbers ks.items ≡ lost self.now n) }

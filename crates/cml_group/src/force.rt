@@ -24,7 +24,7 @@ use std::marker::Model;
 /// What a forcing asks for.
 #[derive(Drop)]
 pub enum Next {
-    /// The event that the function answers.
+    /// The event that the function returns.
     Call(FnRef),
     /// A fresh nack.
     NeedNack,
@@ -32,8 +32,8 @@ pub enum Next {
     Ready,
 }
 
-/// An event being forced: its guards and withNacks give way to the events that their functions answer, one after another.
-/// The event itself is what contracts see of it.
+/// An event being forced: its guards and withNacks are replaced by the events that their functions return, one after another.
+/// Contracts see of it the event itself.
 #[derive(Drop)]
 pub struct Forcing {
     part: Part,
@@ -65,7 +65,7 @@ fn first_room(part: &Part) -> Option<u32>
     }
 }
 
-// The same of an event within the limits, to which so many nodes could be added.
+// The same of an event within the limits, to which this many nodes could be added.
 #[tactic(auto, using(std::proofs::lemmas::Bool::Decides::nat_tests, crate::proofs::Plugs::measured))]
 fn next_room(part: &Part, left: u32) -> Option<u32>
     requires fits { event_fits (plain_part part.now) ≡ true }
@@ -103,7 +103,7 @@ fn with_nack_event(alloc: Global, function: &FnRef, nack: NackId) -> Result<FnRe
     Ok(FnRef::new(alloc, function.func(), args)?)
 }
 
-// The scope of the nack, and these frames round it.
+// The scope of the nack, and these frames around it.
 fn round_scope(alloc: Global, nack: NackId, frames: &[Frame]) -> Result<Vec<Frame>, AllocError>
     ensures { IfOk result (λ all. all.items ≡ in_scope nack.0 ∷ frames.now) }
 {
@@ -113,7 +113,7 @@ fn round_scope(alloc: Global, nack: NackId, frames: &[Frame]) -> Result<Vec<Fram
     Ok(all)
 }
 
-// The steps, each to a forcing of its own: copies share what is large, so what was there stays as it is where memory runs out.
+// The steps. Each makes a forcing of its own: copies share what is large, so the old one stays as it is where memory runs out.
 impl Forcing {
     // How many nodes may still be added to the event with this answer in its place, where all of it is within the limits.
     fn spend(&self, answer: &Event) -> Option<u32>
@@ -129,7 +129,7 @@ impl Forcing {
         spend_within(self.room, frames, answer)
     }
 
-    // The forcing with the answer in its place, to which so many nodes may still be added.
+    // The forcing with the answer in its place, to which this many nodes may still be added.
     fn with_answer(&self, alloc: Global, answer: &Event, left: u32) -> Result<Forcing, AllocError>
         requires awaits { AwaitsEvent self.now }
         requires fits { event_fits (replaced answer.now self.now) ≡ true }
@@ -175,7 +175,7 @@ impl Forcing {
     /// The forcing of this event, up to its first guard or withNack.
     ///
     /// # Errors
-    /// Want of memory, with the event.
+    /// Out of memory; the event comes back.
     pub fn start(alloc: Global, event: Event) -> Result<Forcing, AllocFailed<Event>>
         ensures ok { IfOk result (λ forcing. forcing ≡ event) }
         ensures err { IfErr result (λ back. back.value ≡ event) }
@@ -192,7 +192,7 @@ impl Forcing {
     /// What is asked for: the same until it is answered.
     ///
     /// # Errors
-    /// Want of memory: no more owners of the function can be counted.
+    /// Out of memory: no more owners of the function can be counted.
     pub fn next(&self) -> Result<Next, AllocError>
         ensures { IfOk result (λ next. Asks next (unforced self.now)) }
     {
@@ -202,11 +202,11 @@ impl Forcing {
         }
     }
 
-    /// Answers with a fresh nack, where one is asked for. The function, with the nack's event as its last argument, is to be
-    /// called next, and the event that it answers will stand in the withNack's place as the branch of the nack.
+    /// Answers with a fresh nack, where one is asked for. The function that comes back, with the nack's event as its last
+    /// argument, is to be called next. The event that it returns will stand in the withNack's place as the branch of the nack.
     ///
     /// # Errors
-    /// Want of memory. The forcing is then as it was.
+    /// Out of memory. The forcing is then as it was.
     pub fn answer_nack(&mut self, alloc: Global, nack: NackId) -> Result<FnRef, AllocError>
         requires { AwaitsNack self.old }
         ensures function { IfOk result (λ given. (f : PlainFunction) →
@@ -223,10 +223,10 @@ impl Forcing {
         Ok(given)
     }
 
-    /// Puts the event that the function answered in its place, where one is asked for.
+    /// Puts the event that the function returned in its place, where one is asked for.
     ///
     /// # Errors
-    /// An event that with this answer, and with all that is still unforced, would not be within the limits; then want of
+    /// An event that with this answer, and with all that is still unforced, would not be within the limits; then out of
     /// memory. Each hands the answer back, and the forcing is as it was.
     pub fn answer_event(&mut self, alloc: Global, answer: Event) -> Result<(), ForceFault>
         requires { AwaitsEvent self.old }
@@ -247,11 +247,11 @@ impl Forcing {
         Ok(())
     }
 
-    /// Another owner of the same event being forced. It takes a count for each frame round the place where the forcing goes
+    /// Another owner of the same event being forced. It takes a count for each frame around the place where the forcing goes
     /// on, whatever is forced already.
     ///
     /// # Errors
-    /// Want of memory.
+    /// Out of memory.
     pub fn copy(&self, alloc: Global) -> Result<Forcing, AllocError>
         ensures { IfOk result (λ forcing. forcing ≡ self.now) }
     {

@@ -13,7 +13,7 @@ pub fn choice_leaves()
     ensures { (gs : List PlainGroup) → leaves (choose (groups gs)) ≡ flat_map leaves gs }
 {}
 
-/// The numbers below the number of leaves name one each, and no other number names any.
+/// Each number below the number of leaves names one leaf, and no other number names any.
 pub fn named_leaves()
     ensures named { (g : PlainGroup) (n : ℕ) → n < leaf_count g → IsSome (pick g n) }
     ensures no_more { (g : PlainGroup) (n : ℕ) → leaf_count g ≤ n → pick g n ≡ None }

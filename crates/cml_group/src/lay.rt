@@ -27,7 +27,7 @@ impl Model for Leaf {
 }
 
 impl Leaf {
-    // On Err the leaf is as it was.
+    // At an error the leaf is as it was.
     fn wrap(&mut self, function: &FnRef) -> Result<(), AllocError>
         ensures { OnOk result (self.new ≡ wrapped_by function.now self.old) }
     {
@@ -69,7 +69,7 @@ impl Default for Branch {
 /// The branches of a group, of which most groups have few.
 pub type Branches = SmallVec<Branch, 4>;
 
-// Puts the function behind those of each leaf from this number on.
+// Appends the function to those of each leaf from this number on.
 fn wrap_from(leaves: &mut Vec<Leaf>, first: usize, function: &FnRef) -> Result<(), AllocError>
     ensures { OnOk result (leaves.new.items
         ≡ take first leaves.old.items ++ map (wrapped_by function.now) (drop first leaves.old.items)) }
@@ -80,10 +80,10 @@ fn wrap_from(leaves: &mut Vec<Leaf>, first: usize, function: &FnRef) -> Result<(
     Ok(())
 }
 
-/// Puts the group's leaves behind these leaves, and its scopes behind these branches.
+/// Appends the group's leaves to these leaves, and its scopes to these branches.
 ///
 /// # Errors
-/// Want of memory.
+/// Out of memory.
 pub fn lay(
     group: &Group,
     alloc: Global,

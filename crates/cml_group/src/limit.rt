@@ -5,10 +5,10 @@ ghost use Rattle.cml_value.specs.Group.{leaf_count};
 
 use cml_value::{Group, GroupKind};
 
-/// How many leaves a group may have.
+/// The most leaves that a group may have.
 pub const MAX_LEAVES: usize = 256;
 
-// What is left of a budget of leaves, where it is enough.
+// What is left of a budget of leaves after the group, where it is enough.
 #[tactic(auto, using(std::proofs::lemmas::Bool::Decides::nat_tests, crate::proofs::Leaves::counts))]
 pub fn spend_leaves(group: &Group, budget: usize) -> Option<usize>
     ensures enough { is_some result ≡ nat_le (leaf_count group.now) budget }

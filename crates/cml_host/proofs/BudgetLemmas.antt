@@ -8,10 +8,10 @@ use Rattle.cml_schedule.specs.declared.line.State.{State}
 use Rattle.cml_schedule.specs.declared.line.State.TheVariants.{Opening, Reading, Closed}
 use Rattle.cml_schedule.specs.declared.word.Word.{Word}
 use Rattle.cml_schedule.specs.declared.word.Word.TheVariants as word
-use Rattle.cml_schedule.specs.Lines.{both, within, is_number, budget_from, size_from, head_by, head_from, opened, is_there, with_item, item_from, after_head, after_forms, after_line}
+use Rattle.cml_schedule.specs.Lines.{if_both, within, is_expected, budget_from, size_from, schedule_by, head_from, opened, is_there, with_item, item_from, after_head, after_forms, after_line}
 use Rattle.cml_schedule.specs.Plans.{PlainPlan}
 use Rattle.cml_schedule.specs.Reading.{LeadsTo, at_end}
-use Rattle.cml_schedule.specs.Words.{word_of}
+use Rattle.cml_schedule.specs.Words.{line_word}
 use Rattle.cml_text.specs.Forms.{PlainSexpr}
 use Rattle.cml_text.specs.Numbers.{number_from}
 
@@ -29,18 +29,18 @@ within_bounds (Some m) n e =
 
 budget_bounds : (expected : ℕ) (version budget : PlainSexpr) (n : ℕ) → budget_from expected version budget ≡ Some n → IsBudget n
 budget_bounds expected version budget n e =
-    within_bounds (number_from budget) n (chosen (is_number expected (number_from version)) (within 1 1000000000 (number_from budget)) n e).1
+    within_bounds (number_from budget) n (chosen (is_expected expected (number_from version)) (within 1 1000000000 (number_from budget)) n e).1
 
 mapped : (o : Option ℕ) (head : ℕ × Option Size) → option_map (λ (b : ℕ). (b, None)) o ≡ Some head → o ≡ Some head.0
 mapped None head e = cc
 mapped (Some b) head e = cc
 
-joined : (o : Option ℕ) (s : Option Size) (head : ℕ × Option Size) → both (λ b z. (b, Some z)) o s ≡ Some head → o ≡ Some head.0
+joined : (o : Option ℕ) (s : Option Size) (head : ℕ × Option Size) → if_both (λ b z. (b, Some z)) o s ≡ Some head → o ≡ Some head.0
 joined None s head e = cc
 joined (Some b) None head e = cc
 joined (Some b) (Some z) head e = cc
 
-head_bounds : (forms : List PlainSexpr) (head : ℕ × Option Size) → head_by forms ≡ Some head → IsBudget head.0
+head_bounds : (forms : List PlainSexpr) (head : ℕ × Option Size) → schedule_by forms ≡ Some head → IsBudget head.0
 head_bounds (version ∷ budget ∷ []) head e = budget_bounds 1 version budget head.0 (mapped (budget_from 1 version budget) head e)
 head_bounds (version ∷ budget ∷ functions ∷ statements ∷ []) head e =
     budget_bounds 2 version budget head.0 (joined (budget_from 2 version budget) (size_from functions statements) head e)
@@ -86,7 +86,7 @@ after_bounds (Closed plan) first forms next budget e = cc
 
 line_bounds : (state : State) (forms : List PlainSexpr) (next : State) → HasBudget state → after_line state forms ≡ Some next → HasBudget next
 line_bounds state [] next budget e = subst HasBudget (let same : state ≡ next = cc in same) budget
-line_bounds state (form ∷ forms) next budget e = after_bounds state (word_of form) forms next budget e
+line_bounds state (form ∷ forms) next budget e = after_bounds state (line_word form) forms next budget e
 
 end_bounds : (n : ℕ) (state : State) (plan : PlainPlan) → HasBudget state → Ok plan ≡ at_end n state → IsBudget plan.budget
 end_bounds n Opening plan budget e = cc

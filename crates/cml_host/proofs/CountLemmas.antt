@@ -7,7 +7,7 @@ use Rattle.cml_words.specs.Words as words
 use Rattle.cml_words.specs.declared.Answer.TheVariants as answer
 use Rattle.cml_words.specs.declared.RunOptions.{RunOptions}
 use Rattle.cml_words.specs.declared.Task.TheVariants.{Run}
-use Rattle.cml_work.specs.Works.{IsCount}
+use Rattle.cml_work.specs.Works.{IsWorkerCount}
 
 watched : (watch : Option ℕ) → IfSome watch words.IsCount → IsWatch watch
 watched None within = tt
@@ -17,7 +17,7 @@ some_gives : {T : Type 0} (o : Option T) (P : T → Type 0) (Q : Type 0) → ((x
 some_gives None P Q from is = absurd is
 some_gives (Some x) P Q from is = from x is
 
-run_counts : (options : RunOptions) (given : _) → IsRun given options → IsCount options.workers × IsBudget options.steps × IsWatch options.watch
+run_counts : (options : RunOptions) (given : _) → IsRun given options → IsWorkerCount options.workers × IsBudget options.steps × IsWatch options.watch
 run_counts options given is = (
   (is.counts.0.0, is.counts.0.1),
   (is.counts.1.0, is.counts.1.1),
@@ -25,6 +25,6 @@ run_counts options given is = (
 )
 
 pub counted : (given : List (List ℕ)) (options : RunOptions) → IsAnswer given (answer.Task (Run options)) →
-    IsCount options.workers × IsBudget options.steps × IsWatch options.watch
+    IsWorkerCount options.workers × IsBudget options.steps × IsWatch options.watch
 counted given options is =
     some_gives _ (λ named. Names named (Run options)) _ (λ named names. run_counts options named.1 names.1) is.1

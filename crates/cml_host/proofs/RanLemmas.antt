@@ -2,9 +2,9 @@
 use Rattle.std.proofs.Common.{◌≡◌, ◌∙◌, ◌⊎◌, ℕ, List, [], true, Option, Some, None, inl, inr, refl, subst}
 use Rattle.std.specs.String.{string_bytes}
 use Rattle.cml_check.specs.Sizes.{size_of}
-use Rattle.cml_check.specs.Syntax.{PlainFunction}
+use Rattle.cml_check.specs.Syntax.{PlainItem}
 use Rattle.cml_hub.specs.Courses.{run_of}
-use Rattle.cml_hub.specs.Kept.{Kept, IsBegun}
+use Rattle.cml_hub.specs.Kept.{Kept, IsAtStart}
 use Rattle.cml_hub.specs.Runs.{Run, ending, over}
 use Rattle.cml_monitor.specs.Reports.{PlainReport}
 use Rattle.cml_schedule.specs.declared.item.Item.{Item}
@@ -20,20 +20,20 @@ use Rattle.cml_host.specs.declared.workers.Cause.{Cause}
 use Rattle.cml_host.specs.declared.workers.Cause.TheVariants as cause
 use Rattle.cml_host.specs.declared.workers.Stopped.{Stopped}
 use Rattle.cml_host.specs.Replaying.{IsHubOf, IsNotRun, ScheduleRan}
-use Rattle.cml_host.specs.Running.{HasEnded, record_name, IsRecorded, RecordBroke, EndRan, AreLive, ProgramRan, RunRan, BegunRan, AreToldBy, IsStopped, StopRan, EndedRan, IsMade, RecordRan}
+use Rattle.cml_host.specs.Running.{HasEnded, record_name, IsRecorded, RecordBroke, EndRan, ReportsAreLive, ProgramRan, RunRan, BegunRan, AreToldBy, IsStopped, StopRan, EndedRan, IsMade, RecordRan}
 use Rattle.cml_host.specs.Said.{RefusalRan}
 use Rattle.cml_host.specs.Scripts.{IsOpened, IsNotOpened, NoScriptRan}
-use Rattle.cml_host.specs.Stores.{Content, Shelf, Becomes, IsSaved, IsUnchanged}
+use Rattle.cml_host.specs.Stores.{Content, Shelf, IsReplacedBy, IsSaved, IsUnchanged}
 use Rattle.cml_host.specs.Told.{IsRunOf, AllReported, reports_text, whole_output, end_status, IsTold, IsNotTold, OutputNotTold, IsCutOff, IsLiveCutOff, IsForeign}
 use Rattle.cml_host.proofs.TellLemmas.{says_behind, reports_broke, cut_behind, cut_behind_all, output_behind, told_behind, live_cut_behind}
 
 -- the hub's run is one of this program
-run_is : (p : List (PlainFunction ℕ)) (watch : Option ℕ) (items : List Item) (h : Kept) → h.course.program ≡ p → h.watch ≡ watch → h.course.items ≡ items →
+run_is : (p : List (PlainItem ℕ)) (watch : Option ℕ) (items : List Item) (h : Kept) → h.course.program ≡ p → h.watch ≡ watch → h.course.items ≡ items →
     IsRunOf h.course.program h.watch h.course.items h.reports (run_of h.course) → IsRunOf p watch items h.reports (run_of h.course)
 run_is p watch items h program watched items_are run =
     subst (λ (ts : List Item). IsRunOf p watch ts h.reports (run_of h.course)) items_are
     (subst (λ (w : Option ℕ). IsRunOf p w h.course.items h.reports (run_of h.course)) watched
-    (subst (λ (q : List (PlainFunction ℕ)). IsRunOf q h.watch h.course.items h.reports (run_of h.course)) program run))
+    (subst (λ (q : List (PlainItem ℕ)). IsRunOf q h.watch h.course.items h.reports (run_of h.course)) program run))
 
 -- ---- scripts
 
@@ -46,7 +46,7 @@ not_scripted content name Memory errors status any memory = inr (inr memory)
 
 -- ---- replay
 
-pub not_scheduled : (p : List (PlainFunction ℕ)) (watch : Option ℕ) (content : Content) (name : List ℕ) (why : Refusal) (output errors : Counted) (status : ℕ) →
+pub not_scheduled : (p : List (PlainItem ℕ)) (watch : Option ℕ) (content : Content) (name : List ℕ) (why : Refusal) (output errors : Counted) (status : ℕ) →
     IsNotRun p content why → RefusalRan name why 3 errors status → IsIdle output → ScheduleRan p watch name content output errors status
 not_scheduled p watch content name Unread output errors status may (inl told) idle = inr (inl (may, told.0, told.1), idle)
 not_scheduled p watch content name Unread output errors status may (inr memory) idle = inr (inr memory, idle)
@@ -54,7 +54,7 @@ not_scheduled p watch content name (Wrong told) output errors status wrong said 
     inl (wrong.0, wrong.1, inr (string_bytes told, wrong.2, said.0, said.1, idle))
 not_scheduled p watch content name Memory output errors status any memory idle = inr (inr memory, idle)
 
-pub scheduled : (p : List (PlainFunction ℕ)) (watch : Option ℕ) (name : List ℕ) (content : Content) (h : Kept) (output errors : Counted) (status : ℕ) →
+pub scheduled : (p : List (PlainItem ℕ)) (watch : Option ℕ) (name : List ℕ) (content : Content) (h : Kept) (output errors : Counted) (status : ℕ) →
     IsHubOf p watch content h → IsRunOf h.course.program h.watch h.course.items h.reports (run_of h.course) →
     ((IsTold h.reports (whole_output h.budget (run_of h.course)) output errors × (status ≡ end_status (ending h.budget (run_of h.course))))
     ⊎ IsNotTold h.reports h.course.output (whole_output h.budget (run_of h.course)) output errors status) →
@@ -121,7 +121,7 @@ record_broke_behind None a b d reports text output calls failed store status bef
 record_broke_behind (Some name) a b d reports text output calls failed store status before broke =
     (broke.0, broke.1, says_behind a b d calls failed (reports_text reports) _ before broke.2, broke.3, broke.4)
 
--- what was told of the output, behind the reports that were told before
+-- what was told of the output, after the reports that were told before
 pub ended_behind : (name : Option (List ℕ)) (h : Kept) (a b d : Option (List ℕ)) (output : Counted) (calls failed : ℕ) (store : Shelf) (status : ℕ) →
     Takes (stream a b) (reports_text h.reports) → EndedRan name h [] output (counted_stream b d calls failed) store status →
     EndRan name (schedule_text h.budget (size_of h.course.program) h.course.items) h.reports h.budget (run_of h.course) output
@@ -136,8 +136,8 @@ ended_behind name h a b d output calls failed store status before (inl (inr (inr
 ended_behind name h a b d output calls failed store status before (inr cut) =
     inr (cut_behind_all a b d h.reports h.course.output output calls failed status before cut.0, cut.1)
 
-pub ended_ran : (p : List (PlainFunction ℕ)) (options : RunOptions) (begun h : Kept) (output errors : Counted) (store : Shelf) (status : ℕ) →
-    IsBegun p options.steps options.watch begun → IsWorked begun h → IsRunOf h.course.program h.watch h.course.items h.reports (run_of h.course) →
+pub ended_ran : (p : List (PlainItem ℕ)) (options : RunOptions) (begun h : Kept) (output errors : Counted) (store : Shelf) (status : ℕ) →
+    IsAtStart p options.steps options.watch begun → IsWorked begun h → IsRunOf h.course.program h.watch h.course.items h.reports (run_of h.course) →
     (EndRan (record_name options) (schedule_text h.budget (size_of h.course.program) h.course.items) h.reports h.budget (run_of h.course) output errors store status
     ⊎ (IsCutOff h.reports h.course.output output errors status × IsUnchanged store.before store.after)) →
     ProgramRan p options output errors store status
@@ -148,7 +148,7 @@ ended_ran p options begun h output errors store status begins worked run (inl en
     let budget : h.budget ≡ options.steps = more.budget ∙ begins.budget_is in
     let watch : h.watch ≡ options.watch = more.watch ∙ begins.watch_is in
     let all = subst (λ (b : ℕ). EndRan (record_name options) (schedule_text b (size_of p) h.course.items) h.reports b r output errors store status) budget
-    (subst (λ (q : List (PlainFunction ℕ)). EndRan (record_name options) (schedule_text h.budget (size_of q) h.course.items) h.reports h.budget r output errors store status)
+    (subst (λ (q : List (PlainItem ℕ)). EndRan (record_name options) (schedule_text h.budget (size_of q) h.course.items) h.reports h.budget r output errors store status)
     program ended) in (
       h.course.items,
       h.reports,
@@ -171,11 +171,11 @@ ended_ran p options begun h output errors store status begins worked run (inr cu
       inr (inl cut),
     )
 
--- how a run that was stopped is told, behind what was written of its reports
+-- how a run that was stopped is told, after what was written of its reports
 stop_behind : (options : RunOptions) (h : Kept) (why : Cause) (a b d : Option (List ℕ)) (output : Counted) (calls failed status : ℕ) →
     AreToldBy options h why (stream a b) → StopRan h why output (counted_stream b d calls failed) status →
     IsCutOff h.reports h.course.output output (counted_stream a d calls failed) status
-    ⊎ (AreLive options × (IsLiveCutOff h.course.output output (counted_stream a d calls failed) status
+    ⊎ (ReportsAreLive options × (IsLiveCutOff h.course.output output (counted_stream a d calls failed) status
     ⊎ IsForeign h.reports output (counted_stream a d calls failed) status))
 stop_behind options h cause.Memory a b d output calls failed status (inl before) stopped =
     inl (cut_behind a b d h.reports before.0 h.course.output output calls failed status before.1 stopped)
@@ -188,8 +188,8 @@ stop_behind options h cause.Write a b d output calls failed status (inr live) st
 stop_behind options h cause.Foreign a b d output calls failed status live stopped =
     inr (live.0, inr (live.1.0, live.1.1, says_behind a b d calls failed (reports_text live.1.0) _ live.1.2 stopped.0, stopped.1, stopped.2))
 
-pub stopped_ran : (p : List (PlainFunction ℕ)) (options : RunOptions) (begun : Kept) (stopped : Stopped) (a b d : Option (List ℕ)) (output : Counted)
-    (before broke calls failed : ℕ) (store : Shelf) (status : ℕ) → IsBegun p options.steps options.watch begun →
+pub stopped_ran : (p : List (PlainItem ℕ)) (options : RunOptions) (begun : Kept) (stopped : Stopped) (a b d : Option (List ℕ)) (output : Counted)
+    (before broke calls failed : ℕ) (store : Shelf) (status : ℕ) → IsAtStart p options.steps options.watch begun →
     IsStopped options begun stopped (counted_stream a b before broke) →
     IsRunOf stopped.hub.course.program stopped.hub.watch stopped.hub.course.items stopped.hub.reports (run_of stopped.hub.course) →
     StopRan stopped.hub stopped.cause output (counted_stream b d calls failed) status → IsUnchanged store.before store.after →
@@ -205,13 +205,13 @@ stopped_ran p options begun stopped a b d output before broke calls failed store
     )
   where
     go : IsCutOff stopped.hub.reports stopped.hub.course.output output (counted_stream a d calls failed) status
-        ⊎ (AreLive options × (IsLiveCutOff stopped.hub.course.output output (counted_stream a d calls failed) status
+        ⊎ (ReportsAreLive options × (IsLiveCutOff stopped.hub.course.output output (counted_stream a d calls failed) status
         ⊎ IsForeign stopped.hub.reports output (counted_stream a d calls failed) status)) →
         (HasEnded options.steps options.watch stopped.hub.course.items stopped.hub.reports (run_of stopped.hub.course)
         × EndRan (record_name options) (schedule_text options.steps (size_of p) stopped.hub.course.items) stopped.hub.reports options.steps
         (run_of stopped.hub.course) output (counted_stream a d calls failed) store status)
         ⊎ (IsCutOff stopped.hub.reports stopped.hub.course.output output (counted_stream a d calls failed) status × IsUnchanged store.before store.after)
-        ⊎ (AreLive options × (IsLiveCutOff stopped.hub.course.output output (counted_stream a d calls failed) status
+        ⊎ (ReportsAreLive options × (IsLiveCutOff stopped.hub.course.output output (counted_stream a d calls failed) status
         ⊎ IsForeign stopped.hub.reports output (counted_stream a d calls failed) status) × IsUnchanged store.before store.after)
     go (inl cut) = inr (inl (cut, same))
     go (inr live) = inr (inr (live.0, live.1, same))
@@ -223,7 +223,7 @@ recorded_behind : (old mid new : List ℕ → Content) (name : Option (List ℕ)
 recorded_behind old mid new None schedule same kept = λ n. kept n ∙ same n
 recorded_behind old mid new (Some name) schedule same saved =
     record {
-      saved = subst (λ (content : Content). Becomes content (new name) schedule) (same name) saved.saved;
+      saved = subst (λ (content : Content). IsReplacedBy content (new name) schedule) (same name) saved.saved;
       others = λ other differs. saved.others other differs ∙ same other;
     }
 
@@ -245,7 +245,7 @@ end_behind old mid new name schedule reports budget r output errors status same 
 end_behind old mid new name schedule reports budget r output errors status same (inr (inr broke)) =
     inr (inr (broke.0, λ n. broke.1 n ∙ same n))
 
-pub program_behind : (old mid new : List ℕ → Content) (p : List (PlainFunction ℕ)) (options : RunOptions) (output errors : Counted) (status : ℕ) →
+pub program_behind : (old mid new : List ℕ → Content) (p : List (PlainItem ℕ)) (options : RunOptions) (output errors : Counted) (status : ℕ) →
     IsUnchanged old mid → ProgramRan p options output errors (record { before = mid; after = new }) status →
     ProgramRan p options output errors (record { before = old; after = new }) status
 program_behind old mid new p options output errors status same (items, reports, r, run, inl ended) = (
@@ -264,7 +264,7 @@ program_behind old mid new p options output errors status same (items, reports, 
     (items, reports, r, run, inr (inr (live.0, live.1, λ n. live.2 n ∙ same n)))
 
 -- the program that was opened was run, or memory ran out before it began
-pub run_ran : (old mid new : List ℕ → Content) (p : List (PlainFunction ℕ)) (options : RunOptions) (output errors : Counted) (status : ℕ) →
+pub run_ran : (old mid new : List ℕ → Content) (p : List (PlainItem ℕ)) (options : RunOptions) (output errors : Counted) (status : ℕ) →
     IsUnchanged old mid → IsOpened (old options.file.now) p → BegunRan p options output errors (record { before = mid; after = new }) status →
     RunRan options output errors (record { before = old; after = new }) status
 run_ran old mid new p options output errors status same opened (inl ran) =

@@ -19,7 +19,7 @@ said_of (Ok a) output text calls was failed none whole part fine broken = inl (w
 said_of (Err e) output text calls was failed none whole part fine broken =
     inr (start_taken output text part.0 part.1, broken ∙ ap counted none)
 
--- the same behind a write that failed
+-- the same after a write that failed
 pub said_still : {A B : Type 0} (r : Result A B) (output : Stream) (text : List ℕ) (calls was failed : ℕ) → was ≡ 1 →
     OnOk r (Takes output text) → OnErr r ((n : ℕ) × Takes output (take n text)) →
     OnOk r (failed ≡ was) → OnErr r (failed ≡ counted was) →
@@ -28,7 +28,7 @@ said_still (Ok a) output text calls was failed one whole part fine broken = inl 
 said_still (Err e) output text calls was failed one whole part fine broken =
     inr (take part.0 text, drop part.0 text, sym (take-append-drop part.0 text), part.1, broken ∙ ap counted one)
 
--- a text was written, and then another, or a beginning of it
+-- a text was written, and then another, or a prefix of it
 pub both_taken : {A B : Type 0} (r : Result A B) (a b c : Option (List ℕ)) (first second : List ℕ) (was failed : ℕ) → was ≡ 0 →
     Takes (stream a b) first → OnErr r ((n : ℕ) × Takes (stream b c) (take n second)) → OnErr r (failed ≡ counted was) →
     OnErr r (TakesStart (stream a c) (first ++ second) × (failed ≡ 1))

@@ -1,9 +1,9 @@
 -- What is said of the first bytes of a file is said of the whole.
 use Rattle.std.proofs.Common.{◌≡◌, ◌∙◌, ◌⊎◌, ◌+◌, ◌<◌, ◌≤◌, ℕ, List, take, length, Some, Err, inl, inr, refl, sym, ap, subst, arith}
 use Rattle.std.specs.String.{string_bytes}
-use Rattle.cml_check.specs.Syntax.{PlainFunction}
+use Rattle.cml_check.specs.Syntax.{PlainItem}
 use Rattle.cml_schedule.specs.Plans.{PlainPlan}
-use Rattle.cml_schedule.specs.Reading.{ReadsAs, schedule_limit}
+use Rattle.cml_schedule.specs.Reading.{ScheduleReadsAs, schedule_limit}
 use Rattle.cml_text.specs.Sizes.{text_limit}
 use Rattle.cml_text.specs.Texts.{fault_of}
 use Rattle.cml_host.specs.Replaying.{IsSchedule, IsNoSchedule, IsPlanOf, IsNotRead, IsNoPlan}
@@ -15,7 +15,7 @@ use Rattle.cml_host.proofs.TextLemmas.{all_or_long, long_fault, whole_spelled}
 
 -- ---- scripts
 
-whole_script : (all found : List ℕ) (p : List (PlainFunction ℕ)) → found ≡ take (text_limit + 1) all → IsScript found p → IsScript all p
+whole_script : (all found : List ℕ) (p : List (PlainItem ℕ)) → found ≡ take (text_limit + 1) all → IsScript found p → IsScript all p
 whole_script all found p is script = (script.0, whole_spelled all found script.0 is script.1, script.2)
 
 whole_no_script : (all found told : List ℕ) → found ≡ take (text_limit + 1) all → IsNoScript found told → IsNoScript all told
@@ -27,7 +27,7 @@ whole_no_script all found told is (inl faulty) = go (all_or_long text_limit all)
     go (inr long) =
         inl (faulty.0, long_fault all long.0 ∙ sym (long_fault _ long.1) ∙ ap fault_of (sym is) ∙ faulty.1, faulty.2)
 
-pub opened : (content : Content) (found : List ℕ) (p : List (PlainFunction ℕ)) → IsLoaded content text_limit found → IsScript found p → IsOpened content p
+pub opened : (content : Content) (found : List ℕ) (p : List (PlainItem ℕ)) → IsLoaded content text_limit found → IsScript found p → IsOpened content p
 opened unknown found p loaded script = (found, tt, script)
 opened nothing found p loaded script = absurd loaded
 opened (bytes all) found p loaded script = (all, refl, whole_script all found p loaded script)

@@ -12,7 +12,7 @@ use Rattle.cml_host.specs.Told.{reports_text, end_line, whole_output, cannot_wri
 use Rattle.cml_host.specs.declared.tell.ReportFault.{ReportFault}
 use Rattle.cml_host.specs.declared.tell.ReportFault.TheVariants.{Write, Memory}
 
--- a text, and then a beginning of one more
+-- a text, and then a prefix of one more
 pub start_behind : (a b c : Option (List ℕ)) (text more : List ℕ) →
     Takes (stream a b) text → TakesStart (stream b c) more → TakesStart (stream a c) (text ++ more)
 start_behind a b c text more first then = (
@@ -22,7 +22,7 @@ start_behind a b c text more first then = (
   Appends-trans a b c text then.0 first then.3,
 )
 
--- a beginning of a text is one of what goes on behind it
+-- a prefix of a text is one of what goes on after it
 pub start_more : (a b : Option (List ℕ)) (text more : List ℕ) → TakesStart (stream a b) text → TakesStart (stream a b) (text ++ more)
 start_more a b text more part =
     (part.0, part.1 ++ more, ap (λ ts. ts ++ more) part.2 ∙ append_assoc part.0 part.1 more, part.3)
@@ -33,7 +33,7 @@ pub says_behind : (a b c : Option (List ℕ)) (calls failed : ℕ) (text told : 
 says_behind a b c calls failed text told first (inl whole) = inl (Appends-trans a b c text told first whole.0, whole.1)
 says_behind a b c calls failed text told first (inr part) = inr (start_behind a b c text told first part.0, part.1)
 
--- a beginning of a text, and then what was said still
+-- a prefix of a text, and then what was said still
 pub breaks_behind : (a b c : Option (List ℕ)) (calls failed : ℕ) (text told : List ℕ) →
     TakesStart (stream a b) text → SaysStill (counted_stream b c calls failed) [] told → Breaks (counted_stream a c calls failed) text told
 breaks_behind a b c calls failed text told part (inl whole) =
@@ -58,7 +58,7 @@ reports_behind a b c reports i report there is before then =
     subst (λ (ts : List ℕ). Takes (stream a c) ts) (sym (reports_split reports i report there is))
     (Appends-trans a b c _ _ before then)
 
--- the reports up to one, and then a beginning of that one
+-- the reports up to one, and then a prefix of that one
 pub reports_start : (a b c : Option (List ℕ)) (reports : List PlainReport) (i : ℕ) (report : PlainReport) →
     i < length reports → report ≡ get_or reports i report →
     Takes (stream a b) (reports_text (take i reports)) → TakesStart (stream b c) (report_text report) →
@@ -79,14 +79,14 @@ reports_ended a b c reports i report Memory calls failed there is before sent =
     (i, subst (λ (ts : List ℕ). Takes (stream a c) ts) (append-nil (reports_text (take i reports))) (Appends-trans a b c _ _ before sent.0), sent.1)
 reports_ended a b c reports i report Write calls failed there is before sent = (reports_start a b c reports i report there is before sent.0, sent.1)
 
--- a line that tells of a write that failed, behind reports of which one was written in part
+-- a line that tells of a write that failed, after reports of which one was written in part
 pub reports_broke : (a b c : Option (List ℕ)) (reports : List PlainReport) (output : Counted) (calls failed status : ℕ) →
     TakesStart (stream a b) (reports_text reports) → SaysStill (counted_stream b c calls failed) [] cannot_write → IsIdle output → status ≡ 1 →
     ReportsBroke reports output (counted_stream a c calls failed) status
 reports_broke a b c reports output calls failed status part said idle is =
     (breaks_behind a b c calls failed (reports_text reports) cannot_write part said, idle, is)
 
--- how it is told that a run was cut off, behind so many reports
+-- how it is told that a run was cut off, after this many reports
 pub cut_behind : (a b c : Option (List ℕ)) (reports : List PlainReport) (n : ℕ) (text : List ℕ) (output : Counted) (calls failed status : ℕ) →
     Takes (stream a b) (reports_text (take n reports)) →
     MemoryBroke [] text output (counted_stream b c calls failed) status ⊎ OutputBroke [] text output (counted_stream b c calls failed) status →
@@ -96,7 +96,7 @@ cut_behind a b c reports n text output calls failed status before (inl broke) =
 cut_behind a b c reports n text output calls failed status before (inr broke) =
     inr (n, inr (broke.0, broke.1, says_behind a b c calls failed (reports_text (take n reports)) _ before broke.2, broke.3))
 
--- how it is told that the output could not be, behind reports that were told
+-- how it is told that the output could not be, after reports that were told
 pub output_behind : (a b c : Option (List ℕ)) (reports : List PlainReport) (text : List ℕ) (output : Counted) (calls failed status : ℕ) →
     Takes (stream a b) (reports_text reports) → OutputBroke [] text output (counted_stream b c calls failed) status →
     OutputBroke reports text output (counted_stream a c calls failed) status
@@ -129,7 +129,7 @@ told_behind a b c reports text output calls failed before told =
 
 -- ---- reports that were written while the program ran
 
--- a beginning of some reports, and then how it is told that the output could not be
+-- a prefix of some reports, and then how it is told that the output could not be
 pub live_cut_behind : (a b c : Option (List ℕ)) (seen : List PlainReport) (text : List ℕ) (output : Counted) (calls failed status : ℕ) →
     TakesStart (stream a b) (reports_text seen) →
     MemoryBroke [] text output (counted_stream b c calls failed) status ⊎ OutputBroke [] text output (counted_stream b c calls failed) status →

@@ -8,10 +8,10 @@ use Rattle.cml_stream.specs.Counts.{counted}
 use Rattle.cml_stream.specs.Streams.{stream, counted_stream, Takes}
 use Rattle.cml_words.specs.declared.RunOptions.{RunOptions}
 use Rattle.cml_work.specs.Seen.{FaultWrites, failed_after_all}
-use Rattle.cml_work.specs.Works.{IsCount, GoesOnFrom, IsWorked, Works, WatchFails}
+use Rattle.cml_work.specs.Works.{IsWorkerCount, GoesOnFrom, IsWorked, Works, WatchFails}
 use Rattle.cml_work.specs.declared.fault.WorkFault.{WorkFault}
 use Rattle.cml_work.specs.declared.fault.WorkFault.TheVariants as fault
-use Rattle.cml_host.specs.Running.{AreLive, HasRun, AreToldBy, IsStopped, IsCounted, failed_by, hub_of, cause_of}
+use Rattle.cml_host.specs.Running.{ReportsAreLive, HasRun, AreToldBy, IsStopped, IsCounted, failed_by, hub_of, cause_of}
 use Rattle.cml_host.specs.Told.{reports_text}
 use Rattle.cml_host.specs.declared.workers.Cause.{Cause}
 use Rattle.cml_host.specs.declared.workers.Cause.TheVariants as cause
@@ -49,21 +49,21 @@ all_told options old new a b calls failed more told none = (
 
 -- ---- by workers
 
-pub is_counted : (hub : Kept) (workers : ℕ) (f : WorkFault) → IsCount workers → Works hub workers (Err f) → IsCounted f
+pub is_counted : (hub : Kept) (workers : ℕ) (f : WorkFault) → IsWorkerCount workers → Works hub workers (Err f) → IsCounted f
 is_counted hub workers (fault.Count new) count works = absurd (works.0 count)
 is_counted hub workers (fault.Memory new) count works = tt
 is_counted hub workers (fault.Start new) count works = tt
 is_counted hub workers (fault.Write new) count works = tt
 is_counted hub workers (fault.Foreign new seen) count works = tt
 
-pub is_counted_watched : (hub : Kept) (workers : ℕ) (f : WorkFault) → IsCount workers → WatchFails hub workers f → IsCounted f
+pub is_counted_watched : (hub : Kept) (workers : ℕ) (f : WorkFault) → IsWorkerCount workers → WatchFails hub workers f → IsCounted f
 is_counted_watched hub workers (fault.Count new) count fails = absurd (fails.0 count)
 is_counted_watched hub workers (fault.Memory new) count fails = tt
 is_counted_watched hub workers (fault.Start new) count fails = tt
 is_counted_watched hub workers (fault.Write new) count fails = tt
 is_counted_watched hub workers (fault.Foreign new seen) count fails = tt
 
-pub ran_out : (hub : Kept) (workers : ℕ) (f : WorkFault) → IsCount workers → Works hub workers (Err f) →
+pub ran_out : (hub : Kept) (workers : ℕ) (f : WorkFault) → IsWorkerCount workers → Works hub workers (Err f) →
     GoesOnFrom hub (hub_of f) × (cause_of f ≡ cause.Memory)
 ran_out hub workers (fault.Count new) count works = absurd (works.0 count)
 ran_out hub workers (fault.Memory new) count works = (works.1, refl)
@@ -86,8 +86,8 @@ run_silent hub new a calls failed works none good =
     (works, subst (λ (rs : List PlainReport). Takes (stream a a) (reports_text rs)) (sym none) (Appends-nil a), good)
 
 -- what a fault beside a watcher says of the hub that it carries, and of what was written
-live_fault : (A : Type 0) (options : RunOptions) (hub : Kept) (f : WorkFault) (a b : Option (List ℕ)) (was failed : ℕ) → AreLive options →
-    IsCount options.workers → WatchFails hub options.workers f → FaultWrites (stream a b) f → was ≡ 0 → failed ≡ failed_after_all {A = A} (Err f) was →
+live_fault : (A : Type 0) (options : RunOptions) (hub : Kept) (f : WorkFault) (a b : Option (List ℕ)) (was failed : ℕ) → ReportsAreLive options →
+    IsWorkerCount options.workers → WatchFails hub options.workers f → FaultWrites (stream a b) f → was ≡ 0 → failed ≡ failed_after_all {A = A} (Err f) was →
     GoesOnFrom hub (hub_of f) × AreToldBy options (hub_of f) (cause_of f) (stream a b) × (failed ≡ failed_by (cause_of f))
 live_fault A options hub (fault.Count new) a b was failed live count fails writes none is = absurd (fails.0 count)
 live_fault A options hub (fault.Memory new) a b was failed live count fails writes none is = (fails.1, inr (live, writes), is ∙ none)
@@ -98,7 +98,7 @@ live_fault A options hub (fault.Foreign new seen) a b was failed live count fail
 
 -- the answer says only of which type it is
 pub stopped_live : (A : Type 0) (answer : Result A WorkFault) (options : RunOptions) (hub : Kept) (f : WorkFault) (stopped : Stopped) (a b : Option (List ℕ)) (was calls failed : ℕ) →
-    AreLive options → IsCount options.workers → WatchFails hub options.workers f → FaultWrites (stream a b) f → was ≡ 0 →
+    ReportsAreLive options → IsWorkerCount options.workers → WatchFails hub options.workers f → FaultWrites (stream a b) f → was ≡ 0 →
     failed ≡ failed_after_all {A = A} (Err f) was → stopped.hub ≡ hub_of f → stopped.cause ≡ cause_of f →
     IsStopped options hub stopped (counted_stream a b calls failed)
 stopped_live A answer options hub f stopped a b was calls failed live count fails writes none is same_hub same_cause =

@@ -6,7 +6,7 @@ use Rattle.cml_text.specs.Forms.{PlainSexpr}
 use Rattle.cml_text.specs.Texts.{Spells}
 use Rattle.cml_check.specs.Faults as script
 use Rattle.cml_check.specs.Shape.{shape}
-use Rattle.cml_check.specs.Syntax.{Name, PlainFunction}
+use Rattle.cml_check.specs.Syntax.{Name, PlainItem}
 use Rattle.cml_host.specs.Said.{IsFaulty, script_line}
 use Rattle.cml_host.specs.declared.said.Said.{Said}
 use Rattle.cml_host.specs.declared.said.Said.TheVariants.{Written, Refused}
@@ -15,7 +15,7 @@ use Rattle.cml_trace.specs.Replies.{line}
 -- The forms are a program, and how many functions it has is written; or they are none, and their first fault is told.
 abbrev pub IsShaped : List PlainSexpr → Said → Type 0
 IsShaped forms (Written all) =
-    (program : List (PlainFunction Name)) × (shape forms ≡ Ok program)
+    (program : List (PlainItem Name)) × (shape forms ≡ Ok program)
     × (string_bytes all ≡ line (codes "ok functions " ++ decimal (length program)))
 IsShaped forms (Refused all) =
     (fault : script.PlainCheckFault) × (shape forms ≡ Err fault) × (string_bytes all ≡ script_line fault)

@@ -2,7 +2,7 @@
 use Rattle.std.specs.Prelude.{◌≡◌, ◌≢◌, ◌⊎◌, ℕ, ◌<◌, List, [], ◌++◌, take, true, codes, Option, Some, None, option_map}
 use Rattle.std.specs.String.{string_bytes}
 use Rattle.cml_check.specs.Sizes.{size_of}
-use Rattle.cml_check.specs.Syntax.{PlainFunction}
+use Rattle.cml_check.specs.Syntax.{PlainItem}
 use Rattle.cml_hub.specs.Courses.{run_of}
 use Rattle.cml_hub.specs.Kept.{Kept}
 use Rattle.cml_hub.specs.Runs.{Run, ending, over}
@@ -55,37 +55,37 @@ EndRan name schedule reports budget r output errors store status =
     ⊎ (OutputBroke reports (whole_output budget r) output errors status × IsUnchanged store.before store.after)
 
 -- the reports are written while the program runs: where they are asked for, and more workers than one
-abbrev pub AreLive : RunOptions → Type 0
-AreLive options = (1 < options.workers) × (options.watch ≢ None)
+abbrev pub ReportsAreLive : RunOptions → Type 0
+ReportsAreLive options = (1 < options.workers) × (options.watch ≢ None)
 
 -- The program was run: it came to its end, and that was told; or it was cut off on the way, and nothing was saved. Only where reports are
--- written while the program runs it is not known, at a fault, whose reports stand before it; and where they are found not to be those of
+-- written while the program runs, it is not known at a fault whose reports stand before it; and where they are found not to be those of
 -- the run, that is told.
-abbrev pub ProgramRan : List (PlainFunction ℕ) → RunOptions → Counted → Counted → Shelf → ℕ → Type 0
+abbrev pub ProgramRan : List (PlainItem ℕ) → RunOptions → Counted → Counted → Shelf → ℕ → Type 0
 ProgramRan p options output errors store status =
     (items : List Item) × (reports : List PlainReport) × (r : Run) × IsRunOf p options.watch items reports r
     × ((HasEnded options.steps options.watch items reports r
     × EndRan (record_name options) (schedule_text options.steps (size_of p) items) reports options.steps r output errors store status)
     ⊎ (IsCutOff reports r.output output errors status × IsUnchanged store.before store.after)
-    ⊎ (AreLive options × (IsLiveCutOff r.output output errors status ⊎ IsForeign reports output errors status)
+    ⊎ (ReportsAreLive options × (IsLiveCutOff r.output output errors status ⊎ IsForeign reports output errors status)
     × IsUnchanged store.before store.after))
 
 -- `run`: the script that lies under the name was run; or there is none, and nothing was written to the output or saved.
 abbrev pub RunRan : RunOptions → Counted → Counted → Shelf → ℕ → Type 0
 RunRan options output errors store status =
-    ((p : List (PlainFunction ℕ)) × IsOpened (store.before options.file.now) p × ProgramRan p options output errors store status)
+    ((p : List (PlainItem ℕ)) × IsOpened (store.before options.file.now) p × ProgramRan p options output errors store status)
     ⊎ (NoScriptRan (store.before options.file.now) options.file.now errors status
     × IsIdle output × IsUnchanged store.before store.after)
 
 -- ---- what private functions say
 
 -- the program was run, or memory ran out before it began
-abbrev pub BegunRan : List (PlainFunction ℕ) → RunOptions → Counted → Counted → Shelf → ℕ → Type 0
+abbrev pub BegunRan : List (PlainItem ℕ) → RunOptions → Counted → Counted → Shelf → ℕ → Type 0
 BegunRan p options output errors store status =
     ProgramRan p options output errors store status
     ⊎ (MemoryRan errors status × IsIdle output × IsUnchanged store.before store.after)
 
--- The hub has run to its end, and its reports went to the errors.
+-- The hub has run to its end, and its reports were written to the errors.
 abbrev pub HasRun : Kept → Kept → Counted → Type 0
 HasRun hub new errors = IsWorked hub new × Takes errors.bytes (reports_text new.reports) × (errors.counts.failed ≡ 0)
 
@@ -98,10 +98,10 @@ failed_by _ = 0
 -- program runs, a prefix of some reports; or the reports of another run.
 abbrev pub AreToldBy : RunOptions → Kept → Cause → Stream → Type 0
 AreToldBy options h cause.Memory errors =
-    ((n : ℕ) × Takes errors (reports_text (take n h.reports))) ⊎ (AreLive options × BreaksOff errors)
-AreToldBy options h cause.Write errors = TakesStart errors (reports_text h.reports) ⊎ (AreLive options × BreaksOff errors)
+    ((n : ℕ) × Takes errors (reports_text (take n h.reports))) ⊎ (ReportsAreLive options × BreaksOff errors)
+AreToldBy options h cause.Write errors = TakesStart errors (reports_text h.reports) ⊎ (ReportsAreLive options × BreaksOff errors)
 AreToldBy options h cause.Foreign errors =
-    AreLive options × ((seen : List PlainReport) × (seen ≢ h.reports) × Takes errors (reports_text seen))
+    ReportsAreLive options × ((seen : List PlainReport) × (seen ≢ h.reports) × Takes errors (reports_text seen))
 
 -- the hub has gone on so far, and is not told as one that has run to its end
 abbrev pub IsStopped : RunOptions → Kept → Stopped → Counted → Type 0
@@ -126,14 +126,14 @@ abbrev pub IsCounted : WorkFault → Type 0
 IsCounted (fault.Count hub) = ⊥
 IsCounted _ = Unit {0}
 
--- what is told where the run was stopped for this, behind what was written of its reports
+-- what is told where the run was stopped for this, after what was written of its reports
 abbrev pub StopRan : Kept → Cause → Counted → Counted → ℕ → Type 0
 StopRan h cause.Memory output errors status =
     MemoryBroke [] h.course.output output errors status ⊎ OutputBroke [] h.course.output output errors status
 StopRan h cause.Write output errors status = SaysStill errors [] cannot_write × IsIdle output × (status ≡ 1)
 StopRan h cause.Foreign output errors status = Says errors (line (codes "foreign hub")) × IsIdle output × (status ≡ 1)
 
--- a hub that is over was told behind these reports, and its schedule saved, as far as that could be
+-- a hub that is over was told after these reports, and its schedule saved, as far as that could be
 abbrev pub EndedRan : Option (List ℕ) → Kept → List PlainReport → Counted → Counted → Shelf → ℕ → Type 0
 EndedRan name h reports output errors store status =
     EndRan name (schedule_text h.budget (size_of h.course.program) h.course.items) reports h.budget (run_of h.course) output errors store status

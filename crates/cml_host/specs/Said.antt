@@ -25,7 +25,7 @@ text_line fault = line (text.fault_line (text_fault.At fault.kind fault.at))
 
 -- the line that tells of a fault of a script
 abbrev pub script_line : script.PlainCheckFault → List ℕ
-script_line fault = line (script.fault_line (check_fault.At fault.kind fault.at))
+script_line fault = line (script.check_fault_line (check_fault.At fault.kind fault.at))
 
 -- the text has a fault, which is told
 abbrev pub IsFaulty : List ℕ → Said → Type 0
@@ -33,7 +33,7 @@ IsFaulty given (Written all) = ⊥
 IsFaulty given (Refused all) =
     (fault : text.PlainFault) × (fault_of given ≡ Some fault) × (string_bytes all ≡ text_line fault)
 
--- What was said: it went to the output; or the text was refused.
+-- What was said: it was written to the output; or the text was refused.
 abbrev pub IsSaid : Said → Counted → Counted → ℕ → Type 0
 IsSaid (Written all) output errors status = TextRan (string_bytes all) output errors status
 IsSaid (Refused all) output errors status = Says errors (string_bytes all) × (status ≡ 2) × IsIdle output
@@ -52,7 +52,7 @@ abbrev pub RefusedRan : Content → List ℕ → Counted → ℕ → Type 0
 RefusedRan content name errors status =
     (MayBeRefused content × Says errors (line (codes "cannot read " ++ name)) × (status ≡ 1)) ⊎ MemoryRan errors status
 
--- This is the whole text that lies there: any one, where it is not known; and where nothing lies there is none.
+-- This is the whole text that lies there: any text, where it is not known; and none, where nothing lies there.
 abbrev pub IsText : Content → List ℕ → Type 0
 IsText unknown all = Unit {0}
 IsText nothing all = ⊥
@@ -64,12 +64,12 @@ FileRan Says name content output errors status =
     ((all : List ℕ) × IsText content all × (said : Said) × Says all said × IsSaid said output errors status)
     ⊎ (RefusedRan content name errors status × IsIdle output)
 
--- what is said of a text with this fault, which is not want of memory
+-- what is said of a text with this fault, which is not that memory ran out
 abbrev pub Told : TextFault → Said → Type 0
 Told (text_fault.At kind at) (Refused all) = string_bytes all ≡ line (text.fault_line (text_fault.At kind at))
 Told fault said = ⊥
 
--- what a command answers where the store did not hand over a file
+-- why a command stops where the store did not hand over a file
 abbrev pub refusal_of : StoreFault → Refusal
 refusal_of store_fault.Refused = refusal.Unread
 refusal_of store_fault.Memory = refusal.Memory

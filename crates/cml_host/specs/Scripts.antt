@@ -6,7 +6,7 @@ use Rattle.cml_text.specs.Forms.{PlainSexpr}
 use Rattle.cml_text.specs.Texts.{Spells, fault_of}
 use Rattle.cml_check.specs.Faults.{PlainCheckFault}
 use Rattle.cml_check.specs.Shape.{shape}
-use Rattle.cml_check.specs.Syntax.{PlainFunction}
+use Rattle.cml_check.specs.Syntax.{PlainItem}
 use Rattle.cml_step.specs.Calls.{text_of}
 use Rattle.cml_stream.specs.Streams.{Counted, Says}
 use Rattle.cml_host.specs.Stores.{Content, MayBeRefused}
@@ -15,11 +15,11 @@ use Rattle.cml_host.specs.declared.said.Refusal.{Refusal}
 use Rattle.cml_host.specs.declared.said.Refusal.TheVariants.{Unread, Wrong, Memory}
 
 -- the text spells the forms of this program
-abbrev pub IsScript : List ℕ → List (PlainFunction ℕ) → Type 0
+abbrev pub IsScript : List ℕ → List (PlainItem ℕ) → Type 0
 IsScript text p = (forms : List PlainSexpr) × Spells text forms × (shape forms ≡ Ok (text_of p))
 
 -- what lies there is a text that spells the forms of this program
-abbrev pub IsOpened : Content → List (PlainFunction ℕ) → Type 0
+abbrev pub IsOpened : Content → List (PlainItem ℕ) → Type 0
 IsOpened content p = (text : List ℕ) × IsText content text × IsScript text p
 
 -- The text is no script, and this line says why: it spells no forms, for the fault that it has; or its forms are no program.
@@ -38,7 +38,7 @@ NoScriptRan content name errors status =
 -- ---- what private functions say
 
 -- the forms are those of this program
-abbrev pub IsProgramOf : List PlainSexpr → List (PlainFunction ℕ) → Type 0
+abbrev pub IsProgramOf : List PlainSexpr → List (PlainItem ℕ) → Type 0
 IsProgramOf forms p = shape forms ≡ Ok (text_of p)
 
 -- why the forms are no program

@@ -1,4 +1,4 @@
--- What the program does about its words, and with which status it ends.
+-- What the program does about its arguments, and with which status it ends.
 use Rattle.std.specs.Prelude.{◌≡◌, ◌⊎◌, ℕ, List, codes}
 use Rattle.std.specs.String.{string_bytes}
 use Rattle.cml_words.specs.declared.Task.TheVariants.{Trace, Check, Fmt, Run, Replay}
@@ -17,7 +17,7 @@ use Rattle.cml_host.specs.Replaying.{ReplayRan}
 use Rattle.cml_host.specs.Traced.{TraceRan}
 use Rattle.cml_host.specs.Written.{TextRan}
 
--- What stands round a run of the program, before and after: its input, its output, what it says its errors to, and its store.
+-- What stands around a run of the program, before and after: its input, its output, what it writes its errors to, and its store.
 pub record Surroundings : Type 0 where
   pub input : Counted
   pub output : Counted
@@ -28,8 +28,8 @@ pub record Surroundings : Type 0 where
 abbrev pub SavesNothing : Surroundings → Type 0
 SavesNothing around = IsUnchanged around.store.before around.store.after
 
--- What was done about the words: their command; or the text that they ask for was written to the output; or what is wrong with them to
--- the errors. Only `run` saves anything.
+-- What was done about the arguments: the command that they name was done; or the text that they ask for was written to the output; or
+-- what is wrong with them was written to the errors. Only `run` saves anything.
 abbrev pub AnswerRan : Answer → Surroundings → ℕ → Type 0
 AnswerRan (answer.Task Trace) around status =
     TraceRan around.input around.output around.errors status × SavesNothing around
@@ -49,18 +49,18 @@ AnswerRan (answer.Help text) around status =
 AnswerRan (answer.Fault text) around status =
     Says around.errors (string_bytes text) × (status ≡ 1) × IsIdle around.input × IsIdle around.output × SavesNothing around
 
--- memory ran out before the words were read
+-- memory ran out before the arguments were read
 abbrev pub IsOutOfMemory : Surroundings → ℕ → Type 0
 IsOutOfMemory around status =
     Says around.errors (line (codes "memory")) × (status ≡ 5)
     × IsIdle around.input × IsIdle around.output × SavesNothing around
 
--- The words were answered and that was done, or memory ran out before.
+-- The arguments were read and what they ask for was done, or memory ran out before.
 abbrev pub Ran : List (List ℕ) → Surroundings → ℕ → Type 0
 Ran words around status =
     ((what : Answer) × IsAnswer words what × AnswerRan what around status) ⊎ IsOutOfMemory around status
 
--- The same of streams whose calls nobody counts: there are counts with which it is so.
+-- The same of streams whose calls nobody counts: there are counts with which it holds.
 abbrev pub RanOver : List (List ℕ) → Stream → Stream → Stream → Shelf → ℕ → Type 0
 RanOver words input output errors store status =
     (reads : Calls) × (writes : Calls) × (complaints : Calls)

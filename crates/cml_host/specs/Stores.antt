@@ -1,7 +1,7 @@
 -- Stores: what is known of what lies in them.
 use Rattle.std.specs.Prelude.{◌≡◌, ◌≢◌, ℕ, ◌+◌, ◌≤◌, List, Option, Some, None, length, take}
 
--- What is known of what lies under a name: not a thing, that nothing does, or these bytes.
+-- What is known of what lies under a name: it is unknown; nothing lies there; or these bytes do.
 pub data Content : Type 0 where
   unknown : Content
   nothing : Content
@@ -19,15 +19,15 @@ IsLoaded unknown limit found = length found ≤ limit + 1
 IsLoaded nothing limit found = ⊥
 IsLoaded (bytes all) limit found = found ≡ take (limit + 1) all
 
--- It may be refused: where nothing lies, or nothing is known of what does.
+-- It may be refused: where nothing lies there, or where it is unknown what does.
 abbrev pub MayBeRefused : Content → Type 0
 MayBeRefused (bytes all) = ⊥
 MayBeRefused _ = Unit {0}
 
 -- it was this, and is now these bytes, where it was known
-abbrev pub Becomes : Content → Content → List ℕ → Type 0
-Becomes unknown new all = Unit {0}
-Becomes _ new all = new ≡ bytes all
+abbrev pub IsReplacedBy : Content → Content → List ℕ → Type 0
+IsReplacedBy unknown new all = Unit {0}
+IsReplacedBy _ new all = new ≡ bytes all
 
 -- what lies under each name, before and after
 pub record Shelf : Type 0 where
@@ -40,5 +40,5 @@ IsUnchanged old new = (name : List ℕ) → new name ≡ old name
 
 -- under this name these bytes were saved, and nothing under another one
 pub record IsSaved (old new : List ℕ → Content) (name all : List ℕ) : Type 0 where
-  pub saved : Becomes (old name) (new name) all
+  pub saved : IsReplacedBy (old name) (new name) all
   pub others : (other : List ℕ) → other ≢ name → new other ≡ old other

@@ -1,7 +1,7 @@
 -- What is told of a run of a script: its reports to the errors, its output and its end line to the output.
 use Rattle.std.specs.Prelude.{◌≡◌, ◌≢◌, ◌⊎◌, ℕ, List, [], ◌++◌, length, take, codes, Option, Some, Result, Ok, Err}
 use Rattle.std.specs.List.{flat_map}
-use Rattle.cml_check.specs.Syntax.{PlainFunction}
+use Rattle.cml_check.specs.Syntax.{PlainItem}
 use Rattle.cml_hub.specs.declared.fault.End.{End}
 use Rattle.cml_hub.specs.declared.fault.End.TheVariants.{Quiet, Budget, Partial}
 use Rattle.cml_hub.specs.Runs.{Run, stands, ending}
@@ -31,18 +31,18 @@ end_name Partial = codes "partial"
 abbrev pub end_line : End → ℕ → List ℕ
 end_line end waiting = line (codes "end " ++ end_name end ++ codes " pending" ++ spaced waiting)
 
--- the output with the end line, where the run ends so under this budget
+-- the output with the end line of a run under this budget
 abbrev pub whole_output : ℕ → Run → List ℕ
 whole_output budget r = r.output ++ end_line (ending budget r) (length (pending r.world))
 
--- the status of a run that ends so
+-- the status of a run that ends in this way
 abbrev pub end_status : End → ℕ
 end_status Quiet = 0
 end_status Budget = 4
 end_status Partial = 0
 
 -- A run of the program: a schedule, the reports that were made on its way, and where it leads.
-pub record IsRunOf (p : List (PlainFunction ℕ)) (watch : Option ℕ) (items : List Item) (reports : List PlainReport) (r : Run) : Type 0 where
+pub record IsRunOf (p : List (PlainItem ℕ)) (watch : Option ℕ) (items : List Item) (reports : List PlainReport) (r : Run) : Type 0 where
   pub leads : stands (text_of p) items ≡ Some r
   pub reported : AreReports (text_of p) items watch reports
 
@@ -52,7 +52,7 @@ AllReported watch items reports = IsDue watch (length items) (length reports) �
 
 -- ---- how it is told
 
--- all of it: the reports went to the errors and the text to the output, and no write failed
+-- all of it: the reports were written to the errors and the text to the output, and no write failed
 abbrev pub IsTold : List PlainReport → List ℕ → Counted → Counted → Type 0
 IsTold reports text output errors =
     Takes errors.bytes (reports_text reports) × (errors.counts.failed ≡ 0)
@@ -84,7 +84,7 @@ OutputBrokeAfter before text output errors status =
     TakesStart output.bytes text × (output.counts.failed ≡ 1)
     × Says errors (before ++ cannot_write) × (status ≡ 1)
 
--- memory ran out: after this was written to the errors, the output so far went out, and no end line
+-- memory ran out: after this was written to the errors, the output so far was written, and no end line
 abbrev pub MemoryBrokeAfter : List ℕ → List ℕ → Counted → Counted → ℕ → Type 0
 MemoryBrokeAfter before text output errors status =
     Takes output.bytes text × (output.counts.failed ≡ 0)
@@ -112,14 +112,14 @@ IsLiveCutOff text output errors status =
     ⊎ ((part : List ℕ) × (unwritten : List ℕ) × (reports_text seen ≡ part ++ unwritten)
     × (MemoryBrokeAfter part text output errors status ⊎ OutputBrokeAfter part text output errors status)))
 
--- The reports that were written while the program ran are not those of the run: the errors tell that behind them, and the output was not
+-- The reports that were written while the program ran are not those of the run: the errors tell that after them, and the output was not
 -- called.
 abbrev pub IsForeign : List PlainReport → Counted → Counted → ℕ → Type 0
 IsForeign reports output errors status =
     (seen : List PlainReport) × (seen ≢ reports) × Says errors (reports_text seen ++ line (codes "foreign hub"))
     × IsIdle output × (status ≡ 1)
 
--- how the telling of a run that has come to its end is ended by a fault
+-- how a fault ends the telling of a run that has come to its end
 abbrev pub IsNotTold : List PlainReport → List ℕ → List ℕ → Counted → Counted → ℕ → Type 0
 IsNotTold reports so_far text output errors status =
     OutputBroke reports text output errors status ⊎ IsCutOff reports so_far output errors status

@@ -23,11 +23,11 @@ fault_status Write = 1
 fault_status Memory = 5
 
 -- the line that tells of the fault
-abbrev pub fault_line : TraceFault → List ℕ
-fault_line Read = line (codes "cannot read input")
-fault_line Turns = line (codes "cannot read input")
-fault_line Write = line (codes "cannot write output")
-fault_line Memory = line (codes "memory")
+abbrev pub trace_fault_line : TraceFault → List ℕ
+trace_fault_line Read = line (codes "cannot read input")
+trace_fault_line Turns = line (codes "cannot read input")
+trace_fault_line Write = line (codes "cannot write output")
+trace_fault_line Memory = line (codes "memory")
 
 -- The trace on the input was answered, and no call of its streams failed; or not to its end, for a fault that has its cause in these calls,
 -- and the errors tell of it.
@@ -36,4 +36,4 @@ TraceRan input output errors status =
     ((end : TraceEnd) × IsAnswered input.bytes output.bytes end × HasCause (Ok end) input.counts output.counts
     × (status ≡ status_of end) × IsIdle errors)
     ⊎ ((fault : TraceFault) × IsBroken input.bytes output.bytes fault × HasCause (Err fault) input.counts output.counts
-    × (status ≡ fault_status fault) × Says errors (fault_line fault))
+    × (status ≡ fault_status fault) × Says errors (trace_fault_line fault))

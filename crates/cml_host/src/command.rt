@@ -22,11 +22,11 @@ use std::io::{Read, Write};
 use std::sync::Wait;
 use std::thread::Threads;
 
-/// Runs the command that the words name, the first of which names the program, and answers the status of the process.
+/// Runs the command that the arguments name, the first of which is the program's name, and returns the status of the process.
 ///
 /// It reads the input or a file of the store, and writes what the command says to the output and what went wrong to the errors. The
-/// status is 0 where all was done, 1 where the words, the input, a file or the output are at fault, 2 where a text is refused, 3 where a
-/// schedule is, 4 where a script did not end within its steps, and 5 where memory ran out.
+/// status is 0 where all was done, 1 where the arguments, the input, a file or the output are at fault, 2 where a text is refused, 3
+/// where a schedule is refused, 4 where a script did not end within its steps, and 5 where memory ran out.
 pub fn run_command<R, I, O, E, S>(
     rt: &R,
     alloc: Global,
@@ -56,7 +56,7 @@ where
 
 /// Runs the command as [`run_command`] does, over streams whose calls are counted, and of which none was called yet. A fault of the input
 /// is told only where a read failed, or 2,097,152 reads came to no end; a fault of the output only where a write failed or took nothing;
-/// and what is told goes to the errors whole, but where a write of it failed.
+/// and what is told is written to the errors whole, except where a write of it failed.
 pub fn run_command_counted<R, I, O, E, S>(
     rt: &R,
     alloc: Global,

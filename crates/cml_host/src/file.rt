@@ -13,10 +13,10 @@ use std::alloc::Global;
 use std::io::{Read, Write};
 
 /// The bytes that the reader has: all of them, or where there are more than the limit, the first of them, one more than the limit. They
-/// are read in at most twice as many reads as the limit, and no read behind them.
+/// are read in at most twice as many reads as the limit, and no read after them.
 ///
 /// # Errors
-/// A refusal, where a read failed or the bytes do not end in so many reads, and nowhere else; or want of memory.
+/// A refusal, where a read failed or the bytes do not end in this many reads, and nowhere else; or out of memory.
 pub fn load_from<R: Read>(
     alloc: Global,
     reader: &mut Counting<'_, R>,
@@ -42,7 +42,7 @@ pub fn load_from<R: Read>(
     }
 }
 
-/// Writes all of the bytes. Where that is refused, what went out is a prefix of them.
+/// Writes all of the bytes. Where that is refused, what was written is a prefix of them.
 ///
 /// # Errors
 /// A refusal exactly where a write failed, an interrupted one included, or took nothing.

@@ -1,4 +1,4 @@
-//! The program: what the words of its command line ask for, over any input, output and store.
+//! The program: what the arguments of its command line ask for, over any input, output and store.
 #![tactic(auto)]
 
 mod check;

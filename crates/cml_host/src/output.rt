@@ -8,7 +8,7 @@ use cml_stream::Counting;
 use cml_stream::input_output::write_out;
 use std::io::Write;
 
-/// Writes a text, and answers the status.
+/// Writes a text, and returns the status.
 pub fn send_text<O: Write, E: Write>(
     text: &[u8],
     out: &mut Counting<'_, O>,

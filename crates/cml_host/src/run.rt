@@ -5,7 +5,7 @@ ghost use Rattle.cml_hub.specs.Kept.{IsBudget, IsWatch};
 ghost use Rattle.cml_host.specs.Running.{RunRan, BegunRan, EndedRan, record_name, IsMade, RecordRan};
 ghost use Rattle.cml_host.specs.Stores.{Shelf};
 ghost use Rattle.cml_stream.specs.Streams.{counted_stream};
-ghost use Rattle.cml_work.specs.Works.{IsCount};
+ghost use Rattle.cml_work.specs.Works.{IsWorkerCount};
 
 use crate::output::say;
 use crate::said::refuse;
@@ -43,7 +43,7 @@ where
     O: Write,
     E: Write + Send,
     S: Store,
-    requires counts { IsCount options.now.workers × IsBudget options.now.steps × IsWatch options.now.watch }
+    requires counts { IsWorkerCount options.now.workers × IsBudget options.now.steps × IsWatch options.now.watch }
     requires fresh { (out.old.calls ≡ 0) × (out.old.failed ≡ 0) × (err.old.calls ≡ 0) × (err.old.failed ≡ 0) }
     ensures ran { let output = counted_stream (O.contents out.old.stream.now) (O.contents out.new.stream.now) out.new.calls out.new.failed in
         let errors = counted_stream (E.contents err.old.stream.now) (E.contents err.new.stream.now) err.new.calls err.new.failed in
@@ -73,7 +73,7 @@ where
     O: Write,
     E: Write + Send,
     S: Store,
-    requires counts { IsCount options.now.workers × IsBudget options.now.steps × IsWatch options.now.watch }
+    requires counts { IsWorkerCount options.now.workers × IsBudget options.now.steps × IsWatch options.now.watch }
     requires fresh { (out.old.calls ≡ 0) × (out.old.failed ≡ 0) × (err.old.calls ≡ 0) × (err.old.failed ≡ 0) }
     ensures ran { let output = counted_stream (O.contents out.old.stream.now) (O.contents out.new.stream.now) out.new.calls out.new.failed in
         let errors = counted_stream (E.contents err.old.stream.now) (E.contents err.new.stream.now) err.new.calls err.new.failed in
@@ -140,7 +140,7 @@ fn make_record(alloc: Global, hub: &Hub, name: &str) -> Result<Record, AllocErro
     Ok(Record { schedule, refused })
 }
 
-// Saves the record, and answers the status that is given; or says that it can't be saved.
+// Saves the record, and returns the status that is given; or says that it can't be saved.
 fn save_record<E: Write, S: Store>(
     name: &str,
     made: &Record,

@@ -19,9 +19,9 @@ pub const TEXT_LIMIT: usize = 1_048_576;
 /// What a command says of a text.
 #[derive(Drop)]
 pub enum Said {
-    /// This goes to the output.
+    /// This is for the output.
     Written(String),
-    /// The text is refused, and this goes to the errors.
+    /// The text is refused, and this is for the errors.
     Refused(String),
 }
 
@@ -120,7 +120,7 @@ pub fn refuse_file<E: Write>(
     5
 }
 
-/// Says why the command goes no further with the file of this name, and answers the status: this one where its text is refused.
+/// Says why the command goes no further with the file of this name, and returns the status: this one where its text is refused.
 pub fn refuse<E: Write>(
     alloc: Global,
     name: &str,

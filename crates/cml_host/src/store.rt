@@ -27,7 +27,7 @@ pub trait Store {
     /// are read in at most twice as many reads as the limit. What the store holds stays as it is.
     ///
     /// # Errors
-    /// A refusal, also where they do not end in so many reads, or want of memory. Bytes that are known to lie there are not refused.
+    /// A refusal, also where they do not end in this many reads, or out of memory. Bytes that are known to lie there are not refused.
     fn load(&mut self, alloc: Global, name: &str, limit: usize) -> Result<Vec<u8>, StoreFault>
         ensures bound { IfOk result (λ bs. length bs.items ≤ limit + 1) }
         ensures found { IfOk result (λ bs. IsLoaded (holds self.old name.now) limit bs.items) }
@@ -37,7 +37,7 @@ pub trait Store {
     /// Keeps the bytes under the name, in place of what lay there, and touches no other name.
     ///
     /// # Errors
-    /// A refusal, or want of memory. What the store holds then stays as it is.
+    /// A refusal, or out of memory. What the store holds then stays as it is.
     fn save(&mut self, name: &str, bytes: &[u8]) -> Result<(), StoreFault>
         ensures saved { OnOk result (IsSaved (holds self.old) (holds self.new) name.now bytes.now) }
         ensures same { OnErr result (IsUnchanged (holds self.old) (holds self.new)) };

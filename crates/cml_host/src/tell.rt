@@ -27,11 +27,11 @@ pub enum ReportFault {
     Memory,
 }
 
-/// Tells all of a run that has come to its end: its reports to the errors, then its output and the end line to the output. It answers the
+/// Tells all of a run that has come to its end: its reports to the errors, then its output and the end line to the output. It returns the
 /// status of such an end.
 ///
 /// # Errors
-/// The status, where not all was told, and the errors tell why: a write failed, behind which nothing is written; or memory ran out, where
+/// The status, where not all was told, and the errors tell why: a write failed, after which nothing is written; or memory ran out, where
 /// the reports that were made and the output are written, and no end line.
 pub fn tell<O: Write, E: Write>(
     alloc: Global,
@@ -57,10 +57,10 @@ pub fn tell<O: Write, E: Write>(
     }
 }
 
-/// Tells the output and the end line of a run that has come to its end, whose reports are told. It answers the status of such an end.
+/// Tells the output and the end line of a run that has come to its end, whose reports are told. It returns the status of such an end.
 ///
 /// # Errors
-/// The status, where not all was told, and the errors tell why: a write failed, behind which nothing is written; or memory ran out, where
+/// The status, where not all was told, and the errors tell why: a write failed, after which nothing is written; or memory ran out, where
 /// the output is written, and no end line.
 pub fn tell_output<O: Write, E: Write>(
     alloc: Global,
@@ -88,8 +88,8 @@ pub fn tell_output<O: Write, E: Write>(
     }
 }
 
-/// Tells why a run has not come to its end, behind what is written of its reports: that memory ran out, where its output so far is
-/// written; that a write of the reports failed; or that the reports are not its own. It answers the status.
+/// Tells why a run has not come to its end, after what is written of its reports: that memory ran out, where its output so far is
+/// written; that a write of the reports failed; or that the reports are not its own. It returns the status.
 pub fn stop<O: Write, E: Write>(
     stopped: &Stopped,
     out: &mut Counting<'_, O>,
@@ -120,7 +120,7 @@ pub fn hub_is_a_run(hub: &Hub)
     let _reports = hub.reports();
 }
 
-// The end line of a run that ends so, where so many threads wait.
+// The end line of a run that ends in this way, where this many threads wait.
 fn end_line(alloc: Global, end: End, waiting: usize) -> Result<String, AllocError>
     ensures { IfOk result (λ line. string_bytes line ≡ spec.end_line end waiting) }
 {
@@ -188,7 +188,7 @@ fn send_report<E: Write>(
     }
 }
 
-// Says that a write failed, behind one to the errors that did.
+// Says that a write failed, after a failed write to the errors.
 fn refuse_reports<E: Write>(err: &mut Counting<'_, E>) -> u8
     requires failed { err.old.failed ≡ 1 }
     ensures said { let errors = counted_stream (E.contents err.old.stream.now) (E.contents err.new.stream.now) err.new.calls err.new.failed in

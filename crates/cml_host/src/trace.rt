@@ -63,7 +63,7 @@ fn fault_status(fault: TraceFault) -> u8
 }
 
 fn fault_line(fault: TraceFault) -> &'static str
-    ensures { result.now ≡ spec.fault_line fault }
+    ensures { result.now ≡ spec.trace_fault_line fault }
 {
     match fault {
         TraceFault::Read => "cannot read input\n",

@@ -5,7 +5,7 @@ ghost use Rattle.cml_hub.specs.Kept.{NoneOut};
 ghost use Rattle.cml_host.specs.Running.{HasRun, IsStopped, IsCounted, hub_of, cause_of};
 ghost use Rattle.cml_host.specs.declared.workers.Cause.TheVariants.{Memory};
 ghost use Rattle.cml_stream.specs.Streams.{counted_stream};
-ghost use Rattle.cml_work.specs.Works.{IsCount, IsWorked, GoesOnFrom};
+ghost use Rattle.cml_work.specs.Works.{IsWorkerCount, IsWorked, GoesOnFrom};
 
 use crate::tell::{ReportFault, hub_is_a_run, send_reports};
 use cml_hub::{Chooser, First, Hub, Seeded};
@@ -34,7 +34,7 @@ pub enum Cause {
 pub struct Stopped {
     /// The hub, as far as it has gone on.
     pub hub: Hub,
-    /// Why it is not.
+    /// Why it is not told as one that has come to its end.
     pub cause: Cause,
 }
 
@@ -46,8 +46,8 @@ impl Gate for Open {
     fn enter(&self, _thread: Tid) {}
 }
 
-/// Runs the hub to its end, and writes its reports to the errors: after the run, or with more workers than one as soon as each is made.
-/// With a seed it chooses by that, else always the first.
+/// Runs the hub to its end, and writes its reports to the errors: after the run, or, with more workers than one, each as soon as it is
+/// made. With a seed it chooses by that, else always the first.
 ///
 /// # Errors
 /// Memory ran out, a write of the reports failed, or the reports that were written are not those of the run.
@@ -63,7 +63,7 @@ where
     E: Write + Send,
     requires fresh { err.old.failed ≡ 0 }
     requires none_out { NoneOut hub }
-    requires count { IsCount options.now.workers }
+    requires count { IsWorkerCount options.now.workers }
     requires watch { hub.watch ≡ options.now.watch }
     ensures ok { let errors = counted_stream (E.contents err.old.stream.now) (E.contents err.new.stream.now) err.new.calls err.new.failed in
         IfOk result (λ new. HasRun hub new errors) }
@@ -92,7 +92,7 @@ where
     E: Write + Send,
     requires fresh { err.old.failed ≡ 0 }
     requires none_out { NoneOut hub }
-    requires count { IsCount options.now.workers }
+    requires count { IsWorkerCount options.now.workers }
     requires watch { hub.watch ≡ options.now.watch }
     ensures ok { let errors = counted_stream (E.contents err.old.stream.now) (E.contents err.new.stream.now) err.new.calls err.new.failed in
         IfOk result (λ new. HasRun hub new errors) }
@@ -157,7 +157,7 @@ where
     R: Threads + Wait + Sync,
     C: Chooser + Drop + Send,
     requires none_out { NoneOut hub }
-    requires count { IsCount workers }
+    requires count { IsWorkerCount workers }
     requires watch { hub.watch ≡ None }
     ensures ok { IfOk result (λ new. IsWorked hub new × (new.reports ≡ [])) }
     ensures err { IfErr result (λ stopped. GoesOnFrom hub stopped.hub × (stopped.cause ≡ Memory)) }
@@ -186,7 +186,7 @@ where
     E: Write + Send,
     requires fresh { err.old.failed ≡ 0 }
     requires none_out { NoneOut hub }
-    requires count { IsCount options.now.workers × (1 < options.now.workers) }
+    requires count { IsWorkerCount options.now.workers × (1 < options.now.workers) }
     requires watch { options.now.watch ≢ None }
     ensures ok { let errors = counted_stream (E.contents err.old.stream.now) (E.contents err.new.stream.now) err.new.calls err.new.failed in
         IfOk result (λ new. HasRun hub new errors) }

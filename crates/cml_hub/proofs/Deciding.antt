@@ -14,10 +14,10 @@ use Rattle.cml_schedule.specs.declared.item.Item.TheVariants.{Clock}
 use Rattle.cml_hub.specs.declared.marks.Mark.{Mark}
 use Rattle.cml_hub.specs.declared.marks.Mark.TheVariants.{Ready, Out}
 use Rattle.cml_hub.specs.Marks.{is_here}
-use Rattle.cml_hub.specs.Runs.{any_runs, is_empty, is_number, is_none, next_alarm, is_allowed, terminal}
+use Rattle.cml_hub.specs.Runs.{any_runs, is_empty, has_number, is_none, next_alarm, is_allowed, terminal}
 use Rattle.cml_hub.specs.Courses.{PlainCourse, Adds}
 use Rattle.cml_hub.specs.Kept.{Kept, Stands, Placed}
-use Rattle.cml_hub.specs.Moves.{Moves, Reported}
+use Rattle.cml_hub.specs.Moves.{AddsItem, Reported}
 use Rattle.cml_hub.proofs.Marking.{placed_any, placed_kept}
 use Rattle.cml_hub.proofs.Placing.{ready_runs}
 use Rattle.cml_hub.proofs.Giving.{kept_of}
@@ -66,11 +66,11 @@ number_self n = grind (arith, nat_tests)
 empty_is : (rows : List Meet) → rows ≡ [] → is_empty rows ≡ true
 empty_is rows e = rw e refl
 
--- the tick may come
+-- the tick is allowed
 pub tick_allowed : (w : PlainWorld) (tick : ℕ) → Some tick ≡ next_alarm w → any_runs w ≡ false → scan w ≡ [] → is_allowed w (Clock tick) ≡ true
 tick_allowed w tick alarm idle still =
-    all_three (is_number (next_alarm w) tick) (not (any_runs w)) (is_empty (scan w))
-    (subst (λ o. is_number o tick ≡ true) alarm (number_self tick)) (ap not idle) (empty_is (scan w) still)
+    all_three (has_number (next_alarm w) tick) (not (any_runs w)) (is_empty (scan w))
+    (subst (λ o. has_number o tick ≡ true) alarm (number_self tick)) (ap not idle) (empty_is (scan w) still)
 
 -- nothing is left to do
 pub is_terminal : (w : PlainWorld) → None ≡ next_alarm w → any_runs w ≡ false → scan w ≡ [] → terminal w ≡ true
@@ -96,5 +96,5 @@ pub in_both : {T E : Type 0} {A B C : Type 0} (r : Result T E) → (A → C) →
 in_both (Ok x) f g h k = f h
 in_both (Err x) f g h k = g k
 
-pub adds_then : (a b c : Kept) (item : Item) → Moves a item b → Reported b c → Adds a.course item c.course
+pub adds_then : (a b c : Kept) (item : Item) → AddsItem a item b → Reported b c → Adds a.course item c.course
 adds_then a b c item m r = subst (λ x. Adds a.course item x) (sym r.course) m.adds

@@ -10,7 +10,7 @@ use Rattle.cml_hub.specs.declared.fault.Next.TheVariants as next
 use Rattle.cml_hub.specs.Runs.{Run, over, terminal}
 use Rattle.cml_hub.specs.Courses.{run_of}
 use Rattle.cml_hub.specs.Kept.{Kept, Continues, Extends, IsNoTurn, NoneOut, AllOut, HandsOut}
-use Rattle.cml_hub.specs.Moves.{Moves, Reported, HandedOut, MovedOn, CalledBack}
+use Rattle.cml_hub.specs.Moves.{AddsItem, Reported, HandedOut, MovedOn, CalledBack}
 
 -- It goes on from itself, and from what it went on from goes on.
 pub continues_self : (h : Kept) → Continues h h
@@ -46,7 +46,7 @@ continues_reported a b r = record {
   reports = r.reports;
 }
 
-pub continues_moved : (a b : Kept) (item : Item) → Moves a item b → Continues a b
+pub continues_moved : (a b : Kept) (item : Item) → AddsItem a item b → Continues a b
 continues_moved a b item m = record {
   program = m.adds.program;
   budget = m.budget;
@@ -80,7 +80,7 @@ extends_reported h a b e r = record {
   no_turn = All-append IsNoTurn e.continues.more [] e.no_turn (All-nil IsNoTurn);
 }
 
-extends_moved : (h a b : Kept) (item : Item) → IsNoTurn item → Extends h a → Moves a item b → Extends h b
+extends_moved : (h a b : Kept) (item : Item) → IsNoTurn item → Extends h a → AddsItem a item b → Extends h b
 unfolding continues_more continues_moved
 extends_moved h a b item n e m = record {
   continues = continues_more h a b e.continues (continues_moved a b item m);

@@ -1,4 +1,4 @@
--- Who is out is ready, one thread after another.
+-- The threads that are out become ready, one after another.
 use Rattle.std.proofs.Common.{◌≡◌, ◌⊎◌, inl, inr, ℕ, zero, suc, ◌+◌, ◌≤◌, List, [], ◌∷◌, ◌++◌, length, map, refl, ap, sym, ◌∙◌, arith, Some, add-one}
 use Rattle.std.proofs.lemmas.List.{length-map}
 use Rattle.std.specs.Prelude.{slice_get, slice_set}
@@ -8,7 +8,7 @@ use Rattle.cml_hub.specs.declared.marks.Mark.TheVariants.{Ready, Out, Away}
 use Rattle.cml_hub.specs.Marks.{home, is_at, count_of, ready_at, count_outs, AreMarks}
 use Rattle.cml_hub.proofs.MarkLemmas.{count_append, ready_set, outs_set}
 
--- those of the first so many that were out are ready
+-- of the first ones, this many, those that were out are ready
 abbrev pub home_upto : ℕ → List Mark → List Mark
 home_upto zero ms = ms
 home_upto (suc n) [] = []
@@ -48,7 +48,7 @@ all_here (Ready ∷ ms) h = ap (λ xs. Ready ∷ xs) (all_here ms (omega (arith,
 all_here (Out ∷ ms) h = absurd (omega (arith, h))
 all_here (Away ∷ ms) h = ap (λ xs. Away ∷ xs) (all_here ms (omega (arith, h)))
 
--- so far: of the first so many none is out, those that are ready stand in the queue, and there is room for those that are out
+-- so far: of the first ones, this many, none is out, those that are ready stand in the queue, and there is room for those that are out
 pub record Homing (old : List Mark) (n : ℕ) (queue : List Tid) (ms : List Mark) (room : ℕ) : Type 0 where
   pub so_far : ms ≡ home_upto n old
   pub queued : (t : ℕ) → count_of t queue ≡ ready_at ms t

@@ -11,7 +11,7 @@ use Rattle.cml_hub.specs.declared.marks.Mark.{Mark}
 use Rattle.cml_hub.specs.Marks.{is_out}
 use Rattle.cml_hub.specs.Courses.{PlainCourse, Turns, Meets, Ticks}
 use Rattle.cml_hub.specs.Kept.{Kept, Stands, NoneDue}
-use Rattle.cml_hub.specs.Moves.{IsNext, marks_after, PartiesAway, marks_met, Moves}
+use Rattle.cml_hub.specs.Moves.{IsNext, marks_after, PartiesAway, marks_met, AddsItem}
 use Rattle.cml_hub.proofs.Marking.{placed_turn, next_is, placed_met, parties_away}
 use Rattle.cml_hub.proofs.Reporting.{stands_moved}
 
@@ -24,7 +24,7 @@ pub next_turned : (h : Kept) (ms : List Mark) (t : Tid) (g : Gone) (new : PlainC
 next_turned h ms t g new s turns = next_is h.course.world.threads new.world.threads ms t.0 g s.placed turns.threads
 
 pub moves_turned : (h : Kept) (t : Tid) (g : Gone) (new : PlainCourse) (ms : List Mark) → Turns h.course t g new
-    → Moves h (Turn t) (record { course = new; budget = h.budget; watch = h.watch; out = map is_out ms; reports = h.reports })
+    → AddsItem h (Turn t) (record { course = new; budget = h.budget; watch = h.watch; out = map is_out ms; reports = h.reports })
 moves_turned h t g new ms turns = record { adds = turns.adds; budget = refl; watch = refl; reports = refl; used = turns.used }
 
 pub stands_met : (h : Kept) (ms : List Mark) (item : Item) (row : Meet) (new : PlainCourse) → Stands h ms → NoneDue h → Meets h.course item row new
@@ -36,7 +36,7 @@ pub away_met : (h : Kept) (ms : List Mark) (item : Item) (row : Meet) (new : Pla
 away_met h ms item row new s meets = parties_away h.course.world ms row s.placed meets.parties
 
 pub moves_met : (h : Kept) (item : Item) (row : Meet) (new : PlainCourse) (ms : List Mark) → Meets h.course item row new
-    → Moves h item (record { course = new; budget = h.budget; watch = h.watch; out = map is_out ms; reports = h.reports })
+    → AddsItem h item (record { course = new; budget = h.budget; watch = h.watch; out = map is_out ms; reports = h.reports })
 moves_met h item row new ms meets = record { adds = meets.adds; budget = refl; watch = refl; reports = refl; used = meets.used }
 
 pub stands_ticked : (h : Kept) (ms : List Mark) (tick : ℕ) (new : PlainCourse) → Stands h ms → NoneDue h → Ticks h.course tick new
@@ -44,5 +44,5 @@ pub stands_ticked : (h : Kept) (ms : List Mark) (tick : ℕ) (new : PlainCourse)
 stands_ticked h ms tick new s none ticks = stands_moved h ms ms (Clock tick) new s none ticks.adds (rw (ticks.threads) s.placed)
 
 pub moves_ticked : (h : Kept) (tick : ℕ) (new : PlainCourse) (ms : List Mark) → Ticks h.course tick new
-    → Moves h (Clock tick) (record { course = new; budget = h.budget; watch = h.watch; out = map is_out ms; reports = h.reports })
+    → AddsItem h (Clock tick) (record { course = new; budget = h.budget; watch = h.watch; out = map is_out ms; reports = h.reports })
 moves_ticked h tick new ms ticks = record { adds = ticks.adds; budget = refl; watch = refl; reports = refl; used = ticks.used }

@@ -12,7 +12,7 @@ use Rattle.cml_scan.specs.Scan.{scan, has_row}
 use Rattle.cml_scan.specs.Enabled.{leaf_of, IsEnabled}
 use Rattle.cml_scan.specs.declared.meet.Meet.{Meet}
 use Rattle.cml_scan.specs.declared.meet.Meet.TheVariants.{Single, Pair}
-use Rattle.cml_check.specs.Syntax.{PlainFunction as PlainItem}
+use Rattle.cml_check.specs.Syntax.{PlainItem}
 use Rattle.cml_check.specs.InOrder.{arities}
 use Rattle.cml_step.specs.Calls.{text_of}
 use Rattle.cml_step.specs.Machines.{PlainMachine, machine_term, Fits}
@@ -29,7 +29,7 @@ use Rattle.cml_schedule.specs.Laws.{AreNumbers, IsPair, IsWritable}
 use Rattle.cml_hub.specs.Runs.{Run, resumed, all_resumed, met, advance, after_item, is_allowed}
 use Rattle.cml_hub.specs.Agreeing.{WorldAgrees, ResumeAgrees}
 use Rattle.cml_hub.specs.Settling.{Resumes, Resumed, AllResumed, AllResume}
-use Rattle.cml_hub.specs.Courses.{PlainCourse, run_of, MachinesStand, Leads, IsPending, PartiesWait, parties_run, Takes, Meets}
+use Rattle.cml_hub.specs.Courses.{PlainCourse, run_of, MachinesStand, Leads, IsPending, PartiesWait, parties_run, TakesRow, Meets}
 use Rattle.cml_hub.proofs.Agreement.{after_agrees, hands_agrees}
 use Rattle.cml_hub.proofs.Ticking.{may_come}
 use Rattle.cml_hub.proofs.Standing.{map_set, found, found_is, stand_set, leads_on, get_other}
@@ -115,8 +115,8 @@ all_after p w ms new (Pair t i o j) h a g r =
     let s = party_after p (slice_set w.threads t.0 running) r.between new (resume w o.0 j (handed (base_awaited w t.0 i))) (partner_stands p w ms r.between t o i j h a g r.head) r.partner in
     (s.0, rw (← q.1) (s.1))
 
--- The item that takes a row may come only where the row can be taken; it can be written; and it takes the row.
-pub takes_there : (w : PlainWorld) (item : Item) (row : Meet) → Takes item row → is_allowed w item ≡ true → has_row (scan w) row ≡ true
+-- The item that takes a row is allowed only where the row can be taken; it can be written; and it takes the row.
+pub takes_there : (w : PlainWorld) (item : Item) (row : Meet) → TakesRow item row → is_allowed w item ≡ true → has_row (scan w) row ≡ true
 takes_there w (Turn t) row h ok = absurd h
 takes_there w (Commit taken) row h ok = rw (← h) ok
 takes_there w (Exchange taken) row h ok = rw (← h) ((and_parts (has_row (scan w) taken) (are_swaps w taken) ok).0)
@@ -126,21 +126,21 @@ swaps_pair : (w : PlainWorld) (row : Meet) → are_swaps w row ≡ true → IsPa
 swaps_pair w (Single t n) h = absurd (cc)
 swaps_pair w (Pair a i o j) h = tt
 
-takes_writable : (w : PlainWorld) (item : Item) (row : Meet) → Takes item row → is_allowed w item ≡ true → AreNumbers row → IsWritable item
+takes_writable : (w : PlainWorld) (item : Item) (row : Meet) → TakesRow item row → is_allowed w item ≡ true → AreNumbers row → IsWritable item
 takes_writable w (Turn t) row h ok n = absurd h
 takes_writable w (Commit taken) row h ok n = rw h n
 takes_writable w (Exchange taken) row h ok n = (rw h n, swaps_pair w taken (and_parts (has_row (scan w) taken) (are_swaps w taken) ok).1)
 takes_writable w (Clock tick) row h ok n = absurd h
 
-after_takes : (p : Program) (r : Run) (item : Item) (row : Meet) → Takes item row → after_item p r item ≡ Some (met p r row)
+after_takes : (p : Program) (r : Run) (item : Item) (row : Meet) → TakesRow item row → after_item p r item ≡ Some (met p r row)
 after_takes p r (Turn t) row h = absurd h
 after_takes p r (Commit taken) row h = rw h refl
 after_takes p r (Exchange taken) row h = rw h refl
 after_takes p r (Clock tick) row h = absurd h
 
--- the item takes the row, and may come; the parties of the row wait, and its numbers are in their ranges
+-- the item takes the row, and is allowed; the parties of the row wait, and its numbers are in their ranges
 pub record MayTake (w : PlainWorld) (item : Item) (row : Meet) : Type 0 where
-  pub takes : Takes item row
+  pub takes : TakesRow item row
   pub allowed : is_allowed w item ≡ true
   pub parties : PartiesWait w row
   pub numbers : AreNumbers row

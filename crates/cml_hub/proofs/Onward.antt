@@ -8,14 +8,14 @@ use Rattle.cml_monitor.specs.Reports.{PlainReport}
 use Rattle.cml_schedule.specs.declared.item.Item.TheVariants.{Clock}
 use Rattle.cml_step.specs.Calls.{text_of}
 use Rattle.cml_step.specs.Machines.{PlainMachine}
-use Rattle.cml_check.specs.Syntax.{PlainFunction as PlainItem}
+use Rattle.cml_check.specs.Syntax.{PlainItem}
 use Rattle.cml_hub.specs.declared.marks.Mark.{Mark}
 use Rattle.cml_hub.specs.declared.marks.Mark.TheVariants.{Ready, Out}
 use Rattle.cml_hub.specs.Marks.{is_out}
 use Rattle.cml_hub.specs.Runs.{any_runs, is_none, next_alarm, terminal, is_allowed}
 use Rattle.cml_hub.specs.Dones.{GoesOn}
-use Rattle.cml_hub.specs.Courses.{PlainCourse, Begins, Keeps}
-use Rattle.cml_hub.specs.Kept.{Kept, Stands, IsBudget, IsWatch, IsBegun, is_out_of}
+use Rattle.cml_hub.specs.Courses.{PlainCourse, Begins, HasMachine}
+use Rattle.cml_hub.specs.Kept.{Kept, Stands, IsBudget, IsWatch, IsAtStart, is_out_of}
 use Rattle.cml_hub.specs.Moves.{HandedOut}
 use Rattle.cml_hub.proofs.Standing.{map_set}
 use Rattle.cml_hub.proofs.Marking.{placed_kept, ready_running, out_at}
@@ -41,7 +41,7 @@ tick_allowed w tick still idle next = let same : nat_eq tick tick ≡ true = gri
 pub terminal_is : (w : PlainWorld) → scan w ≡ [] → any_runs w ≡ false → next_alarm w ≡ None → terminal w ≡ true
 terminal_is w still idle next = rw (next, idle, still) refl
 
--- what a call answers where it succeeds
+-- what a call returns where it succeeds
 pub on_ok : {A E P Q : Type 0} (r : Result A E) → OnOk r P → (P → Q) → OnOk r Q
 on_ok (Ok x) h f = f h
 on_ok (Err e) h f = h
@@ -61,7 +61,7 @@ alone_in zero = refl
 alone_in (suc t) = refl
 
 pub begun_is : (p : List (PlainItem ℕ)) (course : PlainCourse) (budget : ℕ) (watch : Option ℕ) → Begins p course
-    → IsBegun p budget watch (record { course = course; budget = budget; watch = watch; out = false ∷ []; reports = [] })
+    → IsAtStart p budget watch (record { course = course; budget = budget; watch = watch; out = false ∷ []; reports = [] })
 begun_is p course budget watch b = record {
   program = b.program;
   budget_is = refl;
@@ -81,16 +81,16 @@ stands_handed h ms t s ready = record {
   reported = s.reported;
 }
 
-handed_same : (course : PlainCourse) (budget : ℕ) (watch : Option ℕ) (reports : List PlainReport) (ms : List Mark) (t : ℕ) (x : PlainMachine) → slice_get ms t ≡ Some Ready → Keeps course t x
+handed_same : (course : PlainCourse) (budget : ℕ) (watch : Option ℕ) (reports : List PlainReport) (ms : List Mark) (t : ℕ) (x : PlainMachine) → slice_get ms t ≡ Some Ready → HasMachine course t x
     → GoesOn course.program x → x.thread ≡ t
     → HandedOut (record { course = course; budget = budget; watch = watch; out = map is_out ms; reports = reports }) (Some x)
     (record { course = course; budget = budget; watch = watch; out = map is_out (slice_set ms t Out); reports = reports })
 handed_same course budget watch reports ms t x ready keeps stands n =
     let out : map is_out (slice_set ms t Out) ≡ slice_set (map is_out ms) x.thread true = map_set is_out ms t Out ∙ ap (λ k. slice_set (map is_out ms) k true) (sym n) in
     let make : List Bool → Kept = λ o. record { course = course; budget = budget; watch = watch; out = o; reports = reports } in
-    (subst (λ k. Keeps course k x) (sym n) keeps, stands, ap (is_out_of (map is_out ms)) n ∙ out_at ms t Ready ready, ap make out)
+    (subst (λ k. HasMachine course k x) (sym n) keeps, stands, ap (is_out_of (map is_out ms)) n ∙ out_at ms t Ready ready, ap make out)
 
-pub handed_out : (course : PlainCourse) (budget : ℕ) (watch : Option ℕ) (reports : List PlainReport) (ms : List Mark) (t : ℕ) (m x : PlainMachine) → slice_get ms t ≡ Some Ready → Keeps course t x
+pub handed_out : (course : PlainCourse) (budget : ℕ) (watch : Option ℕ) (reports : List PlainReport) (ms : List Mark) (t : ℕ) (m x : PlainMachine) → slice_get ms t ≡ Some Ready → HasMachine course t x
     → GoesOn course.program x → x.thread ≡ t → m ≡ x
     → HandedOut (record { course = course; budget = budget; watch = watch; out = map is_out ms; reports = reports }) (Some m)
     (record { course = course; budget = budget; watch = watch; out = map is_out (slice_set ms t Out); reports = reports })

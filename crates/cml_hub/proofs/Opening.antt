@@ -8,7 +8,7 @@ use Rattle.cml_book.specs.Step.{empty_world}
 use Rattle.cml_step.specs.Terms.{Program}
 use Rattle.cml_check.specs.Heads.{numbered}
 use Rattle.cml_check.specs.InOrder.{names_of}
-use Rattle.cml_check.specs.Syntax.{PlainFunction as PlainItem}
+use Rattle.cml_check.specs.Syntax.{PlainItem}
 use Rattle.cml_step.specs.Calls.{text_of}
 use Rattle.cml_hub.specs.Runs.{main_of, opening}
 

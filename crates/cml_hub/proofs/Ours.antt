@@ -8,7 +8,7 @@ use Rattle.cml_book.specs.Walks.{runs, is_running}
 use Rattle.cml_step.specs.Machines.{PlainMachine}
 use Rattle.cml_step.specs.Rans.{PlainRan}
 use Rattle.cml_hub.specs.Dones.{GoesOn}
-use Rattle.cml_hub.specs.Courses.{PlainCourse, Leads, Keeps, IsOurs}
+use Rattle.cml_hub.specs.Courses.{PlainCourse, Leads, HasMachine, IsOurs}
 use Rattle.cml_hub.proofs.Standing.{found_is, stand_length}
 use Rattle.cml_hub.proofs.MarkLemmas.{got_is}
 
@@ -28,18 +28,18 @@ machine_within c t h run = omega (arith, slice_get_within c.world.threads t runn
 pub machine_at : (c : PlainCourse) (t : ℕ) (m : PlainMachine) → Leads c → slice_get c.world.threads t ≡ Some running → m ≡ slice_index_or c.machines t m → slice_get c.machines t ≡ Some m
 machine_at c t m h run is = got_is c.machines t m m (machine_within c t h run) is
 
-pub machine_keeps : (c : PlainCourse) (t : ℕ) (m : PlainMachine) → Leads c → slice_get c.world.threads t ≡ Some running → m ≡ slice_index_or c.machines t m → Keeps c t m
+pub machine_keeps : (c : PlainCourse) (t : ℕ) (m : PlainMachine) → Leads c → slice_get c.world.threads t ≡ Some running → m ≡ slice_index_or c.machines t m → HasMachine c t m
 machine_keeps c t m h run is = record { running = run; machine = machine_at c t m h run is }
 
-pub machine_goes : (c : PlainCourse) (t : ℕ) (m : PlainMachine) → Leads c → Keeps c t m → GoesOn c.program m
+pub machine_goes : (c : PlainCourse) (t : ℕ) (m : PlainMachine) → Leads c → HasMachine c t m → GoesOn c.program m
 machine_goes c t m h k = (found_is c.program 0 t c.world.threads c.machines running m h.machines k.running k.machine).1
 
-pub machine_number : (c : PlainCourse) (t : ℕ) (m : PlainMachine) → Leads c → Keeps c t m → m.thread ≡ t
+pub machine_number : (c : PlainCourse) (t : ℕ) (m : PlainMachine) → Leads c → HasMachine c t m → m.thread ≡ t
 machine_number c t m h k = (found_is c.program 0 t c.world.threads c.machines running m h.machines k.running k.machine).0 ∙ omega arith
 
 -- a slice that is ours is of the thread whose number its machine has
-pub ours_own : (c : PlainCourse) (ran : PlainRan) → Leads c → IsOurs c ran → Keeps c ran.start.thread ran.start
-ours_own c ran h o = let P : ℕ → Type 0 = λ t. Keeps c t ran.start in subst P (sym (machine_number c o.1.0 ran.start h o.1.1)) o.1.1
+pub ours_own : (c : PlainCourse) (ran : PlainRan) → Leads c → IsOurs c ran → HasMachine c ran.start.thread ran.start
+ours_own c ran h o = let P : ℕ → Type 0 = λ t. HasMachine c t ran.start in subst P (sym (machine_number c o.1.0 ran.start h o.1.1)) o.1.1
 
 pub not_running_ours : (c : PlainCourse) (ran : PlainRan) (t : ℕ) (b : Bool) → Leads c → t ≡ ran.start.thread → b ≡ is_running c.world t → b ≡ false → IsTrue false ↔ IsOurs c ran
 not_running_ours c ran t b h e r n = (

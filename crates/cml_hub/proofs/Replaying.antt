@@ -2,21 +2,21 @@
 use Rattle.std.proofs.Common.{◌≡◌, ℕ, zero, suc, ◌+◌, ◌<◌, false, List, [], ◌∷◌, ◌++◌, length, take, drop, refl, arith, Some, None, sym, ap, ◌∙◌, subst}
 use Rattle.std.specs.Prelude.{Option, if◌then◌else◌, option_and_then, slice_index_or}
 use Rattle.std.proofs.lemmas.List.{take_more}
-use Rattle.cml_check.specs.Syntax.{PlainFunction as PlainItem}
+use Rattle.cml_check.specs.Syntax.{PlainItem}
 use Rattle.cml_step.specs.Calls.{text_of}
 use Rattle.cml_step.specs.Terms.{Program}
 use Rattle.cml_schedule.specs.declared.item.Item.{Item}
 use Rattle.cml_hub.specs.Runs.{Run, is_allowed, after_item, advance, stands_from, stands, opening}
 use Rattle.cml_hub.specs.Courses.{run_of}
 use Rattle.cml_hub.specs.Reports.{IsDue}
-use Rattle.cml_hub.specs.Kept.{Kept, IsWatch, IsBegun, IsBad, NoneDue}
+use Rattle.cml_hub.specs.Kept.{Kept, IsWatch, IsAtStart, IsFirstBad, NoneDue}
 
 -- At the beginning no report is due.
 none_due_first : (watch : Option ℕ) → IsWatch watch → IsDue watch 0 0 → ⊥
 none_due_first None w d = d
 none_due_first (Some k) w d = absurd (omega (arith, w.0, d))
 
-pub begun_due : (p : List (PlainItem ℕ)) (budget : ℕ) (watch : Option ℕ) (h : Kept) → IsWatch watch → IsBegun p budget watch h → NoneDue h
+pub begun_due : (p : List (PlainItem ℕ)) (budget : ℕ) (watch : Option ℕ) (h : Kept) → IsWatch watch → IsAtStart p budget watch h → NoneDue h
 begun_due p budget watch h w b = λ d. none_due_first watch w (rw (b.watch_is, b.items, b.reports) at d)
 
 -- where a schedule leads, item by item
@@ -50,7 +50,7 @@ length-take-within (x ∷ xs) (suc i) lt = ap suc (length-take-within xs i (omeg
 
 pub bad_at : (p : List (PlainItem ℕ)) (items : List Item) (i : ℕ) (d : Item) (h : Kept) → i < length items
     → h.course.program ≡ p → h.course.items ≡ take i items → stands (text_of h.course.program) h.course.items ≡ Some (run_of h.course)
-    → is_allowed h.course.world (slice_index_or items i d) ≡ false → IsBad p items (i + 1) × (stands (text_of p) items ≡ None)
+    → is_allowed h.course.world (slice_index_or items i d) ≡ false → IsFirstBad p items (i + 1) × (stands (text_of p) items ≡ None)
 bad_at p items i d h lt program items_are leads refused =
     let bad : Item = slice_index_or items i d in
     let r = run_of h.course in

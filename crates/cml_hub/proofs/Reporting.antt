@@ -11,7 +11,7 @@ use Rattle.cml_hub.specs.declared.marks.Mark.{Mark}
 use Rattle.cml_hub.specs.Marks.{is_out}
 use Rattle.cml_hub.specs.Runs.{Run, stands}
 use Rattle.cml_hub.specs.Courses.{PlainCourse, run_of, Adds}
-use Rattle.cml_hub.specs.Reports.{shown, report_at, AreReportsBy, AreReports, IsDue, IsDueReport}
+use Rattle.cml_hub.specs.Reports.{report_of, report_at, AreReportsBy, AreReports, IsDue, IsDueReport}
 use Rattle.cml_hub.specs.Kept.{Kept, Placed, Stands, NoneDue, IsWatch}
 use Rattle.cml_hub.specs.Moves.{Reported}
 
@@ -33,7 +33,7 @@ reports_more : (p : Program) (items : List Item) (k : ℕ) (reports : List Plain
 reports_more p items k reports item h lt = record {
   each = λ i within. (
       let le : k * (i + 1) ≤ length items = earlier k i (length reports) (length items) within h.made in
-      h.each i within ∙ ap (λ xs. option_map (λ (r : Run). shown (k * (i + 1)) r.world) (stands p xs)) (sym (take-append-le (k * (i + 1)) items (item ∷ []) le)));
+      h.each i within ∙ ap (λ xs. option_map (λ (r : Run). report_of (k * (i + 1)) r.world) (stands p xs)) (sym (take-append-le (k * (i + 1)) items (item ∷ []) le)));
   made = omega (arith, h.made, length-append items (item ∷ []));
   few = omega (arith, lt, length-append items (item ∷ []));
 }
@@ -47,18 +47,18 @@ reports_on p items None reports item h none = h
 reports_on p items (Some k) reports item h none = reports_more p items k reports item h (below (length items) (k * (length reports + 1)) h.few none)
 
 each_at : (p : Program) (items : List Item) (k : ℕ) (reports : List PlainReport) (r : Run) (i : ℕ) → length items ≡ k * (length reports + 1) → stands p items ≡ Some r
-    → i ≡ length reports → slice_get (reports ++ shown (length items) r.world ∷ []) i ≡ report_at p items (k * (i + 1))
+    → i ≡ length reports → slice_get (reports ++ report_of (length items) r.world ∷ []) i ≡ report_at p items (k * (i + 1))
 each_at p items k reports r i due leads is =
-    rw (is, ← due, take_all (length items) items (omega arith), leads) (get_last reports (shown (length items) r.world))
+    rw (is, ← due, take_all (length items) items (omega arith), leads) (get_last reports (report_of (length items) r.world))
 
 -- the report that is due
 report_made : (p : Program) (items : List Item) (k : ℕ) (reports : List PlainReport) (r : Run) → AreReportsBy p items k reports → length items ≡ k * (length reports + 1) → stands p items ≡ Some r
-    → AreReportsBy p items k (reports ++ shown (length items) r.world ∷ [])
+    → AreReportsBy p items k (reports ++ report_of (length items) r.world ∷ [])
 report_made p items k reports r h due leads =
-    let new : List PlainReport = reports ++ shown (length items) r.world ∷ [] in
-    let longer : length new ≡ length reports + 1 = length-append reports (shown (length items) r.world ∷ []) in
+    let new : List PlainReport = reports ++ report_of (length items) r.world ∷ [] in
+    let longer : length new ≡ length reports + 1 = length-append reports (report_of (length items) r.world ∷ []) in
     let P : ℕ → Type 0 = λ i. slice_get new i ≡ report_at p items (k * (i + 1)) in
-    let all = below_more P (length reports) (λ i lt. get_before reports (shown (length items) r.world) i lt ∙ h.each i lt) (each_at p items k reports r (length reports) due leads refl) in
+    let all = below_more P (length reports) (λ i lt. get_before reports (report_of (length items) r.world) i lt ∙ h.each i lt) (each_at p items k reports r (length reports) due leads refl) in
     record {
       each = λ i within. all i (omega (arith, longer));
       made = rw (longer) (omega (arith, due));
@@ -66,7 +66,7 @@ report_made p items k reports r h due leads =
     }
 
 reports_due : (p : Program) (items : List Item) (watch : Option ℕ) (reports : List PlainReport) (r : Run) → AreReports p items watch reports → IsDue watch (length items) (length reports) → stands p items ≡ Some r
-    → AreReports p items watch (reports ++ shown (length items) r.world ∷ [])
+    → AreReports p items watch (reports ++ report_of (length items) r.world ∷ [])
 reports_due p items None reports r h due leads = absurd due
 reports_due p items (Some k) reports r h due leads = report_made p items k reports r h due leads
 

@@ -2,7 +2,7 @@
 use Rattle.std.proofs.Common.{◌≡◌, ◌≢◌, ℕ, zero, suc, ◌+◌, List, [], ◌∷◌, ◌++◌, length, map, refl, ap, sym, subst, ◌∙◌, arith, Option, Some}
 use Rattle.std.specs.Prelude.{slice_get, slice_set, option_and_then}
 use Rattle.cml_scan.specs.World.{PlainThread}
-use Rattle.cml_check.specs.Syntax.{PlainFunction as PlainItem}
+use Rattle.cml_check.specs.Syntax.{PlainItem}
 use Rattle.cml_step.specs.Machines.{PlainMachine}
 use Rattle.cml_step.specs.Terms.{Program}
 use Rattle.cml_schedule.specs.declared.item.Item.{Item}

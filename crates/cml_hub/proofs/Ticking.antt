@@ -11,12 +11,12 @@ use Rattle.cml_book.specs.Outcomes.{refuse_if}
 use Rattle.cml_book.specs.declared.refusal.Refusal.{Refusal}
 use Rattle.cml_book.specs.declared.refusal.Refusal.TheVariants as refusal
 use Rattle.cml_schedule.specs.declared.item.Item.TheVariants.{Clock}
-use Rattle.cml_hub.specs.Runs.{next_alarm, is_number, any_runs, is_empty, is_allowed}
+use Rattle.cml_hub.specs.Runs.{next_alarm, has_number, any_runs, is_empty, is_allowed}
 use Rattle.cml_hub.specs.Agreeing.{waits_soon}
 use Rattle.cml_hub.proofs.Alarms.{IsLeast, least_is}
 use Rattle.cml_hub.proofs.Soon.{alarm_soon}
 
-number_is : (o : Option ℕ) (n : ℕ) → is_number o n ≡ true → o ≡ Some n
+number_is : (o : Option ℕ) (n : ℕ) → has_number o n ≡ true → o ≡ Some n
 number_is None n h = cc
 number_is (Some m) n h = let e : m ≡ n = grind (arith, nat_tests) in ap (λ k. Some k) e
 
@@ -33,8 +33,8 @@ moved w t false false p q lt le = refl
 -- the tick to which it may move has not come, and is no greater than the greatest
 pub may_come : (w : PlainWorld) (t : ℕ) → is_allowed w (Clock t) ≡ true → Every waits_soon w.threads → (w.tick < t) × (t ≤ max_tick)
 may_come w t ok soon =
-    let parts = and_parts (is_number (next_alarm w) t && not (any_runs w)) (is_empty (scan w)) ok in
-    let more = and_parts (is_number (next_alarm w) t) (not (any_runs w)) parts.0 in
+    let parts = and_parts (has_number (next_alarm w) t && not (any_runs w)) (is_empty (scan w)) ok in
+    let more = and_parts (has_number (next_alarm w) t) (not (any_runs w)) parts.0 in
     alarm_is w (next_alarm w) t (least_is w.tick (bases_awaited (pending w))) (number_is (next_alarm w) t more.0) soon
 
 -- the clock moves to it

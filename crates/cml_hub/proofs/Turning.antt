@@ -5,9 +5,9 @@ use Rattle.std.proofs.lemmas.List.Elements.{All-push}
 use Rattle.std.proofs.lemmas.Option.{slice_get-map}
 use Rattle.cml_value.specs.declared.number.Tid.{Tid}
 use Rattle.cml_scan.specs.World.{PlainThread, running, pending_on, ended, PlainWorld}
-use Rattle.cml_check.specs.Syntax.{PlainFunction as PlainItem}
+use Rattle.cml_check.specs.Syntax.{PlainItem}
 use Rattle.cml_check.specs.InOrder.{arities}
-use Rattle.cml_step.specs.Answers.{awaited, answer_to}
+use Rattle.cml_step.specs.Answers.{top_await, await_of}
 use Rattle.cml_step.specs.Asks.{PlainAsk}
 use Rattle.cml_step.specs.Calls.{text_of}
 use Rattle.cml_step.specs.Machines.{PlainMachine, machine_term, Fits}
@@ -19,7 +19,7 @@ use Rattle.cml_schedule.specs.Laws.{IsNumber, IsWritable}
 use Rattle.cml_hub.specs.declared.done.Done.{Done}
 use Rattle.cml_hub.specs.declared.done.Done.TheVariants.{Goes, Gets, Takes, Begets, Prints, Waits, Ends, Fails}
 use Rattle.cml_hub.specs.Performed.{performed}
-use Rattle.cml_hub.specs.Runs.{term_after, begun, told, advance}
+use Rattle.cml_hub.specs.Runs.{term_after, begun, output_of, advance}
 use Rattle.cml_hub.specs.Dones.{plain_done, DoneFits, CanSettle, Settles, children, gone, ThreadsAfter, GoesOn}
 use Rattle.cml_hub.specs.Settling.{AllSettled}
 use Rattle.cml_hub.specs.Courses.{PlainCourse, run_of, MachineStands, MachinesStand, Leads, Turns}
@@ -27,7 +27,7 @@ use Rattle.cml_hub.proofs.Standing.{map_set, map_append, set_same, found_is, sta
 use Rattle.cml_hub.proofs.Performing.{ThreadsDone, Performs, performs}
 
 -- the machine waits for the answer that it gets
-pub can_settle : (p : List (PlainItem ℕ)) (a : PlainAsk) (end : PlainMachine) (d : Done) → Fits p end → awaited (machine_term p end) ≡ answer_to a → DoneFits p a end d → CanSettle end d
+pub can_settle : (p : List (PlainItem ℕ)) (a : PlainAsk) (end : PlainMachine) (d : Done) → Fits p end → top_await (machine_term p end) ≡ await_of a → DoneFits p a end d → CanSettle end d
 can_settle p a end Goes f w h = tt
 can_settle p a end (Gets v) f w h = (p, f, w ∙ h.0)
 can_settle p a end (Takes room) f w h = h.1
@@ -92,7 +92,7 @@ pub record TurnDone (c : PlainCourse) (number : Tid) (start end : PlainMachine) 
   pub slice : IsSlice (record { program = c.program; start = start; end = end; ask = a; steps = steps })
   pub done : performed c.world number.0 a ≡ (w, plain_done a d)
   pub fits : DoneFits c.program a end d
-  pub tells : line ≡ told number.0 (plain_done a d)
+  pub tells : line ≡ output_of number.0 (plain_done a d)
   pub settled : AllSettled c.machines number.0 end d ms
 
 -- the course after it

@@ -11,13 +11,13 @@ use Rattle.cml_book.specs.Entering.{is_far}
 use Rattle.cml_book.specs.Resumes.{PlainResume}
 use Rattle.cml_book.specs.declared.command.Committed.{Committed}
 
--- what a thread waits on agrees
+-- what a thread waits on agrees with the program
 abbrev pub thread_agrees : List ℕ → PlainThread → Bool
 thread_agrees arities running = true
 thread_agrees arities (pending_on g) = event_agrees arities (event_of g)
 thread_agrees arities ended = true
 
--- it waits for no tick above the greatest
+-- the thread waits for no tick above the greatest
 abbrev pub waits_soon : PlainThread → Bool
 waits_soon running = true
 waits_soon (pending_on g) = not (list_any (is_far 0) (bases g))
@@ -31,7 +31,7 @@ pub record WorldAgrees (arities : List ℕ) (w : PlainWorld) : Type 0 where
   pub mailboxes : Every (all_agree arities) w.mailboxes
   pub ports : Every (all_agree arities) w.ports
 
--- what a party of a row gets agrees
+-- what a party of a row gets agrees with the program
 abbrev pub ResumeAgrees : List ℕ → PlainResume → Type 0
 ResumeAgrees arities r = (value_agrees arities r.value ≡ true) × (functions_agree arities r.wraps ≡ true)
 

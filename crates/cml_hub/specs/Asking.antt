@@ -1,9 +1,9 @@
--- How what a thread asks is done over a book.
+-- How a book does what a thread asks.
 use Rattle.std.specs.Prelude.{◌≡◌, ℕ, List, Result, Ok, Err}
 use Rattle.std.specs.String.{string_bytes}
 use Rattle.cml_scan.specs.World.{PlainWorld}
 use Rattle.cml_step.specs.Asks.{PlainAsk}
-use Rattle.cml_check.specs.Syntax.{PlainFunction as PlainItem}
+use Rattle.cml_check.specs.Syntax.{PlainItem}
 use Rattle.cml_step.specs.Machines.{PlainMachine}
 use Rattle.cml_book.specs.Outcomes.{Outcome}
 use Rattle.cml_book.specs.declared.refusal.Fault.{Fault}
@@ -11,7 +11,7 @@ use Rattle.cml_book.specs.declared.refusal.Fault.TheVariants.{Refused, Memory}
 use Rattle.cml_hub.specs.declared.done.Done.{Done}
 use Rattle.cml_hub.specs.declared.done.Prepared.{Prepared}
 use Rattle.cml_hub.specs.Performed.{PlainDone, performed}
-use Rattle.cml_hub.specs.Runs.{told}
+use Rattle.cml_hub.specs.Runs.{output_of}
 use Rattle.cml_hub.specs.Dones.{plain_done, told_ahead, DoneFits}
 
 -- the ask is done; or it is refused, or memory ran out, and nothing changes
@@ -20,13 +20,13 @@ Performs a (Ok d) outcome old new = outcome ≡ Ok (new, plain_done a d)
 Performs a (Err (Refused why)) outcome old new = (outcome ≡ Err why) × (new ≡ old)
 Performs a (Err Memory) outcome old new = new ≡ old
 
--- what is known of it then: that it fits the machine, and what it adds to the output
+-- what is known of an ask that was done: that it fits the machine, and what it adds to the output
 pub record IsDone (p : List (PlainItem ℕ)) (t : ℕ) (a : PlainAsk) (end : PlainMachine) (d : Done) : Type 0 where
   pub fits : DoneFits p a end d
-  pub told : told t (plain_done a d) ≡ told_ahead t a
+  pub told : output_of t (plain_done a d) ≡ told_ahead t a
 
--- the same once its line is made: it is done, or refused and the thread has ended
+-- the same once the ask's line for the output is made: the ask is done, or refused, and then the thread has ended
 pub record IsPrepared (p : List (PlainItem ℕ)) (t : ℕ) (a : PlainAsk) (end : PlainMachine) (old new : PlainWorld) (r : Prepared) : Type 0 where
   pub performed : performed old t a ≡ (new, plain_done a r.done)
   pub fits : DoneFits p a end r.done
-  pub line : string_bytes r.line ≡ told t (plain_done a r.done)
+  pub line : string_bytes r.line ≡ output_of t (plain_done a r.done)

@@ -5,7 +5,7 @@ use Rattle.cml_scan.specs.World.{PlainThread, running, pending_on, ended, PlainW
 use Rattle.cml_scan.specs.declared.meet.Meet.{Meet}
 use Rattle.cml_scan.specs.declared.meet.Meet.TheVariants.{Single, Pair}
 use Rattle.cml_value.specs.Group.{PlainGroup}
-use Rattle.cml_check.specs.Syntax.{PlainFunction as PlainItem}
+use Rattle.cml_check.specs.Syntax.{PlainItem}
 use Rattle.cml_check.specs.InOrder.{arities}
 use Rattle.cml_step.specs.Calls.{text_of}
 use Rattle.cml_step.specs.Terms.{call_of}
@@ -19,7 +19,7 @@ use Rattle.cml_hub.specs.Runs.{Run, main_of, opening, stands, advance}
 use Rattle.cml_hub.specs.Agreeing.{WorldAgrees}
 use Rattle.cml_value.specs.declared.number.Tid.{Tid}
 use Rattle.cml_hub.specs.declared.done.Gone.{Gone}
-use Rattle.cml_hub.specs.Dones.{GoesOn, WaitsOn, ThreadsAfter}
+use Rattle.cml_hub.specs.Dones.{GoesOn, AwaitsCommit, ThreadsAfter}
 
 -- the program, the schedule so far, the world, the machine of each thread by its number, the output, and how much of the budget was used
 pub record PlainCourse : Type 0 where
@@ -34,13 +34,13 @@ pub record PlainCourse : Type 0 where
 abbrev pub run_of : PlainCourse → Run
 run_of c = record { world = c.world; terms = map (machine_term c.program) c.machines; output = c.output; used = c.used }
 
--- how the machine of a thread stands that does this
+-- what holds of the machine of a thread in this state
 abbrev pub MachineStands : List (PlainItem ℕ) → PlainThread → PlainMachine → Type 0
 MachineStands p running m = GoesOn p m
-MachineStands p (pending_on g) m = WaitsOn p m
+MachineStands p (pending_on g) m = AwaitsCommit p m
 MachineStands p ended m = Unit {0}
 
--- the machines of threads of which the first has this number: each has the number of its thread, and stands so
+-- the machines of threads, of which the first has this number: each has the number of its thread, and fits its thread's state
 abbrev pub MachinesStand : List (PlainItem ℕ) → ℕ → List PlainThread → List PlainMachine → Type 0
 MachinesStand p k [] [] = Unit {0}
 MachinesStand p k [] (m ∷ ms) = ⊥
@@ -71,26 +71,26 @@ pub record Begins (p : List (PlainItem ℕ)) (c : PlainCourse) : Type 0 where
   pub items : c.items ≡ []
   pub threads : c.world.threads ≡ running ∷ []
 
--- one more item, which may come where it comes
+-- one more item was added, which is allowed where it stands
 pub record Adds (old : PlainCourse) (item : Item) (new : PlainCourse) : Type 0 where
   pub program : new.program ≡ old.program
   pub items : new.items ≡ old.items ++ item ∷ []
   pub run : advance (text_of old.program) (run_of old) item ≡ Some (run_of new)
 
 -- the thread of this number runs, and this is its machine
-pub record Keeps (c : PlainCourse) (t : ℕ) (m : PlainMachine) : Type 0 where
+pub record HasMachine (c : PlainCourse) (t : ℕ) (m : PlainMachine) : Type 0 where
   pub running : slice_get c.world.threads t ≡ Some running
   pub machine : slice_get c.machines t ≡ Some m
 
--- the slice is of this program, and some running thread has the machine with which it began
+-- the slice is of this program, and some running thread has the machine with which the slice began
 abbrev pub IsOurs : PlainCourse → PlainRan → Type 0
-IsOurs c ran = (ran.program ≡ c.program) × ((t : ℕ) × Keeps c t ran.start)
+IsOurs c ran = (ran.program ≡ c.program) × ((t : ℕ) × HasMachine c t ran.start)
 
 -- the thread waits
 abbrev pub IsPending : PlainWorld → ℕ → Type 0
 IsPending w t = (g : PlainGroup) × (slice_get w.threads t ≡ Some (pending_on g))
 
--- the parties of a row wait, and are two
+-- the parties of a row wait; those of a pair are two different threads
 abbrev pub PartiesWait : PlainWorld → Meet → Type 0
 PartiesWait w (Single t n) = IsPending w t.0
 PartiesWait w (Pair h i o j) = IsPending w h.0 × IsPending w o.0 × (h.0 ≢ o.0)
@@ -107,10 +107,10 @@ pub record Turns (old : PlainCourse) (thread : Tid) (gone : Gone) (new : PlainCo
   pub used : old.used < new.used
 
 -- the item takes the row: as any row, or as an exchange
-abbrev pub Takes : Item → Meet → Type 0
-Takes (Commit taken) row = taken ≡ row
-Takes (Exchange taken) row = taken ≡ row
-Takes _ row = ⊥
+abbrev pub TakesRow : Item → Meet → Type 0
+TakesRow (Commit taken) row = taken ≡ row
+TakesRow (Exchange taken) row = taken ≡ row
+TakesRow _ row = ⊥
 
 -- the row was taken, by this item
 pub record Meets (old : PlainCourse) (item : Item) (row : Meet) (new : PlainCourse) : Type 0 where

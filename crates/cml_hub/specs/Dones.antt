@@ -1,12 +1,12 @@
--- What the code holds of an ask that was done.
+-- What the code keeps of an ask that was done.
 use Rattle.std.specs.Prelude.{◌≡◌, ℕ, true, false, List, [], ◌∷◌, ◌++◌, length, slice_set}
 use Rattle.cml_text.specs.Lines.{line}
 use Rattle.cml_value.specs.Value.{PlainValue, unit, thread, PlainFunction, function, no_values}
 use Rattle.cml_scan.specs.World.{PlainThread, running}
-use Rattle.cml_check.specs.Syntax.{PlainFunction as PlainItem}
+use Rattle.cml_check.specs.Syntax.{PlainItem}
 use Rattle.cml_check.specs.InOrder.{arities}
 use Rattle.cml_step.specs.Agrees.{value_agrees}
-use Rattle.cml_step.specs.Answers.{nothing, value, nack, commit, awaited, answer_to}
+use Rattle.cml_step.specs.Answers.{nothing, value, nack, commit, top_await, await_of}
 use Rattle.cml_step.specs.AnswerViews.{Awaits}
 use Rattle.cml_step.specs.Asks as ask
 use Rattle.cml_step.specs.Asks.{PlainAsk, a_value, a_nack}
@@ -21,9 +21,9 @@ use Rattle.cml_hub.specs.declared.done.Done.TheVariants as done_of
 use Rattle.cml_hub.specs.declared.done.Gone.{Gone}
 use Rattle.cml_hub.specs.declared.done.Gone.TheVariants as gone_of
 use Rattle.cml_hub.specs.Performed.{PlainDone, goes, gets, begets, prints, waits, ends, fails, spoken}
-use Rattle.cml_hub.specs.Runs.{term_after, told}
+use Rattle.cml_hub.specs.Runs.{term_after, output_of}
 
--- the function of the thread that is asked for, and the value that is printed; other asks have none
+-- the function of the thread that is asked for, and the value that is printed; of other asks they mean nothing
 abbrev pub function_asked : PlainAsk → PlainFunction
 function_asked (ask.spawn f) = f
 function_asked _ = function 0 no_values
@@ -46,24 +46,24 @@ plain_done a (done_of.Fails name) = fails name.now
 -- what an ask adds to the output where it is not refused
 abbrev pub told_ahead : ℕ → PlainAsk → List ℕ
 told_ahead t (ask.print v) = line (spoken v)
-told_ahead t (ask.fault why) = told t (fails (fault_name why))
+told_ahead t (ask.fault why) = output_of t (fails (fault_name why))
 told_ahead t _ = []
 
 -- the machine of a thread that begins with a call of the function
 pub record IsChild (p : List (PlainItem ℕ)) (f : PlainFunction) (m : PlainMachine) : Type 0 where
   pub term : machine_term p m ≡ call_of (text_of p) f ∷ []
   pub fits : Fits p m
-  pub awaits : awaited (machine_term p m) ≡ nothing
+  pub awaits : top_await (machine_term p m) ≡ nothing
 
--- It answers what was asked, the value agrees with the program, there is room for the answer of a nack, and a new thread stands at its
--- beginning.
+-- What was done answers what was asked; its value agrees with the program; there is room for the answer of a nack; and a new thread stands
+-- at its beginning.
 abbrev pub DoneFits : List (PlainItem ℕ) → PlainAsk → PlainMachine → Done → Type 0
-DoneFits p a end done_of.Goes = answer_to a ≡ nothing
-DoneFits p a end (done_of.Gets v) = (answer_to a ≡ value) × (value_agrees (arities p) v ≡ true)
-DoneFits p a end (done_of.Takes room) = (answer_to a ≡ nack) × IsNackRoom end room
-DoneFits p a end (done_of.Begets m) = (answer_to a ≡ value) × IsChild p (function_asked a) m
-DoneFits p a end done_of.Prints = answer_to a ≡ value
-DoneFits p a end done_of.Waits = answer_to a ≡ commit
+DoneFits p a end done_of.Goes = await_of a ≡ nothing
+DoneFits p a end (done_of.Gets v) = (await_of a ≡ value) × (value_agrees (arities p) v ≡ true)
+DoneFits p a end (done_of.Takes room) = (await_of a ≡ nack) × IsNackRoom end room
+DoneFits p a end (done_of.Begets m) = (await_of a ≡ value) × IsChild p (function_asked a) m
+DoneFits p a end done_of.Prints = await_of a ≡ value
+DoneFits p a end done_of.Waits = await_of a ≡ commit
 DoneFits p a end done_of.Ends = Unit {0}
 DoneFits p a end (done_of.Fails name) = Unit {0}
 
@@ -77,13 +77,13 @@ CanSettle end _ = Unit {0}
 
 -- a machine whose thread goes on, and one whose thread waits
 abbrev pub GoesOn : List (PlainItem ℕ) → PlainMachine → Type 0
-GoesOn p m = Fits p m × (awaited (machine_term p m) ≡ nothing)
+GoesOn p m = Fits p m × (top_await (machine_term p m) ≡ nothing)
 
-abbrev pub WaitsOn : List (PlainItem ℕ) → PlainMachine → Type 0
-WaitsOn p m = Fits p m × (awaited (machine_term p m) ≡ commit)
+abbrev pub AwaitsCommit : List (PlainItem ℕ) → PlainMachine → Type 0
+AwaitsCommit p m = Fits p m × (top_await (machine_term p m) ≡ commit)
 
 abbrev pub StandsAfter : List (PlainItem ℕ) → Done → PlainMachine → Type 0
-StandsAfter p done_of.Waits m = WaitsOn p m
+StandsAfter p done_of.Waits m = AwaitsCommit p m
 StandsAfter p done_of.Ends m = Unit {0}
 StandsAfter p (done_of.Fails name) m = Unit {0}
 StandsAfter p _ m = GoesOn p m

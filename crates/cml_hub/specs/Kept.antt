@@ -4,7 +4,7 @@ use Rattle.std.specs.List.{All}
 use Rattle.cml_value.specs.declared.number.Tid.{Tid}
 use Rattle.cml_scan.specs.World.{PlainThread, running}
 use Rattle.cml_scan.specs.Scan.{scan}
-use Rattle.cml_check.specs.Syntax.{PlainFunction as PlainItem}
+use Rattle.cml_check.specs.Syntax.{PlainItem}
 use Rattle.cml_check.specs.Sizes.{size_of}
 use Rattle.cml_check.specs.declared.size.Size.{Size}
 use Rattle.cml_book.specs.Walks.{runs}
@@ -24,7 +24,7 @@ use Rattle.cml_hub.specs.declared.marks.Mark.{Mark}
 use Rattle.cml_hub.specs.Marks.{is_here}
 use Rattle.cml_hub.specs.Runs.{Run, any_runs, over, ending, stands, advance}
 use Rattle.cml_hub.specs.Dones.{GoesOn}
-use Rattle.cml_hub.specs.Courses.{PlainCourse, run_of, Adds, Keeps, IsOurs}
+use Rattle.cml_hub.specs.Courses.{PlainCourse, run_of, Adds, HasMachine, IsOurs}
 use Rattle.cml_hub.specs.Reports.{AreReports, IsDue}
 
 -- a hub: its program with the schedule so far and where that has led; its budget; after how many items a report is made, if any is; by
@@ -44,7 +44,7 @@ abbrev pub IsWatch : Option ℕ → Type 0
 IsWatch None = Unit {0}
 IsWatch (Some k) = IsBudget k
 
--- just the threads that run are ready or out
+-- exactly the threads that run are ready or out
 abbrev pub Placed : List PlainThread → List Mark → Type 0
 Placed [] [] = Unit {0}
 Placed [] (m ∷ ms) = ⊥
@@ -74,8 +74,8 @@ NoneOut h = (t : ℕ) → is_out_of h.out t ≡ false
 abbrev pub AllOut : Kept → Type 0
 AllOut h = (t : ℕ) → slice_get h.course.world.threads t ≡ Some running → is_out_of h.out t ≡ true
 
--- at its beginning: nothing has happened yet
-pub record IsBegun (p : List (PlainItem ℕ)) (budget : ℕ) (watch : Option ℕ) (h : Kept) : Type 0 where
+-- the hub is at its beginning: nothing has happened yet
+pub record IsAtStart (p : List (PlainItem ℕ)) (budget : ℕ) (watch : Option ℕ) (h : Kept) : Type 0 where
   pub program : h.course.program ≡ p
   pub budget_is : h.budget ≡ budget
   pub watch_is : h.watch ≡ watch
@@ -83,8 +83,8 @@ pub record IsBegun (p : List (PlainItem ℕ)) (budget : ℕ) (watch : Option ℕ
   pub reports : h.reports ≡ []
   pub none_out : NoneOut h
 
--- It goes on from the other: of the same program, budget and watch, with more items and more reports. (That each item may come where it
--- does holds of every hub.)
+-- The hub goes on from the other one: it has the same program, budget and watch, and more items and more reports. (That each item is
+-- allowed where it stands holds of every hub.)
 pub record Continues (old new : Kept) : Type 0 where
   pub program : new.course.program ≡ old.course.program
   pub budget : new.budget ≡ old.budget
@@ -104,17 +104,17 @@ pub record Extends (old new : Kept) : Type 0 where
   pub continues : Continues old new
   pub no_turn : All IsNoTurn continues.more
 
--- What is handed out. A job is the machine of a running thread no slice of which was out, and now one is. There is none to wait for but
--- where no row can be taken, some thread runs, and a slice of every one that runs is out.
+-- What is handed out. A job is the machine of a running thread; no slice of the thread was out, and now one is. The hub says to wait only
+-- where no row can be taken, some thread runs, and a slice of every thread that runs is out.
 abbrev pub HandsOut : Kept → Next → Kept → Type 0
 HandsOut old (next.Job m) new =
-    Keeps new.course m.thread m × GoesOn new.course.program m
+    HasMachine new.course m.thread m × GoesOn new.course.program m
     × (is_out_of old.out m.thread ≡ false) × (new.out ≡ slice_set old.out m.thread true)
 HandsOut old next.Wait new =
     (scan new.course.world ≡ []) × (any_runs new.course.world ≡ true) × AllOut new × (new.out ≡ old.out)
 HandsOut old next.Ended new = new.out ≡ old.out
 
--- it is said that nothing is left to do, or that the budget is used
+-- the hub says that it has ended: nothing is left to do, or the budget is used
 abbrev pub is_ended : Next → Bool
 is_ended (next.Job m) = false
 is_ended next.Wait = false
@@ -130,22 +130,22 @@ pub record Given (old : Kept) (t : Tid) (new : Kept) : Type 0 where
   pub back : is_out_of new.out t.0 ≡ false
   pub others : (u : ℕ) → u ≢ t.0 → is_out_of new.out u ≡ is_out_of old.out u
 
--- A slice is taken where it is of the hub's program and of a machine that a running thread has now. Where it is not, it is a stranger; only
--- where it is can memory run out. Both hand it back, and change nothing.
-abbrev pub Gives : Kept → PlainRan → Result (Unit {0}) GiveFault → Kept → Type 0
-Gives old ran (Ok done) new = IsOurs old.course ran × Given old (record { 0 = ran.start.thread }) new
-Gives old ran (Err (Stranger back)) new = (IsOurs old.course ran → ⊥) × (back ≡ ran) × (new ≡ old)
-Gives old ran (Err (Memory back)) new = IsOurs old.course ran × (back ≡ ran) × (new ≡ old)
+-- A slice is taken where it is of the hub's program and of a machine that a running thread has now. Any other slice is a stranger. Memory
+-- can run out only for a slice that is no stranger. Both faults hand the slice back, and change nothing.
+abbrev pub TakesSlice : Kept → PlainRan → Result (Unit {0}) GiveFault → Kept → Type 0
+TakesSlice old ran (Ok done) new = IsOurs old.course ran × Given old (record { 0 = ran.start.thread }) new
+TakesSlice old ran (Err (Stranger back)) new = (IsOurs old.course ran → ⊥) × (back ≡ ran) × (new ≡ old)
+TakesSlice old ran (Err (Memory back)) new = IsOurs old.course ran × (back ≡ ran) × (new ≡ old)
 
--- it has run to this end: nothing is left to do, or the budget is used; no slice is out, and no report is due
+-- the hub has run to this end: nothing is left to do, or the budget is used; no slice is out, and no report is due
 pub record IsOver (end : End) (h : Kept) : Type 0 where
   pub over_is : over h.budget (run_of h.course) ≡ true
   pub end_is : end ≡ ending h.budget (run_of h.course)
   pub none_out : NoneOut h
   pub none_due : NoneDue h
 
--- the first item that may not come where it does has this number, from 1
-pub record IsBad (p : List (PlainItem ℕ)) (items : List Item) (number : ℕ) : Type 0 where
+-- the first item that is not allowed where it stands has this number, counted from 1
+pub record IsFirstBad (p : List (PlainItem ℕ)) (items : List Item) (number : ℕ) : Type 0 where
   pub before : List Item
   pub bad : Item
   pub rest : List Item
@@ -164,12 +164,12 @@ pub record IsReplayed (p : List (PlainItem ℕ)) (budget : ℕ) (watch : Option 
   pub none_out : NoneOut h
   pub none_due : NoneDue h
 
--- A schedule is replayed exactly where it leads somewhere: where it does not, the first item that may not come is told. The program comes
--- back.
+-- A schedule is replayed exactly where it leads somewhere, unless memory runs out. Where it does not, the number of the first item that
+-- is not allowed is returned. At both faults the program comes back.
 abbrev pub Replays : List (PlainItem ℕ) → ℕ → Option ℕ → List Item → Result Kept ReplayFault → Type 0
 Replays p budget watch items (Ok h) = IsReplayed p budget watch items h
 Replays p budget watch items (Err (replay_fault.BadItem number back)) =
-    (back ≡ p) × IsBad p items number × (stands (text_of p) items ≡ None)
+    (back ≡ p) × IsFirstBad p items number × (stands (text_of p) items ≡ None)
 Replays p budget watch items (Err (replay_fault.Memory back)) = back ≡ p
 
 -- a schedule that says a size is one of programs of that size

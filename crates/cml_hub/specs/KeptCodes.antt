@@ -1,4 +1,4 @@
--- A code of hubs: a tree of numbers from which they can be read back. The toolchain asks for it; no rule speaks of it.
+-- A code of hubs: a tree of numbers from which they can be read back. The toolchain asks for it; no rule uses it.
 use Rattle.std.specs.Prelude.{ℕ, Bool, List, Option, refl}
 use Rattle.std.specs.Coded.{Coded, code_by, coded×, coded_list, coded_option, coded_bool, coded_ℕ}
 use Rattle.cml_monitor.specs.Reports.{PlainReport}

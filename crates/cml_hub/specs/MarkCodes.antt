@@ -1,4 +1,4 @@
--- A code of marks: a tree of numbers from which they can be read back. The toolchain asks for it; no rule speaks of it.
+-- A code of marks: a tree of numbers from which they can be read back. The toolchain asks for it; no rule uses it.
 use Rattle.std.specs.Prelude.{◌≡◌, ℕ, List, [], ◌∷◌, get_or, refl}
 use Rattle.std.specs.Coded.{Coded, code_by, coded×, coded_ℕ, coded_list}
 use Rattle.cml_hub.specs.declared.marks.Mark.{Mark}

@@ -4,7 +4,7 @@ use Rattle.cml_value.specs.declared.number.Tid.{Tid}
 use Rattle.cml_hub.specs.declared.marks.Mark.{Mark}
 use Rattle.cml_hub.specs.declared.marks.Mark.TheVariants as mark
 
--- by thread where it is; for how many more there is room in the queue, and for how many more threads
+-- for each thread where it is; for how many more there is room in the queue; and for how many more threads there is room
 pub record PlainMarks : Type 0 where
   pub marks : List Mark
   pub room : ℕ
@@ -21,12 +21,12 @@ is_out mark.Ready = false
 is_out mark.Out = true
 is_out mark.Away = false
 
--- who was out is ready
+-- a thread that was out is ready; any other is where it was
 abbrev pub home : Mark → Mark
 home mark.Out = mark.Ready
 home m = m
 
--- 1 where the two numbers are one, else 0
+-- 1 where the two numbers are the same, else 0
 abbrev pub is_at : ℕ → ℕ → ℕ
 is_at zero zero = 1
 is_at zero (suc n) = 0
@@ -58,7 +58,7 @@ abbrev pub count_outs : List Mark → ℕ
 count_outs [] = 0
 count_outs (m ∷ ms) = outs m + count_outs ms
 
--- just those that are ready stand in the queue, once each; those that are out are counted; and each has a number
+-- exactly those that are ready stand in the queue, once each; those that are out are counted; and each thread has a number
 pub record AreMarks (queue : List Tid) (marks : List Mark) (out : ℕ) : Type 0 where
   pub queued : (t : ℕ) → count_of t queue ≡ ready_at marks t
   pub counted : out ≡ count_outs marks

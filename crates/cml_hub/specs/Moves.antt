@@ -12,7 +12,7 @@ use Rattle.cml_hub.specs.declared.marks.Mark.{Mark}
 use Rattle.cml_hub.specs.declared.marks.Mark.TheVariants as mark
 use Rattle.cml_hub.specs.Runs.{any_runs}
 use Rattle.cml_hub.specs.Dones.{GoesOn}
-use Rattle.cml_hub.specs.Courses.{Adds, Keeps}
+use Rattle.cml_hub.specs.Courses.{Adds, HasMachine}
 use Rattle.cml_hub.specs.Kept.{Kept, AllOut, NoneOut, NoneDue, IsNoTurn, is_out_of}
 
 -- the thread that begins, if one does, has the next number
@@ -26,7 +26,7 @@ marks_after t gone_of.On ms = slice_set ms t mark.Ready
 marks_after t (gone_of.With child) ms = slice_set ms t mark.Ready ++ mark.Ready ∷ []
 marks_after t gone_of.Off ms = slice_set ms t mark.Away
 
--- the parties of a row do not run, and are two
+-- the parties of a row do not run; those of a pair are two different threads
 abbrev pub PartiesAway : List Mark → Meet → Type 0
 PartiesAway ms (Single t n) = slice_get ms t.0 ≡ Some mark.Away
 PartiesAway ms (Pair h i o j) = (slice_get ms h.0 ≡ Some mark.Away) × (slice_get ms o.0 ≡ Some mark.Away) × (h.0 ≢ o.0)
@@ -37,14 +37,14 @@ marks_met (Single t n) ms = slice_set ms t.0 mark.Ready
 marks_met (Pair h i o j) ms = slice_set (slice_set ms h.0 mark.Ready) o.0 mark.Ready
 
 -- one item more, and no report yet
-pub record Moves (old : Kept) (item : Item) (new : Kept) : Type 0 where
+pub record AddsItem (old : Kept) (item : Item) (new : Kept) : Type 0 where
   pub adds : Adds old.course item new.course
   pub budget : new.budget ≡ old.budget
   pub watch : new.watch ≡ old.watch
   pub reports : new.reports ≡ old.reports
   pub used : old.course.used < new.course.used
 
--- of the thread no slice is out, and of the others as before
+-- no slice of the thread is out; whether one of another thread is, is as before
 pub record TakesBack (old : List Bool) (t : ℕ) (new : List Bool) : Type 0 where
   pub back : is_out_of new t ≡ false
   pub others : (u : ℕ) → u ≢ t → is_out_of new u ≡ is_out_of old u
@@ -63,12 +63,12 @@ pub record Reported (old new : Kept) : Type 0 where
 abbrev pub HandedOut : Kept → Option PlainMachine → Kept → Type 0
 HandedOut old None new = AllOut old × (new ≡ old)
 HandedOut old (Some m) new =
-    Keeps old.course m.thread m × GoesOn old.course.program m × (is_out_of old.out m.thread ≡ false)
+    HasMachine old.course m.thread m × GoesOn old.course.program m × (is_out_of old.out m.thread ≡ false)
     × (new ≡ record old { out = slice_set old.out m.thread true })
 
 -- A row was taken, or the time moved; or there is nothing to do before a slice comes back.
 abbrev pub MovedOn : Kept → Bool → Kept → Type 0
-MovedOn old true new = (item : Item) × IsNoTurn item × Moves old item new × (new.out ≡ old.out)
+MovedOn old true new = (item : Item) × IsNoTurn item × AddsItem old item new × (new.out ≡ old.out)
 MovedOn old false new = (scan old.course.world ≡ []) × (any_runs old.course.world ≡ true) × (new ≡ old)
 
 -- no slice is out any more, and all else is as before
@@ -82,10 +82,10 @@ pub record CalledBack (old new : Kept) : Type 0 where
 -- one item more, and no slice is out
 pub record GoesAlone (old new : Kept) : Type 0 where
   pub item : Item
-  pub moves : Moves old item new
+  pub moves : AddsItem old item new
   pub none_out : NoneOut new
 
--- the reports with this one behind them, if there is one
+-- the reports with this one after them, if there is one
 abbrev pub with_report : List PlainReport → Option PlainReport → List PlainReport
 with_report reports None = reports
 with_report reports (Some r) = reports ++ r ∷ []

@@ -33,12 +33,12 @@ pub data PlainDone : Type 0 where
   ends : PlainDone
   fails : List ℕ → PlainDone
 
--- the world that a command leaves, and what becomes of the thread by what the command answers
+-- the world after a command, and what becomes of the thread by the command's answer
 abbrev pub done : {R : Type 0} → (R → PlainDone) → Outcome R → Outcome PlainDone
 done so (Ok next) = Ok (next.0, so next.1)
 done so (Err why) = Err why
 
--- a refused command ends the thread, at a fault that has the refusal's name
+-- a refused command ends the thread, with a fault that has the refusal's name
 abbrev pub or_fails : PlainWorld → ℕ → Outcome PlainDone → PlainWorld × PlainDone
 or_fails w t (Ok next) = next
 or_fails w t (Err why) = (with_thread w t ended, fails (name_of why))

@@ -12,7 +12,7 @@ use Rattle.cml_check.specs.Heads.{numbered}
 use Rattle.cml_step.specs.Terms.{Program, Term, call_of}
 use Rattle.cml_step.specs.Slices.{PlainSlice, sliced}
 use Rattle.cml_step.specs.Asks.{a_value, a_commit}
-use Rattle.cml_step.specs.Answers.{answered}
+use Rattle.cml_step.specs.Answers.{after_answer}
 use Rattle.cml_book.specs.declared.command.Committed.{Committed}
 use Rattle.cml_book.specs.Step.{empty_world}
 use Rattle.cml_book.specs.Resumes.{PlainResume}
@@ -49,34 +49,34 @@ opening p = record {
 -- the term of a thread, once its ask was done; a thread that has ended has an empty one
 abbrev pub term_after : Program → Term → PlainDone → Term
 term_after p term goes = term
-term_after p term (gets answer) = answered p answer term
-term_after p term (begets n f) = answered p (a_value (thread n)) term
-term_after p term (prints text) = answered p (a_value unit) term
+term_after p term (gets answer) = after_answer p answer term
+term_after p term (begets n f) = after_answer p (a_value (thread n)) term
+term_after p term (prints text) = after_answer p (a_value unit) term
 term_after p term waits = term
 term_after p term ends = []
 term_after p term (fails name) = []
 
--- the terms of the threads that begin by it
+-- the terms of the threads that begin by the ask
 abbrev pub begun : Program → PlainDone → List Term
 begun p (begets n f) = (call_of p f ∷ []) ∷ []
 begun p _ = []
 
--- what it adds to the output: what was printed, or the line of the fault
-abbrev pub told : ℕ → PlainDone → List ℕ
-told t (prints text) = text
-told t (fails name) = line (codes "thread" ++ spaced t ++ codes " fault " ++ name)
-told t _ = []
+-- what the ask adds to the output: what was printed, or the line of the fault
+abbrev pub output_of : ℕ → PlainDone → List ℕ
+output_of t (prints text) = text
+output_of t (fails name) = line (codes "thread" ++ spaced t ++ codes " fault " ++ name)
+output_of t _ = []
 
--- the run after a slice of a thread, whose ask came to this
+-- the run after a slice of a thread, where this is what its ask did
 abbrev pub after_slice : Program → Run → ℕ → PlainSlice → PlainWorld × PlainDone → Run
 after_slice p r t s done = record {
   world = done.0;
   terms = slice_set r.terms t (term_after p s.end done.1) ++ begun p done.1;
-  output = r.output ++ told t done.1;
+  output = r.output ++ output_of t done.1;
   used = r.used + s.steps;
 }
 
--- A turn of a thread: a slice of it, and what it asks then is done.
+-- A turn of a thread: a slice of it, whose ask is then done.
 abbrev pub turned_by : Program → Run → ℕ → PlainSlice → Run
 turned_by p r t s = after_slice p r t s (performed r.world t s.ask)
 
@@ -85,7 +85,7 @@ turned p r t = option_map (λ term. turned_by p r t (sliced p t term)) (slice_ge
 
 -- the terms, once a party of a row goes on with what it gets
 abbrev pub resumed : Program → List Term → PlainResume → List Term
-resumed p terms r = slice_set terms r.thread (answered p (a_commit r.value r.wraps) (unwrap_or (slice_get terms r.thread) []))
+resumed p terms r = slice_set terms r.thread (after_answer p (a_commit r.value r.wraps) (unwrap_or (slice_get terms r.thread) []))
 
 abbrev pub all_resumed : Program → List Term → Committed → List Term
 all_resumed p terms c = option_map_or (resumed p (resumed p terms c.head)) c.partner (resumed p terms c.head)
@@ -121,21 +121,21 @@ least (n ∷ ns) = Some (option_map_or (min n) (least ns) n)
 abbrev pub next_alarm : PlainWorld → Option ℕ
 next_alarm w = least (filter_map (tick_to_come w.tick) (bases_awaited (pending w)))
 
-abbrev pub is_number : Option ℕ → ℕ → Bool
-is_number None n = false
-is_number (Some m) n = m == n
+abbrev pub has_number : Option ℕ → ℕ → Bool
+has_number None n = false
+has_number (Some m) n = m == n
 
 abbrev pub is_none : Option ℕ → Bool
 is_none None = true
 is_none (Some n) = false
 
--- Whether an item may come now: a turn of a thread that runs; a row that can be taken; as an exchange one of two swaps that can be; a tick where no thread
--- runs and no row can be taken, and then it is the next alarm.
+-- Whether an item is allowed now: a turn of a thread that runs; a row that can be taken; as an exchange, a row of two swaps that can be
+-- taken; and, where no thread runs and no row can be taken, a move of the time to the next alarm.
 abbrev pub is_allowed : PlainWorld → Item → Bool
 is_allowed w (Turn t) = is_running w t.0
 is_allowed w (Commit row) = has_row (scan w) row
 is_allowed w (Exchange row) = swaps w row
-is_allowed w (Clock tick) = is_number (next_alarm w) tick && not (any_runs w) && is_empty (scan w)
+is_allowed w (Clock tick) = has_number (next_alarm w) tick && not (any_runs w) && is_empty (scan w)
 
 -- the run after an item
 abbrev pub after_item : Program → Run → Item → Option Run
@@ -144,11 +144,11 @@ after_item p r (Commit row) = Some (met p r row)
 after_item p r (Exchange row) = Some (met p r row)
 after_item p r (Clock tick) = Some (ticked r tick)
 
--- the run after an item, where it may come
+-- the run after an item, where it is allowed
 abbrev pub advance : Program → Run → Item → Option Run
 advance p r item = if is_allowed r.world item then after_item p r item else None
 
--- the run after these items, where each of them may come where it does
+-- the run after these items, where each of them is allowed where it stands
 abbrev pub stands_from : Program → Option Run → List Item → Option Run
 stands_from p r [] = r
 stands_from p r (item ∷ items) = stands_from p (option_and_then (λ now. advance p now item) r) items
@@ -165,6 +165,6 @@ terminal w = not (any_runs w) && is_empty (scan w) && is_none (next_alarm w)
 abbrev pub over : ℕ → Run → Bool
 over budget r = terminal r.world || nat_le budget r.used
 
--- how a run stands: quiet where nothing is left to do, else at the end of its budget, else in the middle
+-- how a run ends: quiet where nothing is left to do, else by its budget where that is used, else partial
 abbrev pub ending : ℕ → Run → End
 ending budget r = if terminal r.world then Quiet else if nat_le budget r.used then Budget else Partial

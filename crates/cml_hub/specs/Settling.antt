@@ -1,9 +1,9 @@
 -- A machine that was answered, and the machines after a turn.
 use Rattle.std.specs.Prelude.{ℕ, ◌≡◌, true, List, ◌++◌, Option, Some, None, slice_get, slice_set}
-use Rattle.cml_check.specs.Syntax.{PlainFunction as PlainItem}
+use Rattle.cml_check.specs.Syntax.{PlainItem}
 use Rattle.cml_check.specs.InOrder.{arities}
 use Rattle.cml_step.specs.Agrees.{answer_agrees}
-use Rattle.cml_step.specs.Answers.{awaited, answer_for, answered, answer_to, nothing}
+use Rattle.cml_step.specs.Answers.{top_await, answer_for, after_answer, await_of, nothing}
 use Rattle.cml_step.specs.AnswerViews.{Awaits}
 use Rattle.cml_step.specs.Asks.{PlainAsk, PlainAnswer, a_commit}
 use Rattle.cml_step.specs.Calls.{text_of}
@@ -14,18 +14,18 @@ use Rattle.cml_hub.specs.declared.done.Done.{Done}
 use Rattle.cml_hub.specs.Dones.{DoneFits, Settles, children}
 
 -- the machine, once it was answered
-pub record IsAnswered (old : PlainMachine) (answer : PlainAnswer) (new : PlainMachine) : Type 0 where
+pub record TakesAnswer (old : PlainMachine) (answer : PlainAnswer) (new : PlainMachine) : Type 0 where
   pub thread : new.thread ≡ old.thread
-  pub meant : (p : List (PlainItem ℕ)) → Fits p old → machine_term p new ≡ answered (text_of p) answer (machine_term p old)
+  pub meant : (p : List (PlainItem ℕ)) → Fits p old → machine_term p new ≡ after_answer (text_of p) answer (machine_term p old)
   pub fits : (p : List (PlainItem ℕ)) → Fits p old → answer_agrees (arities p) answer ≡ true → Fits p new
-  pub awaits : (p : List (PlainItem ℕ)) → Fits p old → awaited (machine_term p old) ≡ answer_for answer → awaited (machine_term p new) ≡ nothing
+  pub awaits : (p : List (PlainItem ℕ)) → Fits p old → top_await (machine_term p old) ≡ answer_for answer → top_await (machine_term p new) ≡ nothing
 
 -- under each program that it fits, the machine is settled as its ask was done
 abbrev pub SettlesAll : PlainMachine → Done → PlainMachine → Type 0
 SettlesAll end d new =
-    (p : List (PlainItem ℕ)) (a : PlainAsk) → Fits p end → awaited (machine_term p end) ≡ answer_to a → DoneFits p a end d → Settles p a end d new
+    (p : List (PlainItem ℕ)) (a : PlainAsk) → Fits p end → top_await (machine_term p end) ≡ await_of a → DoneFits p a end d → Settles p a end d new
 
--- the machines, in which that of thread t was settled, with those of threads that begin behind the others
+-- the machines, in which that of thread t was settled, with those of threads that begin after the others
 pub record AllSettled (old : List PlainMachine) (t : ℕ) (end : PlainMachine) (d : Done) (new : List PlainMachine) : Type 0 where
   pub machine : PlainMachine
   pub settled : SettlesAll end d machine
@@ -41,7 +41,7 @@ pub record Resumed (old : List PlainMachine) (r : PlainResume) (new : List Plain
   pub after : PlainMachine
   pub was : slice_get old r.thread ≡ Some before
   pub is : new ≡ slice_set old r.thread after
-  pub answered : IsAnswered before (a_commit r.value r.wraps) after
+  pub answered : TakesAnswer before (a_commit r.value r.wraps) after
 
 abbrev pub PartnerResumed : List PlainMachine → Option PlainResume → List PlainMachine → Type 0
 PartnerResumed old None new = new ≡ old

@@ -2,7 +2,7 @@
 
 ghost use Rattle.std.specs.Prelude.{◌≡◌, ◌<◌, ◌%◌, ℕ, drop};
 ghost use Rattle.rand_pcg.specs.Pcg.{pcg32};
-ghost use Rattle.cml_hub.specs.Choices.{first_of, seeded};
+ghost use Rattle.cml_hub.specs.Choices.{first_number, seeded};
 
 use rand_core::SeedableRng;
 use rand_core::utils::NextWord;
@@ -11,13 +11,13 @@ use std::marker::Model;
 
 /// Chooses among things that are numbered from 0.
 pub trait Chooser {
-    /// What it picks among so many.
+    /// What it picks among this many things.
     ghost picks: { Self → ℕ → ℕ };
 
-    /// What it is after a pick.
+    /// What it becomes by a pick.
     ghost next: { Self → Self → Type 0 };
 
-    /// The number of one of so many things.
+    /// Picks one of this many things, by its number.
     fn pick(&mut self, count: usize) -> usize
         requires { 0 < count }
         ensures below { result < count }
@@ -39,7 +39,7 @@ impl Chooser for First {
     }
 }
 
-/// The numbers of a list, one after another, each taken round at the count of things; then always the first.
+/// Picks by the numbers of a list, one after another, each modulo the count of things; then always the first.
 #[derive(Debug, Drop)]
 pub struct Script {
     numbers: Vec<usize>,
@@ -64,7 +64,7 @@ impl Script {
 }
 
 impl Chooser for Script {
-    ghost picks = { λ numbers count. first_of numbers % count };
+    ghost picks = { λ numbers count. first_number numbers % count };
 
     ghost next = { λ old new. new ≡ drop 1 old };
 
@@ -80,7 +80,7 @@ impl Chooser for Script {
     }
 }
 
-/// By a generator of numbers that a seed begins: the same seed picks the same.
+/// Picks by a generator of random numbers with a seed: the same seed picks the same.
 #[derive(Drop)]
 pub struct Seeded {
     random: Pcg32,

@@ -12,8 +12,8 @@ ghost use Rattle.cml_schedule.specs.Laws.{AreNumbers};
 ghost use Rattle.cml_hub.specs.Runs as spec;
 ghost use Rattle.cml_hub.specs.Dones.{GoesOn};
 ghost use Rattle.cml_book.specs.Swaps.{swaps};
-ghost use Rattle.cml_hub.specs.Courses.{IsOpening, Begins, Keeps, IsOurs, run_of, Turns, Takes, Meets, Ticks};
-ghost use Rattle.cml_hub.specs.Reports.{shown};
+ghost use Rattle.cml_hub.specs.Courses.{IsOpening, Begins, HasMachine, IsOurs, run_of, Turns, TakesRow, Meets, Ticks};
+ghost use Rattle.cml_hub.specs.Reports.{report_of};
 
 use crate::choose::Chooser;
 use crate::done::Gone;
@@ -72,7 +72,7 @@ impl Model for Course {
     }) };
 }
 
-// Puts a line behind the output, where there is room for it.
+// Appends a line to the output, where there is room for it.
 fn tell(output: &mut String, line: &str)
     requires { string_len output.old + length line.now ≤ string_capacity output.old }
     ensures { string_bytes output.new ≡ string_bytes output.old ++ line.now }
@@ -191,9 +191,9 @@ impl Course {
         is_idle && self.is_still() && self.next_alarm() == Some(tick)
     }
 
-    // What there is to see now, after so many items.
+    // The report of what there is to see now, after this many items.
     pub(crate) fn report(&self, alloc: Global, at: u64) -> Result<Report, AllocError>
-        ensures { IfOk result (λ report. report ≡ shown at self.now.world) }
+        ensures { IfOk result (λ report. report ≡ report_of at self.now.world) }
     {
         let rows = self.threads.table().rows(alloc)?;
         let waiting = self.threads.pending(alloc)?;
@@ -203,7 +203,7 @@ impl Course {
     // The machine of a thread that runs.
     pub(crate) fn machine(&self, thread: Tid) -> &Machine
         requires { slice_get self.now.world.threads thread.0 ≡ Some running }
-        ensures keeps { Keeps self.now thread.0 result.now }
+        ensures keeps { HasMachine self.now thread.0 result.now }
         ensures stands { GoesOn self.now.program result.now }
         ensures thread { result.now.thread ≡ thread.0 }
     {
@@ -257,7 +257,7 @@ impl Course {
         Ok(gone)
     }
 
-    // The turn that the slice is.
+    // Adds the turn that the slice is.
     pub(crate) fn give(&mut self, alloc: Global, ran: Ran) -> Result<(Tid, Gone), Ran>
         requires { IsOurs self.old ran }
         ensures ok { IfOk result (λ r. Turns self.old r.0 r.1 self.new × (r.0.0 ≡ ran.start.thread)) }
@@ -293,7 +293,7 @@ impl Course {
 
     // The row is taken, by this item.
     pub(crate) fn meet(&mut self, alloc: Global, item: Item, row: Meet) -> Result<(), AllocError>
-        requires takes { Takes item row }
+        requires takes { TakesRow item row }
         requires allowed { spec.is_allowed self.old.world item ≡ true }
         ensures ok { OnOk result (Meets self.old item row self.new) }
         ensures err { OnErr result (self.new ≡ self.old) }
@@ -332,7 +332,7 @@ impl Course {
     }
 }
 
-// The first function's machine, and the room in which it begins.
+// The machine that is about to call `main`, alone, and the book in which it begins.
 fn opening(alloc: Global, program: &Prog) -> Result<(Vec<Machine>, Threads), AllocError>
     ensures { IfOk result (λ r. IsOpening program.now r.0.items r.1) }
 {

@@ -15,7 +15,7 @@ pub(crate) enum Done {
     Gets(Value),
     // It gets a fresh nack, and goes on.
     Takes(NackRoom),
-    // This thread begins, and it goes on with its number.
+    // This thread begins, and the one that asked goes on with its number.
     Begets(Machine),
     // What it prints is printed, and it goes on.
     Prints,
@@ -23,7 +23,7 @@ pub(crate) enum Done {
     Waits,
     // It has ended.
     Ends,
-    // It has ended, at a fault of this name.
+    // It has ended, with a fault of this name.
     Fails(&'static str),
 }
 
@@ -51,7 +51,7 @@ impl Done {
     }
 }
 
-// What is done once memory is there for all of it: what becomes of the thread, and the line that goes to the output.
+// What is done once memory is there for all of it: what becomes of the thread, and the line for the output.
 #[derive(Drop)]
 pub(crate) struct Prepared {
     pub(crate) done: Done,

@@ -19,9 +19,9 @@ pub enum End {
 pub enum Next {
     /// A slice of this thread.
     Job(Machine),
-    /// Nothing, before a job that is out comes back.
+    /// Nothing, until a job that is out comes back.
     Wait,
-    /// Nothing any more.
+    /// Nothing more: the run has ended.
     Ended,
 }
 
@@ -37,7 +37,7 @@ pub enum GiveFault {
 /// Why a schedule is not replayed. It hands the program back.
 #[derive(Drop)]
 pub enum ReplayFault {
-    /// The item of this number, from 1, may not come where it does.
+    /// The item of this number, counted from 1, is not allowed where it stands.
     BadItem(usize, Prog),
     /// Out of memory.
     Memory(Prog),

@@ -6,13 +6,13 @@ ghost use Rattle.std.specs.Vec.{vec_len, vec_capacity};
 ghost use Rattle.cml_scan.specs.World.{pending, running};
 ghost use Rattle.cml_check.specs.Sizes.{size_of};
 ghost use Rattle.cml_schedule.specs.Written.{schedule_text};
-ghost use Rattle.cml_schedule.specs.Reading.{ReadsAs};
+ghost use Rattle.cml_schedule.specs.Reading.{ScheduleReadsAs};
 ghost use Rattle.cml_step.specs.Calls.{text_of};
 ghost use Rattle.cml_hub.specs.Runs as spec;
-ghost use Rattle.cml_hub.specs.Courses.{run_of, Takes, Adds, IsOurs};
+ghost use Rattle.cml_hub.specs.Courses.{run_of, TakesRow, Adds, IsOurs};
 ghost use Rattle.cml_hub.specs.Reports.{AreReports, IsDueReport};
-ghost use Rattle.cml_hub.specs.Kept.{IsBudget, IsWatch, IsBegun, Continues, Extends, HandsOut, is_ended, NoneDue, NoneOut, AllOut, Gives, IsOver, Replays, FitsSize};
-ghost use Rattle.cml_hub.specs.Moves.{IsNext, marks_after, PartiesAway, marks_met, Moves, TakesBack, Reported, HandedOut, MovedOn, CalledBack, GoesAlone, with_report};
+ghost use Rattle.cml_hub.specs.Kept.{IsBudget, IsWatch, IsAtStart, Continues, Extends, HandsOut, is_ended, NoneDue, NoneOut, AllOut, TakesSlice, IsOver, Replays, FitsSize};
+ghost use Rattle.cml_hub.specs.Moves.{IsNext, marks_after, PartiesAway, marks_met, AddsItem, TakesBack, Reported, HandedOut, MovedOn, CalledBack, GoesAlone, with_report};
 
 use crate::choose::Chooser;
 use crate::course::Course;
@@ -101,7 +101,7 @@ fn place_all(marks: &mut Marks, row: Meet)
     }
 }
 
-// Whether a report is due after so many items, where so many were made and one is made after each so many items.
+// Whether a report is due after `items` items, where `reports` were made, and one is made after each `every` items.
 fn is_due(every: u64, reports: usize, items: usize) -> bool
     ensures { IsTrue result ↔ (items ≡ every * (reports + 1)) }
 {
@@ -131,7 +131,7 @@ fn due(
     Ok(Some(course.report(alloc, items as u64)?))
 }
 
-// Puts the report, if there is one, behind the others.
+// Appends the report, if there is one.
 fn add_report(reports: &mut Vec<Report>, report: Option<Report>)
     requires { IfSome report (λ _. vec_len reports.old < vec_capacity reports.old) }
     ensures { reports.new.items ≡ with_report reports.old.items report }
@@ -142,12 +142,12 @@ fn add_report(reports: &mut Vec<Report>, report: Option<Report>)
 }
 
 impl Hub {
-    /// The hub of a program at its beginning: thread 0 is about to call `main`. It runs until so much of the budget is used, a turn of a
-    /// thread using its steps and any other item 1. With a watch a report is made each time so many items more have happened. Both are
+    /// The hub of a program at its beginning: thread 0 is about to call `main`. It runs until the budget is used; a turn of a thread uses
+    /// its steps, and any other item uses 1. With a watch, a report is made each time that many more items have happened. Both are from
     /// 1 to 1,000,000,000.
     ///
     /// # Errors
-    /// Out of memory. It hands the program back.
+    /// Out of memory; the program comes back.
     pub fn begin(
         alloc: Global,
         program: Prog,
@@ -156,7 +156,7 @@ impl Hub {
     ) -> Result<Hub, AllocFailed<Prog>>
         requires budget { IsBudget budget }
         requires watch { IsWatch watch }
-        ensures ok { IfOk result (λ hub. IsBegun program budget watch hub) }
+        ensures ok { IfOk result (λ hub. IsAtStart program budget watch hub) }
         ensures err { IfErr result (λ back. back.value ≡ program) }
     {
         let course = Course::begin(alloc, program)?;
@@ -201,7 +201,7 @@ impl Hub {
         self.watch
     }
 
-    /// What happened, in its order. It leads to where the hub stands.
+    /// What happened, in order. It leads to where the hub stands.
     pub fn schedule(&self) -> &[Item]
         ensures items { result.now ≡ self.now.course.items }
         ensures leads { spec.stands (text_of self.now.course.program) self.now.course.items ≡ Some (run_of self.now.course) }
@@ -265,7 +265,7 @@ impl Hub {
         u128::from(self.budget) <= self.course.used() || self.is_terminal()
     }
 
-    // The report that is due is made.
+    // Makes the report that is due.
     fn report(&mut self, alloc: Global) -> Result<(), AllocError>
         ensures ok { OnOk result (Reported self.old self.new) }
         ensures err { OnErr result (self.new ≡ self.old) }
@@ -293,7 +293,7 @@ impl Hub {
     fn turn(&mut self, alloc: Global, thread: Tid) -> Result<(), AllocError>
         requires running { slice_get self.old.course.world.threads thread.0 ≡ Some running }
         requires due { NoneDue self.old }
-        ensures moves { OnOk result (Moves self.old (Item.Turn thread) self.new) }
+        ensures moves { OnOk result (AddsItem self.old (Item.Turn thread) self.new) }
         ensures back { OnOk result (TakesBack self.old.out thread.0 self.new.out) }
         ensures err { OnErr result (self.new ≡ self.old) }
     {
@@ -305,10 +305,10 @@ impl Hub {
 
     // The row is taken, by this item.
     fn meet(&mut self, alloc: Global, item: Item, row: Meet) -> Result<(), AllocError>
-        requires takes { Takes item row }
+        requires takes { TakesRow item row }
         requires allowed { spec.is_allowed self.old.course.world item ≡ true }
         requires due { NoneDue self.old }
-        ensures moves { OnOk result (Moves self.old item self.new) }
+        ensures moves { OnOk result (AddsItem self.old item self.new) }
         ensures out { self.new.out ≡ self.old.out }
         ensures err { OnErr result (self.new ≡ self.old) }
     {
@@ -322,7 +322,7 @@ impl Hub {
     fn tick(&mut self, alloc: Global, tick: u64) -> Result<(), AllocError>
         requires allowed { spec.is_allowed self.old.course.world (Item.Clock tick) ≡ true }
         requires due { NoneDue self.old }
-        ensures moves { OnOk result (Moves self.old (Item.Clock tick) self.new) }
+        ensures moves { OnOk result (AddsItem self.old (Item.Clock tick) self.new) }
         ensures out { self.new.out ≡ self.old.out }
         ensures err { OnErr result (self.new ≡ self.old) }
     {
@@ -330,8 +330,8 @@ impl Hub {
         Ok(())
     }
 
-    // A row is taken that the chooser picks; or, where there is none and no thread runs, the time moves to the next alarm. It answers
-    // whether one of them was done.
+    // Takes a row that the chooser picks; or, where there is none and no thread runs, moves the time to the next alarm. Returns whether
+    // one of them was done.
     fn move_on<C: Chooser>(&mut self, alloc: Global, chooser: &mut C) -> Result<bool, AllocError>
         requires all_out { AllOut self.old }
         requires due { NoneDue self.old }
@@ -360,12 +360,12 @@ impl Hub {
         }
     }
 
-    /// What there is to do next. It makes the report that is due, takes rows that the chooser picks and moves the time, until a thread is
-    /// ready, or nothing is to be done before a slice comes back, or at all. Of a thread that is ready the first one's machine is handed
-    /// out, for [`cml_step::slice`]; the slice is to be given back by [`Hub::give`].
+    /// Returns what there is to do next. It makes the report that is due, takes rows that the chooser picks and moves the time, until a
+    /// thread is ready, or there is nothing to do before a slice comes back, or nothing at all. The machine of the first thread that is
+    /// ready is handed out, for [`cml_step::slice`]; the slice is to be given back by [`Hub::give`].
     ///
     /// # Errors
-    /// Out of memory. The items and reports that were made before stand; the chooser's picks for the one that was not are spent.
+    /// Out of memory. The items and reports that were made before stay; the chooser's picks for the one that was not made are spent.
     pub fn take<C: Chooser>(&mut self, alloc: Global, chooser: &mut C) -> Result<Next, AllocError>
         ensures more { Extends self.old self.new }
         ensures next { IfOk result (λ next. HandsOut self.old next self.new) }
@@ -386,14 +386,14 @@ impl Hub {
         Ok(Next::Ended)
     }
 
-    /// Takes a slice back: the turn of its thread is added, what the thread asks is done, and if it goes on it is ready again, after the
-    /// others. It need not be of a machine that was handed out: it is taken exactly where it is of this program and begins where a running
-    /// thread stands now, whatever the budget.
+    /// Takes a slice back: the turn of its thread is added, what the thread asks is done, and if the thread goes on it is ready again,
+    /// after the others. The slice need not be of a machine that was handed out: it is taken exactly where it is of this program and
+    /// begins where a running thread stands now, whatever the budget.
     ///
     /// # Errors
     /// A slice of another program or of an older machine; or out of memory. The slice comes back, and nothing has changed.
     pub fn give(&mut self, alloc: Global, ran: Ran) -> Result<(), GiveFault>
-        ensures { Gives self.old ran result self.new }
+        ensures { TakesSlice self.old ran result self.new }
     {
         if self.course.is_ours(&ran) {
             self.take_back(alloc, ran)
@@ -408,7 +408,7 @@ impl Hub {
     /// A slice of an older machine; or out of memory. The slice comes back, and nothing has changed.
     pub fn give_own(&mut self, alloc: Global, ran: Ran) -> Result<(), GiveFault>
         requires { ran.program ≡ self.old.course.program }
-        ensures { Gives self.old ran result self.new }
+        ensures { TakesSlice self.old ran result self.new }
     {
         if self.course.is_current(&ran) {
             self.take_back(alloc, ran)
@@ -420,7 +420,7 @@ impl Hub {
     // Takes back a slice of this program that begins where a running thread stands.
     fn take_back(&mut self, alloc: Global, ran: Ran) -> Result<(), GiveFault>
         requires { IsOurs self.old.course ran }
-        ensures { Gives self.old ran result self.new }
+        ensures { TakesSlice self.old ran result self.new }
     {
         let Ok(report) = due(alloc, &self.course, self.watch, &mut self.reports) else {
             return Err(GiveFault::Memory(ran));
@@ -465,7 +465,7 @@ impl Hub {
     /// numbers, after those that are ready.
     ///
     /// # Errors
-    /// Out of memory. The items and reports that were made before stand; the chooser's picks for the one that was not are spent.
+    /// Out of memory. The items and reports that were made before stay; the chooser's picks for the one that was not made are spent.
     pub fn run_alone<C: Chooser>(
         &mut self,
         alloc: Global,
@@ -483,7 +483,7 @@ impl Hub {
         Ok(self.end())
     }
 
-    // Whether the item may come now.
+    // Whether the item is allowed now.
     fn is_allowed(&self, item: &Item) -> bool
         ensures { result ≡ spec.is_allowed self.now.course.world item.now }
     {
@@ -495,12 +495,12 @@ impl Hub {
         }
     }
 
-    // The item comes, which may.
+    // The item happens, which is allowed now.
     fn follow(&mut self, alloc: Global, item: Item) -> Result<(), AllocError>
         requires allowed { spec.is_allowed self.old.course.world item ≡ true }
         requires due { NoneDue self.old }
         requires none_out { NoneOut self.old }
-        ensures moves { OnOk result (Moves self.old item self.new) }
+        ensures moves { OnOk result (AddsItem self.old item self.new) }
         ensures none_out { OnOk result (NoneOut self.new) }
         ensures err { OnErr result (self.new ≡ self.old) }
     {
@@ -512,10 +512,10 @@ impl Hub {
         }
     }
 
-    /// The hub that has gone through a schedule. The budget stops nothing here; it says how the run ends.
+    /// The hub that has gone through a schedule. The budget stops nothing here; it only says how the run ends.
     ///
     /// # Errors
-    /// The first item that may not come where it does, by its number from 1; or out of memory. Both hand the program back.
+    /// The first item that is not allowed where it stands, by its number, counted from 1; or out of memory. Both hand the program back.
     pub fn replay(
         alloc: Global,
         program: Prog,
@@ -543,7 +543,7 @@ impl Hub {
         Ok(hub)
     }
 
-    // The item comes, and the report that is due after it is made.
+    // The item happens, and the report that is due after it is made.
     fn step(&mut self, alloc: Global, item: Item) -> Result<(), AllocError>
         requires allowed { spec.is_allowed self.old.course.world item ≡ true }
         requires due { NoneDue self.old }
@@ -566,7 +566,7 @@ impl Hub {
     /// Out of memory.
     pub fn write_schedule(&self, alloc: Global) -> Result<Vec<u8>, AllocError>
         ensures text { IfOk result (λ text. text.items ≡ schedule_text self.now.budget (size_of self.now.course.program) self.now.course.items) }
-        ensures read { IfOk result (λ text. ReadsAs text.items (Ok (record {
+        ensures read { IfOk result (λ text. ScheduleReadsAs text.items (Ok (record {
           budget = self.now.budget;
           size = Some (size_of self.now.course.program);
           items = self.now.course.items;

@@ -21,8 +21,8 @@ pub(crate) enum Mark {
     Away,
 }
 
-// Where each thread is, by its number, with the queue of those that are ready. How many are out is counted, so that whether any thread
-// runs is no walk.
+// Where each thread is, by its number, with the queue of those that are ready. How many are out is counted, so that it takes no walk to
+// see whether any thread runs.
 #[derive(Drop)]
 pub(crate) struct Marks {
     queue: VecDeque<Tid>,
@@ -50,7 +50,7 @@ impl Model for Marks {
     ghost invariant = { λ m. AreMarks m.queue.items m.marks.items m.outs };
 }
 
-// Takes the thread out of the queue, where it stands there. It is looked for from the front.
+// Takes the thread, which stands in the queue, out of it. It is looked for from the front.
 fn unqueue(queue: &mut VecDeque<Tid>, thread: Tid)
     requires { count_of thread.0 queue.old.items ≡ 1 }
     ensures others { (t : ℕ) → count_of t queue.new.items + is_at t thread.0 ≡ count_of t queue.old.items }
@@ -66,7 +66,7 @@ fn unqueue(queue: &mut VecDeque<Tid>, thread: Tid)
     unreachable!();
 }
 
-// Those that are out are ready, in the order of their numbers, behind the others.
+// Those that are out are ready, in the order of their numbers, after the others.
 fn queue_outs(queue: &mut VecDeque<Tid>, marks: &mut Vec<Mark>)
     requires few { length marks.old.items ≤ 2 ^ 32 }
     requires queued { (t : ℕ) → count_of t queue.old.items ≡ ready_at marks.old.items t }
@@ -124,7 +124,7 @@ impl Marks {
         Some(self.queue[0])
     }
 
-    // A new thread is ready, behind the others.
+    // A new thread is ready, after the others.
     pub(crate) fn add(&mut self, thread: Tid)
         requires next { thread.0 ≡ length self.old.marks }
         requires room { 1 ≤ self.old.room }
@@ -136,7 +136,7 @@ impl Marks {
         self.queue.push_back_reserved(thread);
     }
 
-    // The thread, which was away, is ready, behind the others.
+    // The thread, which was away, is ready, after the others.
     pub(crate) fn make_ready(&mut self, thread: Tid)
         requires away { slice_get self.old.marks thread.0 ≡ Some Mark.Away }
         requires room { 1 ≤ self.old.room }

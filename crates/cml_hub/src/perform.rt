@@ -1,4 +1,4 @@
-//! What a thread asks is done: by a command of the book, once all memory is there that it takes.
+//! What a thread asks is done by a command of the book, once all memory is there that it takes.
 
 ghost use Rattle.std.specs.Prelude.{◌≡◌, ℕ, List, ◌+◌, ◌≤◌, ◌++◌, true, Some, IfOk, OnOk, OnErr, codes, length, slice_get};
 ghost use Rattle.std.specs.String.{string_bytes, string_len, string_capacity};
@@ -6,16 +6,16 @@ ghost use Rattle.cml_text.specs.Lines.{line as line_of};
 ghost use Rattle.cml_scan.specs.Numbers.{spaced};
 ghost use Rattle.cml_scan.specs.World.{running, ended};
 ghost use Rattle.cml_value.specs.Views.{plain_value};
-ghost use Rattle.cml_check.specs.Syntax.{PlainFunction as PlainItem};
+ghost use Rattle.cml_check.specs.Syntax.{PlainItem};
 ghost use Rattle.cml_check.specs.InOrder.{arities};
 ghost use Rattle.cml_step.specs.Agrees.{ask_agrees, function_agrees};
-ghost use Rattle.cml_step.specs.Answers.{awaited, answer_to, nack as awaits_nack};
+ghost use Rattle.cml_step.specs.Answers.{top_await, await_of, nack as awaits_nack};
 ghost use Rattle.cml_step.specs.AskViews.{plain_ask};
 ghost use Rattle.cml_step.specs.Asks as asks;
 ghost use Rattle.cml_step.specs.Machines.{PlainMachine, machine_term, Fits};
 ghost use Rattle.cml_book.specs.Outcomes.{with_thread};
 ghost use Rattle.cml_hub.specs.Performed.{spoken, asked, fails};
-ghost use Rattle.cml_hub.specs.Runs.{told};
+ghost use Rattle.cml_hub.specs.Runs.{output_of};
 ghost use Rattle.cml_hub.specs.Dones.{plain_done, told_ahead};
 ghost use Rattle.cml_hub.specs.Asking.{Performs, IsDone, IsPrepared};
 
@@ -58,7 +58,7 @@ fn spawn(
 
 // A fresh nack, for which there is room in the machine first.
 fn nack(alloc: Global, book: &mut Threads, thread: Tid, end: &Machine) -> Result<Done, Fault>
-    requires { (p : List (PlainItem ℕ)) × Fits p end.now × (awaited (machine_term p end.now) ≡ awaits_nack) }
+    requires { (p : List (PlainItem ℕ)) × Fits p end.now × (top_await (machine_term p end.now) ≡ awaits_nack) }
     ensures done { Performs asks.fresh_nack result (asked book.old thread.0 asks.fresh_nack) book.old book.new }
     ensures fits { IfOk result (λ d. (p : List (PlainItem ℕ)) → IsDone p thread.0 asks.fresh_nack end.now d) }
 {
@@ -163,7 +163,7 @@ fn perform(
     ask: &Ask,
 ) -> Result<Done, Fault>
     requires fits { Fits program.now end.now }
-    requires awaits { awaited (machine_term program.now end.now) ≡ answer_to (plain_ask ask.now) }
+    requires awaits { top_await (machine_term program.now end.now) ≡ await_of (plain_ask ask.now) }
     requires agrees { ask_agrees (arities program.now) (plain_ask ask.now) ≡ true }
     ensures done { let a = plain_ask ask.now in Performs a result (asked book.old thread.0 a) book.old book.new }
     ensures fits { IfOk result (λ d. IsDone program.now thread.0 (plain_ask ask.now) end.now d) }
@@ -239,7 +239,7 @@ fn line_ahead(alloc: Global, thread: Tid, ask: &Ask) -> Result<String, AllocErro
     }
 }
 
-// The thread ends, at a fault of this name, and its line goes to the output.
+// The thread ends, with a fault of this name, whose line is for the output.
 fn fail(
     alloc: Global,
     book: &mut Threads,
@@ -250,7 +250,7 @@ fn fail(
     requires { slice_get book.old.threads thread.0 ≡ Some running }
     ensures world { OnOk result (book.new ≡ with_thread book.old thread.0 ended) }
     ensures done { IfOk result (λ r. r.done ≡ Done.Fails name.entry) }
-    ensures line { IfOk result (λ r. string_bytes r.line ≡ told thread.0 (fails name.now)) }
+    ensures line { IfOk result (λ r. string_bytes r.line ≡ output_of thread.0 (fails name.now)) }
     ensures err { OnErr result (book.new ≡ book.old) }
     ensures bytes { string_bytes output.new ≡ string_bytes output.old }
     ensures room { IfOk result (λ r. string_len output.new + length (string_bytes r.line) ≤ string_capacity output.new) }
@@ -267,7 +267,7 @@ fn fail(
     }
 }
 
-// All that the end of a slice asks for is made, and then it is done; where it is refused the thread ends.
+// Makes all that the end of a slice asks for, and then does it; where it is refused the thread ends.
 pub(crate) fn prepare(
     alloc: Global,
     program: &Prog,
@@ -279,7 +279,7 @@ pub(crate) fn prepare(
 ) -> Result<Prepared, AllocError>
     requires running { slice_get book.old.threads thread.0 ≡ Some running }
     requires fits { Fits program.now end.now }
-    requires awaits { awaited (machine_term program.now end.now) ≡ answer_to (plain_ask ask.now) }
+    requires awaits { top_await (machine_term program.now end.now) ≡ await_of (plain_ask ask.now) }
     requires agrees { ask_agrees (arities program.now) (plain_ask ask.now) ≡ true }
     ensures ok { IfOk result (λ r. IsPrepared program.now thread.0 (plain_ask ask.now) end.now book.old book.new r) }
     ensures err { OnErr result (book.new ≡ book.old) }

@@ -7,7 +7,7 @@ use crate::choose::Chooser;
 use cml_scan::law::{a_head_has_a_partner, a_picked_row_is_in_the_scan, no_head_where_no_row};
 use cml_scan::{Meet, Table};
 
-// A row that the chooser picks: a head, and then one of the head's rows. It picks both, also where there is one.
+// A row that the chooser picks: a head, and then one of the head's rows. It picks both, also where there is only one.
 pub(crate) fn pick_row<T: Table, C: Chooser>(table: &T, chooser: &mut C) -> Option<Meet>
     ensures { let rows = scan_of (T.entries table.now) (T.is_lit table.now) in MatchOption result (rows ≡ []) (λ row. has_row rows row ≡ true) }
 {

@@ -6,7 +6,7 @@ ghost use Rattle.std.specs.Vec.{vec_len, vec_capacity};
 ghost use Rattle.cml_step.specs.AnswerViews.{Awaits};
 ghost use Rattle.cml_step.specs.Asks.{a_value, a_commit};
 ghost use Rattle.cml_hub.specs.Dones.{CanSettle, children};
-ghost use Rattle.cml_hub.specs.Settling.{IsAnswered, SettlesAll, AllSettled, Resumes, Resumed, AllResume, AllResumed};
+ghost use Rattle.cml_hub.specs.Settling.{TakesAnswer, SettlesAll, AllSettled, Resumes, Resumed, AllResume, AllResumed};
 
 use crate::done::Done;
 use cml_book::{Committed, Resume};
@@ -18,7 +18,7 @@ use std::mem;
 // The machine, once it got the value.
 fn given(alloc: Global, machine: Machine, value: Value) -> Machine
     requires { Awaits machine (a_value value) }
-    ensures { IsAnswered machine (a_value value) result }
+    ensures { TakesAnswer machine (a_value value) result }
 {
     match machine.answered(alloc, Answer::Value(value)) {
         Ok(machine) => machine,
@@ -29,7 +29,7 @@ fn given(alloc: Global, machine: Machine, value: Value) -> Machine
 // The machine whose synchronization was committed.
 fn committed(alloc: Global, machine: Machine, value: Value, wraps: Vec<FnRef>) -> Machine
     requires { Awaits machine (a_commit value wraps.items) }
-    ensures { IsAnswered machine (a_commit value wraps.items) result }
+    ensures { TakesAnswer machine (a_commit value wraps.items) result }
 {
     match machine.answered(alloc, Answer::Commit(value, wraps)) {
         Ok(machine) => machine,

@@ -1,4 +1,4 @@
--- Runs in a list, of which one more is put behind those that are there.
+-- Runs in a list, of which one more is put after those that are there.
 use Rattle.std.proofs.Common.{◌≡◌, ◌≤◌, ◌<◌, ℕ, zero, suc, ◌+◌, Bool, true, false, true≢false, ◌||◌, cond, List, [], ◌∷◌, ◌++◌, map, drop, length, get_or, Option, Some, None, refl, ap, sym, subst, ◌∙◌, arith}
 use Rattle.std.specs.Cmp.{IsEquivalence}
 use Rattle.std.specs.List.{IsDistinct}
@@ -15,7 +15,7 @@ use Rattle.cml_value.specs.Value.{PlainBase}
 use Rattle.cml_index.specs.declared.slot.Slot.{Slot}
 use Rattle.cml_index.specs.Posts.{slot_of}
 use Rattle.cml_index.specs.Slot.{same_slot}
-use Rattle.cml_index.specs.Slots.{has_run, run_of, runs_of, is_slot, leaves_at}
+use Rattle.cml_index.specs.Slots.{has_run, slot_run, runs_of, is_slot, slot_leaves}
 use Rattle.cml_index.proofs.Walks.{same_slot_is, same_slot_self, keys_any, no_run}
 
 pub has_push : {V : Type 0} (es : List (Slot × V)) (s : Slot) (v : V) (k : Slot) → has_run (es ++ (s, v) ∷ []) k ≡ has_run es k || same_slot k s
@@ -40,8 +40,8 @@ find_push (x ∷ es) s v k = by (same_slot k x.0) (find_push es s v k)
     by false e = e
 
 -- each run is as wanted, where the new one is
-pub right_push : (es : List (Slot × SmallVec ℕ)) (s : Slot) (v : SmallVec ℕ) (want : Slot → List ℕ) → v.items ≡ want s → ((k : Slot) → has_run es k ≡ true → run_of es k ≡ want k)
-    → (k : Slot) → has_run (es ++ (s, v) ∷ []) k ≡ true → run_of (es ++ (s, v) ∷ []) k ≡ want k
+pub right_push : (es : List (Slot × SmallVec ℕ)) (s : Slot) (v : SmallVec ℕ) (want : Slot → List ℕ) → v.items ≡ want s → ((k : Slot) → has_run es k ≡ true → slot_run es k ≡ want k)
+    → (k : Slot) → has_run (es ++ (s, v) ∷ []) k ≡ true → slot_run (es ++ (s, v) ∷ []) k ≡ want k
 right_push es s v want here so_far k e = ap (λ r. option_map_or (λ (w : SmallVec ℕ). w.items) r []) (find_push es s v k) ∙ at (has_run es k) refl (same_slot k s) refl
   where
     at : (b : Bool) → has_run es k ≡ b → (d : Bool) → same_slot k s ≡ d → option_map_or (λ (w : SmallVec ℕ). w.items) (cond b (lookup (same_slot k) es) (cond d (Some v) None)) [] ≡ want k
@@ -79,19 +79,19 @@ there_already s has on k = at (has k) (same_slot k s) refl refl
     at false true e f = let bad : true ≡ false = sym on ∙ ap has (sym (same_slot_is k s f)) ∙ e in cc
 
 -- one more slot, where that of the next leaf has its run now
-pub none_step : (k : Slot) (s : Option Slot) (ss : List (Option Slot)) (i : ℕ) (old new : Bool) → new ≡ old || is_slot k s → new ≡ false → ((old ≡ false) × (leaves_at k i (s ∷ ss) ≡ leaves_at k (i + 1) ss))
+pub none_step : (k : Slot) (s : Option Slot) (ss : List (Option Slot)) (i : ℕ) (old new : Bool) → new ≡ old || is_slot k s → new ≡ false → ((old ≡ false) × (slot_leaves k i (s ∷ ss) ≡ slot_leaves k (i + 1) ss))
 none_step k s ss i old new e off = at old (is_slot k s) refl (sym e ∙ off)
   where
-    at : (b d : Bool) → is_slot k s ≡ d → b || d ≡ false → ((b ≡ false) × (leaves_at k i (s ∷ ss) ≡ leaves_at k (i + 1) ss))
+    at : (b d : Bool) → is_slot k s ≡ d → b || d ≡ false → ((b ≡ false) × (slot_leaves k i (s ∷ ss) ≡ slot_leaves k (i + 1) ss))
     at true d g h = cc
     at false true g h = cc
-    at false false g h = (refl, ap (λ x. cond x (i ∷ leaves_at k (i + 1) ss) (leaves_at k (i + 1) ss)) g)
+    at false false g h = (refl, ap (λ x. cond x (i ∷ slot_leaves k (i + 1) ss) (slot_leaves k (i + 1) ss)) g)
 
 -- at the end each slot has its run, or no leaf
-pub all_right : (es : List (Slot × SmallVec ℕ)) (want : Slot → List ℕ) → ((k : Slot) → has_run es k ≡ true → run_of es k ≡ want k) → ((k : Slot) → has_run es k ≡ false → want k ≡ []) → (k : Slot) → run_of es k ≡ want k
+pub all_right : (es : List (Slot × SmallVec ℕ)) (want : Slot → List ℕ) → ((k : Slot) → has_run es k ≡ true → slot_run es k ≡ want k) → ((k : Slot) → has_run es k ≡ false → want k ≡ []) → (k : Slot) → slot_run es k ≡ want k
 all_right es want on off k = at (has_run es k) refl
   where
-    at : (b : Bool) → has_run es k ≡ b → run_of es k ≡ want k
+    at : (b : Bool) → has_run es k ≡ b → slot_run es k ≡ want k
     at true e = on k e
     at false e = ap (λ r. option_map_or (λ (w : SmallVec ℕ). w.items) r []) (no_run es k e) ∙ sym (off k e)
 
@@ -118,7 +118,7 @@ listed few = map (λ run. (run.0, run.1.items)) few
 pub few_once : (few : List (Slot × SmallVec ℕ)) (many : List (Slot × Vec ℕ Global)) → many ≡ [] → IsDistinct same_slot (keys_of few) → IsDistinct same_slot (keys_of (runs_of few many))
 few_once few many none once = subst (λ m. IsDistinct same_slot (keys_of (runs_of few m))) (sym none) (subst (IsDistinct same_slot) (sym (ap keys_of (nil_after (listed few)) ∙ keys_map (λ (v : SmallVec ℕ). v.items) few)) once)
 
-pub few_run : (few : List (Slot × SmallVec ℕ)) (many : List (Slot × Vec ℕ Global)) (k : Slot) → many ≡ [] → option_map_or (λ ls. ls) (lookup (same_slot k) (runs_of few many)) [] ≡ run_of few k
+pub few_run : (few : List (Slot × SmallVec ℕ)) (many : List (Slot × Vec ℕ Global)) (k : Slot) → many ≡ [] → option_map_or (λ ls. ls) (lookup (same_slot k) (runs_of few many)) [] ≡ slot_run few k
 few_run few many k none =
     ap (λ m. option_map_or (λ ls. ls) (lookup (same_slot k) (runs_of few m)) []) none
     ∙ ap (λ es. option_map_or (λ ls. ls) (lookup (same_slot k) es) []) (nil_after (listed few)) ∙ mapped (λ (v : SmallVec ℕ). v.items) few k
@@ -137,10 +137,10 @@ run_found es i slot leaves once e = ap (λ r. option_map_or (λ ls. ls) r []) (l
 
 -- a slot that has no run after the next leaf has that leaf not
 pub none_more : (bs : List PlainBase) (i : ℕ) (b : PlainBase) (k : Slot) (old new : Bool) (all : List ℕ) → i < length bs → b ≡ get_or bs i b → new ≡ old || is_slot k (slot_of b) → new ≡ false
-    → (old ≡ false → all ≡ leaves_at k i (map slot_of (drop i bs))) → all ≡ leaves_at k (i + 1) (map slot_of (drop (i + 1) bs))
+    → (old ≡ false → all ≡ slot_leaves k i (map slot_of (drop i bs))) → all ≡ slot_leaves k (i + 1) (map slot_of (drop (i + 1) bs))
 none_more bs i b k old new all within is e off so_far =
     let both = none_step k (slot_of b) (map slot_of (drop (i + 1) bs)) i old new e off in
-    so_far both.0 ∙ ap (λ xs. leaves_at k i (map slot_of xs)) (drop_more bs i b within ∙ ap (λ x. x ∷ drop (i + 1) bs) (sym is)) ∙ both.1
+    so_far both.0 ∙ ap (λ xs. slot_leaves k i (map slot_of xs)) (drop_more bs i b within ∙ ap (λ x. x ∷ drop (i + 1) bs) (sym is)) ∙ both.1
 
 drop_end : {X : Type 0} (xs : List X) (i : ℕ) → length xs ≤ i → drop i xs ≡ []
 drop_end [] zero e = refl
@@ -148,8 +148,8 @@ drop_end [] (suc i) e = refl
 drop_end (x ∷ xs) zero e = absurd (omega (arith, e))
 drop_end (x ∷ xs) (suc i) e = drop_end xs i (omega (arith, e))
 
-pub none_end : (bs : List PlainBase) (i : ℕ) (k : Slot) → length bs ≤ i → leaves_at k i (map slot_of (drop i bs)) ≡ []
-none_end bs i k e = ap (λ xs. leaves_at k i (map slot_of xs)) (drop_end bs i e)
+pub none_end : (bs : List PlainBase) (i : ℕ) (k : Slot) → length bs ≤ i → slot_leaves k i (map slot_of (drop i bs)) ≡ []
+none_end bs i k e = ap (λ xs. slot_leaves k i (map slot_of xs)) (drop_end bs i e)
 
 pub once_none : IsDistinct same_slot []
 unfolding IsDistinct

@@ -18,7 +18,7 @@ use Rattle.cml_channel.specs.Pairings.{one_lane, side_place, same_object}
 use Rattle.cml_channel.specs.declared.pairing.PairedId.{PairedId}
 use Rattle.cml_channel.specs.declared.pairing.SidePlace.{SidePlace}
 use Rattle.cml_index.specs.Slots.{is_slot, lane_of, lane_at}
-use Rattle.cml_index.specs.Posts.{slot_of, told, is_named, slot_of_nack, nacks_in, IsIndexed}
+use Rattle.cml_index.specs.Posts.{slot_of, told, is_named, slot_of_nack, nacks_in, AreIndexed}
 use Rattle.cml_index.specs.declared.slot.Slot.{Slot}
 use Rattle.indexmap.specs.IndexMap.{IndexMap}
 use Rattle.indexmap.specs.IndexSet.{IndexSet}
@@ -53,7 +53,7 @@ always_dark : (b : PlainBase) → is_always b ≡ true → light b ≡ None
 always_dark (always v) e = refl
 always_dark _ e = cc
 
--- of one base event: where the light goes on it can be taken in addition if it waits for that light
+-- of one base event: where the light is turned on, it can be taken in addition if it waits for that light
 pub record IsFlipped (off_ on_ waits : Bool) : Type 0 where
   pub both : on_ ≡ off_ || waits
   pub apart : waits ≡ true → off_ ≡ false
@@ -109,13 +109,13 @@ pub not_true : (b : Bool) → not b ≡ true → b ≡ false
 not_true true e = cc
 not_true false e = refl
 
--- a light that was out is told to be lit
+-- a light that was unlit is told to be lit
 pub retold_lit : (l : Light) (lit : Bool) (old new : Light → Bool) (changed : Bool) → lit ≡ true → changed ≡ true → changed ≡ cond lit (not (old l)) (old l) → ((m : Light) → new m ≡ cond (same_light l m) lit (old m)) → (os : List PlainOffer)
     → length (filter (λ o. lit_by new o.base) os) ≡ length (filter (λ o. lit_by old o.base) os) + length (lane_of slot_of (Waiters l) os)
 retold_lit l true old new changed e is was told os = flip_count l old new (not_true (old l) (sym was ∙ is)) told os
 retold_lit l false old new changed e is was told os = cc
 
--- a light that was lit is told to be out
+-- a light that was lit is told to be unlit
 pub retold_unlit : (l : Light) (lit : Bool) (old new : Light → Bool) (changed : Bool) → lit ≡ false → changed ≡ true → changed ≡ cond lit (not (old l)) (old l) → ((m : Light) → new m ≡ cond (same_light l m) lit (old m)) → (os : List PlainOffer)
     → length (filter (λ o. lit_by old o.base) os) ≡ length (filter (λ o. lit_by new o.base) os) + length (lane_of slot_of (Waiters l) os)
 retold_unlit l true old new changed e is was told os = cc
@@ -144,8 +144,8 @@ retold_same l lit old new changed is was told m = at (same_light l m) refl
 
 -- nothing was told of any light, and no nack's place is lost
 pub still_named : {S T U V : Type 0} (es : List PlainEntry) (lanes : IndexMap Slot PlainLane S) (after : IndexMap Slot PlainLane T) (live : IndexSet PairedId U) (live_after : IndexSet PairedId V) (old new : List (Slot × Bool)) (leaves lit : ℕ)
-    → IsIndexed es lanes live old leaves lit → ((k : Slot) → lane_at after k ≡ lane_at lanes k) → live_after.keys ≡ live.keys → ((m : Light) → told new m ≡ told old m) → ((k : ℕ) → is_named old (slot_of_nack k) ≡ true → is_named new (slot_of_nack k) ≡ true)
-    → IsIndexed es after live_after new leaves lit
+    → AreIndexed es lanes live old leaves lit → ((k : Slot) → lane_at after k ≡ lane_at lanes k) → live_after.keys ≡ live.keys → ((m : Light) → told new m ≡ told old m) → ((k : ℕ) → is_named old (slot_of_nack k) ≡ true → is_named new (slot_of_nack k) ≡ true)
+    → AreIndexed es after live_after new leaves lit
 still_named es lanes after live live_after old new leaves lit x same same_live told_ kept =
     record {
       sorted = x.sorted;
@@ -158,8 +158,8 @@ still_named es lanes after live live_after old new leaves lit x same same_live t
 
 -- nothing was told of any light, and no place is lost
 pub still_indexed : {S T U V : Type 0} (es : List PlainEntry) (lanes : IndexMap Slot PlainLane S) (after : IndexMap Slot PlainLane T) (live : IndexSet PairedId U) (live_after : IndexSet PairedId V) (old new : List (Slot × Bool)) (leaves lit : ℕ)
-    → IsIndexed es lanes live old leaves lit → ((k : Slot) → lane_at after k ≡ lane_at lanes k) → live_after.keys ≡ live.keys → ((m : Light) → told new m ≡ told old m) → ((k : Slot) → is_named old k ≡ true → is_named new k ≡ true)
-    → IsIndexed es after live_after new leaves lit
+    → AreIndexed es lanes live old leaves lit → ((k : Slot) → lane_at after k ≡ lane_at lanes k) → live_after.keys ≡ live.keys → ((m : Light) → told new m ≡ told old m) → ((k : Slot) → is_named old k ≡ true → is_named new k ≡ true)
+    → AreIndexed es after live_after new leaves lit
 still_indexed es lanes after live live_after old new leaves lit x same same_live told_ kept =
     still_named es lanes after live live_after old new leaves lit x same same_live told_ (λ k. kept (slot_of_nack k))
 

@@ -24,7 +24,7 @@ use Rattle.cml_index.proofs.Parted.{filter_fewer, lane_others}
 use Rattle.cml_index.proofs.Beside.{got, within, none_among}
 use Rattle.cml_index.proofs.Counted as counted
 
--- ---- an offer of a lane and those behind it
+-- ---- an offer of a lane and those after it
 
 not_self : (r : Place) → before r r ≡ false
 not_self r = numbers r.tid.0 r.leaf
@@ -38,7 +38,7 @@ not_turned p r e = numbers p.tid.0 p.leaf r.tid.0 r.leaf e
     numbers : (a b c d : ℕ) → before_numbers a b c d ≡ true → before_numbers c d a b ≡ false
     numbers a b c d e = grind (arith, nat_tests)
 
--- as many stand behind the one at a place as there are places behind it
+-- as many stand after the one at a place as there are places after it
 pub behind_at : (ps : List Place) (i : ℕ) (r : Place) → Ascends before ps → slice_get ps i ≡ Some r → length (filter (before r) ps) + i + 1 ≤ length ps
 behind_at [] i r up e = cc
 behind_at (p ∷ ps) zero r up e =
@@ -51,7 +51,7 @@ behind_at (p ∷ ps) (suc i) r up e =
     let ahead : before p r ≡ true = subst (λ q. before p q ≡ true) (got ps i r e) (at_place (before p) ps i r (within ps i r e) up.0) in
     rw (not_turned p r ahead) (omega (arith, later))
 
--- of the offers behind one in its lane there are no more, by those of the other lanes, than of all
+-- of the offers after one in its lane there are no more, by those of the other lanes, than of all
 pub behind_lift : (slot : PlainBase → _) (k : Slot) (r : Place) (os : List PlainOffer) → length (filter (λ o. before r (place o)) os) + length (lane_of slot k os) ≤ length os + length (filter (before r) (lane_of slot k os))
 behind_lift slot k r [] = omega arith
 behind_lift slot k r (o ∷ os) = at (before r (place o)) (is_slot k (slot o.base)) refl (behind_lift slot k r os)

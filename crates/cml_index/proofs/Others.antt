@@ -36,7 +36,7 @@ other_before tid (p ∷ ps) (suc j) d up within low =
     at : (a m c n t : ℕ) → before_numbers a m c n ≡ true → nat_lt c t ≡ true → not (nat_eq t a) ≡ true
     at a m c n t e f = grind (arith, nat_tests)
 
--- any other one is behind those of the thread
+-- any other one is after those of the thread
 pub other_behind : (tid : Tid) (ps : List Place) (own j : ℕ) (d : Place) → Ascends before ps → own + length (others tid ps) ≡ length ps → j < length (others tid ps) → nat_lt (get_or ps j d).tid.0 tid.0 ≡ false
     → get_or (others tid ps) j d ≡ get_or ps (j + own) d
 other_behind tid [] own j d up many within high = absurd (omega (arith, within))

@@ -23,7 +23,7 @@ use Rattle.cml_scan.proofs.Leaving.{filters_swapped, filter-map}
 use Rattle.cml_scan.proofs.Ordered.{Every-weaker, Every-append, Every-passes, offers_ascend}
 use Rattle.cml_channel.specs.Lanes.{is_own, is_others, others, run, with_run}
 use Rattle.cml_index.specs.declared.slot.Slot.{Slot}
-use Rattle.cml_index.specs.Slots.{is_slot, leaves_at, lane_of}
+use Rattle.cml_index.specs.Slots.{is_slot, slot_leaves, lane_of}
 use Rattle.cml_index.specs.Posts.{nacks_in}
 
 -- a thread's leaves pass a test of threads together
@@ -56,13 +56,13 @@ lane-append slot k xs ys =
     ap (map place) (filter-append (λ o. is_slot k (slot o.base)) xs ys) ∙ map-append place (filter (λ o. is_slot k (slot o.base)) xs) (filter (λ o. is_slot k (slot o.base)) ys)
 
 -- the offers of one group in a lane are one run
-pub own_run : (slot : PlainBase → Option Slot) (k : Slot) (tid : Tid) (leaf : ℕ) (bs : List PlainBase) → lane_of slot k (leaves_from tid.0 leaf bs) ≡ run tid (leaves_at k leaf (map slot bs))
+pub own_run : (slot : PlainBase → Option Slot) (k : Slot) (tid : Tid) (leaf : ℕ) (bs : List PlainBase) → lane_of slot k (leaves_from tid.0 leaf bs) ≡ run tid (slot_leaves k leaf (map slot bs))
 own_run slot k tid leaf [] = refl
 own_run slot k tid leaf (b ∷ bs) = at (is_slot k (slot b)) (own_run slot k tid (leaf + 1) bs)
   where
-    at : (h : Bool) → lane_of slot k (leaves_from tid.0 (leaf + 1) bs) ≡ run tid (leaves_at k (leaf + 1) (map slot bs))
+    at : (h : Bool) → lane_of slot k (leaves_from tid.0 (leaf + 1) bs) ≡ run tid (slot_leaves k (leaf + 1) (map slot bs))
         → map place (cond h (record { thread = tid.0; leaf = leaf; base = b } ∷ filter (λ o. is_slot k (slot o.base)) (leaves_from tid.0 (leaf + 1) bs)) (filter (λ o. is_slot k (slot o.base)) (leaves_from tid.0 (leaf + 1) bs)))
-        ≡ run tid (cond h (leaf ∷ leaves_at k (leaf + 1) (map slot bs)) (leaves_at k (leaf + 1) (map slot bs)))
+        ≡ run tid (cond h (leaf ∷ slot_leaves k (leaf + 1) (map slot bs)) (slot_leaves k (leaf + 1) (map slot bs)))
     at true h = ap (λ ps. record { tid = tid; leaf = leaf } ∷ ps) h
     at false h = h
 
@@ -91,22 +91,22 @@ lane-ascends slot k es up =
         pick false k = k
 
 -- the leaves of one group ascend
-pub leaves_at-ascend : (k : Slot) (leaf : ℕ) (ss : List (Option Slot)) → Ascends nat_lt (leaves_at k leaf ss)
+pub leaves_at-ascend : (k : Slot) (leaf : ℕ) (ss : List (Option Slot)) → Ascends nat_lt (slot_leaves k leaf ss)
 leaves_at-ascend k leaf [] = tt
 leaves_at-ascend k leaf (s ∷ ss) = at (is_slot k s) (leaves_at-ascend k (leaf + 1) ss)
   where
-    above : (m n : ℕ) (ts : List (Option Slot)) → m < n → Every (nat_lt m) (leaves_at k n ts)
+    above : (m n : ℕ) (ts : List (Option Slot)) → m < n → Every (nat_lt m) (slot_leaves k n ts)
     above m n [] h = tt
     above m n (t ∷ ts) h = pick (is_slot k t) (above m (n + 1) ts (omega arith))
       where
         lt : (a b : ℕ) → a < b → nat_lt a b ≡ true
         lt a b h = grind (arith, nat_tests)
 
-        pick : (b : Bool) → Every (nat_lt m) (leaves_at k (n + 1) ts) → Every (nat_lt m) (cond b (n ∷ leaves_at k (n + 1) ts) (leaves_at k (n + 1) ts))
+        pick : (b : Bool) → Every (nat_lt m) (slot_leaves k (n + 1) ts) → Every (nat_lt m) (cond b (n ∷ slot_leaves k (n + 1) ts) (slot_leaves k (n + 1) ts))
         pick true r = (lt m n h, r)
         pick false r = r
 
-    at : (b : Bool) → Ascends nat_lt (leaves_at k (leaf + 1) ss) → Ascends nat_lt (cond b (leaf ∷ leaves_at k (leaf + 1) ss) (leaves_at k (leaf + 1) ss))
+    at : (b : Bool) → Ascends nat_lt (slot_leaves k (leaf + 1) ss) → Ascends nat_lt (cond b (leaf ∷ slot_leaves k (leaf + 1) ss) (slot_leaves k (leaf + 1) ss))
     at true r = (above leaf (leaf + 1) ss (omega arith), r)
     at false r = r
 
@@ -157,12 +157,12 @@ one_offers : (d : PlainEntry) → offers_of (d ∷ []) ≡ leaves_from d.thread 
 one_offers d = append-nil (leaves_from d.thread 0 (bases d.group))
 
 pub left_lane : (slot : PlainBase → Option Slot) (k : Slot) (tid : Tid) (es : List PlainEntry) (d : PlainEntry) → filter (λ e. nat_eq tid.0 e.thread) es ≡ d ∷ [] → d.thread ≡ tid.0
-    → length (leaves_at k 0 (map slot (bases d.group))) ≡ length (filter (is_own tid) (lane_of slot k (offers_of es)))
+    → length (slot_leaves k 0 (map slot (bases d.group))) ≡ length (filter (is_own tid) (lane_of slot k (offers_of es)))
 left_lane slot k tid es d own is =
     let one : offers_of (d ∷ []) ≡ leaves_from tid.0 0 (bases d.group) = one_offers d ∙ ap (λ t. leaves_from t 0 (bases d.group)) is in
-    let mine : filter (is_own tid) (lane_of slot k (offers_of es)) ≡ run tid (leaves_at k 0 (map slot (bases d.group))) =
+    let mine : filter (is_own tid) (lane_of slot k (offers_of es)) ≡ run tid (slot_leaves k 0 (map slot (bases d.group))) =
     sym (lane_by slot k (nat_eq tid.0) (offers_of es)) ∙ ap (lane_of slot k) (sym (offers_by (nat_eq tid.0) es) ∙ ap offers_of own ∙ one) ∙ own_run slot k tid 0 (bases d.group) in
-    sym (ap length mine ∙ length-map (leaves_at k 0 (map slot (bases d.group))) (λ leaf. record { tid = tid; leaf = leaf }))
+    sym (ap length mine ∙ length-map (slot_leaves k 0 (map slot (bases d.group))) (λ leaf. record { tid = tid; leaf = leaf }))
 
 pub left_rest : (slot : PlainBase → Option Slot) (k : Slot) (tid : Tid) (es : List PlainEntry)
     → lane_of slot k (offers_of (filter (λ e. not (nat_eq tid.0 e.thread)) es)) ≡ others tid (lane_of slot k (offers_of es))
@@ -279,11 +279,11 @@ offers_with e es =
     ∙ rw (offers_by (λ n. nat_lt n e.thread) es, offers_by (nat_lt e.thread) es) refl
 
 pub came_lane : (slot : PlainBase → Option Slot) (k : Slot) (tid : Tid) (e : PlainEntry) (es : List PlainEntry) → tid.0 ≡ e.thread
-    → with_run tid (leaves_at k 0 (map slot (bases e.group))) (lane_of slot k (offers_of es)) ≡ lane_of slot k (offers_of (with_entry e es))
+    → with_run tid (slot_leaves k 0 (map slot (bases e.group))) (lane_of slot k (offers_of es)) ≡ lane_of slot k (offers_of (with_entry e es))
 came_lane slot k tid e es is =
     let low : lane_of slot k (filter (λ o. nat_lt o.thread e.thread) (offers_of es)) ≡ filter (λ q. nat_lt q.tid.0 e.thread) (lane_of slot k (offers_of es)) = lane_by slot k (λ n. nat_lt n e.thread) (offers_of es) in
     let high : lane_of slot k (filter (λ o. nat_lt e.thread o.thread) (offers_of es)) ≡ filter (λ q. nat_lt e.thread q.tid.0) (lane_of slot k (offers_of es)) = lane_by slot k (nat_lt e.thread) (offers_of es) in
-    let mine : lane_of slot k (leaves_from e.thread 0 (bases e.group)) ≡ run tid (leaves_at k 0 (map slot (bases e.group))) = ap (λ t. lane_of slot k (leaves_from t 0 (bases e.group))) (sym is) ∙ own_run slot k tid 0 (bases e.group) in
+    let mine : lane_of slot k (leaves_from e.thread 0 (bases e.group)) ≡ run tid (slot_leaves k 0 (map slot (bases e.group))) = ap (λ t. lane_of slot k (leaves_from t 0 (bases e.group))) (sym is) ∙ own_run slot k tid 0 (bases e.group) in
     let own : filter (λ q. nat_lt q.tid.0 tid.0) (lane_of slot k (offers_of es)) ≡ filter (λ q. nat_lt q.tid.0 e.thread) (lane_of slot k (offers_of es)) = ap (λ t. filter (λ q. nat_lt q.tid.0 t) (lane_of slot k (offers_of es))) is in
     let own2 : filter (λ q. nat_lt tid.0 q.tid.0) (lane_of slot k (offers_of es)) ≡ filter (λ q. nat_lt e.thread q.tid.0) (lane_of slot k (offers_of es)) = ap (λ t. filter (λ q. nat_lt t q.tid.0) (lane_of slot k (offers_of es))) is in
     rw (own, own2, ← mine, ← low, ← high)

@@ -30,13 +30,13 @@ found_first [] ys k x e = cc
 found_first (y ∷ xs) ys zero x e = e
 found_first (y ∷ xs) ys (suc k) x e = found_first xs ys k x e
 
--- what stands behind the first of two lists is found in the second
+-- what stands after the first of two lists is found in the second
 pub found_behind : {X : Type 0} (xs ys : List X) (k more : ℕ) → k ≡ length xs + more → slice_get (xs ++ ys) k ≡ slice_get ys more
 found_behind [] ys k more e = let same : k ≡ more = omega (arith, e) in ap (slice_get ys) same
 found_behind (x ∷ xs) ys zero more e = absurd (omega (arith, e))
 found_behind (x ∷ xs) ys (suc k) more e = found_behind xs ys k more (omega (arith, e))
 
--- what stands behind one that is passed by
+-- what stands after one that is passed by
 pub passed_by : {X : Type 0} (x : X) (xs : List X) (k : ℕ) → 0 < k → slice_get (x ∷ xs) k ≡ slice_get xs (k - 1)
 passed_by x xs zero some = absurd (omega (arith, some))
 passed_by x xs (suc k) some = let less : k ≡ suc k - 1 = omega arith in ap (slice_get xs) less
@@ -107,7 +107,7 @@ heads_many flags es up =
     let met = filter (is_sought Met flags (offers_of es)) (offers_of es) in
     ap length (heads_are flags es up) ∙ length-append (map place alone) (map place met) ∙ ap (λ n. n + length (map place met)) (length-map alone place) ∙ ap (λ n. length alone + n) (length-map met place)
 
--- how many of a thread's leaves, from one on, stand behind one of them
+-- how many of a thread's leaves, from one on, stand after one of them
 own_behind : (p : Place) (leaf : ℕ) (bs : List PlainBase) → leaf ≤ p.leaf → p.leaf < leaf + length bs
     → length (filter (λ o. before p (place o)) (leaves_from p.tid.0 leaf bs)) + p.leaf + 1 ≤ leaf + length bs
 own_behind p leaf [] low high = absurd (omega (arith, low, high))
@@ -138,7 +138,7 @@ own_behind p leaf (b ∷ bs) low high = rw (not_behind p.tid.0 p.leaf leaf low) 
         let all : length (leaves_from p.tid.0 (leaf + 1) bs) ≡ length bs = leaves_all p.tid.0 (leaf + 1) bs in
         omega (arith, is, few, all, long)
 
--- no leaf of a thread stands behind one of a higher thread
+-- no leaf of a thread stands after one of a higher thread
 none_behind : (p : Place) (t leaf : ℕ) (bs : List PlainBase) → nat_lt t p.tid.0 ≡ true → filter (λ o. before p (place o)) (leaves_from t leaf bs) ≡ []
 none_behind p t leaf [] low = refl
 none_behind p t leaf (b ∷ bs) low = rw (off p.tid.0 p.leaf t leaf low) (none_behind p t (leaf + 1) bs low)
@@ -150,7 +150,7 @@ every_mid : {X : Type 0} (p : X → Bool) (xs ys : List X) (x : X) → Every p (
 every_mid p [] ys x each = each.0
 every_mid p (y ∷ xs) ys x each = every_mid p xs ys x each.1
 
--- The leaves behind one of a thread are fewer than those of this thread and of the later ones, by that leaf and those before it.
+-- The leaves after one of a thread are fewer than those of this thread and of the later ones, by that leaf and those before it.
 pub few_behind : (p : Place) (low : List PlainEntry) (e : PlainEntry) (high : List PlainEntry) → IsSorted (low ++ e ∷ high) → p.tid.0 ≡ e.thread → p.leaf < length (bases e.group)
     → length (filter (λ o. before p (place o)) (offers_of (low ++ e ∷ high))) + p.leaf + 1 ≤ length (offers_of (e ∷ high))
 few_behind p [] e high up own within =

@@ -159,7 +159,7 @@ moved slot left later old wanted before after one once here elsewhere so_far = (
   λ k e. cases_left (same_slot k slot) (left k) (later k) (one k) e (once k) (λ off rest. elsewhere k off ∙ so_far.1 k rest),
 )
 
--- a leaf that was put into its slot stands behind those that were there
+-- a leaf that was put into its slot stands after those that were there
 pub put_done : (k s : Slot) (leaf : ℕ) (old new : Slot → List ℕ) (later : List ℕ) → new s ≡ old s ++ leaf ∷ [] → ((j : Slot) → same_slot j s ≡ false → new j ≡ old j)
     → new k ++ later ≡ old k ++ cond (same_slot k s) (leaf ∷ later) later
 put_done k s leaf old new later here elsewhere = at (same_slot k s) refl

@@ -1,4 +1,4 @@
--- The leaves that begin a row, and what a search among some leaves answers.
+-- The leaves that begin a row, and what a search among some leaves returns.
 use Rattle.std.specs.Prelude.{ℕ, ◌≡◌, ◌+◌, ◌*◌, ◌<◌, ◌≤◌, Bool, true, List, Option, Some, None, map, filter, length, slice_get}
 use Rattle.std.specs.List.{list_any}
 use Rattle.cml_value.specs.declared.number.Tid.{Tid}
@@ -38,22 +38,22 @@ abbrev pub is_sought : HeadKind → List (Slot × Bool) → List PlainOffer → 
 is_sought Alone flags os o = lit_by (told flags) o.base
 is_sought Met flags os o = has_partner os o
 
--- the place of the leaf of this number among these, or how many more leaves are to be passed by behind them
-abbrev pub IsAnswer : Sought → ℕ → List PlainOffer → Type 0
-IsAnswer (Found p) k os = slice_get (map place os) k ≡ Some p
-IsAnswer (Left more) k os = k ≡ length os + more
+-- the place of the leaf of this number among these, or how many more leaves are to be passed over after them
+abbrev pub IsSought : Sought → ℕ → List PlainOffer → Type 0
+IsSought (Found p) k os = slice_get (map place os) k ≡ Some p
+IsSought (Left more) k os = k ≡ length os + more
 
--- The search among the leaves of one thread made three looks at most for each leaf up to where it ended.
+-- The search among the leaves of one thread made at most three looks for each leaf up to where it ended.
 abbrev pub EndsThere : Sought → PlainEntry → ℕ → ℕ → Type 0
 EndsThere (Found p) e old new = (p.tid.0 ≡ e.thread) × (p.leaf < length (bases e.group)) × (new ≤ old + 3 * (p.leaf + 1))
 EndsThere (Left more) e old new = new ≤ old + 3 * length (bases e.group)
 
--- The offer has one of another thread beside it, where the thread is known of which all of these are, if they are of one alone.
+-- Among these offers there is one of another thread than this one's, where the thread of all of them is given if they are of one alone.
 abbrev pub is_beside : Option Tid → Place → Bool
 is_beside (Some tid) q = is_others tid q
 is_beside None q = true
 
--- those of the heads that have an offer among these of those whom they meet
+-- the heads that have, among these offers, one of those whom they meet
 abbrev pub met_among : (Tid → Whom) → List Place → List Place → List Place
 met_among meets others heads = filter (λ q. list_any (is_of (meets q.tid)) others) heads
 

@@ -5,3 +5,4 @@ pub mod Live
 pub mod Seats
 pub mod Posts
 pub mod Heads
+pub mod Cores

@@ -10,8 +10,8 @@ use Rattle.cml_index.specs.declared.slot.Slot.TheVariants.{Side}
 use Rattle.cml_index.specs.Slot.{same_slot}
 use Rattle.cml_index.specs.Slots.{lane_at, has_run}
 
--- So many offers can stand first on an object, and so many others stand there: are there two of which one could head the other, but for
--- their threads? Where all sides are alike, two are enough.
+-- Whether, of this many offers that can stand first on an object and this many others there, two could meet, threads aside. Where all
+-- sides are alike, two that can stand first are enough.
 abbrev pub may_meet : Bool → ℕ → ℕ → Bool
 may_meet true heads others = nat_lt 1 heads
 may_meet false heads others = nat_lt 0 heads && nat_lt 0 others

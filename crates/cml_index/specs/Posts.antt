@@ -29,7 +29,7 @@ use Rattle.cml_index.specs.declared.slot.Slot.{Slot}
 use Rattle.cml_index.specs.declared.slot.Slot.TheVariants.{Side, Waiters}
 use Rattle.cml_channel.specs.Pairings.{side_place}
 use Rattle.cml_index.specs.Slot.{same_slot, slot_by}
-use Rattle.cml_index.specs.Slots.{PlainRuns, leaves_at, run_in, lane_of, AreLanes}
+use Rattle.cml_index.specs.Slots.{PlainRuns, slot_leaves, run_in, lane_of, AreLanes}
 use Rattle.std.specs.List.{flat_map}
 use Rattle.cml_channel.specs.Lanes.{PlainLane}
 
@@ -57,7 +57,7 @@ lit_offers flags entries = filter (λ o. lit_by (told flags) o.base) (offers_of 
 -- what is kept beside a group: its base events, and its leaves by their lanes
 pub record IsPost (group : PlainGroup) (kept : List PlainBase) (runs : PlainRuns) : Type 0 where
   pub same : kept ≡ bases group
-  pub laid : (k : Slot) → run_in runs k ≡ leaves_at k 0 (map slot_of (bases group))
+  pub laid : (k : Slot) → run_in runs k ≡ slot_leaves k 0 (map slot_of (bases group))
   pub few : length runs.entries ≤ length (bases group)
   pub small : length (bases group) < 2 ^ 32
 
@@ -75,7 +75,7 @@ slot_of_nack k = Waiters (Nack (record { 0 = k }))
 
 -- The threads ascend; each lane has the offers that stand in it; the objects are there on which two offers may meet; all leaves, and those that can be taken alone, are counted; and each
 -- nack that can fire with a pending group has its place among the lights.
-pub record IsIndexed {S T : Type 0} (entries : List PlainEntry) (lanes : IndexMap Slot PlainLane S) (live : IndexSet PairedId T) (flags : List (Slot × Bool)) (leaves lit : ℕ) : Type 0 where
+pub record AreIndexed {S T : Type 0} (entries : List PlainEntry) (lanes : IndexMap Slot PlainLane S) (live : IndexSet PairedId T) (flags : List (Slot × Bool)) (leaves lit : ℕ) : Type 0 where
   pub sorted : IsSorted entries
   pub placed : AreLanes slot_of lanes (offers_of entries)
   pub sides : AreLive lanes live
@@ -95,7 +95,7 @@ abbrev pub came_leaves : Option (Tid × Bor PlainGroup) → ℕ
 came_leaves None = 0
 came_leaves (Some c) = length (bases c.1.now)
 
--- The codes of the above: trees of numbers from which they can be read back. The toolchain asks for them; no rule speaks of them.
+-- The codes of the above: trees of numbers from which they can be read back. The toolchain asks for them; no rule uses them.
 abbrev pub kind_gv : Pairing → ℕ
 kind_gv Channel = 0
 kind_gv Swap = 1

@@ -50,6 +50,6 @@ abbrev pub IsEntryOf : Tid → List PlainEntry → Option (Bor PlainEntry) → T
 IsEntryOf t entries None = own_entries t entries ≡ []
 IsEntryOf t entries (Some e) = (e.now.thread ≡ t.0) × (own_entries t entries ≡ e.now ∷ [])
 
--- The code of the above, a tree of numbers from which it can be read back. The toolchain asks for it; no rule speaks of it.
+-- The code of the above, a tree of numbers from which it can be read back. The toolchain asks for it; no rule uses it.
 abbrev pub entries_code : Coded PlainEntries
 entries_code = code_by (List PlainEntry × ℕ) (coded× (coded_list entry_code) coded_ℕ) (λ x. (x.items, x.room)) (λ p. record { items = p.0; room = p.1 }) (λ _. refl)

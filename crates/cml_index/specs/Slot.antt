@@ -13,7 +13,7 @@ use Rattle.cml_index.specs.declared.slot.Slot.{Slot}
 use Rattle.cml_index.specs.declared.slot.Slot.TheVariants.{Side, Waiters}
 use Rattle.cml_index.specs.contracts.slot.SlotPartialEq.TheImpl as derived
 
--- the two lanes are one: they are the same side of the same object, or wait for the same light
+-- the two lanes are the same: they are the same side of the same object, or wait for the same light
 abbrev pub same_slot : Slot → Slot → Bool
 same_slot = derived.ghosts.eq
 

@@ -19,7 +19,7 @@ same_bool _ _ e = cc
 same_number : (a b : ℕ) → nat_eq a b ≡ true → a ≡ b
 same_number a b e = grind (arith, nat_tests)
 
--- A hasher is told the same of two lanes that are one.
+-- A hasher is told the same of two lanes that are the same.
 pub told_alike : (a b : Slot) → same_slot a b ≡ true → slot_writes a ≡ slot_writes b
 told_alike (Side h n) (Side g m) e =
     let sides = and_parts (beq h g) (same_object n m) e in

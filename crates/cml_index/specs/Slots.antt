@@ -21,17 +21,17 @@ is_slot k None = false
 is_slot k (Some j) = same_slot k j
 
 -- the leaves, numbered from this one on, that stand in this slot
-abbrev pub leaves_at : Slot → ℕ → List (Option Slot) → List ℕ
-leaves_at k leaf [] = []
-leaves_at k leaf (s ∷ ss) = if is_slot k s then leaf ∷ leaves_at k (leaf + 1) ss else leaves_at k (leaf + 1) ss
+abbrev pub slot_leaves : Slot → ℕ → List (Option Slot) → List ℕ
+slot_leaves k leaf [] = []
+slot_leaves k leaf (s ∷ ss) = if is_slot k s then leaf ∷ slot_leaves k (leaf + 1) ss else slot_leaves k (leaf + 1) ss
 
 -- the run of this slot, in a map of runs
 abbrev pub run_in_map : {S : Type 0} → IndexMap Slot (Vec ℕ Global) S → Slot → List ℕ
 run_in_map runs k = option_map_or (λ v. v.items) (get same_slot runs k) []
 
 -- the run of this slot, in a list of runs
-abbrev pub run_of : List (Slot × SmallVec ℕ) → Slot → List ℕ
-run_of runs k = option_map_or (λ v. v.items) (lookup (same_slot k) runs) []
+abbrev pub slot_run : List (Slot × SmallVec ℕ) → Slot → List ℕ
+slot_run runs k = option_map_or (λ v. v.items) (lookup (same_slot k) runs) []
 
 -- the leaves of a group by their lanes: each lane once, with its leaves
 pub record PlainRuns : Type 0 where
@@ -56,7 +56,7 @@ lane_at lanes k = option_map_or (λ l. l.places) (get same_slot lanes k) []
 abbrev pub room_at : {S : Type 0} → IndexMap Slot PlainLane S → Slot → ℕ
 room_at lanes k = option_map_or (λ l. l.room) (get same_slot lanes k) 0
 
--- the offers of these that stand in this slot
+-- those of these offers that stand in this slot
 abbrev pub lane_of : (PlainBase → Option Slot) → Slot → List PlainOffer → List Place
 lane_of slot k offers = map place (filter (λ o. is_slot k (slot o.base)) offers)
 

@@ -8,8 +8,9 @@ ghost use Rattle.cml_scan.specs.Table.{without, with_entry, IsThere, has_light, 
 ghost use Rattle.cml_index.specs.declared.slot.Slot.{Slot};
 ghost use Rattle.indexmap.specs.IndexSet.{spare};
 ghost use Rattle.cml_index.specs.Posts as spec;
+ghost use Rattle.cml_index.specs.Cores.{IsIndexed, AreThere, IsSame, HasFreed, HasRoom};
 ghost use Rattle.cml_index.specs.declared.slot.Slot.TheVariants.{Waiters};
-ghost use Rattle.cml_index.specs.Slots.{lane_at, room_at, leaves_at};
+ghost use Rattle.cml_index.specs.Slots.{lane_at, room_at, slot_leaves};
 
 use crate::entry::Entry;
 use crate::flags::forget_light;
@@ -25,14 +26,12 @@ use std::alloc::{AllocError, Global};
 impl Core {
     // Tells the same of these lights. It takes no memory.
     fn tell_all(&mut self, lights: &[Light], lit: bool, tally: &mut Tally)
-        requires indexed { spec.IsIndexed self.old.entries.items self.old.lanes.by_slot self.old.live
-            self.old.flags.entries self.old.leaves self.old.lit }
+        requires indexed { IsIndexed self.old }
         requires there { lit ≡ true →
             Every (λ l. spec.is_named self.old.flags.entries (Waiters l)) lights.now }
         ensures told { (m : Light) → spec.told self.new.flags.entries m
             ≡ (if has_light lights.now m then lit else spec.told self.old.flags.entries m) }
-        ensures indexed { spec.IsIndexed self.new.entries.items self.new.lanes.by_slot self.new.live
-            self.new.flags.entries self.new.leaves self.new.lit }
+        ensures indexed { IsIndexed self.new }
         ensures entries { self.new.entries ≡ self.old.entries }
         ensures lanes { self.new.lanes.by_slot ≡ self.old.lanes.by_slot }
         ensures leaves { self.new.leaves ≡ self.old.leaves }
@@ -48,44 +47,34 @@ impl Core {
 
     // Tells of the lights, which have their places where they are told to be lit, and then the threads go. It takes no memory.
     fn tell_and_leave(&mut self, gone: &[Tid], lit: &[Light], unlit: &[Light], tally: &mut Tally)
-        requires indexed { spec.IsIndexed self.old.entries.items self.old.lanes.by_slot self.old.live
-            self.old.flags.entries self.old.leaves self.old.lit }
-        requires there { All (IsThere self.old.entries.items) gone.now }
-        requires once { AllPairs (λ a b. a.0 ≢ b.0) gone.now }
+        requires indexed { IsIndexed self.old }
+        requires there { AreThere self.old.entries.items gone.now }
         requires named { Every (λ l. spec.is_named self.old.flags.entries (Waiters l)) lit.now }
-        ensures indexed { spec.IsIndexed self.new.entries.items self.new.lanes.by_slot self.new.live
-            self.new.flags.entries self.new.leaves self.new.lit }
+        ensures indexed { IsIndexed self.new }
         ensures entries { self.new.entries.items ≡ without gone.now self.old.entries.items }
         ensures told { (l : Light) → spec.told self.new.flags.entries l
             ≡ lit_after lit.now unlit.now l (spec.told self.old.flags.entries l) }
         ensures kept { (k : Slot) → spec.is_named self.old.flags.entries k ≡ true →
             spec.is_named self.new.flags.entries k ≡ true }
-        ensures room { (k : Slot) →
-            room_at self.old.lanes.by_slot k ≤ room_at self.new.lanes.by_slot k }
         ensures cost { (digits : ℕ) →
             ((k : Slot) → length (lane_at self.old.lanes.by_slot k) < 2 ^ digits) →
             tally.new + self.new.leaves * (digits + 2) ≤ tally.old
             + self.old.leaves * (digits + 2) + (length lit.now + length unlit.now) }
-        ensures shorter { (k : Slot) →
-            length (lane_at self.new.lanes.by_slot k) ≤ length (lane_at self.old.lanes.by_slot k) }
-        ensures leaves { self.new.leaves ≤ self.old.leaves }
-        ensures seat { self.old.entries.room ≤ self.new.entries.room }
-        ensures seats { spare self.old.live ≤ spare self.new.live }
+        ensures freed { HasFreed self.old self.new }
     {
         self.tell_all(unlit, false, tally);
         self.tell_all(lit, true, tally);
         self.leave_all(gone, tally);
     }
 
-    // Forgets a light that was told to be unlit, if it is a tick, of which there is no end: it has no place any more, and its lane goes, if nobody stands in it.
+    // Forgets a light that was told to be unlit, if it is a tick, of which there is no end: it loses its place, and its lane is removed if
+    // nobody stands in it.
     fn forget(&mut self, light: Light)
-        requires indexed { spec.IsIndexed self.old.entries.items self.old.lanes.by_slot self.old.live
-            self.old.flags.entries self.old.leaves self.old.lit }
+        requires indexed { IsIndexed self.old }
         requires out { spec.told self.old.flags.entries light ≡ false }
         ensures told { (m : Light) →
             spec.told self.new.flags.entries m ≡ spec.told self.old.flags.entries m }
-        ensures indexed { spec.IsIndexed self.new.entries.items self.new.lanes.by_slot self.new.live
-            self.new.flags.entries self.new.leaves self.new.lit }
+        ensures indexed { IsIndexed self.new }
         ensures entries { self.new.entries ≡ self.old.entries }
         ensures leaves { self.new.leaves ≡ self.old.leaves }
     {
@@ -97,13 +86,11 @@ impl Core {
 
     // Forgets the ticks among these lights, which were told to be unlit.
     fn forget_all(&mut self, lights: &[Light])
-        requires indexed { spec.IsIndexed self.old.entries.items self.old.lanes.by_slot self.old.live
-            self.old.flags.entries self.old.leaves self.old.lit }
+        requires indexed { IsIndexed self.old }
         requires out { Every (λ l. not (spec.told self.old.flags.entries l)) lights.now }
         ensures told { (m : Light) →
             spec.told self.new.flags.entries m ≡ spec.told self.old.flags.entries m }
-        ensures indexed { spec.IsIndexed self.new.entries.items self.new.lanes.by_slot self.new.live
-            self.new.flags.entries self.new.leaves self.new.lit }
+        ensures indexed { IsIndexed self.new }
         ensures entries { self.new.entries ≡ self.old.entries }
         ensures leaves { self.new.leaves ≡ self.old.leaves }
     {
@@ -120,13 +107,10 @@ impl Core {
         unlit: &[Light],
         tally: &mut Tally,
     ) -> Result<(), AllocError>
-        requires indexed { spec.IsIndexed self.old.entries.items self.old.lanes.by_slot self.old.live
-            self.old.flags.entries self.old.leaves self.old.lit }
-        requires there { All (IsThere self.old.entries.items) gone.now }
-        requires once { AllPairs (λ a b. a.0 ≢ b.0) gone.now }
+        requires indexed { IsIndexed self.old }
+        requires there { AreThere self.old.entries.items gone.now }
         requires apart { AreApart lit.now unlit.now }
-        ensures indexed { spec.IsIndexed self.new.entries.items self.new.lanes.by_slot self.new.live
-            self.new.flags.entries self.new.leaves self.new.lit }
+        ensures indexed { IsIndexed self.new }
         ensures ok { OnOk result
             (self.new.entries.items ≡ without gone.now self.old.entries.items) }
         ensures ok_lit { OnOk result ((l : Light) → spec.told self.new.flags.entries l
@@ -159,14 +143,11 @@ impl Core {
         unlit: &[Light],
         tally: &mut Tally,
     ) -> Result<(), AllocError>
-        requires indexed { spec.IsIndexed self.old.entries.items self.old.lanes.by_slot self.old.live
-            self.old.flags.entries self.old.leaves self.old.lit }
-        requires there { All (IsThere self.old.entries.items) gone.now }
-        requires once { AllPairs (λ a b. a.0 ≢ b.0) gone.now }
+        requires indexed { IsIndexed self.old }
+        requires there { AreThere self.old.entries.items gone.now }
         requires apart { AreApart lit.now unlit.now }
         requires new { All (λ e. e.thread ≢ tid.0) self.old.entries.items }
-        ensures indexed { spec.IsIndexed self.new.entries.items self.new.lanes.by_slot self.new.live
-            self.new.flags.entries self.new.leaves self.new.lit }
+        ensures indexed { IsIndexed self.new }
         ensures ok { OnOk result (self.new.entries.items
             ≡ with_entry (record { thread = tid.0; group = group.now })
             (without gone.now self.old.entries.items)) }
@@ -200,26 +181,10 @@ impl Core {
         entry: &Entry,
         lit: &[Light],
     ) -> Result<Places, AllocError>
-        requires indexed { spec.IsIndexed self.old.entries.items self.old.lanes.by_slot self.old.live
-            self.old.flags.entries self.old.leaves self.old.lit }
-        ensures indexed { spec.IsIndexed self.new.entries.items self.new.lanes.by_slot self.new.live
-            self.new.flags.entries self.new.leaves self.new.lit }
-        ensures entries { self.new.entries.items ≡ self.old.entries.items }
-        ensures leaves { self.new.leaves ≡ self.old.leaves }
-        ensures lanes { (k : Slot) →
-            lane_at self.new.lanes.by_slot k ≡ lane_at self.old.lanes.by_slot k }
-        ensures told { (m : Light) →
-            spec.told self.new.flags.entries m ≡ spec.told self.old.flags.entries m }
-        ensures seat { OnOk result (0 < self.new.entries.room) }
-        ensures seats { OnOk result (length (bases entry.now.group) ≤ spare self.new.live) }
-        ensures small { OnOk result
-            (self.new.leaves + length (bases entry.now.group) ≤ usize.MAX) }
-        ensures room { OnOk result ((k : Slot) →
-            length (leaves_at k 0 (map spec.slot_of (bases entry.now.group)))
-            ≤ room_at self.new.lanes.by_slot k) }
-        ensures named { OnOk result (Every
-            (λ k. spec.is_named self.new.flags.entries (spec.slot_of_nack k))
-            (nacks_of (scopes entry.now.group))) }
+        requires indexed { IsIndexed self.old }
+        ensures indexed { IsIndexed self.new }
+        ensures same { IsSame self.old self.new }
+        ensures room { OnOk result (HasRoom self.new entry.now.group) }
         ensures lights { OnOk result
             (Every (λ l. spec.is_named self.new.flags.entries (Waiters l)) lit.now) }
     {

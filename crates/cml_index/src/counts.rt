@@ -13,6 +13,7 @@ ghost use Rattle.cml_index.specs.declared.slot.Slot.TheVariants.{Side};
 ghost use Rattle.cml_index.specs.Slots.{lane_at};
 ghost use Rattle.cml_index.specs.Heads.{is_sought, is_beside, met_among, heads_on};
 ghost use Rattle.cml_index.specs.Posts as spec;
+ghost use Rattle.cml_index.specs.Cores.{IsIndexed};
 
 use crate::live::Live;
 use crate::slot::Slot;
@@ -20,7 +21,7 @@ use crate::state::Core;
 use cml_channel::{Lane, PairedId, Tally, Whom};
 use cml_value::Tid;
 
-// The thread of which all offers in the lane are, if they are of one alone: two looks.
+// The thread of all offers in the lane, if they are of one thread alone: two looks.
 pub(crate) fn only_thread(lane: &Lane, tally: &mut Tally) -> Option<Tid>
     requires sorted { Ascends before lane.now.places }
     requires some { 0 < length lane.now.places }
@@ -83,8 +84,7 @@ fn count_below(lane: &Lane, tally: &mut Tally) -> usize
 
 // How many leaves on the object have a partner that they head.
 fn count_on(core: &Core, object: PairedId, tally: &mut Tally) -> usize
-    requires { spec.IsIndexed core.now.entries.items core.now.lanes.by_slot core.now.live
-        core.now.flags.entries core.now.leaves core.now.lit }
+    requires { IsIndexed core.now }
     ensures count { result ≡ length (heads_on (offers_of core.now.entries.items) object) }
     ensures cost { tally.new ≤ tally.old
         + 3 * (length (lane_at core.now.lanes.by_slot (Side true object))
@@ -124,8 +124,7 @@ pub(crate) fn object_at(live: &Live, i: usize) -> PairedId
 
 // How many leaves have a partner.
 pub(crate) fn count_met(core: &Core, tally: &mut Tally) -> usize
-    requires { spec.IsIndexed core.now.entries.items core.now.lanes.by_slot core.now.live
-        core.now.flags.entries core.now.leaves core.now.lit }
+    requires { IsIndexed core.now }
     ensures count { result
         ≡ length (filter (is_sought Met core.now.flags.entries (offers_of core.now.entries.items))
         (offers_of core.now.entries.items)) }

@@ -14,7 +14,7 @@ use cml_value::Tid;
 use std::alloc::{AllocError, Global};
 use std::marker::Model;
 
-// How many seats without an entry there may be beside as many as there are entries.
+// How many seats without an entry there may be, beyond the number of entries.
 const SPARE: usize = 64;
 
 // The seat of a thread that is pending, or was: one that comes back moves no other.
@@ -115,7 +115,7 @@ impl Entries {
         self.seats.reserve(1)
     }
 
-    // The thread comes. It takes no memory.
+    // Adds the thread. It takes no memory.
     pub(crate) fn put(&mut self, entry: Entry)
         requires new { All (λ e. e.thread ≢ entry.thread) self.old.items }
         requires room { 0 < self.old.room }
@@ -132,7 +132,7 @@ impl Entries {
         }
     }
 
-    // The thread goes.
+    // Takes the thread out.
     pub(crate) fn take(&mut self, tid: Tid) -> Entry
         requires { IsThere self.old.items tid }
         ensures items { self.new.items ≡ without (tid ∷ []) self.old.items }
@@ -149,7 +149,7 @@ impl Entries {
         entry
     }
 
-    // Where there are many seats without an entry, they go.
+    // Removes the seats without an entry, where there are many.
     fn tidy(&mut self)
         ensures items { self.new.items ≡ self.old.items }
         ensures room { self.old.room ≤ self.new.room }
@@ -189,7 +189,7 @@ fn vacate(seats: &mut Vec<Seat>, at: usize) -> Option<Entry>
     seats[at].entry.take()
 }
 
-// The seats without an entry go.
+// Removes the seats without an entry.
 fn remove_empty(seats: &mut Vec<Seat>)
     ensures seats { seats.new.items ≡ filter (λ s. is_some s.entry) seats.old.items }
     ensures len { vec_len seats.new ≤ vec_len seats.old }

@@ -4,7 +4,7 @@ ghost use Rattle.std.specs.Prelude.{◌≡◌, ◌≤◌, ◌<◌, ◌^◌, leng
 ghost use Rattle.cml_value.specs.Group.{bases};
 ghost use Rattle.cml_index.specs.declared.slot.Slot.{Slot};
 ghost use Rattle.cml_index.specs.Posts as spec;
-ghost use Rattle.cml_index.specs.Slots.{run_in, leaves_at};
+ghost use Rattle.cml_index.specs.Slots.{run_in, slot_leaves};
 
 use crate::runs::{Places, Runs, make_runs};
 use crate::slot::Slot;
@@ -23,7 +23,7 @@ struct Post {
     places: Places,
 }
 
-// A pending thread, with its group. It is 8 bytes long, since all entries behind it are moved when one comes or goes.
+// A pending thread, with its group. It is 8 bytes long, since all entries after it are moved when one comes or goes.
 #[derive(Drop)]
 pub(crate) struct Entry {
     post: Box<Post>,
@@ -43,7 +43,7 @@ impl Model for Entry {
     ghost invariant = { λ e. IsPost e.post.value.group e.post.value.bases.items e.post.value.runs };
 }
 
-// How many leaves there are, as the number of a leaf. There is no memory for a list in which it is too large.
+// How many leaves there are, as the number of a leaf. There is no memory for a list in which the number is too large for one.
 fn number(count: usize) -> Result<u32, AllocError>
     ensures { IfOk result (λ n. (n ≡ count) × (count < 2 ^ 32)) }
 {
@@ -102,7 +102,7 @@ impl Entry {
         &self.post.bases
     }
 
-    // The same, by which it is kept where its lanes stand.
+    // The same entry, with the places where its lanes stand.
     pub(crate) fn with_places(self, places: Places) -> Entry
         ensures { result ≡ self }
     {
@@ -119,7 +119,7 @@ impl Entry {
     // The leaves by their lanes.
     pub(crate) fn runs(&self) -> &Runs
         ensures runs { (k : Slot) → run_in result.now k
-            ≡ leaves_at k 0 (map spec.slot_of (bases self.now.group)) }
+            ≡ slot_leaves k 0 (map spec.slot_of (bases self.now.group)) }
         ensures few { length result.now.entries ≤ length (bases self.now.group) }
     {
         let _bases = &self.post.bases;

@@ -61,7 +61,7 @@ pub(crate) fn count_lit(flags: &Flags, bases: &[Base], tally: &mut Tally) -> usi
     count
 }
 
-// Reserves the place of a light of which nothing was told. What was told of any stays.
+// Reserves the place of a light of which nothing was told. What was told of any light stays.
 pub(crate) fn reserve(flags: &mut Flags, light: Light) -> Result<(), AllocError>
     ensures told { (m : Light) →
         spec.told flags.new.entries m ≡ spec.told flags.old.entries m }
@@ -78,7 +78,7 @@ pub(crate) fn reserve(flags: &mut Flags, light: Light) -> Result<(), AllocError>
     Ok(())
 }
 
-// Tells of the light, and answers whether that was new. A light that is told to be lit has its place.
+// Tells of the light, and returns whether that was new. A light that is told to be lit has its place.
 pub(crate) fn flip(flags: &mut Flags, light: Light, lit: bool) -> bool
     requires { lit ≡ true → spec.is_named flags.old.entries (Waiters light) ≡ true }
     ensures told { (m : Light) → spec.told flags.new.entries m

@@ -8,8 +8,9 @@ ghost use Rattle.cml_scan.specs.Scan.{PlainOffer, scan_of, heads_of, offers_of, 
 ghost use Rattle.cml_channel.specs.Lanes.{is_of};
 ghost use Rattle.cml_index.specs.declared.heads.HeadKind.TheVariants.{Met};
 ghost use Rattle.cml_index.specs.Slots.{lane_of};
-ghost use Rattle.cml_index.specs.Heads.{is_sought, IsAnswer, EndsThere};
+ghost use Rattle.cml_index.specs.Heads.{is_sought, IsSought, EndsThere};
 ghost use Rattle.cml_index.specs.Posts as spec;
+ghost use Rattle.cml_index.specs.Cores.{IsIndexed};
 
 use crate::counts::{count_met, object_at};
 use crate::entry::Entry;
@@ -30,19 +31,18 @@ pub(crate) enum HeadKind {
     Met,
 }
 
-// What came of a search among some leaves.
+// The result of a search among some leaves.
 #[derive(Clone, Copy)]
 enum Sought {
     // The leaf at this place.
     Found(Place),
-    // This many more are to be passed by.
+    // This many more are to be passed over.
     Left(usize),
 }
 
 // Whether there is an offer in the lane of those that are meant.
 fn has_other(core: &Core, slot: Slot, whom: Whom, tally: &mut Tally) -> bool
-    requires { spec.IsIndexed core.now.entries.items core.now.lanes.by_slot core.now.live
-        core.now.flags.entries core.now.leaves core.now.lit }
+    requires { IsIndexed core.now }
     ensures value { result ≡ list_any (is_of whom)
         (lane_of spec.slot_of slot (offers_of core.now.entries.items)) }
     ensures cost { tally.new ≤ tally.old + 2 }
@@ -55,8 +55,7 @@ fn has_other(core: &Core, slot: Slot, whom: Whom, tally: &mut Tally) -> bool
 
 // Whether a leaf of the thread that waits for this has a partner.
 fn is_met(core: &Core, tid: Tid, base: &Base, tally: &mut Tally) -> bool
-    requires { spec.IsIndexed core.now.entries.items core.now.lanes.by_slot core.now.live
-        core.now.flags.entries core.now.leaves core.now.lit }
+    requires { IsIndexed core.now }
     ensures value { (leaf : ℕ) → result ≡ has_partner (offers_of core.now.entries.items)
         (record { thread = tid.0; leaf = leaf; base = base.now }) }
     ensures cost { tally.new ≤ tally.old + 2 }
@@ -69,8 +68,7 @@ fn is_met(core: &Core, tid: Tid, base: &Base, tally: &mut Tally) -> bool
 
 // Whether a leaf of the thread that waits for this is one of those that are sought: it is looked at, and its light or two offers.
 fn is_head(core: &Core, kind: HeadKind, tid: Tid, base: &Base, tally: &mut Tally) -> bool
-    requires { spec.IsIndexed core.now.entries.items core.now.lanes.by_slot core.now.live
-        core.now.flags.entries core.now.leaves core.now.lit }
+    requires { IsIndexed core.now }
     ensures value { (leaf : ℕ) → result
         ≡ is_sought kind core.now.flags.entries (offers_of core.now.entries.items)
         (record { thread = tid.0; leaf = leaf; base = base.now }) }
@@ -83,11 +81,10 @@ fn is_head(core: &Core, kind: HeadKind, tid: Tid, base: &Base, tally: &mut Tally
     }
 }
 
-// Passes by so many of the leaves of the thread that are sought.
+// Passes over this many of the leaves of the thread that are sought.
 fn seek_in(core: &Core, kind: HeadKind, entry: &Entry, k: usize, tally: &mut Tally) -> Sought
-    requires { spec.IsIndexed core.now.entries.items core.now.lanes.by_slot core.now.live
-        core.now.flags.entries core.now.leaves core.now.lit }
-    ensures value { IsAnswer result k
+    requires { IsIndexed core.now }
+    ensures value { IsSought result k
         (filter (is_sought kind core.now.flags.entries (offers_of core.now.entries.items))
         (leaves_from entry.now.thread 0 (bases entry.now.group))) }
     ensures cost { tally.new ≤ tally.old + 3 * length (bases entry.now.group) }
@@ -107,8 +104,7 @@ fn seek_in(core: &Core, kind: HeadKind, entry: &Entry, k: usize, tally: &mut Tal
 
 // The leaf at this place among those that are sought.
 fn seek(core: &Core, kind: HeadKind, k: usize, tally: &mut Tally) -> Place
-    requires indexed { spec.IsIndexed core.now.entries.items core.now.lanes.by_slot core.now.live
-        core.now.flags.entries core.now.leaves core.now.lit }
+    requires indexed { IsIndexed core.now }
     requires within { k < length (filter
         (is_sought kind core.now.flags.entries (offers_of core.now.entries.items))
         (offers_of core.now.entries.items)) }
@@ -134,8 +130,7 @@ fn seek(core: &Core, kind: HeadKind, k: usize, tally: &mut Tally) -> Place
 
 // The leaf at this place among those that have a partner. Where all stand on one object, it is found in its lane.
 fn head_met(core: &Core, k: usize, tally: &mut Tally) -> Place
-    requires indexed { spec.IsIndexed core.now.entries.items core.now.lanes.by_slot core.now.live
-        core.now.flags.entries core.now.leaves core.now.lit }
+    requires indexed { IsIndexed core.now }
     requires within { k < length (filter
         (is_sought Met core.now.flags.entries (offers_of core.now.entries.items))
         (offers_of core.now.entries.items)) }
@@ -155,8 +150,7 @@ fn head_met(core: &Core, k: usize, tally: &mut Tally) -> Place
 
 // How many heads there are.
 pub(crate) fn head_count(core: &Core, tally: &mut Tally) -> usize
-    requires { spec.IsIndexed core.now.entries.items core.now.lanes.by_slot core.now.live
-        core.now.flags.entries core.now.leaves core.now.lit }
+    requires { IsIndexed core.now }
     ensures count { result ≡ length (heads_of
         (scan_of core.now.entries.items (spec.told core.now.flags.entries))) }
     ensures cost { tally.new ≤ tally.old + 3 * length (offers_of core.now.entries.items) }
@@ -167,8 +161,7 @@ pub(crate) fn head_count(core: &Core, tally: &mut Tally) -> usize
 
 // The head at this place in their order.
 pub(crate) fn head(core: &Core, k: usize, tally: &mut Tally) -> Place
-    requires indexed { spec.IsIndexed core.now.entries.items core.now.lanes.by_slot core.now.live
-        core.now.flags.entries core.now.leaves core.now.lit }
+    requires indexed { IsIndexed core.now }
     requires within { k < length (heads_of
         (scan_of core.now.entries.items (spec.told core.now.flags.entries))) }
     ensures value { slice_get (heads_of

@@ -3,7 +3,7 @@
 ghost use Rattle.std.specs.Prelude.{◌≡◌, ◌≢◌, ◌≤◌, ◌<◌, ◌+◌, ◌*◌, ◌^◌, [], ℕ, Bool, true, false, length, filter, All, AllPairs, Some, slice_get, OnOk, OnErr, IfOk, IsOk, IsNone};
 ghost use Rattle.cml_scan.specs.declared.object.Light.{Light};
 ghost use Rattle.cml_scan.specs.Light.{lit_by};
-ghost use Rattle.cml_scan.specs.Order.{before, place, lit_at, meet_at, base_at};
+ghost use Rattle.cml_scan.specs.Order.{before, place, is_lit_there, meet_at, base_at};
 ghost use Rattle.cml_scan.specs.Scan.{scan_of, has_row, offers_of, heads_of, partners_of};
 ghost use Rattle.cml_scan.specs.Table.{changed, lit_after, IsThere, IsNew, AreApart, IsNackOf, nacks_among};
 ghost use Rattle.cml_index.specs.Posts as spec;
@@ -28,7 +28,8 @@ pub struct OfferIndex {
 }
 
 impl Model for OfferIndex {
-    ghost use Rattle.cml_index.specs.Posts.{PlainIndex, IsIndexed, index_code};
+    ghost use Rattle.cml_index.specs.Posts.{PlainIndex, index_code};
+    ghost use Rattle.cml_index.specs.Cores.{IsIndexed};
 
     ghost Value = { PlainIndex };
 
@@ -36,8 +37,7 @@ impl Model for OfferIndex {
 
     ghost view = { λ x. record { entries = x.core.entries.items; flags = x.core.flags.entries } };
 
-    ghost invariant = { λ x. IsIndexed x.core.entries.items x.core.lanes.by_slot x.core.live
-        x.core.flags.entries x.core.leaves x.core.lit };
+    ghost invariant = { λ x. IsIndexed x.core };
 }
 
 impl OfferIndex {
@@ -57,11 +57,11 @@ impl OfferIndex {
         }
     }
 
-    /// A change, and a count of what was looked at: at most the digits and two for each leaf of the threads that go and of the one
-    /// that comes, and one for each light, where each lane before the change is shorter than two to the power of the digits.
+    /// Makes a change, and counts what it looks at: at most `digits + 2` for each leaf of the threads that go and of the one that
+    /// comes, and one for each light, where each lane before the change is shorter than two to the power of `digits`.
     ///
     /// # Errors
-    /// Want of memory: nothing was told.
+    /// Out of memory: nothing was told.
     pub fn change_tallied(
         &mut self,
         alloc: Global,
@@ -100,7 +100,7 @@ impl OfferIndex {
 
     // Whether the leaf at the place can be taken alone: it is looked at, and its light.
     fn is_lit_at(&self, place: Place, tally: &mut Tally) -> bool
-        ensures value { result ≡ lit_at (lit_by (spec.told self.now.flags))
+        ensures value { result ≡ is_lit_there (lit_by (spec.told self.now.flags))
             (base_at place (offers_of self.now.entries)) }
         ensures cost { tally.new ≤ tally.old + 2 }
     {
@@ -125,7 +125,7 @@ impl OfferIndex {
         }
     }
 
-    /// Whether the row is there, and a count of what was looked at: two leaves, or a leaf and its light.
+    /// Whether the row is there. It counts what it looks at: two leaves, or a leaf and its light.
     pub fn has_tallied(&self, row: &Meet, tally: &mut Tally) -> bool
         ensures value { result
             ≡ has_row (scan_of self.now.entries (spec.told self.now.flags)) row.now }
@@ -153,7 +153,7 @@ impl OfferIndex {
         }
     }
 
-    /// How many heads there are, and a count of what was looked at: three for each leaf.
+    /// How many heads there are. It counts what it looks at: at most three for each leaf.
     pub fn head_count_tallied(&self, tally: &mut Tally) -> usize
         ensures count { result
             ≡ length (heads_of (scan_of self.now.entries (spec.told self.now.flags))) }
@@ -162,8 +162,8 @@ impl OfferIndex {
         heads::head_count(&self.core, tally)
     }
 
-    /// The head at this place in their order, and a count of what was looked at: three for each leaf, and none for a leaf that stands
-    /// behind the head.
+    /// The head at this place in their order. It counts what it looks at: at most three for each leaf, and none for a leaf that stands
+    /// after the head.
     pub fn head_tallied(&self, k: usize, tally: &mut Tally) -> Place
         requires { k < length (heads_of (scan_of self.now.entries (spec.told self.now.flags))) }
         ensures value { slice_get
@@ -176,7 +176,8 @@ impl OfferIndex {
         heads::head(&self.core, k, tally)
     }
 
-    /// How many rows begin with the head, and a count of what was looked at: twice the digits of the longest lane, and two.
+    /// How many rows begin with the head. It counts what it looks at: at most two more than twice the binary digits of the length of
+    /// the longest lane.
     pub fn partner_count_tallied(&self, head: Place, tally: &mut Tally) -> usize
         ensures count { result ≡ length
             (partners_of (scan_of self.now.entries (spec.told self.now.flags)) head) }
@@ -186,8 +187,8 @@ impl OfferIndex {
         partners::partner_count(&self.core, head, tally)
     }
 
-    /// The row at this place among those that begin with the head, and a count of what was looked at: twice the digits of the
-    /// longest lane, and two.
+    /// The row at this place among those that begin with the head. It counts what it looks at: at most two more than twice the binary
+    /// digits of the length of the longest lane.
     pub fn partner_tallied(&self, head: Place, j: usize, tally: &mut Tally) -> Meet
         requires { j < length
             (partners_of (scan_of self.now.entries (spec.told self.now.flags)) head) }

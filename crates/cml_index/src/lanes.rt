@@ -53,7 +53,7 @@ impl Lanes {
         }
     }
 
-    // Makes the lane, if it is not there yet, and room in it, and answers its place among the lanes.
+    // Makes the lane, if it is not there yet, and room in it, and returns its place among the lanes.
     fn reserve_at(
         &mut self,
         alloc: Global,
@@ -77,7 +77,7 @@ impl Lanes {
         Ok(place)
     }
 
-    // Makes room in each lane for its run, and answers where these lanes stand.
+    // Makes room in each lane for its run, and returns where these lanes stand.
     pub(crate) fn make_room(&mut self, alloc: Global, runs: &Runs) -> Result<Places, AllocError>
         ensures same { (k : Slot) →
             spec.lane_at self.new.by_slot k ≡ spec.lane_at self.old.by_slot k }
@@ -97,7 +97,7 @@ impl Lanes {
         Ok(places)
     }
 
-    // The lane goes, if nobody stands in it.
+    // Removes the lane, if nobody stands in it.
     pub(crate) fn forget(&mut self, slot: Slot)
         ensures { (k : Slot) →
             spec.lane_at self.new.by_slot k ≡ spec.lane_at self.old.by_slot k }
@@ -107,7 +107,7 @@ impl Lanes {
         }
     }
 
-    // A run of the thread comes to its lane, which may stand at this place.
+    // Adds a run of the thread to its lane, which may stand at this place.
     fn come_at(&mut self, slot: Slot, place: usize, tid: Tid, leaves: &[u32], tally: &mut Tally)
         requires room { length leaves.now ≤ spec.room_at self.old.by_slot slot }
         requires new { Every (is_others tid) (spec.lane_at self.old.by_slot slot) }
@@ -131,7 +131,7 @@ impl Lanes {
         }
     }
 
-    // The run of the thread goes from its lane, which may stand at this place, and where it has this many leaves.
+    // Removes the run of the thread, of this many leaves, from its lane, which may stand at this place.
     fn go_at(&mut self, slot: Slot, place: usize, tid: Tid, count: usize, tally: &mut Tally)
         requires { count ≡ length (filter (is_own tid) (spec.lane_at self.old.by_slot slot)) }
         ensures here { spec.lane_at self.new.by_slot slot
@@ -153,7 +153,7 @@ impl Lanes {
         }
     }
 
-    // All runs of the thread come, for which there is room.
+    // Adds all runs of the thread, for which there is room.
     pub(crate) fn come(&mut self, tid: Tid, runs: &Runs, places: &Places, tally: &mut Tally)
         requires room { (k : Slot) →
             length (spec.run_in runs.now k) ≤ spec.room_at self.old.by_slot k }
@@ -172,7 +172,7 @@ impl Lanes {
         }
     }
 
-    // All runs of the thread go, which are all its offers in these lanes.
+    // Removes all runs of the thread, which are all its offers in these lanes.
     pub(crate) fn go(&mut self, tid: Tid, runs: &Runs, places: &Places, tally: &mut Tally)
         requires { (k : Slot) → length (spec.run_in runs.now k)
             ≡ length (filter (is_own tid) (spec.lane_at self.old.by_slot k)) }

@@ -33,7 +33,7 @@ fn is_live(lanes: &Lanes, object: PairedId) -> bool
     0 < heads && 0 < lanes.len(others)
 }
 
-// Takes the object out where it is live no more.
+// Takes the object out where it is no longer live.
 fn cut(live: &mut Live, lanes: &Lanes, object: PairedId)
     ensures here { contains same_object live.new object
         ≡ (contains same_object live.old object && spec.is_live lanes.now.by_slot object) }
@@ -66,7 +66,7 @@ fn add(live: &mut Live, lanes: &Lanes, object: PairedId)
     }
 }
 
-// Takes the object of which the slot is a side out where it is live no more.
+// Takes the object of which the slot is a side out where it is no longer live.
 fn cut_at(live: &mut Live, lanes: &Lanes, slot: Slot)
     ensures here { (n : PairedId) → spec.is_side slot n ≡ true → contains same_object live.new n
         ≡ (contains same_object live.old n && spec.is_live lanes.now.by_slot n) }
@@ -95,7 +95,7 @@ fn add_at(live: &mut Live, lanes: &Lanes, slot: Slot)
     }
 }
 
-// Keeps the live objects where these runs have gone from their lanes. It takes no memory.
+// Brings the live objects up to date once these runs have gone from their lanes. It takes no memory.
 pub(crate) fn cut_all(live: &mut Live, lanes: &Lanes, runs: &Runs)
     requires was { (n : PairedId) → spec.has_side runs.now.entries n ≡ false →
         contains same_object live.old n ≡ spec.is_live lanes.now.by_slot n }
@@ -110,7 +110,7 @@ pub(crate) fn cut_all(live: &mut Live, lanes: &Lanes, runs: &Runs)
     }
 }
 
-// Keeps the live objects where these runs have come to their lanes, for each of which there is room. It takes no memory.
+// Brings the live objects up to date once these runs have come to their lanes, for each of which there is room. It takes no memory.
 pub(crate) fn add_all(live: &mut Live, lanes: &Lanes, runs: &Runs)
     requires room { length runs.now.entries ≤ spare live.old }
     requires was { (n : PairedId) → spec.has_side runs.now.entries n ≡ false →

@@ -13,7 +13,7 @@ use cml_scan::Light;
 use cml_value::{Group, GroupKind, NackId};
 use std::alloc::{AllocError, Global};
 
-// Puts the nacks of the group's scopes behind those that stand there. At want of memory, what was put there until then stays.
+// Appends the nacks of the group's scopes. Where memory runs out, those that were appended until then stay.
 #[tactic(auto, using(crate::proofs::Scopes::nack_steps))]
 fn push_nacks(all: &mut Vec<u32>, group: &Group) -> Result<(), AllocError>
     ensures { IfOk result (λ _. all.new.items ≡ all.old.items ++ nacks_of (scopes group.now)) }
@@ -50,7 +50,7 @@ fn reserve_all(flags: &mut Flags, nacks: &[u32]) -> Result<(), AllocError>
     Ok(())
 }
 
-// Reserves the places of the nacks of the group's scopes, so that they can be lit when it goes.
+// Reserves the places of the nacks of the group's scopes, so that they can be turned on when it goes.
 pub(crate) fn reserve_nacks(
     flags: &mut Flags,
     alloc: Global,
@@ -68,7 +68,7 @@ pub(crate) fn reserve_nacks(
     reserve_all(flags, &nacks)
 }
 
-// Reserves the places of these lights. What was told of any stays.
+// Reserves the places of these lights. What was told of any light stays.
 pub(crate) fn reserve_lights(flags: &mut Flags, lights: &[Light]) -> Result<(), AllocError>
     ensures told { (m : Light) →
         spec.told flags.new.entries m ≡ spec.told flags.old.entries m }

@@ -5,6 +5,7 @@ ghost use Rattle.cml_scan.specs.Scan.{scan_of, partners_of, offers_of};
 ghost use Rattle.cml_channel.specs.Lanes.{those};
 ghost use Rattle.cml_index.specs.Slots.{lane_of};
 ghost use Rattle.cml_index.specs.Posts as spec;
+ghost use Rattle.cml_index.specs.Cores.{IsIndexed};
 
 use crate::flags::is_lit_by;
 use crate::slot::{Slot, met_by};
@@ -15,8 +16,7 @@ use cml_value::Base;
 
 // How many offers in the lane are of those that are meant.
 fn others_count(core: &Core, slot: Slot, whom: Whom, tally: &mut Tally) -> usize
-    requires { spec.IsIndexed core.now.entries.items core.now.lanes.by_slot core.now.live
-        core.now.flags.entries core.now.leaves core.now.lit }
+    requires { IsIndexed core.now }
     ensures count { result ≡ length (those whom
         (lane_of spec.slot_of slot (offers_of core.now.entries.items))) }
     ensures cost { (digits : ℕ) → spec.HasDigits core.now.entries.items digits →
@@ -30,8 +30,7 @@ fn others_count(core: &Core, slot: Slot, whom: Whom, tally: &mut Tally) -> usize
 
 // The offer at this place among those in the lane that are meant.
 fn other_at(core: &Core, slot: Slot, whom: Whom, j: usize, tally: &mut Tally) -> Place
-    requires indexed { spec.IsIndexed core.now.entries.items core.now.lanes.by_slot core.now.live
-        core.now.flags.entries core.now.leaves core.now.lit }
+    requires indexed { IsIndexed core.now }
     requires within { j < length (those whom
         (lane_of spec.slot_of slot (offers_of core.now.entries.items))) }
     ensures value { slice_get (those whom (lane_of spec.slot_of slot
@@ -45,10 +44,9 @@ fn other_at(core: &Core, slot: Slot, whom: Whom, j: usize, tally: &mut Tally) ->
     }
 }
 
-// How many rows the leaf begins that waits for this.
+// How many rows the leaf, which waits for this, begins.
 fn count_at(core: &Core, head: Place, base: &Base, tally: &mut Tally) -> usize
-    requires { spec.IsIndexed core.now.entries.items core.now.lanes.by_slot core.now.live
-        core.now.flags.entries core.now.leaves core.now.lit }
+    requires { IsIndexed core.now }
     ensures count { result ≡ length (spec.rows_at (spec.told core.now.flags.entries)
         (offers_of core.now.entries.items) head base.now) }
     ensures cost { (digits : ℕ) → spec.HasDigits core.now.entries.items digits →
@@ -66,10 +64,9 @@ fn count_at(core: &Core, head: Place, base: &Base, tally: &mut Tally) -> usize
     }
 }
 
-// The row at this place among those that the leaf begins that waits for this.
+// The row at this place among those that the leaf, which waits for this, begins.
 fn row_at(core: &Core, head: Place, base: &Base, j: usize, tally: &mut Tally) -> Meet
-    requires indexed { spec.IsIndexed core.now.entries.items core.now.lanes.by_slot core.now.live
-        core.now.flags.entries core.now.leaves core.now.lit }
+    requires indexed { IsIndexed core.now }
     requires within { j < length (spec.rows_at (spec.told core.now.flags.entries)
         (offers_of core.now.entries.items) head base.now) }
     ensures value { slice_get (spec.rows_at (spec.told core.now.flags.entries)
@@ -96,8 +93,7 @@ fn row_at(core: &Core, head: Place, base: &Base, j: usize, tally: &mut Tally) ->
 
 // How many rows begin with the head.
 pub(crate) fn partner_count(core: &Core, head: Place, tally: &mut Tally) -> usize
-    requires { spec.IsIndexed core.now.entries.items core.now.lanes.by_slot core.now.live
-        core.now.flags.entries core.now.leaves core.now.lit }
+    requires { IsIndexed core.now }
     ensures count { result ≡ length (partners_of
         (scan_of core.now.entries.items (spec.told core.now.flags.entries)) head) }
     ensures cost { (digits : ℕ) → spec.HasDigits core.now.entries.items digits →
@@ -111,8 +107,7 @@ pub(crate) fn partner_count(core: &Core, head: Place, tally: &mut Tally) -> usiz
 
 // The row at this place among those that begin with the head.
 pub(crate) fn partner(core: &Core, head: Place, j: usize, tally: &mut Tally) -> Meet
-    requires indexed { spec.IsIndexed core.now.entries.items core.now.lanes.by_slot core.now.live
-        core.now.flags.entries core.now.leaves core.now.lit }
+    requires indexed { IsIndexed core.now }
     requires within { j < length (partners_of
         (scan_of core.now.entries.items (spec.told core.now.flags.entries)) head) }
     ensures value { slice_get (partners_of

@@ -10,6 +10,7 @@ ghost use Rattle.cml_channel.specs.Lanes.{those};
 ghost use Rattle.cml_index.specs.Heads.{pair_of, offer_at};
 ghost use Rattle.cml_index.specs.Slots.{lane_of};
 ghost use Rattle.cml_index.specs.Posts as spec;
+ghost use Rattle.cml_index.specs.Cores.{IsIndexed};
 
 use crate::entry::Entry;
 use crate::flags::is_lit_by;
@@ -21,7 +22,7 @@ use cml_scan::{Meet, Place};
 use cml_value::Base;
 use std::alloc::{AllocError, Global};
 
-// The offer at this place among those in the lane that are meant, where so many are not: two looks.
+// The offer at this place among those in the lane that are meant, where this many are not: two looks.
 pub(crate) fn other_in(lane: &Lane, whom: Whom, own: usize, j: usize, tally: &mut Tally) -> Place
     requires sorted { Ascends before lane.now.places }
     requires own { own + length (those whom lane.now.places) ≡ length lane.now.places }
@@ -43,7 +44,7 @@ pub(crate) fn other_in(lane: &Lane, whom: Whom, own: usize, j: usize, tally: &mu
     }
 }
 
-// Puts the rows of the head with the offers in the lane that are meant behind those that stand there.
+// Appends the rows of the head with those offers in the lane that are meant.
 fn push_lane(
     rows: &mut Vec<Meet>,
     head: Place,
@@ -69,7 +70,7 @@ fn push_lane(
     Ok(())
 }
 
-// Puts the rows of the head with the offers in the lane of this slot that are meant behind those that stand there.
+// Appends the rows of the head with those offers in the lane of this slot that are meant.
 fn push_slot(
     rows: &mut Vec<Meet>,
     core: &Core,
@@ -78,8 +79,7 @@ fn push_slot(
     head: Place,
     tally: &mut Tally,
 ) -> Result<(), AllocError>
-    requires { spec.IsIndexed core.now.entries.items core.now.lanes.by_slot core.now.live
-        core.now.flags.entries core.now.leaves core.now.lit }
+    requires { IsIndexed core.now }
     ensures { IfOk result (λ _. rows.new.items ≡ rows.old.items
         ++ map (pair_of head) (those whom (lane_of spec.slot_of slot (offers_of core.now.entries.items)))) }
 {
@@ -89,7 +89,7 @@ fn push_slot(
     }
 }
 
-// Puts the rows that the leaf begins with others, where it waits for this, behind those that stand there.
+// Appends the rows that the leaf begins with others, where it waits for this.
 fn push_pairs(
     rows: &mut Vec<Meet>,
     core: &Core,
@@ -97,8 +97,7 @@ fn push_pairs(
     base: &Base,
     tally: &mut Tally,
 ) -> Result<(), AllocError>
-    requires { spec.IsIndexed core.now.entries.items core.now.lanes.by_slot core.now.live
-        core.now.flags.entries core.now.leaves core.now.lit }
+    requires { IsIndexed core.now }
     ensures { IfOk result (λ _. rows.new.items
         ≡ rows.old.items ++ pairs_with (offers_of core.now.entries.items) (offer_at head base.now)) }
 {
@@ -108,15 +107,14 @@ fn push_pairs(
     }
 }
 
-// Puts the rows of the thread's leaves with others behind those that stand there.
+// Appends the rows of the thread's leaves with others.
 fn push_pairs_of(
     rows: &mut Vec<Meet>,
     core: &Core,
     entry: &Entry,
     tally: &mut Tally,
 ) -> Result<(), AllocError>
-    requires { spec.IsIndexed core.now.entries.items core.now.lanes.by_slot core.now.live
-        core.now.flags.entries core.now.leaves core.now.lit }
+    requires { IsIndexed core.now }
     ensures { IfOk result (λ _. rows.new.items ≡ rows.old.items
         ++ flat_map (pairs_with (offers_of core.now.entries.items))
         (leaves_from entry.now.thread 0 (bases entry.now.group))) }
@@ -128,7 +126,7 @@ fn push_pairs_of(
     Ok(())
 }
 
-// Puts the rows of the thread's leaves that can be taken alone behind those that stand there.
+// Appends the rows of those of the thread's leaves that can be taken alone.
 fn push_singles_of(
     rows: &mut Vec<Meet>,
     core: &Core,
@@ -152,14 +150,13 @@ fn push_singles_of(
     Ok(())
 }
 
-// All rows, in order. Where there is no head, no leaf is looked at but two offers of each object over which two threads may meet.
+// All rows, in order. Where there is no head, no leaf is looked at except two offers of each object over which two threads may meet.
 pub(crate) fn all_rows(
     alloc: Global,
     core: &Core,
     tally: &mut Tally,
 ) -> Result<Vec<Meet>, AllocError>
-    requires { spec.IsIndexed core.now.entries.items core.now.lanes.by_slot core.now.live
-        core.now.flags.entries core.now.leaves core.now.lit }
+    requires { IsIndexed core.now }
     ensures { IfOk result (λ rows. rows.items
         ≡ scan_of core.now.entries.items (spec.told core.now.flags.entries)) }
 {

@@ -31,7 +31,7 @@ pub(crate) struct Runs {
     many: Many,
 }
 
-// Where the lanes of a thread's first runs stood among all lanes when they were last sought. It is a hint: what stands there is asked first.
+// Where the lanes of a thread's first runs stood among all lanes when they were last sought. It is a hint: that place is tried first.
 pub(crate) type Places = [usize; 4];
 
 // The hint for the run of this number.
@@ -65,7 +65,7 @@ fn is_in(base: &Base, slot: Slot) -> bool
 // The leaves that stand in the slot.
 fn leaves_in(alloc: Global, bases: &[Base], slot: Slot) -> Result<SmallVec<u32, 2>, AllocError>
     ensures { IfOk result (λ leaves. leaves.items
-        ≡ spec.leaves_at slot 0 (map slot_of bases.now)) }
+        ≡ spec.slot_leaves slot 0 (map slot_of bases.now)) }
 {
     let mut leaves: SmallVec<u32, 2> = SmallVec::new(alloc);
     for (leaf, base) in bases.iter().enumerate() {
@@ -91,10 +91,10 @@ fn has(runs: &Few, slot: Slot) -> bool
 // Puts the run of the slot in, if it has none yet.
 fn add(runs: &mut Few, alloc: Global, bases: &[Base], slot: Slot) -> Result<(), AllocError>
     requires right { (k : Slot) → spec.has_run runs.old.items k ≡ true →
-        spec.run_of runs.old.items k ≡ spec.leaves_at k 0 (map slot_of bases.now) }
+        spec.slot_run runs.old.items k ≡ spec.slot_leaves k 0 (map slot_of bases.now) }
     requires once { IsDistinct same_slot (keys_of runs.old.items) }
     ensures right { OnOk result ((k : Slot) → spec.has_run runs.new.items k ≡ true →
-        spec.run_of runs.new.items k ≡ spec.leaves_at k 0 (map slot_of bases.now)) }
+        spec.slot_run runs.new.items k ≡ spec.slot_leaves k 0 (map slot_of bases.now)) }
     ensures once { OnOk result (IsDistinct same_slot (keys_of runs.new.items)) }
     ensures there { OnOk result ((k : Slot) → spec.has_run runs.new.items k
         ≡ (spec.has_run runs.old.items k || same_slot k slot)) }
@@ -116,10 +116,10 @@ fn add_of(
     slot: Option<Slot>,
 ) -> Result<(), AllocError>
     requires right { (k : Slot) → spec.has_run runs.old.items k ≡ true →
-        spec.run_of runs.old.items k ≡ spec.leaves_at k 0 (map slot_of bases.now) }
+        spec.slot_run runs.old.items k ≡ spec.slot_leaves k 0 (map slot_of bases.now) }
     requires once { IsDistinct same_slot (keys_of runs.old.items) }
     ensures right { OnOk result ((k : Slot) → spec.has_run runs.new.items k ≡ true →
-        spec.run_of runs.new.items k ≡ spec.leaves_at k 0 (map slot_of bases.now)) }
+        spec.slot_run runs.new.items k ≡ spec.slot_leaves k 0 (map slot_of bases.now)) }
     ensures once { OnOk result (IsDistinct same_slot (keys_of runs.new.items)) }
     ensures there { OnOk result ((k : Slot) → spec.has_run runs.new.items k
         ≡ (spec.has_run runs.old.items k || spec.is_slot k slot)) }
@@ -134,7 +134,7 @@ fn add_of(
 // The leaves of these base events, in a list.
 fn few(alloc: Global, bases: &[Base]) -> Result<Few, AllocError>
     ensures runs { IfOk result (λ runs. (k : Slot) →
-        spec.run_of runs.items k ≡ spec.leaves_at k 0 (map slot_of bases.now)) }
+        spec.slot_run runs.items k ≡ spec.slot_leaves k 0 (map slot_of bases.now)) }
     ensures once { IfOk result (λ runs. IsDistinct same_slot (keys_of runs.items)) }
     ensures few { IfOk result (λ runs. length runs.items ≤ length bases.now) }
 {
@@ -181,7 +181,7 @@ fn put(runs: &mut Many, alloc: Global, slot: Option<Slot>, leaf: usize) -> Resul
 // The leaves of these base events, in a map.
 fn many(alloc: Global, bases: &[Base]) -> Result<Many, AllocError>
     ensures runs { IfOk result (λ runs. (k : Slot) →
-        spec.run_in_map runs k ≡ spec.leaves_at k 0 (map slot_of bases.now)) }
+        spec.run_in_map runs k ≡ spec.slot_leaves k 0 (map slot_of bases.now)) }
     ensures once { IfOk result (λ runs. IsDistinct same_slot (keys_of runs.entries)) }
     ensures few { IfOk result (λ runs. index_map_len runs ≤ length bases.now) }
 {
@@ -196,7 +196,7 @@ fn many(alloc: Global, bases: &[Base]) -> Result<Many, AllocError>
 // The leaves of these base events, from the left, by their slots.
 pub(crate) fn make_runs(alloc: Global, bases: &[Base]) -> Result<Runs, AllocError>
     ensures runs { IfOk result (λ runs. (k : Slot) →
-        spec.run_in runs k ≡ spec.leaves_at k 0 (map slot_of bases.now)) }
+        spec.run_in runs k ≡ spec.slot_leaves k 0 (map slot_of bases.now)) }
     ensures few { IfOk result (λ runs. length runs.entries ≤ length bases.now) }
 {
     if bases.len() <= FEW {
@@ -209,7 +209,7 @@ pub(crate) fn make_runs(alloc: Global, bases: &[Base]) -> Result<Runs, AllocErro
     Ok(Runs { few, many })
 }
 
-// A place in a list as the number of a leaf. There is no memory for a list in which it is too large.
+// A place in a list as the number of a leaf. There is no memory for a list in which the place is too large for one.
 fn number(place: usize) -> Result<u32, AllocError>
     ensures { IfOk result (λ n. n ≡ place) }
 {

@@ -55,7 +55,7 @@ impl Slot {
     }
 }
 
-// The lane of those whom an offer of the thread meets that waits for this, where it can stand first, and which of them.
+// The lane of those whom an offer of the thread for this base event meets, where it can stand first, and which of them.
 pub(crate) fn met_by(base: &Base, tid: Tid) -> Option<(Slot, Whom)>
     ensures { result ≡ spec.met_by base.now tid }
 {

@@ -10,6 +10,7 @@ ghost use Rattle.cml_index.specs.declared.slot.Slot.TheVariants.{Side};
 ghost use Rattle.cml_index.specs.Slots.{lane_at, lane_of};
 ghost use Rattle.cml_index.specs.Heads.{met_among, heads_on};
 ghost use Rattle.cml_index.specs.Posts as spec;
+ghost use Rattle.cml_index.specs.Cores.{IsIndexed};
 
 use crate::counts::only_thread;
 use crate::entries::Entries;
@@ -31,7 +32,7 @@ fn own_len(entries: &Entries, slot: Slot, tid: Tid) -> usize
     }
 }
 
-// The offer at this place among those in the lane that are not the thread's, which has so many there: one look, and a second one
+// The offer at this place among those in the lane that are not the thread's, which has this many there: one look, and a second one
 // where its offers stand before that.
 fn other_at(lane: &Lane, tid: Tid, own: usize, j: usize, tally: &mut Tally) -> Place
     requires sorted { Ascends before lane.now.places }
@@ -62,8 +63,7 @@ fn head_beside(
     k: usize,
     tally: &mut Tally,
 ) -> Place
-    requires indexed { spec.IsIndexed core.now.entries.items core.now.lanes.by_slot core.now.live
-        core.now.flags.entries core.now.leaves core.now.lit }
+    requires indexed { IsIndexed core.now }
     requires there { heads.now.places
         ≡ lane_of spec.slot_of slot (offers_of core.now.entries.items) }
     requires heads { Ascends before heads.now.places }
@@ -86,8 +86,7 @@ fn head_beside(
 
 // The head at this place among those of the lane, on an object with two sides.
 fn head_in(core: &Core, object: PairedId, heads: &Lane, k: usize, tally: &mut Tally) -> Place
-    requires indexed { spec.IsIndexed core.now.entries.items core.now.lanes.by_slot core.now.live
-        core.now.flags.entries core.now.leaves core.now.lit }
+    requires indexed { IsIndexed core.now }
     requires there { heads.now.places
         ≡ lane_of spec.slot_of (Side true object) (offers_of core.now.entries.items) }
     requires within { k < length (met_among Others
@@ -125,8 +124,7 @@ fn head_below(lane: &Lane, k: usize, tally: &mut Tally) -> Place
 
 // The head at this place among those on the object.
 pub(crate) fn head_on(core: &Core, object: PairedId, k: usize, tally: &mut Tally) -> Place
-    requires indexed { spec.IsIndexed core.now.entries.items core.now.lanes.by_slot core.now.live
-        core.now.flags.entries core.now.leaves core.now.lit }
+    requires indexed { IsIndexed core.now }
     requires within { k < length (heads_on (offers_of core.now.entries.items) object) }
     ensures value { slice_get (heads_on (offers_of core.now.entries.items) object) k ≡ Some result }
     ensures early { tally.new

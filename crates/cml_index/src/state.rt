@@ -11,8 +11,9 @@ ghost use Rattle.cml_scan.specs.World.{PlainEntry};
 ghost use Rattle.cml_index.specs.declared.slot.Slot.{Slot};
 ghost use Rattle.indexmap.specs.IndexSet.{spare};
 ghost use Rattle.cml_index.specs.Posts as spec;
+ghost use Rattle.cml_index.specs.Cores.{IsIndexed, AreThere, IsSame, HasFreed, HasRoom};
 ghost use Rattle.cml_index.specs.declared.slot.Slot.TheVariants.{Waiters};
-ghost use Rattle.cml_index.specs.Slots.{lane_at, room_at, leaves_at};
+ghost use Rattle.cml_index.specs.Slots.{lane_at, room_at, slot_leaves};
 
 use crate::entries::Entries;
 use crate::entry::Entry;
@@ -27,8 +28,8 @@ use cml_scan::{Light, Place};
 use cml_value::{Base, Tid};
 use std::alloc::{AllocError, Global};
 
-// The pending threads, ascending; the lanes of their offers; the objects over which two threads may meet; what was told of lights; and how many leaves there are, and how
-// many of them can be taken alone.
+// The pending threads, ascending; the lanes of their offers; the objects over which two threads may meet; what was told of lights;
+// and how many leaves there are, and how many of them can be taken alone.
 #[derive(Drop)]
 pub(crate) struct Core {
     pub(crate) entries: Entries,
@@ -42,24 +43,16 @@ pub(crate) struct Core {
 impl Core {
     // The thread goes, and its offers with it. It takes no memory.
     pub(crate) fn leave(&mut self, tid: Tid, tally: &mut Tally)
-        requires indexed { spec.IsIndexed self.old.entries.items self.old.lanes.by_slot self.old.live
-            self.old.flags.entries self.old.leaves self.old.lit }
+        requires indexed { IsIndexed self.old }
         requires there { IsThere self.old.entries.items tid }
         ensures entries { self.new.entries.items ≡ without (tid ∷ []) self.old.entries.items }
-        ensures indexed { spec.IsIndexed self.new.entries.items self.new.lanes.by_slot self.new.live
-            self.new.flags.entries self.new.leaves self.new.lit }
+        ensures indexed { IsIndexed self.new }
         ensures flags { self.new.flags ≡ self.old.flags }
-        ensures room { (k : Slot) →
-            room_at self.old.lanes.by_slot k ≤ room_at self.new.lanes.by_slot k }
-        ensures shorter { (k : Slot) →
-            length (lane_at self.new.lanes.by_slot k) ≤ length (lane_at self.old.lanes.by_slot k) }
         ensures cost { (digits : ℕ) →
             ((k : Slot) → length (lane_at self.old.lanes.by_slot k) < 2 ^ digits) →
             tally.new + self.new.leaves * (digits + 2)
             ≤ tally.old + self.old.leaves * (digits + 2) }
-        ensures lighter { self.new.leaves ≤ self.old.leaves }
-        ensures seat { self.old.entries.room ≤ self.new.entries.room }
-        ensures seats { spare self.old.live ≤ spare self.new.live }
+        ensures freed { HasFreed self.old self.new }
     {
         let entry = self.entries.take(tid);
         let lit = count_lit(&self.flags, entry.bases(), tally);
@@ -72,56 +65,31 @@ impl Core {
 
     // These threads go. It takes no memory.
     pub(crate) fn leave_all(&mut self, gone: &[Tid], tally: &mut Tally)
-        requires indexed { spec.IsIndexed self.old.entries.items self.old.lanes.by_slot self.old.live
-            self.old.flags.entries self.old.leaves self.old.lit }
-        requires there { All (IsThere self.old.entries.items) gone.now }
-        requires once { AllPairs (λ a b. a.0 ≢ b.0) gone.now }
+        requires indexed { IsIndexed self.old }
+        requires there { AreThere self.old.entries.items gone.now }
         ensures entries { self.new.entries.items ≡ without gone.now self.old.entries.items }
-        ensures indexed { spec.IsIndexed self.new.entries.items self.new.lanes.by_slot self.new.live
-            self.new.flags.entries self.new.leaves self.new.lit }
+        ensures indexed { IsIndexed self.new }
         ensures flags { self.new.flags ≡ self.old.flags }
-        ensures room { (k : Slot) →
-            room_at self.old.lanes.by_slot k ≤ room_at self.new.lanes.by_slot k }
-        ensures shorter { (k : Slot) →
-            length (lane_at self.new.lanes.by_slot k) ≤ length (lane_at self.old.lanes.by_slot k) }
         ensures cost { (digits : ℕ) →
             ((k : Slot) → length (lane_at self.old.lanes.by_slot k) < 2 ^ digits) →
             tally.new + self.new.leaves * (digits + 2)
             ≤ tally.old + self.old.leaves * (digits + 2) }
-        ensures lighter { self.new.leaves ≤ self.old.leaves }
-        ensures seat { self.old.entries.room ≤ self.new.entries.room }
-        ensures seats { spare self.old.live ≤ spare self.new.live }
+        ensures freed { HasFreed self.old self.new }
     {
         for tid in gone {
             self.leave(*tid, tally);
         }
     }
 
-    // Makes room for a thread that will come: its lanes, its seat, and a place among the lights for each nack of its scopes, and answers where its lanes stand. At want
-    // of memory, which is answered also where the leaves would be too many to count, nothing was told.
+    // Makes room for a thread that will come: its lanes, its seat, and a place among the lights for each nack of its scopes. Returns
+    // where its lanes stand. Out of memory, which is returned also where the leaves would be too many to count, nothing was told.
     pub(crate) fn make_places(&mut self, alloc: Global, entry: &Entry) -> Result<Places, AllocError>
-        requires indexed { spec.IsIndexed self.old.entries.items self.old.lanes.by_slot self.old.live
-            self.old.flags.entries self.old.leaves self.old.lit }
-        ensures indexed { spec.IsIndexed self.new.entries.items self.new.lanes.by_slot self.new.live
-            self.new.flags.entries self.new.leaves self.new.lit }
-        ensures entries { self.new.entries.items ≡ self.old.entries.items }
-        ensures leaves { self.new.leaves ≡ self.old.leaves }
-        ensures lanes { (k : Slot) →
-            lane_at self.new.lanes.by_slot k ≡ lane_at self.old.lanes.by_slot k }
-        ensures told { (m : Light) →
-            spec.told self.new.flags.entries m ≡ spec.told self.old.flags.entries m }
+        requires indexed { IsIndexed self.old }
+        ensures indexed { IsIndexed self.new }
+        ensures same { IsSame self.old self.new }
         ensures kept { (k : Slot) → spec.is_named self.old.flags.entries k ≡ true →
             spec.is_named self.new.flags.entries k ≡ true }
-        ensures seat { OnOk result (0 < self.new.entries.room) }
-        ensures seats { OnOk result (length (bases entry.now.group) ≤ spare self.new.live) }
-        ensures small { OnOk result
-            (self.new.leaves + length (bases entry.now.group) ≤ usize.MAX) }
-        ensures room { OnOk result ((k : Slot) →
-            length (leaves_at k 0 (map spec.slot_of (bases entry.now.group)))
-            ≤ room_at self.new.lanes.by_slot k) }
-        ensures named { OnOk result (Every
-            (λ k. spec.is_named self.new.flags.entries (spec.slot_of_nack k))
-            (nacks_of (scopes entry.now.group))) }
+        ensures room { OnOk result (HasRoom self.new entry.now.group) }
     {
         if self.leaves.checked_add(entry.bases().len()).is_none() {
             return Err(AllocError);
@@ -135,14 +103,12 @@ impl Core {
 
     // Tells of the light: one is examined. One that is told to be lit has its place. It takes no memory.
     pub(crate) fn tell(&mut self, light: Light, lit: bool, tally: &mut Tally)
-        requires indexed { spec.IsIndexed self.old.entries.items self.old.lanes.by_slot self.old.live
-            self.old.flags.entries self.old.leaves self.old.lit }
+        requires indexed { IsIndexed self.old }
         requires there { lit ≡ true →
             spec.is_named self.old.flags.entries (Waiters light) ≡ true }
         ensures told { (m : Light) → spec.told self.new.flags.entries m
             ≡ (if same_light light m then lit else spec.told self.old.flags.entries m) }
-        ensures indexed { spec.IsIndexed self.new.entries.items self.new.lanes.by_slot self.new.live
-            self.new.flags.entries self.new.leaves self.new.lit }
+        ensures indexed { IsIndexed self.new }
         ensures entries { self.new.entries ≡ self.old.entries }
         ensures lanes { self.new.lanes.by_slot ≡ self.old.lanes.by_slot }
         ensures leaves { self.new.leaves ≡ self.old.leaves }
@@ -164,20 +130,12 @@ impl Core {
 
     // The thread comes, and its offers with it. There is room for it, and the nacks of its scopes have their places.
     pub(crate) fn enter(&mut self, entry: Entry, tally: &mut Tally)
-        requires indexed { spec.IsIndexed self.old.entries.items self.old.lanes.by_slot self.old.live
-            self.old.flags.entries self.old.leaves self.old.lit }
+        requires indexed { IsIndexed self.old }
         requires new { All (λ e. e.thread ≢ entry.thread) self.old.entries.items }
-        requires seat { 0 < self.old.entries.room }
-        requires seats { length (bases entry.group) ≤ spare self.old.live }
-        requires small { self.old.leaves + length (bases entry.group) ≤ usize.MAX }
-        requires room { (k : Slot) → length (leaves_at k 0 (map spec.slot_of (bases entry.group)))
-            ≤ room_at self.old.lanes.by_slot k }
-        requires named { Every (λ k. spec.is_named self.old.flags.entries (spec.slot_of_nack k))
-            (nacks_of (scopes entry.group)) }
+        requires room { HasRoom self.old entry.group }
         ensures entries { self.new.entries.items ≡ with_entry entry self.old.entries.items }
         ensures leaves { self.new.leaves ≡ self.old.leaves + length (bases entry.group) }
-        ensures indexed { spec.IsIndexed self.new.entries.items self.new.lanes.by_slot self.new.live
-            self.new.flags.entries self.new.leaves self.new.lit }
+        ensures indexed { IsIndexed self.new }
         ensures flags { self.new.flags ≡ self.old.flags }
         ensures cost { (digits : ℕ) →
             ((k : Slot) → length (lane_at self.old.lanes.by_slot k) < 2 ^ digits) →

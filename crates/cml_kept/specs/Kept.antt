@@ -1,4 +1,4 @@
--- What a table that keeps every row was told, and which of it a change keeps.
+-- What a table that keeps every row was told, and what of it a change keeps.
 use Rattle.std.specs.Prelude.{ℕ, Bool, true, not, ◌&&◌, nat_lt, List, filter, refl}
 use Rattle.std.specs.Coded.{Coded, code_by, coded×, coded_list}
 use Rattle.cml_value.specs.declared.number.Tid.{Tid}
@@ -33,6 +33,6 @@ kept_entries gone side entries = filter (λ e. is_kept gone side e.thread) entri
 abbrev pub is_untold : List Light → List Light → Light → Bool
 is_untold lit unlit l = not (has_light lit l) && not (has_light unlit l)
 
--- The code of the above: a tree of numbers from which it can be read back. The toolchain asks for it; no rule speaks of it.
+-- The code of the above: a tree of numbers from which it can be read back. The toolchain asks for it; no rule uses it.
 abbrev pub told_code : Coded PlainTold
 told_code = code_by (List PlainEntry × List Light) (coded× (coded_list entry_code) (coded_list light_code)) (λ t. (t.entries, t.lit)) (λ p. record { entries = p.0; lit = p.1 }) (λ _. refl)

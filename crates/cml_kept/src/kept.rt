@@ -43,7 +43,7 @@ impl Lights for LitLights {
     }
 }
 
-/// A table that keeps every row in a list, and makes all of them anew at each change.
+/// A table that keeps every row in a list, and builds all of them again at each change.
 #[derive(Drop)]
 pub struct KeptRows {
     entries: Vec<Entry>,
@@ -169,7 +169,7 @@ fn is_kept(gone: &[Tid], side: Side, tid: Tid) -> bool
     !is_among(gone, tid) && on_side(side, tid)
 }
 
-// Puts copies of the entries of the threads that stay, on this side, behind those that stand there.
+// Appends copies of the entries of the threads that stay, on this side.
 fn push_kept(
     new: &mut Vec<Entry>,
     entries: &[Entry],
@@ -230,7 +230,7 @@ fn is_untold(lit: &[Light], unlit: &[Light], light: Light) -> bool
     !has_light(lit, light) && !has_light(unlit, light)
 }
 
-// The lights that are lit after these were lit and put out: those of the old ones of which nothing was told, and those that were lit.
+// The lights that are lit after these were turned on and off: those of the old ones of which nothing was told, and those turned on.
 fn lit_after(
     alloc: Global,
     old: &[Light],

@@ -1,4 +1,4 @@
-//! The plain table of communications: it keeps every row in a list, and makes all of them anew at each change.
+//! The plain table of communications: it keeps every row in a list, and builds all of them again at each change.
 #![tactic(auto)]
 
 mod kept;

@@ -1,4 +1,4 @@
--- Codes of reports: trees of numbers from which they can be read back. The toolchain asks for them; no rule speaks of them.
+-- Codes of reports: trees of numbers from which they can be read back. The toolchain asks for them; no rule uses them.
 use Rattle.std.specs.Prelude.{ℕ, List, refl}
 use Rattle.std.specs.Coded.{Coded, code_by, coded×, coded_list, coded_ℕ}
 use Rattle.cml_scan.specs.declared.meet.Meet.{Meet}

@@ -5,15 +5,15 @@ use Rattle.cml_text.specs.Lines.{line}
 use Rattle.cml_scan.specs.declared.meet.Meet.{Meet}
 use Rattle.cml_scan.specs.Numbers.{spaced, numbers_of}
 
--- what there is to see after so many items of the schedule: the rows of the table in their order, and the threads that wait, ascending
+-- what there is to see after this many items of the schedule: the rows of the table in their order, and the threads that wait, ascending
 pub record PlainReport : Type 0 where
   pub at : ℕ
   pub rows : List Meet
   pub waiting : List ℕ
 
 -- a row: the threads and leaves, of a pair the head first
-abbrev pub row_line : Meet → List ℕ
-row_line row = line (codes "row" ++ numbers_of row)
+abbrev pub report_row_line : Meet → List ℕ
+report_row_line row = line (codes "row" ++ numbers_of row)
 
 -- a thread that waits
 abbrev pub wait_line : ℕ → List ℕ
@@ -23,5 +23,5 @@ wait_line thread = line (codes "wait" ++ spaced thread)
 abbrev pub report_text : PlainReport → List ℕ
 report_text r =
     line (codes "report" ++ spaced r.at ++ codes " rows" ++ spaced (length r.rows) ++ codes " waiting" ++ spaced (length r.waiting))
-    ++ flat_map row_line r.rows
+    ++ flat_map report_row_line r.rows
     ++ flat_map wait_line r.waiting

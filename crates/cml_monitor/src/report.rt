@@ -18,7 +18,7 @@ struct Shown {
     waiting: Vec<Tid>,
 }
 
-/// What there was to see of a run after so many items of its schedule: the communications that were possible, and the threads that
+/// What there was to see of a run after this many items of its schedule: the communications that were possible, and the threads that
 /// waited. Its copies share what was seen.
 #[derive(Drop)]
 pub struct Report {
@@ -43,7 +43,7 @@ impl Model for Report {
 }
 
 impl Report {
-    /// The report of these rows and waiting threads, after so many items.
+    /// The report of these rows and waiting threads, after this many items.
     ///
     /// # Errors
     /// Out of memory.
@@ -134,7 +134,7 @@ pub fn render(alloc: Global, report: &Report) -> Result<String, AllocError>
 }
 
 fn push_rows(text: &mut String, rows: &[Meet]) -> Result<(), AllocError>
-    ensures { let lines = flat_map spec.row_line rows.now in
+    ensures { let lines = flat_map spec.report_row_line rows.now in
         OnOk result (string_bytes text.new ≡ string_bytes text.old ++ lines) }
 {
     for row in rows {
@@ -144,7 +144,7 @@ fn push_rows(text: &mut String, rows: &[Meet]) -> Result<(), AllocError>
 }
 
 fn push_row(text: &mut String, row: &Meet) -> Result<(), AllocError>
-    ensures { let line = spec.row_line row.now in
+    ensures { let line = spec.report_row_line row.now in
         OnOk result (string_bytes text.new ≡ string_bytes text.old ++ line) }
 {
     text.push_str("row")?;

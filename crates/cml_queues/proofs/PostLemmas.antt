@@ -10,7 +10,7 @@ use Rattle.cml_base.specs.Feeds.{full}
 use Rattle.cml_base.specs.Registered.{put_back, fed_at}
 use Rattle.cml_queues.specs.PlainQueue.{PlainQueue}
 use Rattle.cml_queues.specs.Queues.{queued, is_at_limit, is_full_at, added_at}
-use Rattle.cml_queues.specs.Posts.{numbers, unread, any_is_full}
+use Rattle.cml_queues.specs.Posts.{port_numbers, unread, any_is_full}
 
 queued_step : (queues : List (List PlainValue)) (id : ℕ) (s : List PlainValue) (b : Bool) → b ≡ false → put_back queues id (if b then Err full else Ok s) ≡ Ok (slice_set queues id s)
 queued_step queues id s true h = cc
@@ -28,10 +28,10 @@ or_false : (a b : Bool) → (a || b) ≡ false → (a ≡ false) × (b ≡ false
 or_false true b h = cc
 or_false false b h = (refl, h)
 
-pub open_each : (ports : List PortId) (queues : List (List PlainValue)) → any_is_full (numbers ports) queues ≡ false → (k : ℕ) (d : PortId) → k < length ports → is_full_at queues (get_or ports k d).0 ≡ false
+pub open_each : (ports : List PortId) (queues : List (List PlainValue)) → any_is_full (port_numbers ports) queues ≡ false → (k : ℕ) (d : PortId) → k < length ports → is_full_at queues (get_or ports k d).0 ≡ false
 open_each [] queues h k d l = absurd (omega arith)
-open_each (port ∷ ports) queues h zero d l = (or_false (is_full_at queues port.0) (any_is_full (numbers ports) queues) h).0
-open_each (port ∷ ports) queues h (suc k) d l = open_each ports queues (or_false (is_full_at queues port.0) (any_is_full (numbers ports) queues) h).1 k d (omega arith)
+open_each (port ∷ ports) queues h zero d l = (or_false (is_full_at queues port.0) (any_is_full (port_numbers ports) queues) h).0
+open_each (port ∷ ports) queues h (suc k) d l = open_each ports queues (or_false (is_full_at queues port.0) (any_is_full (port_numbers ports) queues) h).1 k d (omega arith)
 
 pub pop_replicate : (n : ℕ) (v : PlainValue) (xs : List PlainValue) (y : PlainValue) → replicate n v ≡ xs ++ y ∷ [] → (xs ≡ replicate (n - 1) v) × (y ≡ v)
 pop_replicate zero v xs y h = absurd (let e : length (replicate 0 v) ≡ length (xs ++ y ∷ []) = ap length h in omega (arith, length_push xs y))

@@ -1,4 +1,4 @@
--- What multicast channels are seen as.
+-- The view of multicast channels.
 use Rattle.std.specs.Prelude.{ℕ, List}
 use Rattle.cml_value.specs.declared.number.PortId.{PortId}
 

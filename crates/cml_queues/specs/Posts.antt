@@ -10,8 +10,8 @@ use Rattle.cml_queues.specs.PlainQueue.{PlainQueue}
 use Rattle.cml_queues.specs.Queues.{is_full_at, added_at}
 
 -- the numbers of ports
-abbrev pub numbers : List PortId → List ℕ
-numbers ports = map (λ port. port.0) ports
+abbrev pub port_numbers : List PortId → List ℕ
+port_numbers ports = map (λ port. port.0) ports
 
 -- the unread messages of each port
 abbrev pub unread : List PlainQueue → List (List PlainValue)
@@ -26,7 +26,7 @@ abbrev pub any_is_full : List ℕ → List (List PlainValue) → Bool
 any_is_full [] queues = false
 any_is_full (port ∷ ports) queues = is_full_at queues port || any_is_full ports queues
 
--- each of these ports has the message behind its others
+-- each of these ports has the message after its others
 abbrev pub posted : PlainValue → List ℕ → List (List PlainValue) → List (List PlainValue)
 posted message [] queues = queues
 posted message (port ∷ ports) queues = posted message ports (added_at queues port message)
@@ -35,7 +35,7 @@ posted message (port ∷ ports) queues = posted message ports (added_at queues p
 abbrev pub post_outcome : List ℕ → PlainValue → List (List PlainValue) → Result (List (List PlainValue)) PlainRefusal
 post_outcome ports message queues = if any_is_full ports queues then Err full else Ok (posted message ports queues)
 
--- the answer says that a port is full
+-- the result says that a port is full
 abbrev pub says_full : {X : Type 0} → Result X PostFault → Bool
 says_full (Err Full) = true
 says_full _ = false

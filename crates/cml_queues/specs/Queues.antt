@@ -1,5 +1,5 @@
 -- Queues of values: Reppy's mailboxes, and the ports of his multicast channels. A recvEvt is enabled where there is an item, and
--- takes the first. That a queue holds so many items at most is a rule of our own.
+-- takes the first. That a queue holds this many items at most is a rule of our own.
 use Rattle.std.specs.Prelude.{ℕ, ◌∷◌, ◌++◌, [], List, length, nat_lt, not, if◌then◌else◌, Bool, true, false, Result, Ok, Err, slice_get, slice_set}
 use Rattle.std.specs.Option.{option_map_or}
 use Rattle.cml_value.specs.Value.{PlainValue, unit}
@@ -16,12 +16,12 @@ is_filled (v ∷ vs) = true
 abbrev pub is_at_limit : List PlainValue → Bool
 is_at_limit items = not (nat_lt (length items) max_items)
 
--- the first item; an empty queue gives nobody anything
-abbrev pub first_of : List PlainValue → PlainValue
-first_of [] = unit
-first_of (v ∷ vs) = v
+-- the first item; unit for an empty queue, which gives nobody anything
+abbrev pub first_item : List PlainValue → PlainValue
+first_item [] = unit
+first_item (v ∷ vs) = v
 
--- a send puts its value behind the items, and is refused by a full queue
+-- a send puts its value after the items, and is refused by a full queue
 abbrev pub queued : List PlainValue → PlainValue → Result (List PlainValue) PlainRefusal
 queued items v = if is_at_limit items then Err full else Ok (items ++ v ∷ [])
 
@@ -29,6 +29,6 @@ queued items v = if is_at_limit items then Err full else Ok (items ++ v ∷ [])
 abbrev pub is_full_at : List (List PlainValue) → ℕ → Bool
 is_full_at queues id = option_map_or is_at_limit (slice_get queues id) false
 
--- the queue of this number has the value behind its items
+-- the queue of this number has the value after its items
 abbrev pub added_at : List (List PlainValue) → ℕ → PlainValue → List (List PlainValue)
 added_at queues id v = option_map_or (λ items. slice_set queues id (items ++ v ∷ [])) (slice_get queues id) queues

@@ -4,7 +4,7 @@ ghost use Rattle.std.specs.Prelude.{◌≡◌, ◌<◌, ◌≤◌, false, length
 ghost use Rattle.cml_base.specs.Feeds.{Feeds};
 ghost use Rattle.cml_base.specs.Registered.{HasRoomAt, KeepsRoom, KeepsOthers};
 ghost use Rattle.cml_queues.specs.Queues.{is_full_at, added_at};
-ghost use Rattle.cml_queues.specs.Posts.{numbers, unread, port_has_room, any_is_full as spec_any_is_full, posted, post_outcome, says_full};
+ghost use Rattle.cml_queues.specs.Posts.{port_numbers, unread, port_has_room, any_is_full as spec_any_is_full, posted, post_outcome, says_full};
 
 use crate::multicast::Multicast;
 use crate::port::Port;
@@ -12,10 +12,10 @@ use cml_base::{FeedFault, Register, Source};
 use cml_value::{PortId, Value};
 use std::alloc::{AllocError, Global};
 
-/// Puts the message behind the unread ones of every port of the channel, or of none. A channel without ports drops it.
+/// Puts the message after the unread ones of every port of the channel, or of none. A channel without ports drops it.
 ///
 /// # Errors
-/// `Full` where any of the ports is full, and want of memory: the message comes back, and nothing changes. What room there was
+/// `Full` where any of the ports is full, or out of memory: the message comes back, and nothing changes. What room there was
 /// stays.
 pub fn post(
     alloc: Global,
@@ -25,7 +25,7 @@ pub fn post(
 ) -> Result<(), FeedFault<Value>>
     requires { All (λ port. port.0 < length ports.old.objects) channel.now.ports }
     ensures states { let old = unread ports.old.objects in
-        let outcome = post_outcome (numbers channel.now.ports) message old in
+        let outcome = post_outcome (port_numbers channel.now.ports) message old in
         Feeds result outcome message old (unread ports.new.objects) }
     ensures len { length ports.new.objects ≡ length ports.old.objects }
     ensures waits { ports.new.waits ≡ ports.old.waits }
@@ -47,15 +47,15 @@ pub fn post(
 pub enum PostFault {
     /// One of the ports is full.
     Full,
-    /// A growth was refused, where none of the ports is full.
+    /// Memory ran out, where none of the ports is full.
     Memory,
 }
 
 /// Makes ready what a post of the message takes: a copy of it for every port of the channel, and room in each of them. After it
-/// `deliver` takes no memory, so that between the two a table can be told which ports get their first message.
+/// `deliver` takes no memory; so between the two a table can be told which ports get their first message.
 ///
 /// # Errors
-/// `Full` exactly where any of the ports is full, and want of memory. What room there was stays.
+/// `Full` exactly where any of the ports is full, or out of memory. What room there was stays.
 pub fn prepare(
     alloc: Global,
     channel: &Multicast,
@@ -68,7 +68,7 @@ pub fn prepare(
     ensures room { OnOk result
         (All (λ port. HasRoomAt port_has_room ports.new.objects port.0) channel.now.ports) }
     ensures full { let old = unread ports.old.objects in
-        says_full result ≡ spec_any_is_full (numbers channel.now.ports) old }
+        says_full result ≡ spec_any_is_full (port_numbers channel.now.ports) old }
     ensures unread { unread ports.new.objects ≡ unread ports.old.objects }
     ensures len { length ports.new.objects ≡ length ports.old.objects }
     ensures waits { ports.new.waits ≡ ports.old.waits }
@@ -88,15 +88,15 @@ pub fn prepare(
     Ok(copies)
 }
 
-/// Puts a copy of the message behind the unread ones of every port of the channel, as `prepare` made ready. It takes no memory.
+/// Puts a copy of the message after the unread ones of every port of the channel, as `prepare` made ready. It takes no memory.
 pub fn deliver(channel: &Multicast, ports: &mut Register<Port>, message: &Value, copies: Vec<Value>)
     requires there { All (λ port. port.0 < length ports.old.objects) channel.now.ports }
     requires room { All (λ port. HasRoomAt port_has_room ports.old.objects port.0) channel.now.ports }
     requires open { let old = unread ports.old.objects in
-        spec_any_is_full (numbers channel.now.ports) old ≡ false }
+        spec_any_is_full (port_numbers channel.now.ports) old ≡ false }
     requires copied { copies.items ≡ replicate (length channel.now.ports) message.now }
     ensures unread { unread ports.new.objects
-        ≡ posted message.now (numbers channel.now.ports) (unread ports.old.objects) }
+        ≡ posted message.now (port_numbers channel.now.ports) (unread ports.old.objects) }
     ensures len { length ports.new.objects ≡ length ports.old.objects }
     ensures waits { ports.new.waits ≡ ports.old.waits }
     ensures kept_make { ports.new.room ≡ ports.old.room }
@@ -116,7 +116,7 @@ fn is_full(ports: &Register<Port>, id: PortId) -> bool
 
 // Whether one of these ports is full.
 fn any_is_full(ports: &Register<Port>, ids: &[PortId]) -> bool
-    ensures { result ≡ spec_any_is_full (numbers ids.now) (unread ports.now.objects) }
+    ensures { result ≡ spec_any_is_full (port_numbers ids.now) (unread ports.now.objects) }
 {
     for id in ids {
         if is_full(ports, *id) {
@@ -126,7 +126,7 @@ fn any_is_full(ports: &Register<Port>, ids: &[PortId]) -> bool
     false
 }
 
-// So many copies of the message.
+// This many copies of the message.
 fn copies(alloc: Global, message: &Value, count: usize) -> Result<Vec<Value>, AllocError>
     ensures { IfOk result (λ list. list.items ≡ replicate count message.now) }
 {
@@ -162,7 +162,7 @@ fn feed_all(ports: &mut Register<Port>, ids: &[PortId], message: &Value, mut cop
     requires open { All (λ id. is_full_at (unread ports.old.objects) id.0 ≡ false) ids.now }
     requires copied { copies.items ≡ replicate (length ids.now) message.now }
     ensures unread { unread ports.new.objects
-        ≡ posted message.now (numbers ids.now) (unread ports.old.objects) }
+        ≡ posted message.now (port_numbers ids.now) (unread ports.old.objects) }
     ensures len { length ports.new.objects ≡ length ports.old.objects }
     ensures waits { ports.new.waits ≡ ports.old.waits }
     ensures kept_make { ports.new.room ≡ ports.old.room }

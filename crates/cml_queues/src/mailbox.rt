@@ -9,7 +9,7 @@ use cml_value::Value;
 use std::alloc::{AllocError, Global};
 use std::marker::Model;
 
-/// A queue of values. Who sends to it never waits; who receives takes the first.
+/// A queue of values. A sender never waits; a receiver takes the first value.
 #[derive(Drop)]
 pub struct Mailbox {
     queue: Queue,
@@ -47,7 +47,7 @@ impl Source for Mailbox {
     ghost use Rattle.std.specs.Prelude.{false, None, List, nat_lt, drop};
     ghost use Rattle.std.proofs.Common.{rules};
     ghost use Rattle.cml_value.specs.Value.{PlainValue};
-    ghost use Rattle.cml_queues.specs.Queues.{is_filled, first_of, queued};
+    ghost use Rattle.cml_queues.specs.Queues.{is_filled, first_item, queued};
     ghost use Rattle.cml_queues.specs.QueueLaws.{queued_stays_lit};
 
     type Want = ();
@@ -60,7 +60,7 @@ impl Source for Mailbox {
 
     ghost is_lit = { is_filled };
 
-    ghost given = { λ items _. first_of items };
+    ghost given = { λ items _. first_item items };
 
     ghost after = { λ items _. drop 1 items };
 

@@ -44,7 +44,7 @@ impl Multicast {
     /// One more port, of a number above those of the others.
     ///
     /// # Errors
-    /// Want of memory, but for a `room` before it: nothing changes, and what room there was stays.
+    /// Out of memory, unless `room` was called before: nothing changes, and what room there was stays.
     pub fn add(&mut self, port: PortId) -> Result<(), AllocError>
         requires { All (λ other. other.0 < port.0) self.old.ports }
         ensures ok { OnOk result (self.new.ports ≡ self.old.ports ++ port ∷ []) }
@@ -60,7 +60,7 @@ impl Multicast {
     /// Makes room: the next `add` takes no memory. What room there was stays, also at an error.
     ///
     /// # Errors
-    /// Want of memory.
+    /// Out of memory.
     pub fn room(&mut self) -> Result<(), AllocError>
         ensures ports { self.new.ports ≡ self.old.ports }
         ensures ok { OnOk result (0 < self.new.room) }

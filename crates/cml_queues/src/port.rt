@@ -9,7 +9,7 @@ use cml_value::Value;
 use std::alloc::{AllocError, Global};
 use std::marker::Model;
 
-/// One reader of a multicast channel: the messages that it has not read yet. Who receives from it takes the first.
+/// One reader of a multicast channel: the messages that it has not read yet. A receiver takes the first.
 #[derive(Drop)]
 pub struct Port {
     queue: Queue,
@@ -47,7 +47,7 @@ impl Source for Port {
     ghost use Rattle.std.specs.Prelude.{false, None, List, nat_lt, drop};
     ghost use Rattle.std.proofs.Common.{rules};
     ghost use Rattle.cml_value.specs.Value.{PlainValue};
-    ghost use Rattle.cml_queues.specs.Queues.{is_filled, first_of, queued};
+    ghost use Rattle.cml_queues.specs.Queues.{is_filled, first_item, queued};
     ghost use Rattle.cml_queues.specs.QueueLaws.{queued_stays_lit};
 
     type Want = ();
@@ -60,7 +60,7 @@ impl Source for Port {
 
     ghost is_lit = { is_filled };
 
-    ghost given = { λ items _. first_of items };
+    ghost given = { λ items _. first_item items };
 
     ghost after = { λ items _. drop 1 items };
 
@@ -112,7 +112,7 @@ impl Source for Port {
 /// A port with the same unread messages. The two share nothing that changes.
 ///
 /// # Errors
-/// Want of memory.
+/// Out of memory.
 pub fn copy_port(alloc: Global, port: &Port) -> Result<Port, AllocError>
     ensures { IfOk result (λ copy. copy.items ≡ port.now.items) }
 {

@@ -2,7 +2,7 @@
 
 ghost use Rattle.std.specs.Prelude.{◌≡◌, ◌<◌, ◌≤◌, [], drop, IsTrue, IfOk, OnOk, OnErr};
 ghost use Rattle.cml_base.specs.Feeds.{Feeds, WantsNoMemory};
-ghost use Rattle.cml_queues.specs.Queues.{is_filled, is_at_limit, first_of, queued};
+ghost use Rattle.cml_queues.specs.Queues.{is_filled, is_at_limit, first_item, queued};
 
 use cml_base::FeedFault;
 use cml_value::Value;
@@ -13,7 +13,7 @@ use std::marker::Model;
 /// The most items that a mailbox or a port holds.
 pub const MAX_ITEMS: usize = 65_536;
 
-// Items in the order in which they came. To put one behind them and to take the first takes the same time for any number of them.
+// Items in the order in which they came. Adding one at the end and taking the first take the same time for any number of them.
 #[derive(Drop)]
 pub(crate) struct Queue {
     items: VecDeque<Value>,
@@ -48,7 +48,7 @@ impl Queue {
         self.items.len() > 0
     }
 
-    // Whether there is an item behind the first.
+    // Whether there is an item after the first.
     pub(crate) fn has_second(&self) -> bool
         ensures { result ≡ is_filled (drop 1 self.now.items) }
     {
@@ -62,7 +62,7 @@ impl Queue {
         self.items.len() >= MAX_ITEMS
     }
 
-    // Puts the value behind the items.
+    // Puts the value after the items.
     pub(crate) fn push(&mut self, value: Value) -> Result<(), FeedFault<Value>>
         ensures items { Feeds result (queued self.old.items value) value self.old.items self.new.items }
         ensures room { 0 < self.old.room → WantsNoMemory result }
@@ -80,7 +80,7 @@ impl Queue {
     // Takes the first item.
     pub(crate) fn take_first(&mut self) -> Value
         requires { IsTrue (is_filled self.old.items) }
-        ensures value { result ≡ first_of self.old.items }
+        ensures value { result ≡ first_item self.old.items }
         ensures rest { self.new.items ≡ drop 1 self.old.items }
         ensures kept { self.old.room ≤ self.new.room }
     {

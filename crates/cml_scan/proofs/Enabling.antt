@@ -10,7 +10,7 @@ use Rattle.cml_value.specs.declared.number.Tid.{Tid}
 use Rattle.cml_scan.specs.World.{PlainThread, running, pending_on, ended, PlainWorld, pending_from, pending}
 use Rattle.cml_scan.specs.Light.{lit}
 use Rattle.cml_scan.specs.Scan.{PlainOffer, leaves_from, offers_of, receives_on, swaps_on, do_meet, scan, same_row, has_row}
-use Rattle.cml_scan.specs.Order.{base_at, lit_at, meet_at, row_at}
+use Rattle.cml_scan.specs.Order.{base_at, is_lit_there, meet_at, row_at}
 use Rattle.cml_scan.specs.Enabled.{leaf_of, IsEnabled}
 use Rattle.cml_scan.specs.declared.meet.Meet.{Meet}
 use Rattle.cml_scan.specs.declared.meet.Meet.TheVariants.{Single, Pair}
@@ -61,7 +61,7 @@ leaf_found p n (suc i) (t ∷ ts) e = at t (leaf_found p (n + 1) i ts (omega ari
 pub base_at-world : (w : PlainWorld) (p : Place) → base_at p (offers_of (pending w)) ≡ leaf_of (slice_get w.threads p.tid.0) p.leaf
 base_at-world w p = leaf_found p 0 p.tid.0 w.threads (omega arith)
 
-lit_is : (f : PlainBase → Bool) (ob : Option PlainBase) → (lit_at f ob ≡ true) ↔ ((b : PlainBase) × (ob ≡ Some b) × (f b ≡ true))
+lit_is : (f : PlainBase → Bool) (ob : Option PlainBase) → (is_lit_there f ob ≡ true) ↔ ((b : PlainBase) × (ob ≡ Some b) × (f b ≡ true))
 lit_is f None = (λ e. cc, λ h. cc)
 lit_is f (Some b) = (λ e. (b, refl, e), λ h. let same : b ≡ h.0 = cc in rw same h.2)
 
@@ -139,7 +139,7 @@ row_is w (Single t l) = lit_is (lit w) (leaf_of (slice_get w.threads t.0) l)
 row_is w (Pair h k o m) = meet_is h.0 o.0 (leaf_of (slice_get w.threads h.0) k) (leaf_of (slice_get w.threads o.0) m)
 
 row_at-agree : (f : PlainBase → Bool) (a b : Place → Option PlainBase) (row : Meet) → ((p : Place) → a p ≡ b p) → row_at f a row ≡ row_at f b row
-row_at-agree f a b (Single t l) same = ap (lit_at f) (same _)
+row_at-agree f a b (Single t l) same = ap (is_lit_there f) (same _)
 row_at-agree f a b (Pair h k o m) same =
     ap (λ x. meet_at h.0 o.0 x (a (record { tid = o; leaf = m }))) (same (record { tid = h; leaf = k })) ∙ ap (λ x. meet_at h.0 o.0 (b (record { tid = h; leaf = k })) x) (same (record { tid = o; leaf = m }))
 

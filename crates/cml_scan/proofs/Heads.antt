@@ -157,7 +157,7 @@ abbrev pub AreAt : List PlainOffer → List PlainOffer → Type 0
 AreAt xs [] = Unit {0}
 AreAt xs (o ∷ os) = (base_at (place o) xs ≡ Some o.base) × AreAt xs os
 
--- what stands behind one that comes before each of them
+-- what stands after one that comes before each of them
 at_behind : (x : PlainOffer) (xs os : List PlainOffer) → Every (before (place x)) (map place os) → AreAt xs os → AreAt (x ∷ xs) os
 at_behind x xs [] later here = tt
 at_behind x xs (o ∷ os) later here = (rw (earlier_away (place x) (place o) later.0) here.0, at_behind x xs os later.1 here.1)

@@ -5,7 +5,7 @@ use Rattle.std.proofs.lemmas.Bool.Decides.{nat_tests}
 use Rattle.cml_value.specs.Value.{PlainBase}
 use Rattle.cml_value.specs.declared.number.Tid.{Tid}
 use Rattle.cml_scan.specs.Scan.{PlainOffer, can_meet, pair, pairs_with, rows_of, place_of, same_place, partners_of, same_row, has_row}
-use Rattle.cml_scan.specs.Order.{Ascends, place, before, base_at, lit_at, meet_at, row_at}
+use Rattle.cml_scan.specs.Order.{Ascends, place, before, base_at, is_lit_there, meet_at, row_at}
 use Rattle.cml_scan.specs.declared.meet.Meet.{Meet}
 use Rattle.cml_scan.specs.declared.meet.Meet.TheVariants.{Single, Pair}
 use Rattle.cml_scan.specs.declared.meet.Place.{Place}
@@ -35,7 +35,7 @@ no_single_here : (t : Tid) (l : ℕ) (h : PlainOffer) (ys : List PlainOffer) →
 no_single_here t l h [] = refl
 no_single_here t l h (y ∷ ys) = no_single_here t l h ys
 
-single_there : (is_lit : PlainBase → Bool) (t : Tid) (l : ℕ) (xs : List PlainOffer) (ob : Option PlainBase) → let p : Place = record { tid = t; leaf = l } in has_row (singles_at is_lit p ob ++ pairs_at xs p ob) (Single t l) ≡ lit_at is_lit ob
+single_there : (is_lit : PlainBase → Bool) (t : Tid) (l : ℕ) (xs : List PlainOffer) (ob : Option PlainBase) → let p : Place = record { tid = t; leaf = l } in has_row (singles_at is_lit p ob ++ pairs_at xs p ob) (Single t l) ≡ is_lit_there is_lit ob
 single_there is_lit t l xs None = refl
 single_there is_lit t l xs (Some b) = at (is_lit b)
   where

@@ -10,7 +10,7 @@ use Rattle.cml_scan.specs.Scan.{PlainOffer, offers_of, single, pairs_with, rows_
 use Rattle.cml_scan.specs.Table.{AgreeFor, TellsLights}
 use Rattle.cml_scan.specs.declared.object.Light.{Light}
 
--- a base is lit where it is always, or its light is lit
+-- a base is lit where it is an alwaysEvt, or its light is lit
 pub lit_by-light_of : (w : PlainWorld) (b : PlainBase) → lit_by (light_of w) b ≡ lit w b
 lit_by-light_of w (always v) = refl
 lit_by-light_of w _ = refl

@@ -1,4 +1,5 @@
--- Codes of the world, of its parts and of rows: trees of numbers from which they can be read back. The toolchain asks for them; no rule speaks of them.
+-- Codes of the world, of its parts and of rows: trees of numbers from which they can be read back. The toolchain asks for them; no rule
+-- uses them.
 use Rattle.std.specs.Prelude.{◌≡◌, ℕ, List, Option, refl}
 use Rattle.std.specs.Coded.{Coded, code_by, coded×, coded_list, coded_option, coded_ℕ}
 use Rattle.std.proofs.Common.{ap, ◌∙◌}
@@ -44,10 +45,10 @@ nack_gv_inj _ _ p = cc
 abbrev pub nack_code : Coded PlainNack
 nack_code = record { code = nack_gv; inj = nack_gv_inj }
 
-abbrev pub Variables : Type 0
-Variables = List (Option PlainValue)
+abbrev pub VariableContents : Type 0
+VariableContents = List (Option PlainValue)
 
-abbrev pub variables_code : Coded Variables
+abbrev pub variables_code : Coded VariableContents
 variables_code = coded_list (coded_option value_code)
 
 abbrev pub Queues : Type 0
@@ -59,7 +60,7 @@ queues_code = coded_list (coded_list value_code)
 abbrev pub world_code : Coded PlainWorld
 world_code =
     code_by
-    (List PlainThread × (ℕ × (ℕ × (Variables × (Variables × (Queues × (List (List ℕ) × (Queues × (List PlainNack × ℕ)))))))))
+    (List PlainThread × (ℕ × (ℕ × (VariableContents × (VariableContents × (Queues × (List (List ℕ) × (Queues × (List PlainNack × ℕ)))))))))
     (coded× (coded_list thread_code)
     (coded× coded_ℕ
     (coded× coded_ℕ

@@ -8,7 +8,7 @@ use Rattle.cml_scan.specs.Light.{lit}
 use Rattle.cml_scan.specs.declared.meet.Meet.{Meet}
 use Rattle.cml_scan.specs.declared.meet.Meet.TheVariants.{Single, Pair}
 
--- the base event of this leaf of what a thread does, if it is pending and its group has the leaf
+-- the base event of this leaf of a thread's group, if the thread is pending and its group has the leaf
 abbrev pub leaf_of : Option PlainThread → ℕ → Option PlainBase
 leaf_of None leaf = None
 leaf_of (Some running) leaf = None
@@ -29,7 +29,7 @@ abbrev pub IsSwapped : PlainWorld → Tid → ℕ → Tid → ℕ → Type 0
 IsSwapped w head head_leaf other other_leaf =
     (s : ℕ) × (v u : PlainValue) × WaitsFor w head head_leaf (swap s v) × WaitsFor w other other_leaf (swap s u) × (head.0 < other.0)
 
--- One leaf alone is enabled where its base event is lit, and two where a value is sent from one to the other, or is swapped.
+-- A leaf alone is enabled where its base event is lit; two leaves are where the first sends to the second, or where they swap values.
 abbrev pub IsEnabled : PlainWorld → Meet → Type 0
 IsEnabled w (Single tid leaf) = (b : PlainBase) × WaitsFor w tid leaf b × (lit w b ≡ true)
 IsEnabled w (Pair head head_leaf other other_leaf) = IsSent w head head_leaf other other_leaf ⊎ IsSwapped w head head_leaf other other_leaf

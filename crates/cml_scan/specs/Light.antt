@@ -78,16 +78,16 @@ light_of w (of.Joined t) = has_ended (slice_get w.threads t.0)
 light_of w (of.Alarm t) = nat_le t w.tick
 light_of w (of.Nack k) = has_fired (slice_get w.nacks k.0)
 
--- whether the base is always, so that it can be taken whatever the lights are
+-- whether the base is an alwaysEvt, which can be taken whatever the lights are
 abbrev pub is_always : PlainBase → Bool
 is_always (always v) = true
 is_always _ = false
 
--- what is told of the light that is there
+-- what is told of a light, if there is one; without a light it is false
 abbrev pub is_told : (Light → Bool) → Option Light → Bool
 is_told told None = false
 is_told told (Some l) = told l
 
--- Whether the base can be taken alone, where this is told of the lights: it is always, or has a light that is lit.
+-- Whether the base can be taken alone, where this is told of the lights: it is an alwaysEvt, or has a light that is lit.
 abbrev pub lit_by : (Light → Bool) → PlainBase → Bool
 lit_by told b = is_always b || is_told told (light b)

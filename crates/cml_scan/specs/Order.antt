@@ -34,7 +34,7 @@ before_numbers a b c d = nat_lt a c || (a == c && nat_lt b d)
 abbrev pub before : Place → Place → Bool
 before p q = before_numbers p.tid.0 p.leaf q.tid.0 q.leaf
 
--- the first row comes before the second: singles before pairs, singles by thread and leaf, pairs by the head's and then by the other's
+-- the first row comes before the second: singles before pairs, singles by thread and leaf, pairs by the head and then by the other
 abbrev pub row_before : Meet → Meet → Bool
 row_before (Single t k) (Single u l) = before_numbers t.0 k u.0 l
 row_before (Single t k) (Pair u l p n) = true
@@ -46,12 +46,12 @@ abbrev pub base_at : Place → List PlainOffer → Option PlainBase
 base_at p [] = None
 base_at p (o ∷ os) = if same_place p (place o) then Some o.base else base_at p os
 
--- the base event there can be taken alone
-abbrev pub lit_at : (PlainBase → Bool) → Option PlainBase → Bool
-lit_at is_lit None = false
-lit_at is_lit (Some b) = is_lit b
+-- there is a base event, and by this test it can be taken alone
+abbrev pub is_lit_there : (PlainBase → Bool) → Option PlainBase → Bool
+is_lit_there is_lit None = false
+is_lit_there is_lit (Some b) = is_lit b
 
--- the base events there, of these threads, communicate, the first as the head
+-- there are two base events, and as leaves of these threads they communicate, the first as the head
 abbrev pub meet_at : ℕ → ℕ → Option PlainBase → Option PlainBase → Bool
 meet_at head other None c = false
 meet_at head other (Some b) None = false
@@ -59,7 +59,7 @@ meet_at head other (Some b) (Some c) = do_meet head b other c
 
 -- whether a row is possible, by the base events at its places
 abbrev pub row_at : (PlainBase → Bool) → (Place → Option PlainBase) → Meet → Bool
-row_at is_lit at (Single tid leaf) = lit_at is_lit (at (record { tid = tid; leaf = leaf }))
+row_at is_lit at (Single tid leaf) = is_lit_there is_lit (at (record { tid = tid; leaf = leaf }))
 row_at is_lit at (Pair head head_leaf other other_leaf) = meet_at head.0 other.0 (at (record { tid = head; leaf = head_leaf })) (at (record { tid = other; leaf = other_leaf }))
 
 -- whether this leaf receives on the channel, for a thread other than this one

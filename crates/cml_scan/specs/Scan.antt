@@ -22,7 +22,7 @@ abbrev pub leaves_from : ℕ → ℕ → List PlainBase → List PlainOffer
 leaves_from thread leaf [] = []
 leaves_from thread leaf (b ∷ bs) = record { thread = thread; leaf = leaf; base = b } ∷ leaves_from thread (leaf + 1) bs
 
--- the leaves of all, by thread and leaf
+-- the leaves of all these threads, by thread and leaf
 abbrev pub offers_of : List PlainEntry → List PlainOffer
 offers_of entries = flat_map (λ e. leaves_from e.thread 0 (bases e.group)) entries
 
@@ -55,7 +55,7 @@ meets (after_ticks d) b = false
 meets (nack k) b = false
 
 -- Whether two leaves of these threads with these base events communicate, the first as the head. They are of two different threads:
--- no synchronization matches itself. Where each of the two could be the head, as of two swaps, the one in the lower thread is.
+-- no synchronization matches itself. Where either of the two could be the head, as with two swaps, the one of the lower thread is.
 abbrev pub do_meet : ℕ → PlainBase → ℕ → PlainBase → Bool
 do_meet head b other c = not (head == other) && (meets b c && (not (meets c b) || nat_lt head other))
 

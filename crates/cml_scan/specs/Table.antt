@@ -10,11 +10,11 @@ use Rattle.cml_scan.specs.Scan.{offers_of, is_among}
 use Rattle.cml_scan.specs.declared.object.Light.{Light}
 use Rattle.cml_scan.specs.declared.object.Light.TheVariants as of
 
--- all pending threads but these
+-- all pending threads except these
 abbrev pub without : List Tid → List PlainEntry → List PlainEntry
 without gone entries = filter (λ e. not (is_among gone e.thread)) entries
 
--- with one more, in its place by the number of its thread
+-- the pending threads with one more, in its place by the number of its thread
 abbrev pub with_entry : PlainEntry → List PlainEntry → List PlainEntry
 with_entry e entries = filter (λ x. nat_lt x.thread e.thread) entries ++ e ∷ filter (λ x. nat_lt e.thread x.thread) entries
 
@@ -70,7 +70,7 @@ IsNackOf nacks _ = ⊥
 abbrev pub AgreeFor : List PlainEntry → (Light → Bool) → (Light → Bool) → Type 0
 AgreeFor entries told lit = All (λ o. is_told told (light o.base) ≡ is_told lit (light o.base)) (offers_of entries)
 
--- What was told of each light that a pending leaf waits for is what the world says of it. Of the other lights, which are without
--- number since each tick is one, nothing is asked.
+-- What was told of each light that a pending leaf waits for is what the world says of it. Nothing is asked of the other lights, of
+-- which there is no end, since each tick is one.
 abbrev pub TellsLights : PlainWorld → (Light → Bool) → Type 0
 TellsLights w told = AgreeFor (pending w) told (light_of w)

@@ -1,4 +1,4 @@
--- What each struct of `src/` is seen as, from its fields.
+-- The view of each struct of `src/`, made from its fields.
 use Rattle.std.specs.Prelude.{ℕ, List, map, Vec}
 use Rattle.std.specs.declared.alloc.Global.{Global}
 use Rattle.cml_value.specs.Value.{PlainValue}

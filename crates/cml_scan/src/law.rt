@@ -47,7 +47,7 @@ pub fn partners_are_the_rows_of_a_head()
         AllPairs (λ r s. IsTrue (row_before r s)) (partners w p) }
 {}
 
-/// No place begins a row exactly where no row is there.
+/// There is no head exactly where there is no row.
 pub fn no_head_where_no_row()
     ensures { (rows : List Meet) → (heads_of rows ≡ []) ↔ (rows ≡ []) }
 {}
@@ -66,7 +66,7 @@ pub fn a_picked_row_is_in_the_scan()
         Contains rows row × (place_of row ≡ p) }
 {}
 
-/// The scan depends on the pending groups and the lights that their leaves wait for alone.
+/// The scan depends only on the pending groups and on the lights that their leaves wait for.
 pub fn scan_depends_on_groups_and_lights()
     ensures { (v w : PlainWorld) →
         pending v ≡ pending w → AgreeFor (pending w) (light_of v) (light_of w) →
@@ -97,8 +97,8 @@ pub fn partners_of_a_swap()
         ≡ map (pair head) (filter (can_swap head.thread s) (offers_of (pending w))) }
 {}
 
-/// Of two leaves of two threads that are the sides of one communication exactly one is the head, and
-/// where each could be, as of two swaps, it is the one in the lower thread.
+/// Of two leaves of two threads that are the sides of one communication, exactly one is the head. Where
+/// either could be, as with two swaps, it is the one of the lower thread.
 pub fn one_of_two_leaves_is_the_head()
     ensures one { (a b : PlainOffer) →
         meets a.base b.base ≡ true → a.thread ≢ b.thread → can_meet b a ≡ not (can_meet a b) }
@@ -120,7 +120,7 @@ pub fn heads_are_lit_leaves_and_those_that_meet()
         ++ map place (filter (has_partner leaves) leaves) }
 {}
 
-/// A base event is lit where it is always, or where its light is lit.
+/// A base event is lit exactly where it is an `always`, or where its light is lit.
 pub fn lit_by_its_light()
     ensures { (w : PlainWorld) (b : PlainBase) → lit w b ≡ lit_by (light_of w) b }
 {}

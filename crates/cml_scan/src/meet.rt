@@ -59,11 +59,11 @@ impl Meet {
         self == other
     }
 
-    /// Puts the row's threads and leaves behind the text, each behind a space; of a pair the head
+    /// Appends the row's threads and leaves to the text, each after a space; of a pair the head
     /// first.
     ///
     /// # Errors
-    /// Want of memory.
+    /// Out of memory.
     pub fn push_numbers(&self, text: &mut String) -> Result<(), AllocError>
         ensures { let numbers = numbers_of self.now in
             OnOk result (string_bytes text.new ≡ string_bytes text.old ++ numbers) }

@@ -32,7 +32,7 @@ impl Model for Offer {
     ghost view = { λ o. record { thread = o.tid.0; leaf = o.leaf; base = o.base } };
 }
 
-// Puts the base events of the group's leaves behind those that stand there. At want of memory, what was put there until then stays.
+// Appends the base events of the group's leaves. Where memory runs out, those that were appended until then stay.
 #[tactic(auto, using(crate::proofs::Bases::base_steps))]
 fn push_bases(all: &mut Vec<Base>, group: &Group) -> Result<(), AllocError>
     ensures { IfOk result (λ _. all.new.items ≡ all.old.items ++ bases group.now) }
@@ -57,7 +57,7 @@ fn push_bases(all: &mut Vec<Base>, group: &Group) -> Result<(), AllocError>
 /// The base events of the group's leaves, from the left.
 ///
 /// # Errors
-/// Want of memory.
+/// Out of memory.
 pub fn leaf_bases(alloc: Global, group: &Group) -> Result<Vec<Base>, AllocError>
     ensures { IfOk result (λ all. all.items ≡ bases group.now) }
 {
@@ -66,10 +66,10 @@ pub fn leaf_bases(alloc: Global, group: &Group) -> Result<Vec<Base>, AllocError>
     Ok(all)
 }
 
-/// Puts the leaves of a thread's group behind those that stand there.
+/// Appends the leaves of a thread's group.
 ///
 /// # Errors
-/// Want of memory, also where a leaf has no number. Nothing was put there.
+/// Out of memory, also where a leaf has no number. Nothing is appended then.
 pub fn push_offers(
     alloc: Global,
     offers: &mut Vec<Offer>,
@@ -89,8 +89,8 @@ pub fn push_offers(
     pushed
 }
 
-// Puts the leaves of a thread that have these bases behind those that stand there. At want of memory, which is answered also where a
-// leaf has no number, some of them may stand there.
+// Appends the leaves of a thread that have these bases. Out of memory is also returned where a leaf has no number; some of the leaves
+// may be there then.
 fn push_leaves(offers: &mut Vec<Offer>, tid: Tid, bases: &[Base]) -> Result<(), AllocError>
     ensures ok { OnOk result (offers.new.items ≡ offers.old.items ++ leaves_from tid.0 0 bases.now) }
     ensures err { take (length offers.old.items) offers.new.items ≡ offers.old.items }
@@ -108,7 +108,7 @@ fn push_leaves(offers: &mut Vec<Offer>, tid: Tid, bases: &[Base]) -> Result<(), 
 /// The leaves of all pending threads of the world, by thread and leaf.
 ///
 /// # Errors
-/// Want of memory, also where a thread or a leaf has no number.
+/// Out of memory, also where a thread or a leaf has no number.
 pub fn offers(alloc: Global, world: &World) -> Result<Vec<Offer>, AllocError>
     ensures { IfOk result (λ all. all.items ≡ offers_of (pending world.now)) }
 {
@@ -121,7 +121,7 @@ pub fn offers(alloc: Global, world: &World) -> Result<Vec<Offer>, AllocError>
     Ok(all)
 }
 
-// A place in a list as the number of a thread or a leaf. There is no memory for a list in which it is too large.
+// A place in a list as the number of a thread or a leaf. There is no memory for a list in which the place is too large for one.
 fn number(place: usize) -> Result<u32, AllocError>
     ensures { IfOk result (λ n. n ≡ place) }
 {

@@ -77,7 +77,7 @@ fn can_meet(head: &Offer, other: &Offer) -> bool
         && (!meets(&other.base, &head.base) || head.tid.0 < other.tid.0)
 }
 
-// Puts the rows that this leaf heads behind those that stand there.
+// Appends the rows that this leaf heads.
 fn push_pairs(rows: &mut Vec<Meet>, head: &Offer, offers: &[Offer]) -> Result<(), AllocError>
     ensures { IfOk result (λ _. rows.new.items ≡ rows.old.items ++ spec.pairs_with offers.now head.now) }
 {
@@ -97,7 +97,7 @@ fn push_pairs(rows: &mut Vec<Meet>, head: &Offer, offers: &[Offer]) -> Result<()
 /// The rows of these leaves, in order.
 ///
 /// # Errors
-/// Want of memory.
+/// Out of memory.
 pub fn rows<L: Lights>(alloc: Global, offers: &[Offer], lights: &L) -> Result<Vec<Meet>, AllocError>
     ensures { IfOk result
         (λ rows. rows.items ≡ spec.rows_of (light_spec.lit_by (L.is_lit lights.now)) offers.now) }
@@ -120,7 +120,7 @@ pub fn rows<L: Lights>(alloc: Global, offers: &[Offer], lights: &L) -> Result<Ve
 /// All communications that are possible in the world, in order.
 ///
 /// # Errors
-/// Want of memory, also where a thread or a leaf has no number.
+/// Out of memory, also where a thread or a leaf has no number.
 pub fn scan(alloc: Global, world: &World) -> Result<Vec<Meet>, AllocError>
     ensures { IfOk result (λ rows. rows.items ≡ spec.scan world.now) }
 {

@@ -11,7 +11,7 @@ use crate::object::Light;
 use cml_value::{Group, Tid};
 use std::alloc::{AllocError, Global};
 
-/// The communications that are possible among the pending threads that it was told of, where the lights are as it was told.
+/// A table of the communications that are possible among the pending threads that it was told of, with the lights as it was told.
 pub trait Table {
     /// The pending threads that it was told of, ascending, each with its group.
     ghost entries: { Self → List PlainEntry };
@@ -19,16 +19,16 @@ pub trait Table {
     /// What it was told of each light.
     ghost is_lit: { Self → Light → Bool };
 
-    /// Where it holds, no change is refused in which no thread comes and only nacks of the leaving groups are lit.
+    /// Where this holds, no change is refused in which no thread comes and only nacks of the leaving groups are turned on.
     ghost SURE: { Bool };
 
     const SURE: bool;
 
-    /// Tells which threads are pending no more, which one now is, with its group, and which lights were lit and put out.
-    /// To tell of a light what is so already changes nothing.
+    /// Tells which threads are no longer pending, which one now is, with its group, and which lights were turned on and off.
+    /// To tell that a light is as it was changes nothing.
     ///
     /// # Errors
-    /// Want of memory: nothing was told.
+    /// Out of memory: nothing was told.
     fn change(
         &mut self,
         alloc: Global,
@@ -52,7 +52,7 @@ pub trait Table {
     /// All rows, in order.
     ///
     /// # Errors
-    /// Want of memory.
+    /// Out of memory.
     fn rows(&self, alloc: Global) -> Result<Vec<Meet>, AllocError>
         ensures { IfOk result (λ rows. rows.items ≡ scan_of (entries self.now) (is_lit self.now)) };
 

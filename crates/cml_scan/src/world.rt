@@ -15,7 +15,7 @@ pub enum ThreadState {
     Ended,
 }
 
-/// What has become of a nack.
+/// The state of a nack.
 #[derive(Clone, Copy, PartialEq, Eq)]
 pub enum NackState {
     /// This thread asked for it, and has not synchronized with it yet.
@@ -47,7 +47,7 @@ pub struct World {
     pub mchans: Vec<Vec<PortId>>,
     /// The unread messages of each port, the first to be taken first.
     pub ports: Vec<Vec<Value>>,
-    /// What has become of each nack.
+    /// The state of each nack.
     pub nacks: Vec<NackState>,
     /// The time now.
     pub tick: u64,

@@ -1,4 +1,4 @@
--- A word with numbers behind it: how it is printed, and what is read of it.
+-- A keyword with numbers after it: how it is printed, and what is read of it.
 use Rattle.std.proofs.Common.{◌≡◌, ℕ, ◌*◌, ◌<◌, ◌≤◌, ◌^◌, pos, IsTrue, List, [], ◌∷◌, ◌++◌, length, map, refl, ap, subst, arith}
 use Rattle.std.specs.List.{flat_map, AllByRecursion as Each}
 use Rattle.std.specs.Str.{IsUtf8}
@@ -23,7 +23,7 @@ pub data AreAt : List PlainSexpr → List ℕ → Type 0 where
   none : AreAt [] []
   one_more : (span : Span) (n : ℕ) (forms : List PlainSexpr) (ns : List ℕ) → AreAt forms ns → AreAt (plain_int span (pos n) ∷ forms) (n ∷ ns)
 
--- this word and these numbers, wherever they stand
+-- this keyword and these numbers, wherever they stand
 pub data IsAt : List PlainSexpr → List ℕ → List ℕ → Type 0 where
   phrase_at : (span : Span) (word : List ℕ) (forms : List PlainSexpr) (ns : List ℕ) → AreAt forms ns → IsAt (plain_name span word ∷ forms) word ns
 

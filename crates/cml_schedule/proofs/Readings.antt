@@ -9,25 +9,25 @@ use Rattle.cml_schedule.specs.declared.line.State.{State}
 use Rattle.cml_schedule.specs.declared.line.State.TheVariants.{Opening}
 use Rattle.cml_schedule.specs.Plans.{PlainPlan}
 use Rattle.cml_schedule.specs.Lines.{after_line}
-use Rattle.cml_schedule.specs.Reading.{Fits, DoesNotFit, LeadsTo, at_end}
+use Rattle.cml_schedule.specs.Reading.{LineFits, DoesNotFit, LeadsTo, at_end}
 use Rattle.cml_schedule.specs.Laws.{HasOneReading}
 
 -- a line fits, or it does not
 
 fits_by_forms : (state : State) (line : List ℕ) (forms : List PlainSexpr) → Spells line forms → (next : Option State) → after_line state forms ≡ next →
-    ((next : State) × Fits state line next) ⊎ DoesNotFit state line
+    ((next : State) × LineFits state line next) ⊎ DoesNotFit state line
 fits_by_forms state line forms spells (Some next) e = inl (next, (forms, spells, e))
 fits_by_forms state line forms spells None e = inr (inr (forms, spells, e))
 
 fits_by_fault : SpelledOrFaulty → (state : State) (line : List ℕ) (found : Option PlainFault) → fault_of line ≡ found →
-    ((next : State) × Fits state line next) ⊎ DoesNotFit state line
+    ((next : State) × LineFits state line next) ⊎ DoesNotFit state line
 fits_by_fault law state line (Some fault) e = inr (inl (fault, e))
 fits_by_fault law state line None e = let read = law line e in fits_by_forms state line read.0 read.1 (after_line state read.0) refl
 
 -- some way to read these lines
 
 leads_by : (n : ℕ) (state : State) (line : List ℕ) (behind : List (List ℕ)) → ((m : ℕ) (next : State) → (found : Result PlainPlan ℕ) × LeadsTo m next behind found) →
-    ((next : State) × Fits state line next) ⊎ DoesNotFit state line → (found : Result PlainPlan ℕ) × LeadsTo n state (line ∷ behind) found
+    ((next : State) × LineFits state line next) ⊎ DoesNotFit state line → (found : Result PlainPlan ℕ) × LeadsTo n state (line ∷ behind) found
 leads_by n state line behind rest (inl fits) = let found = rest (n + 1) fits.0 in (found.0, inl (fits.0, fits.1, found.1))
 leads_by n state line behind rest (inr not) = (Err n, inr (not, refl))
 
@@ -38,13 +38,13 @@ leads_somewhere law n state (line ∷ behind) =
 
 -- and no other way
 
-fits_once : SpellsOneAtMost → (state : State) (line : List ℕ) (a b : State) → Fits state line a → Fits state line b → a ≡ b
+fits_once : SpellsOneAtMost → (state : State) (line : List ℕ) (a b : State) → LineFits state line a → LineFits state line b → a ≡ b
 fits_once once state line a b x y =
     let same : after_line state x.0 ≡ after_line state y.0 = ap (after_line state) (once line x.0 y.0 x.1 y.1) in
     let there : Some a ≡ Some b = sym x.2 ∙ same ∙ y.2 in
     cc
 
-fits_or_not : SpellsOneAtMost → SpelledHasNoFault → (state : State) (line : List ℕ) (a : State) → Fits state line a → DoesNotFit state line → ⊥
+fits_or_not : SpellsOneAtMost → SpelledHasNoFault → (state : State) (line : List ℕ) (a : State) → LineFits state line a → DoesNotFit state line → ⊥
 fits_or_not once faultless state line a x (inl f) =
     let clash : None ≡ Some f.0 = sym (faultless line x.0 x.1) ∙ f.1 in cc
 fits_or_not once faultless state line a x (inr y) =

@@ -26,8 +26,8 @@ use Rattle.cml_schedule.specs.declared.item.Item.TheVariants as item
 use Rattle.cml_schedule.specs.declared.line.State.{State}
 use Rattle.cml_schedule.specs.declared.line.State.TheVariants.{Opening, Reading, Closed}
 use Rattle.cml_schedule.specs.Plans.{PlainPlan}
-use Rattle.cml_schedule.specs.Lines.{both, within, number_within, budget_from, size_from, pair, place_from, pair_from, swap_from, is_there, with_item, after_line}
-use Rattle.cml_schedule.specs.Reading.{Fits, LeadsTo}
+use Rattle.cml_schedule.specs.Lines.{if_both, within, number_within, budget_from, size_from, row_of_two, place_from, pair_from, swap_from, is_there, with_item, after_line}
+use Rattle.cml_schedule.specs.Reading.{LineFits, LeadsTo}
 use Rattle.cml_schedule.specs.Laws.{IsNumber, IsWritable, IsHeadOf, WrittenIsRead}
 use Rattle.cml_schedule.specs.Written.{head_line, item_line}
 use Rattle.cml_schedule.proofs.Letters.{is_letter, letters_name}
@@ -39,7 +39,7 @@ pub record OfTexts : Type 0 where
   pub one : PrintedLineIsOneLine
   pub first : WrittenLineIsFirst
 
--- a word of a schedule can be printed as a name
+-- a keyword of a schedule can be printed as a name
 pub record IsWord (bytes : List ℕ) : Type 0 where
   pub utf8 : IsUtf8 bytes
   pub name : IsTrue (is_name bytes)
@@ -66,9 +66,9 @@ clock_word = is_word _ _ (search rules) refl (omega arith)
 end_word : IsWord (codes "end")
 end_word = is_word _ _ (search rules) refl (omega arith)
 
--- a word with at most four numbers, written as a line, is read as that word and these numbers
+-- a keyword with at most four numbers, written as a line, is read as that keyword and these numbers
 fits : OfTexts → (state next : State) (bytes ns : List ℕ) → IsWord bytes → Each (λ n. n < 2 ^ 63) ns → length ns ≤ 4 →
-    ((found : List PlainSexpr) → IsAt found bytes ns → after_line state found ≡ Some next) → Fits state (bytes ++ flat_map spaced ns) next
+    ((found : List PlainSexpr) → IsAt found bytes ns → after_line state found ≡ Some next) → LineFits state (bytes ++ flat_map spaced ns) next
 fits laws state next bytes ns is small few key =
     let limits = proper_phrase bytes ns is.utf8 is.name small in
     let same = printed_phrase bytes ns in
@@ -80,9 +80,9 @@ fits laws state next bytes ns is small few key =
     let read = laws.read (phrase bytes ns) limits short in
     (read.0, subst (λ (t : List ℕ). Spells t read.0) same read.1, key read.0 (is_at read.0 bytes ns read.2))
 
--- and the lines behind it follow
+-- and the lines after it follow
 leads : OfTexts → (n : ℕ) (state next : State) (bytes ns rest : List ℕ) (found : Result PlainPlan ℕ) → IsWord bytes → Each (λ n. n < 2 ^ 63) ns →
-    Fits state (bytes ++ flat_map spaced ns) next → LeadsTo (n + 1) next (lines rest) found → LeadsTo n state (lines (line (bytes ++ flat_map spaced ns) ++ rest)) found
+    LineFits state (bytes ++ flat_map spaced ns) next → LeadsTo (n + 1) next (lines rest) found → LeadsTo n state (lines (line (bytes ++ flat_map spaced ns) ++ rest)) found
 leads laws n state next bytes ns rest found is small fit behind =
     let limits = proper_phrase bytes ns is.utf8 is.name small in
     let one : HaveNoLineFeed (bytes ++ flat_map spaced ns) =
@@ -95,7 +95,7 @@ leads laws n state next bytes ns rest found is small fit behind =
 number_is : (n : ℕ) → n < 2 ^ 32 → number_by (pos n) ≡ Some n
 number_is n lt = let small : nat_lt n 4294967296 ≡ true = lt-ltb n 4294967296 (omega (arith, lt)) in rw small refl
 
-both_are : {A B C : Type 0} (f : A → B → C) (o : Option A) (p : Option B) (a : A) (b : B) → o ≡ Some a → p ≡ Some b → both f o p ≡ Some (f a b)
+both_are : {A B C : Type 0} (f : A → B → C) (o : Option A) (p : Option B) (a : A) (b : B) → o ≡ Some a → p ≡ Some b → if_both f o p ≡ Some (f a b)
 both_are f o p a b e g = rw (e, g) refl
 
 within_is : (least most n : ℕ) → least ≤ n → n ≤ most → within least most (Some n) ≡ Some n
@@ -122,7 +122,7 @@ single_read plan t n lt ln _ (phrase_at _ _ _ _ (one_more _ _ _ _ (one_more _ _ 
 pair_read : (t n u m : ℕ) (a b c d : Span) → IsNumber t → IsNumber n → IsNumber u → IsNumber m →
     pair_from (plain_int a (pos t)) (plain_int b (pos n)) (plain_int c (pos u)) (plain_int d (pos m)) ≡ Some (Pair (record { 0 = t }) n (record { 0 = u }) m)
 pair_read t n u m a b c d lt ln lu lm =
-    both_are pair (place_from (plain_int a (pos t)) (plain_int b (pos n))) (place_from (plain_int c (pos u)) (plain_int d (pos m))) (t, n) (u, m)
+    both_are row_of_two (place_from (plain_int a (pos t)) (plain_int b (pos n))) (place_from (plain_int c (pos u)) (plain_int d (pos m))) (t, n) (u, m)
     (both_are (λ thread leaf. (thread, leaf)) (number_by (pos t)) (number_by (pos n)) t n (number_is t lt) (number_is n ln))
     (both_are (λ thread leaf. (thread, leaf)) (number_by (pos u)) (number_by (pos m)) u m (number_is u lu) (number_is m lm))
 

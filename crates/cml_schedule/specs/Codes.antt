@@ -1,4 +1,4 @@
--- Codes of items and plans: trees of numbers from which they can be read back. The toolchain asks for them; no rule speaks of them.
+-- Codes of items and plans: trees of numbers from which they can be read back. The toolchain asks for them; no rule uses them.
 use Rattle.std.specs.Prelude.{◌≡◌, ℕ, List, Option, refl}
 use Rattle.std.specs.Coded.{Coded, code_by, coded×, coded_list, coded_option, coded_ℕ}
 use Rattle.std.proofs.Common.{ap}

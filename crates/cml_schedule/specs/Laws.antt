@@ -8,13 +8,13 @@ use Rattle.cml_check.specs.Sizes.{IsWithinSize}
 use Rattle.cml_schedule.specs.declared.item.Item.{Item}
 use Rattle.cml_schedule.specs.declared.item.Item.TheVariants as item
 use Rattle.cml_schedule.specs.Plans.{PlainPlan}
-use Rattle.cml_schedule.specs.Reading.{ReadsAs}
+use Rattle.cml_schedule.specs.Reading.{ScheduleReadsAs}
 use Rattle.cml_schedule.specs.Written.{schedule_text}
 
 -- the text is read as this, and as nothing else
 pub record ReadsOnlyAs (text : List ℕ) (found : Result PlainPlan ℕ) : Type 0 where
-  pub read : ReadsAs text found
-  pub only : (other : Result PlainPlan ℕ) → ReadsAs text other → other ≡ found
+  pub read : ScheduleReadsAs text found
+  pub only : (other : Result PlainPlan ℕ) → ScheduleReadsAs text other → other ≡ found
 
 -- every text is read in one way
 abbrev pub HasOneReading : Type 0
@@ -50,4 +50,4 @@ pub record IsHeadOf (budget : ℕ) (size : Size) : Type 0 where
 -- what is written of such a budget, such a size and such items is read as just these
 abbrev pub WrittenIsRead : Type 0
 WrittenIsRead = (budget : ℕ) (size : Size) (items : List Item) → IsHeadOf budget size → All IsWritable items →
-    ReadsAs (schedule_text budget size items) (Ok (record { budget = budget; size = Some size; items = items }))
+    ScheduleReadsAs (schedule_text budget size items) (Ok (record { budget = budget; size = Some size; items = items }))

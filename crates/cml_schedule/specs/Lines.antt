@@ -13,12 +13,12 @@ use Rattle.cml_schedule.specs.declared.word.Word.TheVariants as word
 use Rattle.cml_schedule.specs.declared.line.State.{State}
 use Rattle.cml_schedule.specs.declared.line.State.TheVariants.{Opening, Reading, Closed}
 use Rattle.cml_schedule.specs.Plans.{PlainPlan}
-use Rattle.cml_schedule.specs.Words.{word_of}
+use Rattle.cml_schedule.specs.Words.{line_word}
 
 -- what the function gives for two values, if both are there
-abbrev pub both : {A B C : Type 0} → (A → B → C) → Option A → Option B → Option C
-both f (Some a) (Some b) = Some (f a b)
-both f _ _ = None
+abbrev pub if_both : {A B C : Type 0} → (A → B → C) → Option A → Option B → Option C
+if_both f (Some a) (Some b) = Some (f a b)
+if_both f _ _ = None
 
 -- the number, if it is from the least to the most
 abbrev pub within : ℕ → ℕ → Option ℕ → Option ℕ
@@ -29,44 +29,44 @@ within least most None = None
 abbrev pub number_within : ℕ → ℕ → PlainSexpr → Option ℕ
 number_within least most form = within least most (number_from form)
 
--- whether it is there and this number
-abbrev pub is_number : ℕ → Option ℕ → Bool
-is_number expected (Some n) = n == expected
-is_number expected None = false
+-- whether there is a number, and it is this one
+abbrev pub is_expected : ℕ → Option ℕ → Bool
+is_expected expected (Some n) = n == expected
+is_expected expected None = false
 
 -- the budget of a head of the expected version, 1 to 1,000,000,000
 abbrev pub budget_from : ℕ → PlainSexpr → PlainSexpr → Option ℕ
-budget_from expected version budget = if is_number expected (number_from version) then number_within 1 1000000000 budget else None
+budget_from expected version budget = if is_expected expected (number_from version) then number_within 1 1000000000 budget else None
 
 -- 1 to 1,024 functions, and 0 to 4,096 statements
 abbrev pub size_from : PlainSexpr → PlainSexpr → Option Size
 size_from functions statements =
-    both (λ f s. record { functions = f; statements = s }) (number_within 1 1024 functions) (number_within 0 4096 statements)
+    if_both (λ f s. record { functions = f; statements = s }) (number_within 1 1024 functions) (number_within 0 4096 statements)
 
--- the budget and the size that these forms behind the word `schedule` say
-abbrev pub head_by : List PlainSexpr → Option (ℕ × Option Size)
-head_by (version ∷ budget ∷ []) = option_map (λ b. (b, None)) (budget_from 1 version budget)
-head_by (version ∷ budget ∷ functions ∷ statements ∷ []) = both (λ b s. (b, Some s)) (budget_from 2 version budget) (size_from functions statements)
-head_by _ = None
+-- the budget and the size that these forms after the keyword `schedule` say
+abbrev pub schedule_by : List PlainSexpr → Option (ℕ × Option Size)
+schedule_by (version ∷ budget ∷ []) = option_map (λ b. (b, None)) (budget_from 1 version budget)
+schedule_by (version ∷ budget ∷ functions ∷ statements ∷ []) = if_both (λ b s. (b, Some s)) (budget_from 2 version budget) (size_from functions statements)
+schedule_by _ = None
 
 abbrev pub head_from : Option Word → List PlainSexpr → Option (ℕ × Option Size)
-head_from (Some word.Schedule) forms = head_by forms
+head_from (Some word.Schedule) forms = schedule_by forms
 head_from _ forms = None
 
 -- a row of one leaf: its thread and its number
 abbrev pub single_from : PlainSexpr → PlainSexpr → Option Meet
-single_from t n = both (λ thread leaf. Single (record { 0 = thread }) leaf) (number_from t) (number_from n)
+single_from t n = if_both (λ thread leaf. Single (record { 0 = thread }) leaf) (number_from t) (number_from n)
 
 -- a row of two leaves, each with its thread: the head's, then the other's
-abbrev pub pair : (ℕ × ℕ) → (ℕ × ℕ) → Meet
-pair head other = Pair (record { 0 = head.0 }) head.1 (record { 0 = other.0 }) other.1
+abbrev pub row_of_two : (ℕ × ℕ) → (ℕ × ℕ) → Meet
+row_of_two head other = Pair (record { 0 = head.0 }) head.1 (record { 0 = other.0 }) other.1
 
 -- a thread and a leaf
 abbrev pub place_from : PlainSexpr → PlainSexpr → Option (ℕ × ℕ)
-place_from t n = both (λ thread leaf. (thread, leaf)) (number_from t) (number_from n)
+place_from t n = if_both (λ thread leaf. (thread, leaf)) (number_from t) (number_from n)
 
 abbrev pub pair_from : PlainSexpr → PlainSexpr → PlainSexpr → PlainSexpr → Option Meet
-pair_from t n u m = both pair (place_from t n) (place_from u m)
+pair_from t n u m = if_both row_of_two (place_from t n) (place_from u m)
 
 abbrev pub turn_from : List PlainSexpr → Option Item
 turn_from (t ∷ []) = option_map (λ thread. item.Turn (record { 0 = thread })) (number_from t)
@@ -113,7 +113,7 @@ abbrev pub after_head : PlainPlan → Option Word → List PlainSexpr → Option
 after_head plan (Some word.End) [] = Some (Closed plan)
 after_head plan first forms = option_map (λ item. Reading (with_item plan item)) (item_from (is_there plan.size) first forms)
 
--- what a line of forms says, behind what was read
+-- how far the schedule was read after a line of these forms, by the keyword that begins the line, if the line fits
 abbrev pub after_forms : State → Option Word → List PlainSexpr → Option State
 after_forms Opening first forms = opened first forms
 after_forms (Reading plan) first forms = after_head plan first forms
@@ -122,4 +122,4 @@ after_forms (Closed plan) first forms = None
 -- how far the schedule was read after a line of these forms, if the line fits
 abbrev pub after_line : State → List PlainSexpr → Option State
 after_line state [] = Some state
-after_line state (form ∷ forms) = after_forms state (word_of form) forms
+after_line state (form ∷ forms) = after_forms state (line_word form) forms

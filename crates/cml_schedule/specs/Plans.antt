@@ -3,7 +3,7 @@ use Rattle.std.specs.Prelude.{ℕ, List, Option}
 use Rattle.cml_check.specs.declared.size.Size.{Size}
 use Rattle.cml_schedule.specs.declared.item.Item.{Item}
 
--- how many steps the run may take; the size of the program, where the text says it; and what happens, in its order
+-- how many steps the run may take; the size of the program, where the text says it; and what happens, in order
 pub record PlainPlan : Type 0 where
   pub budget : ℕ
   pub size : Option Size

@@ -12,8 +12,8 @@ use Rattle.cml_schedule.specs.Plans.{PlainPlan}
 use Rattle.cml_schedule.specs.Lines.{after_line}
 
 -- the line spells forms that lead from one state to the next
-abbrev pub Fits : State → List ℕ → State → Type 0
-Fits state line next = (forms : List PlainSexpr) × Spells line forms × (after_line state forms ≡ Some next)
+abbrev pub LineFits : State → List ℕ → State → Type 0
+LineFits state line next = (forms : List PlainSexpr) × Spells line forms × (after_line state forms ≡ Some next)
 
 -- the line spells no forms, or forms that do not fit here
 abbrev pub DoesNotFit : State → List ℕ → Type 0
@@ -32,12 +32,12 @@ at_end n (Closed plan) = Ok plan
 abbrev pub LeadsTo : ℕ → State → List (List ℕ) → Result PlainPlan ℕ → Type 0
 LeadsTo n state [] found = found ≡ at_end n state
 LeadsTo n state (line ∷ behind) found =
-    ((next : State) × Fits state line next × LeadsTo (n + 1) next behind found)
+    ((next : State) × LineFits state line next × LeadsTo (n + 1) next behind found)
     ⊎ (DoesNotFit state line × (found ≡ Err n))
 
 -- what the whole text is read as
-abbrev pub ReadsAs : List ℕ → Result PlainPlan ℕ → Type 0
-ReadsAs text found = LeadsTo 1 Opening (lines text) found
+abbrev pub ScheduleReadsAs : List ℕ → Result PlainPlan ℕ → Type 0
+ScheduleReadsAs text found = LeadsTo 1 Opening (lines text) found
 
 -- the most bytes of a schedule
 abbrev pub schedule_limit : ℕ
@@ -46,7 +46,7 @@ schedule_limit = 67108864
 -- A text that is too long is read as nothing. Else it is the plan that it is read as, or the number of the first line that does not fit,
 -- unless memory ran out.
 abbrev pub IsRead : List ℕ → Result PlainPlan ScheduleFault → Type 0
-IsRead text (Ok plan) = (length text ≤ schedule_limit) × ReadsAs text (Ok plan)
-IsRead text (Err (fault.Line n)) = (length text ≤ schedule_limit) × ReadsAs text (Err n)
+IsRead text (Ok plan) = (length text ≤ schedule_limit) × ScheduleReadsAs text (Ok plan)
+IsRead text (Err (fault.Line n)) = (length text ≤ schedule_limit) × ScheduleReadsAs text (Err n)
 IsRead text (Err fault.TooLong) = schedule_limit < length text
 IsRead text (Err fault.Memory) = length text ≤ schedule_limit

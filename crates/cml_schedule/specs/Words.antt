@@ -1,11 +1,11 @@
--- The words with which lines of a schedule begin.
+-- The keywords with which lines of a schedule begin.
 use Rattle.std.specs.Prelude.{List, ℕ, if◌then◌else◌, Option, Some, None, codes}
 use Rattle.std.specs.Str.{bytes_eq}
 use Rattle.cml_text.specs.Forms.{PlainSexpr, plain_name}
 use Rattle.cml_schedule.specs.declared.word.Word.{Word}
 use Rattle.cml_schedule.specs.declared.word.Word.TheVariants as word
 
--- the word of this spelling, if it is one
+-- the keyword of this spelling, if there is one
 abbrev pub word_named : List ℕ → Option Word
 word_named bytes =
     if bytes_eq bytes (codes "schedule") then Some word.Schedule
@@ -16,7 +16,7 @@ word_named bytes =
     else if bytes_eq bytes (codes "end") then Some word.End
     else None
 
--- the word that the form is, if it is one
-abbrev pub word_of : PlainSexpr → Option Word
-word_of (plain_name span bytes) = word_named bytes
-word_of _ = None
+-- the keyword that the form is, if it is one
+abbrev pub line_word : PlainSexpr → Option Word
+line_word (plain_name span bytes) = word_named bytes
+line_word _ = None

@@ -12,15 +12,15 @@ use Rattle.cml_schedule.specs.declared.item.Item.TheVariants as item
 abbrev pub head_line : ℕ → Size → List ℕ
 head_line budget size = line (codes "schedule 2" ++ spaced budget ++ spaced size.functions ++ spaced size.statements)
 
--- a row behind its word
-abbrev pub row_line : List ℕ → Meet → List ℕ
-row_line word row = line (word ++ numbers_of row)
+-- a row after its keyword
+abbrev pub taken_row_line : List ℕ → Meet → List ℕ
+taken_row_line word row = line (word ++ numbers_of row)
 
 -- a turn of a thread, a row that is committed, an exchange over a swap channel, or the tick to which the time moves
 abbrev pub item_line : Item → List ℕ
 item_line (item.Turn t) = line (codes "turn" ++ spaced t.0)
-item_line (item.Meet row) = row_line (codes "commit") row
-item_line (item.Exchange row) = row_line (codes "swap") row
+item_line (item.Meet row) = taken_row_line (codes "commit") row
+item_line (item.Exchange row) = taken_row_line (codes "swap") row
 item_line (item.Clock tick) = line (codes "clock" ++ spaced tick)
 
 abbrev pub schedule_text : ℕ → Size → List Item → List ℕ

@@ -25,7 +25,7 @@ pub struct Plan {
     pub budget: u64,
     /// The size of the program, where the text says it.
     pub size: Option<Size>,
-    /// What happens, in its order.
+    /// What happens, in order.
     pub items: Vec<Item>,
 }
 

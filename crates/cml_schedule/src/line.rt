@@ -49,7 +49,7 @@ fn opened(alloc: Global, word: Option<Word>, forms: &[Sexpr]) -> Option<State>
     }))
 }
 
-// What was read after a line behind the head.
+// What has been read once a line that follows the head was read too.
 fn after_head(
     mut plan: Plan,
     word: Option<Word>,

@@ -3,7 +3,7 @@
 ghost use Rattle.std.specs.Prelude.{◌≡◌, ◌≤◌, length, MatchOption, IfOk, IfErr, Some};
 ghost use Rattle.cml_text.specs.Lines.{lines};
 ghost use Rattle.cml_schedule.specs.Lines.{after_line};
-ghost use Rattle.cml_schedule.specs.Reading.{IsRead, LeadsTo, DoesNotFit, Fits, schedule_limit};
+ghost use Rattle.cml_schedule.specs.Reading.{IsRead, LeadsTo, DoesNotFit, LineFits, schedule_limit};
 
 use crate::fault::ScheduleFault;
 use crate::item::Plan;
@@ -40,7 +40,7 @@ pub fn read_schedule(alloc: Global, text: &[u8]) -> Result<Plan, ScheduleFault>
 
 // How far the schedule was read after this line, if the line fits.
 fn after_text(alloc: Global, state: State, line: &[u8]) -> Result<Option<State>, AllocError>
-    ensures { IfOk result (λ next. MatchOption next (DoesNotFit state line.now) (Fits state line.now)) }
+    ensures { IfOk result (λ next. MatchOption next (DoesNotFit state line.now) (LineFits state line.now)) }
 {
     match read(alloc, line) {
         Ok(forms) => after_line(alloc, state, forms.as_slice()),

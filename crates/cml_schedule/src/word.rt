@@ -1,11 +1,11 @@
-//! The words of a schedule.
+//! The keywords of a schedule.
 
 ghost use Rattle.std.specs.Prelude.{◌≡◌};
 ghost use Rattle.cml_schedule.specs.Words as spec;
 
 use cml_text::{Sexpr, Shape};
 
-/// A word with which a line of a schedule begins.
+/// A keyword with which a line of a schedule begins.
 #[derive(Clone, Copy, PartialEq, Eq)]
 pub enum Word {
     Schedule,
@@ -16,9 +16,9 @@ pub enum Word {
     End,
 }
 
-/// The word that the form is, if it is one.
+/// The keyword that the form is, if it is one.
 pub fn word_of(form: &Sexpr) -> Option<Word>
-    ensures { result ≡ spec.word_of form.now }
+    ensures { result ≡ spec.line_word form.now }
 {
     match form.shape() {
         Shape::Name(name) => word_named(name.as_str()),

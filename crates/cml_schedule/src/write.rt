@@ -54,7 +54,7 @@ fn push_item(text: &mut String, item: &Item) -> Result<(), AllocError>
 }
 
 fn push_row(text: &mut String, word: &str, row: &Meet) -> Result<(), AllocError>
-    ensures { let line = spec.row_line word.now row.now in
+    ensures { let line = spec.taken_row_line word.now row.now in
         OnOk result (string_bytes text.new ≡ string_bytes text.old ++ line) }
 {
     text.push_str(word)?;

@@ -16,11 +16,11 @@ leaves_at waited tick = unwrap_or (lookup (λ t. t == tick) waited) 0
 abbrev pub IsWaited : PlainClock → ℕ → Type 0
 IsWaited clock tick = 0 < leaves_at clock.waited tick
 
--- one more leaf waits for the tick, and as many as before for each other
+-- one more leaf waits for the tick, and as many as before for each other tick
 abbrev pub AddsLeaf : ℕ → List (ℕ × ℕ) → List (ℕ × ℕ) → Type 0
 AddsLeaf tick old new = (t : ℕ) → leaves_at new t ≡ (if t == tick then leaves_at old t + 1 else leaves_at old t)
 
--- one leaf less waits for the tick, if any did, and as many as before for each other
+-- one leaf less waits for the tick, if any did, and as many as before for each other tick
 abbrev pub RemovesLeaf : ℕ → List (ℕ × ℕ) → List (ℕ × ℕ) → Type 0
 RemovesLeaf tick old new = (t : ℕ) → leaves_at new t ≡ (if t == tick then leaves_at old t - 1 else leaves_at old t)
 
@@ -28,6 +28,6 @@ RemovesLeaf tick old new = (t : ℕ) → leaves_at new t ≡ (if t == tick then 
 abbrev pub LightsTick : PlainClock → ℕ → ℕ → Type 0
 LightsTick clock to tick = IsWaited clock tick × (clock.tick < tick) × (tick ≤ to)
 
--- The toolchain asks for a code; no rule speaks of it.
+-- The toolchain asks for a code; no rule uses it.
 abbrev pub clock_code : Coded PlainClock
 clock_code = code_by (ℕ × List (ℕ × ℕ)) (coded× coded_ℕ (coded_list (coded× coded_ℕ coded_ℕ))) (λ c. (c.tick, c.waited)) (λ p. record { tick = p.0; waited = p.1 }) (λ _. refl)

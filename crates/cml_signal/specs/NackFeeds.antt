@@ -1,4 +1,4 @@
--- What befalls a nack, as feeds of a source.
+-- What happens to a nack, as feeds of a source.
 use Rattle.std.specs.Prelude.{◌≡◌, Option, Some, None, Result, Ok, Err, IsTrue}
 use Rattle.cml_value.specs.Nack.{PlainNack, fresh_of, live, fired, held}
 use Rattle.cml_base.specs.Feeds.{PlainRefusal, spent}

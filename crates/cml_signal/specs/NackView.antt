@@ -1,4 +1,4 @@
--- What a nack is seen as, from its one field.
+-- The view of a nack, made from its one field.
 use Rattle.cml_value.specs.Nack.{PlainNack, fresh_of, live, fired, held}
 use Rattle.cml_signal.specs.declared.nack.State.{State}
 use Rattle.cml_signal.specs.declared.nack.State.TheVariants as state

@@ -8,7 +8,7 @@ use cml_value::{Value, ValueKind};
 use std::alloc::AllocError;
 use std::marker::Model;
 
-/// One tick for which threads wait. It is fed each time that the clock has come to, and rings from its tick on.
+/// One tick for which threads wait. It is fed each time to which the clock has moved, and rings from its tick on.
 #[derive(Drop)]
 pub struct Alarm {
     tick: u64,
@@ -54,7 +54,7 @@ impl Source for Alarm {
 
     type Want = ();
 
-    /// The time that the clock has come to.
+    /// The time to which the clock has moved.
     type Feed = u64;
 
     ghost State = { PlainAlarm };

@@ -10,7 +10,7 @@ use std::ops::Bound;
 
 /// The time now, and for each tick that a leaf of a pending thread waits for, how many do.
 ///
-/// Each call but `ticks_until` takes time by the number of digits of the number of waited ticks, however many leaves wait.
+/// Each call except `ticks_until` takes time logarithmic in the number of waited ticks, however many leaves wait.
 #[derive(Drop)]
 pub struct Clock {
     tick: u64,
@@ -66,7 +66,7 @@ impl Clock {
     /// One more leaf waits for the tick.
     ///
     /// # Errors
-    /// Want of memory, where no leaf waited for it: nothing changes.
+    /// Out of memory, where no leaf waited for it: nothing changes.
     pub fn wait(&mut self, tick: u64) -> Result<(), AllocError>
         requires { leaves_at self.old.waited tick + 1 < 2 ^ 64 }
         ensures ok { OnOk result (AddsLeaf tick self.old.waited self.new.waited) }
@@ -96,7 +96,7 @@ impl Clock {
     /// The ticks that come when the clock moves to this time, ascending: those for which waits are enabled then and were not before.
     ///
     /// # Errors
-    /// Want of memory.
+    /// Out of memory.
     pub fn ticks_until(&self, alloc: Global, to: u64) -> Result<Vec<u64>, AllocError>
         requires { self.now.tick ≤ to }
         ensures exact { IfOk result (λ ticks.

@@ -119,7 +119,7 @@ impl NackCell {
     }
 }
 
-/// What befalls a nack.
+/// What happens to a nack.
 #[derive(Drop)]
 pub enum NackFeed {
     /// A pending group has its branch from now on.

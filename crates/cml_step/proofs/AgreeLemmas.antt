@@ -18,9 +18,9 @@ use Rattle.std.specs.Global.{Global}
 use Rattle.std.specs.declared.vec.Vec.{Vec}
 use Rattle.std.proofs.lemmas.Bool.{and_parts, and_from}
 use Rattle.cml_step.specs.declared.fault.Stop.{Stop}
-use Rattle.cml_step.specs.Faults.{Found, ◌>>=◌, Gives}
-use Rattle.cml_step.specs.Kinds.{number_of, truth_of, first_of, second_of, thread_of, chan_of, swapchan_of, ivar_of, mvar_of, mailbox_of, port_of, event_of}
-use Rattle.cml_step.specs.Operators.{constant_value, ticks_of, built, is_number, in_range, base_value, unary_value, binary_value, events_of, choose_value, wrap_value, guard_value, nack_value}
+use Rattle.cml_step.specs.Faults.{Found, ◌>>=◌, ComesTo}
+use Rattle.cml_step.specs.Kinds.{as_number, as_truth, first_part, second_part, as_thread, as_chan, as_swapchan, as_ivar, as_mvar, as_mailbox, as_port, as_event}
+use Rattle.cml_step.specs.Operators.{constant_value, ticks_of, built, is_in_range, in_range, base_value, unary_value, binary_value, as_events, choose_value, wrap_value, guard_value, nack_value}
 use Rattle.cml_step.specs.Variables.{slot_value}
 use Rattle.cml_step.specs.Evaluate.{evaluate, evaluate_all}
 use Rattle.cml_step.specs.Agrees.{value_agrees, values_agree, values_count, function_agrees, base_agrees, event_agrees, events_agree, all_agree}
@@ -58,11 +58,11 @@ constant_agrees fs constant_of.False = refl
 constant_agrees fs constant_of.Unit = refl
 constant_agrees fs constant_of.Never = refl
 
-first_agrees : (fs : List ℕ) (v : PlainValue) → value_agrees fs v ≡ true → Agrees fs (first_of v)
+first_agrees : (fs : List ℕ) (v : PlainValue) → value_agrees fs v ≡ true → Agrees fs (first_part v)
 first_agrees fs (pair a b) h = (and_parts _ _ h).0
 first_agrees fs _ h = tt
 
-second_agrees : (fs : List ℕ) (v : PlainValue) → value_agrees fs v ≡ true → Agrees fs (second_of v)
+second_agrees : (fs : List ℕ) (v : PlainValue) → value_agrees fs v ≡ true → Agrees fs (second_part v)
 second_agrees fs (pair a b) h = (and_parts (value_agrees fs a) _ h).1
 second_agrees fs _ h = tt
 
@@ -70,17 +70,17 @@ plain_base_agrees : {A : Type 0} (fs : List ℕ) (r : Found A) (b : A → PlainB
 plain_base_agrees fs r b h = then_agrees fs r (λ x. base_value (b x)) (λ x _. built_agrees fs (event (leaf (b x))) (h x))
 
 unary_agrees : (fs : List ℕ) (op : Unary) (v : PlainValue) → value_agrees fs v ≡ true → Agrees fs (unary_value op v)
-unary_agrees fs unary_of.Not v h = then_agrees fs (truth_of v) _ (λ x _. refl)
+unary_agrees fs unary_of.Not v h = then_agrees fs (as_truth v) _ (λ x _. refl)
 unary_agrees fs unary_of.Fst v h = first_agrees fs v h
 unary_agrees fs unary_of.Snd v h = second_agrees fs v h
 unary_agrees fs unary_of.Always v h = built_agrees fs (event (leaf (value.always v))) h
-unary_agrees fs unary_of.Recv v h = plain_base_agrees fs (chan_of v) value.recv (λ x. refl)
-unary_agrees fs unary_of.IGet v h = plain_base_agrees fs (ivar_of v) value.iget (λ x. refl)
-unary_agrees fs unary_of.MTake v h = plain_base_agrees fs (mvar_of v) value.mtake (λ x. refl)
-unary_agrees fs unary_of.MGet v h = plain_base_agrees fs (mvar_of v) value.mget (λ x. refl)
-unary_agrees fs unary_of.MailRecv v h = plain_base_agrees fs (mailbox_of v) value.mail_recv (λ x. refl)
-unary_agrees fs unary_of.PortRecv v h = plain_base_agrees fs (port_of v) value.port_recv (λ x. refl)
-unary_agrees fs unary_of.Join v h = plain_base_agrees fs (thread_of v) value.join (λ x. refl)
+unary_agrees fs unary_of.Recv v h = plain_base_agrees fs (as_chan v) value.recv (λ x. refl)
+unary_agrees fs unary_of.IGet v h = plain_base_agrees fs (as_ivar v) value.iget (λ x. refl)
+unary_agrees fs unary_of.MTake v h = plain_base_agrees fs (as_mvar v) value.mtake (λ x. refl)
+unary_agrees fs unary_of.MGet v h = plain_base_agrees fs (as_mvar v) value.mget (λ x. refl)
+unary_agrees fs unary_of.MailRecv v h = plain_base_agrees fs (as_mailbox v) value.mail_recv (λ x. refl)
+unary_agrees fs unary_of.PortRecv v h = plain_base_agrees fs (as_port v) value.port_recv (λ x. refl)
+unary_agrees fs unary_of.Join v h = plain_base_agrees fs (as_thread v) value.join (λ x. refl)
 unary_agrees fs unary_of.At v h = plain_base_agrees fs (ticks_of v) value.at_tick (λ x. refl)
 unary_agrees fs unary_of.After v h = plain_base_agrees fs (ticks_of v) value.after_ticks (λ x. refl)
 
@@ -89,11 +89,11 @@ in_range_if fs true z = refl
 in_range_if fs false z = tt
 
 in_range_agrees : (fs : List ℕ) (z : ℤ) → Agrees fs (in_range z)
-in_range_agrees fs z = in_range_if fs (is_number z) z
+in_range_agrees fs z = in_range_if fs (is_in_range z) z
 
 two_numbers : (fs : List ℕ) (v w : PlainValue) (k : ℤ → ℤ → Found PlainValue) → ((x y : ℤ) → Agrees fs (k x y)) →
-    Agrees fs (number_of v >>= (λ x. number_of w >>= (λ y. k x y)))
-two_numbers fs v w k h = then_agrees fs (number_of v) _ (λ x _. then_agrees fs (number_of w) _ (λ y _. h x y))
+    Agrees fs (as_number v >>= (λ x. as_number w >>= (λ y. k x y)))
+two_numbers fs v w k h = then_agrees fs (as_number v) _ (λ x _. then_agrees fs (as_number w) _ (λ y _. h x y))
 
 binary_agrees : (fs : List ℕ) (op : Binary) (v w : PlainValue) → value_agrees fs v ≡ true → value_agrees fs w ≡ true → Agrees fs (binary_value op v w)
 binary_agrees fs binary_of.Plus v w h g = two_numbers fs v w _ (λ x y. in_range_agrees fs (x +ℤ y))
@@ -102,11 +102,11 @@ binary_agrees fs binary_of.Times v w h g = two_numbers fs v w _ (λ x y. in_rang
 binary_agrees fs binary_of.Less v w h g = two_numbers fs v w _ (λ x y. refl)
 binary_agrees fs binary_of.Equal v w h g = refl
 binary_agrees fs binary_of.Pair v w h g = built_agrees fs (pair v w) (and_from _ _ h g)
-binary_agrees fs binary_of.Send v w h g = then_agrees fs (chan_of v) _ (λ c _. built_agrees fs (event (leaf (value.send c w))) g)
-binary_agrees fs binary_of.Swap v w h g = then_agrees fs (swapchan_of v) _ (λ s _. built_agrees fs (event (leaf (value.swap s w))) g)
-binary_agrees fs binary_of.MSwap v w h g = then_agrees fs (mvar_of v) _ (λ m _. built_agrees fs (event (leaf (value.mswap m w))) g)
+binary_agrees fs binary_of.Send v w h g = then_agrees fs (as_chan v) _ (λ c _. built_agrees fs (event (leaf (value.send c w))) g)
+binary_agrees fs binary_of.Swap v w h g = then_agrees fs (as_swapchan v) _ (λ s _. built_agrees fs (event (leaf (value.swap s w))) g)
+binary_agrees fs binary_of.MSwap v w h g = then_agrees fs (as_mvar v) _ (λ m _. built_agrees fs (event (leaf (value.mswap m w))) g)
 
-pub event_of_agrees : (fs : List ℕ) (v : PlainValue) (e : PlainEvent) → value_agrees fs v ≡ true → event_of v ≡ Ok e → event_agrees fs e ≡ true
+pub event_of_agrees : (fs : List ℕ) (v : PlainValue) (e : PlainEvent) → value_agrees fs v ≡ true → as_event v ≡ Ok e → event_agrees fs e ≡ true
 event_of_agrees fs (event d) e h g = let p : d ≡ e = cc in ap (event_agrees fs) (sym p) ∙ h
 event_of_agrees fs _ e h g = absurd (cc)
 
@@ -116,16 +116,16 @@ events_then fs (Ok e) (Ok es) h g = and_from _ _ (h e refl) g
 events_then fs (Ok e) (Err x) h g = tt
 events_then fs (Err x) q h g = tt
 
-events_of_agree : (fs : List ℕ) (vs : List PlainValue) → all_agree fs vs ≡ true → IfOk (events_of vs) (λ es. events_agree fs (events es) ≡ true)
+events_of_agree : (fs : List ℕ) (vs : List PlainValue) → all_agree fs vs ≡ true → IfOk (as_events vs) (λ es. events_agree fs (events es) ≡ true)
 events_of_agree fs [] h = refl
-events_of_agree fs (v ∷ vs) h = events_then fs (event_of v) (events_of vs) (λ e g. event_of_agrees fs v e (and_parts _ _ h).0 g) (events_of_agree fs vs (and_parts _ _ h).1)
+events_of_agree fs (v ∷ vs) h = events_then fs (as_event v) (as_events vs) (λ e g. event_of_agrees fs v e (and_parts _ _ h).0 g) (events_of_agree fs vs (and_parts _ _ h).1)
 
 choose_agrees : (fs : List ℕ) (r : Found (List PlainEvent)) → IfOk r (λ es. events_agree fs (events es) ≡ true) → Agrees fs (r >>= (λ es. built (event (value.choose (events es)))))
 choose_agrees fs (Ok es) h = built_agrees fs (event (value.choose (events es))) h
 choose_agrees fs (Err e) h = tt
 
 wrap_agrees : (fs : List ℕ) (v : PlainValue) (f : PlainFunction) → value_agrees fs v ≡ true → function_agrees fs 1 f ≡ true → Agrees fs (wrap_value v f)
-wrap_agrees fs v f h g = then_agrees fs (event_of v) _ (λ e p. built_agrees fs (event (value.wrap e f)) (and_from (event_agrees fs e) (function_agrees fs 1 f) (event_of_agrees fs v e h p) g))
+wrap_agrees fs v f h g = then_agrees fs (as_event v) _ (λ e p. built_agrees fs (event (value.wrap e f)) (and_from (event_agrees fs e) (function_agrees fs 1 f) (event_of_agrees fs v e h p) g))
 
 slot_agrees : (fs : List ℕ) (vs : List PlainValue) (s : ℕ) → all_agree fs vs ≡ true → value_agrees fs (slot_value vs s) ≡ true
 slot_agrees fs [] zero h = refl
@@ -133,7 +133,7 @@ slot_agrees fs [] (suc s) h = refl
 slot_agrees fs (v ∷ vs) zero h = (and_parts _ _ h).0
 slot_agrees fs (v ∷ vs) (suc s) h = slot_agrees fs vs s (and_parts _ _ h).1
 
--- a function that takes so many values and is given them
+-- a function that takes this many values and is given them
 pub given_agrees : (fs : List ℕ) (f n more : ℕ) (vs : List PlainValue) → takes fs f (n + more) ≡ true → length vs ≡ n → all_agree fs vs ≡ true →
     function_agrees fs more (function f (values vs)) ≡ true
 given_agrees fs f n more vs t l h =
@@ -178,7 +178,7 @@ unary_then fs op (Ok v) h = unary_agrees fs op v h
 unary_then fs op (Err e) h = tt
 
 choose_then : (fs : List ℕ) (r : Found (List PlainValue)) → AllAgrees fs r → Agrees fs (r >>= choose_value)
-choose_then fs (Ok vs) h = choose_agrees fs (events_of vs) (events_of_agree fs vs h)
+choose_then fs (Ok vs) h = choose_agrees fs (as_events vs) (events_of_agree fs vs h)
 choose_then fs (Err e) h = tt
 
 module _ (fs : List ℕ) (n : ℕ) (vs : List PlainValue) (h : all_agree fs vs ≡ true) where
@@ -205,19 +205,19 @@ module _ (fs : List ℕ) (n : ℕ) (vs : List PlainValue) (h : all_agree fs vs �
     all_evaluate_agree no_exprs f = refl
     all_evaluate_agree (exprs_and e es) f = all_then fs _ _ (evaluate_agrees e (and_parts _ _ f).0) (all_evaluate_agree es (and_parts (expr_fits fs n e) _ f).1)
 
--- from what is found to what a call answers
-pub answer_agrees : (fs : List ℕ) (r : Result PlainValue Stop) (found : Found PlainValue) → Gives (λ v. v) r found → Agrees fs found → IfOk r (λ v. value_agrees fs v ≡ true)
+-- from what is found to what a call returns
+pub answer_agrees : (fs : List ℕ) (r : Result PlainValue Stop) (found : Found PlainValue) → ComesTo (λ v. v) r found → Agrees fs found → IfOk r (λ v. value_agrees fs v ≡ true)
 answer_agrees fs (Ok v) (Ok w) g a = let p : w ≡ v = cc in ap (value_agrees fs) (sym p) ∙ a
 answer_agrees fs (Ok v) (Err e) g a = absurd (cc)
 answer_agrees fs (Err e) found g a = tt
 
-pub answers_agree : (fs : List ℕ) (r : Result (Vec PlainValue Global) Stop) (found : Found (List PlainValue)) → Gives (λ vs. vs.items) r found → AllAgrees fs found →
+pub answers_agree : (fs : List ℕ) (r : Result (Vec PlainValue Global) Stop) (found : Found (List PlainValue)) → ComesTo (λ vs. vs.items) r found → AllAgrees fs found →
     IfOk r (λ vs. all_agree fs vs.items ≡ true)
 answers_agree fs (Ok vs) (Ok ws) g a = let p : ws ≡ vs.items = cc in ap (all_agree fs) (sym p) ∙ a
 answers_agree fs (Ok vs) (Err e) g a = absurd (cc)
 answers_agree fs (Err e) found g a = tt
 
-pub answers_count : (n : ℕ) (r : Result (Vec PlainValue Global) Stop) (found : Found (List PlainValue)) → Gives (λ vs. vs.items) r found → IfOk found (λ vs. length vs ≡ n) →
+pub answers_count : (n : ℕ) (r : Result (Vec PlainValue Global) Stop) (found : Found (List PlainValue)) → ComesTo (λ vs. vs.items) r found → IfOk found (λ vs. length vs ≡ n) →
     IfOk r (λ vs. length vs.items ≡ n)
 answers_count n (Ok vs) (Ok ws) g a = let p : ws ≡ vs.items = cc in ap length (sym p) ∙ a
 answers_count n (Ok vs) (Err e) g a = absurd (cc)

@@ -4,8 +4,8 @@ use Rattle.std.proofs.lemmas.List.{reverse-reverse}
 use Rattle.std.proofs.lemmas.Bool.{and_parts, and_from}
 use mathlib.Core.List.{reverse_aux}
 use Rattle.cml_value.specs.Value.{PlainValue, PlainFunction, PlainEvent, guard, scope}
-use Rattle.cml_group.specs.Force.{PlainAsk as PlainPlace, calls, needs_nack, unforced, replaced, given_nack, AwaitsNack}
-use Rattle.cml_check.specs.Syntax.{PlainFunction as PlainItem, no_stmts}
+use Rattle.cml_group.specs.Force.{PlainNeed as PlainPlace, calls, needs_nack, unforced, replaced, given_nack, AwaitsNack}
+use Rattle.cml_check.specs.Syntax.{PlainItem, no_stmts}
 use Rattle.cml_check.specs.Names.{AreDistinct}
 use Rattle.cml_check.specs.InOrder.{InOrder, arities}
 use Rattle.cml_step.specs.declared.place.Hop.{Hop}
@@ -17,10 +17,10 @@ use Rattle.cml_step.specs.declared.entry.Entry.TheVariants as entry
 use Rattle.cml_step.specs.declared.entry.Wraps.{Wraps}
 use Rattle.cml_step.specs.Agrees.{value_agrees, event_agrees, function_agrees, functions_agree}
 use Rattle.cml_step.specs.Answers as await
-use Rattle.cml_step.specs.Answers.{PlainAwait, awaited, awaited_by, answer_for, answered, with_nack_number}
+use Rattle.cml_step.specs.Answers.{PlainAwait, top_await, awaited_by, answer_for, after_answer, with_nack_number}
 use Rattle.cml_step.specs.Asks.{PlainAnswer, a_value, a_nack, a_commit}
 use Rattle.cml_step.specs.Calls.{entry_of, entry_in, entry_for, placed_in, text_of, slots_with, WaitFits}
-use Rattle.cml_step.specs.Machines.{PlainHeld, plain_held, names_of}
+use Rattle.cml_step.specs.Machines.{PlainHeld, plain_held, name_count}
 use Rattle.cml_step.specs.Stacks.{CallFits, entry_view, term_of, StackFits}
 use Rattle.cml_step.specs.Terms.{Program, runs, drops, gives, call, force, wraps, Term, call_of}
 use Rattle.cml_step.proofs.AwaitLemmas.{begun_runs}
@@ -44,7 +44,7 @@ by_nack (Some (calls f)) h = absurd (cc)
 by_nack (Some (needs_nack f)) h = (f, refl)
 by_nack None h = absurd (cc)
 
-call_waits : (o : Option (PlainItem ℕ)) (path : List Hop) (at : ℕ) (slots : List PlainValue) (w : Wait) (below : Term) (a : PlainAwait) → awaited (placed_in o path at slots w ∷ below) ≡ a →
+call_waits : (o : Option (PlainItem ℕ)) (path : List Hop) (at : ℕ) (slots : List PlainValue) (w : Wait) (below : Term) (a : PlainAwait) → top_await (placed_in o path at slots w ∷ below) ≡ a →
     (a ≡ await.nack → ⊥) × (a ≡ await.commit → ⊥)
 call_waits (Some f) path at slots wait.Runs below a h = ((λ e. cc), (λ e. cc))
 call_waits (Some f) path at slots wait.Drops below a h = ((λ e. cc), (λ e. cc))
@@ -53,29 +53,29 @@ call_waits None path at slots wait.Runs below a h = ((λ e. cc), (λ e. cc))
 call_waits None path at slots wait.Drops below a h = ((λ e. cc), (λ e. cc))
 call_waits None path at slots (wait.Gives s) below a h = ((λ e. cc), (λ e. cc))
 
-value_top : (p : List (PlainItem ℕ)) (e : Entry) (below : Term) → awaited (entry_view p e ∷ below) ≡ await.value → IsCall e
+value_top : (p : List (PlainItem ℕ)) (e : Entry) (below : Term) → top_await (entry_view p e ∷ below) ≡ await.value → IsCall e
 value_top p (entry.Call c) below h = (c, refl)
 value_top p (entry.Force g true) below h = absurd (by_no_value (unforced g) h)
 value_top p (entry.Force g false) below h = absurd (cc)
 value_top p (entry.Wraps w) below h = absurd (cc)
 
-commit_top : (p : List (PlainItem ℕ)) (e : Entry) (below : Term) → awaited (entry_view p e ∷ below) ≡ await.commit → IsForce e
+commit_top : (p : List (PlainItem ℕ)) (e : Entry) (below : Term) → top_await (entry_view p e ∷ below) ≡ await.commit → IsForce e
 commit_top p (entry.Call c) below h = absurd ((call_waits (slice_get p c.func) c.path.items c.at c.slots.items c.wait below await.commit h).1 refl)
 commit_top p (entry.Force g asked) below h = (g, asked, refl)
 commit_top p (entry.Wraps w) below h = absurd (cc)
 
-nack_top : (g : PlainEvent) (asked : Bool) (below : Term) → awaited (force g asked ∷ below) ≡ await.nack → AwaitsNack g
+nack_top : (g : PlainEvent) (asked : Bool) (below : Term) → top_await (force g asked ∷ below) ≡ await.nack → AwaitsNack g
 nack_top g true below h = by_nack (unforced g) h
 nack_top g false below h = absurd (cc)
 
-pub value_last : (p : List (PlainItem ℕ)) (es : List PlainHeld) (e : Entry) → awaited (term_of p (es ++ plain_held e ∷ [])) ≡ await.value → IsCall e
-value_last p es e h = value_top p e (term_of p es) (ap awaited (sym (term_pushed p es (plain_held e))) ∙ h)
+pub value_last : (p : List (PlainItem ℕ)) (es : List PlainHeld) (e : Entry) → top_await (term_of p (es ++ plain_held e ∷ [])) ≡ await.value → IsCall e
+value_last p es e h = value_top p e (term_of p es) (ap top_await (sym (term_pushed p es (plain_held e))) ∙ h)
 
-pub commit_last : (p : List (PlainItem ℕ)) (es : List PlainHeld) (e : Entry) → awaited (term_of p (es ++ plain_held e ∷ [])) ≡ await.commit → IsForce e
-commit_last p es e h = commit_top p e (term_of p es) (ap awaited (sym (term_pushed p es (plain_held e))) ∙ h)
+pub commit_last : (p : List (PlainItem ℕ)) (es : List PlainHeld) (e : Entry) → top_await (term_of p (es ++ plain_held e ∷ [])) ≡ await.commit → IsForce e
+commit_last p es e h = commit_top p e (term_of p es) (ap top_await (sym (term_pushed p es (plain_held e))) ∙ h)
 
-pub nack_last : (p : List (PlainItem ℕ)) (es : List PlainHeld) (g : PlainEvent) (asked : Bool) → awaited (term_of p (es ++ plain_held (entry.Force g asked) ∷ [])) ≡ await.nack → AwaitsNack g
-nack_last p es g asked h = nack_top g asked (term_of p es) (ap awaited (sym (term_pushed p es (plain_held (entry.Force g asked)))) ∙ h)
+pub nack_last : (p : List (PlainItem ℕ)) (es : List PlainHeld) (g : PlainEvent) (asked : Bool) → top_await (term_of p (es ++ plain_held (entry.Force g asked) ∷ [])) ≡ await.nack → AwaitsNack g
+nack_last p es g asked h = nack_top g asked (term_of p es) (ap top_await (sym (term_pushed p es (plain_held (entry.Force g asked)))) ∙ h)
 
 -- a function of a program in order
 got : (p : List (PlainItem ℕ)) (g : ℕ) (d : PlainItem ℕ) → g < length p → slice_get p g ≡ Some (slice_index_or p g d)
@@ -89,20 +89,20 @@ nowhere = record { name = []; names = []; arity = 0; body = no_stmts }
 -- the term of a stack, once the value has come that the call on top waited for
 filled_call : (p : List (PlainItem ℕ)) (f : PlainItem ℕ) (c d : Call) (v : PlainValue) (below : Term) → slice_get p c.func ≡ Some f → AreDistinct f.names → CallFits p c →
     (d.func ≡ c.func) × (d.at ≡ c.at) × (d.path ≡ c.path) → d.wait ≡ wait.Runs → d.slots.items ≡ slots_with c.wait v c.slots.items →
-    entry_of p d ∷ below ≡ answered (text_of p) (a_value v) (entry_of p c ∷ below)
+    entry_of p d ∷ below ≡ after_answer (text_of p) (a_value v) (entry_of p c ∷ below)
 filled_call p f c d v below o i h e w s =
-    let room : WaitFits c.wait (length f.names) (length c.slots.items) = subst (λ x. WaitFits c.wait (names_of x) (length c.slots.items)) o h.waits in
+    let room : WaitFits c.wait (length f.names) (length c.slots.items) = subst (λ x. WaitFits c.wait (name_count x) (length c.slots.items)) o h.waits in
     let q : entry_of p d ≡ entry_for f d = ap (λ n. entry_in (slice_get p n) d) e.0 ∙ ap (λ x. entry_in x d) o in
-    ap (λ x. x ∷ below) (q ∙ filled_for f c d v i room e w s) ∙ ap (λ x. answered (text_of p) (a_value v) (entry_in x c ∷ below)) (sym o)
+    ap (λ x. x ∷ below) (q ∙ filled_for f c d v i room e w s) ∙ ap (λ x. after_answer (text_of p) (a_value v) (entry_in x c ∷ below)) (sym o)
 
 pub value_given : (p : List (PlainItem ℕ)) (es : List PlainHeld) (c d : Call) (v : PlainValue) → InOrder p → StackFits p (es ++ plain_held (entry.Call c) ∷ []) →
     (d.func ≡ c.func) × (d.at ≡ c.at) × (d.path ≡ c.path) → d.wait ≡ wait.Runs → d.slots.items ≡ slots_with c.wait v c.slots.items →
-    term_of p (es ++ plain_held (entry.Call d) ∷ []) ≡ answered (text_of p) (a_value v) (term_of p (es ++ plain_held (entry.Call c) ∷ []))
+    term_of p (es ++ plain_held (entry.Call d) ∷ []) ≡ after_answer (text_of p) (a_value v) (term_of p (es ++ plain_held (entry.Call c) ∷ []))
 value_given p es c d v r h e w s =
     let fits : CallFits p c = (fits_popped p es (plain_held (entry.Call c)) h).1 in
     term_pushed p es (plain_held (entry.Call d))
     ∙ filled_call p (slice_index_or p c.func nowhere) c d v (term_of p es) (got p c.func nowhere fits.there) (r c.func nowhere fits.there).distinct fits e w s
-    ∙ ap (answered (text_of p) (a_value v)) (sym (term_pushed p es (plain_held (entry.Call c))))
+    ∙ ap (after_answer (text_of p) (a_value v)) (sym (term_pushed p es (plain_held (entry.Call c))))
 
 pub value_given_fits : (p : List (PlainItem ℕ)) (es : List PlainHeld) (c d : Call) (v : PlainValue) → StackFits p (es ++ plain_held (entry.Call c) ∷ []) → value_agrees (arities p) v ≡ true →
     d.func ≡ c.func → d.wait ≡ wait.Runs → d.slots.items ≡ slots_with c.wait v c.slots.items → StackFits p (es ++ plain_held (entry.Call d) ∷ [])
@@ -115,7 +115,7 @@ functions_turned ns [] gs h g = g
 functions_turned ns (f ∷ fs) gs h g = functions_turned ns fs (f ∷ gs) (and_parts (function_agrees ns 1 f) _ h).1 (and_from (function_agrees ns 1 f) _ (and_parts _ _ h).0 g)
 
 pub commit_given : (p : List (PlainItem ℕ)) (es : List PlainHeld) (g : PlainEvent) (asked : Bool) (w : Wraps) (fs : List PlainFunction) (v : PlainValue) → w.left.items ≡ reverse fs → w.value ≡ v →
-    term_of p (es ++ plain_held (entry.Wraps w) ∷ []) ≡ answered (text_of p) (a_commit v fs) (force g asked ∷ term_of p es)
+    term_of p (es ++ plain_held (entry.Wraps w) ∷ []) ≡ after_answer (text_of p) (a_commit v fs) (force g asked ∷ term_of p es)
 commit_given p es g asked w fs v h e =
     term_pushed p es (plain_held (entry.Wraps w)) ∙ ap (λ gs. wraps (reverse gs) w.value ∷ term_of p es) h ∙ ap (λ gs. wraps gs w.value ∷ term_of p es) (reverse-reverse fs)
     ∙ ap (λ x. wraps fs x ∷ term_of p es) e
@@ -130,7 +130,7 @@ commit_given_fits p es e w fs v h g i j = fits_pushed p es (plain_held (entry.Wr
 -- a nack, and the call of the withNack's function
 pub nack_given : (p : List (PlainItem ℕ)) (es : List PlainHeld) (g new : PlainEvent) (asked : Bool) (k : ℕ) (f : PlainFunction) (c : Call) → unforced g ≡ Some (needs_nack f) →
     new ≡ replaced (scope k (guard (given_nack k f))) g → entry_of p c ≡ call_of (text_of p) (given_nack k f) →
-    entry_of p c ∷ force new false ∷ term_of p es ≡ answered (text_of p) (a_nack k) (force g asked ∷ term_of p es)
+    entry_of p c ∷ force new false ∷ term_of p es ≡ after_answer (text_of p) (a_nack k) (force g asked ∷ term_of p es)
 nack_given p es g new asked k f c u n e =
     ap (λ x. x ∷ force new false ∷ term_of p es) e ∙ ap (λ x. call_of (text_of p) (given_nack k f) ∷ force x false ∷ term_of p es) n
     ∙ ap (λ o. with_nack_number (text_of p) k o g (term_of p es)) (sym u)
@@ -144,10 +144,10 @@ nack_given_agrees ns g new f k h u n = ap (event_agrees ns) n ∙ replaced_agree
 
 pub nack_term : (p : List (PlainItem ℕ)) (es : List PlainHeld) (g new : PlainEvent) (asked : Bool) (k : ℕ) (f : PlainFunction) (c : Call) → unforced g ≡ Some (needs_nack f) →
     new ≡ replaced (scope k (guard (given_nack k f))) g → entry_of p c ≡ call_of (text_of p) (given_nack k f) →
-    term_of p ((es ++ plain_held (entry.Force new false) ∷ []) ++ plain_held (entry.Call c) ∷ []) ≡ answered (text_of p) (a_nack k) (term_of p (es ++ plain_held (entry.Force g asked) ∷ []))
+    term_of p ((es ++ plain_held (entry.Force new false) ∷ []) ++ plain_held (entry.Call c) ∷ []) ≡ after_answer (text_of p) (a_nack k) (term_of p (es ++ plain_held (entry.Force g asked) ∷ []))
 nack_term p es g new asked k f c u n e =
     term_pushed p (es ++ plain_held (entry.Force new false) ∷ []) (plain_held (entry.Call c)) ∙ ap (λ t. entry_of p c ∷ t) (term_pushed p es (plain_held (entry.Force new false)))
-    ∙ nack_given p es g new asked k f c u n e ∙ ap (answered (text_of p) (a_nack k)) (sym (term_pushed p es (plain_held (entry.Force g asked))))
+    ∙ nack_given p es g new asked k f c u n e ∙ ap (after_answer (text_of p) (a_nack k)) (sym (term_pushed p es (plain_held (entry.Force g asked))))
 
 pub nack_fits : (p : List (PlainItem ℕ)) (es : List PlainHeld) (g new : PlainEvent) (asked : Bool) (k : ℕ) (f : PlainFunction) (c : Call) → unforced g ≡ Some (needs_nack f) →
     new ≡ replaced (scope k (guard (given_nack k f))) g → unforced new ≡ Some (calls (given_nack k f)) →
@@ -160,12 +160,12 @@ nack_fits p es g new asked k f c u n a i h =
     (i (nack_agrees (arities p) g f k r.1 u))
 
 -- an answered thread waits for nothing
-nack_runs : (p : Program) (k : ℕ) (o : Option PlainPlace) (e : PlainEvent) (below : Term) → unforced e ≡ o → awaited_by o ≡ await.nack → awaited (with_nack_number p k o e below) ≡ await.nothing
+nack_runs : (p : Program) (k : ℕ) (o : Option PlainPlace) (e : PlainEvent) (below : Term) → unforced e ≡ o → awaited_by o ≡ await.nack → top_await (with_nack_number p k o e below) ≡ await.nothing
 nack_runs p k (Some (calls f)) e below u h = absurd (cc)
 nack_runs p k (Some (needs_nack f)) e below u h = begun_runs p (given_nack k f) (force (replaced (scope k (guard (given_nack k f))) e) false ∷ below)
 nack_runs p k None e below u h = absurd (cc)
 
-pub answered_runs : (p : Program) (a : PlainAnswer) (t : Term) → awaited t ≡ answer_for a → awaited (answered p a t) ≡ await.nothing
+pub answered_runs : (p : Program) (a : PlainAnswer) (t : Term) → top_await t ≡ answer_for a → top_await (after_answer p a t) ≡ await.nothing
 answered_runs p (a_value v) [] h = refl
 answered_runs p (a_value v) (call left variables w ∷ below) h = refl
 answered_runs p (a_value v) (force e true ∷ below) h = absurd (by_no_value (unforced e) h)

@@ -2,7 +2,7 @@
 use Rattle.std.proofs.Common.{◌≡◌, ℕ, zero, suc, true, List, [], ◌∷◌, ◌++◌, length, set, refl, ap, sym, ◌∙◌, Some}
 use Rattle.std.proofs.lemmas.Bool.{and_parts, and_from}
 use Rattle.cml_value.specs.Value.{PlainValue, unit}
-use Rattle.cml_check.specs.Syntax.{Name, name_at, PlainStmt, PlainStmts, stmt_map, stmts_map, PlainFunction as PlainItem}
+use Rattle.cml_check.specs.Syntax.{Name, name_at, PlainStmt, PlainStmts, stmt_map, stmts_map, PlainItem}
 use Rattle.cml_step.specs.declared.place.Hop.{Hop}
 use Rattle.cml_step.specs.declared.call.Call.{Call}
 use Rattle.cml_step.specs.Places.{stmt_at, block_at, left_at}

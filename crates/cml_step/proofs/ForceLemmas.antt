@@ -5,13 +5,13 @@ use Rattle.cml_value.specs.Value.{PlainValue, event, PlainValues, no_values, val
 use Rattle.cml_value.specs.Group.{PlainGroup, PlainGroups, no_groups, groups_and}
 use Rattle.cml_value.specs.Group as group
 use Rattle.cml_check.specs.Heads.{takes}
-use Rattle.cml_group.specs.Force.{PlainAsk, calls, needs_nack, unforced, unforced_of_all, or_else, where_found, replaced, replaced_in_all, with_last, given_nack}
+use Rattle.cml_group.specs.Force.{PlainNeed, calls, needs_nack, unforced, unforced_of_all, or_else, where_found, replaced, replaced_in_all, with_last, given_nack}
 use Rattle.cml_group.specs.Force as forced
-use Rattle.cml_step.specs.Forced.{group_of, groups_of, given}
+use Rattle.cml_step.specs.Forced.{group_of, groups_of, with_argument}
 use Rattle.cml_step.specs.Terms.{list_of}
 use Rattle.cml_step.specs.Agrees.{value_agrees, values_agree, values_count, function_agrees, event_agrees, events_agree}
 
-if_found : (fs : List ℕ) (a : Option PlainAsk) (x y : PlainEvents) → events_agree fs x ≡ true → events_agree fs y ≡ true → events_agree fs (where_found a x y) ≡ true
+if_found : (fs : List ℕ) (a : Option PlainNeed) (x y : PlainEvents) → events_agree fs x ≡ true → events_agree fs y ≡ true → events_agree fs (where_found a x y) ≡ true
 if_found fs (Some a) x y h g = h
 if_found fs None x y h g = g
 
@@ -34,12 +34,12 @@ mutual
       (and_from (event_agrees fs e) _ (and_parts _ _ g).0 (all_replaced fs new es h (and_parts (event_agrees fs e) _ g).1))
 
 -- a place that is found has a function that agrees
-abbrev pub PlaceAgrees : List ℕ → Option PlainAsk → Type 0
+abbrev pub PlaceAgrees : List ℕ → Option PlainNeed → Type 0
 PlaceAgrees fs (Some (calls f)) = function_agrees fs 0 f ≡ true
 PlaceAgrees fs (Some (needs_nack f)) = function_agrees fs 1 f ≡ true
 PlaceAgrees fs None = Unit {0}
 
-either_agrees : (fs : List ℕ) (a b : Option PlainAsk) → PlaceAgrees fs a → PlaceAgrees fs b → PlaceAgrees fs (or_else a b)
+either_agrees : (fs : List ℕ) (a b : Option PlainNeed) → PlaceAgrees fs a → PlaceAgrees fs b → PlaceAgrees fs (or_else a b)
 either_agrees fs (Some a) b h g = h
 either_agrees fs None b h g = g
 
@@ -66,7 +66,7 @@ last_agrees fs v no_values h g = and_from _ _ h refl
 last_agrees fs v (values_and w ws) h g = and_from (value_agrees fs w) _ (and_parts _ _ g).0 (last_agrees fs v ws h (and_parts (value_agrees fs w) _ g).1)
 
 -- a function that takes one value more, given one
-pub given_agrees_last : (fs : List ℕ) (f : PlainFunction) (v : PlainValue) → function_agrees fs 1 f ≡ true → value_agrees fs v ≡ true → function_agrees fs 0 (given f v) ≡ true
+pub given_agrees_last : (fs : List ℕ) (f : PlainFunction) (v : PlainValue) → function_agrees fs 1 f ≡ true → value_agrees fs v ≡ true → function_agrees fs 0 (with_argument f v) ≡ true
 given_agrees_last fs (function f vs) v h g =
     let e : values_count (with_last v vs) + 0 ≡ values_count vs + 1 = omega (arith, last_count v vs) in
     and_from (takes fs f (values_count (with_last v vs) + 0)) _ (ap (takes fs f) e ∙ (and_parts _ _ h).0) (last_agrees fs v vs g (and_parts (takes fs f (values_count vs + 1)) _ h).1)
@@ -100,6 +100,6 @@ values_last v (w ∷ vs) = ap (values_and w) (values_last v vs)
 pub guard_agrees : (fs : List ℕ) (e : PlainEvent) (f : PlainFunction) → event_agrees fs e ≡ true → unforced e ≡ Some (calls f) → function_agrees fs 0 f ≡ true
 guard_agrees fs e f h g = subst (PlaceAgrees fs) g (place_agrees fs e h)
 
-pub given_is : (f : PlainFunction) (n : ℕ) (vs ws : List PlainValue) (v : PlainValue) → n ≡ func_of f → values vs ≡ args_of f → ws ≡ vs ++ v ∷ [] → given f v ≡ function n (values ws)
+pub given_is : (f : PlainFunction) (n : ℕ) (vs ws : List PlainValue) (v : PlainValue) → n ≡ func_of f → values vs ≡ args_of f → ws ≡ vs ++ v ∷ [] → with_argument f v ≡ function n (values ws)
 given_is (function g us) n vs ws v e a i =
     ap (function g) (ap (with_last v) (sym a) ∙ sym (values_last v vs) ∙ ap values (sym i)) ∙ ap (λ m. function m (values ws)) (sym e)

@@ -2,13 +2,13 @@
 use Rattle.std.proofs.Common.{◌≡◌, ℕ, true, false, List, [], ◌∷◌, ◌++◌, refl, ap, sym, ◌∙◌, subst, Some, Bool}
 use Rattle.cml_value.specs.Value.{PlainFunction, PlainEvent, guard, scope}
 use Rattle.cml_group.specs.Force.{calls, needs_nack, unforced, replaced, given_nack}
-use Rattle.cml_check.specs.Syntax.{PlainFunction as PlainItem}
+use Rattle.cml_check.specs.Syntax.{PlainItem}
 use Rattle.cml_check.specs.InOrder.{arities}
 use Rattle.cml_step.specs.declared.call.Call.{Call}
 use Rattle.cml_step.specs.declared.entry.Entry.TheVariants as entry
 use Rattle.cml_step.specs.declared.nack.NackRoom.{NackRoom}
 use Rattle.cml_step.specs.Agrees.{function_agrees}
-use Rattle.cml_step.specs.Answers.{answered}
+use Rattle.cml_step.specs.Answers.{after_answer}
 use Rattle.cml_step.specs.AnswerViews.{Awaits}
 use Rattle.cml_step.specs.Asks.{a_nack}
 use Rattle.cml_step.specs.Calls.{entry_of, text_of}
@@ -40,9 +40,9 @@ room_made m r es g new asked f made w st is =
     let one = plain_held (entry.Force new false) in
     let other = plain_held (entry.Call r.call) in
     let all : (nack_given r m).stack ≡ (es ++ one ∷ []) ++ other ∷ [] = ap (λ hs. hs ++ other ∷ []) is in
-    let meant : (p : List (PlainItem ℕ)) → machine_term p (nack_given r m) ≡ answered (text_of p) (a_nack r.nack.0) (machine_term p m) =
+    let meant : (p : List (PlainItem ℕ)) → machine_term p (nack_given r m) ≡ after_answer (text_of p) (a_nack r.nack.0) (machine_term p m) =
     λ p. ap (term_of p) all ∙ nack_term p es g new asked r.nack.0 f r.call made.asks made.event (made.term p)
-    ∙ ap (λ hs. answered (text_of p) (a_nack r.nack.0) (term_of p hs)) (sym st) in
+    ∙ ap (λ hs. after_answer (text_of p) (a_nack r.nack.0) (term_of p hs)) (sym st) in
     record {
       made = (new, all ∙ sym (topped_over es top one other) ∙ ap (topped_by one other) (sym st));
       meant = λ p h. meant p;

@@ -4,8 +4,8 @@ use Rattle.cml_value.specs.Value.{PlainValue, PlainEvent}
 use Rattle.cml_check.specs.Syntax.{PlainExpr, PlainExprs, exprs_and}
 use Rattle.cml_step.specs.declared.fault.Fault.{Fault}
 use Rattle.cml_step.specs.Faults.{Found, ◌>>=◌}
-use Rattle.cml_step.specs.Kinds.{event_of}
-use Rattle.cml_step.specs.Operators.{events_of}
+use Rattle.cml_step.specs.Kinds.{as_event}
+use Rattle.cml_step.specs.Operators.{as_events}
 use Rattle.cml_step.specs.Evaluate.{evaluate, evaluate_all}
 
 abbrev pub prefixed : {A : Type 0} → List A → Found (List A) → Found (List A)
@@ -20,17 +20,17 @@ next_in : {A : Type 0} (seen : List A) (x : A) (r : Found (List A)) → prefixed
 next_in seen x (Ok left) = ap Ok (sym (append_assoc seen (x ∷ []) left))
 next_in seen x (Err e) = refl
 
-pub events_start : (vs : List PlainValue) → events_of vs ≡ prefixed [] (events_of vs)
-events_start vs = sym (prefixed_none (events_of vs))
+pub events_start : (vs : List PlainValue) → as_events vs ≡ prefixed [] (as_events vs)
+events_start vs = sym (prefixed_none (as_events vs))
 
-pub events_next : (vs left : List PlainValue) (seen : List PlainEvent) (v : PlainValue) (e : PlainEvent) → events_of vs ≡ prefixed seen (events_of (v ∷ left)) →
-    event_of v ≡ Ok e → events_of vs ≡ prefixed (seen ++ e ∷ []) (events_of left)
+pub events_next : (vs left : List PlainValue) (seen : List PlainEvent) (v : PlainValue) (e : PlainEvent) → as_events vs ≡ prefixed seen (as_events (v ∷ left)) →
+    as_event v ≡ Ok e → as_events vs ≡ prefixed (seen ++ e ∷ []) (as_events left)
 events_next vs left seen v e h g =
-    h ∙ ap (λ r. prefixed seen (r >>= (λ f. events_of left >>= (λ fs. Ok (f ∷ fs))))) g ∙ next_in seen e (events_of left)
+    h ∙ ap (λ r. prefixed seen (r >>= (λ f. as_events left >>= (λ fs. Ok (f ∷ fs))))) g ∙ next_in seen e (as_events left)
 
-pub events_fault : (vs left : List PlainValue) (seen : List PlainEvent) (v : PlainValue) (x : Fault) → events_of vs ≡ prefixed seen (events_of (v ∷ left)) →
-    event_of v ≡ Err x → events_of vs ≡ Err x
-events_fault vs left seen v x h g = h ∙ ap (λ r. prefixed seen (r >>= (λ f. events_of left >>= (λ fs. Ok (f ∷ fs))))) g
+pub events_fault : (vs left : List PlainValue) (seen : List PlainEvent) (v : PlainValue) (x : Fault) → as_events vs ≡ prefixed seen (as_events (v ∷ left)) →
+    as_event v ≡ Err x → as_events vs ≡ Err x
+events_fault vs left seen v x h g = h ∙ ap (λ r. prefixed seen (r >>= (λ f. as_events left >>= (λ fs. Ok (f ∷ fs))))) g
 
 pub all_start : {V : Type 0} (of : V → PlainValue) (es : PlainExprs V) → evaluate_all of es ≡ prefixed [] (evaluate_all of es)
 all_start of es = sym (prefixed_none (evaluate_all of es))

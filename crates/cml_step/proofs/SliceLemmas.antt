@@ -53,7 +53,7 @@ goes_more p self n t u v before one = subst (λ m. GoesIn p self m t v) (plus_on
     further zero t e = (v, ap (λ x. next p self x) e ∙ one, refl)
     further (suc n) t steps = (steps.0, steps.1, further n steps.0 steps.2)
 
--- a slice that begins with so many steps which go on is the rest of it behind them
+-- a slice that begins with this many steps which go on is the rest of it after them
 goes_sliced : (p : Program) (self n left steps : ℕ) (t u : Term) → GoesIn p self n t u → sliced_from p self (n + left) steps t ≡ sliced_from p self left (steps + n) u
 goes_sliced p self zero left steps t u e = ap (λ k. sliced_from p self k steps t) (whole left) ∙ ap (λ k. sliced_from p self left k t) (same steps) ∙ ap (λ v. sliced_from p self left (steps + 0) v) e
   where
@@ -72,7 +72,7 @@ goes_sliced p self (suc n) left steps t u goes =
     later : (a b : ℕ) → a + 1 + b ≡ a + suc b
     later a b = omega arith
 
--- a slice in which so many steps went on has the rest before it
+-- a slice in which this many steps went on has the rest before it
 pub slice_skips : (p : Program) (self k n m : ℕ) (t u : Term) → GoesIn p self n t u → n ≤ k - m → sliced_from p self (k - m) m t ≡ sliced_from p self (k - (m + n)) (m + n) u
 slice_skips p self k n m t u goes within = ap (λ j. sliced_from p self j m t) (rest k n m within) ∙ goes_sliced p self n (k - (m + n)) m t u goes
   where

@@ -4,7 +4,7 @@ use Rattle.std.proofs.lemmas.List.{reverse-append}
 use Rattle.std.specs.Option.{option_map}
 use Rattle.std.proofs.lemmas.Bool.{and_parts, and_from}
 use Rattle.cml_value.specs.Value.{PlainValue, PlainFunction, function, func_of, args_of, values}
-use Rattle.cml_check.specs.Syntax.{PlainFunction as PlainItem, no_stmts, stmts_map, name_at, written}
+use Rattle.cml_check.specs.Syntax.{PlainItem, no_stmts, stmts_map, name_at, written}
 use Rattle.cml_step.specs.declared.call.Wait.{Wait}
 use Rattle.cml_step.specs.declared.call.Wait.TheVariants as wait
 use Rattle.cml_step.specs.declared.call.Call.{Call}
@@ -19,7 +19,7 @@ use Rattle.cml_check.specs.Names.{AreDistinct}
 use Rattle.cml_step.specs.Agrees.{value_agrees, all_agree}
 use Rattle.cml_step.specs.Steps.{filled, delivered, goes_on, next, wraps_step, pushed}
 use Rattle.cml_step.specs.Terms.{runs}
-use Rattle.cml_step.specs.Forced.{given}
+use Rattle.cml_step.specs.Forced.{with_argument}
 use Rattle.cml_step.specs.Calls.{entry_for, slots_with}
 use Rattle.cml_step.proofs.CallLemmas.{filled_is, agree_filled, wait_room}
 use Rattle.cml_step.proofs.AgreeLemmas.{all_values}
@@ -27,7 +27,7 @@ use Rattle.cml_step.proofs.ForceLemmas.{list_values}
 use Rattle.cml_step.specs.declared.entry.Entry.TheVariants as entry
 use Rattle.cml_step.specs.Terms.{Program, call, wraps, Term, list_of, started, call_of}
 use Rattle.cml_step.specs.Agrees.{functions_agree}
-use Rattle.cml_step.specs.Machines.{PlainHeld, plain_held, held_entry, held_on, HeldFits, HeldFitsBeneath, names_of}
+use Rattle.cml_step.specs.Machines.{PlainHeld, plain_held, held_entry, held_on, HeldFits, HeldFitsBeneath, name_count}
 use Rattle.cml_step.specs.Stacks.{CallFits, term_of, EachBeneath, StackFits}
 
 term_on_pushed : (p : List (PlainItem ℕ)) (es : List PlainHeld) (e : PlainHeld) (below : Term) → held_on p (es ++ e ∷ []) below ≡ held_entry p e ∷ held_on p es below
@@ -94,7 +94,7 @@ pub begun_fits : (p : List (PlainItem ℕ)) (c : Call) → function_agrees (arit
 begun_fits p c h w = record {
   there = there p c.func _ (and_parts _ _ h).0;
   agree = sym (all_values (arities p) c.slots.items) ∙ (and_parts (takes (arities p) c.func (values_count (values c.slots.items) + 0)) _ h).1;
-  waits = subst (λ d. WaitFits d (names_of (slice_get p c.func)) (length c.slots.items)) (sym w) tt;
+  waits = subst (λ d. WaitFits d (name_count (slice_get p c.func)) (length c.slots.items)) (sym w) tt;
 }
 
 -- the same of a call that begins with the values that the function has captured
@@ -114,7 +114,7 @@ pub filled_fits : (p : List (PlainItem ℕ)) (c d : Call) (v : PlainValue) → C
 filled_fits p c d v h g e w s = record {
   there = subst (λ n. n < length p) (sym e) h.there;
   agree = ap (all_agree (arities p)) s ∙ agree_filled (arities p) c.slots.items c.wait v h.agree g;
-  waits = subst (λ x. WaitFits x (names_of (slice_get p d.func)) (length d.slots.items)) (sym w) tt;
+  waits = subst (λ x. WaitFits x (name_count (slice_get p d.func)) (length d.slots.items)) (sym w) tt;
 }
 
 pub filled_room : (p : List (PlainItem ℕ)) (c : Call) → CallFits p c → WaitFits c.wait (length c.slots.items) (length c.slots.items)
@@ -140,7 +140,7 @@ pub delivered_call : (p : List (PlainItem ℕ)) (f : PlainItem ℕ) (c d : Call)
     delivered v (entry_of p c ∷ term_of p es) ≡ goes_on (term_of p (es ++ plain_held (entry.Call d) ∷ []))
 delivered_call p f c d v es h g i e w s =
     let o : slice_get p c.func ≡ Some f = fun_at p c.func f h.there g in
-    let room : WaitFits c.wait (length f.names) (length c.slots.items) = subst (λ x. WaitFits c.wait (names_of x) (length c.slots.items)) o h.waits in
+    let room : WaitFits c.wait (length f.names) (length c.slots.items) = subst (λ x. WaitFits c.wait (name_count x) (length c.slots.items)) o h.waits in
     let q : entry_of p d ≡ entry_for f d = ap (λ n. entry_in (slice_get p n) d) e.0 ∙ ap (λ x. entry_in x d) o in
     ap (λ x. delivered v (entry_in x c ∷ term_of p es)) o
     ∙ ap (λ x. goes_on (x ∷ term_of p es)) (sym (q ∙ filled_for f c d v i room e w s))
@@ -160,7 +160,7 @@ pub moved_fits : (p : List (PlainItem ℕ)) (f : PlainItem ℕ) (c d : Call) →
 moved_fits p f c d l g e a w = record {
   there = subst (λ n. n < length p) (sym e) l;
   agree = a;
-  waits = subst (λ x. WaitFits d.wait (names_of x) (length d.slots.items)) (sym (ap (slice_get p) e ∙ fun_at p c.func f l g)) w;
+  waits = subst (λ x. WaitFits d.wait (name_count x) (length d.slots.items)) (sym (ap (slice_get p) e ∙ fun_at p c.func f l g)) w;
 }
 
 -- the last function is the next
@@ -191,5 +191,5 @@ waiting p self c below h = waiting_in (text_of p) self (slice_get p c.func) c c.
 
 -- the same of wraps in progress
 pub next_wrap : (p : Program) (self : ℕ) (all left : List PlainFunction) (f : PlainFunction) (v : PlainValue) (below : Term) → all ≡ left ++ f ∷ [] →
-    wraps_step p (reverse all) v below ≡ pushed (call_of p (given f v)) (wraps (reverse left) v ∷ below)
+    wraps_step p (reverse all) v below ≡ pushed (call_of p (with_argument f v)) (wraps (reverse left) v ∷ below)
 next_wrap p self all left f v below h = ap (λ fs. wraps_step p fs v below) (ap reverse h ∙ last_next left f)

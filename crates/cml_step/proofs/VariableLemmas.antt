@@ -6,7 +6,7 @@ use Rattle.std.specs.Cmp.Lexicographic.{nat_list_eq_equiv, bytes_decides}
 use Rattle.std.proofs.lemmas.Bool.{and_parts, or_parts}
 use Rattle.cml_value.specs.Value.{PlainValue, unit, function, values}
 use Rattle.cml_check.specs.Syntax.{Name, name_at, PlainExpr, constant, number, text, variable, unary, binary, choose, wrap, guard, with_nack, PlainExprs, no_exprs, exprs_and, expr_map, exprs_map}
-use Rattle.cml_check.specs.Names.{AreDistinct, is_among}
+use Rattle.cml_check.specs.Names.{AreDistinct, has_name}
 use Rattle.cml_check.specs.InOrder.{expr_fits, exprs_fit}
 use Rattle.cml_step.specs.Faults.{◌>>=◌}
 use Rattle.cml_step.specs.Operators.{unary_value, binary_value, choose_value, wrap_value, guard_value, nack_value}
@@ -16,11 +16,11 @@ use Rattle.cml_step.specs.Evaluate.{evaluate, evaluate_all}
 own_name : (x : Name) → bytes_eq x x ≡ true
 own_name x = (bytes_decides x x).1 refl
 
--- a name behind another is not that one
-other_name : (x : Name) (xs : List Name) (s : ℕ) → is_among xs x ≡ false → s < length xs → bytes_eq (name_at xs s) x ≡ false
+-- a name after another is not that one
+other_name : (x : Name) (xs : List Name) (s : ℕ) → has_name xs x ≡ false → s < length xs → bytes_eq (name_at xs s) x ≡ false
 other_name x [] s h l = absurd (omega arith)
-other_name x (y ∷ ys) zero h l = nat_list_eq_equiv.symm y x ∙ (or_parts (bytes_eq x y) (is_among ys x) h).0
-other_name x (y ∷ ys) (suc s) h l = other_name x ys s (or_parts (bytes_eq x y) (is_among ys x) h).1 (omega arith)
+other_name x (y ∷ ys) zero h l = nat_list_eq_equiv.symm y x ∙ (or_parts (bytes_eq x y) (has_name ys x) h).0
+other_name x (y ∷ ys) (suc s) h l = other_name x ys s (or_parts (bytes_eq x y) (has_name ys x) h).1 (omega arith)
 
 looked : (x q : Name) (v : PlainValue) (b : Bool) (rest : Variables) → bytes_eq q x ≡ b →
     unwrap_or (lookup (bytes_eq q) ((x, v) ∷ rest)) unit ≡ cond b v (unwrap_or (lookup (bytes_eq q) rest) unit)

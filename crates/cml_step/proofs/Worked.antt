@@ -9,13 +9,13 @@ use Rattle.cml_check.specs.declared.syntax.Unary.TheVariants.{Recv, Always}
 use Rattle.cml_check.specs.declared.syntax.Binary.TheVariants.{Plus, Send, Swap}
 use Rattle.cml_check.specs.declared.syntax.Act.TheVariants.{Chan, SwapChan}
 use Rattle.cml_check.specs.declared.syntax.ActOnOne.TheVariants.{Sync, Print}
-use Rattle.cml_check.specs.Syntax.{PlainFunction as PlainItem, Name, PlainExpr, constant, number, variable, unary, binary, exprs, act, act_on_one, value, effect, let_be, just_do, while_so, return_with, PlainStmt, stmts}
+use Rattle.cml_check.specs.Syntax.{PlainItem, Name, PlainExpr, constant, number, variable, unary, binary, exprs, act, act_on_one, value, effect, let_be, just_do, while_so, return_with, PlainStmt, stmts}
 use Rattle.cml_check.specs.Syntax as syntax
 use Rattle.cml_step.specs.declared.fault.Fault.TheVariants.{Kind, Deep, Stack}
 use Rattle.cml_step.specs.Terms.{Program, call_of}
 use Rattle.cml_step.specs.Asks.{PlainAsk, nothing, spawn, make_chan, make_swap, print, fresh_nack, sync, end, fault, a_value, a_nack, a_commit}
 use Rattle.cml_step.specs.Slices.{PlainSlice, sliced, sliced_from}
-use Rattle.cml_step.specs.Answers.{answered}
+use Rattle.cml_step.specs.Answers.{after_answer}
 
 abbrev item : List Name → ℕ → List (PlainStmt Name) → PlainItem Name
 item names arity body = record { name = []; names = names; arity = arity; body = stmts body }
@@ -40,22 +40,22 @@ abbrev main_0 : PlainSlice
 main_0 = sliced addition 0 (call_of addition (function 2 (values [])) ∷ [])
 
 abbrev main_1 : PlainSlice
-main_1 = sliced addition 0 (answered addition (a_value (chan 0)) main_0.end)
+main_1 = sliced addition 0 (after_answer addition (a_value (chan 0)) main_0.end)
 
 abbrev main_2 : PlainSlice
-main_2 = sliced addition 0 (answered addition (a_value (thread 1)) main_1.end)
+main_2 = sliced addition 0 (after_answer addition (a_value (thread 1)) main_1.end)
 
 abbrev give_0 : PlainSlice
 give_0 = sliced addition 1 (call_of addition (function 1 (values (chan 0 ∷ []))) ∷ [])
 
 abbrev give_1 : PlainSlice
-give_1 = sliced addition 1 (answered addition (a_commit unit []) give_0.end)
+give_1 = sliced addition 1 (after_answer addition (a_commit unit []) give_0.end)
 
 abbrev main_3 : PlainSlice
-main_3 = sliced addition 0 (answered addition (a_commit (int (pos 41)) (function 0 (values (int (pos 1) ∷ [])) ∷ [])) main_2.end)
+main_3 = sliced addition 0 (after_answer addition (a_commit (int (pos 41)) (function 0 (values (int (pos 1) ∷ [])) ∷ [])) main_2.end)
 
 abbrev main_4 : PlainSlice
-main_4 = sliced addition 0 (answered addition (a_value unit) main_3.end)
+main_4 = sliced addition 0 (after_answer addition (a_value unit) main_3.end)
 
 abbrev told : PlainSlice → PlainAsk × ℕ
 told s = (s.ask, s.steps)
@@ -103,10 +103,10 @@ abbrev swapper_0 : PlainSlice
 swapper_0 = sliced exchange 0 (call_of exchange (function 1 (values [])) ∷ [])
 
 abbrev swapper_1 : PlainSlice
-swapper_1 = sliced exchange 0 (answered exchange (a_value (swapchan 0)) swapper_0.end)
+swapper_1 = sliced exchange 0 (after_answer exchange (a_value (swapchan 0)) swapper_0.end)
 
 abbrev swapper_2 : PlainSlice
-swapper_2 = sliced exchange 0 (answered exchange (a_value (thread 1)) swapper_1.end)
+swapper_2 = sliced exchange 0 (after_answer exchange (a_value (thread 1)) swapper_1.end)
 
 abbrev other_0 : PlainSlice
 other_0 = sliced exchange 1 (call_of exchange (function 0 (values (swapchan 0 ∷ []))) ∷ [])
@@ -127,11 +127,11 @@ pub the_other_offers_too : told other_0 ≡ (sync (leaf (swap 0 (int (pos 2)))),
 unfolding sliced_from
 the_other_offers_too = refl
 
-pub main_gets_the_others : told (sliced exchange 0 (answered exchange (a_commit (int (pos 2)) []) swapper_2.end)) ≡ (print (int (pos 2)), 2)
+pub main_gets_the_others : told (sliced exchange 0 (after_answer exchange (a_commit (int (pos 2)) []) swapper_2.end)) ≡ (print (int (pos 2)), 2)
 unfolding sliced_from
 main_gets_the_others = refl
 
-pub the_other_gets_mains : told (sliced exchange 1 (answered exchange (a_commit (int (pos 1)) []) other_0.end)) ≡ (print (int (pos 1)), 2)
+pub the_other_gets_mains : told (sliced exchange 1 (after_answer exchange (a_commit (int (pos 1)) []) other_0.end)) ≡ (print (int (pos 1)), 2)
 unfolding sliced_from
 the_other_gets_mains = refl
 
@@ -191,13 +191,13 @@ abbrev branch_0 : PlainSlice
 branch_0 = sliced cancelled 0 (call_of cancelled (function 2 (values [])) ∷ [])
 
 abbrev branch_1 : PlainSlice
-branch_1 = sliced cancelled 0 (answered cancelled (a_value (chan 0)) branch_0.end)
+branch_1 = sliced cancelled 0 (after_answer cancelled (a_value (chan 0)) branch_0.end)
 
 abbrev branch_2 : PlainSlice
-branch_2 = sliced cancelled 0 (answered cancelled (a_nack 0) branch_1.end)
+branch_2 = sliced cancelled 0 (after_answer cancelled (a_nack 0) branch_1.end)
 
 abbrev branch_3 : PlainSlice
-branch_3 = sliced cancelled 0 (answered cancelled (a_value (thread 1)) branch_2.end)
+branch_3 = sliced cancelled 0 (after_answer cancelled (a_value (thread 1)) branch_2.end)
 
 pub asks_for_a_nack : told branch_1 ≡ (fresh_nack, 2)
 unfolding sliced_from

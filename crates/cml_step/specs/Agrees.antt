@@ -1,5 +1,5 @@
--- What makes a value one of a program's: each function captured in an event in it, at any depth, is one of the program's, with as many
--- values as its place asks. Here `arities` says how many parameters each function of the program has.
+-- When a value agrees with a program: each function captured in an event in it, at any depth, is one of the program's, with as many
+-- captured values as its place asks for. Here `arities` says how many parameters each function of the program has.
 use Rattle.std.specs.Prelude.{ℕ, ◌+◌, Bool, true, ◌&&◌, List, [], ◌∷◌, Option, Some, None}
 use Rattle.cml_value.specs.Value.{PlainValue, pair, event, PlainValues, no_values, values_and, PlainFunction, function}
 use Rattle.cml_value.specs.Value.{PlainBase, always, send, recv, swap, iget, mtake, mget, mswap, mail_recv, port_recv, join, at_tick, after_ticks, nack, PlainEvent, never, leaf, choose, wrap, guard, with_nack, scope, PlainEvents, no_events, events_and}
@@ -56,7 +56,7 @@ abbrev mutual
   events_agree arities no_events = true
   events_agree arities (events_and e es) = event_agrees arities e && events_agree arities es
 
--- each of these values
+-- each of these values agrees
 abbrev pub all_agree : List ℕ → List PlainValue → Bool
 all_agree arities [] = true
 all_agree arities (v ∷ vs) = value_agrees arities v && all_agree arities vs

@@ -1,7 +1,7 @@
 -- What becomes of a thread that is answered. To answer it is no step.
 use Rattle.std.specs.Prelude.{ℕ, ◌+◌, ◌≤◌, true, false, ◌∷◌, length, Option, Some, None}
 use Rattle.cml_value.specs.Value.{guard, scope, PlainEvent}
-use Rattle.cml_group.specs.Force.{PlainAsk as PlainPlace, calls, needs_nack, unforced, replaced, given_nack}
+use Rattle.cml_group.specs.Force.{PlainNeed as PlainPlace, calls, needs_nack, unforced, replaced, given_nack}
 use Rattle.cml_step.specs.Terms.{Program, runs, drops, gives, call, force, wraps, Term, max_entries, call_of}
 use Rattle.cml_step.specs.Asks as ask
 use Rattle.cml_step.specs.Asks.{PlainAsk, PlainAnswer, a_value, a_nack, a_commit}
@@ -20,11 +20,11 @@ awaited_by (Some (calls f)) = nothing
 awaited_by (Some (needs_nack f)) = nack
 awaited_by None = commit
 
-abbrev pub awaited : Term → PlainAwait
-awaited (call left variables drops ∷ below) = value
-awaited (call left variables (gives x) ∷ below) = value
-awaited (force e true ∷ below) = awaited_by (unforced e)
-awaited term = nothing
+abbrev pub top_await : Term → PlainAwait
+top_await (call left variables drops ∷ below) = value
+top_await (call left variables (gives x) ∷ below) = value
+top_await (force e true ∷ below) = awaited_by (unforced e)
+top_await term = nothing
 
 -- how many entries the answer puts on the stack beside those that are there: for a nack the call of the withNack's function
 abbrev pub entries_to_come : PlainAwait → ℕ
@@ -33,16 +33,16 @@ entries_to_come _ = 0
 
 -- a stack has at most 1,024 entries, also once the thread is answered
 abbrev pub IsShort : Term → Type 0
-IsShort term = length term + entries_to_come (awaited term) ≤ max_entries
+IsShort term = length term + entries_to_come (top_await term) ≤ max_entries
 
 -- what a thread waits for that has asked this
-abbrev pub answer_to : PlainAsk → PlainAwait
-answer_to ask.nothing = nothing
-answer_to ask.end = nothing
-answer_to (ask.fault why) = nothing
-answer_to ask.fresh_nack = nack
-answer_to (ask.sync g) = commit
-answer_to _ = value
+abbrev pub await_of : PlainAsk → PlainAwait
+await_of ask.nothing = nothing
+await_of ask.end = nothing
+await_of (ask.fault why) = nothing
+await_of ask.fresh_nack = nack
+await_of (ask.sync g) = commit
+await_of _ = value
 
 abbrev pub answer_for : PlainAnswer → PlainAwait
 answer_for (a_value v) = value
@@ -50,15 +50,15 @@ answer_for (a_nack k) = nack
 answer_for (a_commit v fs) = commit
 
 -- a withNack's function is called with the nack's event as its last argument, under a scope of the nack's number, in which the event
--- that it answers takes its place (Reppy's withNack)
+-- that it returns takes its place (Reppy's withNack)
 abbrev pub with_nack_number : Program → ℕ → Option PlainPlace → PlainEvent → Term → Term
 with_nack_number p k (Some (needs_nack f)) e below =
     call_of p (given_nack k f) ∷ force (replaced (scope k (guard (given_nack k f))) e) false ∷ below
 with_nack_number p k place e below = force e true ∷ below
 
 -- A value goes to the call that waits for it. At a commit wraps in progress take the place of the event.
-abbrev pub answered : Program → PlainAnswer → Term → Term
-answered p (a_value v) (call left variables wait ∷ below) = call left (filled wait v variables) runs ∷ below
-answered p (a_nack k) (force e asked ∷ below) = with_nack_number p k (unforced e) e below
-answered p (a_commit v fs) (force e asked ∷ below) = wraps fs v ∷ below
-answered p answer term = term
+abbrev pub after_answer : Program → PlainAnswer → Term → Term
+after_answer p (a_value v) (call left variables wait ∷ below) = call left (filled wait v variables) runs ∷ below
+after_answer p (a_nack k) (force e asked ∷ below) = with_nack_number p k (unforced e) e below
+after_answer p (a_commit v fs) (force e asked ∷ below) = wraps fs v ∷ below
+after_answer p answer term = term

@@ -1,4 +1,4 @@
--- A code of each ask: a tree of numbers from which it can be read back. The toolchain asks for one; no rule speaks of it.
+-- A code of each ask: a tree of numbers from which it can be read back. The toolchain asks for one; no rule uses it.
 use Rattle.std.specs.Prelude.{◌≡◌, ℕ, [], ◌∷◌, get_or, refl}
 use Rattle.std.specs.Coded.{Coded, code_by, coded_ℕ, coded_option}
 use Rattle.std.proofs.Common.{arith}

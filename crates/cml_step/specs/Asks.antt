@@ -4,7 +4,7 @@ use Rattle.cml_value.specs.Value.{PlainValue, PlainFunction}
 use Rattle.cml_value.specs.Group.{PlainGroup}
 use Rattle.cml_step.specs.declared.fault.Fault.{Fault}
 
--- Objects and threads stand by their numbers. A thread that asks nothing goes on, one that ends or is at fault has nothing to ask.
+-- Objects and threads are given by their numbers. A thread that asks nothing goes on; one that ends or is at fault has nothing to ask.
 pub data PlainAsk : Type 0 where
   nothing : PlainAsk
   yield : PlainAsk

@@ -1,4 +1,4 @@
--- The value of an expression: from the left, all parts before what is made of them.
+-- The value of an expression. Its parts are evaluated from the left, and all of them before what is made of them.
 use Rattle.std.specs.Prelude.{List, [], ◌∷◌, Ok}
 use Rattle.cml_check.specs.Syntax.{PlainExpr, constant, number, text, variable, unary, binary, choose, wrap, guard, with_nack, PlainExprs, no_exprs, exprs_and}
 use Rattle.cml_value.specs.Value.{PlainValue, int, function, values}

@@ -27,8 +27,8 @@ abbrev pub ◌>>=◌ : {A B : Type 0} → Found A → (A → Found B) → Found 
 (Ok x) >>= f = f x
 (Err e) >>= f = Err e
 
--- what a call answered, seen so, is what was to be found, unless memory ran out
-abbrev pub Gives : {X Y : Type 0} → (X → Y) → Result X Stop → Found Y → Type 0
-Gives view (Ok x) found = found ≡ Ok (view x)
-Gives view (Err (stop.Fault e)) found = found ≡ Err e
-Gives view (Err stop.Memory) found = Unit {0}
+-- what a call returned, under this view, is what was to be found, unless memory ran out
+abbrev pub ComesTo : {X Y : Type 0} → (X → Y) → Result X Stop → Found Y → Type 0
+ComesTo view (Ok x) found = found ≡ Ok (view x)
+ComesTo view (Err (stop.Fault e)) found = found ≡ Err e
+ComesTo view (Err stop.Memory) found = Unit {0}

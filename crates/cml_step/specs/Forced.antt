@@ -5,7 +5,7 @@ use Rattle.cml_value.specs.Group.{PlainGroup, PlainGroups, no_groups, groups_and
 use Rattle.cml_value.specs.Group as group
 use Rattle.cml_group.specs.Force.{with_last}
 
--- the same, form by form; a guard or a withNack, of which none is left, stands for no leaf
+-- the group, form by form; a guard or a withNack, of which none is left, stands for no leaf
 abbrev mutual
   pub group_of : PlainEvent → PlainGroup
   group_of never = group.never
@@ -21,5 +21,5 @@ abbrev mutual
   groups_of (events_and e es) = groups_and (group_of e) (groups_of es)
 
 -- a function with one more argument, the last
-abbrev pub given : PlainFunction → PlainValue → PlainFunction
-given (function f vs) v = function f (with_last v vs)
+abbrev pub with_argument : PlainFunction → PlainValue → PlainFunction
+with_argument (function f vs) v = function f (with_last v vs)

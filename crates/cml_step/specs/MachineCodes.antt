@@ -1,4 +1,4 @@
--- A code of each machine: a tree of numbers from which it can be read back. The toolchain asks for one; no rule speaks of it.
+-- A code of each machine: a tree of numbers from which it can be read back. The toolchain asks for one; no rule uses it.
 use Rattle.std.specs.Prelude.{◌≡◌, ℕ, List, [], ◌∷◌, get_or, refl}
 use Rattle.std.specs.Coded.{Coded, code_by, coded×, coded_ℕ, coded_bool, coded_list}
 use Rattle.std.proofs.Common.{ap}

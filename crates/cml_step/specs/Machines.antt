@@ -2,7 +2,7 @@
 use Rattle.std.specs.Prelude.{◌≡◌, ℕ, ◌<◌, Bool, true, List, [], ◌∷◌, length, reverse, Option, Some, None, slice_get}
 use Rattle.cml_value.specs.Value.{PlainValue, PlainFunction, PlainEvent}
 use Rattle.cml_group.specs.Force.{AwaitsEvent}
-use Rattle.cml_check.specs.Syntax.{PlainFunction as PlainItem}
+use Rattle.cml_check.specs.Syntax.{PlainItem}
 use Rattle.cml_check.specs.InOrder.{InOrder, arities}
 use Rattle.cml_step.specs.declared.place.Hop.{Hop}
 use Rattle.cml_step.specs.declared.call.Wait.{Wait}
@@ -11,7 +11,7 @@ use Rattle.cml_step.specs.declared.entry.Entry.TheVariants as entry
 use Rattle.cml_step.specs.Agrees.{value_agrees, all_agree, event_agrees, functions_agree}
 use Rattle.cml_step.specs.Answers.{IsShort}
 use Rattle.cml_step.specs.Calls.{placed_in, WaitFits}
-use Rattle.cml_step.specs.Terms.{PlainEntry, Term}
+use Rattle.cml_step.specs.Terms.{StackEntry, Term}
 use Rattle.cml_step.specs.Terms as term
 
 -- What a machine holds of an entry: of a call its function, its place in it, the values of its slots and what it waits for; of an event
@@ -33,7 +33,7 @@ plain_held (entry.Force g asked) = force g asked
 plain_held (entry.Wraps w) = wraps w.left.items w.value
 
 -- the entry that it stands for under a program
-abbrev pub held_entry : List (PlainItem ℕ) → PlainHeld → PlainEntry
+abbrev pub held_entry : List (PlainItem ℕ) → PlainHeld → StackEntry
 held_entry p (call f path at slots w) = placed_in (slice_get p f) path at slots w
 held_entry p (force e asked) = term.force e asked
 held_entry p (wraps fs v) = term.wraps (reverse fs) v
@@ -48,15 +48,15 @@ abbrev pub machine_term : List (PlainItem ℕ) → PlainMachine → Term
 machine_term p m = held_on p m.stack []
 
 -- how many names the function declares
-abbrev pub names_of : Option (PlainItem ℕ) → ℕ
-names_of (Some f) = length f.names
-names_of None = 0
+abbrev pub name_count : Option (PlainItem ℕ) → ℕ
+name_count (Some f) = length f.names
+name_count None = 0
 
 -- a call of one of the program's functions
 pub record IsCallOf (p : List (PlainItem ℕ)) (f : ℕ) (slots : List PlainValue) (w : Wait) : Type 0 where
   pub there : f < length p
   pub agree : all_agree (arities p) slots ≡ true
-  pub waits : WaitFits w (names_of (slice_get p f)) (length slots)
+  pub waits : WaitFits w (name_count (slice_get p f)) (length slots)
 
 pub record AreWrapsOf (p : List (PlainItem ℕ)) (fs : List PlainFunction) (v : PlainValue) : Type 0 where
   pub functions : functions_agree (arities p) fs ≡ true
@@ -77,8 +77,8 @@ AllHeldFit p [] = Unit {0}
 AllHeldFit p (h ∷ []) = HeldFits p h
 AllHeldFit p (h ∷ g ∷ hs) = HeldFitsBeneath p h × AllHeldFit p (g ∷ hs)
 
--- A machine fits a program: the program is in order, each call is one of a function of it, all values, events and functions that the
--- machine holds agree with it, and its stack has at most 1,024 entries, also once it is answered.
+-- A machine fits a program: the program is in order, each call is a call of one of its functions, all values, events and functions that
+-- the machine holds agree with it, and the stack has at most 1,024 entries, also once the machine is answered.
 pub record Fits (p : List (PlainItem ℕ)) (m : PlainMachine) : Type 0 where
   pub order : InOrder p
   pub stack : AllHeldFit p m.stack

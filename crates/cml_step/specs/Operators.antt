@@ -1,5 +1,5 @@
--- What the operations of expressions make of values. A wrong kind is met first, then a number that is out of range, then that what was
--- built is too large.
+-- What the operations of expressions make of values. The first fault is a wrong kind, then a number out of range, then a result that is
+-- too large.
 use Rattle.std.specs.Prelude.{ℕ, ◌^◌, ℤ, pos, negsuc, ◌+ℤ◌, ◌-ℤ◌, ◌*ℤ◌, neg_ℤ, int_lt, int_le, Bool, true, false, not, ◌&&◌, if◌then◌else◌, List, [], ◌∷◌, Ok, Err}
 use Rattle.cml_check.specs.declared.syntax.Constant.{Constant}
 use Rattle.cml_check.specs.declared.syntax.Constant.TheVariants as constant_of
@@ -13,7 +13,7 @@ use Rattle.cml_value.specs.Value.{PlainEvent, never, leaf, choose, wrap, guard, 
 use Rattle.cml_value.specs.Limits.{value_fits}
 use Rattle.cml_step.specs.declared.fault.Fault.TheVariants.{Overflow, Range, Deep}
 use Rattle.cml_step.specs.Faults.{Found, ◌>>=◌}
-use Rattle.cml_step.specs.Kinds.{number_of, truth_of, first_of, second_of, thread_of, chan_of, swapchan_of, ivar_of, mvar_of, mailbox_of, port_of, event_of}
+use Rattle.cml_step.specs.Kinds.{as_number, as_truth, first_part, second_part, as_thread, as_chan, as_swapchan, as_ivar, as_mvar, as_mailbox, as_port, as_event}
 use Rattle.cml_step.specs.Same.{are_same}
 
 -- a pair or an event that was just built, if it is within the limits of depth and of nodes
@@ -21,43 +21,43 @@ abbrev pub built : PlainValue → Found PlainValue
 built v = if value_fits v then Ok v else Err Deep
 
 -- the numbers of scripts are those of 64 bits
-abbrev pub is_number : ℤ → Bool
-is_number z = int_le (neg_ℤ (pos (2 ^ 63))) z && int_lt z (pos (2 ^ 63))
+abbrev pub is_in_range : ℤ → Bool
+is_in_range z = int_le (neg_ℤ (pos (2 ^ 63))) z && int_lt z (pos (2 ^ 63))
 
 abbrev pub in_range : ℤ → Found PlainValue
-in_range z = if is_number z then Ok (int z) else Err Overflow
+in_range z = if is_in_range z then Ok (int z) else Err Overflow
 
 abbrev pub sum_of : PlainValue → PlainValue → Found PlainValue
 sum_of v w = do
-  x ← number_of v
-  y ← number_of w
+  x ← as_number v
+  y ← as_number w
   in_range (x +ℤ y)
 
 abbrev pub difference_of : PlainValue → PlainValue → Found PlainValue
 difference_of v w = do
-  x ← number_of v
-  y ← number_of w
+  x ← as_number v
+  y ← as_number w
   in_range (x -ℤ y)
 
 abbrev pub product_of : PlainValue → PlainValue → Found PlainValue
 product_of v w = do
-  x ← number_of v
-  y ← number_of w
+  x ← as_number v
+  y ← as_number w
   in_range (x *ℤ y)
 
 abbrev pub less_of : PlainValue → PlainValue → Found PlainValue
 less_of v w = do
-  x ← number_of v
-  y ← number_of w
+  x ← as_number v
+  y ← as_number w
   Ok (truth (int_lt x y))
 
--- so many ticks: none is negative
+-- a number of ticks, which must not be negative
 abbrev pub ticks_in : ℤ → Found ℕ
 ticks_in (pos n) = Ok n
 ticks_in (negsuc n) = Err Range
 
 abbrev pub ticks_of : PlainValue → Found ℕ
-ticks_of v = number_of v >>= ticks_in
+ticks_of v = as_number v >>= ticks_in
 
 abbrev pub constant_value : Constant → Found PlainValue
 constant_value constant_of.True = Ok (truth true)
@@ -70,31 +70,31 @@ base_value b = built (event (leaf b))
 
 abbrev pub unary_value : Unary → PlainValue → Found PlainValue
 unary_value unary_of.Not v = do
-  b ← truth_of v
+  b ← as_truth v
   Ok (truth (not b))
-unary_value unary_of.Fst v = first_of v
-unary_value unary_of.Snd v = second_of v
+unary_value unary_of.Fst v = first_part v
+unary_value unary_of.Snd v = second_part v
 unary_value unary_of.Always v = base_value (always v)
 unary_value unary_of.Recv v = do
-  c ← chan_of v
+  c ← as_chan v
   base_value (recv c)
 unary_value unary_of.IGet v = do
-  i ← ivar_of v
+  i ← as_ivar v
   base_value (iget i)
 unary_value unary_of.MTake v = do
-  m ← mvar_of v
+  m ← as_mvar v
   base_value (mtake m)
 unary_value unary_of.MGet v = do
-  m ← mvar_of v
+  m ← as_mvar v
   base_value (mget m)
 unary_value unary_of.MailRecv v = do
-  b ← mailbox_of v
+  b ← as_mailbox v
   base_value (mail_recv b)
 unary_value unary_of.PortRecv v = do
-  p ← port_of v
+  p ← as_port v
   base_value (port_recv p)
 unary_value unary_of.Join v = do
-  t ← thread_of v
+  t ← as_thread v
   base_value (join t)
 unary_value unary_of.At v = do
   tick ← ticks_of v
@@ -112,31 +112,31 @@ binary_value binary_of.Less v w = less_of v w
 binary_value binary_of.Equal v w = Ok (truth (are_same v w))
 binary_value binary_of.Pair v w = built (pair v w)
 binary_value binary_of.Send v w = do
-  c ← chan_of v
+  c ← as_chan v
   base_value (send c w)
 binary_value binary_of.Swap v w = do
-  s ← swapchan_of v
+  s ← as_swapchan v
   base_value (swap s w)
 binary_value binary_of.MSwap v w = do
-  m ← mvar_of v
+  m ← as_mvar v
   base_value (mswap m w)
 
 -- the events that these values are
-abbrev pub events_of : List PlainValue → Found (List PlainEvent)
-events_of [] = Ok []
-events_of (v ∷ vs) = do
-  e ← event_of v
-  es ← events_of vs
+abbrev pub as_events : List PlainValue → Found (List PlainEvent)
+as_events [] = Ok []
+as_events (v ∷ vs) = do
+  e ← as_event v
+  es ← as_events vs
   Ok (e ∷ es)
 
 abbrev pub choose_value : List PlainValue → Found PlainValue
 choose_value vs = do
-  es ← events_of vs
+  es ← as_events vs
   built (event (choose (events es)))
 
 abbrev pub wrap_value : PlainValue → PlainFunction → Found PlainValue
 wrap_value v f = do
-  e ← event_of v
+  e ← as_event v
   built (event (wrap e f))
 
 abbrev pub guard_value : PlainFunction → Found PlainValue

@@ -17,7 +17,7 @@ stmt_at no_stmts n = None
 stmt_at (stmts_and s ss) zero = Some s
 stmt_at (stmts_and s ss) (suc n) = stmt_at ss n
 
--- the block in a statement, none where it has no such
+-- the block in this arm of a statement; an empty one where there is none
 abbrev pub inside : Option (PlainStmt ℕ) → Arm → PlainStmts ℕ
 inside (Some (if_so e a b)) Then = a
 inside (Some (if_so e a b)) Else = b

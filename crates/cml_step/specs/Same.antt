@@ -1,4 +1,4 @@
--- Whether two values are one: equality of structure, over all kinds. That the test is right its type says.
+-- Whether two values are the same: equality of structure, over all kinds. The type of the test says that it is right.
 use Rattle.std.specs.Prelude.{◌≡◌, Bool, true, false, refl}
 use Rattle.std.proofs.Common.{ap}
 use mathlib.Core.Logic.{dite}

@@ -1,4 +1,4 @@
--- How the entries of a stack stand: the top one in a place of its own, those below it in frames that copies share.
+-- How the entries of a stack are kept: the top one in a place of its own, those below it in frames that copies share.
 use Rattle.std.specs.Prelude.{◌≡◌, List, [], ◌∷◌, ◌++◌, Option, Some, None, option_copied}
 use Rattle.std.specs.declared.sync.Arc.{Arc}
 use Rattle.cml_step.specs.declared.entry.Entry.{Entry}
@@ -6,9 +6,9 @@ use Rattle.cml_step.specs.declared.entries.Walk.{Walk}
 use Rattle.cml_step.specs.Machines.{PlainHeld, plain_held}
 
 -- the entries of a frame, if there is one: its own is the last
-abbrev pub framed : {Z : Type 0} → Option (Arc (List PlainHeld) Z) → List PlainHeld
-framed None = []
-framed (Some f) = f.value
+abbrev pub frame_entries : {Z : Type 0} → Option (Arc (List PlainHeld) Z) → List PlainHeld
+frame_entries None = []
+frame_entries (Some f) = f.value
 
 -- the entries with this one on top, if there is one
 abbrev pub topped : List PlainHeld → Option Entry → List PlainHeld
@@ -16,12 +16,12 @@ topped hs None = hs
 topped hs (Some e) = hs ++ plain_held e ∷ []
 
 -- what is left of a walk through the entries, from the top
-abbrev pub within : Option (List PlainHeld) → List PlainHeld
-within None = []
-within (Some hs) = hs
+abbrev pub entries_left : Option (List PlainHeld) → List PlainHeld
+entries_left None = []
+entries_left (Some hs) = hs
 
 abbrev pub left_of : Walk → List PlainHeld
-left_of w = topped (within (option_copied w.below)) (option_copied w.top)
+left_of w = topped (entries_left (option_copied w.below)) (option_copied w.top)
 
 -- the top entry of the old ones is taken off, and the new ones are left
 abbrev pub TakesOff : Option Entry → List PlainHeld → List PlainHeld → Type 0

@@ -30,7 +30,7 @@ sliced_from p self (suc left) steps term =
 abbrev pub sliced : Program → ℕ → Term → PlainSlice
 sliced p self term = sliced_from p self max_steps 0 term
 
--- from the one term the thread goes on to the other in so many steps that ask nothing
+-- the thread goes from the one term to the other in this many steps, none of which asks anything
 abbrev pub GoesIn : Program → ℕ → ℕ → Term → Term → Type 0
 GoesIn p self zero before after = before ≡ after
 GoesIn p self (suc n) before after = (middle : Term) × (next p self before ≡ goes_on middle) × GoesIn p self n middle after

@@ -1,6 +1,6 @@
 -- The stack of the machine, and the term that it stands for under a program.
 use Rattle.std.specs.Prelude.{◌≡◌, ℕ, true, List, [], ◌∷◌, Result, Ok, Err}
-use Rattle.cml_check.specs.Syntax.{PlainFunction as PlainItem}
+use Rattle.cml_check.specs.Syntax.{PlainItem}
 use Rattle.cml_check.specs.InOrder.{arities}
 use Rattle.cml_step.specs.declared.ask.Ask.{Ask}
 use Rattle.cml_step.specs.declared.fault.Stop.{Stop}
@@ -8,13 +8,13 @@ use Rattle.cml_step.specs.declared.fault.Stop.TheVariants as stop
 use Rattle.cml_step.specs.declared.call.Call.{Call}
 use Rattle.cml_step.specs.declared.entry.Wraps.{Wraps}
 use Rattle.cml_step.specs.declared.entry.Entry.{Entry}
-use Rattle.cml_step.specs.Terms.{PlainEntry, Term}
+use Rattle.cml_step.specs.Terms.{StackEntry, Term}
 use Rattle.cml_step.specs.AskViews.{plain_ask}
 use Rattle.cml_step.specs.Agrees.{ask_agrees}
 use Rattle.cml_step.specs.Steps.{PlainStep, asks, fails}
 use Rattle.cml_step.specs.Machines.{PlainHeld, plain_held, held_entry, held_on, IsCallOf, AreWrapsOf, HeldFits, HeldFitsBeneath, AllHeldFit}
 
-abbrev pub entry_view : List (PlainItem ℕ) → Entry → PlainEntry
+abbrev pub entry_view : List (PlainItem ℕ) → Entry → StackEntry
 entry_view p e = held_entry p (plain_held e)
 
 -- the term of these entries, the top one last

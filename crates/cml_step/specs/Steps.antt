@@ -2,7 +2,7 @@
 use Rattle.std.specs.Prelude.{ℕ, Bool, true, false, nat_lt, if◌then◌else◌, List, [], ◌∷◌, length, Option, Some, None, Ok, Err}
 use Rattle.cml_value.specs.Value.{PlainValue, unit, thread, PlainFunction, function, PlainEvent, values}
 use Rattle.cml_value.specs.Limits.{event_fits}
-use Rattle.cml_group.specs.Force.{PlainAsk as PlainPlace, calls, needs_nack, unforced, replaced}
+use Rattle.cml_group.specs.Force.{PlainNeed as PlainPlace, calls, needs_nack, unforced, replaced}
 use Rattle.cml_check.specs.declared.syntax.Act.{Act}
 use Rattle.cml_check.specs.declared.syntax.Act.TheVariants as act_of
 use Rattle.cml_check.specs.declared.syntax.ActOnOne.{ActOnOne}
@@ -15,13 +15,13 @@ use Rattle.cml_check.specs.Syntax as syntax
 use Rattle.cml_step.specs.declared.fault.Fault.{Fault}
 use Rattle.cml_step.specs.declared.fault.Fault.TheVariants.{Deep, Stack}
 use Rattle.cml_step.specs.Faults.{Found}
-use Rattle.cml_step.specs.Kinds.{truth_of, event_of, ivar_of, mvar_of, mailbox_of, mchan_of, port_of}
+use Rattle.cml_step.specs.Kinds.{as_truth, as_event, as_ivar, as_mvar, as_mailbox, as_mchan, as_port}
 use Rattle.cml_step.specs.Variables.{Variables, value_of, assigned}
 use Rattle.cml_step.specs.Evaluate.{evaluate, evaluate_all}
-use Rattle.cml_step.specs.Terms.{Program, PlainWait, runs, drops, gives, PlainEntry, call, force, wraps, Term, max_entries, and_then, call_of}
+use Rattle.cml_step.specs.Terms.{Program, PlainWait, runs, drops, gives, StackEntry, call, force, wraps, Term, max_entries, and_then, call_of}
 use Rattle.cml_step.specs.Asks as ask
 use Rattle.cml_step.specs.Asks.{PlainAsk}
-use Rattle.cml_step.specs.Forced.{group_of, given}
+use Rattle.cml_step.specs.Forced.{group_of, with_argument}
 
 -- what a step comes to: what the thread asks, and its term
 pub record PlainStep : Type 0 where
@@ -46,18 +46,18 @@ abbrev pub ◌>>=◌ : {A : Type 0} → Found A → (A → PlainStep) → PlainS
 (Ok x) >>= go = go x
 (Err why) >>= go = fails why
 
-abbrev pub has_room : Term → Bool
-has_room term = nat_lt (length term) max_entries
+abbrev pub is_below_limit : Term → Bool
+is_below_limit term = nat_lt (length term) max_entries
 
-abbrev pub pushed : PlainEntry → Term → PlainStep
-pushed entry term = if has_room term then goes_on (entry ∷ term) else fails Stack
+abbrev pub pushed : StackEntry → Term → PlainStep
+pushed entry term = if is_below_limit term then goes_on (entry ∷ term) else fails Stack
 
--- the variables, where the value has come that was waited for
+-- the variables once the value that was waited for has come
 abbrev pub filled : PlainWait → PlainValue → Variables → Variables
 filled (gives x) v variables = assigned variables x v
 filled wait v variables = variables
 
--- The event that a guard's or a withNack's function has answered takes its place, and the whole is measured.
+-- An event in which what a guard's or a withNack's function returned has taken its place: the whole is measured, and forced further.
 abbrev pub forced_on : PlainEvent → Term → PlainStep
 forced_on e below = if event_fits e then goes_on (force e false ∷ below) else fails Deep
 
@@ -67,7 +67,7 @@ abbrev pub delivered : PlainValue → Term → PlainStep
 delivered v [] = ends
 delivered v (call left variables wait ∷ below) = goes_on (call left (filled wait v variables) runs ∷ below)
 delivered v (force e asked ∷ below) = do
-  new ← event_of v
+  new ← as_event v
   forced_on (replaced new e) below
 delivered v (wraps fs w ∷ below) = goes_on (wraps fs v ∷ below)
 
@@ -86,29 +86,29 @@ act_step self act_of.Now term = asks ask.now term
 
 abbrev pub one_step : ActOnOne → PlainValue → Term → PlainStep
 one_step one_of.Sync v term = do
-  e ← event_of v
+  e ← as_event v
   pushed (force e false) term
 one_step one_of.MVar v term = asks (ask.make_mvar (Some v)) term
 one_step one_of.Port v term = do
-  x ← mchan_of v
+  x ← as_mchan v
   asks (ask.make_port x) term
 one_step one_of.Copy v term = do
-  p ← port_of v
+  p ← as_port v
   asks (ask.copy_port p) term
 one_step one_of.Print v term = asks (ask.print v) term
 
 abbrev pub two_step : ActOnTwo → PlainValue → PlainValue → Term → PlainStep
 two_step two_of.IPut v w term = do
-  i ← ivar_of v
+  i ← as_ivar v
   asks (ask.iput i w) term
 two_step two_of.MPut v w term = do
-  m ← mvar_of v
+  m ← as_mvar v
   asks (ask.mput m w) term
 two_step two_of.Mail v w term = do
-  b ← mailbox_of v
+  b ← as_mailbox v
   asks (ask.mail b w) term
 two_step two_of.Multicast v w term = do
-  x ← mchan_of v
+  x ← as_mchan v
   asks (ask.multicast x w) term
 
 -- an effect of the thread of this number, where the call that waits for its answer is already on top of the term
@@ -134,24 +134,24 @@ source_step p self x (value e) left variables below = do
   goes_on (call left (assigned variables x v) runs ∷ below)
 source_step p self x (effect f) left variables below = effect_step p self variables f (call left variables (gives x) ∷ below)
 
--- the first of a call's statements, where these are left behind it
+-- the first of a call's statements, where these are left after it
 abbrev pub statement_step : Program → ℕ → PlainStmt Name → PlainStmts Name → Variables → Term → PlainStep
 statement_step p self (let_be x source) left variables below = source_step p self x source left variables below
 statement_step p self (set_to x e) left variables below = source_step p self x (value e) left variables below
 statement_step p self (just_do f) left variables below = effect_step p self variables f (call left variables drops ∷ below)
 statement_step p self (if_so e a b) left variables below = do
   v ← evaluate (value_of variables) e
-  holds ← truth_of v
+  holds ← as_truth v
   goes_on (call (and_then (if holds then a else b) left) variables runs ∷ below)
 statement_step p self (while_so e a) left variables below = do
   v ← evaluate (value_of variables) e
-  holds ← truth_of v
+  holds ← as_truth v
   goes_on (call (if holds then and_then a (stmts_and (while_so e a) left) else left) variables runs ∷ below)
 statement_step p self (return_with e) left variables below = do
   v ← evaluate (value_of variables) e
   delivered v below
 
--- a call without statements left answers unit
+-- a call without statements left returns unit
 abbrev pub call_step : Program → ℕ → PlainStmts Name → Variables → Term → PlainStep
 call_step p self no_stmts variables below = delivered unit below
 call_step p self (stmts_and s left) variables below = statement_step p self s left variables below
@@ -160,15 +160,15 @@ call_step p self (stmts_and s left) variables below = statement_step p self s le
 -- neither left the event is ready to be synchronized on.
 abbrev pub force_step : Program → Option PlainPlace → PlainEvent → Term → PlainStep
 force_step p (Some (calls f)) e below = pushed (call_of p f) (force e false ∷ below)
-force_step p (Some (needs_nack f)) e below = if has_room (force e false ∷ below) then asks ask.fresh_nack (force e true ∷ below) else fails Stack
+force_step p (Some (needs_nack f)) e below = if is_below_limit (force e false ∷ below) then asks ask.fresh_nack (force e true ∷ below) else fails Stack
 force_step p None e below = asks (ask.sync (group_of e)) (force e true ∷ below)
 
 -- the functions of wraps are called one after the other, each with its captured values and the value that has come so far
 abbrev pub wraps_step : Program → List PlainFunction → PlainValue → Term → PlainStep
 wraps_step p [] v below = delivered v below
-wraps_step p (f ∷ fs) v below = pushed (call_of p (given f v)) (wraps fs v ∷ below)
+wraps_step p (f ∷ fs) v below = pushed (call_of p (with_argument f v)) (wraps fs v ∷ below)
 
--- A step of the thread of this number. One that waits for an answer stays as it is, and one that has ended ends again.
+-- A step of the thread of this number. A thread that waits for an answer stays as it is, and one that has ended ends again.
 abbrev pub next : Program → ℕ → Term → PlainStep
 next p self (call left variables runs ∷ below) = call_step p self left variables below
 next p self (force e false ∷ below) = force_step p (unforced e) e below

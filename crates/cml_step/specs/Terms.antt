@@ -1,7 +1,7 @@
--- What a thread of a script is in the middle of.
+-- What a thread of a script has still to do.
 use Rattle.std.specs.Prelude.{ℕ, Bool, List, [], ◌∷◌, Option, Some, None, slice_get}
 use Rattle.cml_value.specs.Value.{PlainValue, PlainValues, no_values, values_and, PlainFunction, function, PlainEvent}
-use Rattle.cml_check.specs.Syntax.{PlainFunction as PlainItem, PlainStmts, no_stmts, stmts_and, Name}
+use Rattle.cml_check.specs.Syntax.{PlainItem, PlainStmts, no_stmts, stmts_and, Name}
 use Rattle.cml_step.specs.Variables.{Variables, bound}
 
 -- a program as it is written: its functions in order
@@ -17,14 +17,14 @@ pub data PlainWait : Type 0 where
 -- An entry of a stack: a call, with the statements that are left, its variables, and what it waits for; an event that is being
 -- forced, and whether it has asked for a nack or for its synchronization; or wraps in progress, with the functions that are left and
 -- the value that has come so far.
-pub data PlainEntry : Type 0 where
-  call : PlainStmts Name → Variables → PlainWait → PlainEntry
-  force : PlainEvent → Bool → PlainEntry
-  wraps : List PlainFunction → PlainValue → PlainEntry
+pub data StackEntry : Type 0 where
+  call : PlainStmts Name → Variables → PlainWait → StackEntry
+  force : PlainEvent → Bool → StackEntry
+  wraps : List PlainFunction → PlainValue → StackEntry
 
 -- the term of a thread: its stack, the top entry first; nothing is on the stack of a thread that has ended
 abbrev pub Term : Type 0
-Term = List PlainEntry
+Term = List StackEntry
 
 -- the most entries of a stack (Concurrent ML has no such limit)
 abbrev pub max_entries : ℕ
@@ -41,9 +41,9 @@ list_of (values_and v vs) = v ∷ list_of vs
 
 -- a call of the function at its first statement, where its parameters have these values; a function that is not there, which no
 -- checked program names, does nothing
-abbrev pub started : Option (PlainItem Name) → List PlainValue → PlainEntry
+abbrev pub started : Option (PlainItem Name) → List PlainValue → StackEntry
 started (Some f) vs = call f.body (bound f.names vs) runs
 started None vs = call no_stmts [] runs
 
-abbrev pub call_of : Program → PlainFunction → PlainEntry
+abbrev pub call_of : Program → PlainFunction → StackEntry
 call_of p (function f vs) = started (slice_get p f) (list_of vs)

@@ -8,7 +8,7 @@ use Rattle.cml_check.specs.Syntax.{Name}
 abbrev pub Variables : Type 0
 Variables = List (Name × PlainValue)
 
--- the first of these names have these values; the others were not given a value yet, which is unit
+-- the first of these names have these values; the others have no value yet, and are unit
 abbrev pub bound : List Name → List PlainValue → Variables
 bound [] vs = []
 bound (x ∷ xs) [] = (x, unit) ∷ bound xs []
@@ -17,10 +17,10 @@ bound (x ∷ xs) (v ∷ vs) = (x, v) ∷ bound xs vs
 abbrev pub value_of : Variables → Name → PlainValue
 value_of variables x = unwrap_or (lookup (bytes_eq x) variables) unit
 
--- the variables, where this one was given that value
+-- the variables once this one was given that value
 abbrev pub assigned : Variables → Name → PlainValue → Variables
 assigned variables x v = set_value (bytes_eq x) variables v
 
--- of these values, the one of a slot
+-- the value of a slot; unit where there is no such slot
 abbrev pub slot_value : List PlainValue → ℕ → PlainValue
 slot_value vs slot = unwrap_or (slice_get vs slot) unit

@@ -2,7 +2,7 @@
 
 use cml_value::{FnRef, NackId, Value};
 
-/// What a thread is answered that has asked.
+/// The answer to a thread that has asked.
 #[derive(Drop)]
 pub enum Answer {
     /// A value: the thread, object or tick that was asked for, or unit where all that was asked is done.

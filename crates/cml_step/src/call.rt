@@ -6,7 +6,7 @@ ghost use Rattle.cml_check.specs.Syntax.{Name, if_so, while_so, act_on_one, act_
 ghost use Rattle.cml_check.specs.StmtViews.{plain_effect, plain_source};
 ghost use Rattle.cml_check.specs.Names.{AreDistinct};
 ghost use Rattle.cml_check.specs.InOrder.{FunctionFits, arities, expr_fits, exprs_fit, exprs_count, effect_fits, source_fits, stmt_fits};
-ghost use Rattle.cml_step.specs.Faults.{Gives};
+ghost use Rattle.cml_step.specs.Faults.{ComesTo};
 ghost use Rattle.cml_step.specs.Agrees.{value_agrees, all_agree, ask_agrees};
 ghost use Rattle.cml_step.specs.Variables.{bound, value_of};
 ghost use Rattle.cml_step.specs.Evaluate as meaning;
@@ -14,15 +14,15 @@ ghost use Rattle.cml_step.specs.Places.{stmt_at, block_at, left_at};
 ghost use Rattle.cml_check.specs.Heads.{takes};
 ghost use Rattle.cml_step.specs.AskViews.{plain_ask};
 ghost use Rattle.cml_step.specs.Terms.{Term, drops, gives, call as plain_entry};
-ghost use Rattle.cml_check.specs.Syntax.{PlainFunction as PlainItem};
-ghost use Rattle.cml_step.specs.Calls.{entry_for, text_of, slots_with, WaitFits, Moves, DidAgrees, Asks};
+ghost use Rattle.cml_check.specs.Syntax.{PlainItem};
+ghost use Rattle.cml_step.specs.Calls.{entry_for, text_of, variables_of, statements_left, slots_with, WaitFits, IsSound, IsReady, Stays, StepsOn, Moves, ActionAgrees, MovesToAsk};
 ghost use Rattle.cml_step.specs.Steps as steps;
 
 use crate::ask::Ask;
 use crate::evaluate::{evaluate, evaluate_all};
 use crate::fault::Stop;
 use crate::kind::{event_of, ivar_of, mailbox_of, mchan_of, mvar_of, port_of, truth_of};
-use crate::place::{Arm, Hop, settle};
+use crate::place::{Arm, Hop, next_statement};
 use cml_check::{
     Act, ActOnOne, ActOnTwo, Block, Effect, Expr, Exprs, Function, Prog, Source, Stmt, StmtKind,
 };
@@ -49,7 +49,7 @@ pub(crate) struct Call {
 
 /// What a call does in its step.
 #[derive(Drop)]
-pub(crate) enum Did {
+pub(crate) enum Action {
     /// It goes on.
     Goes,
     /// It calls this function with these values.
@@ -77,7 +77,7 @@ fn value_in(
     requires distinct { AreDistinct f.now.names }
     requires agree { all_agree (arities program.now) slots.now ≡ true }
     ensures gives { let of = value_of (bound f.now.names slots.now) in
-        Gives (λ v. v) result (meaning.evaluate of (expr_map (name_at f.now.names) e.now)) }
+        ComesTo (λ v. v) result (meaning.evaluate of (expr_map (name_at f.now.names) e.now)) }
     ensures agrees { IfOk result (λ v. value_agrees (arities program.now) v ≡ true) }
 {
     evaluate(alloc, slots, e)
@@ -97,14 +97,14 @@ fn values_in(
     requires agree { all_agree (arities program.now) slots.now ≡ true }
     ensures gives { let of = value_of (bound f.now.names slots.now) in
         let found = meaning.evaluate_all of (exprs_map (name_at f.now.names) es.now) in
-        Gives (λ vs. vs.items) result found }
+        ComesTo (λ vs. vs.items) result found }
     ensures agree { IfOk result (λ vs. all_agree (arities program.now) vs.items ≡ true) }
     ensures count { IfOk result (λ vs. length vs.items ≡ exprs_count es.now) }
 {
     evaluate_all(alloc, slots, es)
 }
 
-// Room for a slot: what was not given a value yet is unit.
+// Makes room for a slot: those that were not given a value yet are unit.
 #[tactic(auto, using(crate::proofs::CallLemmas::padded, crate::proofs::CallLemmas::agree_padded))]
 fn pad(slots: &mut Vec<Value>, slot: usize) -> Result<(), Stop>
     ensures same { (names : List Name) →
@@ -129,34 +129,25 @@ pub(crate) fn assign(
     slot: usize,
     e: &Expr,
     call: &mut Call,
-) -> Result<Did, Stop>
+) -> Result<Action, Stop>
     requires slot { slot < length f.now.names }
     requires fits { expr_fits (arities program.now) (length f.now.names) e.now ≡ true }
-    requires distinct { AreDistinct f.now.names }
-    requires agree { all_agree (arities program.now) call.old.slots.items ≡ true }
-    requires runs { call.old.wait ≡ Wait.Runs }
-    requires bounded { call.old.at < usize.MAX }
+    requires ready { IsReady (arities program.now) f.now call.old }
     ensures moves { (self : ℕ) (below : Term) →
         let x = name_at f.now.names slot in
         let source = plain_source_value (expr_map (name_at f.now.names) e.now) in
-        let left = stmts_map (name_at f.now.names)
-        (left_at f.now.body call.old.path.items (suc call.old.at)) in
-        let variables = bound f.now.names call.old.slots.items in
+        let left = statements_left f.now call.old in
+        let variables = variables_of f.now call.old in
         Moves program.now f.now result call.new below
         (steps.source_step (text_of program.now) self x source left variables below) }
-    ensures agree { all_agree (arities program.now) call.new.slots.items ≡ true }
-    ensures waits { WaitFits call.new.wait (length f.now.names) (length call.new.slots.items) }
-    ensures did { DidAgrees (arities program.now) result }
-    ensures goes { IfOk result (λ d. d ≡ Did.Goes) }
-    ensures kept { IfErr result (λ _. entry_for f.now call.new ≡ entry_for f.now call.old) }
-    ensures runs { call.new.wait ≡ Wait.Runs }
-    ensures same { call.new.func ≡ call.old.func }
+    ensures stays { Stays (arities program.now) f.now result call.old call.new }
+    ensures goes { StepsOn f.now result call.old call.new }
 {
     let value = value_in(alloc, program, f, call.slots.as_slice(), e)?;
     pad(&mut call.slots, slot)?;
     call.slots[slot] = value;
     call.at += 1;
-    Ok(Did::Goes)
+    Ok(Action::Goes)
 }
 
 // The statement goes on in one of two blocks.
@@ -169,28 +160,19 @@ pub(crate) fn branch(
     one: &Block,
     other: &Block,
     call: &mut Call,
-) -> Result<Did, Stop>
+) -> Result<Action, Stop>
     requires here { stmt_at (block_at f.now.body call.old.path.items) call.old.at
         ≡ Some (if_so e.now one.now other.now) }
     requires fits { expr_fits (arities program.now) (length f.now.names) e.now ≡ true }
-    requires distinct { AreDistinct f.now.names }
-    requires agree { all_agree (arities program.now) call.old.slots.items ≡ true }
-    requires runs { call.old.wait ≡ Wait.Runs }
-    requires bounded { call.old.at < usize.MAX }
+    requires ready { IsReady (arities program.now) f.now call.old }
     ensures moves { (self : ℕ) (below : Term) →
         let stmt = stmt_map (name_at f.now.names) (if_so e.now one.now other.now) in
-        let left = stmts_map (name_at f.now.names)
-        (left_at f.now.body call.old.path.items (suc call.old.at)) in
-        let variables = bound f.now.names call.old.slots.items in
+        let left = statements_left f.now call.old in
+        let variables = variables_of f.now call.old in
         Moves program.now f.now result call.new below
         (steps.statement_step (text_of program.now) self stmt left variables below) }
-    ensures agree { all_agree (arities program.now) call.new.slots.items ≡ true }
-    ensures waits { WaitFits call.new.wait (length f.now.names) (length call.new.slots.items) }
-    ensures did { DidAgrees (arities program.now) result }
-    ensures goes { IfOk result (λ d. d ≡ Did.Goes) }
-    ensures kept { IfErr result (λ _. entry_for f.now call.new ≡ entry_for f.now call.old) }
-    ensures runs { call.new.wait ≡ Wait.Runs }
-    ensures same { call.new.func ≡ call.old.func }
+    ensures stays { Stays (arities program.now) f.now result call.old call.new }
+    ensures goes { StepsOn f.now result call.old call.new }
 {
     let value = value_in(alloc, program, f, call.slots.as_slice(), e)?;
     let holds = truth_of(&value)?;
@@ -199,7 +181,7 @@ pub(crate) fn branch(
     let arm = if holds { Arm::Then } else { Arm::Else };
     call.path.push(Hop { at, arm, back })?;
     call.at = 0;
-    Ok(Did::Goes)
+    Ok(Action::Goes)
 }
 
 // The statement does its block and then itself again, or is done.
@@ -211,28 +193,19 @@ pub(crate) fn repeat(
     e: &Expr,
     body: &Block,
     call: &mut Call,
-) -> Result<Did, Stop>
+) -> Result<Action, Stop>
     requires here { stmt_at (block_at f.now.body call.old.path.items) call.old.at
         ≡ Some (while_so e.now body.now) }
     requires fits { expr_fits (arities program.now) (length f.now.names) e.now ≡ true }
-    requires distinct { AreDistinct f.now.names }
-    requires agree { all_agree (arities program.now) call.old.slots.items ≡ true }
-    requires runs { call.old.wait ≡ Wait.Runs }
-    requires bounded { call.old.at < usize.MAX }
+    requires ready { IsReady (arities program.now) f.now call.old }
     ensures moves { (self : ℕ) (below : Term) →
         let stmt = stmt_map (name_at f.now.names) (while_so e.now body.now) in
-        let left = stmts_map (name_at f.now.names)
-        (left_at f.now.body call.old.path.items (suc call.old.at)) in
-        let variables = bound f.now.names call.old.slots.items in
+        let left = statements_left f.now call.old in
+        let variables = variables_of f.now call.old in
         Moves program.now f.now result call.new below
         (steps.statement_step (text_of program.now) self stmt left variables below) }
-    ensures agree { all_agree (arities program.now) call.new.slots.items ≡ true }
-    ensures waits { WaitFits call.new.wait (length f.now.names) (length call.new.slots.items) }
-    ensures did { DidAgrees (arities program.now) result }
-    ensures goes { IfOk result (λ d. d ≡ Did.Goes) }
-    ensures kept { IfErr result (λ _. entry_for f.now call.new ≡ entry_for f.now call.old) }
-    ensures runs { call.new.wait ≡ Wait.Runs }
-    ensures same { call.new.func ≡ call.old.func }
+    ensures stays { Stays (arities program.now) f.now result call.old call.new }
+    ensures goes { StepsOn f.now result call.old call.new }
 {
     let value = value_in(alloc, program, f, call.slots.as_slice(), e)?;
     let holds = truth_of(&value)?;
@@ -248,7 +221,7 @@ pub(crate) fn repeat(
     } else {
         call.at += 1;
     }
-    Ok(Did::Goes)
+    Ok(Action::Goes)
 }
 
 /// The value comes that the call waits for.
@@ -269,50 +242,49 @@ pub(crate) fn fill(call: &mut Call, value: Value)
 }
 
 // An effect on one value.
-fn one(
+fn effect_on_one(
     alloc: Global,
     program: &Prog,
     f: &Function,
     act: ActOnOne,
     e: &Expr,
     call: &Call,
-) -> Result<Did, Stop>
+) -> Result<Action, Stop>
     requires fits { expr_fits (arities program.now) (length f.now.names) e.now ≡ true }
-    requires distinct { AreDistinct f.now.names }
-    requires agree { all_agree (arities program.now) call.now.slots.items ≡ true }
+    requires sound { IsSound (arities program.now) f.now call.now }
     ensures moves { (self : ℕ) (below : Term) →
         let effect = act_on_one act (expr_map (name_at f.now.names) e.now) in
-        let variables = bound f.now.names call.now.slots.items in
+        let variables = variables_of f.now call.now in
         let waiting = entry_for f.now call.now in
         Moves program.now f.now result call.now below
         (steps.effect_step (text_of program.now) self variables effect
         (waiting ∷ below)) }
-    ensures did { DidAgrees (arities program.now) result }
+    ensures did { ActionAgrees (arities program.now) result }
 {
     let value = value_in(alloc, program, f, call.slots.as_slice(), e)?;
     match act {
         ActOnOne::Sync => {
             let event = event_of(&value)?;
             drop(value);
-            Ok(Did::Forces(event))
+            Ok(Action::Forces(event))
         }
-        ActOnOne::MVar => Ok(Did::Asks(Ask::MakeMVar(Some(value)))),
+        ActOnOne::MVar => Ok(Action::Asks(Ask::MakeMVar(Some(value)))),
         ActOnOne::Port => {
             let channel = mchan_of(&value)?;
             drop(value);
-            Ok(Did::Asks(Ask::MakePort(channel)))
+            Ok(Action::Asks(Ask::MakePort(channel)))
         }
         ActOnOne::Copy => {
             let port = port_of(&value)?;
             drop(value);
-            Ok(Did::Asks(Ask::CopyPort(port)))
+            Ok(Action::Asks(Ask::CopyPort(port)))
         }
-        ActOnOne::Print => Ok(Did::Asks(Ask::Print(value))),
+        ActOnOne::Print => Ok(Action::Asks(Ask::Print(value))),
     }
 }
 
 // An effect on two values.
-fn two(
+fn effect_on_two(
     alloc: Global,
     program: &Prog,
     f: &Function,
@@ -320,32 +292,31 @@ fn two(
     d: &Expr,
     e: &Expr,
     call: &Call,
-) -> Result<Did, Stop>
+) -> Result<Action, Stop>
     requires first { expr_fits (arities program.now) (length f.now.names) d.now ≡ true }
     requires second { expr_fits (arities program.now) (length f.now.names) e.now ≡ true }
-    requires distinct { AreDistinct f.now.names }
-    requires agree { all_agree (arities program.now) call.now.slots.items ≡ true }
+    requires sound { IsSound (arities program.now) f.now call.now }
     ensures moves { (self : ℕ) (below : Term) →
         let names = name_at f.now.names in
         let effect = act_on_two act (expr_map names d.now) (expr_map names e.now) in
-        let variables = bound f.now.names call.now.slots.items in
+        let variables = variables_of f.now call.now in
         let waiting = entry_for f.now call.now in
         Moves program.now f.now result call.now below
         (steps.effect_step (text_of program.now) self variables effect
         (waiting ∷ below)) }
-    ensures did { DidAgrees (arities program.now) result }
+    ensures did { ActionAgrees (arities program.now) result }
 {
     let first = value_in(alloc, program, f, call.slots.as_slice(), d)?;
     let second = value_in(alloc, program, f, call.slots.as_slice(), e)?;
     let ask = put_ask(act, &first, second)?;
     drop(first);
-    Ok(Did::Asks(ask))
+    Ok(Action::Asks(ask))
 }
 
 // What an effect on two values asks.
 fn put_ask(act: ActOnTwo, place: &Value, value: Value) -> Result<Ask, Stop>
     ensures asks { (term : Term) →
-        Asks result term (steps.two_step act place.now value term) }
+        MovesToAsk result term (steps.two_step act place.now value term) }
     ensures agrees { (fs : List ℕ) → value_agrees fs value ≡ true →
         IfOk result (λ a. ask_agrees fs (plain_ask a) ≡ true) }
 {
@@ -358,95 +329,89 @@ fn put_ask(act: ActOnTwo, place: &Value, value: Value) -> Result<Ask, Stop>
 }
 
 // A call of a function, or a thread that begins with one.
-fn called(
+fn call_effect(
     alloc: Global,
     program: &Prog,
     f: &Function,
     func: u32,
     es: &Exprs,
     call: &Call,
-) -> Result<Did, Stop>
+) -> Result<Action, Stop>
     requires fits { exprs_fit (arities program.now) (length f.now.names) es.now ≡ true }
     requires takes { takes (arities program.now) func (exprs_count es.now) ≡ true }
-    requires distinct { AreDistinct f.now.names }
-    requires agree { all_agree (arities program.now) call.now.slots.items ≡ true }
+    requires sound { IsSound (arities program.now) f.now call.now }
     ensures moves { (self : ℕ) (below : Term) →
         let effect = plain_call func (exprs_map (name_at f.now.names) es.now) in
-        let variables = bound f.now.names call.now.slots.items in
+        let variables = variables_of f.now call.now in
         let waiting = entry_for f.now call.now in
         Moves program.now f.now result call.now below
         (steps.effect_step (text_of program.now) self variables effect
         (waiting ∷ below)) }
-    ensures did { DidAgrees (arities program.now) result }
+    ensures did { ActionAgrees (arities program.now) result }
 {
     let args = values_in(alloc, program, f, call.slots.as_slice(), es)?;
-    Ok(Did::Calls(func, args))
+    Ok(Action::Calls(func, args))
 }
 
-fn spawned(
+fn spawn_effect(
     alloc: Global,
     program: &Prog,
     f: &Function,
     func: u32,
     es: &Exprs,
     call: &Call,
-) -> Result<Did, Stop>
+) -> Result<Action, Stop>
     requires fits { exprs_fit (arities program.now) (length f.now.names) es.now ≡ true }
     requires takes { takes (arities program.now) func (exprs_count es.now) ≡ true }
-    requires distinct { AreDistinct f.now.names }
-    requires agree { all_agree (arities program.now) call.now.slots.items ≡ true }
+    requires sound { IsSound (arities program.now) f.now call.now }
     ensures moves { (self : ℕ) (below : Term) →
         let effect = plain_spawn func (exprs_map (name_at f.now.names) es.now) in
-        let variables = bound f.now.names call.now.slots.items in
+        let variables = variables_of f.now call.now in
         let waiting = entry_for f.now call.now in
         Moves program.now f.now result call.now below
         (steps.effect_step (text_of program.now) self variables effect
         (waiting ∷ below)) }
-    ensures did { DidAgrees (arities program.now) result }
+    ensures did { ActionAgrees (arities program.now) result }
 {
     let args = values_in(alloc, program, f, call.slots.as_slice(), es)?;
     let function = FnRef::new(alloc, func, args)?;
-    Ok(Did::Asks(Ask::Spawn(function)))
+    Ok(Action::Asks(Ask::Spawn(function)))
 }
 
-// What an effect without a value does, but for `self`.
-fn asked(act: Act) -> Did
+// What an effect without a value does, except `self`.
+fn effect_alone(act: Act) -> Action
     requires { act ≡ Act.OwnThread → ⊥ }
     ensures moves { (p : List (PlainItem ℕ)) (f : PlainItem ℕ) (call : Call) (self : ℕ)
         (below : Term) → Moves p f (Ok result) call below
         (steps.act_step self act (entry_for f call ∷ below)) }
-    ensures did { (fs : List ℕ) → DidAgrees fs (Ok result) }
+    ensures did { (fs : List ℕ) → ActionAgrees fs (Ok result) }
 {
     match act {
-        Act::Chan => Did::Asks(Ask::MakeChan),
-        Act::SwapChan => Did::Asks(Ask::MakeSwap),
-        Act::IVar => Did::Asks(Ask::MakeIVar),
-        Act::MVar => Did::Asks(Ask::MakeMVar(None)),
-        Act::Mailbox => Did::Asks(Ask::MakeMailbox),
-        Act::MChan => Did::Asks(Ask::MakeMchan),
-        Act::Exit => Did::Ends,
-        Act::Yield | Act::OwnThread => Did::Asks(Ask::Yield),
-        Act::Now => Did::Asks(Ask::Now),
+        Act::Chan => Action::Asks(Ask::MakeChan),
+        Act::SwapChan => Action::Asks(Ask::MakeSwap),
+        Act::IVar => Action::Asks(Ask::MakeIVar),
+        Act::MVar => Action::Asks(Ask::MakeMVar(None)),
+        Act::Mailbox => Action::Asks(Ask::MakeMailbox),
+        Act::MChan => Action::Asks(Ask::MakeMchan),
+        Act::Exit => Action::Ends,
+        Act::Yield | Act::OwnThread => Action::Asks(Ask::Yield),
+        Act::Now => Action::Asks(Ask::Now),
     }
 }
 
 // The thread's own number comes at once.
 #[tactic(auto, using(crate::proofs::CallLemmas::filled_is, crate::proofs::CallLemmas::agree_filled, crate::proofs::CallLemmas::wait_room))]
-fn own_thread(program: &Prog, f: &Function, thread: Tid, call: &mut Call) -> Did
-    requires distinct { AreDistinct f.now.names }
-    requires agree { all_agree (arities program.now) call.old.slots.items ≡ true }
+fn own_thread(program: &Prog, f: &Function, thread: Tid, call: &mut Call) -> Action
+    requires sound { IsSound (arities program.now) f.now call.old }
     requires waits { WaitFits call.old.wait (length f.now.names)
         (length call.old.slots.items) }
     ensures moves { (below : Term) →
         Moves program.now f.now (Ok result) call.new below
         (steps.act_step thread.0 Act.OwnThread (entry_for f.now call.old ∷ below)) }
-    ensures agree { all_agree (arities program.now) call.new.slots.items ≡ true }
-    ensures waits { WaitFits call.new.wait (length f.now.names) (length call.new.slots.items) }
-    ensures did { DidAgrees (arities program.now) (Ok result) }
-    ensures same { call.new.func ≡ call.old.func }
+    ensures stays { Stays (arities program.now) f.now (Ok result) call.old call.new }
 {
     fill(call, Value::new(ValueKind::Thread(thread)));
-    Did::Goes
+    Action::Goes
 }
 
 // An effect, where the call waits for its answer already.
@@ -457,31 +422,27 @@ fn perform(
     f: &Function,
     effect: &Effect,
     call: &mut Call,
-) -> Result<Did, Stop>
+) -> Result<Action, Stop>
     requires fits { effect_fits (arities program.now) (length f.now.names)
         (plain_effect effect.now) ≡ true }
-    requires distinct { AreDistinct f.now.names }
-    requires agree { all_agree (arities program.now) call.old.slots.items ≡ true }
+    requires sound { IsSound (arities program.now) f.now call.old }
     requires waits { WaitFits call.old.wait (length f.now.names)
         (length call.old.slots.items) }
     ensures moves { (below : Term) →
         let effect = effect_map (name_at f.now.names) (plain_effect effect.now) in
-        let variables = bound f.now.names call.old.slots.items in
+        let variables = variables_of f.now call.old in
         Moves program.now f.now result call.new below
         (steps.effect_step (text_of program.now) thread.0 variables effect
         (entry_for f.now call.old ∷ below)) }
-    ensures agree { all_agree (arities program.now) call.new.slots.items ≡ true }
-    ensures waits { WaitFits call.new.wait (length f.now.names) (length call.new.slots.items) }
-    ensures did { DidAgrees (arities program.now) result }
-    ensures same { call.new.func ≡ call.old.func }
+    ensures stays { Stays (arities program.now) f.now result call.old call.new }
 {
     match effect {
         Effect::Act(Act::OwnThread) => Ok(own_thread(program, f, thread, call)),
-        Effect::Act(act) => Ok(asked(*act)),
-        Effect::ActOnOne(act, e) => one(alloc, program, f, *act, e, call),
-        Effect::ActOnTwo(act, d, e) => two(alloc, program, f, *act, d, e, call),
-        Effect::Call(func, es) => called(alloc, program, f, *func, es, call),
-        Effect::Spawn(func, es) => spawned(alloc, program, f, *func, es, call),
+        Effect::Act(act) => Ok(effect_alone(*act)),
+        Effect::ActOnOne(act, e) => effect_on_one(alloc, program, f, *act, e, call),
+        Effect::ActOnTwo(act, d, e) => effect_on_two(alloc, program, f, *act, d, e, call),
+        Effect::Call(func, es) => call_effect(alloc, program, f, *func, es, call),
+        Effect::Spawn(func, es) => spawn_effect(alloc, program, f, *func, es, call),
     }
 }
 
@@ -494,27 +455,20 @@ fn let_effect(
     slot: usize,
     effect: &Effect,
     call: &mut Call,
-) -> Result<Did, Stop>
+) -> Result<Action, Stop>
     requires slot { slot < length f.now.names }
     requires fits { effect_fits (arities program.now) (length f.now.names)
         (plain_effect effect.now) ≡ true }
-    requires distinct { AreDistinct f.now.names }
-    requires agree { all_agree (arities program.now) call.old.slots.items ≡ true }
-    requires runs { call.old.wait ≡ Wait.Runs }
-    requires bounded { call.old.at < usize.MAX }
+    requires ready { IsReady (arities program.now) f.now call.old }
     ensures moves { (below : Term) →
         let effect = effect_map (name_at f.now.names) (plain_effect effect.now) in
-        let left = stmts_map (name_at f.now.names)
-        (left_at f.now.body call.old.path.items (suc call.old.at)) in
-        let variables = bound f.now.names call.old.slots.items in
+        let left = statements_left f.now call.old in
+        let variables = variables_of f.now call.old in
         let waiting = plain_entry left variables (gives (name_at f.now.names slot)) in
         Moves program.now f.now result call.new below
         (steps.effect_step (text_of program.now) thread.0 variables effect
         (waiting ∷ below)) }
-    ensures agree { all_agree (arities program.now) call.new.slots.items ≡ true }
-    ensures waits { WaitFits call.new.wait (length f.now.names) (length call.new.slots.items) }
-    ensures did { DidAgrees (arities program.now) result }
-    ensures same { call.new.func ≡ call.old.func }
+    ensures stays { Stays (arities program.now) f.now result call.old call.new }
 {
     pad(&mut call.slots, slot)?;
     call.at += 1;
@@ -530,25 +484,20 @@ fn drop_effect(
     f: &Function,
     effect: &Effect,
     call: &mut Call,
-) -> Result<Did, Stop>
+) -> Result<Action, Stop>
     requires fits { effect_fits (arities program.now) (length f.now.names)
         (plain_effect effect.now) ≡ true }
-    requires distinct { AreDistinct f.now.names }
-    requires agree { all_agree (arities program.now) call.old.slots.items ≡ true }
+    requires sound { IsSound (arities program.now) f.now call.old }
     requires bounded { call.old.at < usize.MAX }
     ensures moves { (below : Term) →
         let effect = effect_map (name_at f.now.names) (plain_effect effect.now) in
-        let left = stmts_map (name_at f.now.names)
-        (left_at f.now.body call.old.path.items (suc call.old.at)) in
-        let variables = bound f.now.names call.old.slots.items in
+        let left = statements_left f.now call.old in
+        let variables = variables_of f.now call.old in
         let waiting = plain_entry left variables drops in
         Moves program.now f.now result call.new below
         (steps.effect_step (text_of program.now) thread.0 variables effect
         (waiting ∷ below)) }
-    ensures agree { all_agree (arities program.now) call.new.slots.items ≡ true }
-    ensures waits { WaitFits call.new.wait (length f.now.names) (length call.new.slots.items) }
-    ensures did { DidAgrees (arities program.now) result }
-    ensures same { call.new.func ≡ call.old.func }
+    ensures stays { Stays (arities program.now) f.now result call.old call.new }
 {
     call.at += 1;
     call.wait = Wait::Drops;
@@ -564,26 +513,19 @@ fn let_step(
     slot: usize,
     source: &Source,
     call: &mut Call,
-) -> Result<Did, Stop>
+) -> Result<Action, Stop>
     requires slot { slot < length f.now.names }
     requires fits { source_fits (arities program.now) (length f.now.names)
         (plain_source source.now) ≡ true }
-    requires distinct { AreDistinct f.now.names }
-    requires agree { all_agree (arities program.now) call.old.slots.items ≡ true }
-    requires runs { call.old.wait ≡ Wait.Runs }
-    requires bounded { call.old.at < usize.MAX }
+    requires ready { IsReady (arities program.now) f.now call.old }
     ensures moves { (below : Term) →
         let x = name_at f.now.names slot in
         let what = source_map (name_at f.now.names) (plain_source source.now) in
-        let left = stmts_map (name_at f.now.names)
-        (left_at f.now.body call.old.path.items (suc call.old.at)) in
-        let variables = bound f.now.names call.old.slots.items in
+        let left = statements_left f.now call.old in
+        let variables = variables_of f.now call.old in
         Moves program.now f.now result call.new below
         (steps.source_step (text_of program.now) thread.0 x what left variables below) }
-    ensures agree { all_agree (arities program.now) call.new.slots.items ≡ true }
-    ensures waits { WaitFits call.new.wait (length f.now.names) (length call.new.slots.items) }
-    ensures did { DidAgrees (arities program.now) result }
-    ensures same { call.new.func ≡ call.old.func }
+    ensures stays { Stays (arities program.now) f.now result call.old call.new }
 {
     match source {
         Source::Value(e) => assign(alloc, program, f, slot, e, call),
@@ -599,25 +541,18 @@ pub(crate) fn statement_step(
     f: &Function,
     stmt: &Stmt,
     call: &mut Call,
-) -> Result<Did, Stop>
+) -> Result<Action, Stop>
     requires here { stmt_at (block_at f.now.body call.old.path.items) call.old.at
         ≡ Some stmt.now }
     requires fits { stmt_fits (arities program.now) (length f.now.names) stmt.now ≡ true }
-    requires distinct { AreDistinct f.now.names }
-    requires agree { all_agree (arities program.now) call.old.slots.items ≡ true }
-    requires runs { call.old.wait ≡ Wait.Runs }
-    requires bounded { call.old.at < usize.MAX }
+    requires ready { IsReady (arities program.now) f.now call.old }
     ensures moves { (below : Term) →
         let s = stmt_map (name_at f.now.names) stmt.now in
-        let left = stmts_map (name_at f.now.names)
-        (left_at f.now.body call.old.path.items (suc call.old.at)) in
-        let variables = bound f.now.names call.old.slots.items in
+        let left = statements_left f.now call.old in
+        let variables = variables_of f.now call.old in
         Moves program.now f.now result call.new below
         (steps.statement_step (text_of program.now) thread.0 s left variables below) }
-    ensures agree { all_agree (arities program.now) call.new.slots.items ≡ true }
-    ensures waits { WaitFits call.new.wait (length f.now.names) (length call.new.slots.items) }
-    ensures did { DidAgrees (arities program.now) result }
-    ensures same { call.new.func ≡ call.old.func }
+    ensures stays { Stays (arities program.now) f.now result call.old call.new }
 {
     match &stmt.kind {
         StmtKind::Let(slot, source) => let_step(alloc, thread, program, f, *slot, source, call),
@@ -627,7 +562,7 @@ pub(crate) fn statement_step(
         StmtKind::While(e, a) => repeat(alloc, program, f, e, a, call),
         StmtKind::Return(e) => {
             let value = value_in(alloc, program, f, call.slots.as_slice(), e)?;
-            Ok(Did::Returns(value))
+            Ok(Action::Returns(value))
         }
     }
 }
@@ -640,7 +575,7 @@ pub(crate) fn call_step(
     program: &Prog,
     f: &Function,
     call: &mut Call,
-) -> Result<Did, Stop>
+) -> Result<Action, Stop>
     requires fits { FunctionFits (arities program.now) f.now }
     requires agree { all_agree (arities program.now) call.old.slots.items ≡ true }
     requires runs { call.old.wait ≡ Wait.Runs }
@@ -648,15 +583,12 @@ pub(crate) fn call_step(
         let before = entry_for f.now call.old in
         Moves program.now f.now result call.new below
         (steps.next (text_of program.now) thread.0 (before ∷ below)) }
-    ensures agree { all_agree (arities program.now) call.new.slots.items ≡ true }
-    ensures waits { WaitFits call.new.wait (length f.now.names) (length call.new.slots.items) }
-    ensures did { DidAgrees (arities program.now) result }
-    ensures same { call.new.func ≡ call.old.func }
+    ensures stays { Stays (arities program.now) f.now result call.old call.new }
 {
-    let (at, found) = settle(&f.body, &mut call.path, call.at);
+    let (at, found) = next_statement(&f.body, &mut call.path, call.at);
     call.at = at;
     match found {
         Some(stmt) => statement_step(alloc, thread, program, f, stmt, call),
-        None => Ok(Did::Returns(Value::new(ValueKind::Unit))),
+        None => Ok(Action::Returns(Value::new(ValueKind::Unit))),
     }
 }

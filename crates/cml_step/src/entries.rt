@@ -2,7 +2,7 @@
 
 ghost use Rattle.std.specs.Prelude.{◌≡◌, ◌↔◌, ◌++◌, ◌<◌, ◌∷◌, List, [], length, IfOk, IsTrue, MatchOption, option_copied};
 ghost use Rattle.cml_step.specs.Machines.{PlainHeld, plain_held};
-ghost use Rattle.cml_step.specs.Shared.{TakesOff, framed, left_of, topped, within};
+ghost use Rattle.cml_step.specs.Shared.{TakesOff, frame_entries, left_of, topped, entries_left};
 
 use crate::call::Call;
 use crate::entry::{Entry, copy_entry, may_be_same, same_entry};
@@ -29,9 +29,9 @@ impl Model for Frame {
     ghost coded = { coded_list held_code };
 
     ghost use Rattle.cml_step.specs.Machines.{plain_held};
-    ghost use Rattle.cml_step.specs.Shared.{framed};
+    ghost use Rattle.cml_step.specs.Shared.{frame_entries};
 
-    ghost view = { λ a. framed a.below ++ plain_held a.entry ∷ [] };
+    ghost view = { λ a. frame_entries a.below ++ plain_held a.entry ∷ [] };
 
     ghost size = { length };
 
@@ -58,16 +58,16 @@ impl Model for Frames {
     ghost coded = { coded_list held_code };
 
     ghost use Rattle.std.below.core.specs.declared.int.usize.TheConstants.{MAX};
-    ghost use Rattle.cml_step.specs.Shared.{framed};
+    ghost use Rattle.cml_step.specs.Shared.{frame_entries};
 
-    ghost view = { λ a. framed a.first };
+    ghost view = { λ a. frame_entries a.first };
 
-    ghost invariant = { λ a. (a.count ≡ length (framed a.first)) × (a.count < MAX) };
+    ghost invariant = { λ a. (a.count ≡ length (frame_entries a.first)) × (a.count < MAX) };
 }
 
 // Another owner of the frame.
 fn shared(first: &Option<Arc<Frame>>) -> Result<Option<Arc<Frame>>, AllocError>
-    ensures { IfOk result (λ copy. framed copy ≡ framed first.now) }
+    ensures { IfOk result (λ copy. frame_entries copy ≡ frame_entries first.now) }
 {
     match first {
         None => Ok(None),
@@ -77,7 +77,7 @@ fn shared(first: &Option<Arc<Frame>>) -> Result<Option<Arc<Frame>>, AllocError>
 
 // The entry of the frame once more, and another owner of what is below it.
 fn copied(alloc: Global, frame: &Frame) -> Result<(Entry, Option<Arc<Frame>>), AllocError>
-    ensures { IfOk result (λ r. frame.now ≡ framed r.1 ++ plain_held r.0 ∷ []) }
+    ensures { IfOk result (λ r. frame.now ≡ frame_entries r.1 ++ plain_held r.0 ∷ []) }
 {
     let below = shared(&frame.below)?;
     match copy_entry(alloc, &frame.entry) {
@@ -91,7 +91,7 @@ fn copied(alloc: Global, frame: &Frame) -> Result<(Entry, Option<Arc<Frame>>), A
 
 // The same, taken out of the frame where nothing else owns it.
 fn opened(alloc: Global, frame: Arc<Frame>) -> Result<(Entry, Option<Arc<Frame>>), AllocError>
-    ensures { IfOk result (λ r. frame.value ≡ framed r.1 ++ plain_held r.0 ∷ []) }
+    ensures { IfOk result (λ r. frame.value ≡ frame_entries r.1 ++ plain_held r.0 ∷ []) }
 {
     match Arc::try_unwrap(frame) {
         Ok(alone) => Ok((alone.entry, alone.below)),
@@ -105,7 +105,7 @@ fn opened(alloc: Global, frame: Arc<Frame>) -> Result<(Entry, Option<Arc<Frame>>
 
 // The entry on top of those in the frame.
 fn on_top(alloc: Global, entry: Entry, below: Option<Arc<Frame>>) -> Result<Arc<Frame>, AllocError>
-    ensures { IfOk result (λ f. f.value ≡ framed below ++ plain_held entry ∷ []) }
+    ensures { IfOk result (λ f. f.value ≡ frame_entries below ++ plain_held entry ∷ []) }
 {
     match Arc::new(alloc, Frame { entry, below }) {
         Ok(frame) => Ok(frame),
@@ -316,7 +316,7 @@ pub(crate) struct Walk<'a> {
 
 // The frame there, if there is one.
 fn frame_of(first: &Option<Arc<Frame>>) -> Option<&Frame>
-    ensures { within (option_copied result) ≡ framed first.now }
+    ensures { entries_left (option_copied result) ≡ frame_entries first.now }
 {
     match first {
         Some(frame) => Some(frame),

@@ -1,7 +1,7 @@
 //! The entries of a thread's stack.
 
 ghost use Rattle.std.specs.Prelude.{◌≡◌, ◌↔◌, IsTrue, IfOk, List, ℕ, true};
-ghost use Rattle.cml_check.specs.Syntax.{PlainFunction as PlainItem};
+ghost use Rattle.cml_check.specs.Syntax.{PlainItem};
 ghost use Rattle.cml_check.specs.InOrder.{arities};
 ghost use Rattle.cml_step.specs.Agrees.{function_agrees};
 ghost use Rattle.cml_step.specs.Terms.{call_of};
@@ -52,7 +52,7 @@ fn functions(alloc: Global, functions: &[FnRef]) -> Result<Vec<FnRef>, AllocErro
     Ok(copies)
 }
 
-// The same way down through the blocks.
+// A copy of a way down through the blocks.
 fn copy_path(alloc: Global, path: &[Hop]) -> Result<Vec<Hop>, AllocError>
     ensures { IfOk result (λ hops. hops.items ≡ path.now) }
 {
@@ -115,7 +115,7 @@ fn same_path(hops: &[Hop], others: &[Hop]) -> bool
     true
 }
 
-// Whether two calls are of one function, at one place in it.
+// Whether two calls are of the same function, at the same place in it.
 fn same_place(call: &Call, other: &Call) -> bool
     ensures { IsTrue result ↔ (call.now.func ≡ other.now.func)
         × (call.now.at ≡ other.now.at) × (call.now.wait ≡ other.now.wait)

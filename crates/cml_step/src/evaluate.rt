@@ -2,7 +2,7 @@
 
 ghost use Rattle.std.specs.Prelude.{◌≡◌};
 ghost use Rattle.cml_value.specs.Value.{function, values};
-ghost use Rattle.cml_step.specs.Faults.{Gives};
+ghost use Rattle.cml_step.specs.Faults.{ComesTo};
 ghost use Rattle.cml_step.specs.Operators as operators;
 ghost use Rattle.cml_step.specs.Variables.{slot_value};
 ghost use Rattle.cml_step.specs.Evaluate as spec;
@@ -16,7 +16,7 @@ use std::alloc::Global;
 
 // The value of a slot: unit where it was not given one.
 fn slot(values: &[Value], slot: usize) -> Result<Value, Stop>
-    ensures { Gives (λ v. v) result (Ok (slot_value values.now slot)) }
+    ensures { ComesTo (λ v. v) result (Ok (slot_value values.now slot)) }
 {
     match values.get(slot) {
         Some(value) => Ok(value.copy()?),
@@ -27,7 +27,7 @@ fn slot(values: &[Value], slot: usize) -> Result<Value, Stop>
 // The choice of the events that these values are.
 #[tactic(auto, using(crate::proofs::Prefixes::events_start, crate::proofs::Prefixes::events_next, crate::proofs::Prefixes::events_fault))]
 fn choose_value(alloc: Global, members: Vec<Value>) -> Result<Value, Stop>
-    ensures { Gives (λ v. v) result (operators.choose_value members.items) }
+    ensures { ComesTo (λ v. v) result (operators.choose_value members.items) }
 {
     let mut events = Vec::with_capacity(alloc, members.len())?;
     for member in &members {
@@ -38,7 +38,7 @@ fn choose_value(alloc: Global, members: Vec<Value>) -> Result<Value, Stop>
 
 fn wrap_value(alloc: Global, inner: Value, func: u32, args: Vec<Value>) -> Result<Value, Stop>
     ensures { let wrap = function func (values args.items) in
-        Gives (λ v. v) result (operators.wrap_value inner wrap) }
+        ComesTo (λ v. v) result (operators.wrap_value inner wrap) }
 {
     let event = event_of(&inner)?;
     let function = FnRef::new(alloc, func, args)?;
@@ -47,7 +47,7 @@ fn wrap_value(alloc: Global, inner: Value, func: u32, args: Vec<Value>) -> Resul
 
 fn guard_value(alloc: Global, func: u32, args: Vec<Value>) -> Result<Value, Stop>
     ensures { let guard = function func (values args.items) in
-        Gives (λ v. v) result (operators.guard_value guard) }
+        ComesTo (λ v. v) result (operators.guard_value guard) }
 {
     let function = FnRef::new(alloc, func, args)?;
     event_value(alloc, Event::new(EventKind::Guard(function)))
@@ -55,7 +55,7 @@ fn guard_value(alloc: Global, func: u32, args: Vec<Value>) -> Result<Value, Stop
 
 fn nack_value(alloc: Global, func: u32, args: Vec<Value>) -> Result<Value, Stop>
     ensures { let with_nack = function func (values args.items) in
-        Gives (λ v. v) result (operators.nack_value with_nack) }
+        ComesTo (λ v. v) result (operators.nack_value with_nack) }
 {
     let function = FnRef::new(alloc, func, args)?;
     event_value(alloc, Event::new(EventKind::WithNack(function)))
@@ -64,7 +64,7 @@ fn nack_value(alloc: Global, func: u32, args: Vec<Value>) -> Result<Value, Stop>
 /// The value of an expression, where the slots have these values.
 #[cycle(evaluate)]
 pub(crate) fn evaluate(alloc: Global, slots: &[Value], expression: &Expr) -> Result<Value, Stop>
-    ensures { Gives (λ v. v) result (spec.evaluate (slot_value slots.now) expression.now) }
+    ensures { ComesTo (λ v. v) result (spec.evaluate (slot_value slots.now) expression.now) }
 {
     match &expression.kind {
         ExprKind::Constant(constant) => constant_value(alloc, *constant),
@@ -109,7 +109,7 @@ pub(crate) fn evaluate_all(
     expressions: &Exprs,
 ) -> Result<Vec<Value>, Stop>
     ensures { let found = spec.evaluate_all (slot_value slots.now) expressions.now in
-        Gives (λ vs. vs.items) result found }
+        ComesTo (λ vs. vs.items) result found }
 {
     let mut found = Vec::with_capacity(alloc, expressions.items.len())?;
     for e in &expressions.items {

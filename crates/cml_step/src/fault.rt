@@ -11,7 +11,7 @@ use std::alloc::{AllocError, AllocFailed};
 pub enum Fault {
     /// A value of the wrong kind.
     Kind,
-    /// A sum, difference or product outside the numbers.
+    /// A sum, difference or product outside the numbers of 64 bits.
     Overflow,
     /// A negative number of ticks.
     Range,

@@ -1,7 +1,7 @@
 //! What kind a value is of, where a step asks for one kind.
 
 ghost use Rattle.std.specs.Prelude.{◌≡◌};
-ghost use Rattle.cml_step.specs.Faults.{Gives};
+ghost use Rattle.cml_step.specs.Faults.{ComesTo};
 ghost use Rattle.cml_step.specs.Kinds as spec;
 
 use crate::fault::{Fault, Stop};
@@ -11,7 +11,7 @@ use cml_value::{
 
 /// The number that a value is.
 pub(crate) fn number_of(value: &Value) -> Result<i64, Stop>
-    ensures { Gives (λ z. z) result (spec.number_of value.now) }
+    ensures { ComesTo (λ z. z) result (spec.as_number value.now) }
 {
     match value.kind() {
         ValueKind::Int(z) => Ok(*z),
@@ -21,7 +21,7 @@ pub(crate) fn number_of(value: &Value) -> Result<i64, Stop>
 
 /// The truth value that a value is.
 pub(crate) fn truth_of(value: &Value) -> Result<bool, Stop>
-    ensures { Gives (λ b. b) result (spec.truth_of value.now) }
+    ensures { ComesTo (λ b. b) result (spec.as_truth value.now) }
 {
     match value.kind() {
         ValueKind::Bool(b) => Ok(*b),
@@ -31,7 +31,7 @@ pub(crate) fn truth_of(value: &Value) -> Result<bool, Stop>
 
 /// Another owner of the event that a value is.
 pub(crate) fn event_of(value: &Value) -> Result<Event, Stop>
-    ensures { Gives (λ e. e) result (spec.event_of value.now) }
+    ensures { ComesTo (λ e. e) result (spec.as_event value.now) }
 {
     match value.kind() {
         ValueKind::Event(e) => Ok(e.copy()?),
@@ -41,7 +41,7 @@ pub(crate) fn event_of(value: &Value) -> Result<Event, Stop>
 
 /// Another owner of the first part of the pair that a value is.
 pub(crate) fn first_of(value: &Value) -> Result<Value, Stop>
-    ensures { Gives (λ v. v) result (spec.first_of value.now) }
+    ensures { ComesTo (λ v. v) result (spec.first_part value.now) }
 {
     match value.kind() {
         ValueKind::Pair(p) => Ok(p.0.copy()?),
@@ -51,7 +51,7 @@ pub(crate) fn first_of(value: &Value) -> Result<Value, Stop>
 
 /// Another owner of the second part of the pair that a value is.
 pub(crate) fn second_of(value: &Value) -> Result<Value, Stop>
-    ensures { Gives (λ v. v) result (spec.second_of value.now) }
+    ensures { ComesTo (λ v. v) result (spec.second_part value.now) }
 {
     match value.kind() {
         ValueKind::Pair(p) => Ok(p.1.copy()?),
@@ -61,7 +61,7 @@ pub(crate) fn second_of(value: &Value) -> Result<Value, Stop>
 
 /// The thread that a value is.
 pub(crate) fn thread_of(value: &Value) -> Result<Tid, Stop>
-    ensures { Gives (λ t. t.0) result (spec.thread_of value.now) }
+    ensures { ComesTo (λ t. t.0) result (spec.as_thread value.now) }
 {
     match value.kind() {
         ValueKind::Thread(t) => Ok(*t),
@@ -71,7 +71,7 @@ pub(crate) fn thread_of(value: &Value) -> Result<Tid, Stop>
 
 /// The channel that a value is.
 pub(crate) fn chan_of(value: &Value) -> Result<ChanId, Stop>
-    ensures { Gives (λ c. c.0) result (spec.chan_of value.now) }
+    ensures { ComesTo (λ c. c.0) result (spec.as_chan value.now) }
 {
     match value.kind() {
         ValueKind::Chan(c) => Ok(*c),
@@ -81,7 +81,7 @@ pub(crate) fn chan_of(value: &Value) -> Result<ChanId, Stop>
 
 /// The swap channel that a value is.
 pub(crate) fn swapchan_of(value: &Value) -> Result<SwapId, Stop>
-    ensures { Gives (λ s. s.0) result (spec.swapchan_of value.now) }
+    ensures { ComesTo (λ s. s.0) result (spec.as_swapchan value.now) }
 {
     match value.kind() {
         ValueKind::Swap(s) => Ok(*s),
@@ -91,7 +91,7 @@ pub(crate) fn swapchan_of(value: &Value) -> Result<SwapId, Stop>
 
 /// The I-variable that a value is.
 pub(crate) fn ivar_of(value: &Value) -> Result<IVarId, Stop>
-    ensures { Gives (λ i. i.0) result (spec.ivar_of value.now) }
+    ensures { ComesTo (λ i. i.0) result (spec.as_ivar value.now) }
 {
     match value.kind() {
         ValueKind::IVar(i) => Ok(*i),
@@ -101,7 +101,7 @@ pub(crate) fn ivar_of(value: &Value) -> Result<IVarId, Stop>
 
 /// The M-variable that a value is.
 pub(crate) fn mvar_of(value: &Value) -> Result<MVarId, Stop>
-    ensures { Gives (λ m. m.0) result (spec.mvar_of value.now) }
+    ensures { ComesTo (λ m. m.0) result (spec.as_mvar value.now) }
 {
     match value.kind() {
         ValueKind::MVar(m) => Ok(*m),
@@ -111,7 +111,7 @@ pub(crate) fn mvar_of(value: &Value) -> Result<MVarId, Stop>
 
 /// The mailbox that a value is.
 pub(crate) fn mailbox_of(value: &Value) -> Result<MboxId, Stop>
-    ensures { Gives (λ b. b.0) result (spec.mailbox_of value.now) }
+    ensures { ComesTo (λ b. b.0) result (spec.as_mailbox value.now) }
 {
     match value.kind() {
         ValueKind::Mailbox(b) => Ok(*b),
@@ -121,7 +121,7 @@ pub(crate) fn mailbox_of(value: &Value) -> Result<MboxId, Stop>
 
 /// The multicast channel that a value is.
 pub(crate) fn mchan_of(value: &Value) -> Result<McastId, Stop>
-    ensures { Gives (λ x. x.0) result (spec.mchan_of value.now) }
+    ensures { ComesTo (λ x. x.0) result (spec.as_mchan value.now) }
 {
     match value.kind() {
         ValueKind::Mchan(x) => Ok(*x),
@@ -131,7 +131,7 @@ pub(crate) fn mchan_of(value: &Value) -> Result<McastId, Stop>
 
 /// The port that a value is.
 pub(crate) fn port_of(value: &Value) -> Result<PortId, Stop>
-    ensures { Gives (λ p. p.0) result (spec.port_of value.now) }
+    ensures { ComesTo (λ p. p.0) result (spec.as_port value.now) }
 {
     match value.kind() {
         ValueKind::Port(p) => Ok(*p),

@@ -4,7 +4,7 @@ ghost use Rattle.std.specs.Prelude.{◌≡◌, ◌≤◌, ◌++◌, ℕ, List, [
 ghost use Rattle.cml_value.specs.Value.{PlainValue};
 ghost use Rattle.cml_value.specs.Group.{PlainGroup, PlainLeaf, leaves};
 ghost use Rattle.cml_group.specs.Force.{event_of};
-ghost use Rattle.cml_check.specs.Syntax.{PlainFunction as PlainItem};
+ghost use Rattle.cml_check.specs.Syntax.{PlainItem};
 ghost use Rattle.cml_step.specs.Agrees.{value_agrees, all_agree, event_agrees, leaf_agrees, answer_agrees};
 ghost use Rattle.cml_step.specs.Asks.{a_commit};
 ghost use Rattle.cml_step.specs.Machines.{PlainMachine, Fits};
@@ -16,8 +16,8 @@ pub fn few_entries()
         → length m.stack ≤ max_entries }
 {}
 
-/// Where an event agrees with a program, its leaves do. So a commit of one of them is answered by what agrees, if the value does that
-/// its base event gives.
+/// Where an event agrees with a program, its leaves do. So the answer to a commit of one of them agrees, if the value that its base
+/// event gives does.
 pub fn leaves_agree()
     ensures leaves { (arities : List ℕ) (g : PlainGroup) (n : ℕ) (l : PlainLeaf) →
         event_agrees arities (event_of g) ≡ true → slice_get (leaves g) n ≡ Some l

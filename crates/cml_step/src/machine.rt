@@ -1,11 +1,11 @@
 //! A thread of a script.
 
 ghost use Rattle.std.specs.Prelude.{◌≡◌, ℕ, List, [], ◌∷◌, true, Some, None, IfOk, IfErr, OnErr, ◌↔◌, IsTrue};
-ghost use Rattle.cml_check.specs.Syntax.{PlainFunction as PlainItem};
+ghost use Rattle.cml_check.specs.Syntax.{PlainItem};
 ghost use Rattle.cml_check.specs.InOrder.{InOrder, arities};
 ghost use Rattle.cml_step.specs.Agrees.{ask_agrees, answer_agrees, function_agrees, value_agrees};
 ghost use Rattle.cml_step.specs.Answers as answers;
-ghost use Rattle.cml_step.specs.Answers.{awaited, answered as plain_answered};
+ghost use Rattle.cml_step.specs.Answers.{top_await, after_answer as plain_answered};
 ghost use Rattle.cml_step.specs.AnswerViews.{plain_answer, Awaits, IsNack};
 ghost use Rattle.cml_step.specs.AskViews.{plain_ask};
 ghost use Rattle.cml_step.specs.Asks.{a_value, a_nack, a_commit};
@@ -29,7 +29,7 @@ use cml_value::{FnRef, NackId, Tid, Value};
 use std::alloc::{AllocError, AllocFailed, Global};
 use std::marker::Model;
 
-/// A thread of a script: its number, and what it is in the middle of. What that means a checked program says.
+/// A thread of a script: its number and its stack. What the stack means, a checked program says.
 #[derive(Drop)]
 pub struct Machine {
     thread: Tid,
@@ -69,7 +69,7 @@ fn copy_top(alloc: Global, top: &Option<Entry>) -> Result<Option<Entry>, AllocEr
 fn given_value(top: Entry, value: Value) -> Entry
     requires { (p : List (PlainItem ℕ)) × (hs : List PlainHeld)
         × StackFits p (topped hs (Some top))
-        × (awaited (term_of p (topped hs (Some top))) ≡ answers.value) }
+        × (top_await (term_of p (topped hs (Some top))) ≡ answers.value) }
     ensures term { (p : List (PlainItem ℕ)) (hs : List PlainHeld) → InOrder p
         → StackFits p (topped hs (Some top))
         → term_of p (topped hs (Some result))
@@ -95,7 +95,7 @@ fn given_value(top: Entry, value: Value) -> Entry
 // What the event on top becomes once it was committed: the wraps that the value goes through.
 fn given_commit(top: Entry, value: Value, wraps: Vec<FnRef>) -> Entry
     requires { (p : List (PlainItem ℕ)) × (hs : List PlainHeld)
-        × (awaited (term_of p (topped hs (Some top))) ≡ answers.commit) }
+        × (top_await (term_of p (topped hs (Some top))) ≡ answers.commit) }
     ensures term { (p : List (PlainItem ℕ)) (hs : List PlainHeld) →
         term_of p (topped hs (Some result))
         ≡ plain_answered (text_of p) (a_commit value wraps.items) (term_of p (topped hs (Some top))) }
@@ -114,7 +114,7 @@ impl Machine {
     /// The thread of this number at the beginning of a call of the function.
     ///
     /// # Errors
-    /// Want of memory, with the function.
+    /// Out of memory; the function comes back.
     pub fn start(
         alloc: Global,
         program: &Prog,
@@ -127,7 +127,7 @@ impl Machine {
         ensures thread { IfOk result (λ m. m.thread ≡ thread.0) }
         ensures fits { IfOk result (λ m. Fits program.now m) }
         ensures awaits { IfOk result (λ m.
-            awaited (machine_term program.now m) ≡ answers.nothing) }
+            top_await (machine_term program.now m) ≡ answers.nothing) }
         ensures err { IfErr result (λ back. back.value ≡ function) }
     {
         let _count = program.functions();
@@ -166,7 +166,7 @@ impl Machine {
     /// The same thread at the same place. It takes a count for each value that a variable of the top entry has, whatever stands below it.
     ///
     /// # Errors
-    /// Want of memory.
+    /// Out of memory.
     pub fn copy(&self, alloc: Global) -> Result<Machine, AllocError>
         ensures { IfOk result (λ m. m ≡ self.now) }
     {
@@ -208,7 +208,7 @@ impl Machine {
         program: &Prog,
     ) -> Result<(Machine, Ask, u32), AllocError>
         requires fits { Fits program.now self }
-        requires awaits { awaited (machine_term program.now self) ≡ answers.nothing }
+        requires awaits { top_await (machine_term program.now self) ≡ answers.nothing }
         ensures meant { IfOk result (λ r.
             sliced (text_of program.now) self.thread (machine_term program.now self)
             ≡ record {
@@ -236,7 +236,7 @@ impl Machine {
     /// Room for the answer of this nack, so that [`answered_nack`](Machine::answered_nack) takes no memory.
     ///
     /// # Errors
-    /// Want of memory.
+    /// Out of memory.
     pub fn reserve_nack(&self, alloc: Global, nack: NackId) -> Result<NackRoom, AllocError>
         requires { Awaits self.now (a_nack nack.0) }
         ensures room { IfOk result (λ r. IsNackRoom self.now r) }
@@ -263,8 +263,8 @@ impl Machine {
             ≡ plain_answered (text_of p) (a_nack room.nack.0) (machine_term p self) }
         ensures fits { (p : List (PlainItem ℕ)) → Fits p self → Fits p result }
         ensures awaits { (p : List (PlainItem ℕ)) → Fits p self →
-            awaited (machine_term p self) ≡ answers.nack
-            → awaited (machine_term p result) ≡ answers.nothing }
+            top_await (machine_term p self) ≡ answers.nack
+            → top_await (machine_term p result) ≡ answers.nothing }
         ensures thread { result.thread ≡ self.thread }
     {
         Machine {
@@ -320,7 +320,7 @@ impl Machine {
     /// The thread once it is answered. Only the answer to a withNack, whose function is called then, takes memory.
     ///
     /// # Errors
-    /// Want of memory, with the machine as it was.
+    /// Out of memory; the machine comes back as it was.
     pub fn answered(self, alloc: Global, answer: Answer) -> Result<Machine, AllocFailed<Machine>>
         requires { Awaits self (plain_answer answer) }
         ensures meant { IfOk result (λ m. (p : List (PlainItem ℕ)) → Fits p self →
@@ -329,8 +329,8 @@ impl Machine {
         ensures fits { IfOk result (λ m. (p : List (PlainItem ℕ)) → Fits p self →
             answer_agrees (arities p) (plain_answer answer) ≡ true → Fits p m) }
         ensures awaits { IfOk result (λ m. (p : List (PlainItem ℕ)) → Fits p self →
-            awaited (machine_term p self) ≡ answers.answer_for (plain_answer answer)
-            → awaited (machine_term p m) ≡ answers.nothing) }
+            top_await (machine_term p self) ≡ answers.answer_for (plain_answer answer)
+            → top_await (machine_term p m) ≡ answers.nothing) }
         ensures thread { IfOk result (λ m. m.thread ≡ self.thread) }
         ensures err { IfErr result (λ back. back.value ≡ self) }
         ensures memory { OnErr result (IsNack (plain_answer answer)) }

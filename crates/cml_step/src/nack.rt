@@ -3,7 +3,7 @@
 ghost use Rattle.std.specs.Prelude.{◌≡◌, ℕ, List, true, Some, IfOk};
 ghost use Rattle.cml_value.specs.Value.{PlainFunction, guard, scope};
 ghost use Rattle.cml_group.specs.Force.{calls, needs_nack, unforced, replaced, given_nack, AwaitsNack};
-ghost use Rattle.cml_check.specs.Syntax.{PlainFunction as PlainItem};
+ghost use Rattle.cml_check.specs.Syntax.{PlainItem};
 ghost use Rattle.cml_check.specs.InOrder.{arities};
 ghost use Rattle.cml_step.specs.Agrees.{function_agrees};
 ghost use Rattle.cml_step.specs.Calls.{text_of, entry_of};
@@ -17,7 +17,7 @@ use cml_group::Forcing;
 use cml_value::NackId;
 use std::alloc::{AllocError, Global};
 
-/// What the answer of a fresh nack takes of memory, made for one machine before the nack is.
+/// The memory that the answer of a fresh nack takes, made for one machine before the nack is made.
 #[derive(Drop)]
 pub struct NackRoom {
     pub(crate) nack: NackId,

@@ -3,7 +3,7 @@
 ghost use Rattle.std.specs.Prelude.{◌≡◌};
 ghost use Rattle.cml_value.specs.Value.{truth, pair, event, leaf};
 ghost use Rattle.cml_value.specs.Views.{plain_base};
-ghost use Rattle.cml_step.specs.Faults.{Gives};
+ghost use Rattle.cml_step.specs.Faults.{ComesTo};
 ghost use Rattle.cml_step.specs.Operators as spec;
 ghost use Rattle.cml_step.specs.Same.{are_same};
 
@@ -19,9 +19,9 @@ use std::alloc::Global;
 /// The value of a constant.
 ///
 /// # Errors
-/// Want of memory.
+/// Out of memory.
 pub(crate) fn constant_value(alloc: Global, constant: Constant) -> Result<Value, Stop>
-    ensures { Gives (λ v. v) result (spec.constant_value constant) }
+    ensures { ComesTo (λ v. v) result (spec.constant_value constant) }
 {
     match constant {
         Constant::True => Ok(Value::new(ValueKind::Bool(true))),
@@ -33,7 +33,7 @@ pub(crate) fn constant_value(alloc: Global, constant: Constant) -> Result<Value,
 
 /// The event as a value, once it was measured.
 pub(crate) fn event_value(alloc: Global, held: Event) -> Result<Value, Stop>
-    ensures { Gives (λ v. v) result (spec.built (event held)) }
+    ensures { ComesTo (λ v. v) result (spec.built (event held)) }
 {
     if !held.fits() {
         return Err(Stop::Fault(Fault::Deep));
@@ -43,14 +43,14 @@ pub(crate) fn event_value(alloc: Global, held: Event) -> Result<Value, Stop>
 
 // The base event as a value.
 fn base_value(alloc: Global, kind: BaseKind) -> Result<Value, Stop>
-    ensures { Gives (λ v. v) result (spec.built (event (leaf (plain_base kind)))) }
+    ensures { ComesTo (λ v. v) result (spec.built (event (leaf (plain_base kind)))) }
 {
     event_value(alloc, Event::new(EventKind::Leaf(Base::new(kind))))
 }
 
 // The pair as a value, once it was measured.
 fn pair_value(alloc: Global, first: Value, second: Value) -> Result<Value, Stop>
-    ensures { Gives (λ v. v) result (spec.built (pair first second)) }
+    ensures { ComesTo (λ v. v) result (spec.built (pair first second)) }
 {
     let both = Value::pair(alloc, first, second)?;
     if !both.fits() {
@@ -59,9 +59,9 @@ fn pair_value(alloc: Global, first: Value, second: Value) -> Result<Value, Stop>
     Ok(both)
 }
 
-// So many ticks.
+// The number of ticks that a value is.
 fn ticks_of(value: &Value) -> Result<u64, Stop>
-    ensures { Gives (λ n. n) result (spec.ticks_of value.now) }
+    ensures { ComesTo (λ n. n) result (spec.ticks_of value.now) }
 {
     let number = number_of(value)?;
     if number < 0 {
@@ -72,7 +72,7 @@ fn ticks_of(value: &Value) -> Result<u64, Stop>
 
 /// What an operation makes of one value.
 pub(crate) fn unary_value(alloc: Global, operator: Unary, value: Value) -> Result<Value, Stop>
-    ensures { Gives (λ v. v) result (spec.unary_value operator value) }
+    ensures { ComesTo (λ v. v) result (spec.unary_value operator value) }
 {
     match operator {
         Unary::Not => {
@@ -97,7 +97,7 @@ pub(crate) fn unary_value(alloc: Global, operator: Unary, value: Value) -> Resul
 // The sum of two numbers.
 #[tactic(auto, using(crate::proofs::Numbers::number_fits, crate::proofs::Numbers::number_too_far))]
 fn sum_value(first: &Value, second: &Value) -> Result<Value, Stop>
-    ensures { Gives (λ v. v) result (spec.sum_of first.now second.now) }
+    ensures { ComesTo (λ v. v) result (spec.sum_of first.now second.now) }
 {
     let (x, y) = (number_of(first)?, number_of(second)?);
     match x.checked_add(y) {
@@ -109,7 +109,7 @@ fn sum_value(first: &Value, second: &Value) -> Result<Value, Stop>
 // The difference of two numbers.
 #[tactic(auto, using(crate::proofs::Numbers::number_fits, crate::proofs::Numbers::number_too_far))]
 fn difference_value(first: &Value, second: &Value) -> Result<Value, Stop>
-    ensures { Gives (λ v. v) result (spec.difference_of first.now second.now) }
+    ensures { ComesTo (λ v. v) result (spec.difference_of first.now second.now) }
 {
     let (x, y) = (number_of(first)?, number_of(second)?);
     match x.checked_sub(y) {
@@ -121,7 +121,7 @@ fn difference_value(first: &Value, second: &Value) -> Result<Value, Stop>
 // The product of two numbers.
 #[tactic(auto, using(crate::proofs::Numbers::number_fits, crate::proofs::Numbers::number_too_far))]
 fn product_value(first: &Value, second: &Value) -> Result<Value, Stop>
-    ensures { Gives (λ v. v) result (spec.product_of first.now second.now) }
+    ensures { ComesTo (λ v. v) result (spec.product_of first.now second.now) }
 {
     let (x, y) = (number_of(first)?, number_of(second)?);
     match x.checked_mul(y) {
@@ -132,13 +132,13 @@ fn product_value(first: &Value, second: &Value) -> Result<Value, Stop>
 
 // Whether one number is less than the other.
 fn less_value(first: &Value, second: &Value) -> Result<Value, Stop>
-    ensures { Gives (λ v. v) result (spec.less_of first.now second.now) }
+    ensures { ComesTo (λ v. v) result (spec.less_of first.now second.now) }
 {
     let (x, y) = (number_of(first)?, number_of(second)?);
     Ok(Value::new(ValueKind::Bool(x < y)))
 }
 
-// Whether two values are one.
+// Whether two values are the same.
 fn equal_value(first: &Value, second: &Value) -> Value
     ensures { result ≡ truth (are_same first.now second.now) }
 {
@@ -152,7 +152,7 @@ pub(crate) fn binary_value(
     first: Value,
     second: Value,
 ) -> Result<Value, Stop>
-    ensures { Gives (λ v. v) result (spec.binary_value operator first second) }
+    ensures { ComesTo (λ v. v) result (spec.binary_value operator first second) }
 {
     match operator {
         Binary::Plus => sum_value(&first, &second),

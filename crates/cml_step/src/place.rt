@@ -69,7 +69,7 @@ fn statement<'a>(body: &'a Block, path: &[Hop], at: usize) -> Option<&'a Stmt>
 
 /// Leaves each block that is done: the position in the innermost block that is left, and the statement there.
 #[tactic(auto, using(crate::proofs::PlaceLemmas::left_done))]
-pub(crate) fn settle<'a>(
+pub(crate) fn next_statement<'a>(
     body: &'a Block,
     path: &mut Vec<Hop>,
     start: usize,

@@ -9,22 +9,22 @@ ghost use Rattle.cml_step.specs.Agrees.{all_agree};
 ghost use Rattle.cml_step.specs.Variables.{bound};
 ghost use Rattle.cml_step.specs.Places.{stmt_at, block_at, left_at};
 ghost use Rattle.cml_step.specs.Terms.{Term};
-ghost use Rattle.cml_step.specs.Calls.{entry_for, entry_of, text_of};
+ghost use Rattle.cml_step.specs.Calls.{entry_for, entry_of, text_of, variables_of, statements_left, IsReady};
 ghost use Rattle.cml_step.specs.Steps as steps;
 ghost use Rattle.cml_step.specs.Steps.{goes_on};
 ghost use Rattle.cml_step.specs.Slices.{GoesIn};
 ghost use Rattle.cml_step.specs.Stacks.{term_of, CallFits, EachBeneath, StackFits};
 
-use crate::call::{Call, Did, Wait, assign, branch, repeat};
+use crate::call::{Action, Call, Wait, assign, branch, repeat};
 use crate::entries::Stack;
 use crate::entry::Entry;
 use crate::fault::Stop;
-use crate::place::settle;
+use crate::place::next_statement;
 use cml_check::{Function, Prog, Source, Stmt, StmtKind};
 use std::alloc::{AllocError, Global};
 
 // Whether a step was made, and went on.
-fn has_gone(did: Result<Did, Stop>) -> bool
+fn has_gone(did: Result<Action, Stop>) -> bool
     ensures { result ≡ is_ok did }
 {
     let gone = did.is_ok();
@@ -37,15 +37,11 @@ fn quiet(alloc: Global, program: &Prog, f: &Function, stmt: &Stmt, call: &mut Ca
     requires here { stmt_at (block_at f.now.body call.old.path.items) call.old.at
         ≡ Some stmt.now }
     requires fits { stmt_fits (arities program.now) (length f.now.names) stmt.now ≡ true }
-    requires distinct { AreDistinct f.now.names }
-    requires agree { all_agree (arities program.now) call.old.slots.items ≡ true }
-    requires runs { call.old.wait ≡ Wait.Runs }
-    requires bounded { call.old.at < usize.MAX }
+    requires ready { IsReady (arities program.now) f.now call.old }
     ensures goes { result ≡ true → (self : ℕ) (below : Term) →
         let s = stmt_map (name_at f.now.names) stmt.now in
-        let left = stmts_map (name_at f.now.names)
-        (left_at f.now.body call.old.path.items (suc call.old.at)) in
-        let variables = bound f.now.names call.old.slots.items in
+        let left = statements_left f.now call.old in
+        let variables = variables_of f.now call.old in
         steps.statement_step (text_of program.now) self s left variables below
         ≡ goes_on (entry_for f.now call.new ∷ below) }
     ensures stays { result ≡ false → entry_for f.now call.new ≡ entry_for f.now call.old }
@@ -80,7 +76,7 @@ fn quiet_step(alloc: Global, program: &Prog, f: &Function, call: &mut Call) -> b
     ensures runs { call.new.wait ≡ Wait.Runs }
     ensures same { call.new.func ≡ call.old.func }
 {
-    let (at, found) = settle(&f.body, &mut call.path, call.at);
+    let (at, found) = next_statement(&f.body, &mut call.path, call.at);
     call.at = at;
     match found {
         Some(stmt) => quiet(alloc, program, f, stmt, call),
@@ -88,7 +84,7 @@ fn quiet_step(alloc: Global, program: &Prog, f: &Function, call: &mut Call) -> b
     }
 }
 
-// The first steps of the call that are such, at most so many: how many they were.
+// Takes the first steps of the call that do only this, at most this many. Returns how many they were.
 fn quiet_run(alloc: Global, program: &Prog, call: &mut Call, most: u32) -> u32
     requires fits { CallFits program.now call.old }
     ensures fits { CallFits program.now call.new }
@@ -110,7 +106,7 @@ fn quiet_run(alloc: Global, program: &Prog, call: &mut Call, most: u32) -> u32
     done
 }
 
-// The same of the call on top, which goes back on it.
+// The same of the call on top, which is put back on the stack.
 #[tactic(auto, using(crate::proofs::StackLemmas::term_pushed, crate::proofs::StackLemmas::fits_pushed))]
 fn quiet_call(
     alloc: Global,
@@ -133,7 +129,7 @@ fn quiet_call(
     Ok(done)
 }
 
-/// The first steps of a stack that only set variables and choose blocks, at most so many: how many they were.
+/// Takes the first steps of a stack that only set variables and choose blocks, at most this many. Returns how many they were.
 #[tactic(auto, using(crate::proofs::StackLemmas::term_pushed, crate::proofs::StackLemmas::fits_popped))]
 pub(crate) fn quiet_steps(
     alloc: Global,

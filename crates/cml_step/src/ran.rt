@@ -4,7 +4,7 @@ ghost use Rattle.std.specs.Prelude.{◌≡◌, IfOk, IfErr, true};
 ghost use Rattle.cml_check.specs.InOrder.{arities};
 ghost use Rattle.cml_step.specs.Agrees.{ask_agrees};
 ghost use Rattle.cml_step.specs.Answers as answers;
-ghost use Rattle.cml_step.specs.Answers.{awaited};
+ghost use Rattle.cml_step.specs.Answers.{top_await};
 ghost use Rattle.cml_step.specs.AskViews.{plain_ask};
 ghost use Rattle.cml_step.specs.Machines.{machine_term, Fits};
 ghost use Rattle.cml_step.specs.Rans.{IsSlice};
@@ -22,7 +22,7 @@ use thiserror::Error;
 /// Why a slice is not run. It hands the machine back.
 #[derive(Drop, Error)]
 pub enum SliceFault {
-    /// Want of memory.
+    /// Out of memory.
     #[error("out of memory")]
     Memory(Machine),
 }
@@ -72,7 +72,7 @@ impl Model for Ran {
 // A slice of the machine, and the program once more.
 fn slice_with(alloc: Global, program: &Prog, machine: &Machine) -> Result<(Prog, Slice), AllocError>
     requires fits { Fits program.now machine.now }
-    requires awaits { awaited (machine_term program.now machine.now) ≡ answers.nothing }
+    requires awaits { top_await (machine_term program.now machine.now) ≡ answers.nothing }
     ensures program { IfOk result (λ r. r.0 ≡ program.now) }
     ensures slice { IfOk result (λ r. IsSlice (record {
       program = program.now;
@@ -90,10 +90,10 @@ fn slice_with(alloc: Global, program: &Prog, machine: &Machine) -> Result<(Prog,
 /// Runs a slice of the thread as [`run_slice`] does, and keeps with it what it was a slice of.
 ///
 /// # Errors
-/// Want of memory, with the machine.
+/// Out of memory; the machine comes back.
 pub fn slice(alloc: Global, program: &Prog, machine: Machine) -> Result<Ran, SliceFault>
     requires fits { Fits program.now machine }
-    requires awaits { awaited (machine_term program.now machine) ≡ answers.nothing }
+    requires awaits { top_await (machine_term program.now machine) ≡ answers.nothing }
     ensures program { IfOk result (λ ran. ran.program ≡ program.now) }
     ensures start { IfOk result (λ ran. ran.start ≡ machine) }
     ensures meant { IfOk result (λ ran. IsSlice ran) }

@@ -2,7 +2,7 @@
 
 ghost use Rattle.std.specs.Prelude.{◌≡◌, IfOk};
 ghost use Rattle.cml_step.specs.Answers as answers;
-ghost use Rattle.cml_step.specs.Answers.{awaited};
+ghost use Rattle.cml_step.specs.Answers.{top_await};
 ghost use Rattle.cml_step.specs.AskViews.{plain_ask};
 ghost use Rattle.cml_step.specs.Machines.{machine_term, Fits};
 ghost use Rattle.cml_step.specs.Rans.{IsSlice};
@@ -27,10 +27,10 @@ pub struct Slice {
 /// The machine stays as it is.
 ///
 /// # Errors
-/// Want of memory.
+/// Out of memory.
 pub fn run_slice(alloc: Global, program: &Prog, machine: &Machine) -> Result<Slice, AllocError>
     requires fits { Fits program.now machine.now }
-    requires awaits { awaited (machine_term program.now machine.now) ≡ answers.nothing }
+    requires awaits { top_await (machine_term program.now machine.now) ≡ answers.nothing }
     ensures { IfOk result (λ s. IsSlice (record {
       program = program.now;
       start = machine.now;

@@ -2,20 +2,20 @@
 
 ghost use Rattle.std.specs.Prelude.{◌≡◌, ℕ, List, ◌∷◌, Bool, true, false, Some, None, Ok, IfOk, IfErr};
 ghost use Rattle.cml_value.specs.Value.{PlainValue, function, values};
-ghost use Rattle.cml_check.specs.Syntax.{PlainFunction as PlainItem};
+ghost use Rattle.cml_check.specs.Syntax.{PlainItem};
 ghost use Rattle.cml_check.specs.InOrder.{arities};
 ghost use Rattle.cml_step.specs.Agrees.{value_agrees, all_agree, function_agrees, event_agrees, ask_agrees};
 ghost use Rattle.cml_step.specs.Terms.{call_of, force};
 ghost use Rattle.cml_group.specs.Force.{AwaitsEvent, unforced, calls, event_of as plain_event_of};
 ghost use Rattle.cml_step.specs.AskViews.{plain_ask};
-ghost use Rattle.cml_step.specs.Forced.{group_of, given};
+ghost use Rattle.cml_step.specs.Forced.{group_of, with_argument};
 ghost use Rattle.cml_step.specs.Steps as steps;
 ghost use Rattle.cml_step.specs.Steps.{PlainStep};
-ghost use Rattle.cml_step.specs.Calls.{text_of, entry_of, MovesTo, DidAgrees};
+ghost use Rattle.cml_step.specs.Calls.{text_of, entry_of, MovesTo, ActionAgrees};
 ghost use Rattle.cml_step.specs.Stacks.{entry_view, term_of, EntryFits, EachBeneath, StackFits, IsStep, StepFits, CallFits, WrapsFit};
 
 use crate::ask::Ask;
-use crate::call::{Call, Did, Wait, call_step, fill};
+use crate::call::{Action, Call, Wait, call_step, fill};
 use crate::entries::Stack;
 use crate::entry::{Entry, Wraps, copies};
 use crate::fault::{Fault, Stop};
@@ -108,7 +108,7 @@ fn deliver_to_call(
     Ok(Ask::Nothing)
 }
 
-// The event that a guard's function answered takes its place.
+// The event that a guard's function returned takes its place.
 #[tactic(auto, using(crate::proofs::ForceLemmas::replaced_agrees, crate::proofs::AgreeLemmas::event_of_agrees, crate::proofs::StackLemmas::term_pushed, crate::proofs::StackLemmas::fits_pushed))]
 fn deliver_to_force(
     alloc: Global,
@@ -209,12 +209,12 @@ fn keep(alloc: Global, program: &Prog, call: Call, below: &mut Stack) -> Result<
 fn after_call(
     alloc: Global,
     program: &Prog,
-    did: Did,
+    did: Action,
     call: Call,
     below: &mut Stack,
 ) -> Result<Ask, Stop>
     requires fits { CallFits program.now call }
-    requires did { DidAgrees (arities program.now) (Ok did) }
+    requires did { ActionAgrees (arities program.now) (Ok did) }
     requires beneath { EachBeneath program.now below.old }
     ensures meant { (step : PlainStep) → MovesTo program.now (Ok did)
         (entry_of program.now call) (term_of program.now below.old) step
@@ -222,28 +222,28 @@ fn after_call(
     ensures fits { StepFits program.now result below.new }
 {
     match did {
-        Did::Goes => {
+        Action::Goes => {
             keep(alloc, program, call, below)?;
             Ok(Ask::Nothing)
         }
-        Did::Calls(func, args) => {
+        Action::Calls(func, args) => {
             keep(alloc, program, call, below)?;
             push_call(alloc, program, func, args, below)
         }
-        Did::Forces(event) => {
+        Action::Forces(event) => {
             keep(alloc, program, call, below)?;
             let forcing = Forcing::start(alloc, event)?;
             push(alloc, Entry::Force(forcing, false), below)
         }
-        Did::Returns(value) => {
+        Action::Returns(value) => {
             drop(call);
             deliver(alloc, program, value, below)
         }
-        Did::Asks(ask) => {
+        Action::Asks(ask) => {
             keep(alloc, program, call, below)?;
             Ok(ask)
         }
-        Did::Ends => {
+        Action::Ends => {
             drop(call);
             below.clear();
             Ok(Ask::End)
@@ -274,7 +274,7 @@ fn step_call(
     after_call(alloc, program, did, call, below)
 }
 
-// The function of a guard is called, and the event waits for what it answers.
+// The function of a guard is called, and the event waits for what it returns.
 #[tactic(auto, using(crate::proofs::StackLemmas::term_pushed, crate::proofs::StackLemmas::beneath_pushed, crate::proofs::ForceLemmas::guard_agrees))]
 fn call_guard(
     alloc: Global,
@@ -368,7 +368,7 @@ fn last_call(
     requires takes { function_agrees (arities program.now) 1 f.now ≡ true }
     requires agrees { value_agrees (arities program.now) value ≡ true }
     requires beneath { EachBeneath program.now below.old }
-    ensures meant { let entry = call_of (text_of program.now) (given f.now value) in
+    ensures meant { let entry = call_of (text_of program.now) (with_argument f.now value) in
         IsStep program.now result
         (steps.pushed entry (term_of program.now below.old)) below.new }
     ensures fits { StepFits program.now result below.new }

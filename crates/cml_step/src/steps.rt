@@ -51,7 +51,8 @@ fn failed(fault: Fault, stack: &mut Stack) -> Ask
     Ask::Fault(fault)
 }
 
-/// At most so many steps of the thread, up to the first that asks, ends or is at fault: what it asks, and how many they were.
+/// Takes at most this many steps of the thread, up to the first that asks, ends or is at fault. Returns what it asks, and how many
+/// steps there were.
 #[tactic(auto, using(crate::proofs::SliceLemmas::slice_on, crate::proofs::SliceLemmas::slice_asks, crate::proofs::SliceLemmas::slice_over))]
 pub(crate) fn run(
     alloc: Global,

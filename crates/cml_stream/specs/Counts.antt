@@ -8,16 +8,16 @@ pub record Calls : Type 0 where
   pub calls : ℕ
   pub failed : ℕ
 
--- one more, where that is a u64; the greatest u64 stays
+-- one more, saturated at the greatest u64
 abbrev pub counted : ℕ → ℕ
 counted count = min (count + 1) (2 ^ 64 - 1)
 
--- the most calls of a reader, of which no more than so many bytes are wanted
+-- the most calls of a reader from which at most this many bytes are wanted
 abbrev pub most_reads : ℕ → ℕ
 most_reads limit = min (limit * 2) (2 ^ 64 - 1)
 
--- when each fault of reading comes: the one of a read where one failed, and that was the only one; that the input does not end where the
--- reader was called as often as it may be
+-- when each fault of reading comes: that a read failed, where one did, and no other; that the input does not end, where the reader was
+-- called as often as it may be
 abbrev pub HasReadFaults : {A : Type 0} → Result A ReadFault → ℕ → ℕ → ℕ → Type 0
 HasReadFaults (Err read.Read) limit calls failed = failed ≡ 1
 HasReadFaults (Err read.Turns) limit calls failed = (calls ≡ most_reads limit) × (failed ≡ 0)

@@ -8,8 +8,8 @@ ghost use Rattle.cml_stream.specs.Counts.{counted};
 
 use std::io::{ErrorKind, Read, Result as IoResult, Write};
 
-/// A reader or a writer that is lent, and how often it was called since then, and how often that failed. An interrupted read has not
-/// failed; a write that took nothing has. A count that is the greatest there is stays there. The counts are there for contracts to read.
+/// A reader or a writer that is lent, how often it was called since then, and how often that failed. An interrupted read has not
+/// failed; a write that took nothing has. The counts saturate. They are there for contracts to read.
 #[derive(Drop)]
 pub struct Counting<'a, T> {
     stream: &'a mut T,

@@ -2,7 +2,7 @@
 
 ghost use Rattle.std.specs.Prelude.{◌≡◌, ◌⊎◌, ℕ, ◌<◌, ◌≤◌, length, take, IfOk, OnOk, OnErr};
 ghost use Rattle.cml_stream.specs.Counts.{counted, most_reads, HasReadFaults};
-ghost use Rattle.cml_stream.specs.Streams.{stream, Gives, IsSpent, Takes};
+ghost use Rattle.cml_stream.specs.Streams.{stream, Supplies, IsSpent, Takes};
 
 use crate::counts::Counting;
 use std::alloc::{AllocError, Global};
@@ -39,10 +39,10 @@ impl From<AllocError> for ReadFault {
 #[error("a write failed")]
 pub struct WriteFault;
 
-/// Reads to the end, or until more bytes than this limit came, in at most twice as many calls. An interrupted read is asked again.
+/// Reads to the end, or until more bytes than this limit came, in at most twice as many calls. An interrupted read is tried again.
 ///
 /// # Errors
-/// A failed read, no end in so many calls, or want of memory.
+/// A failed read, no end in this many calls, or out of memory.
 pub fn read_all<R: Read>(
     alloc: Global,
     reader: &mut Counting<'_, R>,
@@ -51,7 +51,7 @@ pub fn read_all<R: Read>(
     requires calls { reader.old.calls ≡ 0 }
     requires failed { reader.old.failed ≡ 0 }
     ensures bytes { let input = stream (R.remaining reader.old.stream.now) (R.remaining reader.new.stream.now) in
-        IfOk result (λ all. Gives input all.items) }
+        IfOk result (λ all. Supplies input all.items) }
     ensures end { let input = stream (R.remaining reader.old.stream.now) (R.remaining reader.new.stream.now) in
         IfOk result (λ all. IsSpent input ⊎ (limit < length all.items)) }
     ensures same_reference { reader.new.stream.ghost_name ≡ reader.old.stream.ghost_name }
@@ -78,7 +78,7 @@ pub fn read_all<R: Read>(
     Err(ReadFault::Turns)
 }
 
-/// Writes the bytes by as many calls as it takes. What went out is a beginning of them.
+/// Writes the bytes by as many calls as it takes. What was written is a prefix of them.
 ///
 /// # Errors
 /// A write that failed, an interrupted one included, or took nothing.

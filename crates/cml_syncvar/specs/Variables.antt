@@ -4,7 +4,7 @@ use Rattle.std.specs.Prelude.{Option, Some, None, Result, Ok, Err}
 use Rattle.cml_value.specs.Value.{PlainValue, unit}
 use Rattle.cml_base.specs.Feeds.{PlainRefusal, put}
 
--- what a full variable holds; an empty one gives nobody anything
+-- what a full variable holds; unit for an empty one, which gives nobody anything
 abbrev pub held_by : Option PlainValue → PlainValue
 held_by None = unit
 held_by (Some v) = v

@@ -10,7 +10,7 @@ left_after held Take = None
 left_after held Get = held
 left_after held (Swap v) = Some v
 
--- a get alone needs a copy
+-- only a get needs a copy
 abbrev pub copy_for : Option PlainValue → MVarWant → Option PlainValue
 copy_for held Take = None
 copy_for held Get = held

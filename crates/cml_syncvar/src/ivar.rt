@@ -7,7 +7,7 @@ use cml_value::Value;
 use std::alloc::AllocError;
 use std::marker::Model;
 
-/// A variable that is written once. Who gets its value leaves it there.
+/// A variable that is written once. A get leaves its value there.
 #[derive(Drop)]
 pub struct IVar {
     held: Option<Value>,

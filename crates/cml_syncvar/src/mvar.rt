@@ -8,7 +8,7 @@ use std::alloc::AllocError;
 use std::marker::Model;
 use std::mem;
 
-/// A variable that who takes its value empties, and that then can be written again.
+/// A variable that a take empties, and that can then be written again.
 #[derive(Drop)]
 pub struct MVar {
     held: Option<Value>,
@@ -21,7 +21,7 @@ pub enum MVarWant {
     Take,
     /// The value, which stays.
     Get,
-    /// The value, in whose place it leaves this one.
+    /// The value, in whose place this one is left.
     Swap(Value),
 }
 

@@ -9,7 +9,7 @@ use Rattle.cml_trace.specs.Replies.{line}
 abbrev pub files : Shelf
 files = record { before = λ name. unknown; after = λ name. unknown }
 
--- There were words of the command line, which were answered over the files of the system; or there was no memory for them.
+-- What the arguments of the command line ask for was done over the files of the system; or there was no memory for the arguments.
 abbrev pub RanOnSystem : Stream → Stream → Stream → ℕ → Type 0
 RanOnSystem input output errors status =
     ((words : List (List ℕ)) × RanOver words input output errors files status)

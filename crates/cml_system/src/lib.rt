@@ -1,4 +1,4 @@
-//! The program over the system: its files as a store, and the words of its command line.
+//! The program over the system: its files as a store, and the arguments of its command line.
 #![tactic(auto)]
 
 ghost use Rattle.std.specs.Prelude.{ℕ, codes, take, IfOk, OnOk, OnErr};
@@ -48,7 +48,7 @@ impl<'a, R: Files> Store for Disk<'a, R> {
     }
 }
 
-// The words of the command line, the program's name first.
+// The arguments of the command line, the program's name first.
 fn words(rt: &(impl AllocGlobal + Env)) -> io::Result<Vec<String>> {
     Ok(env::args(rt)?.collect(rt.alloc())?)
 }
@@ -70,11 +70,11 @@ fn send_memory<E: Write>(err: &mut E) -> Result<(), WriteFault>
     write_out(&mut writer, b"memory\n")
 }
 
-/// Runs the command that the words of the command line name, over the files of the system, and answers the status of the process. Where
-/// there is no memory for the words, it is 5, and `memory` goes to the errors.
+/// Runs the command that the arguments of the command line name, over the files of the system, and returns the status of the process.
+/// Where there is no memory for the arguments, it is 5, and `memory` is written to the errors.
 ///
 /// # Errors
-/// Words that cannot be read as text. Nothing is read or written then.
+/// Arguments that are not text. Nothing is read or written then.
 pub fn run_on_system<R, I, O, E>(rt: &R, input: &mut I, out: &mut O, err: &mut E) -> io::Result<u8>
 where
     R: AllocGlobal + Env + Files + Threads + Wait + Sync,

@@ -14,16 +14,73 @@ use std::thread::Threads;
 // Traces with the text that answers them.
 const TRACES: &[(&str, &str)] = &[
     (
-        "spawn\nspawn\nchan\nsync 0 (send 0 5)\nsync 1 (recv 0)\nrows\ncommit 0 0 1 0\nrows\n",
-        "thread 0\nthread 1\nchan 0\nok\nok\nrows 1\nrow 0 0 1 0\nresume 0 ()\nresume 1 5\nfired\nrows 0\n",
+        "spawn
+spawn
+chan
+sync 0 (send 0 5)
+sync 1 (recv 0)
+rows
+commit 0 0 1 0
+rows
+",
+        "thread 0
+thread 1
+chan 0
+ok
+ok
+rows 1
+row 0 0 1 0
+resume 0 ()
+resume 1 5
+fired
+rows 0
+",
     ),
     (
-        "spawn\nmchan\nport 0\nmulticast 0 1\nmulticast 0 2\ncopy 0\nport 0\nsync 0 (portrecv 0)\ncommit 0 0\nsync 0 (portrecv 1)\ncommit 0 0\nsync 0 (portrecv 0)\ncommit 0 0\nsync 0 (portrecv 1)\ncommit 0 0\nsync 0 (portrecv 2)\nrows\n",
-        "thread 0\nmchan 0\nport 0\nok\nok\nport 1\nport 2\nok\nresume 0 1\nfired\nok\nresume 0 1\nfired\nok\nresume 0 2\nfired\nok\nresume 0 2\nfired\nok\nrows 0\n",
+        "spawn
+mchan
+port 0
+multicast 0 1
+multicast 0 2
+copy 0
+port 0
+sync 0 (portrecv 0)
+commit 0 0
+sync 0 (portrecv 1)
+commit 0 0
+sync 0 (portrecv 0)
+commit 0 0
+sync 0 (portrecv 1)
+commit 0 0
+sync 0 (portrecv 2)
+rows
+",
+        "thread 0
+mchan 0
+port 0
+ok
+ok
+port 1
+port 2
+ok
+resume 0 1
+fired
+ok
+resume 0 1
+fired
+ok
+resume 0 2
+fired
+ok
+resume 0 2
+fired
+ok
+rows 0
+",
     ),
 ];
 
-// Words over a file with the script `(fn main () (print 007))`, and what is written.
+// Arguments over a file with the script `(fn main () (print 007))`, and what is written.
 const COMMANDS: &[(&str, &str)] = &[
     ("check F", "ok functions 1\n"),
     ("fmt F", "(fn main () (print 7))\n"),
@@ -31,7 +88,7 @@ const COMMANDS: &[(&str, &str)] = &[
     ("--help", HELP),
 ];
 
-/// A reader that gives a byte at a time, and is interrupted before each. One read fails, after so many good ones; those behind it don't.
+/// A reader that gives a byte at a time, and is interrupted before each. One read fails, after this many good ones; those after it don't.
 #[derive(Drop)]
 struct Dripping<'a> {
     rest: &'a [u8],
@@ -59,7 +116,7 @@ impl<'a> Read for Dripping<'a> {
     }
 }
 
-/// A writer that takes a byte at a time. One write fails, after so many good ones, or takes nothing; those behind it don't.
+/// A writer that takes a byte at a time. One write fails, after this many good ones, or takes nothing; those after it don't.
 #[derive(Drop)]
 pub struct Narrow {
     /// What it took.
@@ -90,8 +147,8 @@ impl Write for Narrow {
     }
 }
 
-// What comes of the words, with the text as input and in the file `F`, and streams that fail after so many good calls: what was taken,
-// what goes to the errors, the status.
+// What comes of the arguments, with the text as input and in the file `F`, and streams that fail after this many good calls: what was
+// taken, what is written to the errors, the status.
 fn ends(
     rt: &(impl Abort + Threads + Wait + Sync),
     alloc: Global,
@@ -134,7 +191,7 @@ fn ends(
     Ok(())
 }
 
-/// A writer that takes so many bytes before it fails.
+/// A writer that takes this many bytes before it fails.
 pub fn taking(alloc: Global, good: usize, takes_nothing: bool) -> Narrow {
     Narrow {
         taken: Vec::new(alloc),
@@ -163,7 +220,7 @@ fn each_read_fails(rt: HostRuntime) -> Result<(), Fail> {
     Ok(())
 }
 
-// Each write of what is written in answer to these words fails in turn, or takes nothing.
+// Each write of what is written in answer to these arguments fails in turn, or takes nothing.
 fn writes_fail(
     rt: &(impl Abort + Threads + Wait + Sync),
     alloc: Global,

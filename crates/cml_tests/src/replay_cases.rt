@@ -11,7 +11,17 @@ const CASES: &[Case] = &[
             ("A", ADDITION),
             (
                 "S",
-                "schedule 1 1000000\nturn 0\nturn 0\nturn 1\nturn 0\ncommit 1 0 0 0\nturn 1\nturn 0\nturn 0\nend\n",
+                "schedule 1 1000000
+turn 0
+turn 0
+turn 1
+turn 0
+commit 1 0 0 0
+turn 1
+turn 0
+turn 0
+end
+",
             ),
         ],
         output: "42\nend quiet pending 0\n",
@@ -26,7 +36,17 @@ const CASES: &[Case] = &[
             ("A", ADDITION),
             (
                 "S",
-                "schedule 2 1000000 3 6\nturn 0\nturn 0\nturn 1\nturn 0\ncommit 1 0 0 0\nturn 1\nturn 0\nturn 0\nend\n",
+                "schedule 2 1000000 3 6
+turn 0
+turn 0
+turn 1
+turn 0
+commit 1 0 0 0
+turn 1
+turn 0
+turn 0
+end
+",
             ),
         ],
         output: "42\nend quiet pending 0\n",
@@ -41,11 +61,29 @@ const CASES: &[Case] = &[
             ("B", CANCELLED),
             (
                 "S",
-                "schedule 1 1000000\nturn 0\nturn 0\nturn 0\nturn 1\nturn 0\ncommit 0 1\nturn 0\nturn 0\ncommit 1 0\nturn 1\nturn 1\nend\n",
+                "schedule 1 1000000
+turn 0
+turn 0
+turn 0
+turn 1
+turn 0
+commit 0 1
+turn 0
+turn 0
+commit 1 0
+turn 1
+turn 1
+end
+",
             ),
         ],
         output: "7\ncancelled\nend quiet pending 0\n",
-        errors: "report 5 rows 1 waiting 2\nrow 0 1\nwait 0\nwait 1\nreport 10 rows 0 waiting 0\n",
+        errors: "report 5 rows 1 waiting 2
+row 0 1
+wait 0
+wait 1
+report 10 rows 0 waiting 0
+",
         status: 0,
         saved: &[],
     },
@@ -92,7 +130,17 @@ const CASES: &[Case] = &[
             ("A", ADDITION),
             (
                 "S",
-                "schedule 1 1000000\nturn 0\nturn 1\nturn 1\nturn 0\ncommit 1 0 0 0\nturn 1\nturn 0\nturn 0\nend\n",
+                "schedule 1 1000000
+turn 0
+turn 1
+turn 1
+turn 0
+commit 1 0 0 0
+turn 1
+turn 0
+turn 0
+end
+",
             ),
         ],
         output: "",
@@ -107,7 +155,17 @@ const CASES: &[Case] = &[
             ("A", ADDITION),
             (
                 "S",
-                "schedule 2 1000000 3 6\nturn 0\nturn 1\nturn 1\nturn 0\ncommit 1 0 0 0\nturn 1\nturn 0\nturn 0\nend\n",
+                "schedule 2 1000000 3 6
+turn 0
+turn 1
+turn 1
+turn 0
+commit 1 0 0 0
+turn 1
+turn 0
+turn 0
+end
+",
             ),
         ],
         output: "",
@@ -161,7 +219,17 @@ const CASES: &[Case] = &[
             ("A", ADDITION),
             (
                 "S",
-                "schedule 2 1000000 3 6\nturn 0\nturn 0\nturn 1\nturn 0\nswap 1 0 0 0\nturn 1\nturn 0\nturn 0\nend\n",
+                "schedule 2 1000000 3 6
+turn 0
+turn 0
+turn 1
+turn 0
+swap 1 0 0 0
+turn 1
+turn 0
+turn 0
+end
+",
             ),
         ],
         output: "",
@@ -185,7 +253,18 @@ const CASES: &[Case] = &[
             ("D", SWAPPED),
             (
                 "S",
-                "schedule 1 1000000\nturn 0\nturn 0\nturn 1\nturn 0\ncommit 0 0 1 0\nturn 0\nturn 1\nturn 0\nturn 1\nend\n",
+                "schedule 1 1000000
+turn 0
+turn 0
+turn 1
+turn 0
+commit 0 0 1 0
+turn 0
+turn 1
+turn 0
+turn 1
+end
+",
             ),
         ],
         output: "2\n1\nend quiet pending 0\n",
@@ -200,7 +279,18 @@ const CASES: &[Case] = &[
             ("D", SWAPPED),
             (
                 "S",
-                "schedule 2 1000000 2 6\nturn 0\nturn 0\nturn 1\nturn 0\nswap 0 0 1 0\nturn 0\nturn 1\nturn 0\nturn 1\nend\n",
+                "schedule 2 1000000 2 6
+turn 0
+turn 0
+turn 1
+turn 0
+swap 0 0 1 0
+turn 0
+turn 1
+turn 0
+turn 1
+end
+",
             ),
         ],
         output: "2\n1\nend quiet pending 0\n",
@@ -230,7 +320,17 @@ const CASES: &[Case] = &[
             ("A", ADDITION),
             (
                 "S",
-                "schedule 2 6 3 6\nturn 0\nturn 0\nturn 1\nturn 0\ncommit 1 0 0 0\nturn 1\nturn 0\nturn 0\nend\n",
+                "schedule 2 6 3 6
+turn 0
+turn 0
+turn 1
+turn 0
+commit 1 0 0 0
+turn 1
+turn 0
+turn 0
+end
+",
             ),
         ],
         output: "42\nend quiet pending 0\n",
@@ -245,11 +345,27 @@ const CASES: &[Case] = &[
             ("D", SWAPPED),
             (
                 "S",
-                "schedule 1 1000000\nturn 0\nturn 0\nturn 1\nturn 0\ncommit 0 0 1 0\nturn 0\nturn 1\nturn 0\nturn 1\nend\n",
+                "schedule 1 1000000
+turn 0
+turn 0
+turn 1
+turn 0
+commit 0 0 1 0
+turn 0
+turn 1
+turn 0
+turn 1
+end
+",
             ),
         ],
         output: "2\n1\nend quiet pending 0\n",
-        errors: "report 4 rows 1 waiting 2\nrow 0 0 1 0\nwait 0\nwait 1\nreport 8 rows 0 waiting 0\n",
+        errors: "report 4 rows 1 waiting 2
+row 0 0 1 0
+wait 0
+wait 1
+report 8 rows 0 waiting 0
+",
         status: 0,
         saved: &[],
     },
@@ -260,7 +376,17 @@ const CASES: &[Case] = &[
             ("A", ADDITION),
             (
                 "S",
-                "schedule 2 1000000 3 6\nturn 0\nturn 0\nturn 9\nturn 0\ncommit 1 0 0 0\nturn 9\nturn 0\nturn 0\nend\n",
+                "schedule 2 1000000 3 6
+turn 0
+turn 0
+turn 9
+turn 0
+commit 1 0 0 0
+turn 9
+turn 0
+turn 0
+end
+",
             ),
         ],
         output: "",
@@ -291,7 +417,17 @@ const CASES: &[Case] = &[
         words: "replay F S",
         files: &[(
             "S",
-            "schedule 2 1000000 3 6\nturn 0\nturn 0\nturn 1\nturn 0\ncommit 1 0 0 0\nturn 1\nturn 0\nturn 0\nend\n",
+            "schedule 2 1000000 3 6
+turn 0
+turn 0
+turn 1
+turn 0
+commit 1 0 0 0
+turn 1
+turn 0
+turn 0
+end
+",
         )],
         output: "",
         errors: "cannot read F\n",

@@ -12,22 +12,22 @@ use std::thread::Threads;
 pub enum Part {
     /// This text.
     Once(&'static str),
-    /// This text so many times.
+    /// This text this many times.
     Times(&'static str, u32),
-    /// A line for each number below this one: this word, and the number behind it.
+    /// A line for each number below this one: this word, and the number after it.
     Each(&'static str, u32),
-    /// So many functions `f1`, `f2` and so on, which do nothing.
+    /// This many functions `f1`, `f2` and so on, which do nothing.
     Functions(u32),
 }
 
-/// A trace, and what answers it.
+/// A trace, with what answers each of its lines.
 pub struct Case {
     /// What the case is called.
     pub name: &'static str,
-    /// The input.
-    pub input: &'static str,
-    /// The output.
-    pub output: &'static str,
+    /// What it shows, in a sentence.
+    pub shows: &'static str,
+    /// Each line of the trace, and the lines that answer it; none answer a comment, and what stands after a bad line.
+    pub lines: &'static [(&'static str, &'static str)],
     /// The status of the process.
     pub status: u8,
 }
@@ -47,19 +47,19 @@ pub struct Long {
 /// What the program is run on, and what it must write.
 #[derive(Clone, Copy)]
 pub struct Run<'a> {
-    /// The words of the command line behind the program's name.
+    /// The arguments of the command line after the program's name.
     pub words: &'a str,
     /// The input.
     pub input: &'a str,
     /// The output.
     pub output: &'a str,
-    /// What goes to the errors.
+    /// What is written to the errors.
     pub errors: &'a str,
     /// The status of the process.
     pub status: u8,
 }
 
-/// The words of a command line, behind the program's name.
+/// The arguments of a command line, after the program's name.
 pub fn words(alloc: Global, line: &str) -> Result<Vec<String>, AllocError> {
     let mut words = Vec::new(alloc);
     words.push(String::from_str(alloc, "cml")?)?;
@@ -108,7 +108,7 @@ pub struct Left {
     pub status: u8,
 }
 
-/// What the program leaves that is run on this line of words and this input, over the store.
+/// What the program leaves that is run on this line of arguments and this input, over the store.
 pub fn left_by(
     rt: &(impl Threads + Wait + Sync),
     alloc: Global,
@@ -137,7 +137,7 @@ pub fn left_by(
     })
 }
 
-/// The program writes on these words and this input what the run says.
+/// The program writes on these arguments and this input what the run says.
 pub fn gives(
     rt: &(impl Abort + Threads + Wait + Sync),
     alloc: Global,
@@ -160,6 +160,25 @@ pub fn gives(
     Ok(())
 }
 
+// The line, ended by a line feed, behind the text.
+fn push_line(text: &mut String, line: &str) -> Result<(), AllocError> {
+    text.push_str(line)?;
+    text.push('\n')
+}
+
+/// The trace of these lines, and all that answers it.
+pub fn trace_of(alloc: Global, lines: &[(&str, &str)]) -> Result<(String, String), AllocError> {
+    let mut input = String::new(alloc);
+    let mut output = String::new(alloc);
+    for &(line, answer) in lines {
+        push_line(&mut input, line)?;
+        if !answer.is_empty() {
+            push_line(&mut output, answer)?;
+        }
+    }
+    Ok((input, output))
+}
+
 /// Each of the traces is answered as its case says.
 pub fn all_hold(
     rt: &(impl Abort + Threads + Wait + Sync),
@@ -167,7 +186,17 @@ pub fn all_hold(
     cases: &[Case],
 ) -> Result<(), Fail> {
     for case in cases {
-        trace_gives(rt, alloc, case.name, case.input, case.output, case.status)?;
+        let (input, output) = trace_of(alloc, case.lines)?;
+        trace_gives(
+            rt,
+            alloc,
+            case.name,
+            input.as_str(),
+            output.as_str(),
+            case.status,
+        )?;
+        drop(input);
+        drop(output);
     }
     Ok(())
 }
@@ -195,7 +224,7 @@ pub fn each_holds(
     Ok(())
 }
 
-// The trace is answered by this text, with this status, and nothing goes to the errors.
+// The trace is answered by this text, with this status, and nothing is written to the errors.
 fn trace_gives(
     rt: &(impl Abort + Threads + Wait + Sync),
     alloc: Global,

@@ -22,7 +22,17 @@ const CASES: &[Case] = &[
         errors: "",
         status: 0,
         saved: &[Part::Once(
-            "schedule 2 1000000 3 6\nturn 0\nturn 0\nturn 1\nturn 0\ncommit 1 0 0 0\nturn 1\nturn 0\nturn 0\nend\n",
+            "schedule 2 1000000 3 6
+turn 0
+turn 0
+turn 1
+turn 0
+commit 1 0 0 0
+turn 1
+turn 0
+turn 0
+end
+",
         )],
     },
     Case {
@@ -69,7 +79,20 @@ const CASES: &[Case] = &[
         errors: "",
         status: 0,
         saved: &[Part::Once(
-            "schedule 2 1000000 3 7\nturn 0\nturn 0\nturn 0\nturn 1\nturn 0\ncommit 0 1\nturn 0\nturn 0\ncommit 1 0\nturn 1\nturn 1\nend\n",
+            "schedule 2 1000000 3 7
+turn 0
+turn 0
+turn 0
+turn 1
+turn 0
+commit 0 1
+turn 0
+turn 0
+commit 1 0
+turn 1
+turn 1
+end
+",
         )],
     },
     Case {
@@ -77,7 +100,12 @@ const CASES: &[Case] = &[
         words: "run B --watch 5",
         files: &[("B", CANCELLED)],
         output: "7\ncancelled\nend quiet pending 0\n",
-        errors: "report 5 rows 1 waiting 2\nrow 0 1\nwait 0\nwait 1\nreport 10 rows 0 waiting 0\n",
+        errors: "report 5 rows 1 waiting 2
+row 0 1
+wait 0
+wait 1
+report 10 rows 0 waiting 0
+",
         status: 0,
         saved: &[],
     },
@@ -189,7 +217,18 @@ const CASES: &[Case] = &[
         errors: "",
         status: 0,
         saved: &[Part::Once(
-            "schedule 2 1000000 2 6\nturn 0\nturn 0\nturn 1\nturn 0\nswap 0 0 1 0\nturn 0\nturn 1\nturn 0\nturn 1\nend\n",
+            "schedule 2 1000000 2 6
+turn 0
+turn 0
+turn 1
+turn 0
+swap 0 0 1 0
+turn 0
+turn 1
+turn 0
+turn 1
+end
+",
         )],
     },
     Case {
@@ -230,7 +269,15 @@ const CASES: &[Case] = &[
         errors: "",
         status: 0,
         saved: &[Part::Once(
-            "schedule 2 1000000 1 3\nturn 0\nclock 10\ncommit 0 0\nturn 0\nturn 0\nturn 0\nend\n",
+            "schedule 2 1000000 1 3
+turn 0
+clock 10
+commit 0 0
+turn 0
+turn 0
+turn 0
+end
+",
         )],
     },
     Case {
@@ -289,7 +336,12 @@ const CASES: &[Case] = &[
         words: "run D --watch 4",
         files: &[("D", SWAPPED)],
         output: "2\n1\nend quiet pending 0\n",
-        errors: "report 4 rows 1 waiting 2\nrow 0 0 1 0\nwait 0\nwait 1\nreport 8 rows 0 waiting 0\n",
+        errors: "report 4 rows 1 waiting 2
+row 0 0 1 0
+wait 0
+wait 1
+report 8 rows 0 waiting 0
+",
         status: 0,
         saved: &[],
     },

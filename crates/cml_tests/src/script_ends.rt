@@ -11,10 +11,19 @@ use std::sync::Wait;
 use std::test::Fail;
 use std::thread::Threads;
 
-const SCHEDULE: &str =
-    "schedule 2 1000000 3 6\nturn 0\nturn 0\nturn 1\nturn 0\ncommit 1 0 0 0\nturn 1\nturn 0\nturn 0\nend\n";
+const SCHEDULE: &str = "schedule 2 1000000 3 6
+turn 0
+turn 0
+turn 1
+turn 0
+commit 1 0 0 0
+turn 1
+turn 0
+turn 0
+end
+";
 
-// The program on these words, with the script that adds in the file `A`, and these bytes in the file `F`.
+// The program on these arguments, with the script that adds in the file `A`, and these bytes in the file `F`.
 fn run_beside(
     rt: &(impl Abort + Threads + Wait + Sync),
     alloc: Global,

@@ -14,16 +14,31 @@ const FILES: &[(&str, &str)] = &[
     ("A", ADDITION),
     (
         "R",
-        "schedule 2 9 3 6\nturn 0\nturn 0\nturn 1\nturn 0\ncommit 1 0 0 0\nturn 1\nturn 0\nturn 0\nend\n",
+        "schedule 2 9 3 6
+turn 0
+turn 0
+turn 1
+turn 0
+commit 1 0 0 0
+turn 1
+turn 0
+turn 0
+end
+",
     ),
 ];
 
-// Words over these files, what is written to the output and to the errors, whether a schedule is saved, and the status.
+// Arguments over these files, what is written to the output and to the errors, whether a schedule is saved, and the status.
 const RUNS: &[(&str, &str, &str, bool, u8)] = &[
     (
         "run A --watch 4 --record S",
         "42\nend quiet pending 0\n",
-        "report 4 rows 1 waiting 2\nrow 1 0 0 0\nwait 0\nwait 1\nreport 8 rows 0 waiting 0\n",
+        "report 4 rows 1 waiting 2
+row 1 0 0 0
+wait 0
+wait 1
+report 8 rows 0 waiting 0
+",
         true,
         0,
     ),
@@ -37,7 +52,12 @@ const RUNS: &[(&str, &str, &str, bool, u8)] = &[
     (
         "replay A R --watch 4",
         "42\nend quiet pending 0\n",
-        "report 4 rows 1 waiting 2\nrow 1 0 0 0\nwait 0\nwait 1\nreport 8 rows 0 waiting 0\n",
+        "report 4 rows 1 waiting 2
+row 1 0 0 0
+wait 0
+wait 1
+report 8 rows 0 waiting 0
+",
         false,
         0,
     ),
@@ -54,7 +74,7 @@ struct Left {
     is_saved: bool,
 }
 
-// The program on these words, over writers that fail, and a store that may be closed.
+// The program on these arguments, over writers that fail, and a store that may be closed.
 fn leaves(
     rt: &(impl Abort + Threads + Wait + Sync),
     alloc: Global,
@@ -91,7 +111,7 @@ fn leaves(
     })
 }
 
-// It left the first bytes of the output, the first bytes of the errors and behind them this line, and saved nothing, with status 1.
+// It left the first bytes of the output, the first bytes of the errors and after them this line, and saved nothing, with status 1.
 fn is_cut(rt: &impl Abort, left: &Left, output: &[u8], errors: &[u8], line: &str) {
     let length = errors.len();
     assert!(rt; left.output.as_slice() == output);

@@ -10,32 +10,34 @@ use std::test::Fail;
 use std::thread::Threads;
 
 /// One thread sends to another, through a wrap.
-pub const ADDITION: &str =
-    "(fn add (a b) (return (+ a b))) (fn give (c) (sync (send c 41))) (fn main () (let c (chan)) (spawn give c) (let x (sync (wrap (recv c) add 1))) (print x))";
+pub const ADDITION: &str = "(fn add (a b) (return (+ a b))) \
+     (fn give (c) (sync (send c 41))) \
+     (fn main () (let c (chan)) (spawn give c) (let x (sync (wrap (recv c) add 1))) (print x))";
 
 /// A branch that is cancelled, and a thread that waits for its nack.
-pub const CANCELLED: &str =
-    "(fn watch (n) (sync n) (print \"cancelled\")) (fn branch (c n) (spawn watch n) (return (recv c))) (fn main () (let c (chan)) (let x (sync (choose (withnack branch c) (always 7)))) (print x))";
+pub const CANCELLED: &str = "(fn watch (n) (sync n) (print \"cancelled\")) \
+     (fn branch (c n) (spawn watch n) (return (recv c))) \
+     (fn main () (let c (chan)) (let x (sync (choose (withnack branch c) (always 7)))) (print x))";
 
 /// Two threads that count up in an M-variable.
-pub const COUNTER: &str =
-    "(fn add (m) (let x (sync (mtake m))) (mput m (+ x 1))) (fn main () (let m (mvar 0)) (let a (spawn add m)) (let b (spawn add m)) (sync (join a)) (sync (join b)) (let x (sync (mget m))) (print x))";
+pub const COUNTER: &str = "(fn add (m) (let x (sync (mtake m))) (mput m (+ x 1))) \
+     (fn main () (let m (mvar 0)) (let a (spawn add m)) (let b (spawn add m)) (sync (join a)) (sync (join b)) (let x (sync (mget m))) (print x))";
 
 /// Two threads that exchange values.
-pub const SWAPPED: &str =
-    "(fn other (s) (let y (sync (swap s 2))) (print y)) (fn main () (let s (swapchan)) (spawn other s) (let x (sync (swap s 1))) (print x))";
+pub const SWAPPED: &str = "(fn other (s) (let y (sync (swap s 2))) (print y)) \
+     (fn main () (let s (swapchan)) (spawn other s) (let x (sync (swap s 1))) (print x))";
 
-/// Words over files of a store, and what comes of them.
+/// Arguments over files of a store, and what comes of them.
 pub struct Case {
     /// What the case is called.
     pub name: &'static str,
-    /// The words of the command line behind the program's name.
+    /// The arguments of the command line after the program's name.
     pub words: &'static str,
     /// The files, each with its name.
     pub files: &'static [(&'static str, &'static str)],
     /// The output.
     pub output: &'static str,
-    /// What goes to the errors.
+    /// What is written to the errors.
     pub errors: &'static str,
     /// The status of the process.
     pub status: u8,
@@ -96,7 +98,7 @@ fn is_saved(
     Ok(())
 }
 
-// The program on these words over these files writes and saves what the case says.
+// The program on these arguments over these files writes and saves what the case says.
 fn holds(
     rt: &(impl Abort + Threads + Wait + Sync),
     alloc: Global,

@@ -275,7 +275,7 @@ const PROGRAMS: &[&str] = &[
     "(fn add (m) (let x (sync (mtake m))) (mput m (+ x 1))) (fn main () (let m (mvar 0)) (let a (spawn add m)) (let b (spawn add m)) (sync (join a)) (sync (join b)) (let x (sync (mget m))) (print x))",
 ];
 
-// The program on these words, with this text in the file `F`.
+// The program on these arguments, with this text in the file `F`.
 fn run_on(
     rt: &(impl Threads + Wait + Sync),
     alloc: Global,

@@ -1,4 +1,4 @@
-//! The words of the command line: help that is asked for, and words that name no command. The texts are those that clap's own rules
+//! The arguments of the command line: help that is asked for, and arguments that name no command. The texts are those that clap's own rules
 //! give for these commands.
 
 use crate::run::{Run, gives};
@@ -6,9 +6,23 @@ use std::test::Fail;
 
 /// The help of the program.
 pub const HELP: &str =
-    "Events of Concurrent ML: answers traces of commands, and checks and runs scripts\n\nUsage: cml <COMMAND>\n\nCommands:\n  trace   Answers the commands on standard input\n  check   Checks a script\n  fmt     Prints the forms of a text, each on a line\n  run     Runs a script\n  replay  Runs a script by a schedule that was saved\n  help    Print this message or the help of the given subcommand(s)\n\nOptions:\n  -h, --help  Print help\n";
+    "Events of Concurrent ML: answers traces of commands, and checks and runs scripts
 
-// Words, what goes to the output and to the errors, and the status.
+Usage: cml <COMMAND>
+
+Commands:
+  trace   Answers the commands on standard input
+  check   Checks a script
+  fmt     Prints the forms of a text, each on a line
+  run     Runs a script
+  replay  Runs a script by a schedule that was saved
+  help    Print this message or the help of the given subcommand(s)
+
+Options:
+  -h, --help  Print help
+";
+
+// Arguments, what is written to the output and to the errors, and the status.
 struct Asked {
     words: &'static str,
     output: &'static str,
@@ -25,7 +39,13 @@ const WORDS: &[Asked] = &[
     },
     Asked {
         words: "trace --help",
-        output: "Answers the commands on standard input\n\nUsage: cml trace\n\nOptions:\n  -h, --help  Print help\n",
+        output: "Answers the commands on standard input
+
+Usage: cml trace
+
+Options:
+  -h, --help  Print help
+",
         errors: "",
         status: 0,
     },
@@ -38,13 +58,24 @@ const WORDS: &[Asked] = &[
     Asked {
         words: "fmt",
         output: "",
-        errors: "error: the following required arguments were not provided:\n  <FILE>\n\nUsage: cml fmt <FILE>\n\nFor more information, try '--help'.\n",
+        errors: "error: the following required arguments were not provided:
+  <FILE>
+
+Usage: cml fmt <FILE>
+
+For more information, try '--help'.
+",
         status: 1,
     },
     Asked {
         words: "walk",
         output: "",
-        errors: "error: unrecognized subcommand 'walk'\n\nUsage: cml <COMMAND>\n\nFor more information, try '--help'.\n",
+        errors: "error: unrecognized subcommand 'walk'
+
+Usage: cml <COMMAND>
+
+For more information, try '--help'.
+",
         status: 1,
     },
     Asked {
@@ -68,13 +99,25 @@ const WORDS: &[Asked] = &[
     Asked {
         words: "run",
         output: "",
-        errors: "error: the following required arguments were not provided:\n  <FILE>\n\nUsage: cml run <FILE>\n\nFor more information, try '--help'.\n",
+        errors: "error: the following required arguments were not provided:
+  <FILE>
+
+Usage: cml run <FILE>
+
+For more information, try '--help'.
+",
         status: 1,
     },
     Asked {
         words: "replay x.cml",
         output: "",
-        errors: "error: the following required arguments were not provided:\n  <SCHEDULE>\n\nUsage: cml replay <FILE> <SCHEDULE>\n\nFor more information, try '--help'.\n",
+        errors: "error: the following required arguments were not provided:
+  <SCHEDULE>
+
+Usage: cml replay <FILE> <SCHEDULE>
+
+For more information, try '--help'.
+",
         status: 1,
     },
     Asked {
@@ -146,13 +189,25 @@ const WORDS: &[Asked] = &[
     Asked {
         words: "replay x.cml y --steps 5",
         output: "",
-        errors: "error: unexpected argument '--steps' found\n\n  tip: to pass '--steps' as a value, use '-- --steps'\n\nUsage: cml replay <FILE> <SCHEDULE>\n\nFor more information, try '--help'.\n",
+        errors: "error: unexpected argument '--steps' found
+
+  tip: to pass '--steps' as a value, use '-- --steps'
+
+Usage: cml replay <FILE> <SCHEDULE>
+
+For more information, try '--help'.
+",
         status: 1,
     },
     Asked {
         words: "trace --fast",
         output: "",
-        errors: "error: unexpected argument '--fast' found\n\nUsage: cml trace\n\nFor more information, try '--help'.\n",
+        errors: "error: unexpected argument '--fast' found
+
+Usage: cml trace
+
+For more information, try '--help'.
+",
         status: 1,
     },
 ];

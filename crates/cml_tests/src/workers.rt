@@ -24,7 +24,8 @@ const FAULTY: &str = "(fn main () (let i (ivar)) (iput i 1) (iput i 2))";
 
 // Many threads that work between their synchronizations.
 const WORKING: &str =
-    "(fn work (box n) (let i 0) (while (< i 500) (set i (+ i 1))) (sync (always unit)) (mail box n)) (fn main () (let box (mailbox)) (let n 0) (while (< n 8) (spawn work box n) (set n (+ n 1))) (let sum 0) (while (< 0 n) (let x (sync (mailrecv box))) (set sum (+ sum x)) (set n (- n 1))) (print sum))";
+    "(fn work (box n) (let i 0) (while (< i 500) (set i (+ i 1))) (sync (always unit)) (mail box n)) \
+     (fn main () (let box (mailbox)) (let n 0) (while (< n 8) (spawn work box n) (set n (+ n 1))) (let sum 0) (while (< 0 n) (let x (sync (mailrecv box))) (set sum (+ sum x)) (set n (- n 1))) (print sum))";
 
 // Scripts that write the same whichever thread comes first.
 const CASES: &[Case] = &[
@@ -78,7 +79,12 @@ const CASES: &[Case] = &[
         words: "run A --workers 1 --watch 5",
         files: &[("A", CANCELLED)],
         output: "7\ncancelled\nend quiet pending 0\n",
-        errors: "report 5 rows 1 waiting 2\nrow 0 1\nwait 0\nwait 1\nreport 10 rows 0 waiting 0\n",
+        errors: "report 5 rows 1 waiting 2
+row 0 1
+wait 0
+wait 1
+report 10 rows 0 waiting 0
+",
         status: 0,
         saved: &[],
     },
@@ -96,7 +102,12 @@ const CASES: &[Case] = &[
         words: "run A --workers 4 --watch 2",
         files: &[("A", WAITING)],
         output: "10\nend quiet pending 0\n",
-        errors: "report 2 rows 1 waiting 1\nrow 0 0\nwait 0\nreport 4 rows 0 waiting 0\nreport 6 rows 0 waiting 0\n",
+        errors: "report 2 rows 1 waiting 1
+row 0 0
+wait 0
+report 4 rows 0 waiting 0
+report 6 rows 0 waiting 0
+",
         status: 0,
         saved: &[],
     },
@@ -138,7 +149,7 @@ const CASES: &[Case] = &[
     },
 ];
 
-// Words to run the script in A with, and to replay what was recorded.
+// Arguments to run the script in A with, and to replay what was recorded.
 const RECORDED: &[(&str, &str)] = &[
     ("run A --workers 1 --record S", "replay A S"),
     ("run A --workers 4 --record S", "replay A S"),

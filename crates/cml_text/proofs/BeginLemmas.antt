@@ -1,4 +1,4 @@
--- What a byte begins, and how the words go on behind it.
+-- What a byte begins, and how the lexemes go on after it.
 use Rattle.std.proofs.Common.{◌≡◌, ◌≢◌, ℕ, zero, suc, ◌+◌, ◌-◌, ◌<◌, ◌≤◌, true, false, eqb, leb, List, [], ◌∷◌, ◌++◌, length, get_or, take, drop, refl, ap, sym, ◌∙◌, arith, Err}
 use Rattle.std.specs.List.{prefix_len}
 use Rattle.std.proofs.lemmas.List.{length-drop}
@@ -13,7 +13,7 @@ use Rattle.cml_text.specs.declared.fault.TextFault.{TextFault}
 use Rattle.cml_text.specs.declared.fault.TextFault.TheVariants as fault
 use Rattle.cml_text.specs.Steps.{StepsTo, IsLexeme, BeginsWithFault}
 
--- the words behind bytes that belong to an earlier word
+-- the lexemes after bytes that belong to an earlier lexeme
 pub lexemes-before : (n at : ℕ) (bytes : List ℕ) → lexemes n at bytes ≡ lexemes 0 (at + n) (drop n bytes)
 unfolding lexemes
 lexemes-before zero at bytes = let e : at + 0 ≡ at = omega arith in rw e refl

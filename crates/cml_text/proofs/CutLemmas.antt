@@ -1,4 +1,4 @@
--- How a word ends whatever follows it, as long as the next byte is the same.
+-- How a lexeme ends whatever follows it, as long as the next byte is the same.
 use Rattle.std.proofs.Common.{◌≡◌, ℕ, suc, ◌+◌, Bool, true, false, eqb, List, [], ◌∷◌, ◌++◌, length, take, refl, ap, sym, ◌∙◌, arith, Option, Some, None, append_assoc, inl, inr}
 use Rattle.std.specs.List.{prefix_len, list_all}
 use Rattle.std.proofs.lemmas.Bool.Decides.{nat_tests}
@@ -27,7 +27,7 @@ stops_same p [] rest same stop = tt
 stops_same p (y ∷ ys) [] same stop = absurd same
 stops_same p (y ∷ ys) (z ∷ zs) same stop = ap p same ∙ stop
 
--- at a place these bytes are these words, whatever follows that begins as the rest does
+-- at a place these bytes are these lexemes, whatever follows that begins as the rest does
 abbrev pub Cut : ℕ → List ℕ → List ℕ → List Lexeme → Type 0
 Cut at bytes rest ws = (ys : List ℕ) → SameFront ys rest → lexemes 0 at (bytes ++ ys) ≡ ws ++ lexemes 0 (at + length bytes) ys
 

@@ -1,4 +1,4 @@
--- The first fault is the first word that no forms are spelled with.
+-- The first fault is the first lexeme that no forms are spelled with.
 use Rattle.std.proofs.Common.{◌≡◌, ◌≢◌, ℕ, ◌+◌, ◌-◌, ltb, List, [], ◌∷◌, ◌++◌, length, map, refl, ap, sym, ◌∙◌, subst, arith, Some, None, append_assoc, inl, inr, ◌⊎◌}
 use Rattle.cml_text.specs.declared.fault.FaultKind.TheVariants.{Unclosed, Deep, Stray}
 use Rattle.cml_text.specs.Faults.{PlainFault}
@@ -125,7 +125,7 @@ pub fault_is_first : FaultIsFirst
 fault_is_first text fault short utf8 is =
     first_or_last (lexemes 0 0 text) fault (lexemes_leaves 0 0 text) (meets (lexemes 0 0 text) [] fault (sym (fault_left text short utf8) ∙ is))
 
--- The bytes before the word at fault.
+-- The bytes before the lexeme at fault.
 
 abbrev ends_from : ℕ → List ℕ → List ℕ
 ends_from at [] = []

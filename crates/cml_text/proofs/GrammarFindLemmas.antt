@@ -1,4 +1,4 @@
--- What the words of a text spell is what the grammar gives it.
+-- What the lexemes of a text spell is what the grammar gives it.
 use Rattle.std.proofs.Common.{◌≡◌, ◌≢◌, ℕ, zero, suc, ◌+◌, ◌<◌, ◌≤◌, Bool, true, false, not, eqb, leb, List, [], ◌∷◌, ◌++◌, length, drop, refl, ap, sym, ◌∙◌, subst, arith, Option, Some, None, append_assoc, inl, inr, ℤ}
 use Rattle.std.specs.List.{list_all}
 use Rattle.std.proofs.lemmas.Bool.{false≢true}
@@ -24,7 +24,7 @@ use Rattle.cml_text.proofs.CutLemmas.{Run, run_of, front_inverse, escape_inverse
 use Rattle.cml_text.proofs.SpanLemmas.{no_words}
 use Rattle.cml_text.proofs.GrammarLemmas.{StandsBehind, lex_comment, lex_given}
 
--- what comes behind the words of a text
+-- what comes after the lexemes of a text
 abbrev EndsAs : Ending → List Lexeme → Type 0
 EndsAs whole_text ws = ws ≡ []
 EndsAs inside_list ws = (end : ℕ) × ((more : List Lexeme) × (ws ≡ closing end ∷ more))
@@ -42,7 +42,7 @@ abbrev Finder : ℕ → Type 0
 Finder fuel =
     (ending : Ending) (at : ℕ) (text : List ℕ) (forms : PlainForms) (ws : List Lexeme) → length text ≤ fuel → EndsAs ending ws → lexemes 0 at text ≡ words_of forms ++ ws → Found ending at text forms ws
 
--- Which forms the words begin with.
+-- Which forms the lexemes begin with.
 
 no_words_first : (ending : Ending) (forms : PlainForms) (ws : List Lexeme) → EndsAs ending ws → [] ≡ words_of forms ++ ws → (forms ≡ no_forms) × ((ending ≡ whole_text) × (ws ≡ []))
 no_words_first whole_text no_forms ws end e = (refl, (refl, end))
@@ -181,7 +181,7 @@ found_closing inside_list at text bytes forms ws is end e =
       stands = (bytes, is);
     }
 
--- a word, and the text behind it
+-- a lexeme, and the text after it
 found_word : (ending : Ending) (at n : ℕ) (text word behind : List ℕ) (form : PlainSexpr) (forms others : PlainForms) (ws : List Lexeme) → text ≡ word ++ behind → n ≡ at + length word →
     forms ≡ forms_and form others → (f : Found ending n behind others ws) → Gives ending at (word ++ f.front) (forms_and form others) → Found ending at text forms ws
 found_word ending at n text word behind form forms others ws parts place is f given =
@@ -307,7 +307,7 @@ found_literal fuel find ending at text bytes content more forms ws small end is 
 literal_at : (at : ℕ) (bytes : List ℕ) → beginning at 34 bytes ≡ record { word = literal_lexeme at (literal bytes) ∷ []; more = literal_more (literal bytes) }
 literal_at at bytes = begin_text at 34 bytes refl
 
--- a word that is a fault
+-- a lexeme that is a fault
 fault_word : (ending : Ending) (at b : ℕ) (bytes : List ℕ) (fault : PlainFault) (forms : PlainForms) (ws : List Lexeme) → EndsAs ending ws → (beginning at b bytes).word ≡ faulty fault ∷ [] →
     lexemes 0 at (b ∷ bytes) ≡ words_of forms ++ ws → ⊥
 fault_word ending at b bytes fault forms ws end is e =

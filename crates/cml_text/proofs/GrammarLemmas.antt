@@ -1,4 +1,4 @@
--- What the grammar gives a text is what its words spell.
+-- What the grammar gives a text is what its lexemes spell.
 use Rattle.std.proofs.Common.{◌≡◌, ◌≢◌, ℕ, ◌+◌, ◌<◌, ◌≤◌, true, false, eqb, leb, List, [], ◌∷◌, ◌++◌, length, drop, refl, ap, sym, ◌∙◌, subst, arith, append_assoc}
 use Rattle.std.specs.List.{prefix_len}
 use Rattle.std.specs.Str.{IsCharBoundary, IsUtf8}
@@ -34,7 +34,7 @@ utf8_front front text low utf8 = subst IsUtf8 (take-append_seam front text) (IsU
 pub utf8_back : (front text : List ℕ) → BeginsLow text → IsUtf8 (front ++ text) → IsUtf8 text
 utf8_back front text low utf8 = subst IsUtf8 (drop-append_seam front text) (IsUtf8-drop (front ++ text) (length front) utf8 (seam_boundary front text low))
 
--- and behind an ASCII byte
+-- and after an ASCII byte
 pub utf8_behind : (b : ℕ) (text : List ℕ) → b < 128 → IsUtf8 (b ∷ text) → IsUtf8 text
 utf8_behind b text low utf8 = IsUtf8-drop (b ∷ text) 1 utf8 (IsCharBoundary-after_ascii (b ∷ text) 0 utf8 (omega arith) low)
 
@@ -51,7 +51,7 @@ pub ends_low : (text : List ℕ) → EndsOrDelimits text → BeginsLow text
 ends_low [] ends = tt
 ends_low (b ∷ text) ends = delimiter_low b ends
 
--- what stands behind a text
+-- what stands after a text
 abbrev pub StandsBehind : Ending → List ℕ → Type 0
 StandsBehind whole_text rest = rest ≡ []
 StandsBehind inside_list rest = (behind : List ℕ) × (rest ≡ 41 ∷ behind)
@@ -106,7 +106,7 @@ lex_literal at spelling content rest is small =
     ∙ ap (λ r. leaf (plain_text (span_from at (1 + length spelling + 1)) content) ∷ lexemes 0 (at + 1 + (length spelling + 1)) r) (drop-append-add spelling (34 ∷ rest) 1)
     ∙ ap (λ n. leaf (plain_text (span_from at (1 + length spelling + 1)) content) ∷ lexemes 0 n rest) place
 
--- a list, given the words inside it and behind it
+-- a list, given the lexemes inside it and after it
 lex_listed : (at : ℕ) (inside text rest : List ℕ) (members forms : PlainForms) →
     lexemes 0 (at + 1) (inside ++ 41 ∷ (text ++ rest)) ≡ words_of members ++ lexemes 0 (at + 1 + length inside) (41 ∷ (text ++ rest)) →
     lexemes 0 (at + 1 + length inside + 1) (text ++ rest) ≡ words_of forms ++ lexemes 0 (at + 1 + length inside + 1 + length text) rest →
@@ -128,7 +128,7 @@ number_some : (token : List ℕ) → is_number token ≡ true → 0 < length tok
 number_some [] is = absurd (false≢true is)
 number_some (b ∷ token) is = omega arith
 
--- behind a word
+-- after a lexeme
 behind_word : (at n : ℕ) (front text rest : List ℕ) (w v : Lexeme) (forms : PlainForms) → n ≡ length front → lexemes 0 at (front ++ (text ++ rest)) ≡ w ∷ lexemes 0 (at + n) (text ++ rest) → w ≡ v →
     lexemes 0 (at + n) (text ++ rest) ≡ words_of forms ++ lexemes 0 (at + n + length text) rest →
     lexemes 0 at ((front ++ text) ++ rest) ≡ v ∷ (words_of forms ++ lexemes 0 (at + length (front ++ text)) rest)

@@ -1,4 +1,4 @@
--- The words of what is printed.
+-- The lexemes of what is printed.
 use Rattle.std.proofs.Common.{◌≡◌, ℕ, ◌+◌, ◌<◌, ◌≤◌, true, eqb, leb, List, [], ◌∷◌, ◌++◌, length, take, drop, refl, ap, sym, ◌∙◌, arith, append_assoc, inl, inr, ℤ}
 use Rattle.std.specs.Prelude.{flat_map}
 use Rattle.std.specs.List.{prefix_len, list_all}
@@ -17,7 +17,7 @@ use Rattle.cml_text.proofs.LiteralLemmas.{literal_plain, literal_quote}
 use Rattle.cml_text.proofs.BeginLemmas.{lexemes-begin, begin_separator, begin_opening, begin_closing, begin_text, begin_token}
 use Rattle.cml_text.proofs.PrintedLemmas.{Stops, run-append, all_of_both, IsNumberToken, printed_number, IsNameToken, printed_name}
 
--- what begins with a byte goes on behind it
+-- what begins with a byte goes on after it
 pub begins : (at b more : ℕ) (bytes : List ℕ) (word : List Lexeme) → beginning at b bytes ≡ record { word = word; more = more } → lexemes 0 at (b ∷ bytes) ≡ word ++ lexemes 0 (at + 1 + more) (drop more bytes)
 begins at b more bytes word e = lexemes-begin at b bytes ∙ ap (λ g. g.word ++ lexemes 0 (at + 1 + g.more) (drop g.more bytes)) e
 
@@ -109,12 +109,12 @@ abbrev mutual
   placed_behind at no_forms = no_forms
   placed_behind at (forms_and form forms) = forms_and (placed (at + 1) form) (placed_behind (at + 1 + length (printed_form form)) forms)
 
--- what stands behind a member begins with a space
+-- what stands after a member begins with a space
 behind_stops : (forms : PlainForms) (rest : List ℕ) → Stops is_token_byte rest → Stops is_token_byte (printed_behind forms ++ rest)
 behind_stops no_forms rest stop = stop
 behind_stops (forms_and form forms) rest stop = refl
 
--- the words of two parts, one after the other
+-- the lexemes of two parts, one after the other
 two_parts : (at : ℕ) (form : PlainSexpr) (second rest : List ℕ) (front back : List Lexeme) →
     lexemes 0 at (printed_form form ++ (second ++ rest)) ≡ front ++ lexemes 0 (at + length (printed_form form)) (second ++ rest) →
     lexemes 0 (at + length (printed_form form)) (second ++ rest) ≡ back ++ lexemes 0 (at + length (printed_form form) + length second) rest →
@@ -131,7 +131,7 @@ lex_space at bytes rest found e =
     let place : at + 1 + length bytes ≡ at + length (32 ∷ bytes) = omega arith in
     begins_alone at 32 (bytes ++ rest) [] (begin_separator at 32 (bytes ++ rest) refl) ∙ e ∙ ap (λ n. found ++ lexemes 0 n rest) place
 
--- a list, given the words of its members
+-- a list, given the lexemes of its members
 lex_list : (at : ℕ) (span : Span) (forms : PlainForms) (rest : List ℕ) →
     lexemes 0 (at + 1) (printed_members forms ++ 41 ∷ rest) ≡ words_of (placed_members (at + 1) forms) ++ lexemes 0 (at + 1 + length (printed_members forms)) (41 ∷ rest) →
     lexemes 0 at (printed_form (plain_list span forms) ++ rest) ≡ words (placed at (plain_list span forms)) ++ lexemes 0 (at + length (printed_form (plain_list span forms))) rest

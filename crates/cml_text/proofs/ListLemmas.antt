@@ -176,7 +176,7 @@ of_text place text other forms same g = subst (λ (t : List ℕ). GivesAside who
 none_aside : (place : ℕ) (text : List ℕ) (forms : PlainForms) → no_forms ≡ forms → Gives whole_text place text no_forms → GivesAside whole_text place text (all_without_spans forms)
 none_aside place text forms none given = record { found = no_forms; given = given; same = ap all_without_spans none }
 
--- a token cut off: the line goes on behind it
+-- a token cut off: the line goes on after it
 cut_token : (token behind text : List ℕ) → All (λ b. Delimits b → ⊥) token → token ++ behind ≡ line text → (more : List ℕ) × ((behind ≡ line more) × (text ≡ token ++ more))
 cut_token [] behind text none e = (text, (e, refl))
 cut_token (x ∷ token) behind [] none e = let h = heads e in absurd (All-head (λ b. Delimits b → ⊥) x token none (subst Delimits (sym h.0) (Delimits.separating 10 Separates.line_feed)))
@@ -263,7 +263,7 @@ no_closing ending at text rest forms (Gives.literal e n spelling content behind 
 no_closing ending at text rest forms (Gives.number e n token behind value fs tok num more) is = token_front 41 token behind rest (numeral_some token value num) tok.undivided Delimits.closing_parenthesis is
 no_closing ending at text rest forms (Gives.name e n token behind fs tok named more) is = token_front 41 token behind rest (name_some token named) tok.undivided Delimits.closing_parenthesis is
 
--- a line feed and a closing parenthesis at the end are behind the comment, or end it
+-- a line feed and a closing parenthesis at the end are after the comment, or end it
 comment_end : (bytes behind front : List ℕ) → HaveNoLineFeed bytes → bytes ++ 10 ∷ behind ≡ front ++ 10 ∷ 41 ∷ [] → (behind ≡ 41 ∷ []) ⊎ ((more : List ℕ) × (behind ≡ more ++ 10 ∷ 41 ∷ []))
 comment_end [] behind [] none e = inl (heads e).1
 comment_end [] behind (y ∷ front) none e = inr (front, (heads e).1)
@@ -295,7 +295,7 @@ no_end ending at text front forms (Gives.literal e n spelling content behind fs 
 no_end ending at text front forms (Gives.number e n token behind value fs tok num more) empty is = absurd (cc)
 no_end ending at text front forms (Gives.name e n token behind fs tok named more) empty is = absurd (cc)
 
--- the text inside is the whole line, or what stands behind the list ends with a line feed and a closing parenthesis
+-- the text inside is the whole line, or what stands after the list ends with a line feed and a closing parenthesis
 inside_end : (within behind text : List ℕ) → within ++ 41 ∷ behind ≡ line text ++ 41 ∷ [] → (within ≡ line text) ⊎ ((front : List ℕ) × (behind ≡ front ++ 10 ∷ 41 ∷ []))
 inside_end [] behind [] e = absurd (omega (arith, (heads e).0))
 inside_end [] behind (y ∷ text) e = inr (text, (heads e).1 ∙ append_assoc text (10 ∷ []) (41 ∷ []))

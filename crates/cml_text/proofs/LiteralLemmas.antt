@@ -83,7 +83,7 @@ up_to_start text content e =
       front = rw z (rw e (sym (with_front-nil (literal text))));
     }
 
--- so many more bytes were read
+-- this many more bytes were read
 pub up_to_more : (text content rest more after rest' : List ℕ) (n : ℕ) → UpTo text content rest → after ≡ content ++ more → rest' ≡ drop n rest → n ≤ length rest →
     literal rest ≡ with_front more n (literal rest') → UpTo text after rest'
 up_to_more text content rest more after rest' n up same cut short read =

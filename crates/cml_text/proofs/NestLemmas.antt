@@ -1,4 +1,4 @@
--- The words so far, as others are opened and closed.
+-- The lexemes so far, as others are opened and closed.
 use Rattle.std.proofs.Common.{◌≡◌, ℕ, ◌+◌, ◌-◌, ◌<◌, ◌≤◌, true, false, ltb, List, [], ◌∷◌, ◌++◌, length, refl, ap, sym, ◌∙◌, arith, Some, append_assoc}
 use Rattle.std.specs.Prelude.{map, reverse}
 use Rattle.std.proofs.lemmas.List.{append-nil, map-append, reverse-append, length-reverse, length-map}
@@ -10,7 +10,7 @@ use Rattle.cml_text.specs.Forms.{PlainSexpr, plain_list, plain_forms}
 use Rattle.cml_text.specs.Lexemes.{Lexeme, opening, closing, leaf}
 use Rattle.cml_text.specs.Texts.{words, first_fault}
 use Rattle.cml_text.specs.Steps.{IsLeaf}
-use Rattle.cml_text.specs.Nests.{words_in, words_before, words_so_far, starts, Takes}
+use Rattle.cml_text.specs.Nests.{words_in, words_before, words_so_far, starts, TakesWord}
 
 pub words_in-push : (forms : List PlainSexpr) (form : PlainSexpr) → words_in (forms ++ form ∷ []) ≡ words_in forms ++ words form
 words_in-push [] form = append-nil (words form)
@@ -30,7 +30,7 @@ length-starts lists = length-reverse (map (λ l. l.start) lists) ∙ length-map 
 
 -- a list was opened
 pub takes_opening : (lists lists' : List OpenList) (forms forms' : List PlainSexpr) (list : OpenList) (at : ℕ) → length lists < 256 → lists' ≡ lists ++ list ∷ [] → list.start ≡ at → list.before.items ≡ forms → forms' ≡ [] →
-    Takes (opening at) lists forms lists' forms'
+    TakesWord (opening at) lists forms lists' forms'
 takes_opening lists lists' forms forms' list at room is starts_at before none =
     record {
       taken =
@@ -53,7 +53,7 @@ opening_deep lists at rest deep =
 
 -- a list was closed
 pub takes_closing : (lists lists' : List OpenList) (forms forms' : List PlainSexpr) (list : OpenList) (at : ℕ) (span : Span) → lists ≡ lists' ++ list ∷ [] → span.start ≡ list.start → span.end ≡ at + 1 →
-    forms' ≡ list.before.items ++ plain_list span (plain_forms forms) ∷ [] → Takes (closing (at + 1)) lists forms lists' forms'
+    forms' ≡ list.before.items ++ plain_list span (plain_forms forms) ∷ [] → TakesWord (closing (at + 1)) lists forms lists' forms'
 takes_closing lists lists' forms forms' list at span is starts_at ends_at made =
     record {
       taken =
@@ -71,7 +71,7 @@ closing_stray [] at rest none = let e : at + 1 - 1 ≡ at = omega arith in rw e 
 closing_stray (list ∷ lists) at rest none = absurd (omega arith)
 
 -- a form that is no list was taken
-pub takes_leaf : (lists : List OpenList) (forms forms' : List PlainSexpr) (form : PlainSexpr) → IsLeaf form → forms' ≡ forms ++ form ∷ [] → Takes (leaf form) lists forms lists forms'
+pub takes_leaf : (lists : List OpenList) (forms forms' : List PlainSexpr) (form : PlainSexpr) → IsLeaf form → forms' ≡ forms ++ form ∷ [] → TakesWord (leaf form) lists forms lists forms'
 takes_leaf lists forms forms' form one made =
     record {
       taken =

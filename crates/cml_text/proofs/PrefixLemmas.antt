@@ -1,4 +1,4 @@
--- What stands before a word is read by itself.
+-- What stands before a lexeme is read by itself.
 use Rattle.std.proofs.Common.{◌≡◌, ℕ, zero, suc, ◌+◌, ◌<◌, ◌≤◌, true, false, eqb, leb, List, [], ◌∷◌, ◌++◌, length, take, drop, refl, ap, sym, ◌∙◌, subst, arith, Option, Some, None, append_assoc, inl, inr, ◌⊎◌, ℤ}
 use Rattle.std.specs.List.{list_all, prefix_len}
 use Rattle.std.proofs.lemmas.Bool.Decides.{nat_tests}
@@ -17,7 +17,7 @@ use Rattle.cml_text.proofs.SpanLemmas.{no_words}
 use Rattle.cml_text.proofs.GrammarLemmas.{lex_comment, literal_read}
 use Rattle.cml_text.proofs.GrammarFindLemmas.{line_feed, ClosedAt, closed_at}
 
--- no fault is among the words
+-- no fault is among the lexemes
 abbrev pub AreSound : List Lexeme → Type 0
 AreSound [] = Unit {0}
 AreSound (opening at ∷ ws) = AreSound ws
@@ -25,7 +25,7 @@ AreSound (closing end ∷ ws) = AreSound ws
 AreSound (leaf form ∷ ws) = AreSound ws
 AreSound (faulty fault ∷ ws) = ⊥
 
--- The text is cut before the byte at which this word begins; what stands before it are these words, whatever follows that ends a token.
+-- The text is cut before the byte at which this lexeme begins; what stands before it are these lexemes, whatever follows that ends a token.
 pub record Cut (at : ℕ) (text : List ℕ) (before : List Lexeme) (word : Lexeme) : Type 0 where
   pub front : List ℕ
   pub first : ℕ
@@ -65,7 +65,7 @@ front_stops [] tail other rest e stop end = end
 front_stops (c ∷ front) tail other [] e stop end = absurd (cc)
 front_stops (c ∷ front) tail other (d ∷ rest) e stop end = let same : d ≡ c = cc in subst (λ (k : ℕ). is_token_byte k ≡ false) same stop
 
--- a word begins here: it is the word, or one before it
+-- a lexeme begins here: it is the lexeme, or one before it
 worded : (fuel : ℕ) (cut : Cutter fuel) (at b : ℕ) (bytes piece rest : List ℕ) (found : Lexeme) (before : List Lexeme) (word : Lexeme) (after : List Lexeme) → length rest ≤ fuel → AreSound before →
     b ∷ bytes ≡ piece ++ rest → (beginning at b bytes).word ≡ found ∷ [] → lexemes 0 at (b ∷ bytes) ≡ found ∷ lexemes 0 (at + length piece) rest →
     ((front tail other : List ℕ) → rest ≡ front ++ other → Stops is_token_byte tail → lexemes 0 at (piece ++ (front ++ tail)) ≡ found ∷ lexemes 0 (at + length piece) (front ++ tail)) →
@@ -104,7 +104,7 @@ fault_alone fault ls (closing end ∷ before) word after sound e = absurd (cc)
 fault_alone fault ls (leaf form ∷ before) word after sound e = absurd (cc)
 fault_alone fault ls (faulty other ∷ before) word after sound e = absurd sound
 
--- a fault begins here: it is the word
+-- a fault begins here: it is the lexeme
 faulted : (at b more : ℕ) (bytes : List ℕ) (fault : PlainFault) (before : List Lexeme) (word : Lexeme) (after : List Lexeme) → AreSound before →
     beginning at b bytes ≡ record { word = faulty fault ∷ []; more = more } → lexemes 0 at (b ∷ bytes) ≡ before ++ word ∷ after → Cut at (b ∷ bytes) before word
 faulted at b more bytes fault before word after sound begin e =
@@ -250,7 +250,7 @@ cut zero at (b ∷ bytes) before word after small sound e = absurd (omega arith)
 cut (suc fuel) at (b ∷ bytes) before word after small sound e =
     cut_first fuel (λ at' text' before' word' after' small' sound' e'. cut fuel at' text' before' word' after' small' sound' e') at b bytes before word after small sound e
 
--- the fault of a word that begins at a place stands there, or behind it in a literal
+-- the fault of a lexeme that begins at a place stands there, or after it in a literal
 abbrev pub Place : ℕ → PlainFault → Type 0
 Place at fault = (fault.at ≡ at) ⊎ ((fault.kind ≡ Escape) × (at < fault.at))
 

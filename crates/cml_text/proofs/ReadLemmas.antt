@@ -9,7 +9,7 @@ use Rattle.cml_text.specs.Forms.{PlainSexpr}
 use Rattle.cml_text.specs.Lexemes.{Lexeme, lexemes}
 use Rattle.cml_text.specs.Texts.{first_fault}
 use Rattle.cml_text.specs.Steps.{IsFault, StepsTo, BeginsWithFault}
-use Rattle.cml_text.specs.Nests.{words_in, words_so_far, starts, Takes, FaultsAt}
+use Rattle.cml_text.specs.Nests.{words_in, words_so_far, starts, TakesWord, FaultsAt}
 use Rattle.cml_text.proofs.NestLemmas.{starts-push}
 
 -- the text was read up to this rest of it
@@ -23,7 +23,7 @@ read_nothing text lists forms e f =
     let z : length text - length text ≡ 0 = omega arith in
     record { within = omega arith; words = rw (z, e, f) refl; faults = rw (z, e) refl }
 
--- the place behind a step
+-- the place after a step
 behind_at : (text rest behind : List ℕ) (at : ℕ) → length rest ≤ length text → at ≡ length text - length rest → length behind < length rest → at + (length rest - length behind) ≡ length text - length behind
 behind_at text rest behind at within is shorter = omega arith
 
@@ -46,7 +46,7 @@ word_next text rest behind word at within is step =
     ap (λ n. lexemes 0 n rest) (sym is) ∙ step.spelled ∙ ap (λ n. word ∷ lexemes 0 n behind) place
 
 pub read_word : (text rest behind : List ℕ) (lists lists' : List OpenList) (forms forms' : List PlainSexpr) (word : Lexeme) (at : ℕ) → IsReadUpTo text lists forms rest → at ≡ length text - length rest →
-    StepsTo at rest (word ∷ []) behind → Takes word lists forms lists' forms' → IsReadUpTo text lists' forms' behind
+    StepsTo at rest (word ∷ []) behind → TakesWord word lists forms lists' forms' → IsReadUpTo text lists' forms' behind
 read_word text rest behind lists lists' forms forms' word at up is step takes =
     let same = word_next text rest behind word at up.within is step in
     record {
@@ -63,7 +63,7 @@ read_fault text rest lists forms at fault.Memory up is bad = tt
 read_fault text rest lists forms at (fault.At kind place) up is bad =
     up.faults ∙ ap (λ n. first_fault (lexemes 0 n rest) (starts lists)) (sym is) ∙ ap (λ ls. first_fault ls (starts lists)) bad.1
 
--- the next word is at fault
+-- the next lexeme is at fault
 pub read_word_fault : (text rest behind : List ℕ) (lists : List OpenList) (forms : List PlainSexpr) (word : Lexeme) (at : ℕ) (found : TextFault) → IsReadUpTo text lists forms rest →
     at ≡ length text - length rest → StepsTo at rest (word ∷ []) behind → FaultsAt word lists found → IsFault found (first_fault (lexemes 0 0 text) [])
 read_word_fault text rest behind lists forms word at found up is step bad =

@@ -19,14 +19,14 @@ use Rattle.cml_text.proofs.LexPrintedLemmas.{begins, begins_alone, lex_token}
 use Rattle.cml_text.proofs.TextLemmas.{span_same}
 use Rattle.cml_text.proofs.CutLemmas.{SameFront, same_front, stops_same, Cut, cut_both, Run, run_of, LiteralCut, literal_cut}
 
--- where a word stands that is so many bytes long
+-- where a lexeme stands that is this many bytes long
 abbrev StandsAt : ℕ → ℕ → Lexeme → Type 0
 StandsAt at count (opening start) = start ≡ at
 StandsAt at count (closing end) = end ≡ at + count
 StandsAt at count (leaf form) = span_of form ≡ span_from at count
 StandsAt at count (faulty fault) = ⊥
 
--- no word, one that stands there, or a fault
+-- no lexeme, one that stands there, or a fault
 abbrev StandAt : ℕ → ℕ → List Lexeme → Type 0
 StandAt at count [] = Unit {0}
 StandAt at count (w ∷ ws) = (ws ≡ []) × StandsAt at count w
@@ -145,7 +145,7 @@ piece at b bytes =
           ]
     ]
 
--- the first word of a text, and the gap in front of it
+-- the first lexeme of a text, and the gap in front of it
 record FirstWord (at : ℕ) (text : List ℕ) (w : Lexeme) (ws : List Lexeme) : Type 0 where
   gap : List ℕ
   bytes : List ℕ
@@ -162,7 +162,7 @@ IsWhole (closing end) = Unit {0}
 IsWhole (leaf form) = Unit {0}
 IsWhole (faulty fault) = ⊥
 
--- the text goes on behind a piece
+-- the text goes on after a piece
 goes_on : (at b : ℕ) (bytes : List ℕ) (p : Piece at b bytes) → lexemes 0 at (b ∷ bytes) ≡ p.word ++ lexemes 0 (at + length (b ∷ p.front)) p.rest
 goes_on at b bytes p = ap (λ t. lexemes 0 at (b ∷ t)) p.parts ∙ p.cut p.rest (same_front p.rest)
 
@@ -190,7 +190,7 @@ behind_gap at b bytes w ws p none f =
       stands = subst Q (sym count) f.stands;
     }
 
--- the word itself
+-- the lexeme itself
 at_once : (at b : ℕ) (bytes : List ℕ) (w v : Lexeme) (ws vs : List Lexeme) (p : Piece at b bytes) → p.word ≡ v ∷ vs → StandAt at (length (b ∷ p.front)) (v ∷ vs) → lexemes 0 at (b ∷ bytes) ≡ w ∷ ws → FirstWord at (b ∷ bytes) w ws
 at_once at b bytes w v ws vs p is stands e =
     let z : at + 0 ≡ at = omega arith in
@@ -272,7 +272,7 @@ record FoundForms (whole : List ℕ) (at : ℕ) (text : List ℕ) (forms : Plain
   left : lexemes 0 (at + length bytes) rest ≡ ws
   inside : AreAtSpans whole forms
 
--- a form of one word
+-- a form of one lexeme
 found_leaf : (whole before text : List ℕ) (at : ℕ) (form : PlainSexpr) (ws : List Lexeme) → at ≡ length before → whole ≡ before ++ text → words form ≡ leaf form ∷ [] →
     (IsSpelledAtSpan whole form → IsAtSpan whole form) → lexemes 0 at text ≡ leaf form ∷ ws → FoundForm whole at text form ws
 found_leaf whole before text at form ws place parts one inside e =
@@ -330,7 +330,7 @@ found_list whole before text at span forms ws place parts f m g =
       );
     }
 
--- a form, and the forms behind it
+-- a form, and the forms after it
 found_both : (whole : List ℕ) (at : ℕ) (text : List ℕ) (form : PlainSexpr) (forms : PlainForms) (ws : List Lexeme) (f : FoundForm whole at text form (words_of forms ++ ws)) →
     (m : FoundForms whole (at + length f.gap + length f.bytes) f.rest forms ws) → FoundForms whole at text (forms_and form forms) ws
 found_both whole at text form forms ws f m =

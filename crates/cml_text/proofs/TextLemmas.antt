@@ -1,4 +1,4 @@
--- The words of forms: how deep they go, and that they tell the forms.
+-- The lexemes of forms: how deep they go, and that they tell the forms.
 use Rattle.std.proofs.Common.{◌≡◌, ℕ, ◌+◌, ◌<◌, ◌≤◌, ltb, List, [], ◌∷◌, ◌++◌, length, refl, ap, sym, ◌∙◌, subst, arith, Some, None, append_assoc, ◌⊎◌, inl, inr}
 use Rattle.std.proofs.lemmas.List.{append-nil}
 use Rattle.std.proofs.lemmas.Bool.Decides.{nat_tests}
@@ -10,7 +10,7 @@ use Rattle.cml_text.specs.Lexemes.{Lexeme, opening, closing, leaf, faulty}
 use Rattle.cml_text.specs.Texts.{words, words_of, first_fault}
 use Rattle.cml_text.proofs.WordLemmas.{cases_test}
 
--- The words are passed without a fault, and the lists stay within the limit; or some fault is met, and they do not.
+-- The lexemes are passed without a fault, and the lists stay within the limit; or some fault is met, and they do not.
 abbrev pub Passes : (deep : ℕ) (words rest : List Lexeme) (opens : List ℕ) → Type 0
 Passes deep words rest opens =
     ((length opens + deep ≤ 256) × (first_fault (words ++ rest) opens ≡ first_fault rest opens))
@@ -75,7 +75,7 @@ not_deep forms none =
       | inr a ↦ let clash : None ≡ Some a.1.0 = sym none ∙ ap (λ ws. first_fault ws []) (sym e) ∙ a.1.1 in absurd (cc)
     ]
 
--- no form's words begin with a closing parenthesis
+-- no form's lexemes begin with a closing parenthesis
 abbrev pub IsEnd : List Lexeme → Type 0
 IsEnd [] = Unit {0}
 IsEnd (opening at ∷ rest) = ⊥
@@ -135,7 +135,7 @@ pub forms_list-plain_forms : (forms : List PlainSexpr) → forms_list (plain_for
 forms_list-plain_forms [] = refl
 forms_list-plain_forms (form ∷ forms) = ap (λ fs. form ∷ fs) (forms_list-plain_forms forms)
 
--- the words tell the forms
+-- the lexemes tell the forms
 pub words_in_tell : (f g : List PlainSexpr) → words_of (plain_forms f) ≡ words_of (plain_forms g) → f ≡ g
 words_in_tell f g e =
     let h : words_of (plain_forms f) ++ [] ≡ words_of (plain_forms g) ++ [] = ap (λ ws. ws ++ []) e in

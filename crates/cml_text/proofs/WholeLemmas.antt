@@ -16,7 +16,7 @@ use Rattle.cml_text.proofs.WordLemmas.{cases_test}
 use Rattle.cml_text.proofs.TextLemmas.{not_deep}
 use Rattle.cml_text.proofs.AnswerLemmas.{fault_long, fault_utf8, fault_left, fault_clash}
 
--- every form among the words is spelled by one word
+-- every form among the lexemes is spelled by one lexeme
 abbrev pub AreLeaves : List Lexeme → Type 0
 AreLeaves [] = Unit {0}
 AreLeaves (opening at ∷ rest) = AreLeaves rest
@@ -80,7 +80,7 @@ lexemes_leaves zero at (b ∷ bytes) =
     leaves-append (beginning at b bytes).word (lexemes (beginning at b bytes).more (at + 1) bytes) (beginning_leaf at b bytes) (lexemes_leaves (beginning at b bytes).more (at + 1) bytes)
 lexemes_leaves (suc before) at (b ∷ bytes) = lexemes_leaves before (at + 1) bytes
 
--- the words are forms, and a closing parenthesis with forms behind it for each open list
+-- the lexemes are forms, and a closing parenthesis with forms after it for each open list
 abbrev pub Closes : List ℕ → List Lexeme → Type 0
 Closes [] ws = (forms : PlainForms) × (ws ≡ words_of forms)
 Closes (start ∷ opens) ws = (forms : PlainForms) × ((end : ℕ) × ((rest : List Lexeme) × ((ws ≡ words_of forms ++ closing end ∷ rest) × Closes opens rest)))

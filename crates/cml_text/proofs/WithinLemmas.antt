@@ -19,7 +19,7 @@ escaping_low b c Escapes.to_quote = omega arith
 escaping_low b c Escapes.to_backslash = omega arith
 escaping_low b c Escapes.to_line_feed = omega arith
 
--- what stands between the quotes is UTF-8, and so is what it stands for, also behind other bytes
+-- what stands between the quotes is UTF-8, and so is what it stands for, also after other bytes
 content_utf8 : (front spelling content : List ℕ) → StandsFor spelling content → IsUtf8 (front ++ spelling) → IsUtf8 (front ++ content)
 content_utf8 front spelling content StandsFor.ended utf8 = utf8
 content_utf8 front spelling content (StandsFor.itself b s c quote backslash more) utf8 =

@@ -1,4 +1,4 @@
--- Where a text may be cut, what digits are worth, and how one word follows another.
+-- Where a text may be cut, what digits are worth, and how one lexeme follows another.
 use Rattle.std.proofs.Common.{◌≡◌, ◌≢◌, ℕ, ◌+◌, ◌<◌, Bool, true, false, cond, ◌&&◌, eqb, List, [], ◌∷◌, ◌++◌, length, get_or, drop, refl, ap, sym, ◌∙◌, subst, arith, Some, None, Result, Ok, Err, ℤ, w64, rules, ◌⊎◌, inl, inr}
 use Rattle.std.proofs.lemmas.Bool.{false≢true}
 use Rattle.std.specs.Result.{OkIff, result_ok}
@@ -16,14 +16,14 @@ use Rattle.cml_text.specs.Lexemes.{are_digits, is_number, number_value, negative
 pub cut_before : (p : ℕ → Bool) (low : (b : ℕ) → p b ≡ false → b < 128) (bytes : List ℕ) → IsCharBoundary bytes (prefix_len p bytes)
 cut_before p low bytes = (prefix_len-le-length p bytes, λ inside high. absurd (omega (arith, low (get_or bytes (prefix_len p bytes) 0) (prefix_len_stops p bytes 0 inside))))
 
--- a text may be cut behind its first character
+-- a text may be cut after its first character
 pub first_cut : (text rest : List ℕ) (c n : ℕ) → IsUtf8 text → text ≡ encode_utf8 c ++ rest → n ≡ len_utf8 c → IsCharBoundary text n
 first_cut text rest c n utf8 e m =
     let P : ℕ → Type 0 = λ k. IsCharBoundary text k in
     let same : 0 + len_utf8 c ≡ n = omega arith in
     subst P same (IsCharBoundary-past_char text rest 0 c (omega arith) utf8 e)
 
--- and the characters are that one and those behind it
+-- and the characters are that one and those after it
 pub first_chars : (text rest : List ℕ) (c n : ℕ) → IsUtf8 text → text ≡ encode_utf8 c ++ rest → n ≡ len_utf8 c → chars text ≡ c ∷ chars (drop n text)
 first_chars text rest c n utf8 e m =
     let same : 0 + len_utf8 c ≡ n = omega arith in

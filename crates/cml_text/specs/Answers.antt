@@ -1,4 +1,4 @@
--- What a call of `read` answers.
+-- What a call of `read` returns.
 use Rattle.std.specs.Prelude.{◌≡◌, Result, Ok, Err, List, Vec}
 use Rattle.std.specs.declared.alloc.Global.{Global}
 use Rattle.cml_text.specs.declared.fault.TextFault.{TextFault}

@@ -1,4 +1,4 @@
--- What can be wrong with a text, and how fault lines call it.
+-- What can be wrong with a text, and how fault lines name it.
 use Rattle.std.specs.Prelude.{ℕ, List, ◌++◌, codes}
 use Rattle.std.specs.Fmt.{decimal}
 use Rattle.cml_text.specs.declared.fault.FaultKind.{FaultKind}

@@ -1,4 +1,4 @@
--- What the first fault of a text is, said of its words as a whole.
+-- What the first fault of a text is, said of its lexemes as a whole.
 use Rattle.std.specs.Prelude.{◌≡◌, ◌⊎◌, ℕ, ◌-◌, ◌<◌, ◌≤◌, List, [], ◌∷◌, ◌++◌, length, map}
 use Rattle.cml_text.specs.declared.fault.FaultKind.TheVariants.{Stray, Escape, Deep}
 use Rattle.cml_text.specs.Sizes.{nesting_limit}
@@ -8,25 +8,25 @@ use Rattle.cml_text.specs.Grammar.{whole_text, Gives}
 use Rattle.cml_text.specs.Lexemes.{Lexeme, opening, closing, leaf, faulty}
 use Rattle.cml_text.specs.Texts.{words_of}
 
--- with closing parentheses behind them, or as they are, the words spell forms
+-- with closing parentheses after them, or as they are, the lexemes spell forms
 pub record CanBeClosed (words : List Lexeme) : Type 0 where
   pub ends : List ℕ
   pub forms : PlainForms
   pub spelled : words ++ map closing ends ≡ words_of forms
   pub shallow : nesting_of forms ≤ nesting_limit
 
--- whatever stands behind them, the words spell no forms
+-- whatever stands after them, the lexemes spell no forms
 abbrev pub CannotGoOn : List Lexeme → Type 0
 CannotGoOn words = (rest : List Lexeme) (forms : PlainForms) → nesting_of forms ≤ nesting_limit → words ++ rest ≡ words_of forms → ⊥
 
--- The fault is this word's: a parenthesis that opens a list too deep, one that closes nothing, or what is no word.
+-- The fault is this lexeme's: a parenthesis that opens a list too deep, one that closes nothing, or what is no lexeme.
 abbrev pub IsAtFault : Lexeme → PlainFault → Type 0
 IsAtFault (opening at) fault = fault ≡ record { kind = Deep; at = at }
 IsAtFault (closing end) fault = fault ≡ record { kind = Stray; at = end - 1 }
 IsAtFault (leaf form) fault = ⊥
 IsAtFault (faulty found) fault = fault ≡ found
 
--- What stands before the word at fault could still become forms, and with it nothing can.
+-- What stands before the lexeme at fault could still become forms, and with it nothing can.
 pub record IsFirstFault (words : List Lexeme) (fault : PlainFault) : Type 0 where
   pub before : List Lexeme
   pub word : Lexeme
@@ -43,7 +43,7 @@ pub record CanBeCompleted (text : List ℕ) : Type 0 where
   pub given : Gives whole_text 0 (text ++ map (λ start. 41) opens) forms
   pub shallow : nesting_of forms ≤ nesting_limit
 
--- The text goes on so far before the word at fault: the fault stands right behind, or in the text literal that begins there.
+-- The text goes on so far before the lexeme at fault: the fault stands right after, or in the text literal that begins there.
 pub record StandsBefore (text : List ℕ) (fault : PlainFault) : Type 0 where
   pub front : List ℕ
   pub behind : List ℕ

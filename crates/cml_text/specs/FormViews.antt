@@ -1,4 +1,4 @@
--- What a `Sexpr` is seen as, from its fields. The forms of a list are seen already.
+-- The view of a `Sexpr`, made from its fields. The forms of a list are given by their own views.
 use Rattle.std.specs.String.{string_bytes}
 use Rattle.cml_text.specs.Forms.{PlainSexpr, plain_name, plain_int, plain_text, plain_list, plain_forms}
 use Rattle.cml_text.specs.declared.sexpr.Span.{Span}

@@ -1,4 +1,4 @@
--- What a form is, with no memory in it.
+-- What a form is, apart from how it lies in memory.
 use Rattle.std.specs.Prelude.{ℕ, ℤ, ◌+◌, max, List, [], ◌∷◌}
 use Rattle.cml_text.specs.declared.sexpr.Span.{Span}
 

@@ -47,7 +47,7 @@ pub data SpellsName : List ℕ → Type 0 where
   word : (bytes : List ℕ) (c : ℕ) (cs : List ℕ) → chars bytes ≡ c ∷ cs → (c ≡ 95) ⊎ IsTrue (is_xid_start c) → All (λ d. IsTrue (is_xid_continue d)) cs
       → SpellsName bytes
 
--- an escape: the byte behind the backslash, and the byte that it stands for
+-- an escape: the byte after the backslash, and the byte that it stands for
 pub data Escapes : ℕ → ℕ → Type 0 where
   to_quote : Escapes 34 34
   to_backslash : Escapes 92 92

@@ -65,24 +65,24 @@ PrintedLineIsOneLine = (forms : List PlainSexpr) → AreWithinLimits forms → H
 abbrev pub SpellsAside : List ℕ → PlainForms → Type 0
 SpellsAside text forms = (found : List PlainSexpr) × Spells text found × (all_without_spans (plain_forms found) ≡ forms)
 
--- The text between parentheses. A line feed stands behind it, since a text may end with a comment.
+-- The text between parentheses. A line feed stands after it, since a text may end with a comment.
 abbrev pub in_parentheses : List ℕ → List ℕ
 in_parentheses text = 40 ∷ (line text ++ 41 ∷ [])
 
--- A text in parentheses spells the list of these forms exactly where the text alone spells them and they nest one less deep than may
--- be, spans aside; where there is room for the parentheses.
+-- Where there is room for the parentheses, a text in parentheses spells the list of these forms exactly where the text alone spells
+-- them and they nest less deep than the limit, spans aside.
 abbrev pub AListIsItsForms : Type 0
 AListIsItsForms = (text : List ℕ) (forms : PlainForms) → length text + 3 ≤ text_limit →
     (SpellsAside text forms × (nesting_of forms < nesting_limit) → SpellsAside (in_parentheses text) (forms_and (plain_list nowhere forms) no_forms))
     × (SpellsAside (in_parentheses text) (forms_and (plain_list nowhere forms) no_forms) → SpellsAside text forms × (nesting_of forms < nesting_limit))
 
--- Of a text that is UTF-8 and not too long, the fault is that of the first word with which, whatever follows, no forms are spelled: the
--- words before it could still become forms. Or the end is at fault, and only closing parentheses are missing.
+-- Of a text that is UTF-8 and not too long, the fault is that of the first lexeme with which, whatever follows, no forms are spelled: the
+-- lexemes before it could still become forms. Or the end is at fault, and only closing parentheses are missing.
 abbrev pub FaultIsFirst : Type 0
 FaultIsFirst = (text : List ℕ) (fault : PlainFault) → length text ≤ text_limit → IsUtf8 text → fault_of text ≡ Some fault →
     IsFirstFault (lexemes 0 0 text) fault ⊎ (CanBeClosed (lexemes 0 0 text) × (fault.kind ≡ Unclosed))
 
--- What stands before a fault could still become forms: closing parentheses make it a text of the grammar. A fault at the end aside.
+-- What stands before a fault could still become forms: closing parentheses make it a text of the grammar. Faults at the end are left out.
 abbrev pub BeforeFaultIsBegun : Type 0
 BeforeFaultIsBegun = (text : List ℕ) (fault : PlainFault) → length text ≤ text_limit → IsUtf8 text → fault_of text ≡ Some fault → fault.kind ≢ Unclosed →
     StandsBefore text fault

@@ -1,6 +1,6 @@
--- What the words of a text are.
+-- What the lexemes of a text are.
 --
--- A byte from 128 on is part of a character beyond ASCII. No such character separates or delimits, so the cut into words
+-- A byte from 128 on is part of a character beyond ASCII. No such character separates or delimits, so the cut into lexemes
 -- goes by bytes, and only what is inside a name goes by characters.
 use Rattle.std.specs.Prelude.{ℕ, zero, suc, ◌+◌, ◌^◌, ℤ, pos, neg_ℤ, Bool, false, not, ◌&&◌, ◌||◌, ◌==◌, nat_lt, nat_le, if◌then◌else◌, Option, Some, None, List, [], ◌∷◌, ◌++◌, length, take}
 use Rattle.std.specs.List.{list_all, prefix_len}
@@ -69,8 +69,8 @@ is_name bytes = is_operator bytes || is_word (chars bytes)
 abbrev pub is_plain : ℕ → Bool
 is_plain b = not ((b == 34) || (b == 92))
 
--- What stands behind an opening quote: the bytes of the text after its escapes and how many bytes up to and with the closing quote;
--- or no closing quote; or an escape that is none, that many bytes behind the quote.
+-- What stands after an opening quote: the bytes of the text after its escapes and how many bytes up to and with the closing quote;
+-- or no closing quote; or an escape that is none, that many bytes after the quote.
 pub data Literal : Type 0 where
   closed : List ℕ → ℕ → Literal
   endless : Literal
@@ -100,7 +100,7 @@ literal (b ∷ c ∷ bytes) =
     else if b == 92 then with_escape (unescaped c) (literal bytes)
     else with_front (b ∷ []) 1 (literal (c ∷ bytes))
 
--- A word of a text: a parenthesis that opens a list, and where it stands; one that closes a list, and the place after it;
+-- A lexeme of a text: a parenthesis that opens a list, and where it stands; one that closes a list, and the place after it;
 -- a form that is no list; or a fault.
 pub data Lexeme : Type 0 where
   opening : ℕ → Lexeme
@@ -125,19 +125,19 @@ token_lexeme at token =
     else if is_name token then leaf (plain_name (span_from at (length token)) token)
     else fault_at at Character
 
--- a text by what stands behind its opening quote
+-- a text by what stands after its opening quote
 abbrev pub literal_lexeme : ℕ → Literal → Lexeme
 literal_lexeme at (closed content more) =
     if nat_le (length content) literal_limit then leaf (plain_text (span_from at (1 + more)) content) else fault_at at Long
 literal_lexeme at endless = fault_at at Unclosed
 literal_lexeme at (no_escape place) = fault_at (at + 1 + place) Escape
 
--- how many bytes behind its opening quote belong to a literal
+-- how many bytes after its opening quote belong to a literal
 abbrev pub literal_more : Literal → ℕ
 literal_more (closed content more) = more
 literal_more _ = 0
 
--- What a byte at a place begins, with the bytes behind it: the word, if it begins one, and how many of the bytes behind it belong to
+-- What a byte at a place begins, with the bytes after it: the lexeme, if it begins one, and how many of the bytes after it belong to
 -- what it begins. A token goes on up to the next delimiter, and a comment to the end of its line.
 pub record Beginning : Type 0 where
   pub word : List Lexeme
@@ -153,8 +153,8 @@ beginning at b bytes =
     else let count = prefix_len is_token_byte bytes in
     record { word = token_lexeme at (b ∷ take count bytes) ∷ []; more = count }
 
--- The words of the bytes from a place on, of which so many at the front belong to what began before them. What a fault leaves behind
--- it has no meaning.
+-- The lexemes of the bytes from a place on, of which the first ones, that many, belong to what began before them. What follows a fault
+-- has no meaning.
 unfoldable pub lexemes : ℕ → ℕ → List ℕ → List Lexeme
 lexemes before at [] = []
 lexemes (suc before) at (b ∷ bytes) = lexemes before (at + 1) bytes

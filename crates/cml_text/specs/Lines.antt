@@ -6,7 +6,7 @@ use Rattle.std.specs.List.{onto_first}
 abbrev pub line : List ℕ → List ℕ
 line bytes = bytes ++ 10 ∷ []
 
--- The lines of a text. A line feed ends a line and begins none: what stands behind the last line feed is a line where something
+-- The lines of a text. A line feed ends a line and begins none: what stands after the last line feed is a line where something
 -- stands there.
 abbrev pub lines : List ℕ → List (List ℕ)
 lines [] = []

@@ -11,7 +11,7 @@ abbrev pub number_by : ℤ → Option ℕ
 number_by (pos n) = if nat_lt n number_limit then Some n else None
 number_by (negsuc n) = None
 
--- the number that the form is, if it is one: a number that is spelled so, in range
+-- the number that the form is, if it is one: an integer in range
 abbrev pub number_from : PlainSexpr → Option ℕ
 number_from (plain_int span z) = number_by z
 number_from _ = None

@@ -27,7 +27,7 @@ abbrev mutual
   printed_members no_forms = []
   printed_members (forms_and form forms) = printed_form form ++ printed_behind forms
 
-  -- members behind another one
+  -- members after another one
   pub printed_behind : PlainForms → List ℕ
   printed_behind no_forms = []
   printed_behind (forms_and form forms) = 32 ∷ (printed_form form ++ printed_behind forms)

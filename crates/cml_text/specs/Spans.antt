@@ -9,7 +9,7 @@ use Rattle.cml_text.specs.Texts.{words}
 abbrev pub bytes_at : List ℕ → Span → List ℕ
 bytes_at text span = take (span.end - span.start) (drop span.start text)
 
--- The form's span is a slice of the text, and the slice spells it: read where they stand, its bytes are the words of the form and
+-- The form's span is a slice of the text, and the slice spells it: read where they stand, its bytes are the lexemes of the form and
 -- nothing else.
 pub record IsSpelledAtSpan (text : List ℕ) (form : PlainSexpr) : Type 0 where
   pub ordered : (span_of form).start ≤ (span_of form).end

@@ -8,8 +8,8 @@ use Rattle.cml_text.specs.Faults.{PlainFault}
 use Rattle.cml_text.specs.Forms.{PlainSexpr, plain_list, PlainForms, no_forms, forms_and, plain_forms, nesting_of}
 use Rattle.cml_text.specs.Lexemes.{Lexeme, opening, closing, leaf, faulty, lexemes}
 
--- The words that spell a form: a list is a parenthesis where it starts, its forms, and a parenthesis where it ends; every other
--- form is one word.
+-- The lexemes that spell a form: a list is a parenthesis where it starts, its forms, and a parenthesis where it ends; every other
+-- form is one lexeme.
 abbrev mutual
   pub words : PlainSexpr → List Lexeme
   words (plain_list span forms) = opening span.start ∷ (words_of forms ++ closing span.end ∷ [])
@@ -19,7 +19,7 @@ abbrev mutual
   words_of no_forms = []
   words_of (forms_and form forms) = words form ++ words_of forms
 
--- The text spells these forms, one after another: it is not too long, it is UTF-8, its words are those that spell the forms, and no
+-- The text spells these forms, one after another: it is not too long, it is UTF-8, its lexemes are those that spell the forms, and no
 -- more lists stand inside one another than may.
 pub record Spells (text : List ℕ) (forms : List PlainSexpr) : Type 0 where
   pub short : length text ≤ text_limit
@@ -32,7 +32,7 @@ abbrev pub unclosed : List ℕ → Option PlainFault
 unclosed [] = None
 unclosed (start ∷ opens) = Some (record { kind = Unclosed; at = start })
 
--- The first fault of the words from the left, given where the lists that are open began, the innermost first.
+-- The first fault of the lexemes from the left, given where the lists that are open began, the innermost first.
 abbrev pub first_fault : List Lexeme → List ℕ → Option PlainFault
 first_fault [] opens = unclosed opens
 first_fault (opening at ∷ rest) opens = if nat_lt (length opens) nesting_limit then first_fault rest (at ∷ opens) else Some (record { kind = Deep; at = at })

@@ -56,17 +56,17 @@ pub fn printed_line_is_one_line()
     ensures { PrintedLineIsOneLine }
 {}
 
-/// A text in parentheses spells a list exactly where the text alone spells the list's forms, one less deep than may be.
+/// A text in parentheses spells a list exactly where the text alone spells the list's forms, and these nest less deep than the limit.
 pub fn a_list_is_its_forms()
     ensures { AListIsItsForms }
 {}
 
-/// The fault of a text is that of the first word with which nothing can become forms any more, or only closing parentheses are missing.
+/// The fault of a text is that of the first lexeme with which nothing can become forms any more, or only closing parentheses are missing.
 pub fn fault_is_first()
     ensures { FaultIsFirst }
 {}
 
-/// What stands before a fault of a text could still become forms, a fault at the end aside.
+/// What stands before a fault of a text, if that is not at the end, could still become forms.
 pub fn before_fault_is_begun()
     ensures { BeforeFaultIsBegun }
 {}

@@ -1,4 +1,4 @@
-//! Parenthesized text: a reader that answers every byte string exactly, and a printer whose text is read back.
+//! Parenthesized text: a reader whose result for every byte string is exact, and a printer whose text is read back.
 #![tactic(auto)]
 
 mod fault;

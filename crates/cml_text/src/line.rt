@@ -6,7 +6,7 @@ use std::marker::Model;
 
 /// Cuts a text at its line feeds, and counts its lines.
 ///
-/// A line feed ends a line and begins none, and nothing else ends a line but the end of the text. What stands behind the last line
+/// A line feed ends a line and begins none, and nothing else ends a line but the end of the text. What stands after the last line
 /// feed is a line where something stands there.
 #[derive(Drop)]
 pub struct Lines<'a> {
@@ -65,7 +65,7 @@ impl<'a> Lines<'a> {
     }
 }
 
-// The first line, and what stands behind its line feed.
+// The first line, and what stands after its line feed.
 fn first_line(text: &[u8]) -> (&[u8], &[u8])
     requires { 0 < length text.now }
     ensures first { lines text.now ≡ result.0.now ∷ lines result.1.now }

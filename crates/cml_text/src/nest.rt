@@ -1,7 +1,7 @@
 //! The lists that are open while a text is read.
 ghost use Rattle.std.specs.Prelude.{◌≡◌, ◌+◌, ◌<◌, ◌≤◌, ◌^◌, List, [], ◌∷◌, ◌++◌, IfErr, OnOk, length};
 ghost use Rattle.cml_text.specs.Lexemes.{opening, closing};
-ghost use Rattle.cml_text.specs.Nests.{Takes, FaultsAt};
+ghost use Rattle.cml_text.specs.Nests.{TakesWord, FaultsAt};
 ghost use Rattle.cml_text.specs.Steps.{lexeme_of, IsLeafWord};
 
 use crate::fault::{FaultKind, TextFault};
@@ -28,7 +28,7 @@ fn open_list(
     at: usize,
 ) -> Result<(), TextFault>
     ensures ok { OnOk result
-        (Takes (opening at) lists.old.items forms.old.items lists.new.items forms.new.items) }
+        (TakesWord (opening at) lists.old.items forms.old.items lists.new.items forms.new.items) }
     ensures err { IfErr result (FaultsAt (opening at) lists.old.items) }
 {
     if lists.len() >= NESTING_LIMIT {
@@ -46,7 +46,7 @@ fn open_list(
 fn close_list(lists: &mut Vec<OpenList>, forms: &mut Vec<Sexpr>, at: usize) -> Result<(), TextFault>
     requires fits { at < 2 ^ 63 }
     ensures ok { OnOk result
-        (Takes (closing (at + 1)) lists.old.items forms.old.items lists.new.items forms.new.items) }
+        (TakesWord (closing (at + 1)) lists.old.items forms.old.items lists.new.items forms.new.items) }
     ensures err { IfErr result (FaultsAt (closing (at + 1)) lists.old.items) }
 {
     match lists.pop() {
@@ -62,7 +62,7 @@ fn close_list(lists: &mut Vec<OpenList>, forms: &mut Vec<Sexpr>, at: usize) -> R
     }
 }
 
-/// Takes the word that stands at a place.
+/// Takes the lexeme that stands at a place.
 pub fn take_word(
     alloc: Global,
     lists: &mut Vec<OpenList>,
@@ -73,7 +73,7 @@ pub fn take_word(
     requires fits { at < 2 ^ 63 }
     requires leaf { IsLeafWord (Some word) }
     ensures ok { OnOk result
-        (Takes (lexeme_of at word) lists.old.items forms.old.items lists.new.items forms.new.items) }
+        (TakesWord (lexeme_of at word) lists.old.items forms.old.items lists.new.items forms.new.items) }
     ensures err { IfErr result (FaultsAt (lexeme_of at word) lists.old.items) }
 {
     match word {

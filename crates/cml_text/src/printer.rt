@@ -34,7 +34,7 @@ pub fn push_quoted(text: &mut String, content: &str) -> Result<(), AllocError>
     text.push('"')
 }
 
-// Appends the escape for the first character, if there is one, and gives the text behind it.
+// Appends the escape for the first character, if there is one, and returns the text after it.
 fn push_first<'a>(text: &mut String, special: &'a str) -> Result<&'a str, AllocError>
     requires { 0 < length special.now → IsFalse (needs_no_escape (slice_index special.now 0)) }
     ensures appended { IfOk result (λ rest. string_bytes text.new ++ flat_map escaped rest.now

@@ -21,16 +21,16 @@ const TEXT_LIMIT: usize = 1_048_576;
 /// The forms that a text spells, one after another.
 ///
 /// A text has at most 1,048,576 bytes, its lists stand at most 256 deep inside one another, and a text literal has at most 4,096
-/// bytes after its escapes. Where the text spells no forms the answer is its fault: that it is too long, else that it is not UTF-8,
-/// else the first fault from the left. `TextFault::Memory` comes only where memory ran out.
+/// bytes after its escapes. Where the text spells no forms, its fault is returned: that it is too long, else that it is not UTF-8,
+/// else the first fault from the left. `TextFault::Memory` is returned only where memory ran out.
 pub fn read(alloc: Global, text: &[u8]) -> Result<Vec<Sexpr>, TextFault>
-    // What is read is spelled so.
+    // What is read is spelled by the text.
     ensures found { IfOk result (λ forms. Spells text.now forms.items) }
-    // What is spelled so is read, unless memory runs out.
+    // What the text spells is read, unless memory runs out.
     ensures only { (forms : List PlainSexpr) → Spells text.now forms → ReadsAs result forms }
     // A fault is the fault of the text.
     ensures fault { IfErr result (λ fault. IsFault fault (fault_of text.now)) }
-    // The fault of the text is answered, unless memory runs out.
+    // The fault of the text is returned, unless memory runs out.
     ensures only_fault { (fault : PlainFault) →
         fault_of text.now ≡ Some fault → FailsWith result fault }
 {

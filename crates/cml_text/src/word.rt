@@ -1,4 +1,4 @@
-//! The words of a text, one at a time.
+//! The lexemes of a text, one at a time.
 ghost use Rattle.std.specs.Prelude.{◌≡◌, ℕ, ◌+◌, ◌<◌, ◌^◌, IsTrue, IfOk, IfErr, MatchOption, ◌||◌, ◌==◌, [], ◌∷◌, length, drop, slice_index};
 ghost use Rattle.std.specs.List.{prefix_len, list_all};
 ghost use Rattle.std.specs.Char.{is_ascii_digit};
@@ -15,7 +15,7 @@ use unicode_ident::{is_xid_continue, is_xid_start};
 // The most bytes of a text literal, after its escapes.
 const LITERAL_LIMIT: usize = 4096;
 
-/// A word of a text.
+/// A lexeme of a text.
 #[derive(Drop)]
 pub enum Word {
     Open,
@@ -23,7 +23,7 @@ pub enum Word {
     Leaf(Sexpr),
 }
 
-// What stands behind an opening quote.
+// What stands after an opening quote.
 #[derive(Drop)]
 enum Quoted<'a> {
     Closed { content: String, rest: &'a str },
@@ -31,7 +31,7 @@ enum Quoted<'a> {
     NoEscape(usize),
 }
 
-/// The word at the front of a text that stands at a place, if a word begins there, and the text behind it.
+/// The lexeme at the front of a text that stands at a place, if a lexeme begins there, and the text after it.
 pub fn word_at(alloc: Global, at: usize, text: &str) -> Result<(Option<Word>, &str), TextFault>
     requires begins { 0 < length text.now }
     requires fits { at + length text.now < 2 ^ 63 }
@@ -66,7 +66,7 @@ fn is_separator(byte: u8) -> bool
     matches!(byte, b' ' | b'\t' | b'\r' | b'\n')
 }
 
-/// The text behind its first character, which is ASCII.
+/// The text after its first character, which is ASCII.
 pub fn past_ascii(text: &str) -> &str
     requires begins { 0 < length text.now }
     requires ascii { slice_index text.now 0 < 128 }
@@ -130,7 +130,7 @@ fn unescaped(byte: u8) -> Option<char>
     }
 }
 
-// The text that begins the text with its opening quote, at a place, and the text behind it.
+// The text that begins the text with its opening quote, at a place, and the text after it.
 fn text_form(alloc: Global, at: usize, text: &str) -> Result<(Sexpr, &str), TextFault>
     requires begins { 0 < length text.now }
     requires quote { slice_index text.now 0 ≡ 34 }
@@ -165,7 +165,7 @@ fn text_form(alloc: Global, at: usize, text: &str) -> Result<(Sexpr, &str), Text
     }
 }
 
-// What stands behind an opening quote.
+// What stands after an opening quote.
 fn read_quoted(alloc: Global, text: &str) -> Result<Quoted<'_>, AllocError>
     ensures { IfOk result (IsQuoted text.now) }
 {
@@ -280,7 +280,7 @@ fn is_word(token: &str) -> bool
     }
 }
 
-// The first character, and the text behind it.
+// The first character, and the text after it.
 fn split_first(text: &str) -> Option<(char, &str)>
     ensures { MatchOption result (chars text.now ≡ [])
         (λ found. chars text.now ≡ found.0 ∷ chars found.1.now) }

@@ -12,17 +12,17 @@ use Rattle.cml_trace.specs.declared.order.Order.{Order}
 use Rattle.cml_trace.specs.declared.order.Order.TheVariants as order
 use Rattle.cml_trace.specs.declared.fault.TraceEnd.{TraceEnd}
 use Rattle.cml_trace.specs.declared.fault.TraceEnd.TheVariants.{Done, Bad}
-use Rattle.cml_trace.specs.Orders.{Asks, IsBad, order_of}
+use Rattle.cml_trace.specs.Orders.{AsksFor, IsBad, order_of}
 use Rattle.cml_trace.specs.Replies.{reply_text}
 use Rattle.cml_trace.specs.Answers.{answer_to, after_order, bad_line, Answers}
 use Rattle.cml_trace.specs.Batches.{AskFor}
 
 -- what a line asks for, or that it is bad
-asked_or_bad : (first : List ℕ) (forms : List PlainSexpr) → Spells first forms → (o : Option Order) → order_of forms ≡ o → ((what : Order) × Asks first what) ⊎ IsBad first
+asked_or_bad : (first : List ℕ) (forms : List PlainSexpr) → Spells first forms → (o : Option Order) → order_of forms ≡ o → ((what : Order) × AsksFor first what) ⊎ IsBad first
 asked_or_bad first forms spells (Some what) e = inl (what, (forms, spells, e))
 asked_or_bad first forms spells None e = inr (inr (forms, spells, e))
 
-asks_or_bad : SpelledOrFaulty → (first : List ℕ) → (o : Option PlainFault) → fault_of first ≡ o → ((what : Order) × Asks first what) ⊎ IsBad first
+asks_or_bad : SpelledOrFaulty → (first : List ℕ) → (o : Option PlainFault) → fault_of first ≡ o → ((what : Order) × AsksFor first what) ⊎ IsBad first
 asks_or_bad law first (Some fault) e = inr (inl (fault, e))
 asks_or_bad law first None e = let read = law first e in asked_or_bad first read.0 read.1 (order_of read.0) refl
 
@@ -33,7 +33,7 @@ pub record HasAnswer (n : ℕ) (w : PlainWorld) (all : List (List ℕ)) : Type 0
   pub answered : Answers n w all text end
 
 has_answer_of : (n : ℕ) (w : PlainWorld) (first : List ℕ) (behind : List (List ℕ)) → ((m : ℕ) (v : PlainWorld) → HasAnswer m v behind) →
-    ((what : Order) × Asks first what) ⊎ IsBad first → HasAnswer n w (first ∷ behind)
+    ((what : Order) × AsksFor first what) ⊎ IsBad first → HasAnswer n w (first ∷ behind)
 has_answer_of n w first behind next (inl asked) =
     let rest = next (n + 1) (after_order asked.0 w) in
     record { text = answer_to asked.0 w ++ rest.text; end = rest.end; answered = inl (asked.0, rest.text, asked.1, refl, rest.answered) }
@@ -49,7 +49,7 @@ replies_text cs w = flat_map reply_text (replies_of cs w)
 
 -- the first line asks for a command
 answers_more : (n : ℕ) (w : PlainWorld) (first : List ℕ) (behind : List (List ℕ)) (c : Command) (cs : List Command) (rest : List ℕ) (end : TraceEnd) →
-    Asks first (order.Do c) → Answers (n + 1) (step w c).0 behind (replies_text cs (step w c).0 ++ rest) end →
+    AsksFor first (order.Do c) → Answers (n + 1) (step w c).0 behind (replies_text cs (step w c).0 ++ rest) end →
     Answers n w (first ∷ behind) (replies_text (c ∷ cs) w ++ rest) end
 answers_more n w first behind c cs rest end asks h =
     inl (order.Do c, replies_text cs (step w c).0 ++ rest, asks, append_assoc (reply_text (step w c).1) (replies_text cs (step w c).0) rest, h)

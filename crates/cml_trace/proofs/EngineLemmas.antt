@@ -19,9 +19,9 @@ use Rattle.cml_trace.specs.declared.fault.TraceEnd.TheVariants.{Done, Bad, TooLo
 use Rattle.cml_trace.specs.declared.fault.TraceFault.{TraceFault}
 use Rattle.cml_trace.specs.declared.fault.TraceFault.TheVariants.{Read, Turns, Write, Memory}
 use Rattle.cml_trace.specs.Faults.{IsWriteFailure}
-use Rattle.cml_trace.specs.Answers.{bad_line, lines, max_input, Answers}
+use Rattle.cml_trace.specs.Answers.{bad_line, trace_lines, max_input, Answers}
 use Rattle.cml_trace.specs.Replies.{line, reply_text, rows_text}
-use Rattle.cml_trace.specs.Lines.{PlainLines}
+use Rattle.cml_trace.specs.Lines.{TraceLines}
 use Rattle.cml_trace.specs.Batches.{StopsAt, Gathers}
 use Rattle.cml_stream.specs.Streams.{Stream, stream, Takes, TakesStart}
 use Rattle.cml_trace.specs.Pages.{Tells, TellsStart}
@@ -29,8 +29,8 @@ use Rattle.cml_trace.specs.Runs.{AreAnswered, AreBegun, AreWritten, AreWrittenTo
 use Rattle.cml_trace.proofs.PageLemmas.{Tells-nothing, Tells-both, TellsStart-nothing, TellsStart-all, TellsStart-more, TellsStart-behind}
 use Rattle.cml_trace.proofs.AnswerLemmas.{replies_text, answers_batch, has_answer}
 
--- The lines before these were answered, and the text of that was told: what answers the lines here then answers all behind that text.
-pub record Standing (w : PlainWorld) (all : List (List ℕ)) (here : PlainLines) (v : PlainWorld) (waited waits : List ℕ) (held holds : Option (List ℕ)) : Type 0 where
+-- The lines before these were answered, and the text of that was told: what answers the lines here then answers all after that text.
+pub record Standing (w : PlainWorld) (all : List (List ℕ)) (here : TraceLines) (v : PlainWorld) (waited waits : List ℕ) (held holds : Option (List ℕ)) : Type 0 where
   pub told : List ℕ
   pub leads : (rest : List ℕ) (end : TraceEnd) → Answers here.number v here.left rest end → Answers 1 w all (told ++ rest) end
   pub tells : Tells waited waits (stream held holds) told
@@ -39,19 +39,19 @@ pub Standing-start : (w : PlainWorld) (all : List (List ℕ)) (waits : List ℕ)
     Standing w all (record { number = 1; left = all }) w waits waits held held
 Standing-start w all waits held = record { told = []; leads = λ rest end h. h; tells = Tells-nothing waits held }
 
--- the lines behind a batch
-abbrev pub behind : (old new : PlainLines) (cs : List Command) (why : Stop) → Gathers old new cs why → PlainLines
+-- the lines after a batch
+abbrev pub behind : (old new : TraceLines) (cs : List Command) (why : Stop) → Gathers old new cs why → TraceLines
 behind old new cs why g = record { number = old.number + length g.done; left = g.others }
 
 -- the lines of a batch are answered by its replies
-batch_leads : (old new : PlainLines) (v : PlainWorld) (cs : List Command) (why : Stop) (g : Gathers old new cs why) (rest : List ℕ) (end : TraceEnd) →
+batch_leads : (old new : TraceLines) (v : PlainWorld) (cs : List Command) (why : Stop) (g : Gathers old new cs why) (rest : List ℕ) (end : TraceEnd) →
     Answers (old.number + length g.done) (world_after cs v) g.others rest end → Answers old.number v old.left (replies_text cs v ++ rest) end
 batch_leads old new v cs why g rest end h =
     subst (λ (ls : List (List ℕ)). Answers old.number v ls (replies_text cs v ++ rest) end) (sym g.split)
     (answers_batch old.number v g.done cs g.asked g.others rest end h)
 
 -- one more text was told
-Standing-on : (w : PlainWorld) (all : List (List ℕ)) (here there : PlainLines) (v u : PlainWorld) (a b c : List ℕ) (held mid holds : Option (List ℕ)) (text : List ℕ) →
+Standing-on : (w : PlainWorld) (all : List (List ℕ)) (here there : TraceLines) (v u : PlainWorld) (a b c : List ℕ) (held mid holds : Option (List ℕ)) (text : List ℕ) →
     Standing w all here v a b held mid → Tells b c (stream mid holds) text →
     ((rest : List ℕ) (end : TraceEnd) → Answers there.number u there.left rest end → Answers here.number v here.left (text ++ rest) end) →
     Standing w all there u a c held holds
@@ -62,34 +62,34 @@ Standing-on w all here there v u a b c held mid holds text s t on = record {
   tells = Tells-both a b c held mid holds s.told text s.tells t;
 }
 
-pub Standing-batch : (w : PlainWorld) (all : List (List ℕ)) (old new : PlainLines) (v : PlainWorld) (a b c : List ℕ) (held mid holds : Option (List ℕ)) (cs : List Command) (why : Stop) →
+pub Standing-batch : (w : PlainWorld) (all : List (List ℕ)) (old new : TraceLines) (v : PlainWorld) (a b c : List ℕ) (held mid holds : Option (List ℕ)) (cs : List Command) (why : Stop) →
     Standing w all old v a b held mid → (g : Gathers old new cs why) → Tells b c (stream mid holds) (replies_text cs v) →
     Standing w all (behind old new cs why g) (world_after cs v) a c held holds
 Standing-batch w all old new v a b c held mid holds cs why s g t =
     Standing-on w all old (behind old new cs why g) v (world_after cs v) a b c held mid holds (replies_text cs v) s t (batch_leads old new v cs why g)
 
 -- the line that asks for the rows is answered by them
-rows_lead : (here new : PlainLines) (v : PlainWorld) → StopsAt stop.Rows here new → (rest : List ℕ) (end : TraceEnd) →
+rows_lead : (here new : TraceLines) (v : PlainWorld) → StopsAt stop.Rows here new → (rest : List ℕ) (end : TraceEnd) →
     Answers new.number v new.left rest end → Answers here.number v here.left (rows_text (scan v) ++ rest) end
 rows_lead here new v at rest end h =
     let next : Answers (here.number + 1) v new.left rest end = subst (λ (k : ℕ). Answers k v new.left rest end) at.3 h in
     let first : Answers here.number v (at.0 ∷ new.left) (rows_text (scan v) ++ rest) end = inl (order.Rows, rest, at.1, refl, next) in
     subst (λ (ls : List (List ℕ)). Answers here.number v ls (rows_text (scan v) ++ rest) end) (sym at.2) first
 
-pub Standing-rows : (w : PlainWorld) (all : List (List ℕ)) (here new : PlainLines) (v : PlainWorld) (a b c : List ℕ) (held mid holds : Option (List ℕ)) →
+pub Standing-rows : (w : PlainWorld) (all : List (List ℕ)) (here new : TraceLines) (v : PlainWorld) (a b c : List ℕ) (held mid holds : Option (List ℕ)) →
     Standing w all here v a b held mid → StopsAt stop.Rows here new → Tells b c (stream mid holds) (rows_text (scan v)) →
     Standing w all new v a c held holds
 Standing-rows w all here new v a b c held mid holds s at t =
     Standing-on w all here new v v a b c held mid holds (rows_text (scan v)) s t (rows_lead here new v at)
 
 -- a bad line is answered by its number
-bad_answered : (here new : PlainLines) (v : PlainWorld) (n : ℕ) → StopsAt (stop.Bad n) here new → Answers here.number v here.left (bad_line n) (Bad n)
+bad_answered : (here new : TraceLines) (v : PlainWorld) (n : ℕ) → StopsAt (stop.Bad n) here new → Answers here.number v here.left (bad_line n) (Bad n)
 bad_answered here new v n at =
     let first : Answers n v (at.0 ∷ at.1) (bad_line n) (Bad n) = inr (at.2, refl, refl) in
     let there : Answers n v here.left (bad_line n) (Bad n) = subst (λ (ls : List (List ℕ)). Answers n v ls (bad_line n) (Bad n)) (sym at.3) first in
     subst (λ (k : ℕ). Answers k v here.left (bad_line n) (Bad n)) at.4 there
 
-pub answered_bad : (w : PlainWorld) (all : List (List ℕ)) (here new : PlainLines) (v : PlainWorld) (a b c : List ℕ) (held mid holds : Option (List ℕ)) (n : ℕ) →
+pub answered_bad : (w : PlainWorld) (all : List (List ℕ)) (here new : TraceLines) (v : PlainWorld) (a b c : List ℕ) (held mid holds : Option (List ℕ)) (n : ℕ) →
     Standing w all here v a b held mid → StopsAt (stop.Bad n) here new → Tells b c (stream mid holds) (bad_line n) → AreAnswered w all a c (stream held holds) (Bad n)
 answered_bad w all here new v a b c held mid holds n s at t = record {
   text = s.told ++ bad_line n;
@@ -97,7 +97,7 @@ answered_bad w all here new v a b c held mid holds n s at t = record {
   told = Tells-both a b c held mid holds s.told (bad_line n) s.tells t;
 }
 
-pub answered_end : (w : PlainWorld) (all : List (List ℕ)) (here new : PlainLines) (v : PlainWorld) (a b : List ℕ) (held holds : Option (List ℕ)) →
+pub answered_end : (w : PlainWorld) (all : List (List ℕ)) (here new : TraceLines) (v : PlainWorld) (a b : List ℕ) (held holds : Option (List ℕ)) →
     Standing w all here v a b held holds → StopsAt stop.End here new → AreAnswered w all a b (stream held holds) Done
 answered_end w all here new v a b held holds s at =
     let none : Answers here.number v here.left [] Done = subst (λ (ls : List (List ℕ)). Answers here.number v ls [] Done) (sym at) (refl, refl) in
@@ -107,8 +107,8 @@ answered_end w all here new v a b held holds s at =
       told = s.tells;
     }
 
--- a beginning of what answers the lines here was told
-begun_by : (w : PlainWorld) (all : List (List ℕ)) (here : PlainLines) (v : PlainWorld) (a b c : List ℕ) (held mid holds : Option (List ℕ)) (rest : List ℕ) (end : TraceEnd) →
+-- a prefix of what answers the lines here was told
+begun_by : (w : PlainWorld) (all : List (List ℕ)) (here : TraceLines) (v : PlainWorld) (a b c : List ℕ) (held mid holds : Option (List ℕ)) (rest : List ℕ) (end : TraceEnd) →
     Standing w all here v a b held mid → Answers here.number v here.left rest end → TellsStart b c (stream mid holds) rest → AreBegun w all a c (stream held holds)
 begun_by w all here v a b c held mid holds rest end s answered t = record {
   text = s.told ++ rest;
@@ -117,27 +117,27 @@ begun_by w all here v a b c held mid holds rest end s answered t = record {
   told = TellsStart-behind a b c held mid holds s.told rest s.tells t;
 }
 
-pub begun_batch : SpelledOrFaulty → (w : PlainWorld) (all : List (List ℕ)) (old new : PlainLines) (v : PlainWorld) (a b c : List ℕ) (held mid holds : Option (List ℕ)) (cs : List Command) (why : Stop) →
+pub begun_batch : SpelledOrFaulty → (w : PlainWorld) (all : List (List ℕ)) (old new : TraceLines) (v : PlainWorld) (a b c : List ℕ) (held mid holds : Option (List ℕ)) (cs : List Command) (why : Stop) →
     Standing w all old v a b held mid → Gathers old new cs why → TellsStart b c (stream mid holds) (replies_text cs v) → AreBegun w all a c (stream held holds)
 begun_batch law w all old new v a b c held mid holds cs why s g t =
     let more = has_answer law (old.number + length g.done) (world_after cs v) g.others in
     begun_by w all old v a b c held mid holds (replies_text cs v ++ more.text) more.end s (batch_leads old new v cs why g more.text more.end more.answered)
     (TellsStart-more b c mid holds (replies_text cs v) more.text t)
 
-pub begun_rows : SpelledOrFaulty → (w : PlainWorld) (all : List (List ℕ)) (here new : PlainLines) (v : PlainWorld) (a b c : List ℕ) (held mid holds : Option (List ℕ)) →
+pub begun_rows : SpelledOrFaulty → (w : PlainWorld) (all : List (List ℕ)) (here new : TraceLines) (v : PlainWorld) (a b c : List ℕ) (held mid holds : Option (List ℕ)) →
     Standing w all here v a b held mid → StopsAt stop.Rows here new → TellsStart b c (stream mid holds) (rows_text (scan v)) → AreBegun w all a c (stream held holds)
 begun_rows law w all here new v a b c held mid holds s at t =
     let more = has_answer law new.number v new.left in
     begun_by w all here v a b c held mid holds (rows_text (scan v) ++ more.text) more.end s (rows_lead here new v at more.text more.end more.answered)
     (TellsStart-more b c mid holds (rows_text (scan v)) more.text t)
 
-pub begun_bad : (w : PlainWorld) (all : List (List ℕ)) (here new : PlainLines) (v : PlainWorld) (a b c : List ℕ) (held mid holds : Option (List ℕ)) (n : ℕ) →
+pub begun_bad : (w : PlainWorld) (all : List (List ℕ)) (here new : TraceLines) (v : PlainWorld) (a b c : List ℕ) (held mid holds : Option (List ℕ)) (n : ℕ) →
     Standing w all here v a b held mid → StopsAt (stop.Bad n) here new → TellsStart b c (stream mid holds) (bad_line n) → AreBegun w all a c (stream held holds)
 begun_bad w all here new v a b c held mid holds n s at t =
     begun_by w all here v a b c held mid holds (bad_line n) (Bad n) s (bad_answered here new v n at) t
 
 -- nothing more was told
-pub begun_here : SpelledOrFaulty → (w : PlainWorld) (all : List (List ℕ)) (here : PlainLines) (v : PlainWorld) (a b : List ℕ) (held holds : Option (List ℕ)) →
+pub begun_here : SpelledOrFaulty → (w : PlainWorld) (all : List (List ℕ)) (here : TraceLines) (v : PlainWorld) (a b : List ℕ) (held holds : Option (List ℕ)) →
     Standing w all here v a b held holds → AreBegun w all a b (stream held holds)
 begun_here law w all here v a b held holds s =
     let more = has_answer law here.number v here.left in
@@ -152,7 +152,7 @@ written_whole all waits held mid holds end a sent = record {
   written = subst (λ (ts : List ℕ). Appends held holds ts) (sym a.told.whole) (Appends-trans held mid holds a.told.part waits a.told.written sent);
 }
 
--- a beginning of what waited was written too
+-- a prefix of what waited was written too
 pub written_begun : (all : List (List ℕ)) (waits : List ℕ) (held mid holds : Option (List ℕ)) →
     AreBegun empty_world all [] waits (stream held mid) → TakesStart (stream mid holds) waits → AreWrittenTo all (stream held holds)
 written_begun all waits held mid holds a sent = record {
@@ -168,14 +168,14 @@ written_begun all waits held mid holds a sent = record {
   );
 }
 
--- all was told, and a beginning of what waited was written
+-- all was told, and a prefix of what waited was written
 pub written_partly : (all : List (List ℕ)) (waits : List ℕ) (held mid holds : Option (List ℕ)) (end : TraceEnd) →
     AreAnswered empty_world all [] waits (stream held mid) end → TakesStart (stream mid holds) waits → AreWrittenTo all (stream held holds)
 written_partly all waits held mid holds end a sent =
     written_begun all waits held mid holds
     (record { text = a.text; end = end; answered = a.answered; told = TellsStart-all [] waits held mid a.text a.told }) sent
 
--- the answer was told, and then what waited was written, all or a beginning of it
+-- the answer was told, and then what waited was written, all or a prefix of it
 pub finish_ok : (all : List (List ℕ)) (waits : List ℕ) (held mid holds : Option (List ℕ)) (end result : Result TraceEnd TraceFault) →
     IfOk end (AreAnswered empty_world all [] waits (stream held mid)) → OnOk result (Takes (stream mid holds) waits) → IfOk result (λ e. end ≡ Ok e) →
     IfOk result (AreWritten all (stream held holds))
@@ -201,14 +201,14 @@ part_written output text k written = (take k text, drop k text, sym (take-append
 
 -- the answer to the lines is the answer to the trace
 pub answered_trace : (input output : Stream) (trace : List ℕ) (end : TraceEnd) → Came input trace → length trace ≤ max_input →
-    AreWritten (lines trace) output end → IsAnswered input output end
+    AreWritten (trace_lines trace) output end → IsAnswered input output end
 answered_trace input output trace end came short a = record { trace = trace; text = a.text; came = came; answered = inl (short, a.answered); written = a.written }
 
-pub begun_trace : (input output : Stream) (trace : List ℕ) → Came input trace → length trace ≤ max_input → AreWrittenTo (lines trace) output → IsBegun input output
+pub begun_trace : (input output : Stream) (trace : List ℕ) → Came input trace → length trace ≤ max_input → AreWrittenTo (trace_lines trace) output → IsBegun input output
 begun_trace input output trace came short a =
     record { trace = trace; text = a.text; end = a.end; came = came; answered = inl (short, a.answered); written = a.written }
 
--- a beginning of what a trace that is too long is answered was written
+-- a prefix of what a trace that is too long is answered was written
 pub begun_long : (input output : Stream) (trace : List ℕ) (k : ℕ) → Came input trace → max_input < length trace →
     Takes output (take k (line (codes "too long"))) → IsBegun input output
 begun_long input output trace k came long written = record {
@@ -235,7 +235,7 @@ pub broken_write : (r : Result TraceEnd TraceFault) (input output : Stream) → 
 broken_write (Ok a) input output is begun = tt
 broken_write (Err fault) input output is begun = subst (λ (f : TraceFault). IsBroken input output f) (sym is) begun
 
--- what more commands are answered comes behind what the first are
+-- what more commands are answered comes after what the first are
 pub record GoesOn (all first : List ℕ) : Type 0 where
   pub more : List ℕ
   pub whole : all ≡ first ++ more
@@ -249,7 +249,7 @@ replies_go_on (c ∷ done) left w =
       whole = ap (λ ts. reply_text (step w c).1 ++ ts) on.whole ∙ sym (append_assoc (reply_text (step w c).1) (replies_text done (step w c).0) on.more);
     }
 
--- of a run that stopped a beginning was told
+-- a prefix of the replies of a run that stopped was told
 pub begun_stopped : (commands left : List Command) (replies : List Reply) (old new : PlainWorld) (a b : List ℕ) (held holds : Option (List ℕ)) →
     HasStopped commands replies left old new → TellsStart a b (stream held holds) (flat_map reply_text replies) →
     TellsStart a b (stream held holds) (replies_text commands old)

@@ -40,12 +40,12 @@ tail_of first rest (Some w) keyword behind e =
     let same : (w, rest) ≡ (keyword, behind) = cc in
     ap (λ (p : Keyword × List PlainSexpr). p.1) same
 
--- the groups of the forms behind the head
+-- the groups of the forms after the head
 pub groups_behind : (forms : List PlainSexpr) (keyword : Keyword) (behind : List PlainSexpr) → head_of forms ≡ Some (keyword, behind) → drop 1 (map group_from forms) ≡ map group_from behind
 groups_behind [] keyword behind e = cc
 groups_behind (first ∷ rest) keyword behind e = ap (λ fs. map group_from fs) (tail_of first rest (keyword_from first) keyword behind e)
 
--- the forms behind the head are no deeper than all
+-- the forms after the head are no deeper than all
 pub nesting_behind : (forms : List PlainSexpr) (keyword : Keyword) (behind : List PlainSexpr) → head_of forms ≡ Some (keyword, behind) → nesting_of (plain_forms behind) ≤ nesting_of (plain_forms forms)
 nesting_behind [] keyword behind e = cc
 nesting_behind (first ∷ rest) keyword behind e =

@@ -7,26 +7,26 @@ use Rattle.cml_text.specs.Laws.{SpelledOrFaulty, SpelledHasNoFault, SpellsOneAtM
 use Rattle.cml_trace.specs.declared.order.Order.{Order}
 use Rattle.cml_trace.specs.declared.fault.TraceEnd.{TraceEnd}
 use Rattle.cml_trace.specs.declared.fault.TraceEnd.TheVariants.{TooLong}
-use Rattle.cml_trace.specs.Orders.{Asks, IsBad, order_of}
+use Rattle.cml_trace.specs.Orders.{AsksFor, IsBad, order_of}
 use Rattle.cml_trace.specs.Replies.{line}
-use Rattle.cml_trace.specs.Answers.{answer_to, after_order, lines, Answers, max_input, AnswersTrace}
+use Rattle.cml_trace.specs.Answers.{answer_to, after_order, trace_lines, Answers, max_input, AnswersTrace}
 use Rattle.cml_trace.specs.Laws.{OneAnswer, HasOneAnswer}
 use Rattle.cml_trace.proofs.AnswerLemmas.{has_answer}
 
-asks_one : SpellsOneAtMost → (first : List ℕ) (a b : Order) → Asks first a → Asks first b → a ≡ b
+asks_one : SpellsOneAtMost → (first : List ℕ) (a b : Order) → AsksFor first a → AsksFor first b → a ≡ b
 asks_one once first a b x y =
     let same : order_of x.0 ≡ order_of y.0 = ap order_of (once first x.0 y.0 x.1 y.1) in
     let there : Some a ≡ Some b = sym x.2 ∙ same ∙ y.2 in
     cc
 
-asks_not_bad : SpellsOneAtMost → SpelledHasNoFault → (first : List ℕ) (a : Order) → Asks first a → IsBad first → ⊥
+asks_not_bad : SpellsOneAtMost → SpelledHasNoFault → (first : List ℕ) (a : Order) → AsksFor first a → IsBad first → ⊥
 asks_not_bad once faultless first a x (inl f) =
     let clash : None ≡ Some f.0 = sym (faultless first x.0 x.1) ∙ f.1 in cc
 asks_not_bad once faultless first a x (inr y) =
     let same : order_of x.0 ≡ order_of y.0 = ap order_of (once first x.0 y.0 x.1 y.1) in
     let clash : Some a ≡ None = sym x.2 ∙ same ∙ y.2 in cc
 
--- two answers are one
+-- two answers are the same
 pub record Same (text other : List ℕ) (end way : TraceEnd) : Type 0 where
   pub texts : other ≡ text
   pub ends : way ≡ end
@@ -48,7 +48,7 @@ answers_one once faultless n w (first ∷ behind) text other end way (inr x) (in
 
 trace_one : SpellsOneAtMost → SpelledHasNoFault → (trace text other : List ℕ) (end way : TraceEnd) →
     AnswersTrace trace text end → AnswersTrace trace other way → Same text other end way
-trace_one once faultless trace text other end way (inl x) (inl y) = answers_one once faultless 1 _ (lines trace) text other end way x.1 y.1
+trace_one once faultless trace text other end way (inl x) (inl y) = answers_one once faultless 1 _ (trace_lines trace) text other end way x.1 y.1
 trace_one once faultless trace text other end way (inl x) (inr y) = absurd (omega (arith, x.0, y.0))
 trace_one once faultless trace text other end way (inr x) (inl y) = absurd (omega (arith, x.0, y.0))
 trace_one once faultless trace text other end way (inr x) (inr y) = record { texts = y.1 ∙ sym x.1; ends = y.2 ∙ sym x.2 }
@@ -77,7 +77,7 @@ short_or_long n = short_or_long_by n (nat_lt max_input n) refl
 
 one_by : SpelledOrFaulty → SpellsOneAtMost → SpelledHasNoFault → (trace : List ℕ) → (length trace ≤ max_input) ⊎ (max_input < length trace) → OneAnswer trace
 one_by law once faultless trace (inl short) =
-    let h = has_answer law 1 empty_world (lines trace) in
+    let h = has_answer law 1 empty_world (trace_lines trace) in
     one_of once faultless trace h.text h.end (inl (short, h.answered))
 one_by law once faultless trace (inr long) = one_of once faultless trace (line (codes "too long")) TooLong (inr (long, refl, refl))
 

@@ -22,7 +22,7 @@ pub TellsStart-all : (waited waits : List ℕ) (held holds : Option (List ℕ)) 
 TellsStart-all waited waits held holds text t =
     record { part = t.part; untold = []; written = t.written; whole = t.whole ∙ ap (λ ws. t.part ++ ws) (sym (append-nil waits)) }
 
--- a beginning of it is a beginning of what goes on behind it
+-- a prefix of it is a prefix of what goes on after it
 pub TellsStart-more : (waited waits : List ℕ) (held holds : Option (List ℕ)) (text more : List ℕ) → TellsStart waited waits (stream held holds) text →
     TellsStart waited waits (stream held holds) (text ++ more)
 TellsStart-more waited waits held holds text more t =
@@ -45,7 +45,7 @@ Tells-both a b c held mid holds first second s t =
           ∙ sym (append_assoc s.part t.part c);
     }
 
--- a piece, and then a beginning of one more
+-- a piece, and then a prefix of one more
 pub TellsStart-behind : (a b c : List ℕ) (held mid holds : Option (List ℕ)) (first second : List ℕ) →
     Tells a b (stream held mid) first → TellsStart b c (stream mid holds) second → TellsStart a c (stream held holds) (first ++ second)
 TellsStart-behind a b c held mid holds first second s t =
@@ -86,7 +86,7 @@ Told-line all rest more line a b c held mid holds s next t = record {
   tells = Tells-both a b c held mid holds s.told line s.tells t;
 }
 
--- a beginning of one more
+-- a prefix of one more
 pub Told-begun : (all rest more line a b c : List ℕ) (held mid holds : Option (List ℕ)) → Told all rest a b held mid → rest ≡ line ++ more →
     TellsStart b c (stream mid holds) line → TellsStart a c (stream held holds) all
 Told-begun all rest more line a b c held mid holds s next t =

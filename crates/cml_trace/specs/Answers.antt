@@ -1,4 +1,4 @@
--- What a trace is answered.
+-- The answer to a trace.
 use Rattle.std.specs.Prelude.{◌≡◌, ◌⊎◌, ℕ, ◌+◌, ◌<◌, ◌≤◌, ◌==◌, List, [], ◌∷◌, ◌++◌, length, codes}
 use Rattle.std.specs.List.{slice_split}
 use Rattle.cml_scan.specs.World.{PlainWorld}
@@ -8,35 +8,35 @@ use Rattle.cml_trace.specs.declared.order.Order.{Order}
 use Rattle.cml_trace.specs.declared.order.Order.TheVariants as order
 use Rattle.cml_trace.specs.declared.fault.TraceEnd.{TraceEnd}
 use Rattle.cml_trace.specs.declared.fault.TraceEnd.TheVariants.{Done, Bad, TooLong}
-use Rattle.cml_trace.specs.Orders.{Asks, IsBad}
+use Rattle.cml_trace.specs.Orders.{AsksFor, IsBad}
 use Rattle.cml_trace.specs.Replies.{line, spaced, rows_text, reply_text}
 
--- The lines of a trace: a line feed (10) ends one. What stands behind the last line feed is a line too, and skipped where it is empty.
-abbrev pub lines : List ℕ → List (List ℕ)
-lines input = slice_split (λ b. b == 10) input
+-- The lines of a trace: a line feed (10) ends one. What stands after the last line feed is a line too, and skipped where it is empty.
+abbrev pub trace_lines : List ℕ → List (List ℕ)
+trace_lines input = slice_split (λ b. b == 10) input
 
--- What an order is answered in this world: nothing where there is nothing to do, all rows that are enabled, or the reply of its command.
+-- The answer to an order in this world: nothing where there is nothing to do, all rows that are enabled, or the reply to its command.
 abbrev pub answer_to : Order → PlainWorld → List ℕ
 answer_to order.Skip w = []
 answer_to order.Rows w = rows_text (scan w)
 answer_to (order.Do c) w = reply_text (step w c).1
 
--- the world after it
+-- the world after an order
 abbrev pub after_order : Order → PlainWorld → PlainWorld
 after_order order.Skip w = w
 after_order order.Rows w = w
 after_order (order.Do c) w = (step w c).0
 
--- what the bad line of this number is answered
+-- the answer to the bad line of this number
 abbrev pub bad_line : ℕ → List ℕ
 bad_line n = line (codes "bad" ++ spaced n)
 
 -- The text that answers these lines, of which the first has this number, from this world on, and how it ends. A line is answered by what
--- it asks for, and the lines behind it follow in the world after it. A bad line is answered by its number, and ends the trace.
+-- it asks for, and the lines after it follow in the world after it. A bad line is answered by its number, and ends the trace.
 abbrev pub Answers : ℕ → PlainWorld → List (List ℕ) → List ℕ → TraceEnd → Type 0
 Answers n w [] text end = (text ≡ []) × (end ≡ Done)
 Answers n w (first ∷ behind) text end =
-    ((what : Order) × (rest : List ℕ) × Asks first what × (text ≡ answer_to what w ++ rest)
+    ((what : Order) × (rest : List ℕ) × AsksFor first what × (text ≡ answer_to what w ++ rest)
     × Answers (n + 1) (after_order what w) behind rest end)
     ⊎ (IsBad first × (text ≡ bad_line n) × (end ≡ Bad n))
 
@@ -47,5 +47,5 @@ max_input = 1048576
 -- The text that answers a whole trace, and how it ends. Nothing of a trace that is too long is done.
 abbrev pub AnswersTrace : List ℕ → List ℕ → TraceEnd → Type 0
 AnswersTrace input text end =
-    ((length input ≤ max_input) × Answers 1 empty_world (lines input) text end)
+    ((length input ≤ max_input) × Answers 1 empty_world (trace_lines input) text end)
     ⊎ ((max_input < length input) × (text ≡ line (codes "too long")) × (end ≡ TooLong))

@@ -14,9 +14,9 @@ read_fault read.Read = Read
 read_fault read.Turns = Turns
 read_fault read.Memory = Memory
 
--- When a trace ends so, by the calls of its reader and of its writer. A fault of reading comes only where a read failed, the one that the
--- input does not end only where the reader was called as often as it may be, and in both nothing was written. A fault of writing comes
--- only where a write failed. No stream fails twice; elsewhere nothing failed.
+-- When a trace ends in this way, by the calls of its reader and of its writer. The fault of reading comes only where a read failed, and
+-- the fault that the input does not end only where the reader was called as often as it may be; at both, nothing was written. The fault
+-- of writing comes only where a write failed. No stream fails twice; without such a fault nothing failed.
 abbrev pub HasCause : Result TraceEnd TraceFault → Calls → Calls → Type 0
 HasCause (Err Read) reader writer = (reader.failed ≡ 1) × (writer.calls ≡ 0)
 HasCause (Err Turns) reader writer = (reader.calls ≡ most_reads max_input) × (reader.failed ≡ 0) × (writer.calls ≡ 0)

@@ -53,7 +53,7 @@ abbrev pub always_by : List PlainSexpr → Option PlainBase
 always_by (v ∷ []) = option_map always (value_from v)
 always_by _ = None
 
--- the base event that these forms behind its keyword are
+-- the base event that these forms after its keyword are
 abbrev pub base_by : Keyword → List PlainSexpr → Option PlainBase
 base_by keyword.Always forms = always_by forms
 base_by keyword.Send forms = giving_by keyword.Send forms
@@ -81,7 +81,7 @@ abbrev pub scope_by : List PlainSexpr → List (Option PlainGroup) → Option Pl
 scope_by (k ∷ g ∷ []) (number ∷ inner ∷ rest) = both scope (number_from k) inner
 scope_by _ found = None
 
--- the group that these forms behind its keyword are; `found` has of each of them the group that it is, if it is one
+-- the group that these forms after its keyword are; `found` has of each of them the group that it is, if it is one
 abbrev pub group_by : Keyword → List PlainSexpr → List (Option PlainGroup) → Option PlainGroup
 group_by keyword.Choose forms found = option_map (λ gs. choose (groups gs)) (all_of found)
 group_by keyword.Wrap forms found = wrap_by forms found
@@ -93,7 +93,7 @@ abbrev pub never_of : Option Keyword → Option PlainGroup
 never_of (Some keyword.Never) = Some never
 never_of _ = None
 
--- the group of a list, by the keyword at its head and the forms behind it; `found` has of each form, the head too, the group that it is,
+-- the group of a list, by the keyword at its head and the forms after it; `found` has of each form, the head too, the group that it is,
 -- if it is one
 abbrev pub list_by : Option (Keyword × List PlainSexpr) → List (Option PlainGroup) → Option PlainGroup
 list_by None found = None

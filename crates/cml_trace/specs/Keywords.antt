@@ -58,7 +58,7 @@ all_keywords =
     IGet ∷ MTake ∷ MGet ∷ MSwap ∷ MailRecv ∷ PortRecv ∷ Join ∷ At ∷ After ∷
     True ∷ False ∷ Pair ∷ Thread ∷ []
 
--- the keyword that is spelled so, if one is
+-- the keyword of this spelling, if there is one
 abbrev pub keyword_of : List ℕ → Option Keyword
 keyword_of name = find (λ keyword. bytes_eq (spelling keyword) name) all_keywords
 
@@ -67,7 +67,7 @@ abbrev pub keyword_from : PlainSexpr → Option Keyword
 keyword_from (plain_name span name) = keyword_of name
 keyword_from _ = None
 
--- the keyword at the head of a list of forms, and the forms behind it
+-- the keyword at the head of a list of forms, and the forms after it
 abbrev pub head_of : List PlainSexpr → Option (Keyword × List PlainSexpr)
 head_of [] = None
 head_of (first ∷ behind) = option_map (λ keyword. (keyword, behind)) (keyword_from first)

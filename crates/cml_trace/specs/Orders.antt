@@ -20,18 +20,18 @@ use Rattle.cml_trace.specs.ValueForms.{value_from, number_and_value}
 use Rattle.cml_trace.specs.GroupForms.{group_from}
 
 -- a row of one leaf: its thread and its number
-abbrev pub single : ℕ → ℕ → Meet
-single t n = Single (record { 0 = t }) n
+abbrev pub single_row : ℕ → ℕ → Meet
+single_row t n = Single (record { 0 = t }) n
 
 -- a row of two leaves, each with its thread: the head's, then the other's
-abbrev pub pair : (ℕ × ℕ) → (ℕ × ℕ) → Meet
-pair head other = Pair (record { 0 = head.0 }) head.1 (record { 0 = other.0 }) other.1
+abbrev pub pair_row : (ℕ × ℕ) → (ℕ × ℕ) → Meet
+pair_row head other = Pair (record { 0 = head.0 }) head.1 (record { 0 = other.0 }) other.1
 
 -- a thread and a leaf
-abbrev pub place : PlainSexpr → PlainSexpr → Option (ℕ × ℕ)
-place t n = both (λ thread leaf. (thread, leaf)) (number_from t) (number_from n)
+abbrev pub thread_and_leaf : PlainSexpr → PlainSexpr → Option (ℕ × ℕ)
+thread_and_leaf t n = both (λ thread leaf. (thread, leaf)) (number_from t) (number_from n)
 
--- the commands of one word, by their keywords
+-- the commands that are a keyword alone
 abbrev pub making : Keyword → Option Command
 making keyword.Spawn = Some command.Spawn
 making keyword.Chan = Some command.MakeChan
@@ -79,15 +79,15 @@ sync_by (t ∷ g ∷ []) = both (λ thread group. command.Sync (record { 0 = thr
 sync_by _ = None
 
 abbrev pub commit_by : List PlainSexpr → Option Command
-commit_by (t ∷ n ∷ []) = both (λ thread leaf. command.Commit (single thread leaf)) (number_from t) (number_from n)
-commit_by (t ∷ n ∷ u ∷ m ∷ []) = both (λ head other. command.Commit (pair head other)) (place t n) (place u m)
+commit_by (t ∷ n ∷ []) = both (λ thread leaf. command.Commit (single_row thread leaf)) (number_from t) (number_from n)
+commit_by (t ∷ n ∷ u ∷ m ∷ []) = both (λ head other. command.Commit (pair_row head other)) (thread_and_leaf t n) (thread_and_leaf u m)
 commit_by _ = None
 
 abbrev pub clock_by : List PlainSexpr → Option Command
 clock_by (k ∷ []) = option_map command.Clock (tick_from k)
 clock_by _ = None
 
--- the command that these forms behind its keyword are
+-- the command that these forms after its keyword are
 abbrev pub command_by : Keyword → List PlainSexpr → Option Command
 command_by keyword.MVar forms = mvar_by forms
 command_by keyword.Sync forms = sync_by forms
@@ -103,12 +103,12 @@ command_by keyword.Mail forms = giving_by keyword.Mail forms
 command_by keyword.Multicast forms = giving_by keyword.Multicast forms
 command_by keyword forms = making_by keyword forms
 
--- the rows are asked for by their keyword alone, with no form behind it
+-- the rows are asked for by their keyword alone, with no form after it
 abbrev pub rows_by : List PlainSexpr → Option Order
 rows_by [] = Some order.Rows
 rows_by (form ∷ forms) = None
 
--- what these forms behind their keyword ask for, if they ask for anything: the rows, or a command
+-- what these forms after their keyword ask for, if they ask for anything: the rows, or a command
 abbrev pub order_by : Keyword → List PlainSexpr → Option Order
 order_by keyword.Rows forms = rows_by forms
 order_by keyword forms = option_map order.Do (command_by keyword forms)
@@ -119,8 +119,8 @@ order_of [] = Some order.Skip
 order_of (form ∷ forms) = option_and_then (λ head. order_by head.0 head.1) (head_of (form ∷ forms))
 
 -- the line spells forms that ask for this
-abbrev pub Asks : List ℕ → Order → Type 0
-Asks line what = (forms : List PlainSexpr) × Spells line forms × (order_of forms ≡ Some what)
+abbrev pub AsksFor : List ℕ → Order → Type 0
+AsksFor line what = (forms : List PlainSexpr) × Spells line forms × (order_of forms ≡ Some what)
 
 -- the line is at fault as a text, or its forms ask for nothing that there is
 abbrev pub IsBad : List ℕ → Type 0

@@ -2,13 +2,13 @@
 use Rattle.std.specs.Prelude.{◌≡◌, ℕ, List, ◌++◌}
 use Rattle.cml_stream.specs.Streams.{Stream, Takes}
 
--- Behind what waited this text was told: a first part of it all was written, and the rest waits.
+-- This text was told after what waited: a first part of the two together was written, and the rest waits.
 pub record Tells (waited waits : List ℕ) (output : Stream) (text : List ℕ) : Type 0 where
   pub part : List ℕ
   pub written : Takes output part
   pub whole : waited ++ text ≡ part ++ waits
 
--- Behind what waited a beginning of this text was told, at most: of it all a first part was written, and what waits comes next.
+-- At most a prefix of this text was told after what waited: a first part of the two together was written, and what waits comes next.
 pub record TellsStart (waited waits : List ℕ) (output : Stream) (text : List ℕ) : Type 0 where
   pub part : List ℕ
   pub untold : List ℕ

@@ -23,12 +23,12 @@ row_line row = line (codes "row" ++ numbers_of row)
 abbrev pub rows_text : List Meet → List ℕ
 rows_text rows = line (codes "rows" ++ spaced (length rows)) ++ flat_map row_line rows
 
--- the values, each behind a space
+-- the values, each after a space
 abbrev pub shown_values : PlainValues → List ℕ
 shown_values no_values = []
 shown_values (values_and v vs) = codes " " ++ shown v ++ shown_values vs
 
--- a function with its captured values, behind a space
+-- a function with its captured values, after a space
 abbrev pub shown_function : PlainFunction → List ℕ
 shown_function (function f vs) = codes " (" ++ decimal f ++ shown_values vs ++ codes ")"
 

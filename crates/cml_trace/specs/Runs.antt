@@ -4,18 +4,18 @@ use Rattle.cml_scan.specs.World.{PlainWorld}
 use Rattle.cml_trace.specs.declared.fault.TraceEnd.{TraceEnd}
 use Rattle.cml_trace.specs.declared.fault.TraceFault.{TraceFault}
 use Rattle.cml_trace.specs.declared.fault.TraceFault.TheVariants.{Read, Turns, Write, Memory}
-use Rattle.cml_stream.specs.Streams.{Stream, Gives, IsSpent, Takes, TakesStart, IsUntouched}
+use Rattle.cml_stream.specs.Streams.{Stream, Supplies, IsSpent, Takes, TakesStart, IsUntouched}
 use Rattle.cml_book.specs.Step.{empty_world}
 use Rattle.cml_trace.specs.Pages.{Tells, TellsStart}
 use Rattle.cml_trace.specs.Answers.{Answers, max_input, AnswersTrace}
 
--- the lines were answered in this world, and the text that answers them was told behind what waited
+-- the lines were answered in this world, and the text that answers them was told after what waited
 pub record AreAnswered (w : PlainWorld) (all : List (List ℕ)) (waited waits : List ℕ) (output : Stream) (end : TraceEnd) : Type 0 where
   pub text : List ℕ
   pub answered : Answers 1 w all text end
   pub told : Tells waited waits output text
 
--- a beginning of the text that answers the lines was told
+-- a prefix of the text that answers the lines was told
 pub record AreBegun (w : PlainWorld) (all : List (List ℕ)) (waited waits : List ℕ) (output : Stream) : Type 0 where
   pub text : List ℕ
   pub end : TraceEnd
@@ -28,7 +28,7 @@ pub record AreWritten (all : List (List ℕ)) (output : Stream) (end : TraceEnd)
   pub answered : Answers 1 empty_world all text end
   pub written : Takes output text
 
--- a beginning of the text that answers the lines was written
+-- a prefix of the text that answers the lines was written
 pub record AreWrittenTo (all : List (List ℕ)) (output : Stream) : Type 0 where
   pub text : List ℕ
   pub end : TraceEnd
@@ -37,7 +37,7 @@ pub record AreWrittenTo (all : List (List ℕ)) (output : Stream) : Type 0 where
 
 -- the bytes came from the input, and they are all that it had, or more than a trace can have
 pub record Came (input : Stream) (trace : List ℕ) : Type 0 where
-  pub given : Gives input trace
+  pub given : Supplies input trace
   pub whole : IsSpent input ⊎ (max_input < length trace)
 
 -- The trace that came from the input was answered: the output took the text that answers it.
@@ -48,7 +48,7 @@ pub record IsAnswered (input output : Stream) (end : TraceEnd) : Type 0 where
   pub answered : AnswersTrace trace text end
   pub written : Takes output text
 
--- The trace came from the input, and the output took a beginning of the text that answers it.
+-- The trace came from the input, and the output took a prefix of the text that answers it.
 pub record IsBegun (input output : Stream) : Type 0 where
   pub trace : List ℕ
   pub text : List ℕ
@@ -57,7 +57,7 @@ pub record IsBegun (input output : Stream) : Type 0 where
   pub answered : AnswersTrace trace text end
   pub written : TakesStart output text
 
--- What was written where the trace was not answered to its end: nothing where it was not read whole, and else a beginning of the text
+-- What was written where the trace was not answered to its end: nothing where it was not read whole, and else a prefix of the text
 -- that answers it.
 abbrev pub IsBroken : Stream → Stream → TraceFault → Type 0
 IsBroken input output Read = IsUntouched output

@@ -32,10 +32,10 @@ abbrev pub object_from : Option Keyword → Option ℕ → Option PlainValue
 object_from (Some kind) (Some n) = object_by kind n
 object_from _ _ = None
 
--- the pair of two values behind the keyword for pairs
-abbrev pub pair_from : Option Keyword → Option PlainValue → Option PlainValue → Option PlainValue
-pair_from (Some keyword.Pair) a b = both pair a b
-pair_from _ a b = None
+-- the pair of two values after the keyword for pairs
+abbrev pub pair_value : Option Keyword → Option PlainValue → Option PlainValue → Option PlainValue
+pair_value (Some keyword.Pair) a b = both pair a b
+pair_value _ a b = None
 
 -- the value that the form is, if it is one
 abbrev pub value_from : PlainSexpr → Option PlainValue
@@ -46,7 +46,7 @@ value_from (plain_list span no_forms) = Some unit
 value_from (plain_list span (forms_and kind (forms_and number no_forms))) =
     object_from (keyword_from kind) (number_from number)
 value_from (plain_list span (forms_and kind (forms_and a (forms_and b no_forms)))) =
-    pair_from (keyword_from kind) (value_from a) (value_from b)
+    pair_value (keyword_from kind) (value_from a) (value_from b)
 value_from (plain_list span _) = None
 
 -- a number and a value

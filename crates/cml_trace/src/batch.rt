@@ -1,4 +1,4 @@
-//! Commands that are done in one go.
+//! Commands that are done by one call.
 
 ghost use Rattle.cml_trace.specs.Batches.{Gathers};
 
@@ -25,11 +25,11 @@ pub enum Stop {
 pub struct Batch {
     /// The commands, in order.
     pub commands: Vec<Command>,
-    /// What comes behind them.
+    /// What comes after them.
     pub stop: Stop,
 }
 
-/// The commands of the next lines. The line that asks for the rows behind them is taken too.
+/// The commands of the next lines. The line that asks for the rows after them is taken too.
 pub fn gather(alloc: Global, lines: &mut Lines<'_>) -> Batch
     ensures { Gathers lines.old lines.new result.commands.items result.stop }
 {

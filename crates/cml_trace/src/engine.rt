@@ -4,7 +4,7 @@ ghost use Rattle.std.specs.Prelude.{◌≡◌, ◌≤◌, [], length, Ok, IfOk, 
 ghost use Rattle.std.specs.List.{flat_map};
 ghost use Rattle.cml_scan.specs.Scan.{scan};
 ghost use Rattle.cml_book.specs.Step.{replies_of, world_after};
-ghost use Rattle.cml_trace.specs.Answers.{lines, max_input};
+ghost use Rattle.cml_trace.specs.Answers.{trace_lines, max_input};
 ghost use Rattle.cml_stream.specs.Counts.{Calls, most_reads};
 ghost use Rattle.cml_trace.specs.Faults.{HasCause, IsWriteFailure};
 ghost use Rattle.cml_trace.specs.Pages.{Tells, TellsStart};
@@ -32,7 +32,7 @@ pub const MAX_INPUT: usize = 1_048_576;
 /// Answers a trace. The whole input is read before the first line is answered.
 ///
 /// # Errors
-/// A failed read, no end in 2,097,152 reads, a failed write, or want of memory. What was written is nothing, or a beginning of the
+/// A failed read, no end in 2,097,152 reads, a failed write, or out of memory. What was written is nothing, or a prefix of the
 /// answer.
 pub fn run_trace<R: Read, W: Write>(
     alloc: Global,
@@ -102,9 +102,9 @@ fn answer<T: Table + Drop, W: Write>(
     requires short { length input.now ≤ max_input }
     requires fresh { writer.old.failed ≡ 0 }
     ensures ok { let output = stream (W.contents writer.old.stream.now) (W.contents writer.new.stream.now) in
-        IfOk result (AreWritten (lines input.now) output) }
+        IfOk result (AreWritten (trace_lines input.now) output) }
     ensures err { let output = stream (W.contents writer.old.stream.now) (W.contents writer.new.stream.now) in
-        OnErr result (AreWrittenTo (lines input.now) output) }
+        OnErr result (AreWrittenTo (trace_lines input.now) output) }
     ensures same_reference { writer.new.stream.ghost_name ≡ writer.old.stream.ghost_name }
     ensures failed { IsWriteFailure result writer.new.failed }
 {
@@ -115,7 +115,7 @@ fn answer<T: Table + Drop, W: Write>(
     finish(end, page, writer)
 }
 
-// Writes what still waits, but for where a write failed before.
+// Writes what still waits, except where a write failed before.
 fn finish<W: Write>(
     end: Result<TraceEnd, TraceFault>,
     mut page: Page,
@@ -150,9 +150,9 @@ fn answer_lines<T: Table, W: Write>(
     requires short { length input.now ≤ max_input }
     requires fresh { writer.old.failed ≡ 0 }
     ensures ok { let output = stream (W.contents writer.old.stream.now) (W.contents writer.new.stream.now) in
-        IfOk result (AreAnswered book.old (lines input.now) page.old page.new output) }
+        IfOk result (AreAnswered book.old (trace_lines input.now) page.old page.new output) }
     ensures err { let output = stream (W.contents writer.old.stream.now) (W.contents writer.new.stream.now) in
-        OnErr result (AreBegun book.old (lines input.now) page.old page.new output) }
+        OnErr result (AreBegun book.old (trace_lines input.now) page.old page.new output) }
     ensures same_reference { writer.new.stream.ghost_name ≡ writer.old.stream.ghost_name }
     ensures failed { IsWriteFailure result writer.new.failed }
 {
@@ -173,7 +173,7 @@ fn answer_lines<T: Table, W: Write>(
     }
 }
 
-// Does the commands in one go, and tells their replies.
+// Does the commands by one call, and tells their replies.
 fn do_commands<T: Table, W: Write>(
     alloc: Global,
     book: &mut Book<T>,

@@ -74,14 +74,14 @@ fn truth_of(keyword: Option<Keyword>) -> Option<Value>
     }
 }
 
-// The pair of two values, if they are there, behind the keyword for pairs.
+// The pair of two values, if they are there, after the keyword for pairs.
 fn pair_from(
     alloc: Global,
     kind: Option<Keyword>,
     first: Option<Value>,
     second: Option<Value>,
 ) -> Result<Option<Value>, AllocError>
-    ensures { IfOk result (λ value. value ≡ spec.pair_from kind first second) }
+    ensures { IfOk result (λ value. value ≡ spec.pair_value kind first second) }
 {
     if kind != Some(Keyword::Pair) {
         return Ok(None);

@@ -53,7 +53,7 @@ pub fn group_from(alloc: Global, form: &Sexpr) -> Result<Option<Group>, AllocErr
     }
 }
 
-// The keyword at the head of a list, and the forms behind it.
+// The keyword at the head of a list, and the forms after it.
 fn list_head(form: &Sexpr) -> Option<(Keyword, &[Sexpr])>
     ensures some { let group = spec.group_from form.now in
         IfSome result (λ head. group ≡ spec.group_by head.0 head.1.now (map spec.group_from head.1.now)) }
@@ -130,7 +130,7 @@ fn function_from(
     Ok(Some(FnRef::new(alloc, number, values)?))
 }
 
-// The base event that these forms behind its keyword are, as a group.
+// The base event that these forms after its keyword are, as a group.
 fn leaf_by(alloc: Global, keyword: Keyword, forms: &[Sexpr]) -> Result<Option<Group>, AllocError>
     ensures { IfOk result (λ group. group ≡ spec.leaf_by keyword forms.now) }
 {

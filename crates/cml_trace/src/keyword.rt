@@ -115,7 +115,7 @@ const STARTING_WITH_M: [Keyword; 10] = [
     Keyword::MailRecv,
 ];
 
-/// The keyword that is spelled so, if one is.
+/// The keyword of this spelling, if there is one.
 pub fn keyword_of(name: &str) -> Option<Keyword>
     ensures { result ≡ spec.keyword_of name.now }
 {
@@ -156,7 +156,7 @@ pub fn keyword_of(name: &str) -> Option<Keyword>
     }
 }
 
-// The first of the keywords that is spelled so, if one is.
+// The first of these keywords that has this spelling, if there is one.
 fn among(name: &str, keywords: &[Keyword]) -> Option<Keyword>
     ensures { result ≡ find (λ keyword. bytes_eq (spec.spelling keyword) name.now) keywords.now }
 {
@@ -176,7 +176,7 @@ pub fn keyword_from(form: &Sexpr) -> Option<Keyword>
     }
 }
 
-/// The keyword at the head of a list of forms, and the forms behind it.
+/// The keyword at the head of a list of forms, and the forms after it.
 pub fn head_of(forms: &[Sexpr]) -> Option<(Keyword, &[Sexpr])>
     ensures { option_map (λ head. (head.0, head.1.now)) result ≡ spec.head_of forms.now }
 {

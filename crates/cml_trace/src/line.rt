@@ -1,9 +1,9 @@
 //! The lines of a trace, and what each asks for.
 
 ghost use Rattle.std.specs.Prelude.{◌≡◌, ◌∷◌, [], ◌+◌, ◌≤◌, length, MatchOption, IfOk, IfSome, IfNone};
-ghost use Rattle.cml_trace.specs.Answers.{lines, max_input};
+ghost use Rattle.cml_trace.specs.Answers.{trace_lines, max_input};
 ghost use Rattle.cml_trace.specs.Lines.{lines_behind, room_of};
-ghost use Rattle.cml_trace.specs.Orders.{Asks, IsBad};
+ghost use Rattle.cml_trace.specs.Orders.{AsksFor, IsBad};
 
 use crate::order::{Order, order_of};
 use cml_text::{TextFault, read};
@@ -20,9 +20,9 @@ pub struct Lines<'a> {
 impl<'a> Model for Lines<'a> {
     ghost use Rattle.std.specs.Prelude.{◌+◌, ◌≤◌};
     ghost use Rattle.cml_trace.specs.Answers.{max_input};
-    ghost use Rattle.cml_trace.specs.Lines.{PlainLines, lines_behind, room_of};
+    ghost use Rattle.cml_trace.specs.Lines.{TraceLines, lines_behind, room_of};
 
-    ghost Value = { PlainLines };
+    ghost Value = { TraceLines };
 
     ghost view = { λ l. record { number = l.number; left = lines_behind l.rest } };
 
@@ -33,7 +33,7 @@ impl<'a> Lines<'a> {
     /// All lines of the input, from number 1.
     pub fn new(input: &'a [u8]) -> Lines<'a>
         requires { length input.now ≤ max_input }
-        ensures { result ≡ record { number = 1; left = lines input.now } }
+        ensures { result ≡ record { number = 1; left = trace_lines input.now } }
     {
         Lines {
             number: 1,
@@ -57,9 +57,9 @@ impl<'a> Lines<'a> {
     }
 }
 
-/// What the line asks for, or none where it is bad.
+/// What the line asks for; `None` where it is bad.
 pub fn order_from(alloc: Global, line: &[u8]) -> Result<Option<Order>, AllocError>
-    ensures { IfOk result (λ order. MatchOption order (IsBad line.now) (Asks line.now)) }
+    ensures { IfOk result (λ order. MatchOption order (IsBad line.now) (AsksFor line.now)) }
 {
     match read(alloc, line) {
         Ok(forms) => order_of(alloc, forms.as_slice()),
@@ -68,9 +68,9 @@ pub fn order_from(alloc: Global, line: &[u8]) -> Result<Option<Order>, AllocErro
     }
 }
 
-// The first line, and what stands behind its line feed, if it has one.
+// The first line, and what stands after its line feed, if it has one.
 fn cut(input: &[u8]) -> (&[u8], Option<&[u8]>)
-    ensures cut { lines input.now ≡ result.0.now ∷ lines_behind result.1 }
+    ensures cut { trace_lines input.now ≡ result.0.now ∷ lines_behind result.1 }
     ensures shorter { room_of result.1 ≤ length input.now }
 {
     for (end, byte) in input.iter().enumerate() {

@@ -36,7 +36,7 @@ pub fn order_of(alloc: Global, forms: &[Sexpr]) -> Result<Option<Order>, AllocEr
     }
 }
 
-// What the forms behind this keyword ask for.
+// What the forms after this keyword ask for.
 fn order_by(alloc: Global, keyword: Keyword, forms: &[Sexpr]) -> Result<Option<Order>, AllocError>
     ensures { IfOk result (λ order. order ≡ spec.order_by keyword forms.now) }
 {
@@ -53,7 +53,7 @@ fn order_by(alloc: Global, keyword: Keyword, forms: &[Sexpr]) -> Result<Option<O
     }
 }
 
-// The command that these forms behind its keyword are.
+// The command that these forms after its keyword are.
 fn command_by(
     alloc: Global,
     keyword: Keyword,
@@ -76,7 +76,7 @@ fn command_by(
     }
 }
 
-// The command of one word.
+// The command that is a keyword alone.
 fn making_by(keyword: Keyword, forms: &[Sexpr]) -> Option<Command>
     ensures { result ≡ spec.making_by keyword forms.now }
 {

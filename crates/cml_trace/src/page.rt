@@ -14,10 +14,10 @@ use std::alloc::Global;
 use std::io::Write;
 use std::marker::Model;
 
-// A piece that is written has at least so many bytes, but for the last one.
+// A piece that is written has at least this many bytes, except the last one.
 const PIECE: usize = 65_536;
 
-/// Text that waits to be written: it goes out in pieces, not line by line.
+/// Text that waits to be written: it is written in pieces, not line by line.
 #[derive(Drop)]
 pub struct Page {
     text: String,
@@ -42,7 +42,7 @@ impl Page {
         }
     }
 
-    /// Puts the line behind what waits, and writes all of it where it is enough for a piece.
+    /// Appends the line to what waits, and writes all of it where it is enough for a piece.
     pub fn add<W: Write>(
         &mut self,
         line: &str,

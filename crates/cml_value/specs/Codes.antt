@@ -1,4 +1,4 @@
--- A code of each term: a tree of numbers from which it can be read back. The toolchain asks for one; no rule speaks of it.
+-- A code of each term: a tree of numbers from which the term can be read back. The toolchain asks for one; no rule uses it.
 use Rattle.std.specs.Prelude.{◌≡◌, ℕ, refl}
 use Rattle.std.specs.Coded.{Coded, coded_ℕ, coded_ℤ, coded_bool, coded_list}
 use Rattle.std.proofs.Common.{arith}

@@ -80,7 +80,7 @@ scopes g = scopes_from 0 g
 abbrev pub nacks_of : List PlainScope → List ℕ
 nacks_of ss = map (λ s. s.nack) ss
 
--- the leaf of this number does not lie in the scope; none lies in a scope without leaves, so such a nack fires at each choice
+-- the leaf of this number does not lie in the scope; in a scope without leaves none lies, so its nack fires at each choice
 abbrev pub lies_outside : ℕ → PlainScope → Bool
 lies_outside n s = nat_lt n s.first || nat_le s.past n
 

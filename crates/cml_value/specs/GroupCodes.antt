@@ -1,5 +1,5 @@
 -- A code of each group, leaf and scope: a tree of numbers from which it can be read back. The toolchain asks for one; no rule
--- speaks of it.
+-- uses it.
 use Rattle.std.specs.Prelude.{◌≡◌, List, refl}
 use Rattle.std.specs.Coded.{Coded, code_by, coded×, coded_list}
 use base.Stored.{Gv, gnil, gnum, gcons}

@@ -1,4 +1,4 @@
--- How far the parts of a group lie below it in memory, by which a walk through it is seen to end. No rule speaks of it.
+-- How high a group stands above its deepest part in memory, which shows that a walk through it ends. No rule uses it.
 use Rattle.std.specs.Prelude.{ℕ, ◌+◌, max}
 use Rattle.cml_value.specs.Group.{PlainGroup, choose, wrap, scope, PlainGroups, no_groups, groups_and}
 

@@ -1,4 +1,4 @@
--- What a group is seen as, from its one field. The parts are seen already.
+-- The view of a group, made from its one field. The parts are given by their own views.
 use Rattle.cml_value.specs.Group.{PlainGroup, never, leaf, choose, wrap, scope, groups}
 use Rattle.cml_value.specs.declared.group.GroupKind.{GroupKind}
 use Rattle.cml_value.specs.declared.group.GroupKind.TheVariants as group_kind

@@ -1,4 +1,4 @@
--- How far the parts of a value lie below it in memory, by which a walk through it is seen to end. No rule speaks of it.
+-- How high a value stands above its deepest part in memory, which shows that a walk through it ends. No rule uses it.
 use Rattle.std.specs.Prelude.{ℕ, ◌+◌, max}
 use Rattle.cml_value.specs.Value.{PlainValue, pair, event, PlainValues, no_values, values_and, PlainFunction, function}
 use Rattle.cml_value.specs.Value.{PlainBase, always, send, swap, mswap, PlainEvent, never, leaf, choose, wrap, guard, with_nack, scope, PlainEvents, no_events, events_and}

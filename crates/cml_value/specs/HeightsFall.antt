@@ -1,4 +1,4 @@
--- No part lies as high as the whole.
+-- No part stands as high as the whole.
 use Rattle.std.specs.Prelude.{◌+◌, ◌≤◌, max, List, [], ◌∷◌}
 use Rattle.std.proofs.Common.{arith}
 use denote.Param.Weighed.{most}

@@ -3,7 +3,7 @@ use Rattle.std.specs.Prelude.{ℕ, ◌+◌, max, Bool, nat_le, ◌&&◌}
 use Rattle.cml_value.specs.Value.{PlainValue, pair, event, PlainValues, no_values, values_and, PlainFunction, function}
 use Rattle.cml_value.specs.Value.{PlainBase, always, send, swap, mswap, PlainEvent, never, leaf, choose, wrap, guard, with_nack, scope, PlainEvents, no_events, events_and}
 
--- The depth: 1 for what has no parts, as a choice of nothing, else one more than the deepest part. An event value counts as its
+-- The depth: 1 for what has no parts, such as an empty choice, else one more than the deepest part. An event value counts as its
 -- event, a leaf as its base event, and a function as the values that it has captured.
 abbrev mutual
   pub value_depth : PlainValue → ℕ
@@ -77,7 +77,7 @@ abbrev mutual
 abbrev pub is_within : ℕ → ℕ → ℕ → ℕ → Bool
 is_within depth_limit node_limit depth nodes = nat_le depth depth_limit && nat_le nodes node_limit
 
--- what this runtime takes in is no deeper than this, and of no more nodes than this (Concurrent ML has no such limit)
+-- the greatest depth and the greatest number of nodes that this runtime accepts (Concurrent ML has no such limits)
 abbrev pub max_depth : ℕ
 max_depth = 64
 

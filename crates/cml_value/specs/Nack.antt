@@ -1,4 +1,4 @@
--- What becomes of a nack.
+-- The states of a nack.
 use Rattle.std.specs.Prelude.{ℕ}
 
 -- A nack is fresh while only its owner, the thread that asked for it, knows it; live while a pending group has its branch;

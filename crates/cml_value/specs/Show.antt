@@ -9,12 +9,12 @@ use Rattle.cml_value.specs.Value.{PlainValue, unit, int, truth, text, pair, thre
 abbrev pub escaped_byte : ℕ → List ℕ
 escaped_byte b = if b == 34 then 92 ∷ 34 ∷ [] else (if b == 92 then 92 ∷ 92 ∷ [] else (if b == 10 then 92 ∷ 110 ∷ [] else b ∷ []))
 
-abbrev pub escaped : List ℕ → List ℕ
-escaped bytes = flat_map escaped_byte bytes
+abbrev pub escaped_text : List ℕ → List ℕ
+escaped_text bytes = flat_map escaped_byte bytes
 
 -- a text as a literal, between quotes
-abbrev pub literal : List ℕ → List ℕ
-literal bytes = 34 ∷ escaped bytes ++ 34 ∷ []
+abbrev pub shown_text : List ℕ → List ℕ
+shown_text bytes = 34 ∷ escaped_text bytes ++ 34 ∷ []
 
 abbrev pub shown_truth : Bool → List ℕ
 shown_truth true = codes "true"
@@ -24,13 +24,13 @@ shown_truth false = codes "false"
 abbrev pub shown_number : List ℕ → ℕ → List ℕ
 shown_number kind n = codes "(" ++ kind ++ codes " " ++ decimal n ++ codes ")"
 
--- a number is written in decimal, with a minus sign where it is negative, a pair with both its parts, and an event by that
--- word alone, whatever is in it
+-- a number is written in decimal, with a minus sign where it is negative, a pair with both its parts, and an event as the
+-- word `event` alone, whatever is in it
 abbrev pub shown : PlainValue → List ℕ
 shown unit = codes "()"
 shown (int z) = signed_decimal z
 shown (truth b) = shown_truth b
-shown (text bytes) = literal bytes
+shown (text bytes) = shown_text bytes
 shown (pair a b) = codes "(pair " ++ shown a ++ codes " " ++ shown b ++ codes ")"
 shown (thread n) = shown_number (codes "thread") n
 shown (chan n) = shown_number (codes "chan") n

@@ -1,4 +1,4 @@
--- What values, functions, base events and events are, with no memory in them.
+-- What values, functions, base events and events are, apart from how they lie in memory.
 use Rattle.std.specs.Prelude.{ℕ, ℤ, Bool, List, [], ◌∷◌}
 
 mutual
@@ -50,7 +50,7 @@ mutual
 
   -- an event as a program builds it, where a guard and a withNack still wait for their function to be called (Reppy's never,
   -- choose, wrap, guard and withNack). A scope is what a withNack becomes once its function was called with the nack of this
-  -- number: the event that the function answered, which is the branch of that nack.
+  -- number: the event that the function returned, which is the branch of that nack.
   pub data PlainEvent : Type 0 where
     never : PlainEvent
     leaf : PlainBase → PlainEvent

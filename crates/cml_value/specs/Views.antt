@@ -1,4 +1,4 @@
--- What each struct of `src/` is seen as, from its fields. The parts are seen already.
+-- The view of each struct of `src/`, made from its fields. The fields are given by their own views.
 use Rattle.std.specs.Arc.{arc_str_bytes}
 use Rattle.cml_value.specs.Value.{PlainValue, unit, int, truth, text, pair, thread, chan, swapchan, ivar, mvar, mailbox, mchan, port, event}
 use Rattle.cml_value.specs.Value.{PlainBase, always, send, recv, swap, iget, mtake, mget, mswap, mail_recv, port_recv, join, at_tick, after_ticks, nack}

@@ -13,7 +13,7 @@ use std::alloc::{AllocError, AllocFailed, Global};
 use std::marker::Model;
 use std::sync::Arc;
 
-/// A forced event, which a thread can synchronize on: no guard and no withNack stands in it.
+/// A forced event, which a thread can synchronize on: no guard and no withNack is left in it.
 /// It is immutable, and its copies share what is large. Its depth and its nodes are kept with it.
 #[cycle(group)]
 #[derive(Drop)]
@@ -77,7 +77,7 @@ impl Group {
     /// Any one of these.
     ///
     /// # Errors
-    /// Want of memory, with the groups.
+    /// Out of memory; the groups come back.
     pub fn choose(alloc: Global, members: Vec<Group>) -> Result<Group, AllocFailed<Vec<Group>>>
         ensures ok { IfOk result (λ g. g ≡ choose (groups members.items)) }
         ensures err { IfErr result (λ back. back.value ≡ members) }
@@ -91,7 +91,7 @@ impl Group {
     /// This group, whose result goes through the function.
     ///
     /// # Errors
-    /// Want of memory, with the group and the function.
+    /// Out of memory; the group and the function come back.
     pub fn wrap(self, alloc: Global, function: FnRef) -> Result<Group, AllocFailed<(Group, FnRef)>>
         ensures ok { IfOk result (λ g. g ≡ wrap self function) }
         ensures err { IfErr result (λ back. back.value ≡ (self, function)) }
@@ -107,7 +107,7 @@ impl Group {
     /// This group as the branch of the nack.
     ///
     /// # Errors
-    /// Want of memory, with the group.
+    /// Out of memory; the group comes back.
     pub fn scope(self, alloc: Global, nack: NackId) -> Result<Group, AllocFailed<Group>>
         ensures ok { IfOk result (λ g. g ≡ scope nack.0 self) }
         ensures err { IfErr result (λ back. back.value ≡ self) }
@@ -128,7 +128,7 @@ impl Group {
     /// Another owner of the same group.
     ///
     /// # Errors
-    /// Want of memory: no more owners can be counted.
+    /// Out of memory: no more owners can be counted.
     pub fn copy(&self) -> Result<Group, AllocError>
         ensures { IfOk result (λ g. g ≡ self.now) }
     {

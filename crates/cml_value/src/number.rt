@@ -1,4 +1,4 @@
-//! The numbers of threads, objects and nacks. One kind can't stand in the place of another.
+//! The numbers of threads, objects and nacks. A number of one kind can't be used as one of another.
 
 /// The number of a thread.
 #[derive(Clone, Copy, PartialEq, Eq, Hash)]

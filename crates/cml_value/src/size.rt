@@ -1,10 +1,10 @@
-//! How deep a value or an event nests and of how many nodes it is made, as it is kept with what it measures.
+//! The depth and the number of nodes of a value or an event, as they are kept with it.
 
 ghost use Rattle.std.specs.Prelude.{◌≡◌, ◌+◌, max, is_some, IfSome};
 ghost use Rattle.cml_value.specs.Limits.{is_within};
 ghost use Rattle.cml_value.specs.Sizes.{kept};
 
-/// A depth and a number of nodes: both exact below `u64::MAX`, at which they stay.
+/// A depth and a number of nodes, both saturated at `u64::MAX`.
 #[derive(Clone, Copy)]
 pub(crate) struct Size {
     pub(crate) depth: u64,
@@ -12,7 +12,7 @@ pub(crate) struct Size {
 }
 
 impl Size {
-    /// The size of a list of nothing.
+    /// The size of an empty list.
     pub(crate) fn none() -> Size
         ensures depth { result.depth ≡ 0 }
         ensures nodes { result.nodes ≡ 0 }
@@ -28,7 +28,7 @@ impl Size {
         Size { depth: 1, nodes: 1 }
     }
 
-    /// The size of the two beside each other.
+    /// The size of the two side by side.
     pub(crate) fn and(self, other: Size) -> Size
         ensures depth { result.depth ≡ max self.depth other.depth }
         ensures nodes { result.nodes ≡ kept (self.nodes + other.nodes) }
@@ -50,7 +50,7 @@ impl Size {
         }
     }
 
-    /// What is left of a budget of nodes, where it and the depth are enough.
+    /// What is left of a budget of nodes, where the budget and the depth are enough.
     #[tactic(auto, using(std::proofs::lemmas::Bool::Decides::nat_tests))]
     pub(crate) fn spend(self, depth: u32, budget: u32) -> Option<u32>
         ensures enough { is_some result ≡ is_within depth budget self.depth self.nodes }

@@ -108,7 +108,7 @@ pub enum BaseKind {
     Join(Tid),
     /// The tick.
     At(u64),
-    /// So many ticks from the moment at which the synchronization begins.
+    /// This many ticks from the moment at which the synchronization begins.
     After(u64),
     /// A choice that leaves out the branch of this nack.
     Nack(NackId),
@@ -134,7 +134,7 @@ pub enum EventKind {
     Choose(Arc<Vec<Event>>),
     /// The event, whose result goes through the function.
     Wrap(Arc<Event>, FnRef),
-    /// The event that the function answers when a synchronization begins.
+    /// The event that the function returns when a synchronization begins.
     Guard(FnRef),
     /// The same, where the function is given a fresh nack event.
     WithNack(FnRef),
@@ -247,7 +247,7 @@ impl Value {
     /// The text as a value.
     ///
     /// # Errors
-    /// Want of memory.
+    /// Out of memory.
     pub fn text(alloc: Global, characters: &str) -> Result<Value, AllocError>
         ensures { IfOk result (λ v. v ≡ text characters.now) }
     {
@@ -258,7 +258,7 @@ impl Value {
     /// The pair of the two.
     ///
     /// # Errors
-    /// Want of memory, with both values.
+    /// Out of memory; both values come back.
     pub fn pair(
         alloc: Global,
         first: Value,
@@ -276,7 +276,7 @@ impl Value {
     /// The event as a value.
     ///
     /// # Errors
-    /// Want of memory, with the event.
+    /// Out of memory; the event comes back.
     pub fn event(alloc: Global, held: Event) -> Result<Value, AllocFailed<Event>>
         ensures ok { IfOk result (λ v. v ≡ event held) }
         ensures err { IfErr result (λ back. back.value ≡ held) }
@@ -294,7 +294,7 @@ impl Value {
         &self.kind
     }
 
-    /// The same, taken out.
+    /// What the value is, taken out of it.
     pub fn into_kind(self) -> ValueKind
         ensures { plain_value result ≡ self }
     {
@@ -304,7 +304,7 @@ impl Value {
     /// Another owner of the same value.
     ///
     /// # Errors
-    /// Want of memory: no more owners can be counted.
+    /// Out of memory: no more owners can be counted.
     pub fn copy(&self) -> Result<Value, AllocError>
         ensures { IfOk result (λ v. v ≡ self.now) }
     {
@@ -346,7 +346,7 @@ impl FnRef {
     /// The function of this number with these captured values.
     ///
     /// # Errors
-    /// Want of memory, with the values.
+    /// Out of memory; the values come back.
     pub fn new(alloc: Global, func: u32, args: Vec<Value>) -> Result<FnRef, AllocFailed<Vec<Value>>>
         ensures ok { IfOk result (λ f. f ≡ function func (values args.items)) }
         ensures err { IfErr result (λ back. back.value ≡ args) }
@@ -377,7 +377,7 @@ impl FnRef {
     /// Another owner of the same function.
     ///
     /// # Errors
-    /// Want of memory: no more owners can be counted.
+    /// Out of memory: no more owners can be counted.
     pub fn copy(&self) -> Result<FnRef, AllocError>
         ensures { IfOk result (λ f. f ≡ self.now) }
     {
@@ -404,7 +404,7 @@ impl Base {
         &self.kind
     }
 
-    /// The same, taken out.
+    /// What it waits for, taken out of it.
     pub fn into_kind(self) -> BaseKind
         ensures { plain_base result ≡ self }
     {
@@ -414,7 +414,7 @@ impl Base {
     /// Another owner of the same base event.
     ///
     /// # Errors
-    /// Want of memory: no more owners can be counted.
+    /// Out of memory: no more owners can be counted.
     pub fn copy(&self) -> Result<Base, AllocError>
         ensures { IfOk result (λ b. b ≡ self.now) }
     {
@@ -452,7 +452,7 @@ impl Event {
     /// Any one of these.
     ///
     /// # Errors
-    /// Want of memory, with the events.
+    /// Out of memory; the events come back.
     pub fn choose(alloc: Global, members: Vec<Event>) -> Result<Event, AllocFailed<Vec<Event>>>
         ensures ok { IfOk result (λ e. e ≡ choose (events members.items)) }
         ensures err { IfErr result (λ back. back.value ≡ members) }
@@ -466,7 +466,7 @@ impl Event {
     /// This event, whose result goes through the function.
     ///
     /// # Errors
-    /// Want of memory, with the event and the function.
+    /// Out of memory; the event and the function come back.
     pub fn wrap(self, alloc: Global, function: FnRef) -> Result<Event, AllocFailed<(Event, FnRef)>>
         ensures ok { IfOk result (λ e. e ≡ wrap self function) }
         ensures err { IfErr result (λ back. back.value ≡ (self, function)) }
@@ -482,7 +482,7 @@ impl Event {
     /// This event as the branch of the nack.
     ///
     /// # Errors
-    /// Want of memory, with the event.
+    /// Out of memory; the event comes back.
     pub fn scope(self, alloc: Global, nack: NackId) -> Result<Event, AllocFailed<Event>>
         ensures ok { IfOk result (λ e. e ≡ scope nack.0 self) }
         ensures err { IfErr result (λ back. back.value ≡ self) }
@@ -503,7 +503,7 @@ impl Event {
     /// Another owner of the same event.
     ///
     /// # Errors
-    /// Want of memory: no more owners can be counted.
+    /// Out of memory: no more owners can be counted.
     pub fn copy(&self) -> Result<Event, AllocError>
         ensures { IfOk result (λ e. e ≡ self.now) }
     {

@@ -1,4 +1,4 @@
--- What clap's answer to the commands of the program says of the words.
+-- What clap's answer to the commands of the program says of the arguments.
 use Rattle.std.proofs.Common.{◌≡◌, ◌⊎◌, ◌∙◌, ℕ, List, [], true, refl, sym, ap, inl, inr, subst}
 use Rattle.clap.specs.Words.{App, HasKind, HasMatchesOf, IsAmong, Text, fault_of, is_simple, is_simple_and_free, subcommand_of, subcommand_rows_of}
 use Rattle.clap.proofs.OnLiterals.{clap_on_literals}
@@ -18,7 +18,7 @@ commands_are_plain : is_simple commands ≡ true
 unfolding clap_on_literals
 commands_are_plain = refl
 
--- a parse of these commands that succeeds has nothing wrong with its words, and enters the command that they name
+-- a parse of these commands that succeeds has nothing wrong with its arguments, and enters the command that they name
 pub no_fault : (app : App) (words : List Text) → app ≡ commands → (is_simple_and_free app ≡ true → fault_of app words ≡ []) → faults words ≡ []
 no_fault app words same none = ap (λ (a : App). fault_of a words) (sym same) ∙ none (ap is_simple_and_free same ∙ commands_are_simple)
 
@@ -29,7 +29,7 @@ named_by app words m same matches = (matches (ap is_simple same ∙ commands_are
 pub among_faults : (app : App) (words : List Text) (e : Error) → app ≡ commands → (is_simple_and_free app ≡ true → HasKind (fault_of app words) e) → HasKind (faults words) e
 among_faults app words e same fails = subst (λ (a : App). HasKind (fault_of a words) e) same (fails (ap is_simple_and_free same ∙ commands_are_simple))
 
--- the answer to an error answers the words
+-- the answer to an error is an answer to the arguments
 pub IsAnswer-error : (words : List (List ℕ)) (kind : ErrorKind) (a : Answer) → (kind ≡ OutOfMemory) ⊎ IsAmong kind (faults words) → AnswersError kind a → IsAnswer words a
 IsAnswer-error words kind (answer.Task task) among says = absurd says
 IsAnswer-error words kind (answer.Help text) (inl none) (inl help) = cc

@@ -1,4 +1,4 @@
--- Where nothing is wrong with the words, they name a command, with all that it must be given.
+-- Where nothing is wrong with the arguments, they name a command, with all that it must be given.
 use Rattle.std.proofs.Common.{◌≡◌, ◌∙◌, ◌&&◌, ◌||◌, ap, ap₂, Bool, cond, not, codes, true, false, refl, sym, List, [], ◌∷◌, map, filter, Option, Some, None, is_some, option_map, true≢false}
 use Rattle.std.specs.Prelude.{nat_lt, slice_get}
 use Rattle.std.specs.Option.{option_map_or}
@@ -18,7 +18,7 @@ use Rattle.clap.specs.declared.builder.value_parser.Reading.TheVariants.{AsWritt
 use Rattle.clap.proofs.OnLiterals.{clap_on_literals}
 use Rattle.clap.proofs.SimpleLemmas.{is_nil}
 use Rattle.clap.proofs.WalkLemmas.{both, find-map}
-use Rattle.cml_words.specs.Words.{commands, is_as_written, is_complete, is_filled, is_served}
+use Rattle.cml_words.specs.Words.{commands, is_as_written, is_complete, has_first_value, is_served}
 use Rattle.cml_words.proofs.Filled.{Each, HasValue, IsFit, IsPlainRule, defaults_stay, found_each, is_set, neither, settled_fit}
 use Rattle.cml_words.proofs.Served.{as_written}
 use Rattle.cml_words.proofs.Steps.{NotHelp, walk_fit, walk_not_help}
@@ -144,14 +144,14 @@ served c rows a fit plain fine = go (find (λ r. bytes_eq r.id a.id) rows) refl 
     optional true missing = absurd (true≢false missing)
     optional false missing = refl
 
-    row : (r : Row) → r.id ≡ a.id → IsFit c r → is_filled a r ≡ true
+    row : (r : Row) → r.id ≡ a.id → IsFit c r → has_first_value a r ≡ true
     row r same here =
         let by_id : list_all (λ v. option_map_or (λ b. value_passes b v) (arg_by_id c a.id) true) r.values ≡ true = rw same at here.2 in
         let pass : list_all (value_passes a) r.values ≡ true = rw plain.own at by_id in
         filled_by a r r.values r.reading here.0 here.1 pass
 
     go : (o : Option Row) → find (λ r. bytes_eq r.id a.id) rows ≡ o → (a.required && not (option_map_or (λ r. explicit_source r.source) o false)) ≡ false
-        → option_map_or (is_filled a) o (not a.required) ≡ true
+        → option_map_or (has_first_value a) o (not a.required) ≡ true
     go None is missing = optional a.required missing
     go (Some r) is missing = row r ((bytes_eq-Decides r.id a.id).0 (found_hits _ rows r is)) (found_each (IsFit c) _ rows r fit is)
 
@@ -216,7 +216,7 @@ module _ (app : App) (ready : IsReady app) where
       complete_by _ s _ asked (leaf_served s p.1 plain none) in
       rw name done
 
-  -- words with which nothing is wrong name a command, with what it must be given
+  -- arguments with which nothing is wrong name a command, with what it must be given
   pub entered_complete : (words : List Text) → fault_of app words ≡ [] → is_complete app (subcommand_of app words) ≡ true
   entered_complete words none =
       let b = built app in

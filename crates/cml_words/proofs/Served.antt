@@ -16,7 +16,7 @@ use Rattle.clap.specs.declared.builder.value_parser.Reading.TheVariants.{AsWritt
 use Rattle.clap.specs.declared.builder.value_parser.ValueParser.TheVariants as vp
 use Rattle.clap.proofs.ValueTestLemmas.{Accepts-accepts, accepts-Accepts}
 use Rattle.clap.proofs.WalkLemmas.{both}
-use Rattle.cml_words.specs.Words.{any_rule, count_rule, file_rule, is_as_written, is_filled, is_served, number_of, number_rule, workers_rule, IsCount, IsWorkers}
+use Rattle.cml_words.specs.Words.{any_rule, count_rule, file_rule, is_as_written, has_first_value, is_served, option_number, number_rule, workers_rule, IsCount, IsWorkers}
 
 pub as_written : (how : Reading) → is_as_written how ≡ true → how ≡ AsWritten
 as_written AsWritten plain = refl
@@ -46,7 +46,7 @@ filled_first test (v ∷ vs) filled = (v, refl, filled)
 pub file_given : (given : List Row) (id : Text) → is_served given (file_rule id) ≡ true → is_some (first_of id given) ≡ true
 file_given given id served = go (find (λ row. bytes_eq row.id id) given) served
   where
-    go : (o : Option Row) → option_map_or (is_filled (file_rule id)) o false ≡ true → is_some (option_and_then (λ r. slice_get r.values 0) o) ≡ true
+    go : (o : Option Row) → option_map_or (has_first_value (file_rule id)) o false ≡ true → is_some (option_and_then (λ r. slice_get r.values 0) o) ≡ true
     go None filled = absurd (true≢false (sym filled))
     go (Some row) filled =
         let first = filled_first _ row.values (both _ _ filled).1 in
@@ -68,7 +68,7 @@ number_cases : (least most : ℕ) (given : List Row) (id : Text) → is_served g
     → P (one_of id given) (first_of id given)
 number_cases least most given id served P none some = go (find (λ row. bytes_eq row.id id) given) served
   where
-    go : (o : Option Row) → option_map_or (is_filled (number_rule least most id)) o true ≡ true → P (option_and_then row_text o) (option_and_then (λ r. slice_get r.values 0) o)
+    go : (o : Option Row) → option_map_or (has_first_value (number_rule least most id)) o true ≡ true → P (option_and_then row_text o) (option_and_then (λ r. slice_get r.values 0) o)
     go None filled = none
     go (Some row) filled =
         row_case (is_unsigned_in least most) row.values row.reading filled P (λ text within. some text (accepts-Accepts false (vp.Unsigned least most) text within))
@@ -84,7 +84,7 @@ ranged_is_number least most bound given id served = go (find (λ row. bytes_eq r
         let below : digits_value 10 (without_leading_plus text) ≤ most = is.3 in
         Accepts-accepts false (vp.Unsigned 0 18446744073709551615) text (is.0, is.1, omega arith, omega (arith, below, bound))
 
-    go : (o : Option Row) → option_map_or (is_filled (number_rule least most id)) o true ≡ true → option_map_or (is_filled (any_rule id)) o true ≡ true
+    go : (o : Option Row) → option_map_or (has_first_value (number_rule least most id)) o true ≡ true → option_map_or (has_first_value (any_rule id)) o true ≡ true
     go None filled = refl
     go (Some row) filled =
         let parts = both _ _ filled in
@@ -100,21 +100,21 @@ pub workers_are_number : (given : List Row) (id : Text) → is_served given (wor
 workers_are_number given id served = ranged_is_number 1 64 (omega arith) given id served
 
 -- and lies within them
-ranged : (least most : ℕ) (given : List Row) (id : Text) → is_served given (number_rule least most id) ≡ true → IfSome (number_of id given) (IsInRange least most)
+ranged : (least most : ℕ) (given : List Row) (id : Text) → is_served given (number_rule least most id) ≡ true → IfSome (option_number id given) (IsInRange least most)
 ranged least most given id served =
     number_cases least most given id served
     (λ one first. IfSome (option_map (λ text. digits_value 10 (without_leading_plus text)) first) (IsInRange least most)) tt (λ text within. (within.2, within.3))
 
-pub counts : (given : List Row) (id : Text) → is_served given (count_rule id) ≡ true → IfSome (number_of id given) IsCount
+pub counts : (given : List Row) (id : Text) → is_served given (count_rule id) ≡ true → IfSome (option_number id given) IsCount
 counts given id served = ranged 1 1000000000 given id served
 
-pub few : (given : List Row) (id : Text) → is_served given (workers_rule id) ≡ true → IfSome (number_of id given) IsWorkers
+pub few : (given : List Row) (id : Text) → is_served given (workers_rule id) ≡ true → IfSome (option_number id given) IsWorkers
 few given id served = ranged 1 64 given id served
 
 -- the number that `get_one` reads is the one that was given
 pub reads_number : (E : Type 0) (G : List ℕ → Result ℕ E → Type 0) (given : List Row) (id : Text) (r : Option ℕ) → is_served given (any_rule id) ≡ true
     → ((u : List ℕ) (x : Result ℕ E) → G u x → ParsesUnsigned 64 10 u x) → (one_of id given ≡ None → r ≡ None) → ((t : List ℕ) → one_of id given ≡ Some t → ReadsOne G t r)
-    → r ≡ number_of id given
+    → r ≡ option_number id given
 reads_number E G given id r served only none some =
     number_cases 0 18446744073709551615 given id served
     (λ one first. (one ≡ None → r ≡ None) → ((t : List ℕ) → one ≡ Some t → ReadsOne G t r) → r ≡ option_map (λ text. digits_value 10 (without_leading_plus text)) first)

@@ -1,4 +1,4 @@
--- What the words of the command line are answered.
+-- What the arguments of the command line ask for, as clap reads them.
 use Rattle.std.specs.Prelude.{◌≡◌, ◌≢◌, ◌⊎◌, ◌&&◌, ℕ, Bool, true, false, not, Option, Some, None, IfSome, IsSomeAnd, List, [], ◌∷◌, codes, find, slice_get, option_map, unwrap_or}
 use Rattle.std.specs.List.{list_all}
 use Rattle.std.specs.Int.{IsInRange}
@@ -72,15 +72,15 @@ commands = record {
       ∷ [];
 }
 
--- what may be wrong with the words, the first of which names the program: nothing where they name a command
+-- what may be wrong with the arguments, the first of which is the program's name: nothing where they name a command
 abbrev pub faults : List (List ℕ) → Kinds
 faults words = fault_of commands words
 
 -- ---- what a command was given
 
 -- the number that is given to this option, where it is given one
-abbrev pub number_of : Text → List Row → Option ℕ
-number_of option given = option_map (λ text. digits_value 10 (without_leading_plus text)) (first_of option given)
+abbrev pub option_number : Text → List Row → Option ℕ
+option_number option given = option_map (λ text. digits_value 10 (without_leading_plus text)) (first_of option given)
 
 abbrev pub IsCount : ℕ → Type 0
 IsCount = IsInRange 1 1000000000
@@ -91,10 +91,10 @@ IsWorkers = IsInRange 1 64
 -- the options of `run` are what was given; where no number of workers was, one worker, and where no number of steps was, 1,000,000
 pub record IsRun (given : List Row) (options : RunOptions) : Type 0 where
   pub file : first_of (codes "FILE") given ≡ Some options.file.now
-  pub workers : options.workers ≡ unwrap_or (number_of (codes "workers") given) 1
-  pub steps : options.steps ≡ unwrap_or (number_of (codes "steps") given) 1000000
-  pub seed : options.seed ≡ number_of (codes "seed") given
-  pub watch : options.watch ≡ number_of (codes "watch") given
+  pub workers : options.workers ≡ unwrap_or (option_number (codes "workers") given) 1
+  pub steps : options.steps ≡ unwrap_or (option_number (codes "steps") given) 1000000
+  pub seed : options.seed ≡ option_number (codes "seed") given
+  pub watch : options.watch ≡ option_number (codes "watch") given
   pub record_file : option_map (λ name. name.now) options.record ≡ first_of (codes "record") given
   pub counts : IsWorkers options.workers × IsCount options.steps × IfSome options.watch IsCount
 
@@ -102,7 +102,7 @@ pub record IsRun (given : List Row) (options : RunOptions) : Type 0 where
 pub record IsReplay (given : List Row) (options : ReplayOptions) : Type 0 where
   pub script : first_of (codes "FILE") given ≡ Some options.script.now
   pub schedule : first_of (codes "SCHEDULE") given ≡ Some options.schedule.now
-  pub watch : options.watch ≡ number_of (codes "watch") given
+  pub watch : options.watch ≡ option_number (codes "watch") given
   pub counts : IfSome options.watch IsCount
 
 -- The command that was named, with the values that it was given, is this one.
@@ -113,8 +113,8 @@ Names (name, given) (task_of.Fmt file) = (name ≡ codes "fmt") × (first_of (co
 Names (name, given) (task_of.Run options) = (name ≡ codes "run") × IsRun given options
 Names (name, given) (task_of.Replay options) = (name ≡ codes "replay") × IsReplay given options
 
--- A command is answered only where nothing is wrong and the words name it, help only where it is asked for, and a fault only where there
--- is one.
+-- The answer is a command only where nothing is wrong and the arguments name it, help only where it is asked for, and a fault only where
+-- there is one.
 abbrev pub IsAnswer : List (List ℕ) → Answer → Type 0
 IsAnswer words (answer.Task task) = (faults words ≡ []) × IsSomeAnd (subcommand_of commands words) (λ named. Names named task)
 IsAnswer words (answer.Help text) = IsAmong DisplayHelp (faults words) ⊎ IsAmong DisplayVersion (faults words)
@@ -128,12 +128,12 @@ is_as_written AsWritten = true
 is_as_written _ = false
 
 -- the first value of an argument is there, and passes its parser
-abbrev pub is_filled : Rule → Row → Bool
-is_filled argument row = is_as_written row.reading && option_map_or (value_passes argument) (slice_get row.values 0) false
+abbrev pub has_first_value : Rule → Row → Bool
+has_first_value argument row = is_as_written row.reading && option_map_or (value_passes argument) (slice_get row.values 0) false
 
 -- an argument was given such a value, or none where it may go without
 abbrev pub is_served : List Row → Rule → Bool
-is_served given argument = option_map_or (is_filled argument) (find (λ row. bytes_eq row.id argument.id) given) (not argument.required)
+is_served given argument = option_map_or (has_first_value argument) (find (λ row. bytes_eq row.id argument.id) given) (not argument.required)
 
 -- a command of the program was named, and each of its arguments was served
 abbrev pub is_complete : App → Option (Text × List Row) → Bool
@@ -141,7 +141,7 @@ is_complete app None = false
 is_complete app (Some named) =
     option_map_or (λ command. list_all (is_served named.1) command.rules) (find (λ command. bytes_eq command.name named.0) app.subs) false
 
--- what an error of this kind is answered
+-- the answer to an error of this kind
 abbrev pub AnswersError : ErrorKind → Answer → Type 0
 AnswersError kind (answer.Task task) = ⊥
 AnswersError kind (answer.Help text) = (kind ≡ DisplayHelp) ⊎ (kind ≡ DisplayVersion)

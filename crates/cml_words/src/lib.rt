@@ -1,4 +1,4 @@
-//! What the words of the program's command line ask for.
+//! What the arguments of the program's command line ask for.
 #![tactic(auto)]
 
 ghost use Rattle.std.specs.Prelude.{◌≡◌, [], codes, false, true, is_some, map, IfOk, IsSomeAnd, Some};
@@ -7,7 +7,7 @@ ghost use Rattle.std.specs.String.{string_bytes};
 ghost use Rattle.clap.specs.Words.{app_of, first_of, found_of, kind_of, rows_of, rule_of, shape_of, subcommand_rows_of};
 ghost use Rattle.clap.specs.declared.builder.command.Command.TheViews.{out-Command};
 ghost use Rattle.cml_words.specs.Words.{any_rule, command_of, commands, count_rule, file_command, file_rule, option_rule, replay_command, run_command, workers_rule};
-ghost use Rattle.cml_words.specs.Words.{is_complete, is_served, number_of, AnswersError, IsAnswer, IsReplay, IsRun, Names};
+ghost use Rattle.cml_words.specs.Words.{is_complete, is_served, option_number, AnswersError, IsAnswer, IsReplay, IsRun, Names};
 
 use clap::error::ErrorKind;
 use clap::{Arg, ArgAction, ArgMatches, Command, Error, value_parser};
@@ -42,11 +42,11 @@ pub enum Task<'a> {
 pub struct RunOptions<'a> {
     /// The file of the script.
     pub file: &'a str,
-    /// How many workers run its threads, from 1 to 64; where the words give no number, 1.
+    /// How many workers run its threads, from 1 to 64; where the arguments give no number, 1.
     pub workers: usize,
-    /// How many steps the run may take, from 1 to 1,000,000,000; where the words give no number, 1,000,000.
+    /// How many steps the run may take, from 1 to 1,000,000,000; where the arguments give no number, 1,000,000.
     pub steps: u64,
-    /// What choices are drawn from; without it the first that can be taken is.
+    /// What choices are drawn from; without it the first that can be taken is chosen.
     pub seed: Option<u64>,
     /// After how many items of the schedule each report comes, from 1 to 1,000,000,000; without it there is none.
     pub watch: Option<u64>,
@@ -65,7 +65,7 @@ pub struct ReplayOptions<'a> {
     pub watch: Option<u64>,
 }
 
-/// What the words come to.
+/// What the arguments ask for.
 #[derive(Drop)]
 pub enum Answer<'a> {
     /// They name this command.
@@ -76,10 +76,10 @@ pub enum Answer<'a> {
     Fault(String),
 }
 
-/// Reads the words, the first of which names the program.
+/// Reads the arguments, the first of which is the program's name.
 ///
 /// # Errors
-/// Want of memory.
+/// Out of memory.
 pub fn read_words<'a>(alloc: Global, words: &'a [String]) -> Result<Answer<'a>, AllocError>
     ensures { IfOk result (IsAnswer (map string_bytes words.now)) }
 {
@@ -89,7 +89,7 @@ pub fn read_words<'a>(alloc: Global, words: &'a [String]) -> Result<Answer<'a>, 
     }
 }
 
-// The command that the words named, with what it was given.
+// The command that the arguments named, with what it was given.
 fn task_of<'a>(matches: &ArgMatches<'a>) -> Task<'a>
     requires { is_complete commands (subcommand_rows_of matches.now) ≡ true }
     ensures { IsSomeAnd (subcommand_rows_of matches.now) (λ named. Names named result) }
@@ -148,12 +148,12 @@ fn given<'a>(matches: &ArgMatches<'a>, id: &str) -> &'a str
 // The number that an option was given.
 fn number(matches: &ArgMatches<'_>, id: &str) -> Option<u64>
     requires { is_served (rows_of (found_of matches.now)) (any_rule id.now) ≡ true }
-    ensures { result ≡ number_of id.now (rows_of (found_of matches.now)) }
+    ensures { result ≡ option_number id.now (rows_of (found_of matches.now)) }
 {
     matches.get_one(id)
 }
 
-// The text of the error, by what it is: that something is wrong, or help that was asked for.
+// The text of the error, as what it is: that something is wrong, or help that was asked for.
 fn answer_to_error<'a>(alloc: Global, error: &Error) -> Result<Answer<'a>, AllocError>
     ensures { IfOk result (AnswersError (kind_of error.now)) }
 {

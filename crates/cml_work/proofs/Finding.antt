@@ -1,6 +1,6 @@
 -- What is found under the lock.
 use Rattle.std.proofs.Common.{ℕ, ◌≡◌, List, sym, subst, ◌∙◌}
-use Rattle.cml_check.specs.Syntax.{PlainFunction as PlainItem}
+use Rattle.cml_check.specs.Syntax.{PlainItem}
 use Rattle.cml_step.specs.Machines.{PlainMachine}
 use Rattle.cml_hub.specs.Dones.{GoesOn}
 use Rattle.cml_hub.specs.Kept.{Kept, Extends, HandsOut}

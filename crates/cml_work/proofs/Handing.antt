@@ -1,6 +1,6 @@
 -- What is handed out and given back.
 use Rattle.std.proofs.Common.{ℕ, ◌≡◌, List, Option, Some, IfSome, subst}
-use Rattle.cml_check.specs.Syntax.{PlainFunction as PlainItem}
+use Rattle.cml_check.specs.Syntax.{PlainItem}
 use Rattle.cml_step.specs.Machines.{PlainMachine}
 
 -- what is there has what is said of it if it is there

@@ -1,4 +1,4 @@
--- What is answered of a hub that the workers have left.
+-- What is returned of a hub that the workers have left.
 use Rattle.std.proofs.Common.{ℕ, ◌≡◌, List, Option, Result, Ok, Err, IfErr, refl, sym, subst, ◌∙◌}
 use Rattle.cml_monitor.specs.Reports.{PlainReport}
 use Rattle.cml_stream.specs.Streams.{stream, Takes}

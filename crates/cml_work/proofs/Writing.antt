@@ -15,7 +15,7 @@ pub takes_more : (a b c : Option (List ℕ)) (seen : List PlainReport) (r : Plai
     → Takes (stream a b) (texts_of seen) → Takes (stream b c) (report_text r) → Takes (stream a c) (texts_of (seen ++ r ∷ []))
 takes_more a b c seen r p q = rw (texts_more seen r) (Appends-trans a b c _ _ p q)
 
--- a beginning of the bytes that are this text
+-- a prefix of the bytes that are this text
 pub starts_with : (a b : Option (List ℕ)) (text bytes : List ℕ) (n : ℕ) → bytes ≡ text → Takes (stream a b) (take n bytes) → TakesStart (stream a b) text
 starts_with a b text bytes n same took = (take n bytes, drop n bytes, sym same ∙ sym (take-append-drop n bytes), took)
 
@@ -23,7 +23,7 @@ starts_with a b text bytes n same took = (take n bytes, drop n bytes, sym same �
 pub breaks_between : (a b : Option (List ℕ)) (seen : List PlainReport) → Takes (stream a b) (texts_of seen) → BreaksOff (stream a b)
 breaks_between a b seen p = (seen, (texts_of seen, [], sym (append-nil _), p))
 
--- a beginning of one report more was written
+-- a prefix of one report more was written
 pub breaks_within : (a b c : Option (List ℕ)) (seen : List PlainReport) (r : PlainReport)
     → Takes (stream a b) (texts_of seen) → TakesStart (stream b c) (report_text r) → BreaksOff (stream a c)
 breaks_within a b c seen r p (part, unwritten, split, q) = (

@@ -24,7 +24,7 @@ FaultWrites output (Count hub) = Takes output []
 FaultWrites output (Foreign hub seen) = Takes output (texts_of seen.items)
 FaultWrites output _ = BreaksOff output
 
--- how many writes have failed: one more at the fault of a write, and none at any other answer
+-- how many writes have failed: one more at the fault of a write, and no more at any other result
 abbrev pub failed_after : {A : Type 0} → Result A WatchFault → ℕ → ℕ
 failed_after (Err watch_fault.Write) failed = counted failed
 failed_after _ failed = failed

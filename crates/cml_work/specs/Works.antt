@@ -1,6 +1,6 @@
 -- How runs of workers end.
 use Rattle.std.specs.Prelude.{ℕ, ◌≡◌, ◌≢◌, ◌≤◌, true, List, ◌++◌, Option, Result, Ok, Err}
-use Rattle.cml_check.specs.Syntax.{PlainFunction as PlainItem}
+use Rattle.cml_check.specs.Syntax.{PlainItem}
 use Rattle.cml_monitor.specs.Reports.{PlainReport}
 use Rattle.cml_schedule.specs.declared.item.Item.{Item}
 use Rattle.cml_hub.specs.Courses.{run_of}
@@ -12,9 +12,9 @@ use Rattle.cml_work.specs.declared.shared.Found.TheVariants as found
 use Rattle.cml_work.specs.declared.fault.WorkFault.{WorkFault}
 use Rattle.cml_work.specs.declared.fault.WorkFault.TheVariants.{Count, Memory, Start, Write, Foreign}
 
--- as many workers as there may be
-abbrev pub IsCount : ℕ → Type 0
-IsCount workers = (1 ≤ workers) × (workers ≤ 64)
+-- a number of workers that is allowed
+abbrev pub IsWorkerCount : ℕ → Type 0
+IsWorkerCount workers = (1 ≤ workers) × (workers ≤ 64)
 
 -- what of a hub stays to the end of a run that begins with it: its program, budget and watch; and its schedule, which grows
 pub record PlainOpening : Type 0 where
@@ -46,12 +46,12 @@ pub record IsWorked (old new : Kept) : Type 0 where
   pub none_out : NoneOut new
   pub none_due : NoneDue new
 
--- What `run_workers` answers: a hub that has gone on to its end; or it was asked for another number of workers, and the hub comes back; or
+-- What `run_workers` returns: a hub that has gone on to its end; or it was asked for another number of workers, and the hub comes back; or
 -- memory ran out, and the hub has gone on so far.
 abbrev pub Works : Kept → ℕ → Result Kept WorkFault → Type 0
-Works hub workers (Ok new) = IsCount workers × IsWorked hub new
-Works hub workers (Err (Count new)) = (IsCount workers → ⊥) × (new ≡ hub)
-Works hub workers (Err (Memory new)) = IsCount workers × GoesOnFrom hub new
+Works hub workers (Ok new) = IsWorkerCount workers × IsWorked hub new
+Works hub workers (Err (Count new)) = (IsWorkerCount workers → ⊥) × (new ≡ hub)
+Works hub workers (Err (Memory new)) = IsWorkerCount workers × GoesOnFrom hub new
 Works hub workers (Err (Start new)) = ⊥
 Works hub workers (Err (Write new)) = ⊥
 Works hub workers (Err (Foreign new seen)) = ⊥
@@ -66,10 +66,11 @@ WatchBreaks hub (Start new) = GoesOnFrom hub new × (new.course.items ≡ hub.co
 WatchBreaks hub (Write new) = GoesOnFrom hub new
 WatchBreaks hub (Foreign new seen) = IsWorked hub new × (seen.items ≢ new.reports)
 
--- Why `run_watched` answers none: it was asked for another number of workers, and the hub comes back; or the run broke off.
+-- Why `run_watched` returns no hub that is at its end: it was asked for another number of workers, and the hub comes back; or the run
+-- broke off.
 abbrev pub WatchFails : Kept → ℕ → WorkFault → Type 0
-WatchFails hub workers (Count new) = (IsCount workers → ⊥) × (new ≡ hub)
-WatchFails hub workers fault = IsCount workers × WatchBreaks hub fault
+WatchFails hub workers (Count new) = (IsWorkerCount workers → ⊥) × (new ≡ hub)
+WatchFails hub workers fault = IsWorkerCount workers × WatchBreaks hub fault
 
 -- what is found under the lock, if it is a job, is one of a thread of this program that can go on
 abbrev pub IsJob : List (PlainItem ℕ) → Found → Type 0
@@ -77,12 +78,12 @@ IsJob program (found.Job p m) = (p ≡ program) × GoesOn p m
 IsJob program _ = Unit {0}
 
 -- the hub was compared with the reports that were seen, which are not its own; the fault hands over both
-abbrev pub IsForeign : Kept → List PlainReport → WorkFault → Type 0
-IsForeign hub reports (Foreign new seen) = (new ≡ hub) × (seen.items ≡ reports) × (reports ≢ hub.reports)
-IsForeign hub reports _ = ⊥
+abbrev pub IsForeignFault : Kept → List PlainReport → WorkFault → Type 0
+IsForeignFault hub reports (Foreign new seen) = (new ≡ hub) × (seen.items ≡ reports) × (reports ≢ hub.reports)
+IsForeignFault hub reports _ = ⊥
 
--- What the workers left, with the reports that were seen, is not answered by a hub that has run to its end: memory ran out, or the reports
--- are not the hub's.
+-- Why no hub that has run to its end comes of what the workers left and the reports that were seen: memory ran out, or the reports are
+-- not the hub's.
 abbrev pub IsLeft : Kept → List PlainReport → WorkFault → Type 0
 IsLeft hub reports (Memory new) = GoesOnFrom hub new
 IsLeft hub reports (Foreign new seen) = IsWorked hub new × (seen.items ≡ reports) × (reports ≢ new.reports)

@@ -1,8 +1,8 @@
 //! Where a worker gets slices to run, and gives them back.
 
 ghost use Rattle.std.specs.Prelude.{◌≡◌, ℕ, List, IfOk, IfSome};
-ghost use Rattle.cml_check.specs.Syntax.{PlainFunction as PlainItem};
-ghost use Rattle.cml_step.specs.Answers.{awaited, nothing};
+ghost use Rattle.cml_check.specs.Syntax.{PlainItem};
+ghost use Rattle.cml_step.specs.Answers.{top_await, nothing};
 ghost use Rattle.cml_step.specs.Machines.{PlainMachine, machine_term, Fits};
 
 use cml_check::Prog;
@@ -23,13 +23,13 @@ pub trait Desk {
     /// Whether it may hand out a slice of this program that begins with this machine.
     ghost hands: { Self → List (PlainItem ℕ) → PlainMachine → Type 0 };
 
-    /// The machine of a thread to run, with its program; none where nothing is left to do. It may wait.
+    /// The machine of a thread to run, with its program; `None` where nothing is left to do. It may wait.
     ///
     /// # Errors
     /// Out of memory.
     fn next<R: Wait>(&self, rt: &R, alloc: Global) -> Result<Option<(Prog, Machine)>, AllocError>
         ensures fits { IfOk result (λ job. IfSome job (λ j. Fits j.0 j.1)) }
-        ensures awaits { IfOk result (λ job. IfSome job (λ j. awaited (machine_term j.0 j.1) ≡ nothing)) }
+        ensures awaits { IfOk result (λ job. IfSome job (λ j. top_await (machine_term j.0 j.1) ≡ nothing)) }
         ensures hands { IfOk result (λ job. IfSome job (λ j. hands self.now j.0 j.1)) };
 
     /// Takes a slice back that it handed out. It may wait.
@@ -39,6 +39,6 @@ pub trait Desk {
     fn give<R: Wait>(&self, rt: &R, alloc: Global, ran: Ran) -> Result<(), GiveFault>
         requires { hands self.now ran.program ran.start };
 
-    /// No job is handed out any more. It may wait.
+    /// From now on no job is handed out. It may wait.
     fn stop<R: Wait>(&self, rt: &R);
 }

@@ -24,7 +24,7 @@ impl From<AllocError> for WatchFault {
     }
 }
 
-/// Why a run of workers is not answered by a hub that has run to its end. Each hands over a hub, from which the run can go on.
+/// Why a run of workers returns no hub that has run to its end. Each hands over a hub, from which the run can go on.
 #[derive(Drop)]
 pub enum WorkFault {
     /// The number of workers is not 1 to 64. The hub is the one that was handed in.

@@ -1,7 +1,7 @@
-//! The lock round the hub.
+//! The lock around the hub.
 
 ghost use Rattle.std.specs.Prelude.{◌≡◌, IfOk, IfSome};
-ghost use Rattle.cml_step.specs.Answers.{awaited, nothing};
+ghost use Rattle.cml_step.specs.Answers.{top_await, nothing};
 ghost use Rattle.cml_step.specs.Machines.{machine_term, Fits};
 ghost use Rattle.cml_hub.specs.Dones.{GoesOn};
 ghost use Rattle.cml_work.specs.Works.{PlainOpening, Follows, GoesOnFrom, IsJob, opening_of};
@@ -58,9 +58,9 @@ impl<O: Opening, C: Chooser + Drop> Model for Locked<O, C> {
 enum Found {
     // A slice to run, of a thread of this program.
     Job(Prog, Machine),
-    // Nothing before a slice comes back; and whether a report was made.
+    // Nothing until a slice comes back; and whether a report was made.
     Wait(bool),
-    // Nothing any more.
+    // Nothing more.
     Over,
 }
 
@@ -125,7 +125,7 @@ pub struct Shared<O: Opening, C: Chooser + Drop> {
 }
 
 impl<O: Opening, C: Chooser + Drop> Shared<O, C> {
-    /// The hub, with who chooses among its rows.
+    /// The hub, with the chooser among its rows.
     pub fn new(hub: Hub, chooser: C) -> Shared<O, C>
         requires { opening_of hub ≡ O.opening }
     {
@@ -162,7 +162,7 @@ impl<O: Opening, C: Chooser + Drop> Shared<O, C> {
         self.changed.notify_all();
     }
 
-    // A copy of the report of this number, from 0, once it is made; none where the workers have ended without it.
+    // A copy of the report of this number, from 0, once it is made; `None` where the workers have ended without it.
     pub(crate) fn report<R: Wait>(
         &self,
         rt: &R,

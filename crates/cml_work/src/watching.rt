@@ -36,7 +36,7 @@ fn show<W: Write>(
     }
 }
 
-// Writes each report as it is made, until the workers have ended and all are written, and answers what it wrote.
+// Writes each report as it is made, until the workers have ended and all are written, and returns what it wrote.
 fn watch_all<R: Wait, O: Opening, C: Chooser + Drop, W: Write>(
     rt: &R,
     alloc: Global,
@@ -62,7 +62,7 @@ fn watch_all<R: Wait, O: Opening, C: Chooser + Drop, W: Write>(
     Ok(seen)
 }
 
-/// Writes each report of the hub as soon as it is made, until the workers have ended and all are written, and answers what it wrote. It
+/// Writes each report of the hub as soon as it is made, until the workers have ended and all are written, and returns what it wrote. It
 /// writes while it does not hold the lock.
 ///
 /// # Errors

@@ -4,7 +4,7 @@ ghost use Rattle.std.specs.Prelude.{◌≡◌, ◌↔◌, IfOk, IfErr, OnErr, Is
 ghost use Rattle.cml_hub.specs.Kept.{NoneOut};
 ghost use Rattle.cml_stream.specs.Streams.{stream, Takes};
 ghost use Rattle.cml_work.specs.Seen.{texts_of, BreaksOff, FaultWrites, failed_after, failed_after_all};
-ghost use Rattle.cml_work.specs.Works.{Works, IsCount, IsWorked, GoesOnFrom, IsForeign, IsLeft, WatchBreaks, WatchFails, opening_of};
+ghost use Rattle.cml_work.specs.Works.{Works, IsWorkerCount, IsWorked, GoesOnFrom, IsForeignFault, IsLeft, WatchBreaks, WatchFails, opening_of};
 
 use crate::desk::Gate;
 use crate::fault::{WatchFault, WorkFault};
@@ -24,14 +24,14 @@ use std::thread::{Threads, join_mut};
 // The most workers.
 const MAX_WORKERS: usize = 64;
 
-// Whether there may be so many workers.
+// Whether there may be this many workers.
 fn is_count(workers: usize) -> bool
-    ensures { IsTrue result ↔ IsCount workers }
+    ensures { IsTrue result ↔ IsWorkerCount workers }
 {
     (1..=MAX_WORKERS).contains(&workers)
 }
 
-// The workers, each in a thread of its own. It answers how many were started, once all have ended.
+// Runs the workers, each in a thread of its own. Returns how many were started, once all have ended.
 fn work_together<'x, R, O, C, G>(
     rt: &'x R,
     alloc: Global,
@@ -80,8 +80,8 @@ where
     end_alone(alloc, hub, chooser, is_stopped)
 }
 
-/// Runs the hub, of which no slice is out, with so many workers, 1 to 64, until nothing is left to do or the budget is used. Which rows are taken depends on who comes
-/// first to the lock. Where no thread can be started it runs alone.
+/// Runs the hub, of which no slice is out, with this many workers, 1 to 64, until nothing is left to do or the budget is used. Which
+/// rows are taken depends on who comes first to the lock. Where no thread can be started it runs alone.
 ///
 /// # Errors
 /// Another number of workers; or out of memory. Both hand over a hub.
@@ -109,8 +109,8 @@ where
     }
 }
 
-// Runs the hub to its end, which it has reached mostly. Where the workers were stopped, or memory runs out, the hub comes back as far as
-// it has gone on.
+// Runs the hub to its end, which it has mostly reached already. Where the workers were stopped, or memory runs out, the hub comes back
+// as far as it has gone on.
 fn end_alone<C: Chooser + Drop>(
     alloc: Global,
     mut hub: Hub,
@@ -129,7 +129,7 @@ fn end_alone<C: Chooser + Drop>(
     }
 }
 
-// The watcher in a thread of its own, beside the workers. It answers what the watcher saw, and how many workers were started.
+// Runs the watcher in a thread of its own, beside the workers. Returns what the watcher saw, and how many workers were started.
 fn watched<R, O, C, G, W>(
     rt: &R,
     alloc: Global,
@@ -189,7 +189,7 @@ fn are_reports(seen: &[Report], hub: &Hub) -> bool
 // The hub with the reports that were seen, where they are its own.
 fn compared(hub: Hub, seen: Vec<Report>) -> Result<(Hub, Vec<Report>), WorkFault>
     ensures ok { IfOk result (λ r. (r.0 ≡ hub) × (r.1.items ≡ seen.items) × (seen.items ≡ hub.reports)) }
-    ensures err { IfErr result (λ fault. IsForeign hub seen.items fault) }
+    ensures err { IfErr result (λ fault. IsForeignFault hub seen.items fault) }
 {
     if are_reports(seen.as_slice(), &hub) {
         Ok((hub, seen))
@@ -262,7 +262,7 @@ where
     }
 }
 
-/// Runs the hub as [`run_workers`] does, and writes each report as soon as it is made. It answers the reports that were written too.
+/// Runs the hub as [`run_workers`] does, and writes each report as soon as it is made. It returns the reports that were written too.
 ///
 /// # Errors
 /// Another number of workers; out of memory; no thread that could be started; a write that failed or took nothing; or reports that are not
@@ -282,7 +282,7 @@ where
     G: Gate + Sync,
     W: Write + Send,
     requires { NoneOut hub }
-    ensures works { IfOk result (λ r. IsCount workers × IsWorked hub r.0 × (r.1.items ≡ r.0.reports)) }
+    ensures works { IfOk result (λ r. IsWorkerCount workers × IsWorked hub r.0 × (r.1.items ≡ r.0.reports)) }
     ensures fails { IfErr result (λ fault. WatchFails hub workers fault) }
     ensures written { let output = stream (W.contents writer.old.stream.now) (W.contents writer.new.stream.now) in
         IfOk result (λ r. Takes output (texts_of r.0.reports)) }

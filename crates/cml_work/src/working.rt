@@ -1,7 +1,7 @@
 //! One worker.
 
 ghost use Rattle.std.specs.Prelude.{◌≡◌, IfOk};
-ghost use Rattle.cml_step.specs.Answers.{awaited, nothing};
+ghost use Rattle.cml_step.specs.Answers.{top_await, nothing};
 ghost use Rattle.cml_step.specs.Machines.{machine_term, Fits};
 
 use crate::desk::{Desk, Gate};
@@ -15,7 +15,7 @@ use std::sync::Wait;
 #[tactic(none)]
 fn run(alloc: Global, program: &Prog, machine: Machine) -> Result<Ran, AllocError>
     requires fits { Fits program.now machine }
-    requires awaits { awaited (machine_term program.now machine) ≡ nothing }
+    requires awaits { top_await (machine_term program.now machine) ≡ nothing }
     ensures program { IfOk result (λ ran. ran.program ≡ program.now) }
     ensures start { IfOk result (λ ran. ran.start ≡ machine) }
 {
@@ -45,7 +45,7 @@ fn work_once<R: Wait, D: Desk>(
     machine: Machine,
 ) -> Result<(), AllocError>
     requires fits { Fits program machine }
-    requires awaits { awaited (machine_term program machine) ≡ nothing }
+    requires awaits { top_await (machine_term program machine) ≡ nothing }
     requires hands { D.hands desk.now program machine }
 {
     let answer = run(alloc, &program, machine);

@@ -1,7 +1,7 @@
 //! A worker by itself, over a desk in memory.
 
 ghost use Rattle.std.specs.Prelude.{◌≡◌, IfOk};
-ghost use Rattle.cml_step.specs.Answers.{awaited, nothing};
+ghost use Rattle.cml_step.specs.Answers.{top_await, nothing};
 ghost use Rattle.cml_step.specs.Machines.{machine_term, Fits};
 
 use crate::making::{MEMORY, program_of};
@@ -30,7 +30,7 @@ struct Bench {
 // The machine of the thread before `main`.
 fn before_main(alloc: Global, program: &Prog, thread: Tid) -> Result<Machine, AllocError>
     ensures fits { IfOk result (λ m. Fits program.now m) }
-    ensures awaits { IfOk result (λ m. awaited (machine_term program.now m) ≡ nothing) }
+    ensures awaits { IfOk result (λ m. top_await (machine_term program.now m) ≡ nothing) }
 {
     let main = FnRef::new(alloc, program.main(), Vec::new(alloc))?;
     match Machine::start(alloc, program, thread, main) {

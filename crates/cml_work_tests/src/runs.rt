@@ -1,6 +1,6 @@
 //! Scripts that many workers run, with and without a watcher.
 //!
-//! A want of memory ends the test, so that no return stands in the way on which all that was made had to be dropped.
+//! Running out of memory ends the test, so that no early return has to drop all that was made.
 
 ghost use Rattle.cml_hub.specs.Kept.{IsBudget, IsWatch, NoneOut};
 
@@ -22,7 +22,7 @@ use std::time::Duration;
 const SPIN: &str =
     "(fn spin () (while true (yield))) (fn main () (spawn spin) (while true (yield)))";
 
-// An M-variable is a lock round another, to which four threads add.
+// An M-variable is a lock around another, to which four threads add.
 const TOTAL: &str =
     "(fn add (lock total amount) (sync (mtake lock)) (let old (sync (mget total))) (yield) (sync (mswap total (+ old amount))) (mput lock unit)) (fn main () (let lock (mvar unit)) (let total (mvar 0)) (let a (spawn add lock total 1)) (let b (spawn add lock total 20)) (let c (spawn add lock total 300)) (let d (spawn add lock total 4000)) (sync (join a)) (sync (join b)) (sync (join c)) (sync (join d)) (let sum (sync (mget total))) (print sum))";
 
@@ -34,7 +34,7 @@ const PRINTS: &str =
 const SENDS: &str =
     "(fn give (c) (let i 0) (while (< i 20) (sync (send c i)) (set i (+ i 1)))) (fn main () (let c (chan)) (spawn give c) (let i 0) (while (< i 20) (let x (sync (recv c))) (print x) (set i (+ i 1))))";
 
-// A branch that is not chosen is told so.
+// A branch that is not chosen learns of it.
 const CANCELLED: &str =
     "(fn watch (n) (sync n) (print \"cancelled\")) (fn branch (c n) (spawn watch n) (return (recv c))) (fn main () (let c (chan)) (let x (sync (choose (withnack branch c) (always 7)))) (print x))";
 
@@ -133,8 +133,8 @@ fn begin_with(rt: &impl Abort, others: &[Report], reports: &[Report]) {
     }
 }
 
-// One thread that replays the schedule of the hub comes to the same, and has made the reports of the hub first of all. It answers how many
-// it has made: a hub that was stopped has not made a report that is due until it is asked for more.
+// One thread that replays the schedule of the hub comes to the same, and its first reports are those of the hub. Returns how many it has
+// made: a hub that was stopped has not made a report that is due until it is asked for more.
 fn replayed(rt: &(impl Abort + AllocGlobal), hub: &Hub) -> usize {
     let program = hub.program().copy().expect(rt, MEMORY);
     let again = Hub::replay(

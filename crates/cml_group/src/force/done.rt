@@ -10,8 +10,8 @@ use std::alloc::{AllocError, Global};
 use std::marker::Model;
 use std::sync::Arc;
 
-/// Groups in order, in pieces that copies share. A piece is longer than the next one, so there are few, and to put more
-/// behind them costs little over many times, also where there are copies.
+/// Groups in order, in pieces that copies share. A piece is longer than the next one, so there are few of them; many appends
+/// together cost little, also where there are copies.
 #[derive(Drop)]
 pub struct Done {
     pieces: Vec<Arc<Vec<Group>>>,
@@ -31,7 +31,7 @@ impl Model for Done {
     ghost view = { λ a. flat_map (λ p. p.value.items) a.pieces.items };
 }
 
-// Puts copies of the groups behind these.
+// Appends copies of the groups.
 fn add_copies(all: &mut Vec<Group>, groups: &[Group]) -> Result<(), AllocError>
     ensures { OnOk result (all.new.items ≡ all.old.items ++ groups.now) }
 {
@@ -41,7 +41,7 @@ fn add_copies(all: &mut Vec<Group>, groups: &[Group]) -> Result<(), AllocError>
     Ok(())
 }
 
-// What is left of a budget of nodes after the groups, where it and the depth are enough for them.
+// What is left of a budget of nodes after the groups, where the budget and the depth are enough for them.
 #[tactic(auto, using(std::proofs::lemmas::Bool::Decides::nat_tests))]
 fn spend_all(members: &[Group], depth: u32, budget: u32) -> Option<u32>
     ensures enough { is_some result
@@ -56,7 +56,7 @@ fn spend_all(members: &[Group], depth: u32, budget: u32) -> Option<u32>
     Some(left)
 }
 
-// Puts the groups behind those of the pieces, in one piece with the last pieces that are no longer.
+// Appends the groups to those of the pieces, in one piece with the last pieces that are no longer.
 fn add_piece(
     pieces: &mut Vec<Arc<Vec<Group>>>,
     alloc: Global,
@@ -125,7 +125,7 @@ fn same_pieces(
 }
 
 impl Done {
-    /// None.
+    /// No groups.
     pub fn new(alloc: Global) -> Done
         ensures { result ≡ [] }
     {
@@ -137,7 +137,7 @@ impl Done {
     /// Another owner of the same groups.
     ///
     /// # Errors
-    /// Want of memory.
+    /// Out of memory.
     pub fn copy(&self, alloc: Global) -> Result<Done, AllocError>
         ensures { IfOk result (λ done. done ≡ self.now) }
     {
@@ -155,10 +155,10 @@ impl Done {
         same_pieces(&[], &self.pieces, &[], &other.pieces)
     }
 
-    /// All of them, and then these, in one list.
+    /// All the groups, and then these, in one list.
     ///
     /// # Errors
-    /// Want of memory.
+    /// Out of memory.
     pub fn all_with(&self, alloc: Global, more: &[Group]) -> Result<Vec<Group>, AllocError>
         ensures { IfOk result (λ all. all.items ≡ self.now ++ more.now) }
     {
@@ -170,10 +170,10 @@ impl Done {
         Ok(all)
     }
 
-    /// Them, and then these.
+    /// All the groups, and then these.
     ///
     /// # Errors
-    /// Want of memory.
+    /// Out of memory.
     pub fn with(&self, alloc: Global, more: Vec<Group>) -> Result<Done, AllocError>
         ensures { IfOk result (λ done. done ≡ self.now ++ more.items) }
     {
@@ -182,7 +182,7 @@ impl Done {
         Ok(done)
     }
 
-    /// What is left of a budget of nodes after the groups, where it and the depth are enough for them.
+    /// What is left of a budget of nodes after the groups, where the budget and the depth are enough for them.
     #[tactic(auto, using(std::proofs::lemmas::Bool::Decides::nat_tests, crate::proofs::Spending::appended))]
     pub fn spend(&self, depth: u32, budget: u32) -> Option<u32>
         ensures enough { is_some result

@@ -1,4 +1,4 @@
-//! What stands round the place where a forcing goes on.
+//! What stands around the place where a forcing goes on.
 
 ghost use Rattle.std.specs.Prelude.{◌≡◌, ◌↔◌, IsTrue, ℕ, ◌+◌, ◌≤◌, ◌∷◌, ◌++◌, length, drop, IfOk, OnOk, is_some, IfSome};
 ghost use Rattle.cml_value.specs.Value.{events};
@@ -18,7 +18,7 @@ pub struct Frame {
     kind: FrameKind,
 }
 
-/// What the place, or what stands round it so far, stands in.
+/// What the place stands in, or what the frames around it so far stand in.
 #[derive(Drop)]
 pub enum FrameKind {
     /// A choice: the members before it, forced; all members; and the number of the first one to come.
@@ -42,7 +42,7 @@ impl Model for Frame {
     ghost view = { λ a. plain_frame a.kind };
 }
 
-// What is left of a budget of nodes after the members from this number on, where it and the depth are enough for them.
+// What is left of a budget of nodes after the members from this number on, where the budget and the depth are enough for them.
 #[tactic(auto, using(std::proofs::lemmas::Bool::Decides::nat_tests))]
 fn spend_from(members: &[Event], next: usize, depth: u32, budget: u32) -> Option<u32>
     ensures enough { is_some result
@@ -113,7 +113,7 @@ impl Frame {
     /// Another owner of the same frame.
     ///
     /// # Errors
-    /// Want of memory.
+    /// Out of memory.
     pub fn copy(&self, alloc: Global) -> Result<Frame, AllocError>
         ensures { IfOk result (λ frame. frame ≡ self.now) }
     {
@@ -143,7 +143,7 @@ impl Frame {
         }
     }
 
-    // What is left of a budget of nodes after the frame without what stands in it, where it and the depth are enough.
+    // What is left of a budget of nodes after the frame without what stands in it, where the budget and the depth are enough.
     #[tactic(auto, using(std::proofs::lemmas::Bool::Decides::nat_tests))]
     fn spend(&self, depth: u32, budget: u32) -> Option<u32>
         ensures enough { is_some result
@@ -167,7 +167,7 @@ impl Frame {
     }
 }
 
-// What is left of the budget of nodes after the frames, where it and the depth are enough for them.
+// What is left of the budget of nodes after the frames, where the budget and the depth are enough for them.
 #[tactic(auto, using(std::proofs::lemmas::Bool::Decides::nat_tests))]
 fn spend_frames(frames: &[Frame]) -> Option<u32>
     requires { length frames.now ≤ max_depth }
@@ -184,7 +184,7 @@ fn spend_frames(frames: &[Frame]) -> Option<u32>
     Some(left)
 }
 
-/// How many nodes may stand in the frames, where any event may.
+/// How many nodes an event in the frames may have, where any event may stand there.
 #[tactic(auto, using(std::proofs::lemmas::Bool::Decides::nat_tests, crate::proofs::Plugs::measured))]
 pub fn room_of(frames: &[Frame]) -> Option<u32>
     ensures { IsRoom result frames.now }
@@ -195,7 +195,7 @@ pub fn room_of(frames: &[Frame]) -> Option<u32>
     spend_frames(frames)
 }
 
-/// How many nodes may stand in a scope in the frames.
+/// How many nodes an event in a scope in the frames may have.
 #[tactic(auto, using(std::proofs::lemmas::Bool::Decides::nat_tests, crate::proofs::Plugs::measured))]
 pub fn room_in_scope(room: Option<u32>, frames: &[Frame]) -> Option<u32>
     requires { IsRoom room frames.now }
@@ -223,10 +223,10 @@ pub fn spend_within(room: Option<u32>, frames: &[Frame], event: &Event) -> Optio
     event.spend(MAX_DEPTH - frames.len() as u32, room)
 }
 
-/// Puts copies of the frames behind these.
+/// Appends copies of the frames.
 ///
 /// # Errors
-/// Want of memory.
+/// Out of memory.
 pub fn add_frames(all: &mut Vec<Frame>, alloc: Global, frames: &[Frame]) -> Result<(), AllocError>
     ensures { OnOk result (all.new.items ≡ all.old.items ++ frames.now) }
 {

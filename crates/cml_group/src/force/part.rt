@@ -28,7 +28,7 @@ pub enum Hole {
 pub enum Part {
     /// Nothing is left to be forced.
     Whole(Group),
-    /// What stands round the first one, the innermost first, and that one.
+    /// The frames around the first one, the innermost first, and that one.
     Open(Vec<Frame>, Hole),
 }
 
@@ -43,7 +43,7 @@ impl Hole {
         }
     }
 
-    // Whether the same stands there.
+    // Whether the two are the same.
     fn same(&self, other: &Hole) -> bool
         ensures { IsTrue result ↔ (plain_hole self.now ≡ plain_hole other.now) }
     {
@@ -57,7 +57,7 @@ impl Hole {
     /// What is asked for there.
     ///
     /// # Errors
-    /// Want of memory: no more owners of the function can be counted.
+    /// Out of memory: no more owners of the function can be counted.
     pub fn next(&self) -> Result<Next, AllocError>
         ensures { IfOk result (λ next. Asks next (Some (hole_ask self.now))) }
     {
@@ -72,7 +72,7 @@ impl Part {
     /// Another owner of the same.
     ///
     /// # Errors
-    /// Want of memory.
+    /// Out of memory.
     pub fn copy(&self, alloc: Global) -> Result<Part, AllocError>
         ensures same { IfOk result (λ part. plain_part part ≡ plain_part self.now) }
         ensures room { IfOk result (λ part.
@@ -90,7 +90,7 @@ impl Part {
     }
 
     /// Whether the two are the same event. An event has one place where its forcing goes on, so they are the same where the
-    /// places and what stands round them are.
+    /// places and what stands around them are.
     pub fn same(&self, other: &Part) -> bool
         ensures { IsTrue result ↔ (plain_part self.now ≡ plain_part other.now) }
     {
@@ -159,7 +159,7 @@ fn opened(mut frames: Vec<Frame>, frame: Frame, hole: Hole) -> Result<Part, Allo
 /// The event, forced up to its first guard or withNack.
 ///
 /// # Errors
-/// Want of memory.
+/// Out of memory.
 #[cycle(force)]
 #[tactic(auto, using(crate::proofs::Plugs::pushed))]
 pub fn force(event: &Event, alloc: Global) -> Result<Part, AllocError>
@@ -211,7 +211,7 @@ fn force_members(
 /// The event in the frames, forced up to its first guard or withNack.
 ///
 /// # Errors
-/// Want of memory.
+/// Out of memory.
 pub fn climb(alloc: Global, frames: &[Frame], part: Part) -> Result<Part, AllocError>
     ensures { IfOk result (λ climbed. plain_part climbed ≡ plug frames.now (plain_part part)) }
 {

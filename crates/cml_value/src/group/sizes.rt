@@ -1,4 +1,4 @@
-//! What is kept of the depth and the nodes of groups, from what their parts keep.
+//! The depth and the nodes that are kept with groups, computed from those that their parts keep.
 
 ghost use Rattle.std.specs.Prelude.{◌≡◌};
 ghost use Rattle.cml_value.specs.Group.{groups, group_depth, groups_depth, group_nodes, groups_nodes};
@@ -34,7 +34,7 @@ impl GroupKind {
     }
 }
 
-// What the groups keep, beside each other.
+// The size of the groups side by side.
 fn groups_size(all: &[Group]) -> Size
     ensures depth { result.depth ≡ kept (groups_depth (groups all.now)) }
     ensures nodes { result.nodes ≡ kept (groups_nodes (groups all.now)) }

@@ -2,17 +2,17 @@
 
 ghost use Rattle.std.specs.Prelude.{◌≡◌, ◌++◌, IfOk, OnOk, encode_utf8};
 ghost use Rattle.std.specs.String.{string_bytes};
-ghost use Rattle.cml_value.specs.Show.{escaped, literal, shown, shown_number};
+ghost use Rattle.cml_value.specs.Show.{escaped_text, shown_text, shown, shown_number};
 
 use crate::value::{Value, ValueKind};
 use std::alloc::{AllocError, Global};
 
 impl Value {
     /// The value's text: a number in decimal, a text as a literal, a pair with its parts, an object or a thread by its
-    /// kind and number, an event by that word alone.
+    /// kind and number, an event as the word `event` alone.
     ///
     /// # Errors
-    /// Want of memory.
+    /// Out of memory.
     pub fn show(&self, alloc: Global) -> Result<String, AllocError>
         ensures { IfOk result (λ s. string_bytes s ≡ shown self.now) }
     {
@@ -60,7 +60,7 @@ fn push_number(out: &mut String, kind: &str, number: u32) -> Result<(), AllocErr
 
 // A text between quotes.
 fn push_literal(out: &mut String, text: &str) -> Result<(), AllocError>
-    ensures { OnOk result (string_bytes out.new ≡ string_bytes out.old ++ literal text.now) }
+    ensures { OnOk result (string_bytes out.new ≡ string_bytes out.old ++ shown_text text.now) }
 {
     out.push_str("\"")?;
     push_characters(out, text)?;
@@ -68,7 +68,7 @@ fn push_literal(out: &mut String, text: &str) -> Result<(), AllocError>
 }
 
 fn push_characters(out: &mut String, text: &str) -> Result<(), AllocError>
-    ensures { OnOk result (string_bytes out.new ≡ string_bytes out.old ++ escaped text.now) }
+    ensures { OnOk result (string_bytes out.new ≡ string_bytes out.old ++ escaped_text text.now) }
 {
     for c in text.chars() {
         push_character(out, c)?;
@@ -78,7 +78,7 @@ fn push_characters(out: &mut String, text: &str) -> Result<(), AllocError>
 
 // A character as it stands in a literal.
 fn push_character(out: &mut String, c: char) -> Result<(), AllocError>
-    ensures { OnOk result (string_bytes out.new ≡ string_bytes out.old ++ escaped (encode_utf8 c)) }
+    ensures { OnOk result (string_bytes out.new ≡ string_bytes out.old ++ escaped_text (encode_utf8 c)) }
 {
     if c == '"' {
         return out.push_str("\\\"");

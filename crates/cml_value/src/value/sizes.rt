@@ -1,4 +1,4 @@
-//! What is kept of the depth and the nodes of values and events, from what their parts keep.
+//! The depth and the nodes that are kept with values and events, computed from those that their parts keep.
 
 ghost use Rattle.std.specs.Prelude.{◌≡◌};
 ghost use Rattle.cml_value.specs.Value.{values, events};
@@ -33,7 +33,7 @@ impl ValueKind {
     }
 }
 
-// What the values keep, beside each other.
+// The size of the values side by side.
 pub(crate) fn values_size(all: &[Value]) -> Size
     ensures depth { result.depth ≡ kept (values_depth (values all.now)) }
     ensures nodes { result.nodes ≡ kept (values_nodes (values all.now)) }
@@ -98,7 +98,7 @@ impl EventKind {
     }
 }
 
-// What the events keep, beside each other.
+// The size of the events side by side.
 fn events_size(all: &[Event]) -> Size
     ensures depth { result.depth ≡ kept (events_depth (events all.now)) }
     ensures nodes { result.nodes ≡ kept (events_nodes (events all.now)) }

@@ -2,7 +2,7 @@ use Rattle.std.proofs.Common.{◌≡◌, ◌∙◌, codes, refl, subst, sym, ℕ
 use Rattle.std.specs.Prelude.{IfSome, unwrap_or}
 use Rattle.clap.proofs.WalkLemmas.{first_value-rows}
 use Rattle.clap.specs.Words.{found_of, rows_of}
-use Rattle.cml_words.specs.Words.{count_rule, file_rule, any_rule, workers_rule, number_of, run_command, IsCount, IsWorkers}
+use Rattle.cml_words.specs.Words.{count_rule, file_rule, any_rule, workers_rule, option_number, run_command, IsCount, IsWorkers}
 use Rattle.cml_words.proofs.Served.{count_is_number, counts, few, file_given, served_by_name, steps_count, workers_are_number, workers_count}
 use Rattle.cml_words.proofs.run_options.Goals as goal
 
@@ -37,8 +37,8 @@ returns c =
     let workers = few given (codes "workers") (served_by_name given run_command.rules (codes "workers") (workers_rule (codes "workers")) c.requires refl) in
     let steps = counts given (codes "steps") (served_by_name given run_command.rules (codes "steps") (count_rule (codes "steps")) c.requires refl) in
     let watch = counts given (codes "watch") (served_by_name given run_command.rules (codes "watch") (count_rule (codes "watch")) c.requires refl) in
-    let by_workers : c.unwrap_or.result ≡ unwrap_or (number_of (codes "workers") given) 1 = rw c.number.ensures at c.unwrap_or.ensures in
-    let by_steps : c.unwrap_or-2.result ≡ unwrap_or (number_of (codes "steps") given) 1000000 = rw c.number-2.ensures at c.unwrap_or-2.ensures in
+    let by_workers : c.unwrap_or.result ≡ unwrap_or (option_number (codes "workers") given) 1 = rw c.number.ensures at c.unwrap_or.ensures in
+    let by_steps : c.unwrap_or-2.result ≡ unwrap_or (option_number (codes "steps") given) 1000000 = rw c.number-2.ensures at c.unwrap_or-2.ensures in
     record {
       file = c.given.ensures;
       workers = by_workers;

@@ -30,8 +30,8 @@ decreases-binary l = 5 * nesting_of (plain_forms l.behind.now) + 3
 abbrev pub decreases-wrap : goal.decreases-wrap
 decreases-wrap l = 5 * nesting_of (plain_forms l.behind.now) + 3
 
-abbrev pub decreases-called : goal.decreases-called
-decreases-called l = 5 * nesting_of (plain_forms l.behind.now) + 2
+abbrev pub decreases-function_call : goal.decreases-function_call
+decreases-function_call l = 5 * nesting_of (plain_forms l.behind.now) + 2
 
 abbrev pub decreases-expressions : goal.decreases-expressions
 decreases-expressions l = 5 * nesting_of (plain_forms l.forms.now) + 1

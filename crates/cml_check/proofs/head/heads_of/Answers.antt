@@ -1,7 +1,7 @@
 use Rattle.std.proofs.Common.{◌≡◌, ◌∙◌, sym, ap, arith, true, false}
 use Rattle.std.proofs.lemmas.Result.{err_from_is_err_and}
 use Rattle.std.proofs.lemmas.List.{map_push, length-map}
-use Rattle.cml_check.specs.Names.{is_among}
+use Rattle.cml_check.specs.Names.{has_name}
 use Rattle.cml_check.specs.HeadViews.{plain_head, plain_heads, head_names}
 use Rattle.cml_check.proofs.HeadLemmas.{head-fails, head-limit, head-double, head-next, head-end, names-push}
 use Rattle.cml_check.proofs.head.heads_of.Goals as goal
@@ -17,15 +17,15 @@ returns-in_err-head c =
 
 pub returns-then-has : goal.returns-then-has
 returns-then-has c =
-    let test : is_among (head_names (plain_heads c.loop-form.items.items)) c.in_ok-head.head.name.now ≡ true =
-    ap (λ names. is_among names c.in_ok-head.head.name.now) (sym c.loop-form.invariant.named) ∙ sym c.has.ensures ∙ c.if-has.true in
+    let test : has_name (head_names (plain_heads c.loop-form.items.items)) c.in_ok-head.head.name.now ≡ true =
+    ap (λ names. has_name names c.in_ok-head.head.name.now) (sym c.loop-form.invariant.named) ∙ sym c.has.ensures ∙ c.if-has.true in
     head-double (plain_heads c.loop-form.items.items) c.args.forms.now c.loop-form.form-index c.form-item.result (plain_head c.in_ok-head.head) _ c.loop-form-test.true c.form-item.is (rw length-map (omega arith)) c.loop-form.invariant.left c.in_ok-head.ensures test
 
 pub loop-form-preserved : goal.loop-form-preserved
 loop-form-preserved c =
-    let new : is_among c.loop-form.names c.in_ok-head.head.name.now ≡ false = sym c.has.ensures ∙ c.if-has.false in
-    let test : is_among (head_names (plain_heads c.loop-form.items.items)) c.in_ok-head.head.name.now ≡ false =
-    ap (λ names. is_among names c.in_ok-head.head.name.now) (sym c.loop-form.invariant.named) ∙ new in
+    let new : has_name c.loop-form.names c.in_ok-head.head.name.now ≡ false = sym c.has.ensures ∙ c.if-has.false in
+    let test : has_name (head_names (plain_heads c.loop-form.items.items)) c.in_ok-head.head.name.now ≡ false =
+    ap (λ names. has_name names c.in_ok-head.head.name.now) (sym c.loop-form.invariant.named) ∙ new in
     let next = head-next (plain_heads c.loop-form.items.items) c.args.forms.now c.loop-form.form-index c.form-item.result (plain_head c.in_ok-head.head) _ c.loop-form-test.true c.form-item.is (rw length-map (omega arith)) c.loop-form.invariant.left c.in_ok-head.ensures test in
     record {
       left = rw (c.in_ok-push.ensures.items, map_push plain_head c.loop-form.items.items c.in_ok-head.head) next;

@@ -5,7 +5,7 @@ use Rattle.std.proofs.lemmas.List.{length-map}
 use Rattle.cml_value.specs.Group.{bases}
 use Rattle.cml_scan.specs.Order.{place, before, IsSorted}
 use Rattle.cml_scan.specs.Scan.{offers_of, leaves_from}
-use Rattle.cml_index.specs.Heads.{is_sought, IsAnswer, EndsThere}
+use Rattle.cml_index.specs.Heads.{is_sought, IsSought, EndsThere}
 use Rattle.cml_index.specs.Seats.{seated}
 use Rattle.cml_index.proofs.Seated.{seat_step, seated_parts}
 use Rattle.cml_index.proofs.Seeking.{found_first, found_behind, offers_more, sought_more, sought_places, few_behind}
@@ -19,7 +19,7 @@ returns-in-Found-clause-value c =
     let step : seated (drop c.loop-seat.seat-index ss) ≡ e ∷ later = seat_step ss c.loop-seat.seat-index c.seat-item.result e c.loop-seat-test.true c.seat-item.is c.in-Some.ensures in
     let f = is_sought c.args.kind c.args.core.now.flags.entries (offers_of c.args.core.now.entries.items) in
     let own = filter f (leaves_from e.thread 0 (bases e.group)) in
-    let here = subst (λ r. IsAnswer r c.loop-seat.left own) c.in-Found.is c.seek_in.ensures.value in
+    let here = subst (λ r. IsSought r c.loop-seat.left own) c.in-Found.is c.seek_in.ensures.value in
     sym c.loop-seat.invariant.same ∙ ap (λ es. slice_get (map place (filter f (offers_of es))) c.loop-seat.left) step ∙ ap (λ ps. slice_get ps c.loop-seat.left) (sought_places f e later)
     ∙ found_first (map place own) _ c.loop-seat.left _ here
 
@@ -57,7 +57,7 @@ loop-seat-preserved c =
     let step : seated (drop c.loop-seat.seat-index ss) ≡ e ∷ later = seat_step ss c.loop-seat.seat-index c.seat-item.result e c.loop-seat-test.true c.seat-item.is c.in-Some.ensures in
     let f = is_sought c.args.kind c.args.core.now.flags.entries (offers_of c.args.core.now.entries.items) in
     let own = filter f (leaves_from e.thread 0 (bases e.group)) in
-    let here = subst (λ r. IsAnswer r c.loop-seat.left own) c.in-Left.is c.seek_in.ensures.value in
+    let here = subst (λ r. IsSought r c.loop-seat.left own) c.in-Left.is c.seek_in.ensures.value in
     let s = ap (λ es. length (filter f (offers_of es))) step ∙ sought_more f e later in
     let t = ap (λ es. length (offers_of es)) step ∙ offers_more e later in
     let same = ap (λ es. map place (filter f (offers_of es))) step ∙ sought_places f e later in

@@ -11,8 +11,8 @@ pub returns-then-has-clause-there : goal.returns-then-has-clause-there
 returns-then-has-clause-there c = there_already c.args.slot (spec.has_run c.args.runs.now.items) (sym c.has.ensures ∙ c.if-has.true)
 
 pub returns-clause-right : goal.returns-clause-right
-returns-clause-right c = subst (λ es. (k : _) → spec.has_run es k ≡ true → spec.run_of es k ≡ spec.leaves_at k 0 (map slot_of c.args.bases.now)) (sym c.in_ok-push.ensures.items)
-    (right_push c.args.runs.now.items c.args.slot c.in_ok-leaves.leaves (λ k. spec.leaves_at k 0 (map slot_of c.args.bases.now)) c.in_ok-leaves.ensures c.requires.right)
+returns-clause-right c = subst (λ es. (k : _) → spec.has_run es k ≡ true → spec.slot_run es k ≡ spec.slot_leaves k 0 (map slot_of c.args.bases.now)) (sym c.in_ok-push.ensures.items)
+    (right_push c.args.runs.now.items c.args.slot c.in_ok-leaves.leaves (λ k. spec.slot_leaves k 0 (map slot_of c.args.bases.now)) c.in_ok-leaves.ensures c.requires.right)
 
 pub returns-clause-once : goal.returns-clause-once
 returns-clause-once c = subst (λ es. IsDistinct same_slot (keys_of es)) (sym c.in_ok-push.ensures.items) (once_push c.args.runs.now.items c.args.slot c.in_ok-leaves.leaves c.requires.once (sym c.has.ensures ∙ c.if-has.false))

@@ -18,12 +18,12 @@ loop-base-init c = record {
 pub loop-base-preserved : goal.loop-base-preserved
 loop-base-preserved c = record {
   right = c.in_ok-add_of.ensures.right;
-  none = λ k off. none_more c.args.bases.now c.loop-base.base-index c.base-item.result k (spec.has_run c.loop-base.runs.items k) (spec.has_run c.add_of.new.runs.items k) (spec.leaves_at k 0 (map slot_of c.args.bases.now))
+  none = λ k off. none_more c.args.bases.now c.loop-base.base-index c.base-item.result k (spec.has_run c.loop-base.runs.items k) (spec.has_run c.add_of.new.runs.items k) (spec.slot_leaves k 0 (map slot_of c.args.bases.now))
       c.loop-base-test.true c.base-item.is (c.in_ok-add_of.ensures.there k ∙ ap (λ s. spec.has_run c.loop-base.runs.items k || spec.is_slot k s) c.of.ensures) off (c.loop-base.invariant.none k);
   once = c.in_ok-add_of.ensures.once;
   few = omega (arith, c.in_ok-add_of.ensures.len, c.loop-base.invariant.few);
 }
 
 pub returns-clause-runs : goal.returns-clause-runs
-returns-clause-runs c = all_right c.loop-base.runs.items (λ k. spec.leaves_at k 0 (map slot_of c.args.bases.now)) c.loop-base.invariant.right
+returns-clause-runs c = all_right c.loop-base.runs.items (λ k. spec.slot_leaves k 0 (map slot_of c.args.bases.now)) c.loop-base.invariant.right
     (λ k e. c.loop-base.invariant.none k e ∙ none_end c.args.bases.now c.loop-base.base-index k (omega (arith, c.loop-base-test.false)))

@@ -2,13 +2,13 @@ use Rattle.std.proofs.Common.{◌≡◌, ◌<◌, ◌≤◌, ◌-◌, ℕ, false
 use Rattle.cml_value.specs.declared.number.PortId.{PortId}
 use Rattle.cml_base.specs.Registered.{HasRoomAt}
 use Rattle.cml_queues.specs.Queues.{is_full_at}
-use Rattle.cml_queues.specs.Posts.{numbers, unread, port_has_room, posted}
+use Rattle.cml_queues.specs.Posts.{port_numbers, unread, port_has_room, posted}
 use Rattle.cml_queues.proofs.delivery.feed_all.Given as goal
 
 abbrev pub invariant-loop-id : goal.invariant-loop-id
 invariant-loop-id l =
     let none : PortId = record { 0 = 0 } in record {
-      left : posted l.message (numbers (drop l.id-index l.ids)) (unread l.ports.objects) ≡ posted l.message (numbers l.ids) (unread l.initial.ports.objects);
+      left : posted l.message (port_numbers (drop l.id-index l.ids)) (unread l.ports.objects) ≡ posted l.message (port_numbers l.ids) (unread l.initial.ports.objects);
       copied : l.copies.items ≡ replicate (length l.ids - l.id-index) l.message;
       waits : l.ports.waits ≡ l.initial.ports.waits;
       spare : l.ports.room ≡ l.initial.ports.room;

@@ -2,7 +2,7 @@ use Rattle.std.proofs.Common.{◌≡◌, ◌≤◌, ◌++◌, drop, take, length
 use Rattle.cml_scan.specs.Scan.{leaves_from}
 use Rattle.cml_scan.proofs.offer.push_leaves.Given as goal
 
--- what was put there, and what is left, are the leaves of all, behind those that stood there
+-- what was put there, and what is left, are the leaves of all, after those that stood there
 abbrev pub invariant-loop-leaf : goal.invariant-loop-leaf
 invariant-loop-leaf l = record {
   told : l.offers.items ++ leaves_from l.tid.0 l.leaf (drop l.leaf l.bases) ≡ l.fn.offers.items ++ leaves_from l.tid.0 0 l.bases;

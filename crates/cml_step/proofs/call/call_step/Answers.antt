@@ -8,6 +8,6 @@ returns-in-Some-clause-moves c =
     λ below.
     subst (Moves c.args.program.now c.args.f.now c.statement_step.result c.statement_step.new.call below)
     (sym
-    (stepped (text_of c.args.program.now) c.args.thread.0 c.args.f.now c.f.inside.body c.args.call.now c.settle-at.new.path.items c.settle-at.result.0 c.in-Some.stmt.now below (ap (λ f. f.body) c.f.view_is) c.requires.runs
-    c.settle-at.ensures.same (sym (ap option_copied c.in-Some.is) ∙ c.settle-at.ensures.is)))
+    (stepped (text_of c.args.program.now) c.args.thread.0 c.args.f.now c.f.inside.body c.args.call.now c.next_statement-at.new.path.items c.next_statement-at.result.0 c.in-Some.stmt.now below (ap (λ f. f.body) c.f.view_is) c.requires.runs
+    c.next_statement-at.ensures.same (sym (ap option_copied c.in-Some.is) ∙ c.next_statement-at.ensures.is)))
     (c.statement_step.ensures.moves below)

@@ -1,7 +1,7 @@
 use Rattle.std.proofs.Common.{ap, sym, ◌∙◌, refl, ◌++◌, ◌∷◌, []}
 use Rattle.cml_step.specs.declared.entry.Entry.TheVariants as entry
 use Rattle.cml_step.specs.declared.entry.Wraps.{Wraps}
-use Rattle.cml_step.specs.Answers.{answered}
+use Rattle.cml_step.specs.Answers.{after_answer}
 use Rattle.cml_step.specs.Asks.{a_commit}
 use Rattle.cml_step.specs.Calls.{text_of}
 use Rattle.cml_step.specs.Machines.{plain_held}
@@ -15,7 +15,7 @@ returns-clause-term c p hs =
     let w : Wraps = record { left = c.reverse.new.self; value = c.args.value } in
     let r = commit_last c.requires.0 c.requires.1 c.args.top c.requires.2 in
     commit_given p hs r.0 r.1 w c.args.wraps.items c.args.value c.reverse.ensures.items refl
-    ∙ ap (answered (text_of p) (a_commit c.args.value c.args.wraps.items))
+    ∙ ap (after_answer (text_of p) (a_commit c.args.value c.args.wraps.items))
     (sym (ap (λ e. term_of p (hs ++ plain_held e ∷ [])) r.2 ∙ term_pushed p hs (plain_held (entry.Force r.0 r.1))))
 
 pub returns-clause-fits : goal.returns-clause-fits

@@ -1,6 +1,6 @@
 use Rattle.std.proofs.Common.{ap, sym, ◌∙◌, subst, ◌++◌, ◌∷◌, []}
 use Rattle.cml_step.specs.declared.entry.Entry.TheVariants as entry
-use Rattle.cml_step.specs.Answers.{answered}
+use Rattle.cml_step.specs.Answers.{after_answer}
 use Rattle.cml_step.specs.Asks.{a_value}
 use Rattle.cml_step.specs.Calls.{text_of}
 use Rattle.cml_step.specs.Machines.{plain_held}
@@ -20,7 +20,7 @@ fill-requires c = record {
 pub returns-in-Call-clause-term : goal.returns-in-Call-clause-term
 returns-in-Call-clause-term c p hs r h =
     value_given p hs c.in-Call.waiting c.fill.new.call c.args.value r (subst (λ e. StackFits p (hs ++ plain_held e ∷ [])) c.in-Call.is h) c.fill.ensures.place c.fill.ensures.runs c.fill.ensures.slots
-    ∙ ap (λ e. answered (text_of p) (a_value c.args.value) (term_of p (hs ++ plain_held e ∷ []))) (sym c.in-Call.is)
+    ∙ ap (λ e. after_answer (text_of p) (a_value c.args.value) (term_of p (hs ++ plain_held e ∷ []))) (sym c.in-Call.is)
 
 pub returns-in-Call-clause-fits : goal.returns-in-Call-clause-fits
 returns-in-Call-clause-fits c p hs h g =

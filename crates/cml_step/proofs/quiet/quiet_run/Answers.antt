@@ -1,5 +1,5 @@
 use Rattle.std.proofs.Common.{◌∷◌, length, sym, ap, ◌∙◌, subst, arith}
-use Rattle.cml_step.specs.Terms.{PlainEntry}
+use Rattle.cml_step.specs.Terms.{StackEntry}
 use Rattle.cml_step.specs.Slices.{GoesIn}
 use Rattle.cml_step.specs.Steps.{next, goes_on}
 use Rattle.cml_step.specs.Calls.{entry_of, text_of, WaitFits}
@@ -36,5 +36,5 @@ returns-then-not-quiet_step-clause-goes c = λ self below.
     let f = c.function-f.result.now in
     let now_is = entry_is p f c.args.call.now c.loop-done.call c.requires.fits.there c.function-f.ensures.found c.loop-done.invariant.func in
     let new_is = entry_is p f c.args.call.now c.quiet_step.new.call c.requires.fits.there c.function-f.ensures.found (c.quiet_step.ensures.same ∙ c.loop-done.invariant.func) in
-    subst (λ (e : PlainEntry). GoesIn (text_of p) self c.loop-done.done (entry_of p c.args.call.now ∷ below) (e ∷ below))
+    subst (λ (e : StackEntry). GoesIn (text_of p) self c.loop-done.done (entry_of p c.args.call.now ∷ below) (e ∷ below))
     (now_is ∙ sym (c.quiet_step.ensures.stays c.if-not-quiet_step.true) ∙ sym new_is) (c.loop-done.invariant.goes self below)

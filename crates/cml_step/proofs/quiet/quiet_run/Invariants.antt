@@ -5,7 +5,7 @@ use Rattle.cml_step.specs.Calls.{entry_of, text_of}
 use Rattle.cml_step.specs.Stacks.{CallFits}
 use Rattle.cml_step.proofs.quiet.quiet_run.Given as goal
 
--- so many steps went on
+-- this many steps went on
 abbrev pub invariant-loop-done : goal.invariant-loop-done
 invariant-loop-done l = record {
   within : l.done ≤ l.most;

@@ -1,5 +1,5 @@
 use Rattle.std.proofs.Common.{ap, sym, ◌∙◌, subst, ◌≡◌, ◌≤◌}
-use Rattle.cml_step.specs.Answers.{awaited, answer_to}
+use Rattle.cml_step.specs.Answers.{top_await, await_of}
 use Rattle.cml_step.specs.AskViews.{plain_ask}
 use Rattle.cml_step.specs.Calls.{text_of}
 use Rattle.cml_step.specs.Machines.{machine_term}
@@ -21,6 +21,6 @@ returns c =
       few = subst (λ s. s.steps ≤ max_steps) meant counts.1;
       thread = c.in_ok-end.ensures.thread ∙ ap (λ n. n.thread) c.in_ok-copy.ensures;
       fits = c.in_ok-end.ensures.fits;
-      awaits = subst (λ s. awaited s.end ≡ answer_to s.ask) meant (sliced_waits (text_of p) m.thread max_steps 0 (machine_term p m) c.requires.awaits);
+      awaits = subst (λ s. top_await s.end ≡ await_of s.ask) meant (sliced_waits (text_of p) m.thread max_steps 0 (machine_term p m) c.requires.awaits);
       agrees = c.in_ok-end.ensures.agrees;
     }

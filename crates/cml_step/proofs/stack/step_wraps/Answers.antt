@@ -4,7 +4,7 @@ use Rattle.cml_step.specs.declared.entry.Entry.TheVariants as entry
 use Rattle.cml_step.specs.Machines.{plain_held}
 use Rattle.cml_step.specs.Agrees.{value_agrees, functions_agree}
 use Rattle.cml_step.specs.Terms.{call_of, wraps}
-use Rattle.cml_step.specs.Forced.{given}
+use Rattle.cml_step.specs.Forced.{with_argument}
 use Rattle.cml_step.specs.Steps.{pushed}
 use Rattle.cml_step.specs.Calls.{text_of}
 use Rattle.cml_step.specs.Stacks.{IsStep, term_of, EachBeneath}
@@ -28,7 +28,7 @@ last_call-requires-clause-beneath c =
 pub returns-in_ok-push-in-Some-clause-meant : goal.returns-in_ok-push-in-Some-clause-meant
 returns-in_ok-push-in-Some-clause-meant c =
     subst (λ t. IsStep c.args.program.now c.last_call.result t c.last_call.new.below)
-    (ap (pushed (call_of (text_of c.args.program.now) (given c.in-Some.f c.args.wraps.value)))
+    (ap (pushed (call_of (text_of c.args.program.now) (with_argument c.in-Some.f c.args.wraps.value)))
     (pushed_is c.args.program.now c.args.below.now _ (plain_held (entry.Wraps (record { left = c.pop.new.self; value = c.in_ok-so_far-in-Some.so_far }))) c.in_ok-push-in-Some.ensures.items
     ∙ ap (λ v. wraps (reverse c.pop.new.self.items) v ∷ term_of c.args.program.now c.args.below.now) c.in_ok-so_far-in-Some.ensures)
     ∙ sym

@@ -1,6 +1,6 @@
 use Rattle.std.proofs.Common.{ℕ, ◌≡◌, List}
-use Rattle.cml_check.specs.Syntax.{PlainFunction as PlainItem}
-use Rattle.cml_step.specs.Answers.{awaited, nothing}
+use Rattle.cml_check.specs.Syntax.{PlainItem}
+use Rattle.cml_step.specs.Answers.{top_await, nothing}
 use Rattle.cml_step.specs.Machines.{PlainMachine, machine_term, Fits}
 use Rattle.cml_work.proofs.Handing.{of_some}
 use Rattle.cml_work.proofs.working.work_on.Goals as goal
@@ -11,7 +11,7 @@ work_once-requires-clause-fits g c =
 
 pub work_once-requires-clause-awaits : goal.work_once-requires-clause-awaits
 work_once-requires-clause-awaits g c =
-    of_some (λ (j : List (PlainItem ℕ) × PlainMachine). awaited (machine_term j.0 j.1) ≡ nothing) _ _ c.in-Some-2.is c.in_ok-program.ensures.awaits
+    of_some (λ (j : List (PlainItem ℕ) × PlainMachine). top_await (machine_term j.0 j.1) ≡ nothing) _ _ c.in-Some-2.is c.in_ok-program.ensures.awaits
 
 pub work_once-requires-clause-hands : goal.work_once-requires-clause-hands
 work_once-requires-clause-hands g c =

@@ -7,7 +7,7 @@ use Rattle.cml_scan.specs.Table.{IsThere, IsNackOf, nacks_among, has_light}
 use Rattle.cml_book.specs.Clock.{bases_awaited}
 use Rattle.cml_book.specs.Keeping.{nack_light}
 use Rattle.cml_book.proofs.Dimmed.{left_lights, apart_from, single_apart, can_give_after}
-use Rattle.cml_book.specs.Leaving.{put_out, can_give}
+use Rattle.cml_book.specs.Leaving.{turned_off, can_give}
 use Rattle.cml_book.proofs.Commits.{single_party, single_gives, flat_is, found, is_there, waits_on, sure_lights, told_lights, told_out, room_for_out, gone_one, base_at, chosen_at, copied_after, room_same, keeps_single, single_returns}
 use Rattle.cml_book.proofs.book.Book.commit_single.Goals as goal
 
@@ -58,8 +58,8 @@ push_lights-requires-clause-room g c =
     let fits = p.fits.nacks in
     rw is (omega arith)
 
-pub push_put_out-requires-clause-stock : goal.push_put_out-requires-clause-stock
-push_put_out-requires-clause-stock g c =
+pub push_turned_off-requires-clause-stock : goal.push_turned_off-requires-clause-stock
+push_turned_off-requires-clause-stock g c =
     let w = c.self.inside.state in
     let has = rw (← c.self.view_is) at c.requires in
     let e = single_party w _ _ _ c.args.tid c.args.leaf c.self.invariant.0 has in
@@ -68,8 +68,8 @@ push_put_out-requires-clause-stock g c =
     let gives = single_gives w _ c.args.tid.0 c.args.leaf e.0 p c.in-Some.flat.now c.leaf-base.result.now e.2 is c.leaf-base.ensures in
     gives
 
-pub push_put_out-requires-clause-room : goal.push_put_out-requires-clause-room
-push_put_out-requires-clause-room g c =
+pub push_turned_off-requires-clause-room : goal.push_turned_off-requires-clause-room
+push_turned_off-requires-clause-room g c =
     let w = c.self.inside.state in
     let has = rw (← c.self.view_is) at c.requires in
     let e = single_party w _ _ _ c.args.tid c.args.leaf c.self.invariant.0 has in
@@ -85,7 +85,7 @@ push_left_ticks-requires g c =
     let e = single_party w _ _ _ c.args.tid c.args.leaf c.self.invariant.0 has in
     let p = e.1 in
     let is = flat_is c.waiting.result c.in-Some.flat w c.args.tid.0 p.group c.waiting.ensures p.waits c.in-Some.is in
-    rw c.push_put_out.ensures.room (room_for_out w c.leaf-base.result.now c.self.inside.unlit.items c.push_put_out.new.lights.items c.in-Some.flat.now p.group (vec_capacity c.self.inside.unlit) c.self.invariant.2 is c.push_put_out.ensures.lights p.fits.ticks)
+    rw c.push_turned_off.ensures.room (room_for_out w c.leaf-base.result.now c.self.inside.unlit.items c.push_turned_off.new.lights.items c.in-Some.flat.now p.group (vec_capacity c.self.inside.unlit) c.self.invariant.2 is c.push_turned_off.ensures.lights p.fits.ticks)
 
 pub change-changed-requires-clause-there : goal.change-changed-requires-clause-there
 change-changed-requires-clause-there g c =
@@ -104,7 +104,7 @@ change-changed-requires-clause-apart g c =
     let p = e.1 in
     let is = flat_is c.waiting.result c.in-Some.flat w c.args.tid.0 p.group c.waiting.ensures p.waits c.in-Some.is in
     let lights = told_lights c.self.inside.lit.items c.push_lights.new.lights.items c.deref.result.now c.in-Some.flat.now p.group c.args.leaf c.self.invariant.1 is c.push_lights.ensures.lights c.deref.ensures.value in
-    let dark = told_out w c.leaf-base.result.now c.self.inside.unlit.items c.push_put_out.new.lights.items c.push_left_ticks.new.lights.items c.deref-2.result.now c.in-Some.flat.now p.group c.self.invariant.2 is c.push_put_out.ensures.lights c.push_left_ticks.ensures.lights c.deref-2.ensures.value in
+    let dark = told_out w c.leaf-base.result.now c.self.inside.unlit.items c.push_turned_off.new.lights.items c.push_left_ticks.new.lights.items c.deref-2.result.now c.in-Some.flat.now p.group c.self.invariant.2 is c.push_turned_off.ensures.lights c.push_left_ticks.ensures.lights c.deref-2.ensures.value in
     apart_from (lost p.group c.args.leaf) _ _ lights (λ k. ap (λ x. has_light x (nack_light k)) dark ∙ single_apart w c.leaf-base.result.now (bases_awaited (pending w)) (bases p.group) [] k)
 
 pub returns-in_default-changed-clause-sure : goal.returns-in_default-changed-clause-sure
@@ -157,10 +157,10 @@ invariant_of-self-2 g c =
     let is = flat_is c.waiting.result c.in-Some.flat w c.args.tid.0 p.group c.waiting.ensures p.waits c.in-Some.is in
     let gives = single_gives w _ c.args.tid.0 c.args.leaf e.0 p c.in-Some.flat.now c.leaf-base.result.now e.2 is c.leaf-base.ensures in
     let lights = told_lights c.self.inside.lit.items c.push_lights.new.lights.items c.deref.result.now c.in-Some.flat.now p.group c.args.leaf c.self.invariant.1 is c.push_lights.ensures.lights c.deref.ensures.value in
-    let dark = told_out w c.leaf-base.result.now c.self.inside.unlit.items c.push_put_out.new.lights.items c.push_left_ticks.new.lights.items c.deref-2.result.now c.in-Some.flat.now p.group c.self.invariant.2 is c.push_put_out.ensures.lights c.push_left_ticks.ensures.lights c.deref-2.ensures.value in
+    let dark = told_out w c.leaf-base.result.now c.self.inside.unlit.items c.push_turned_off.new.lights.items c.push_left_ticks.new.lights.items c.deref-2.result.now c.in-Some.flat.now p.group c.self.invariant.2 is c.push_turned_off.ensures.lights c.push_left_ticks.ensures.lights c.deref-2.ensures.value in
     let base = chosen_at w c.args.tid.0 c.args.leaf c.go_on-chosen.result.base _ c.go_on-chosen.ensures.leaf ∙ sym (base_at w c.args.tid.0 c.args.leaf p.group c.in-Some.flat.now c.leaf-base.result.now p.waits is c.leaf-base.ensures) in
-    let size = room_same (vec_capacity c.self.inside.lit) (vec_capacity c.self.inside.unlit) _ _ (c.clear.ensures.capacity ∙ c.push_lights.ensures.room) (c.clear-2.ensures.capacity ∙ c.push_left_ticks.ensures.room ∙ c.push_put_out.ensures.room) in
-    let out = dark ∙ ap (λ x. put_out w x ++ left_lights (bases_awaited (pending w)) (bases p.group) []) (sym base) in
+    let size = room_same (vec_capacity c.self.inside.lit) (vec_capacity c.self.inside.unlit) _ _ (c.clear.ensures.capacity ∙ c.push_lights.ensures.room) (c.clear-2.ensures.capacity ∙ c.push_left_ticks.ensures.room ∙ c.push_turned_off.ensures.room) in
+    let out = dark ∙ ap (λ x. turned_off w x ++ left_lights (bases_awaited (pending w)) (bases p.group) []) (sym base) in
     let k = keeps_single w (g.T.Table.entries c.self.inside.table) (g.T.Table.is_lit c.self.inside.table) _ c.args.tid c.args.leaf p.group c.go_on-chosen.result.base (g.T.Table.entries c.change-changed.new.self) (g.T.Table.is_lit c.change-changed.new.self)
     c.go_on-chosen.new.self c.given-value.new.self c.deref.result.now c.deref-2.result.now _ c.self.invariant.0 p.waits (ap (can_give w) base ∙ gives) c.go_on-chosen.ensures.world c.given-value.ensures.world
     lights out c.in-Ok.ensures.ok c.in-Ok.ensures.ok_lit size in

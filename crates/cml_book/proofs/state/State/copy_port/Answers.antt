@@ -2,7 +2,7 @@ use Rattle.std.proofs.Common.{◌∙◌, ◌<◌, ℕ, List, Some, length, refl,
 use Rattle.cml_value.specs.declared.number.PortId.{PortId}
 use Rattle.cml_value.specs.Value.{PlainValue}
 use Rattle.cml_book.specs.Outcomes.{max_objects}
-use Rattle.cml_book.specs.Homes.{numbers_of}
+use Rattle.cml_book.specs.Homes.{channel_numbers}
 use Rattle.cml_book.specs.Views.{queues_of, ports_of}
 use Rattle.cml_book.specs.contracts.state.State.{the_view}
 use Rattle.cml_book.proofs.ObjectLemmas.{stays_kept}
@@ -16,7 +16,7 @@ add_port-requires-clause-there g c =
     let s = c.self.inside in
     let there : c.args.port.0 < length s.homes.items = omega (arith, c.if-place-len.false, c.len.ensures) in
     let home = home_get s.homes.items c.args.port.0 c.index-home.result.now (found_there _ _ _ there c.index-home.ensures) in
-    let i = home_there (ports_of s.mchans.items) (numbers_of s.homes.items) c.args.port.0 _ c.self.invariant.2.housed home in
+    let i = home_there (ports_of s.mchans.items) (channel_numbers s.homes.items) c.args.port.0 _ c.self.invariant.2.housed home in
     omega (arith, i, channel_count s.mchans.items)
 
 pub returns-clause-step : goal.returns-clause-step
@@ -29,7 +29,7 @@ returns-clause-step g c =
     let unread = queue_get s.ports.objects c.args.port.0 c.in-Some.original.now (sym c.in-Some.ensures) ∙ ap (λ (items : List PlainValue). Some items) (sym c.in-Ok.ensures) in
     let made = ap (λ (n : ℕ). let port : PortId = record { 0 = n } in port) c.in-Ok-add_port.ensures.id in
     rw (← c.self.view_is, c.in-Ok-add_port.ensures.channels, c.in-Ok-add_port.ensures.ports, made, ← queue_count s.ports.objects)
-    (copy_port_does (the_view s) (numbers_of s.homes.items) c.args.port.0 c.index-home.result.now.0 c.in-Ok.copy.items within few c.self.invariant.2.housed home unread)
+    (copy_port_does (the_view s) (channel_numbers s.homes.items) c.args.port.0 c.index-home.result.now.0 c.in-Ok.copy.items within few c.self.invariant.2.housed home unread)
 
 pub returns-clause-kept : goal.returns-clause-kept
 returns-clause-kept g c =

@@ -1,7 +1,7 @@
 use Rattle.std.proofs.Common.{◌≡◌, ◌∙◌, ◌<◌, ℕ, List, true, length, refl, ap, sym, arith}
 use Rattle.cml_value.specs.Limits.{value_fits}
 use Rattle.cml_value.specs.Value.{PlainValue}
-use Rattle.cml_queues.specs.Posts.{numbers, any_is_full, posted}
+use Rattle.cml_queues.specs.Posts.{port_numbers, any_is_full, posted}
 use Rattle.cml_book.specs.MakePort.{has_port}
 use Rattle.cml_book.specs.Views.{queues_of, ports_of}
 use Rattle.cml_book.specs.contracts.state.State.{the_view}
@@ -46,7 +46,7 @@ returns-clause-kept g c =
     let there : c.args.channel.0 < length s.mchans.items = omega (arith, c.if-place-len.false, c.len.ensures) in
     let ids = ports_found s.mchans.items c.args.channel.0 c.index.result.now (found_there s.mchans.items c.args.channel.0 c.index.result.now there c.index.ensures) in
     let count = queue_count s.ports.objects in
-    let below : (p : ℕ) → has_port (numbers c.index.result.now.ports) p ≡ true → p < length (queues_of s.ports.objects)
+    let below : (p : ℕ) → has_port (port_numbers c.index.result.now.ports) p ≡ true → p < length (queues_of s.ports.objects)
     = λ p k. (let b = ports_below s.mchans.items s.homes.items _ c.args.channel.0 c.self.invariant.2 p (rw ids k) in omega (arith, b, count)) in
     rw (← c.self.view_is, c.in_default.ensures.ok) (stays_kept _ _ _ _ _ _ refl refl c.in_default.ensures.entries
-    (multicast_true (the_view s) _ _ (numbers c.index.result.now.ports) c.args.message below c.in_default.ensures.ok_told))
+    (multicast_true (the_view s) _ _ (port_numbers c.index.result.now.ports) c.args.message below c.in_default.ensures.ok_told))

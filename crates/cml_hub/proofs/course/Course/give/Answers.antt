@@ -3,7 +3,7 @@ use Rattle.std.specs.String.{string_bytes}
 use Rattle.cml_schedule.specs.Laws.{IsNumber}
 use Rattle.cml_schedule.specs.declared.item.Item.TheVariants.{Turn}
 use Rattle.cml_hub.specs.Dones.{DoneFits}
-use Rattle.cml_hub.specs.Courses.{PlainCourse, Keeps, IsOurs}
+use Rattle.cml_hub.specs.Courses.{PlainCourse, HasMachine, IsOurs}
 use Rattle.cml_hub.proofs.Ours.{machine_within, ours_own}
 use Rattle.cml_hub.proofs.Turning.{can_settle, TurnDone, turned_leads_at, turned_is_at, slice_here}
 use Rattle.cml_hub.proofs.course.Course.give.Goals as goal
@@ -66,7 +66,7 @@ invariant_of-self-2 c =
     let number = c.thread-thread.result in
     let prepared = c.in-Ok-prepare.prepared in
     let ours : IsOurs k ran = rw (← c.self.view_is) at c.requires in
-    let own : Keeps k ran.start.thread ran.start = ours_own k ran c.self.invariant ours in
+    let own : HasMachine k ran.start.thread ran.start = ours_own k ran c.self.invariant ours in
     let e : number.0 ≡ ran.start.thread = c.thread-thread.ensures ∙ ap (λ m. m.thread) c.start.ensures in
     let n : IsNumber number.0 = omega arith in
     let turn : TurnDone k number ran.start ran.end ran.ask ran.steps prepared.done c.prepare.new.book (string_bytes prepared.line) c.settle.new.machines.items = record {
@@ -92,7 +92,7 @@ returns-clause-ok c =
     let number = c.thread-thread.result in
     let prepared = c.in-Ok-prepare.prepared in
     let ours : IsOurs k ran = rw (← c.self.view_is) at c.requires in
-    let own : Keeps k ran.start.thread ran.start = ours_own k ran c.self.invariant ours in
+    let own : HasMachine k ran.start.thread ran.start = ours_own k ran c.self.invariant ours in
     let e : number.0 ≡ ran.start.thread = c.thread-thread.ensures ∙ ap (λ m. m.thread) c.start.ensures in
     let turn : TurnDone k number ran.start ran.end ran.ask ran.steps prepared.done c.prepare.new.book (string_bytes prepared.line) c.settle.new.machines.items = record {
       runs = rw e own.running;

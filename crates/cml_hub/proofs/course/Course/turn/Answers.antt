@@ -5,7 +5,7 @@ use Rattle.cml_scan.specs.World.{running}
 use Rattle.cml_step.specs.AskViews.{plain_ask}
 use Rattle.cml_schedule.specs.Laws.{IsNumber}
 use Rattle.cml_schedule.specs.declared.item.Item.TheVariants.{Turn}
-use Rattle.cml_hub.specs.Courses.{PlainCourse, Keeps}
+use Rattle.cml_hub.specs.Courses.{PlainCourse, HasMachine}
 use Rattle.cml_hub.proofs.Ours.{machine_within, machine_at, machine_keeps, machine_goes}
 use Rattle.cml_hub.proofs.Turning.{can_settle, TurnDone, turned_leads_at, turned_is}
 use Rattle.cml_hub.proofs.course.Course.turn.Goals as goal
@@ -20,14 +20,14 @@ pub run_slice-requires-clause-fits : goal.run_slice-requires-clause-fits
 run_slice-requires-clause-fits c =
     let s = c.self.inside in
     let k : PlainCourse = record { program = s.program; items = s.items.items; world = s.threads; machines = s.machines.items; output = string_bytes s.output; used = s.used } in
-    let keeps : Keeps k c.args.thread.0 c.index.result.now = machine_keeps k c.args.thread.0 c.index.result.now c.self.invariant (rw (← c.self.view_is) at c.requires) c.index.ensures in
+    let keeps : HasMachine k c.args.thread.0 c.index.result.now = machine_keeps k c.args.thread.0 c.index.result.now c.self.invariant (rw (← c.self.view_is) at c.requires) c.index.ensures in
     (machine_goes k c.args.thread.0 c.index.result.now c.self.invariant keeps).0
 
 pub run_slice-requires-clause-awaits : goal.run_slice-requires-clause-awaits
 run_slice-requires-clause-awaits c =
     let s = c.self.inside in
     let k : PlainCourse = record { program = s.program; items = s.items.items; world = s.threads; machines = s.machines.items; output = string_bytes s.output; used = s.used } in
-    let keeps : Keeps k c.args.thread.0 c.index.result.now = machine_keeps k c.args.thread.0 c.index.result.now c.self.invariant (rw (← c.self.view_is) at c.requires) c.index.ensures in
+    let keeps : HasMachine k c.args.thread.0 c.index.result.now = machine_keeps k c.args.thread.0 c.index.result.now c.self.invariant (rw (← c.self.view_is) at c.requires) c.index.ensures in
     (machine_goes k c.args.thread.0 c.index.result.now c.self.invariant keeps).1
 
 pub settle-requires-clause-there : goal.settle-requires-clause-there

@@ -15,10 +15,16 @@ use Rattle.cml_index.proofs.Going.{nacks_named, gone_many, cost_gone, cost_came}
 use Rattle.cml_index.proofs.index.OfferIndex.change_tallied.Goals as goal
 
 pub leave_only-requires-clause-there : goal.leave_only-requires-clause-there
-leave_only-requires-clause-there c = subst (λ (x : spec.PlainIndex). All (IsThere x.entries) c.args.gone.now) (sym c.self.view_is) c.requires.there
+leave_only-requires-clause-there c = record {
+  there = subst (λ (x : spec.PlainIndex). All (IsThere x.entries) c.args.gone.now) (sym c.self.view_is) c.requires.there;
+  once = c.requires.once;
+}
 
 pub leave_and_come-requires-clause-there : goal.leave_and_come-requires-clause-there
-leave_and_come-requires-clause-there c = subst (λ (x : spec.PlainIndex). All (IsThere x.entries) c.args.gone.now) (sym c.self.view_is) c.requires.there
+leave_and_come-requires-clause-there c = record {
+  there = subst (λ (x : spec.PlainIndex). All (IsThere x.entries) c.args.gone.now) (sym c.self.view_is) c.requires.there;
+  once = c.requires.once;
+}
 
 pub returns-in-None-clause-sure : goal.returns-in-None-clause-sure
 returns-in-None-clause-sure c = λ none nacks.

@@ -12,7 +12,7 @@ use Rattle.std.specs.Prelude.{List}
 use Rattle.std.specs.Option.{option_map_or}
 use Rattle.cml_index.specs.declared.slot.Slot.{Slot}
 use Rattle.cml_index.specs.declared.slot.Slot.TheVariants.{Side}
-use Rattle.cml_index.specs.Slots.{lane_at, lane_of, leaves_at, run_in, has_run}
+use Rattle.cml_index.specs.Slots.{lane_at, lane_of, slot_leaves, run_in, has_run}
 use Rattle.cml_index.proofs.Walks.{no_run, with_none}
 use Rattle.cml_channel.specs.Pairings.{one_lane}
 use Rattle.cml_index.specs.Live.{may_meet}
@@ -28,7 +28,7 @@ overflow_add-self-2 c =
     let count : c.count_lit-lit.result ≡ length (filter lit (bases c.args.entry.group)) = c.count_lit-lit.ensures.count ∙ ap (λ bs. length (filter lit bs)) c.bases.ensures in
     let a : length (filter lit (bases c.args.entry.group)) ≤ length (bases c.args.entry.group) = filter_fewer lit (bases c.args.entry.group) in
     let b : length (spec.lit_offers c.args.self.now.flags.entries es) ≤ length (offers_of es) = filter_fewer (λ (o : Rattle.cml_scan.specs.Scan.PlainOffer). lit o.base) (offers_of es) in
-    omega (arith, count, a, b, c.requires.indexed.all, c.requires.indexed.alone, c.requires.small)
+    omega (arith, count, a, b, c.requires.indexed.all, c.requires.indexed.alone, c.requires.room.small)
 
 pub come-requires-clause-sorted : goal.come-requires-clause-sorted
 come-requires-clause-sorted c k = subst (Ascends before) (sym (c.requires.indexed.placed k)) (lane-ascends spec.slot_of k c.args.self.now.entries.items c.requires.indexed.sorted)
@@ -93,12 +93,12 @@ returns-clause-indexed c =
     record {
       sorted = subst IsSorted (sym after) (sorted_with e es c.requires.indexed.sorted);
       placed = λ k. c.come.ensures.lanes k ∙ ap (λ ls. with_run c.tid.result ls (lane_at c.args.self.now.lanes.by_slot k)) (c.runs.ensures.runs k)
-          ∙ ap (with_run c.tid.result (leaves_at k 0 (map spec.slot_of (bases e.group)))) (c.requires.indexed.placed k)
+          ∙ ap (with_run c.tid.result (slot_leaves k 0 (map spec.slot_of (bases e.group)))) (c.requires.indexed.placed k)
           ∙ came_lane spec.slot_of k c.tid.result e es c.tid.ensures ∙ ap (λ xs. lane_of spec.slot_of k (offers_of xs)) (sym after);
       sides = c.add_all.ensures;
       all = omega (arith, many, count, now, c.requires.indexed.all);
       alone = omega (arith, many_lit, count_lit, now_lit, c.requires.indexed.alone);
-      named = subst (λ xs. Every (λ k. spec.is_named c.args.self.now.flags.entries (spec.slot_of_nack k)) (spec.nacks_in xs)) (sym after) (nacks_with (λ k. spec.is_named c.args.self.now.flags.entries (spec.slot_of_nack k)) e es c.requires.indexed.named c.requires.named);
+      named = subst (λ xs. Every (λ k. spec.is_named c.args.self.now.flags.entries (spec.slot_of_nack k)) (spec.nacks_in xs)) (sym after) (nacks_with (λ k. spec.is_named c.args.self.now.flags.entries (spec.slot_of_nack k)) e es c.requires.indexed.named c.requires.room.named);
     }
 
 pub returns-clause-cost : goal.returns-clause-cost

@@ -97,7 +97,7 @@ returns-clause-indexed c =
       named = subst (λ xs. Every (λ k. spec.is_named c.args.self.now.flags.entries (spec.slot_of_nack k)) (spec.nacks_in xs)) (sym rest) (nacks_left (λ k. spec.is_named c.args.self.now.flags.entries (spec.slot_of_nack k)) (λ e. not (nat_eq c.args.tid.0 e.thread)) es c.requires.indexed.named);
     }
 
-pub returns-clause-shorter : goal.returns-clause-shorter
+pub returns-clause-freed-shorter : goal.returns-clause-freed-shorter
 returns-clause-shorter c k =
     let fewer : length (others c.args.tid (lane_at c.args.self.now.lanes.by_slot k)) ≤ length (lane_at c.args.self.now.lanes.by_slot k) = filter_fewer (is_others c.args.tid) (lane_at c.args.self.now.lanes.by_slot k) in
     let same : length (lane_at c.go.new.self.by_slot k) ≡ length (others c.args.tid (lane_at c.args.self.now.lanes.by_slot k)) = ap length (c.go.ensures.lanes k) in

@@ -4,18 +4,15 @@ use Rattle.cml_scan.specs.Table.{without}
 use Rattle.cml_index.specs.declared.slot.Slot.{Slot}
 use Rattle.cml_index.specs.Slots.{lane_at, room_at}
 use Rattle.cml_index.specs.Posts as spec
+use Rattle.cml_index.specs.Cores.{IsIndexed, HasFreed}
 use Rattle.cml_index.proofs.state.Core.leave_all.Given as goal
 
 -- those so far are gone
 abbrev pub invariant-loop-tid : goal.invariant-loop-tid
 invariant-loop-tid l = record {
   entries : l.self.entries.items ≡ without (take l.tid-index l.gone) l.fn.self.entries.items;
-  indexed : spec.IsIndexed l.self.entries.items l.self.lanes.by_slot l.self.live l.self.flags.entries l.self.leaves l.self.lit;
+  indexed : IsIndexed l.self;
   flags : l.self.flags ≡ l.fn.self.flags;
-  room : (k : Slot) → room_at l.fn.self.lanes.by_slot k ≤ room_at l.self.lanes.by_slot k;
-  shorter : (k : Slot) → length (lane_at l.self.lanes.by_slot k) ≤ length (lane_at l.fn.self.lanes.by_slot k);
+  freed : HasFreed l.fn.self l.self;
   cost : (digits : ℕ) → ((k : Slot) → length (lane_at l.fn.self.lanes.by_slot k) < 2 ^ digits) → l.tally + l.self.leaves * (digits + 2) ≤ l.fn.tally + l.fn.self.leaves * (digits + 2);
-  lighter : l.self.leaves ≤ l.fn.self.leaves;
-  seat : l.fn.self.entries.room ≤ l.self.entries.room;
-  seats : spare l.fn.self.live ≤ spare l.self.live;
 }

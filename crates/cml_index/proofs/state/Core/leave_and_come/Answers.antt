@@ -15,20 +15,23 @@ use Rattle.cml_index.proofs.Forgotten.{all_out}
 use Rattle.cml_index.proofs.state.Core.leave_and_come.Goals as goal
 
 pub tell_and_leave-requires-clause-there : goal.tell_and_leave-requires-clause-there
-tell_and_leave-requires-clause-there c = subst (λ es. All (IsThere es) c.args.gone.now) (sym c.in-Ok.ensures.entries) c.requires.there
+tell_and_leave-requires-clause-there c = record {
+  there = subst (λ es. All (IsThere es) c.args.gone.now) (sym c.in-Ok.ensures.same.entries) c.requires.there.there;
+  once = c.requires.there.once;
+}
 
 pub enter-requires-clause-new : goal.enter-requires-clause-new
 enter-requires-clause-new c =
     let es = c.args.self.now.entries.items in
     let thread : c.with_places.result.thread ≡ c.args.tid.0 = ap (λ (e : PlainEntry). e.thread) (c.with_places.ensures ∙ c.in_ok-entry.ensures) in
-    let left : c.tell_and_leave.new.self.entries.items ≡ without c.args.gone.now es = c.tell_and_leave.ensures.entries ∙ ap (without c.args.gone.now) c.in-Ok.ensures.entries in
+    let left : c.tell_and_leave.new.self.entries.items ≡ without c.args.gone.now es = c.tell_and_leave.ensures.entries ∙ ap (without c.args.gone.now) c.in-Ok.ensures.same.entries in
     let apart = apart_all c.args.tid.0 (without c.args.gone.now es) (Every-filter (λ e. not (nat_eq c.args.tid.0 e.thread)) (λ e. not (is_among c.args.gone.now e.thread)) es (all_apart c.args.tid.0 es c.requires.new)) in
     rw (thread, left) apart
 
-pub enter-requires-clause-named : goal.enter-requires-clause-named
-enter-requires-clause-named c =
+pub enter-requires-clause-room-named : goal.enter-requires-clause-room-named
+enter-requires-clause-room-named c =
     subst (λ (e : PlainEntry). Every (λ k. spec.is_named c.tell_and_leave.new.self.flags.entries (spec.slot_of_nack k)) (nacks_of (scopes e.group))) (sym c.with_places.ensures)
-    (Every-weaker (λ k. spec.is_named c.make_ready.new.self.flags.entries (spec.slot_of_nack k)) (λ k. spec.is_named c.tell_and_leave.new.self.flags.entries (spec.slot_of_nack k)) (nacks_of (scopes c.in_ok-entry.entry.group)) (λ k h. c.tell_and_leave.ensures.kept (spec.slot_of_nack k) h) c.in-Ok.ensures.named)
+    (Every-weaker (λ k. spec.is_named c.make_ready.new.self.flags.entries (spec.slot_of_nack k)) (λ k. spec.is_named c.tell_and_leave.new.self.flags.entries (spec.slot_of_nack k)) (nacks_of (scopes c.in_ok-entry.entry.group)) (λ k h. c.tell_and_leave.ensures.kept (spec.slot_of_nack k) h) c.in-Ok.ensures.room.named)
 
 pub forget_all-requires-clause-out : goal.forget_all-requires-clause-out
 forget_all-requires-clause-out c = all_out c.args.lit.now c.args.unlit.now (spec.told c.make_ready.new.self.flags.entries) (spec.told c.enter.new.self.flags.entries) c.requires.apart
@@ -37,8 +40,8 @@ forget_all-requires-clause-out c = all_out c.args.lit.now c.args.unlit.now (spec
 pub returns-clause-cost : goal.returns-clause-cost
 returns-clause-cost c digits few =
     let same : length (bases c.with_places.result.group) ≡ length (bases c.args.group.now) = ap (λ (e : PlainEntry). length (bases e.group)) (c.with_places.ensures ∙ c.in_ok-entry.ensures) in
-    let ready : (k : Slot) → length (lane_at c.make_ready.new.self.lanes.by_slot k) < 2 ^ digits = λ k. let q = ap length (c.in-Ok.ensures.lanes k) in let f = few k in omega (arith, q, f) in
+    let ready : (k : Slot) → length (lane_at c.make_ready.new.self.lanes.by_slot k) < 2 ^ digits = λ k. let q = ap length (c.in-Ok.ensures.same.lanes k) in let f = few k in omega (arith, q, f) in
     let turned = c.tell_and_leave.ensures.cost digits ready in
-    let entered = c.enter.ensures.cost digits (λ k. let q = c.tell_and_leave.ensures.shorter k in let f = ready k in omega (arith, q, f)) in
+    let entered = c.enter.ensures.cost digits (λ k. let q = c.tell_and_leave.ensures.freed.shorter k in let f = ready k in omega (arith, q, f)) in
     let sum = cost_sum c.args.tally.now c.tell_and_leave.new.tally c.enter.new.tally c.make_ready.new.self.leaves c.tell_and_leave.new.self.leaves (length (bases c.with_places.result.group)) _ digits turned entered in
-    rw (c.forget_all.ensures.leaves, c.enter.ensures.leaves, ← same, ← c.in-Ok.ensures.leaves) sum
+    rw (c.forget_all.ensures.leaves, c.enter.ensures.leaves, ← same, ← c.in-Ok.ensures.same.leaves) sum

@@ -3,13 +3,14 @@ use Rattle.cml_scan.specs.declared.object.Light.{Light}
 use Rattle.cml_scan.specs.Table.{has_light}
 use Rattle.cml_index.specs.declared.slot.Slot.{Slot}
 use Rattle.cml_index.specs.Posts as spec
+use Rattle.cml_index.specs.Cores.{IsIndexed}
 use Rattle.cml_index.proofs.state.Core.tell_all.Given as goal
 
 -- it was told of the lights so far
 abbrev pub invariant-loop-light : goal.invariant-loop-light
 invariant-loop-light l = record {
   told : (m : Light) → spec.told l.self.flags.entries m ≡ (if has_light (take l.light-index l.lights) m then l.lit else spec.told l.fn.self.flags.entries m);
-  indexed : spec.IsIndexed l.self.entries.items l.self.lanes.by_slot l.self.live l.self.flags.entries l.self.leaves l.self.lit;
+  indexed : IsIndexed l.self;
   entries : l.self.entries ≡ l.fn.self.entries;
   lanes : l.self.lanes.by_slot ≡ l.fn.self.lanes.by_slot;
   leaves : l.self.leaves ≡ l.fn.self.leaves;

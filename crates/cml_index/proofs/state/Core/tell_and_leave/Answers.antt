@@ -10,4 +10,7 @@ pub tell_all-requires-2-clause-there : goal.tell_all-requires-2-clause-there
 tell_all-requires-2-clause-there c = λ on. Every-weaker (λ l. spec.is_named c.args.self.now.flags.entries (Waiters l)) (λ l. spec.is_named c.tell_all.new.self.flags.entries (Waiters l)) c.args.lit.now (λ l h. c.tell_all.ensures.kept (Waiters l) h) c.requires.named
 
 pub leave_all-requires-clause-there : goal.leave_all-requires-clause-there
-leave_all-requires-clause-there c = subst (λ es. All (IsThere es) c.args.gone.now) (sym (ap (λ v. v.items) (c.tell_all-2.ensures.entries ∙ c.tell_all.ensures.entries))) c.requires.there
+leave_all-requires-clause-there c = record {
+  there = subst (λ es. All (IsThere es) c.args.gone.now) (sym (ap (λ v. v.items) (c.tell_all-2.ensures.entries ∙ c.tell_all.ensures.entries))) c.requires.there.there;
+  once = c.requires.there.once;
+}

@@ -2,7 +2,7 @@ use Rattle.std.proofs.Common.{ap, ◌∙◌}
 use Rattle.cml_check.specs.InOrder.{arities, exprs_count}
 use Rattle.cml_step.specs.Agrees.{function_agrees}
 use Rattle.cml_step.proofs.AgreeLemmas.{called_agrees}
-use Rattle.cml_step.proofs.call.spawned.Goals as goal
+use Rattle.cml_step.proofs.call.spawn_effect.Goals as goal
 
 pub returns-clause-did : goal.returns-clause-did
 returns-clause-did c =

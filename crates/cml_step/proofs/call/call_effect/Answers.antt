@@ -1,6 +1,6 @@
 use Rattle.cml_check.specs.InOrder.{arities, exprs_count}
 use Rattle.cml_step.proofs.AgreeLemmas.{called_agrees}
-use Rattle.cml_step.proofs.call.called.Goals as goal
+use Rattle.cml_step.proofs.call.call_effect.Goals as goal
 
 pub returns-clause-did : goal.returns-clause-did
 returns-clause-did c =
