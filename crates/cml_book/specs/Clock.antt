@@ -11,8 +11,7 @@ use Rattle.cml_book.specs.Outcomes.{Outcome, refuse_if}
 -- The clock moves to this tick, which must be neither before now nor above the greatest. This time is the project's own: it moves by this
 -- command alone.
 abbrev pub clock : PlainWorld → ℕ → Outcome (Unit {0})
-clock w to =
-    refuse_if (nat_lt to w.tick) refusal.Clock
+clock w to = refuse_if (nat_lt to w.tick) refusal.Clock
     (refuse_if (nat_lt max_tick to) refusal.Far
     (Ok (record w { tick = to }, tt)))
 

@@ -127,6 +127,5 @@ after w (Pair h i o j) = released (released w h.0 i) o.0 j
 
 -- The row is taken, if it is enabled now.
 abbrev pub commit : PlainWorld → Meet → Outcome Committed
-commit w row =
-    refuse_if (not (has_row (scan w) row)) Row
+commit w row = refuse_if (not (has_row (scan w) row)) Row
     (Ok (after w row, hands w row))

@@ -10,8 +10,7 @@ use Rattle.cml_book.specs.Outcomes.{Outcome, refuse_if}
 -- The value is put after the items of the mailbox, and nobody waits (Reppy's send to a mailbox). That a mailbox can be full is a rule
 -- of our own.
 abbrev pub mail : PlainWorld → ℕ → PlainValue → Outcome (Unit {0})
-mail w b v =
-    refuse_if (not (nat_lt b (length w.mailboxes))) Object
+mail w b v = refuse_if (not (nat_lt b (length w.mailboxes))) Object
     (refuse_if (not (value_fits v)) Deep
     (refuse_if (is_full_at w.mailboxes b) Full
     (Ok (record w { mailboxes = added_at w.mailboxes b v }, tt))))

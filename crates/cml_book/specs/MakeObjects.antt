@@ -12,8 +12,7 @@ use Rattle.cml_book.specs.Outcomes.{Outcome, refuse_if, max_objects}
 
 -- A new I-variable, which is empty (Reppy's iVar).
 abbrev pub make_ivar : PlainWorld → Outcome IVarId
-make_ivar w =
-    refuse_if (nat_le max_objects (length w.ivars)) Full
+make_ivar w = refuse_if (nat_le max_objects (length w.ivars)) Full
     (Ok (record w { ivars = w.ivars ++ None ∷ [] }, record { 0 = length w.ivars }))
 
 -- what a new variable is to hold is not too large
@@ -23,19 +22,16 @@ held_fits (Some v) = value_fits v
 
 -- A new M-variable, which is empty (Reppy's mVar) or holds this value (his mVarInit).
 abbrev pub make_mvar : PlainWorld → Option PlainValue → Outcome MVarId
-make_mvar w held =
-    refuse_if (not (held_fits held)) Deep
+make_mvar w held = refuse_if (not (held_fits held)) Deep
     (refuse_if (nat_le max_objects (length w.mvars)) Full
     (Ok (record w { mvars = w.mvars ++ held ∷ [] }, record { 0 = length w.mvars })))
 
 -- A new mailbox, which has no item (Reppy's mailbox).
 abbrev pub make_mailbox : PlainWorld → Outcome MboxId
-make_mailbox w =
-    refuse_if (nat_le max_objects (length w.mailboxes)) Full
+make_mailbox w = refuse_if (nat_le max_objects (length w.mailboxes)) Full
     (Ok (record w { mailboxes = w.mailboxes ++ [] ∷ [] }, record { 0 = length w.mailboxes }))
 
 -- A new multicast channel, which has no port (Reppy's mChannel).
 abbrev pub make_mchan : PlainWorld → Outcome McastId
-make_mchan w =
-    refuse_if (nat_le max_objects (length w.mchans)) Full
+make_mchan w = refuse_if (nat_le max_objects (length w.mchans)) Full
     (Ok (record w { mchans = w.mchans ++ [] ∷ [] }, record { 0 = length w.mchans }))

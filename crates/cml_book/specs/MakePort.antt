@@ -20,16 +20,9 @@ with_port channels x port = slice_set channels x (ports_at channels x ++ port �
 
 -- A new port of the channel, to which later messages come (Reppy's port).
 abbrev pub make_port : PlainWorld → ℕ → Outcome PortId
-make_port w x =
-    refuse_if (not (nat_lt x (length w.mchans))) Object
+make_port w x = refuse_if (not (nat_lt x (length w.mchans))) Object
     (refuse_if (nat_le max_objects (length w.ports)) Full
-    (Ok (
-      record w {
-        mchans = with_port w.mchans x (length w.ports);
-        ports = w.ports ++ [] ∷ [];
-      },
-      record { 0 = length w.ports },
-    )))
+    (Ok (record w { mchans = with_port w.mchans x (length w.ports); ports = w.ports ++ [] ∷ [] }, record { 0 = length w.ports })))
 
 -- the ports of a channel once the port `copy` hears what the port `p` hears
 abbrev pub heard_by : ℕ → ℕ → List ℕ → List ℕ
@@ -37,13 +30,9 @@ heard_by copy p ports = if has_port ports p then ports ++ copy ∷ [] else ports
 
 -- A new port that has the same unread messages as this one, and belongs to the same channel (Reppy's copy).
 abbrev pub copy_port : PlainWorld → ℕ → Outcome PortId
-copy_port w p =
-    refuse_if (not (nat_lt p (length w.ports))) Object
+copy_port w p = refuse_if (not (nat_lt p (length w.ports))) Object
     (refuse_if (nat_le max_objects (length w.ports)) Full
     (Ok (
-      record w {
-        mchans = map (heard_by (length w.ports) p) w.mchans;
-        ports = w.ports ++ unwrap_or (slice_get w.ports p) [] ∷ [];
-      },
+      record w { mchans = map (heard_by (length w.ports) p) w.mchans; ports = w.ports ++ unwrap_or (slice_get w.ports p) [] ∷ [] },
       record { 0 = length w.ports },
     )))

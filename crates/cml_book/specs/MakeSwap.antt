@@ -7,6 +7,5 @@ use Rattle.cml_book.specs.Outcomes.{Outcome, refuse_if, max_objects}
 
 -- A new swap channel, over which two threads exchange values. The kind is this project's own.
 abbrev pub make_swap : PlainWorld → Outcome SwapId
-make_swap w =
-    refuse_if (nat_le max_objects w.swaps) Full
+make_swap w = refuse_if (nat_le max_objects w.swaps) Full
     (Ok (record w { swaps = w.swaps + 1 }, record { 0 = w.swaps }))

@@ -15,8 +15,7 @@ use Rattle.cml_book.specs.MakePort.{ports_at}
 -- The message comes to every port of the channel (Reppy's multicast); a channel without ports drops it. Where one of the ports is
 -- full, it comes to none: that is a rule of our own.
 abbrev pub multicast : PlainWorld → ℕ → PlainValue → Outcome (Unit {0})
-multicast w x v =
-    refuse_if (not (nat_lt x (length w.mchans))) Object
+multicast w x v = refuse_if (not (nat_lt x (length w.mchans))) Object
     (refuse_if (not (value_fits v)) Deep
     (refuse_if (any_is_full (ports_at w.mchans x) w.ports) Full
     (Ok (record w { ports = posted v (ports_at w.mchans x) w.ports }, tt))))

@@ -7,7 +7,6 @@ use Rattle.cml_book.specs.Outcomes.{Outcome, refuse_if, refuse_by, thread_refusa
 
 -- A new nack is fresh and belongs to the thread that asks for it.
 abbrev pub nack : PlainWorld → ℕ → Outcome NackId
-nack w t =
-    refuse_by (thread_refusal (slice_get w.threads t))
+nack w t = refuse_by (thread_refusal (slice_get w.threads t))
     (refuse_if (nat_le max_objects (length w.nacks)) Full
     (Ok (record w { nacks = w.nacks ++ fresh_of t ∷ [] }, record { 0 = length w.nacks })))

@@ -1,6 +1,6 @@
 -- The outcome of a command: the world after it and an answer, or a refusal.
 use Rattle.std.specs.Prelude.{◌≡◌, ℕ, Bool, true, false, Option, Some, None, Result, Ok, Err, IsOk, slice_set}
-use Rattle.cml_scan.specs.World.{PlainThread, running, pending_on, ended, PlainWorld}
+use Rattle.cml_scan.specs.World.{PlainThread, running, PlainWorld}
 use Rattle.cml_book.specs.declared.refusal.Refusal.{Refusal}
 use Rattle.cml_book.specs.declared.refusal.Refusal.TheVariants as refusal
 use Rattle.cml_book.specs.declared.refusal.Fault.{Fault}
@@ -42,8 +42,7 @@ max_objects = 65536
 abbrev pub thread_refusal : Option PlainThread → Option Refusal
 thread_refusal None = Some refusal.Thread
 thread_refusal (Some running) = None
-thread_refusal (Some (pending_on g)) = Some refusal.State
-thread_refusal (Some ended) = Some refusal.State
+thread_refusal (Some _) = Some refusal.State
 
 -- the world with this thread in this state
 abbrev pub with_thread : PlainWorld → ℕ → PlainThread → PlainWorld

@@ -7,6 +7,5 @@ use Rattle.cml_book.specs.Outcomes.{Outcome, refuse_if, max_threads}
 
 -- A new thread runs.
 abbrev pub spawn : PlainWorld → Outcome Tid
-spawn w =
-    refuse_if (nat_le max_threads (length w.threads)) Full
+spawn w = refuse_if (nat_le max_threads (length w.threads)) Full
     (Ok (record w { threads = w.threads ++ running ∷ [] }, record { 0 = length w.threads }))

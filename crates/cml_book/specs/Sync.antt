@@ -62,12 +62,8 @@ sync_refusal w t g =
 
 -- The thread waits on the group (Reppy's sync), whose afters count from now on. Its scopes' nacks are live.
 abbrev pub waiting : PlainWorld → ℕ → PlainGroup → PlainWorld
-waiting w t g = record w {
-  threads = slice_set w.threads t (pending_on g);
-  nacks = with_each (nacks_of (scopes g)) live w.nacks;
-}
+waiting w t g = record w { threads = slice_set w.threads t (pending_on g); nacks = with_each (nacks_of (scopes g)) live w.nacks }
 
 abbrev pub sync : PlainWorld → ℕ → PlainGroup → Outcome (Unit {0})
-sync w t g =
-    refuse_by (sync_refusal w t g)
+sync w t g = refuse_by (sync_refusal w t g)
     (Ok (waiting w t (entered w.tick g), tt))

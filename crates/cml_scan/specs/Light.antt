@@ -1,36 +1,29 @@
 -- Which base events can be taken alone. Such a base is lit, and whether it is depends on the state of one object at most.
-use Rattle.std.specs.Prelude.{Bool, true, false, nat_le, ◌||◌, List, [], ◌∷◌, Option, Some, None, slice_get}
+use Rattle.std.specs.Prelude.{Bool, true, false, nat_le, ◌||◌, List, ◌∷◌, Option, Some, None, slice_get}
 use Rattle.cml_value.specs.Value.{PlainValue, PlainBase, always, send, recv, swap, iget, mtake, mget, mswap, mail_recv, port_recv, join, at_tick, after_ticks, nack}
-use Rattle.cml_scan.specs.World.{PlainThread, running, pending_on, ended, PlainNack, fresh_of, live, fired, held, PlainWorld}
+use Rattle.cml_scan.specs.World.{PlainThread, ended, PlainNack, fired, PlainWorld}
 use Rattle.cml_scan.specs.declared.object.Light.{Light}
 use Rattle.cml_scan.specs.declared.object.Light.TheVariants as of
 
 -- a variable is there and full
 abbrev pub is_full : Option (Option PlainValue) → Bool
-is_full None = false
-is_full (Some None) = false
 is_full (Some (Some v)) = true
+is_full _ = false
 
 -- a mailbox or a port is there and has an item
 abbrev pub has_item : Option (List PlainValue) → Bool
-has_item None = false
-has_item (Some []) = false
 has_item (Some (v ∷ vs)) = true
+has_item _ = false
 
 -- a thread is there and has ended
 abbrev pub has_ended : Option PlainThread → Bool
-has_ended None = false
-has_ended (Some running) = false
-has_ended (Some (pending_on g)) = false
 has_ended (Some ended) = true
+has_ended _ = false
 
 -- a nack is there and has fired
 abbrev pub has_fired : Option PlainNack → Bool
-has_fired None = false
-has_fired (Some (fresh_of t)) = false
-has_fired (Some live) = false
 has_fired (Some fired) = true
-has_fired (Some held) = false
+has_fired _ = false
 
 -- Whether the base can be taken alone. An alwaysEvt always can; a variable's base where the variable is full; a receive from a
 -- mailbox or a port where it has an item; a join where the thread has ended; an atTimeEvt from its tick on; a nack event where

@@ -38,9 +38,8 @@ pub record PlainEntry : Type 0 where
 -- the pending ones of these threads, of which the first has this number
 abbrev pub pending_from : ℕ → List PlainThread → List PlainEntry
 pending_from n [] = []
-pending_from n (running ∷ ts) = pending_from (n + 1) ts
 pending_from n (pending_on g ∷ ts) = record { thread = n; group = g } ∷ pending_from (n + 1) ts
-pending_from n (ended ∷ ts) = pending_from (n + 1) ts
+pending_from n (t ∷ ts) = pending_from (n + 1) ts
 
 -- the pending threads of the world, ascending
 abbrev pub pending : PlainWorld → List PlainEntry

@@ -6,9 +6,7 @@ use Rattle.cml_signal.specs.declared.nack.Spent.{Spent}
 -- fresh, and this thread's
 abbrev pub is_fresh_of : ℕ → PlainNack → Bool
 is_fresh_of thread (fresh_of owner) = thread == owner
-is_fresh_of thread live = false
-is_fresh_of thread fired = false
-is_fresh_of thread held = false
+is_fresh_of thread _ = false
 
 abbrev pub is_fired : PlainNack → Bool
 is_fired (fresh_of owner) = false

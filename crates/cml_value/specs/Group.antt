@@ -2,7 +2,7 @@
 -- functions the result of a leaf goes through, and which nacks fire where a leaf is chosen.
 use Rattle.std.specs.Prelude.{ℕ, ◌+◌, max, Bool, nat_lt, nat_le, ◌||◌, List, [], ◌∷◌, ◌++◌, map, filter, length}
 use Rattle.cml_value.specs.Value.{PlainBase, PlainFunction}
-use Rattle.cml_value.specs.Limits.{base_depth, function_depth, base_nodes, function_nodes, is_within, max_depth, max_nodes}
+use Rattle.cml_value.specs.Limits.{base_size, function_size, is_within, max_depth, max_nodes}
 
 mutual
   pub data PlainGroup : Type 0 where
@@ -62,11 +62,10 @@ pub record PlainScope : Type 0 where
 abbrev mutual
   -- the scopes of a group whose first leaf has this number, from the left, an outer one before those in it
   pub scopes_from : ℕ → PlainGroup → List PlainScope
-  scopes_from n never = []
-  scopes_from n (leaf b) = []
   scopes_from n (choose gs) = scopes_from_all n gs
   scopes_from n (wrap g f) = scopes_from n g
   scopes_from n (scope k g) = record { nack = k; first = n; past = n + leaf_count g } ∷ scopes_from n g
+  scopes_from n _ = []
 
   pub scopes_from_all : ℕ → PlainGroups → List PlainScope
   scopes_from_all n no_groups = []
@@ -89,30 +88,30 @@ abbrev pub lost : PlainGroup → ℕ → List ℕ
 lost g n = nacks_of (filter (lies_outside n) (scopes g))
 
 abbrev mutual
-  -- the depth: 1 for never, a leaf as its base event, else one more than the deepest part
-  pub group_depth : PlainGroup → ℕ
-  group_depth never = 1
-  group_depth (leaf b) = base_depth b
-  group_depth (choose gs) = groups_depth gs + 1
-  group_depth (wrap g f) = max (group_depth g) (function_depth f) + 1
-  group_depth (scope k g) = group_depth g + 1
+  -- the size, as that of an event: 1 for never, a leaf as its base event, else one more than that of the parts
+  pub group_size : (ℕ → ℕ → ℕ) → PlainGroup → ℕ
+  group_size join never = 1
+  group_size join (leaf b) = base_size join b
+  group_size join (choose gs) = groups_size join gs + 1
+  group_size join (wrap g f) = join (group_size join g) (function_size join f) + 1
+  group_size join (scope k g) = group_size join g + 1
 
-  pub groups_depth : PlainGroups → ℕ
-  groups_depth no_groups = 0
-  groups_depth (groups_and g gs) = max (group_depth g) (groups_depth gs)
+  pub groups_size : (ℕ → ℕ → ℕ) → PlainGroups → ℕ
+  groups_size join no_groups = 0
+  groups_size join (groups_and g gs) = join (group_size join g) (groups_size join gs)
 
-abbrev mutual
-  -- the nodes: one for each form of event in it, a leaf as its base event, and those of the captured values
-  pub group_nodes : PlainGroup → ℕ
-  group_nodes never = 1
-  group_nodes (leaf b) = base_nodes b
-  group_nodes (choose gs) = groups_nodes gs + 1
-  group_nodes (wrap g f) = group_nodes g + function_nodes f + 1
-  group_nodes (scope k g) = group_nodes g + 1
+-- the depth, and the number of nodes
+abbrev pub group_depth : PlainGroup → ℕ
+group_depth g = group_size max g
 
-  pub groups_nodes : PlainGroups → ℕ
-  groups_nodes no_groups = 0
-  groups_nodes (groups_and g gs) = group_nodes g + groups_nodes gs
+abbrev pub groups_depth : PlainGroups → ℕ
+groups_depth gs = groups_size max gs
+
+abbrev pub group_nodes : PlainGroup → ℕ
+group_nodes g = group_size (λ a b. a + b) g
+
+abbrev pub groups_nodes : PlainGroups → ℕ
+groups_nodes gs = groups_size (λ a b. a + b) gs
 
 -- within the limits of depth and of nodes
 abbrev pub group_fits : PlainGroup → Bool

@@ -3,75 +3,79 @@ use Rattle.std.specs.Prelude.{ℕ, ◌+◌, max, Bool, nat_le, ◌&&◌}
 use Rattle.cml_value.specs.Value.{PlainValue, pair, event, PlainValues, no_values, values_and, PlainFunction, function}
 use Rattle.cml_value.specs.Value.{PlainBase, always, send, swap, mswap, PlainEvent, never, leaf, choose, wrap, guard, with_nack, scope, PlainEvents, no_events, events_and}
 
--- The depth: 1 for what has no parts, such as an empty choice, else one more than the deepest part. An event value counts as its
--- event, a leaf as its base event, and a function as the values that it has captured.
+-- The size, where `join` makes one of the sizes of two parts: with `max` it is the depth, with `+` the number of nodes. It is 1 for what has
+-- no parts, such as an empty choice, else one more than that of the parts. An event value counts as its event, a leaf as its base event, and
+-- a function as the values that it has captured.
 abbrev mutual
-  pub value_depth : PlainValue → ℕ
-  value_depth (pair a b) = max (value_depth a) (value_depth b) + 1
-  value_depth (event e) = event_depth e
-  value_depth _ = 1
+  pub value_size : (ℕ → ℕ → ℕ) → PlainValue → ℕ
+  value_size join (pair a b) = join (value_size join a) (value_size join b) + 1
+  value_size join (event e) = event_size join e
+  value_size join _ = 1
 
-  pub values_depth : PlainValues → ℕ
-  values_depth no_values = 0
-  values_depth (values_and v vs) = max (value_depth v) (values_depth vs)
+  pub values_size : (ℕ → ℕ → ℕ) → PlainValues → ℕ
+  values_size join no_values = 0
+  values_size join (values_and v vs) = join (value_size join v) (values_size join vs)
 
-  pub function_depth : PlainFunction → ℕ
-  function_depth (function f vs) = values_depth vs
+  pub function_size : (ℕ → ℕ → ℕ) → PlainFunction → ℕ
+  function_size join (function f vs) = values_size join vs
 
-  pub base_depth : PlainBase → ℕ
-  base_depth (always v) = value_depth v + 1
-  base_depth (send c v) = value_depth v + 1
-  base_depth (swap s v) = value_depth v + 1
-  base_depth (mswap m v) = value_depth v + 1
-  base_depth _ = 1
+  pub base_size : (ℕ → ℕ → ℕ) → PlainBase → ℕ
+  base_size join (always v) = value_size join v + 1
+  base_size join (send c v) = value_size join v + 1
+  base_size join (swap s v) = value_size join v + 1
+  base_size join (mswap m v) = value_size join v + 1
+  base_size join _ = 1
 
-  pub event_depth : PlainEvent → ℕ
-  event_depth never = 1
-  event_depth (leaf b) = base_depth b
-  event_depth (choose es) = events_depth es + 1
-  event_depth (wrap e f) = max (event_depth e) (function_depth f) + 1
-  event_depth (guard f) = function_depth f + 1
-  event_depth (with_nack f) = function_depth f + 1
-  event_depth (scope k e) = event_depth e + 1
+  pub event_size : (ℕ → ℕ → ℕ) → PlainEvent → ℕ
+  event_size join never = 1
+  event_size join (leaf b) = base_size join b
+  event_size join (choose es) = events_size join es + 1
+  event_size join (wrap e f) = join (event_size join e) (function_size join f) + 1
+  event_size join (guard f) = function_size join f + 1
+  event_size join (with_nack f) = function_size join f + 1
+  event_size join (scope k e) = event_size join e + 1
 
-  pub events_depth : PlainEvents → ℕ
-  events_depth no_events = 0
-  events_depth (events_and e es) = max (event_depth e) (events_depth es)
+  pub events_size : (ℕ → ℕ → ℕ) → PlainEvents → ℕ
+  events_size join no_events = 0
+  events_size join (events_and e es) = join (event_size join e) (events_size join es)
 
--- The nodes: one for each value, base event and form of event in it. An event value counts as its event, a leaf as its
--- base event, and a function as the values that it has captured.
-abbrev mutual
-  pub value_nodes : PlainValue → ℕ
-  value_nodes (pair a b) = value_nodes a + value_nodes b + 1
-  value_nodes (event e) = event_nodes e
-  value_nodes _ = 1
+-- the depth: one more than that of the deepest part
+abbrev pub value_depth : PlainValue → ℕ
+value_depth x = value_size max x
 
-  pub values_nodes : PlainValues → ℕ
-  values_nodes no_values = 0
-  values_nodes (values_and v vs) = value_nodes v + values_nodes vs
+abbrev pub values_depth : PlainValues → ℕ
+values_depth x = values_size max x
 
-  pub function_nodes : PlainFunction → ℕ
-  function_nodes (function f vs) = values_nodes vs
+abbrev pub function_depth : PlainFunction → ℕ
+function_depth x = function_size max x
 
-  pub base_nodes : PlainBase → ℕ
-  base_nodes (always v) = value_nodes v + 1
-  base_nodes (send c v) = value_nodes v + 1
-  base_nodes (swap s v) = value_nodes v + 1
-  base_nodes (mswap m v) = value_nodes v + 1
-  base_nodes _ = 1
+abbrev pub base_depth : PlainBase → ℕ
+base_depth x = base_size max x
 
-  pub event_nodes : PlainEvent → ℕ
-  event_nodes never = 1
-  event_nodes (leaf b) = base_nodes b
-  event_nodes (choose es) = events_nodes es + 1
-  event_nodes (wrap e f) = event_nodes e + function_nodes f + 1
-  event_nodes (guard f) = function_nodes f + 1
-  event_nodes (with_nack f) = function_nodes f + 1
-  event_nodes (scope k e) = event_nodes e + 1
+abbrev pub event_depth : PlainEvent → ℕ
+event_depth x = event_size max x
 
-  pub events_nodes : PlainEvents → ℕ
-  events_nodes no_events = 0
-  events_nodes (events_and e es) = event_nodes e + events_nodes es
+abbrev pub events_depth : PlainEvents → ℕ
+events_depth x = events_size max x
+
+-- the number of nodes: one for each value, base event and form of event in it
+abbrev pub value_nodes : PlainValue → ℕ
+value_nodes x = value_size (λ a b. a + b) x
+
+abbrev pub values_nodes : PlainValues → ℕ
+values_nodes x = values_size (λ a b. a + b) x
+
+abbrev pub function_nodes : PlainFunction → ℕ
+function_nodes x = function_size (λ a b. a + b) x
+
+abbrev pub base_nodes : PlainBase → ℕ
+base_nodes x = base_size (λ a b. a + b) x
+
+abbrev pub event_nodes : PlainEvent → ℕ
+event_nodes x = event_size (λ a b. a + b) x
+
+abbrev pub events_nodes : PlainEvents → ℕ
+events_nodes x = events_size (λ a b. a + b) x
 
 -- a depth and a number of nodes are within these limits
 abbrev pub is_within : ℕ → ℕ → ℕ → ℕ → Bool
