@@ -33,7 +33,7 @@ pub fn make(rt: &(impl Abort + AllocGlobal), text: &str) -> Made {
     many(rt, 1, text)
 }
 
-/// What the text makes, so many times.
+/// What the text makes, this many times.
 pub fn many(rt: &(impl Abort + AllocGlobal), times: u32, text: &str) -> Made {
     let nothing = Made::new(rt.alloc());
     let mut made = Made::new(rt.alloc());
@@ -206,7 +206,7 @@ impl Made {
         }
     }
 
-    // What the word at the head of a list makes of all that was made in it: there were so many values and events before.
+    // What the word at the head of a list makes of all that was made in it: there were this many values and events before.
     fn close(&mut self, rt: &impl Abort, word: &str, values: usize, events: usize) {
         match word {
             "pair" => self.pair(rt),

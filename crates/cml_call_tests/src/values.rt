@@ -112,7 +112,7 @@ const LITERALS: [(&str, &str); 10] = [
     ("é€😀\u{feff}", "\"é€😀\u{feff}\""),
 ];
 
-// The value that the text makes has this depth and so many nodes, and is shown so.
+// The value that the text makes has this depth and this many nodes, and is shown as this text.
 fn is_so(rt: &(impl Abort + AllocGlobal), text: &str, depth: u64, nodes: u64, shown: &str) {
     let value = value(rt, text);
     assert!(rt; (value.depth(), value.nodes()) == (depth, nodes), "{text}");
@@ -283,7 +283,7 @@ fn an_event_of_a_million_nodes(rt: HostRuntime) {
     drop(copy);
 }
 
-// What there is at first, what is made of it so many times, and what of that in the end: `it` is all that was made before. And whether the whole
+// What there is at first, what is made of it this many times, and what of that in the end: `it` is all that was made before. And whether the whole
 // is within the limits. Where each pair has one value twice, 60 of them are 2^61 - 1 nodes: a walk through all of those would not end
 // in our time.
 const LIMITS: [(&str, &str, u32, &str, bool); 7] = [

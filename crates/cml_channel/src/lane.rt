@@ -244,7 +244,7 @@ fn push_run(places: &mut Vec<Place>, tid: Tid, leaves: &[u32])
     }
 }
 
-// Moves the last offers, so many that `tail` stand before them, to the place `at`.
+// Moves the last offers, those after the first `tail`, to the place `at`.
 fn move_tail_to(places: &mut [Place], tail: usize, at: usize)
     requires before { at ≤ tail }
     requires within { tail ≤ length places.old }

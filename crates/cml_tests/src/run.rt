@@ -160,7 +160,7 @@ pub fn gives(
     Ok(())
 }
 
-// The line, ended by a line feed, behind the text.
+// The line, ended by a line feed, after the text.
 fn push_line(text: &mut String, line: &str) -> Result<(), AllocError> {
     text.push_str(line)?;
     text.push('\n')
