@@ -1,5 +1,5 @@
 -- The objects of a register by their numbers, and the leaves that wait for them.
-use Rattle.std.specs.Prelude.{◌≡◌, ◌≢◌, ◌<◌, ℕ, ◌⊎◌, ◌↔◌, List, Bool, false, Result, Ok, Err, IsTrue, slice_get, slice_set, Contains}
+use Rattle.std.specs.Prelude.{◌≡◌, ◌≢◌, ◌<◌, ◌≤◌, ◌+◌, ℕ, ◌⊎◌, ◌↔◌, List, length, Bool, false, Option, IfSome, IsNone, Result, Ok, Err, OnErr, IsTrue, slice_get, slice_set, Contains}
 use Rattle.std.specs.Option.{option_map_or}
 use Rattle.cml_value.specs.declared.number.Tid.{Tid}
 use Rattle.cml_base.specs.Feeds.{PlainRefusal}
@@ -42,6 +42,33 @@ KeepsRoom has_room old new = (j : ℕ) → HasRoomAt has_room old j → HasRoomA
 -- no other object is touched
 abbrev pub KeepsOthers : {K : Type 0} → List K → List K → ℕ → Type 0
 KeepsOthers old new id = (j : ℕ) → j ≢ id → slice_get new j ≡ slice_get old j
+
+-- of these objects no other than this one is touched, and there are as many as before
+pub record TouchesOne {K : Type 0} (id : ℕ) (old new : List K) : Type 0 where
+  pub len : length new ≡ length old
+  pub others : KeepsOthers old new id
+
+-- in a register no other object than this one is touched, there are as many as before, and the same leaves wait
+pub record ChangesOne {K : Type 0} (id : ℕ) (old new : Registered K) : Type 0 where
+  pub len : length new.objects ≡ length old.objects
+  pub others : KeepsOthers old.objects new.objects id
+  pub waits : new.waits ≡ old.waits
+
+-- What `make` leaves as it was: who waits; the room of a further `make`, but for one where it succeeds; the room of each feed.
+pub record MakeKeeps {K E : Type 0} (has_room : K → Bool) (result : Result ℕ E) (old new : Registered K) : Type 0 where
+  pub waits : new.waits ≡ old.waits
+  pub make : old.room ≤ new.room + 1
+  pub make_err : OnErr result (old.room ≤ new.room)
+  pub feed : KeepsRoom has_room old.objects new.objects
+
+-- What `room` leaves as it was: the other objects, where it is for a feed of this one, and all objects, where it is for a `make`; who
+-- waits; and what room there was.
+pub record RoomKeeps {K : Type 0} (has_room : K → Bool) (id : Option ℕ) (old new : Registered K) : Type 0 where
+  pub others : IfSome id (KeepsOthers old.objects new.objects)
+  pub objects : IsNone id → new.objects ≡ old.objects
+  pub waits : new.waits ≡ old.waits
+  pub make : old.room ≤ new.room
+  pub feed : KeepsRoom has_room old.objects new.objects
 
 -- this wait is added to the others
 abbrev pub AddsWait : WaitingLeaf → List WaitingLeaf → List WaitingLeaf → Type 0

@@ -1,12 +1,12 @@
 //! Objects of one kind by their numbers, with those who wait for them.
 
-ghost use Rattle.std.specs.Prelude.{◌≡◌, ◌↔◌, ◌<◌, ◌≤◌, ◌+◌, ◌-◌, ◌++◌, ◌∷◌, ℕ, [], vec_capacity, vec_len, length, map, Contains, AllPairs};
+ghost use Rattle.std.specs.Prelude.{◌≡◌, ◌↔◌, ◌<◌, ◌≤◌, ◌-◌, ◌++◌, ◌∷◌, ℕ, [], vec_capacity, vec_len, length, map, Contains, AllPairs};
 ghost use Rattle.std.specs.Prelude.{IfOk, IfErr, OnOk, OnErr, IsOk, IsTrue, IfSome, IsSome, IsNone, None, slice_get};
 ghost use Rattle.std.specs.Option.{option_copied, option_map_or};
 ghost use Rattle.cml_value.specs.Value.{unit};
 ghost use Rattle.cml_value.specs.declared.number.Tid.{Tid};
 ghost use Rattle.cml_base.specs.Feeds.{Feeds, WantsNoMemory};
-ghost use Rattle.cml_base.specs.Registered.{lit_at, fed_at, given_at, HasRoomAt, KeepsRoom, KeepsOthers, AddsWait, RemovesWait, WaitsForLit, ComesBefore};
+ghost use Rattle.cml_base.specs.Registered.{lit_at, fed_at, given_at, HasRoomAt, KeepsRoom, TouchesOne, ChangesOne, MakeKeeps, RoomKeeps, AddsWait, RemovesWait, WaitsForLit, ComesBefore};
 
 use crate::source::{FeedFault, Source};
 use cml_value::{Tid, Value};
@@ -68,13 +68,10 @@ impl<K: Source> Register<K> {
         requires { length self.old.objects < MAX_OBJECTS }
         ensures id { IfOk result (λ id. id ≡ length self.old.objects) }
         ensures objects { OnOk result (self.new.objects ≡ self.old.objects ++ object ∷ []) }
-        ensures waits { self.new.waits ≡ self.old.waits }
         ensures returned { IfErr result (λ fault. fault.value ≡ object) }
         ensures err { OnErr result (self.new.objects ≡ self.old.objects) }
         ensures room { 0 < self.old.room → IsOk result }
-        ensures kept_make { self.old.room ≤ self.new.room + 1 }
-        ensures kept_make_err { OnErr result (self.old.room ≤ self.new.room) }
-        ensures kept_feed { KeepsRoom K.has_room self.old.objects self.new.objects }
+        ensures kept { MakeKeeps K.has_room result self.old self.new }
     {
         let id = self.objects.len() as u32;
         self.objects.push(object)?;
@@ -124,11 +121,7 @@ impl<K: Source> Register<K> {
 
         ensures states { map K.state self.new.objects ≡ map K.state self.old.objects }
         ensures len { length self.new.objects ≡ length self.old.objects }
-        ensures others { IfSome id (KeepsOthers self.old.objects self.new.objects) }
-        ensures objects { IsNone id → self.new.objects ≡ self.old.objects }
-        ensures waits { self.new.waits ≡ self.old.waits }
-        ensures kept_make { self.old.room ≤ self.new.room }
-        ensures kept_feed { KeepsRoom K.has_room self.old.objects self.new.objects }
+        ensures kept { RoomKeeps K.has_room id self.old self.new }
     {
         match id {
             None => self.objects.reserve(1),
@@ -147,9 +140,7 @@ impl<K: Source> Register<K> {
         ensures room { HasRoomAt K.has_room self.old.objects id → WantsNoMemory result }
         ensures roomy { IsTrue K.ROOMY → WantsNoMemory result }
 
-        ensures len { length self.new.objects ≡ length self.old.objects }
-        ensures others { KeepsOthers self.old.objects self.new.objects id }
-        ensures waits { self.new.waits ≡ self.old.waits }
+        ensures one { ChangesOne id self.old self.new }
         ensures kept_make { self.new.room ≡ self.old.room }
         ensures kept_feed { OnErr result (KeepsRoom K.has_room self.old.objects self.new.objects) }
     {
@@ -167,9 +158,7 @@ impl<K: Source> Register<K> {
         ensures states { map K.state self.new.objects ≡
             given_at (λ s. K.after s want) (map K.state self.old.objects) id }
 
-        ensures len { length self.new.objects ≡ length self.old.objects }
-        ensures others { KeepsOthers self.old.objects self.new.objects id }
-        ensures waits { self.new.waits ≡ self.old.waits }
+        ensures one { ChangesOne id self.old self.new }
         ensures kept_make { self.new.room ≡ self.old.room }
         ensures kept_feed { KeepsRoom K.has_room self.old.objects self.new.objects }
     {
@@ -235,8 +224,7 @@ fn room_of<K: Source>(objects: &mut Vec<K>, id: u32) -> Result<(), AllocError>
     ensures kept { KeepsRoom K.has_room objects.old.items objects.new.items }
     ensures spare { vec_capacity objects.new - vec_len objects.new ≡ vec_capacity objects.old - vec_len objects.old }
     ensures states { map K.state objects.new.items ≡ map K.state objects.old.items }
-    ensures len { length objects.new.items ≡ length objects.old.items }
-    ensures others { KeepsOthers objects.old.items objects.new.items id }
+    ensures one { TouchesOne id objects.old.items objects.new.items }
     ensures ok { OnOk result (HasRoomAt K.has_room objects.new.items id) }
     ensures roomy { IsTrue K.ROOMY → IsOk result }
 {
@@ -255,8 +243,7 @@ fn feed_object<K: Source>(
         Feeds result (fed_at K.fed old id feed) feed old (map K.state objects.new.items) }
     ensures room { HasRoomAt K.has_room objects.old.items id → WantsNoMemory result }
     ensures roomy { IsTrue K.ROOMY → WantsNoMemory result }
-    ensures len { length objects.new.items ≡ length objects.old.items }
-    ensures others { KeepsOthers objects.old.items objects.new.items id }
+    ensures one { TouchesOne id objects.old.items objects.new.items }
     ensures kept { OnErr result (KeepsRoom K.has_room objects.old.items objects.new.items) }
     ensures spare { vec_capacity objects.new - vec_len objects.new ≡ vec_capacity objects.old - vec_len objects.old }
 {
@@ -273,8 +260,7 @@ fn give_of<K: Source>(objects: &mut Vec<K>, id: u32, want: K::Want, copy: Option
         option_map_or (λ s. K.given s want) (slice_get (map K.state objects.old.items) id) unit }
     ensures states { map K.state objects.new.items ≡
         given_at (λ s. K.after s want) (map K.state objects.old.items) id }
-    ensures len { length objects.new.items ≡ length objects.old.items }
-    ensures others { KeepsOthers objects.old.items objects.new.items id }
+    ensures one { TouchesOne id objects.old.items objects.new.items }
     ensures kept { KeepsRoom K.has_room objects.old.items objects.new.items }
     ensures spare { vec_capacity objects.new - vec_len objects.new ≡ vec_capacity objects.old - vec_len objects.old }
 {

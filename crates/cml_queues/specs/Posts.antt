@@ -1,11 +1,12 @@
 -- A message on a multicast channel reaches every port of the channel (Reppy). That it reaches none where one is full is a rule of
 -- our own.
-use Rattle.std.specs.Prelude.{ℕ, ◌||◌, ◌∷◌, [], List, map, nat_lt, if◌then◌else◌, Bool, true, false, Result, Ok, Err}
+use Rattle.std.specs.Prelude.{◌≡◌, ◌≤◌, ℕ, ◌||◌, ◌∷◌, [], List, length, map, nat_lt, if◌then◌else◌, Bool, true, false, Result, Ok, Err}
 use Rattle.cml_value.specs.Value.{PlainValue}
 use Rattle.cml_value.specs.declared.number.PortId.{PortId}
 use Rattle.cml_queues.specs.declared.delivery.PostFault.{PostFault}
 use Rattle.cml_queues.specs.declared.delivery.PostFault.TheVariants.{Full}
 use Rattle.cml_base.specs.Feeds.{PlainRefusal, full}
+use Rattle.cml_base.specs.Registered.{Registered, KeepsRoom}
 use Rattle.cml_queues.specs.PlainQueue.{PlainQueue}
 use Rattle.cml_queues.specs.Queues.{is_full_at, added_at}
 
@@ -20,6 +21,20 @@ unread ports = map (λ port. port.items) ports
 -- the next message takes no memory
 abbrev pub port_has_room : PlainQueue → Bool
 port_has_room port = nat_lt 0 port.room
+
+-- beside the messages nothing changes: there are as many ports, the same leaves wait, and there is room for as many more
+pub record KeepsPorts (old new : Registered PlainQueue) : Type 0 where
+  pub len : length new.objects ≡ length old.objects
+  pub waits : new.waits ≡ old.waits
+  pub room : new.room ≡ old.room
+
+-- there are as many ports with the same messages, the same leaves wait, and what room there was stays
+pub record KeepsMessages (old new : Registered PlainQueue) : Type 0 where
+  pub messages : unread new.objects ≡ unread old.objects
+  pub len : length new.objects ≡ length old.objects
+  pub waits : new.waits ≡ old.waits
+  pub make : old.room ≤ new.room
+  pub feed : KeepsRoom port_has_room old.objects new.objects
 
 -- one of these ports is full
 abbrev pub any_is_full : List ℕ → List (List PlainValue) → Bool

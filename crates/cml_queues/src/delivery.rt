@@ -4,7 +4,7 @@ ghost use Rattle.std.specs.Prelude.{◌≡◌, ◌<◌, ◌≤◌, false, length
 ghost use Rattle.cml_base.specs.Feeds.{Feeds};
 ghost use Rattle.cml_base.specs.Registered.{HasRoomAt, KeepsRoom, KeepsOthers};
 ghost use Rattle.cml_queues.specs.Queues.{is_full_at, added_at};
-ghost use Rattle.cml_queues.specs.Posts.{port_numbers, unread, port_has_room, any_is_full as spec_any_is_full, posted, post_outcome, says_full};
+ghost use Rattle.cml_queues.specs.Posts.{port_numbers, unread, port_has_room, KeepsPorts, KeepsMessages, any_is_full as spec_any_is_full, posted, post_outcome, says_full};
 
 use crate::multicast::Multicast;
 use crate::port::Port;
@@ -69,11 +69,7 @@ pub fn prepare(
         (All (λ port. HasRoomAt port_has_room ports.new.objects port.0) channel.now.ports) }
     ensures full { let old = unread ports.old.objects in
         says_full result ≡ spec_any_is_full (port_numbers channel.now.ports) old }
-    ensures unread { unread ports.new.objects ≡ unread ports.old.objects }
-    ensures len { length ports.new.objects ≡ length ports.old.objects }
-    ensures waits { ports.new.waits ≡ ports.old.waits }
-    ensures kept_make { ports.old.room ≤ ports.new.room }
-    ensures kept_feed { KeepsRoom port_has_room ports.old.objects ports.new.objects }
+    ensures kept { KeepsMessages ports.old ports.new }
 {
     let ids = channel.ports();
     if any_is_full(ports, ids) {
@@ -97,9 +93,7 @@ pub fn deliver(channel: &Multicast, ports: &mut Register<Port>, message: &Value,
     requires copied { copies.items ≡ replicate (length channel.now.ports) message.now }
     ensures unread { unread ports.new.objects
         ≡ posted message.now (port_numbers channel.now.ports) (unread ports.old.objects) }
-    ensures len { length ports.new.objects ≡ length ports.old.objects }
-    ensures waits { ports.new.waits ≡ ports.old.waits }
-    ensures kept_make { ports.new.room ≡ ports.old.room }
+    ensures kept { KeepsPorts ports.old ports.new }
 {
     feed_all(ports, channel.ports(), message, copies);
 }
@@ -141,11 +135,7 @@ fn copies(alloc: Global, message: &Value, count: usize) -> Result<Vec<Value>, Al
 fn make_room(ports: &mut Register<Port>, ids: &[PortId]) -> Result<(), AllocError>
     requires there { All (λ id. id.0 < length ports.old.objects) ids.now }
     requires once { AllPairs (λ a b. a.0 < b.0) ids.now }
-    ensures unread { unread ports.new.objects ≡ unread ports.old.objects }
-    ensures waits { ports.new.waits ≡ ports.old.waits }
-    ensures kept_make { ports.old.room ≤ ports.new.room }
-    ensures kept_feed { KeepsRoom port_has_room ports.old.objects ports.new.objects }
-    ensures len { length ports.new.objects ≡ length ports.old.objects }
+    ensures kept { KeepsMessages ports.old ports.new }
     ensures ok { OnOk result (All (λ id. HasRoomAt port_has_room ports.new.objects id.0) ids.now) }
 {
     for id in ids {
@@ -163,9 +153,7 @@ fn feed_all(ports: &mut Register<Port>, ids: &[PortId], message: &Value, mut cop
     requires copied { copies.items ≡ replicate (length ids.now) message.now }
     ensures unread { unread ports.new.objects
         ≡ posted message.now (port_numbers ids.now) (unread ports.old.objects) }
-    ensures len { length ports.new.objects ≡ length ports.old.objects }
-    ensures waits { ports.new.waits ≡ ports.old.waits }
-    ensures kept_make { ports.new.room ≡ ports.old.room }
+    ensures kept { KeepsPorts ports.old ports.new }
 {
     for id in ids {
         let Some(copy) = copies.pop() else {
@@ -181,10 +169,8 @@ fn feed_one(ports: &mut Register<Port>, id: PortId, message: Value)
     requires room { HasRoomAt port_has_room ports.old.objects id.0 }
     requires open { is_full_at (unread ports.old.objects) id.0 ≡ false }
     ensures unread { unread ports.new.objects ≡ added_at (unread ports.old.objects) id.0 message }
-    ensures len { length ports.new.objects ≡ length ports.old.objects }
     ensures others { KeepsOthers ports.old.objects ports.new.objects id.0 }
-    ensures waits { ports.new.waits ≡ ports.old.waits }
-    ensures kept_make { ports.new.room ≡ ports.old.room }
+    ensures kept { KeepsPorts ports.old ports.new }
 {
     let _ = ports.feed(id.0, message);
 }

@@ -1,5 +1,5 @@
 -- What a table of communications was told, and how a change alters it.
-use Rattle.std.specs.Prelude.{ℕ, ◌≡◌, ◌≢◌, ◌==◌, Bool, true, false, if◌then◌else◌, not, nat_lt, List, ◌∷◌, ◌++◌, filter, Option, Some, None, All, Any, Contains}
+use Rattle.std.specs.Prelude.{ℕ, ◌≡◌, ◌≢◌, ◌==◌, Bool, true, false, if◌then◌else◌, not, nat_lt, List, ◌∷◌, ◌++◌, filter, Option, Some, None, All, AllPairs, Any, Contains}
 use Rattle.std.specs.List.{list_any, flat_map}
 use Rattle.std.specs.Borrow.{Bor}
 use Rattle.cml_value.specs.Group.{PlainGroup, scopes, nacks_of}
@@ -56,6 +56,14 @@ lit_after lit unlit l was = if has_light lit l then true else (if has_light unli
 -- no light stands in both lists
 abbrev pub AreApart : List Light → List Light → Type 0
 AreApart lit unlit = All (λ l. has_light unlit l ≡ false) lit
+
+-- The change can be told: each thread that goes is pending and is named once, the one that comes is not pending, and no light is
+-- turned both on and off.
+pub record CanChange (entries : List PlainEntry) (gone : List Tid) (came : Option (Tid × Bor PlainGroup)) (lit unlit : List Light) : Type 0 where
+  pub there : All (IsThere entries) gone
+  pub once : AllPairs (λ a b. a.0 ≢ b.0) gone
+  pub new : IsNew entries came
+  pub apart : AreApart lit unlit
 
 -- the nacks of the scopes in the groups of these threads
 abbrev pub nacks_among : List Tid → List PlainEntry → List ℕ

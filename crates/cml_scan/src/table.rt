@@ -1,10 +1,10 @@
 //! What a table of communications promises to those who keep it up to date.
 
-ghost use Rattle.std.specs.Prelude.{◌≡◌, ◌≢◌, ◌<◌, Bool, List, length, IsTrue, IsNone, IsOk, OnOk, OnErr, IfOk, Some, slice_get, All, AllPairs};
+ghost use Rattle.std.specs.Prelude.{◌≡◌, ◌<◌, Bool, List, length, IsTrue, IsNone, IsOk, OnOk, OnErr, IfOk, Some, slice_get, All};
 ghost use Rattle.cml_scan.specs.declared.object.Light.{Light};
 ghost use Rattle.cml_scan.specs.World.{PlainEntry};
 ghost use Rattle.cml_scan.specs.Scan.{scan_of, heads_of, partners_of, has_row};
-ghost use Rattle.cml_scan.specs.Table.{changed, lit_after, IsThere, IsNew, AreApart, IsNackOf, nacks_among};
+ghost use Rattle.cml_scan.specs.Table.{changed, lit_after, CanChange, IsNackOf, nacks_among};
 
 use crate::meet::{Meet, Place};
 use crate::object::Light;
@@ -37,10 +37,7 @@ pub trait Table {
         lit: &[Light],
         unlit: &[Light],
     ) -> Result<(), AllocError>
-        requires there { All (IsThere (entries self.old)) gone.now }
-        requires once { AllPairs (λ a b. a.0 ≢ b.0) gone.now }
-        requires new { IsNew (entries self.old) came }
-        requires apart { AreApart lit.now unlit.now }
+        requires ready { CanChange (entries self.old) gone.now came lit.now unlit.now }
 
         ensures ok { OnOk result (entries self.new ≡ changed (entries self.old) gone.now came.entry) }
         ensures ok_lit { OnOk result ((l : Light) → is_lit self.new l ≡ lit_after lit.now unlit.now l (is_lit self.old l)) }

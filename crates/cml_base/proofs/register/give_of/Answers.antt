@@ -3,8 +3,8 @@ use Rattle.std.specs.Prelude.{slice_get}
 use Rattle.cml_base.proofs.Objects.{get_there, get-map, map-slice_set, get_other, room_after, lit_bound}
 use Rattle.cml_base.proofs.register.give_of.Goals as goal
 
-pub returns-clause-others : goal.returns-clause-others
-returns-clause-others g c = λ j h. get_other c.args.objects.now.items c.args.id j c.give.new.self h
+pub returns-clause-one-others : goal.returns-clause-one-others
+returns-clause-one-others g c = λ j h. get_other c.args.objects.now.items c.args.id j c.give.new.self h
 
 pub returns-clause-states : goal.returns-clause-states
 returns-clause-states g c =

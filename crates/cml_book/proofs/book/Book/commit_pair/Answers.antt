@@ -82,8 +82,8 @@ push_left_ticks-requires-2 g c =
     rw c.push_left_ticks.ensures.room (room_for_both (bases_awaited (pending w)) c.self.inside.unlit.items c.push_left_ticks.new.lights.items c.in-Some.first.now c.in-Some-waiting.second.now p.head.group p.other.group (vec_capacity c.self.inside.unlit)
     c.self.invariant.2 is1 is2 c.push_left_ticks.ensures.lights p.head.fits.ticks p.other.fits.ticks)
 
-pub change-changed-requires-clause-there : goal.change-changed-requires-clause-there
-change-changed-requires-clause-there g c =
+pub change-changed-requires-clause-ready-there : goal.change-changed-requires-clause-ready-there
+change-changed-requires-clause-ready-there g c =
     let w = c.self.inside.state in
     let has = rw (← c.self.view_is) at c.requires in
     let p = pair_parties w _ _ _ c.args.head c.args.head_leaf c.args.other c.args.other_leaf c.self.invariant.0 has in
@@ -91,15 +91,15 @@ change-changed-requires-clause-there g c =
     All-cons there c.args.head (c.args.other ∷ []) (is_there w (g.T.Table.entries c.self.inside.table) c.args.head p.head.group p.head.waits c.self.invariant.0.told_groups)
     (All-cons there c.args.other [] (is_there w (g.T.Table.entries c.self.inside.table) c.args.other p.other.group p.other.waits c.self.invariant.0.told_groups) (All-nil there))
 
-pub change-changed-requires-clause-once : goal.change-changed-requires-clause-once
-change-changed-requires-clause-once g c =
+pub change-changed-requires-clause-ready-once : goal.change-changed-requires-clause-ready-once
+change-changed-requires-clause-ready-once g c =
     let w = c.self.inside.state in
     let has = rw (← c.self.view_is) at c.requires in
     let p = pair_parties w _ _ _ c.args.head c.args.head_leaf c.args.other c.args.other_leaf c.self.invariant.0 has in
     two_differ c.args.head c.args.other p.differ
 
-pub change-changed-requires-clause-apart : goal.change-changed-requires-clause-apart
-change-changed-requires-clause-apart g c =
+pub change-changed-requires-clause-ready-apart : goal.change-changed-requires-clause-ready-apart
+change-changed-requires-clause-ready-apart g c =
     let w = c.self.inside.state in
     let has = rw (← c.self.view_is) at c.requires in
     let p = pair_parties w _ _ _ c.args.head c.args.head_leaf c.args.other c.args.other_leaf c.self.invariant.0 has in

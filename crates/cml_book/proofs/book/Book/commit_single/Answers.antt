@@ -87,8 +87,8 @@ push_left_ticks-requires g c =
     let is = flat_is c.waiting.result c.in-Some.flat w c.args.tid.0 p.group c.waiting.ensures p.waits c.in-Some.is in
     rw c.push_turned_off.ensures.room (room_for_out w c.leaf-base.result.now c.self.inside.unlit.items c.push_turned_off.new.lights.items c.in-Some.flat.now p.group (vec_capacity c.self.inside.unlit) c.self.invariant.2 is c.push_turned_off.ensures.lights p.fits.ticks)
 
-pub change-changed-requires-clause-there : goal.change-changed-requires-clause-there
-change-changed-requires-clause-there g c =
+pub change-changed-requires-clause-ready-there : goal.change-changed-requires-clause-ready-there
+change-changed-requires-clause-ready-there g c =
     let w = c.self.inside.state in
     let has = rw (← c.self.view_is) at c.requires in
     let e = single_party w _ _ _ c.args.tid c.args.leaf c.self.invariant.0 has in
@@ -96,8 +96,8 @@ change-changed-requires-clause-there g c =
     let there = IsThere (g.T.Table.entries c.self.inside.table) in
     All-cons there c.args.tid [] (is_there w (g.T.Table.entries c.self.inside.table) c.args.tid p.group p.waits c.self.invariant.0.told_groups) (All-nil there)
 
-pub change-changed-requires-clause-apart : goal.change-changed-requires-clause-apart
-change-changed-requires-clause-apart g c =
+pub change-changed-requires-clause-ready-apart : goal.change-changed-requires-clause-ready-apart
+change-changed-requires-clause-ready-apart g c =
     let w = c.self.inside.state in
     let has = rw (← c.self.view_is) at c.requires in
     let e = single_party w _ _ _ c.args.tid c.args.leaf c.self.invariant.0 has in
