@@ -79,6 +79,14 @@ pub record CalledBack (old new : Kept) : Type 0 where
   pub reports : new.reports ≡ old.reports
   pub none_out : NoneOut new
 
+-- The item happened, and the report that was due after it was made: none is due now, and no slice is out.
+pub record Happens (old : Kept) (item : Item) (new : Kept) : Type 0 where
+  pub adds : Adds old.course item new.course
+  pub budget : new.budget ≡ old.budget
+  pub watch : new.watch ≡ old.watch
+  pub none_due : NoneDue new
+  pub none_out : NoneOut new
+
 -- one item more, and no slice is out
 pub record GoesAlone (old new : Kept) : Type 0 where
   pub item : Item

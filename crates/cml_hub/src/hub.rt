@@ -9,10 +9,10 @@ ghost use Rattle.cml_schedule.specs.Written.{schedule_text};
 ghost use Rattle.cml_schedule.specs.Reading.{ScheduleReadsAs};
 ghost use Rattle.cml_step.specs.Calls.{text_of};
 ghost use Rattle.cml_hub.specs.Runs as spec;
-ghost use Rattle.cml_hub.specs.Courses.{run_of, TakesRow, Adds, IsOurs};
+ghost use Rattle.cml_hub.specs.Courses.{run_of, TakesRow, IsOurs};
 ghost use Rattle.cml_hub.specs.Reports.{AreReports, IsDueReport};
 ghost use Rattle.cml_hub.specs.Kept.{IsBudget, IsWatch, IsAtStart, Continues, Extends, HandsOut, is_ended, NoneDue, NoneOut, AllOut, TakesSlice, IsOver, Replays, FitsSize};
-ghost use Rattle.cml_hub.specs.Moves.{IsNext, marks_after, PartiesAway, marks_met, AddsItem, TakesBack, Reported, HandedOut, MovedOn, CalledBack, GoesAlone, with_report};
+ghost use Rattle.cml_hub.specs.Moves.{IsNext, marks_after, PartiesAway, marks_met, AddsItem, TakesBack, Reported, HandedOut, MovedOn, CalledBack, Happens, GoesAlone, with_report};
 
 use crate::choose::Chooser;
 use crate::course::Course;
@@ -548,11 +548,7 @@ impl Hub {
         requires allowed { spec.is_allowed self.old.course.world item ≡ true }
         requires due { NoneDue self.old }
         requires none_out { NoneOut self.old }
-        ensures adds { OnOk result (Adds self.old.course item self.new.course) }
-        ensures budget { OnOk result (self.new.budget ≡ self.old.budget) }
-        ensures watch { OnOk result (self.new.watch ≡ self.old.watch) }
-        ensures none_due { OnOk result (NoneDue self.new) }
-        ensures none_out { OnOk result (NoneOut self.new) }
+        ensures ok { OnOk result (Happens self.old item self.new) }
         ensures program { self.new.course.program ≡ self.old.course.program }
     {
         self.follow(alloc, item)?;

@@ -8,8 +8,8 @@ ghost use Rattle.cml_scan.specs.World.{running, ended};
 ghost use Rattle.cml_value.specs.Views.{plain_value};
 ghost use Rattle.cml_check.specs.Syntax.{PlainItem};
 ghost use Rattle.cml_check.specs.InOrder.{arities};
-ghost use Rattle.cml_step.specs.Agrees.{ask_agrees, function_agrees};
-ghost use Rattle.cml_step.specs.Answers.{top_await, await_of, nack as awaits_nack};
+ghost use Rattle.cml_step.specs.Agrees.{function_agrees};
+ghost use Rattle.cml_step.specs.Answers.{top_await, nack as awaits_nack};
 ghost use Rattle.cml_step.specs.AskViews.{plain_ask};
 ghost use Rattle.cml_step.specs.Asks as asks;
 ghost use Rattle.cml_step.specs.Machines.{PlainMachine, machine_term, Fits};
@@ -17,7 +17,7 @@ ghost use Rattle.cml_book.specs.Outcomes.{with_thread};
 ghost use Rattle.cml_hub.specs.Performed.{spoken, asked, fails};
 ghost use Rattle.cml_hub.specs.Runs.{output_of};
 ghost use Rattle.cml_hub.specs.Dones.{plain_done, told_ahead};
-ghost use Rattle.cml_hub.specs.Asking.{Performs, IsDone, IsPrepared};
+ghost use Rattle.cml_hub.specs.Asking.{HasAsked, Performs, IsDone, IsPrepared};
 
 use crate::done::{Done, Prepared};
 use cml_book::{Book, Fault, Returned};
@@ -162,9 +162,7 @@ fn perform(
     end: &Machine,
     ask: &Ask,
 ) -> Result<Done, Fault>
-    requires fits { Fits program.now end.now }
-    requires awaits { top_await (machine_term program.now end.now) ≡ await_of (plain_ask ask.now) }
-    requires agrees { ask_agrees (arities program.now) (plain_ask ask.now) ≡ true }
+    requires ready { HasAsked program.now end.now (plain_ask ask.now) }
     ensures done { let a = plain_ask ask.now in Performs a result (asked book.old thread.0 a) book.old book.new }
     ensures fits { IfOk result (λ d. IsDone program.now thread.0 (plain_ask ask.now) end.now d) }
 {
@@ -278,9 +276,7 @@ pub(crate) fn prepare(
     ask: &Ask,
 ) -> Result<Prepared, AllocError>
     requires running { slice_get book.old.threads thread.0 ≡ Some running }
-    requires fits { Fits program.now end.now }
-    requires awaits { top_await (machine_term program.now end.now) ≡ await_of (plain_ask ask.now) }
-    requires agrees { ask_agrees (arities program.now) (plain_ask ask.now) ≡ true }
+    requires ready { HasAsked program.now end.now (plain_ask ask.now) }
     ensures ok { IfOk result (λ r. IsPrepared program.now thread.0 (plain_ask ask.now) end.now book.old book.new r) }
     ensures err { OnErr result (book.new ≡ book.old) }
     ensures bytes { string_bytes output.new ≡ string_bytes output.old }

@@ -110,6 +110,12 @@ pub record StepsOn (f : PlainItem ℕ) (r : Result Action Stop) (old new : Call)
   pub kept : IfErr r (λ _. entry_for f new ≡ entry_for f old)
   pub runs : new.wait ≡ wait.Runs
 
+-- The call runs still: it is one of the same function, and agrees with the program.
+pub record RunsOn (fs : List ℕ) (old new : Call) : Type 0 where
+  pub agree : all_agree fs new.slots.items ≡ true
+  pub runs : new.wait ≡ wait.Runs
+  pub same : new.func ≡ old.func
+
 -- what a call of the machine has found to ask is what the step comes to
 abbrev pub MovesToAsk : Result Ask Stop → Term → PlainStep → Type 0
 MovesToAsk (Ok a) term step = step ≡ asks (plain_ask a) term

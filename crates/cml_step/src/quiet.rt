@@ -9,7 +9,7 @@ ghost use Rattle.cml_step.specs.Agrees.{all_agree};
 ghost use Rattle.cml_step.specs.Variables.{bound};
 ghost use Rattle.cml_step.specs.Places.{stmt_at, block_at, left_at};
 ghost use Rattle.cml_step.specs.Terms.{Term};
-ghost use Rattle.cml_step.specs.Calls.{entry_for, entry_of, text_of, variables_of, statements_left, IsReady};
+ghost use Rattle.cml_step.specs.Calls.{entry_for, entry_of, text_of, variables_of, statements_left, IsReady, RunsOn};
 ghost use Rattle.cml_step.specs.Steps as steps;
 ghost use Rattle.cml_step.specs.Steps.{goes_on};
 ghost use Rattle.cml_step.specs.Slices.{GoesIn};
@@ -45,9 +45,7 @@ fn quiet(alloc: Global, program: &Prog, f: &Function, stmt: &Stmt, call: &mut Ca
         steps.statement_step (text_of program.now) self s left variables below
         ≡ goes_on (entry_for f.now call.new ∷ below) }
     ensures stays { result ≡ false → entry_for f.now call.new ≡ entry_for f.now call.old }
-    ensures agree { all_agree (arities program.now) call.new.slots.items ≡ true }
-    ensures runs { call.new.wait ≡ Wait.Runs }
-    ensures same { call.new.func ≡ call.old.func }
+    ensures kept { RunsOn (arities program.now) call.old call.new }
 {
     match &stmt.kind {
         StmtKind::Let(slot, source) => match source {
@@ -72,9 +70,7 @@ fn quiet_step(alloc: Global, program: &Prog, f: &Function, call: &mut Call) -> b
         steps.next (text_of program.now) self (before ∷ below)
         ≡ goes_on (entry_for f.now call.new ∷ below) }
     ensures stays { result ≡ false → entry_for f.now call.new ≡ entry_for f.now call.old }
-    ensures agree { all_agree (arities program.now) call.new.slots.items ≡ true }
-    ensures runs { call.new.wait ≡ Wait.Runs }
-    ensures same { call.new.func ≡ call.old.func }
+    ensures kept { RunsOn (arities program.now) call.old call.new }
 {
     let (at, found) = next_statement(&f.body, &mut call.path, call.at);
     call.at = at;

@@ -11,14 +11,14 @@ pub loop-done-preserved : goal.loop-done-preserved
 loop-done-preserved c =
     let p = c.args.program.now in
     let f = c.function-f.result.now in
-    let func = c.quiet_step.ensures.same ∙ c.loop-done.invariant.func in
+    let func = c.quiet_step.ensures.kept.same ∙ c.loop-done.invariant.func in
     let now_is = entry_is p f c.args.call.now c.loop-done.call c.requires.fits.there c.function-f.ensures.found c.loop-done.invariant.func in
     let new_is = entry_is p f c.args.call.now c.quiet_step.new.call c.requires.fits.there c.function-f.ensures.found func in
     record {
       within = omega (arith, c.loop-done-test.true);
       func = func;
-      fits = moved_fits p f c.args.call.now c.quiet_step.new.call c.requires.fits.there c.function-f.ensures.found func c.quiet_step.ensures.agree
-          (subst (λ w. WaitFits w (length f.names) (length c.quiet_step.new.call.slots.items)) (sym c.quiet_step.ensures.runs) tt);
+      fits = moved_fits p f c.args.call.now c.quiet_step.new.call c.requires.fits.there c.function-f.ensures.found func c.quiet_step.ensures.kept.agree
+          (subst (λ w. WaitFits w (length f.names) (length c.quiet_step.new.call.slots.items)) (sym c.quiet_step.ensures.kept.runs) tt);
       goes = λ self below. goes_more (text_of p) self c.loop-done.done (entry_of p c.args.call.now ∷ below) (entry_of p c.loop-done.call ∷ below) (entry_of p c.quiet_step.new.call ∷ below)
           (c.loop-done.invariant.goes self below)
           (ap (λ e. next (text_of p) self (e ∷ below)) now_is ∙ c.quiet_step.ensures.goes c.if-not-quiet_step.false self below ∙ ap (λ e. goes_on (e ∷ below)) (sym new_is));
@@ -27,14 +27,14 @@ loop-done-preserved c =
 pub returns-then-not-quiet_step-clause-fits : goal.returns-then-not-quiet_step-clause-fits
 returns-then-not-quiet_step-clause-fits c =
     let f = c.function-f.result.now in
-    moved_fits c.args.program.now f c.args.call.now c.quiet_step.new.call c.requires.fits.there c.function-f.ensures.found (c.quiet_step.ensures.same ∙ c.loop-done.invariant.func) c.quiet_step.ensures.agree
-    (subst (λ w. WaitFits w (length f.names) (length c.quiet_step.new.call.slots.items)) (sym c.quiet_step.ensures.runs) tt)
+    moved_fits c.args.program.now f c.args.call.now c.quiet_step.new.call c.requires.fits.there c.function-f.ensures.found (c.quiet_step.ensures.kept.same ∙ c.loop-done.invariant.func) c.quiet_step.ensures.kept.agree
+    (subst (λ w. WaitFits w (length f.names) (length c.quiet_step.new.call.slots.items)) (sym c.quiet_step.ensures.kept.runs) tt)
 
 pub returns-then-not-quiet_step-clause-goes : goal.returns-then-not-quiet_step-clause-goes
 returns-then-not-quiet_step-clause-goes c = λ self below.
     let p = c.args.program.now in
     let f = c.function-f.result.now in
     let now_is = entry_is p f c.args.call.now c.loop-done.call c.requires.fits.there c.function-f.ensures.found c.loop-done.invariant.func in
-    let new_is = entry_is p f c.args.call.now c.quiet_step.new.call c.requires.fits.there c.function-f.ensures.found (c.quiet_step.ensures.same ∙ c.loop-done.invariant.func) in
+    let new_is = entry_is p f c.args.call.now c.quiet_step.new.call c.requires.fits.there c.function-f.ensures.found (c.quiet_step.ensures.kept.same ∙ c.loop-done.invariant.func) in
     subst (λ (e : StackEntry). GoesIn (text_of p) self c.loop-done.done (entry_of p c.args.call.now ∷ below) (e ∷ below))
     (now_is ∙ sym (c.quiet_step.ensures.stays c.if-not-quiet_step.true) ∙ sym new_is) (c.loop-done.invariant.goes self below)

@@ -39,7 +39,7 @@ returns-in-Err-step c =
 
 pub loop-i-preserved : goal.loop-i-preserved
 loop-i-preserved c =
-    let e = c.in-Ok-step.ensures in
+    let e = c.in-Ok-step.ensures.ok in
     let i = c.loop-i.invariant in
     record {
       program = e.adds.program ∙ i.program;
