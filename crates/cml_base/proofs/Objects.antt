@@ -1,8 +1,9 @@
 -- One object of a list is fed, or gives.
 use Rattle.std.proofs.Common.{◌≡◌, ◌<◌, ℕ, zero, suc, List, [], ◌∷◌, ◌++◌, length, get_or, map, Some, Result, Ok, Err, refl, arith, ap}
 use Rattle.std.specs.Prelude.{slice_get, slice_set, IsTrue, Bool}
+use Rattle.std.proofs.lemmas.List.{length-set}
 use Rattle.cml_base.specs.Feeds.{PlainRefusal, Feeds, IsAccepted}
-use Rattle.cml_base.specs.Registered.{fed_at, put_back, lit_at, KeepsRoom}
+use Rattle.cml_base.specs.Registered.{fed_at, put_back, lit_at, KeepsRoom, TouchesOne}
 use Rattle.cml_base.specs.declared.source.FeedFault.{FeedFault}
 use Rattle.cml_base.specs.declared.source.FeedFault.TheVariants.{Put, Full, Spent, Memory}
 
@@ -36,6 +37,10 @@ get_other (x ∷ xs) (suc i) (suc j) y h = get_other xs i j y (λ e. h (ap suc e
 pub accepted_at : {S : Type 0} (outcome : Result S PlainRefusal) (states : List S) (id : ℕ) → IsAccepted outcome → IsAccepted (put_back states id outcome)
 accepted_at (Ok s) states id h = tt
 accepted_at (Err why) states id h = absurd h
+
+-- a list in which one is set has the others as they were
+pub touches_one : {X : Type 0} (xs : List X) (i : ℕ) (y : X) → TouchesOne i xs (slice_set xs i y)
+touches_one xs i y = record { len = length-set xs i y; others = λ j h. get_other xs i j y h }
 
 pub with_same : {S : Type 0} (states : List S) (id : ℕ) (s t : S) → slice_get states id ≡ Some s → t ≡ s → slice_set states id t ≡ states
 with_same states id s t e same = rw same (set_same states id s e)

@@ -1,6 +1,6 @@
 use Rattle.std.proofs.Common.{◌≡◌, map, Some}
 use Rattle.std.specs.Prelude.{slice_get}
-use Rattle.cml_base.proofs.Objects.{get_there, get-map, map-slice_set, get_other, feeds_at}
+use Rattle.cml_base.proofs.Objects.{get_there, get-map, map-slice_set, touches_one, feeds_at}
 use Rattle.cml_base.proofs.register.feed_object.Goals as goal
 
 pub returns-clause-states : goal.returns-clause-states
@@ -11,8 +11,8 @@ returns-clause-states g c =
     rw (map-slice_set g.K.Source.state objects c.args.id c.feed.new.self)
     (feeds_at g.K.Source.fed (map g.K.Source.state objects) c.args.id (g.K.Source.state x) (g.K.Source.state c.feed.new.self) c.args.feed c.feed.result (get-map g.K.Source.state objects c.args.id x there) c.feed.ensures.state)
 
-pub returns-clause-one-others : goal.returns-clause-one-others
-returns-clause-one-others g c = λ j h. get_other c.args.objects.now.items c.args.id j c.feed.new.self h
+pub returns-clause-one : goal.returns-clause-one
+returns-clause-one g c = touches_one c.args.objects.now.items c.args.id c.feed.new.self
 
 pub returns-clause-room : goal.returns-clause-room
 returns-clause-room g c = λ h.

@@ -1,10 +1,10 @@
 use Rattle.std.proofs.Common.{◌≡◌, Some, refl}
 use Rattle.std.specs.Prelude.{slice_get}
-use Rattle.cml_base.proofs.Objects.{get_there, get-map, map-slice_set, get_other, room_after, lit_bound}
+use Rattle.cml_base.proofs.Objects.{get_there, get-map, map-slice_set, touches_one, room_after, lit_bound}
 use Rattle.cml_base.proofs.register.give_of.Goals as goal
 
-pub returns-clause-one-others : goal.returns-clause-one-others
-returns-clause-one-others g c = λ j h. get_other c.args.objects.now.items c.args.id j c.give.new.self h
+pub returns-clause-one : goal.returns-clause-one
+returns-clause-one g c = touches_one c.args.objects.now.items c.args.id c.give.new.self
 
 pub returns-clause-states : goal.returns-clause-states
 returns-clause-states g c =

@@ -1,6 +1,6 @@
 use Rattle.std.proofs.Common.{◌≡◌, map, Some}
 use Rattle.std.specs.Prelude.{slice_get}
-use Rattle.cml_base.proofs.Objects.{get_there, get-map, map-slice_set, get_other, room_after, with_same, get_set_same}
+use Rattle.cml_base.proofs.Objects.{get_there, get-map, map-slice_set, touches_one, room_after, with_same, get_set_same}
 use Rattle.cml_base.proofs.register.room_of.Goals as goal
 
 pub returns-clause-states : goal.returns-clause-states
@@ -11,8 +11,8 @@ returns-clause-states g c =
     rw (map-slice_set g.K.Source.state objects c.args.id c.room.new.self)
     (with_same (map g.K.Source.state objects) c.args.id (g.K.Source.state x) (g.K.Source.state c.room.new.self) (get-map g.K.Source.state objects c.args.id x there) c.room.ensures.state)
 
-pub returns-clause-one-others : goal.returns-clause-one-others
-returns-clause-one-others g c = λ j h. get_other c.args.objects.now.items c.args.id j c.room.new.self h
+pub returns-clause-one : goal.returns-clause-one
+returns-clause-one g c = touches_one c.args.objects.now.items c.args.id c.room.new.self
 
 pub returns-clause-ok : goal.returns-clause-ok
 returns-clause-ok g c = rw (get_set_same c.args.objects.now.items c.args.id c.room.new.self c.requires) c.room.ensures.ok
