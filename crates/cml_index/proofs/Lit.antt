@@ -18,7 +18,7 @@ use Rattle.cml_channel.specs.Pairings.{one_lane, side_place, same_object}
 use Rattle.cml_channel.specs.declared.pairing.PairedId.{PairedId}
 use Rattle.cml_channel.specs.declared.pairing.SidePlace.{SidePlace}
 use Rattle.cml_index.specs.Slots.{is_slot, lane_of, lane_at}
-use Rattle.cml_index.specs.Posts.{slot_of, told, is_named, slot_of_nack, nacks_in, AreIndexed}
+use Rattle.cml_index.specs.Posts.{slot_of, told, is_named, slot_of_nack, nacks_in, OnlyReserves, AreIndexed}
 use Rattle.cml_index.specs.declared.slot.Slot.{Slot}
 use Rattle.indexmap.specs.IndexMap.{IndexMap}
 use Rattle.indexmap.specs.IndexSet.{IndexSet}
@@ -156,12 +156,12 @@ still_named es lanes after live live_after old new leaves lit x same same_live t
       named = Every-weaker (λ k. is_named old (slot_of_nack k)) (λ k. is_named new (slot_of_nack k)) (nacks_in es) kept x.named;
     }
 
--- nothing was told of any light, and no place is lost
+-- places among the lights were reserved, and nothing else was done
 pub still_indexed : {S T U V : Type 0} (es : List PlainEntry) (lanes : IndexMap Slot PlainLane S) (after : IndexMap Slot PlainLane T) (live : IndexSet PairedId U) (live_after : IndexSet PairedId V) (old new : List (Slot × Bool)) (leaves lit : ℕ)
-    → AreIndexed es lanes live old leaves lit → ((k : Slot) → lane_at after k ≡ lane_at lanes k) → live_after.keys ≡ live.keys → ((m : Light) → told new m ≡ told old m) → ((k : Slot) → is_named old k ≡ true → is_named new k ≡ true)
+    → AreIndexed es lanes live old leaves lit → ((k : Slot) → lane_at after k ≡ lane_at lanes k) → live_after.keys ≡ live.keys → OnlyReserves old new
     → AreIndexed es after live_after new leaves lit
-still_indexed es lanes after live live_after old new leaves lit x same same_live told_ kept =
-    still_named es lanes after live live_after old new leaves lit x same same_live told_ (λ k. kept (slot_of_nack k))
+still_indexed es lanes after live live_after old new leaves lit x same same_live kept =
+    still_named es lanes after live live_after old new leaves lit x same same_live kept.same (λ k. kept.named (slot_of_nack k))
 
 same_light-turned : (l m : Light) → same_light l m ≡ same_light m l
 same_light-turned l m = at (same_light l m) (same_light m l) refl refl

@@ -1,5 +1,5 @@
 -- What the index keeps: the pending threads with their groups, and what it was told of lights.
-use Rattle.std.specs.Prelude.{ℕ, ◌≡◌, ◌++◌, ◌≤◌, ◌<◌, ◌^◌, Bool, false, if◌then◌else◌, List, [], ◌∷◌, Option, Some, None, map, filter, length, is_some}
+use Rattle.std.specs.Prelude.{ℕ, ◌≡◌, ◌++◌, ◌≤◌, ◌<◌, ◌^◌, Bool, true, false, if◌then◌else◌, List, [], ◌∷◌, Option, Some, None, Result, OnOk, OnErr, map, filter, length, is_some}
 use Rattle.std.specs.Option.{option_map_or}
 use Rattle.std.specs.Map.{lookup}
 use Rattle.std.specs.Coded.{Coded, code_by, coded×, coded_list, coded_bool}
@@ -15,6 +15,7 @@ use Rattle.cml_scan.specs.Codes.{entry_code, light_code}
 use Rattle.cml_scan.specs.Light.{lit_by}
 use Rattle.cml_scan.specs.Order.{IsSorted, Every}
 use Rattle.cml_scan.specs.Scan.{PlainOffer, offers_of, pairs_with, is_among}
+use Rattle.cml_scan.specs.Table.{lit_after}
 use Rattle.cml_scan.specs.declared.meet.Meet.{Meet}
 use Rattle.cml_scan.specs.declared.meet.Meet.TheVariants.{Single}
 use Rattle.cml_scan.specs.declared.meet.Place.{Place}
@@ -68,6 +69,33 @@ nacks_in entries = flat_map (λ e. nacks_of (scopes e.group)) entries
 -- something was told of the light, or its place is reserved
 abbrev pub is_named : List (Slot × Bool) → Slot → Bool
 is_named flags k = is_some (lookup (same_slot k) flags)
+
+-- no light lost its place
+abbrev pub KeepsPlaces : List (Slot × Bool) → List (Slot × Bool) → Type 0
+KeepsPlaces old new = (k : Slot) → is_named old k ≡ true → is_named new k ≡ true
+
+-- each of these lights has its place
+abbrev pub HavePlaces : List (Slot × Bool) → List Light → Type 0
+HavePlaces flags lights = Every (λ l. is_named flags (Waiters l)) lights
+
+-- Nothing was told of any light, and none lost its place; some may have got theirs.
+pub record OnlyReserves (old new : List (Slot × Bool)) : Type 0 where
+  pub same : (l : Light) → told new l ≡ told old l
+  pub named : KeepsPlaces old new
+
+-- These threads are pending after a change, and these lights were turned on and off.
+pub record IsChanged (pending : List PlainEntry) (lit unlit : List Light) (old new : PlainIndex) : Type 0 where
+  pub entries : new.entries ≡ pending
+  pub lights : (l : Light) → told new.flags l ≡ lit_after lit unlit l (told old.flags l)
+
+-- What was told by a change with this result: these threads are pending after it, and these lights were turned on and off. A refused one
+-- told nothing, and looked at nothing. The last two are the looks before it and after it.
+pub record HasTold {A E : Type 0} (result : Result A E) (pending : List PlainEntry) (lit unlit : List Light) (old new : PlainIndex) (before after : ℕ) : Type 0 where
+  pub ok : OnOk result (new.entries ≡ pending)
+  pub ok_lit : OnOk result ((l : Light) → told new.flags l ≡ lit_after lit unlit l (told old.flags l))
+  pub err : OnErr result (new.entries ≡ old.entries)
+  pub err_lit : OnErr result ((l : Light) → told new.flags l ≡ told old.flags l)
+  pub err_cost : OnErr result (after ≡ before)
 
 -- the place of a nack among the lights
 abbrev pub slot_of_nack : ℕ → Slot

@@ -1,5 +1,5 @@
 -- The lanes, and the leaves of one group by the lane in which each stands.
-use Rattle.std.specs.Prelude.{ℕ, ◌≡◌, ◌+◌, ◌++◌, Bool, false, if◌then◌else◌, List, [], ◌∷◌, Option, Some, None, map, filter}
+use Rattle.std.specs.Prelude.{ℕ, ◌≡◌, ◌<◌, ◌+◌, ◌^◌, ◌++◌, length, Bool, false, if◌then◌else◌, List, [], ◌∷◌, Option, Some, None, map, filter}
 use Rattle.std.specs.List.{list_any}
 use Rattle.std.specs.Option.{option_map_or}
 use Rattle.std.specs.Map.{lookup}
@@ -55,6 +55,10 @@ lane_at lanes k = option_map_or (λ l. l.places) (get same_slot lanes k) []
 
 abbrev pub room_at : {S : Type 0} → IndexMap Slot PlainLane S → Slot → ℕ
 room_at lanes k = option_map_or (λ l. l.room) (get same_slot lanes k) 0
+
+-- each lane is shorter than two to the power of this number of binary digits
+abbrev pub HaveDigits : {S : Type 0} → IndexMap Slot PlainLane S → ℕ → Type 0
+HaveDigits lanes digits = (k : Slot) → length (lane_at lanes k) < 2 ^ digits
 
 -- those of these offers that stand in this slot
 abbrev pub lane_of : (PlainBase → Option Slot) → Slot → List PlainOffer → List Place

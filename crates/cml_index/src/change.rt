@@ -1,16 +1,13 @@
 //! A change as a whole.
 
-ghost use Rattle.std.specs.Prelude.{◌≡◌, ◌≢◌, ◌≤◌, ◌<◌, ◌+◌, ◌*◌, ◌^◌, ℕ, Bool, true, false, not, if◌then◌else◌, length, map, All, AllPairs, OnOk, OnErr, IsOk, IfOk};
-ghost use Rattle.cml_value.specs.Group.{bases, scopes, nacks_of};
+ghost use Rattle.std.specs.Prelude.{◌≡◌, ◌≤◌, ◌+◌, ◌*◌, ℕ, true, false, not, if◌then◌else◌, Some, None, length, OnOk, IsOk};
+ghost use Rattle.cml_value.specs.Group.{bases};
 ghost use Rattle.cml_scan.specs.declared.object.Light.{Light};
 ghost use Rattle.cml_scan.specs.Order.{Every};
-ghost use Rattle.cml_scan.specs.Table.{without, with_entry, IsThere, has_light, lit_after, AreApart};
-ghost use Rattle.cml_index.specs.declared.slot.Slot.{Slot};
-ghost use Rattle.indexmap.specs.IndexSet.{spare};
+ghost use Rattle.cml_scan.specs.Table.{without, changed, has_light, CanChange};
 ghost use Rattle.cml_index.specs.Posts as spec;
-ghost use Rattle.cml_index.specs.Cores.{IsIndexed, AreThere, IsSame, HasFreed, HasRoom};
-ghost use Rattle.cml_index.specs.declared.slot.Slot.TheVariants.{Waiters};
-ghost use Rattle.cml_index.specs.Slots.{lane_at, room_at, slot_leaves};
+ghost use Rattle.cml_index.specs.Cores.{seen, IsIndexed, AreThere, IsSame, IsStill, HasFreed, HasRoom};
+ghost use Rattle.cml_index.specs.Slots.{HaveDigits};
 
 use crate::entry::Entry;
 use crate::flags::forget_light;
@@ -27,17 +24,12 @@ impl Core {
     // Tells the same of these lights. It takes no memory.
     fn tell_all(&mut self, lights: &[Light], lit: bool, tally: &mut Tally)
         requires indexed { IsIndexed self.old }
-        requires there { lit ≡ true →
-            Every (λ l. spec.is_named self.old.flags.entries (Waiters l)) lights.now }
+        requires there { lit ≡ true → spec.HavePlaces self.old.flags.entries lights.now }
         ensures told { (m : Light) → spec.told self.new.flags.entries m
             ≡ (if has_light lights.now m then lit else spec.told self.old.flags.entries m) }
         ensures indexed { IsIndexed self.new }
-        ensures entries { self.new.entries ≡ self.old.entries }
-        ensures lanes { self.new.lanes.by_slot ≡ self.old.lanes.by_slot }
-        ensures leaves { self.new.leaves ≡ self.old.leaves }
-        ensures live { self.new.live ≡ self.old.live }
-        ensures kept { (k : Slot) → spec.is_named self.old.flags.entries k ≡ true →
-            spec.is_named self.new.flags.entries k ≡ true }
+        ensures still { IsStill self.old self.new }
+        ensures kept { spec.KeepsPlaces self.old.flags.entries self.new.flags.entries }
         ensures cost { tally.new ≤ tally.old + length lights.now }
     {
         for light in lights {
@@ -49,15 +41,11 @@ impl Core {
     fn tell_and_leave(&mut self, gone: &[Tid], lit: &[Light], unlit: &[Light], tally: &mut Tally)
         requires indexed { IsIndexed self.old }
         requires there { AreThere self.old.entries.items gone.now }
-        requires named { Every (λ l. spec.is_named self.old.flags.entries (Waiters l)) lit.now }
+        requires named { spec.HavePlaces self.old.flags.entries lit.now }
         ensures indexed { IsIndexed self.new }
-        ensures entries { self.new.entries.items ≡ without gone.now self.old.entries.items }
-        ensures told { (l : Light) → spec.told self.new.flags.entries l
-            ≡ lit_after lit.now unlit.now l (spec.told self.old.flags.entries l) }
-        ensures kept { (k : Slot) → spec.is_named self.old.flags.entries k ≡ true →
-            spec.is_named self.new.flags.entries k ≡ true }
-        ensures cost { (digits : ℕ) →
-            ((k : Slot) → length (lane_at self.old.lanes.by_slot k) < 2 ^ digits) →
+        ensures left { spec.IsChanged (without gone.now self.old.entries.items)
+            lit.now unlit.now (seen self.old) (seen self.new) }
+        ensures cost { (digits : ℕ) → HaveDigits self.old.lanes.by_slot digits →
             tally.new + self.new.leaves * (digits + 2) ≤ tally.old
             + self.old.leaves * (digits + 2) + (length lit.now + length unlit.now) }
         ensures freed { HasFreed self.old self.new }
@@ -108,21 +96,12 @@ impl Core {
         tally: &mut Tally,
     ) -> Result<(), AllocError>
         requires indexed { IsIndexed self.old }
-        requires there { AreThere self.old.entries.items gone.now }
-        requires apart { AreApart lit.now unlit.now }
+        requires ready { CanChange self.old.entries.items gone.now None lit.now unlit.now }
         ensures indexed { IsIndexed self.new }
-        ensures ok { OnOk result
-            (self.new.entries.items ≡ without gone.now self.old.entries.items) }
-        ensures ok_lit { OnOk result ((l : Light) → spec.told self.new.flags.entries l
-            ≡ lit_after lit.now unlit.now l (spec.told self.old.flags.entries l)) }
-        ensures err { OnErr result (self.new.entries.items ≡ self.old.entries.items) }
-        ensures err_lit { OnErr result ((l : Light) →
-            spec.told self.new.flags.entries l ≡ spec.told self.old.flags.entries l) }
-        ensures err_cost { OnErr result (tally.new ≡ tally.old) }
-        ensures sure { Every (λ l. spec.is_named self.old.flags.entries (Waiters l)) lit.now →
-            IsOk result }
-        ensures cost { OnOk result ((digits : ℕ) →
-            ((k : Slot) → length (lane_at self.old.lanes.by_slot k) < 2 ^ digits) →
+        ensures told { spec.HasTold result (changed self.old.entries.items gone.now None)
+            lit.now unlit.now (seen self.old) (seen self.new) tally.old tally.new }
+        ensures sure { spec.HavePlaces self.old.flags.entries lit.now → IsOk result }
+        ensures cost { OnOk result ((digits : ℕ) → HaveDigits self.old.lanes.by_slot digits →
             tally.new + self.new.leaves * (digits + 2) ≤ tally.old
             + self.old.leaves * (digits + 2) + (length lit.now + length unlit.now)) }
     {
@@ -132,38 +111,28 @@ impl Core {
         Ok(())
     }
 
-    // A change in which the thread comes.
+    // A change in which the thread comes, with its group.
     pub(crate) fn leave_and_come(
         &mut self,
         alloc: Global,
         gone: &[Tid],
-        tid: Tid,
-        group: &Group,
+        comer: (Tid, &Group),
         lit: &[Light],
         unlit: &[Light],
         tally: &mut Tally,
     ) -> Result<(), AllocError>
         requires indexed { IsIndexed self.old }
-        requires there { AreThere self.old.entries.items gone.now }
-        requires apart { AreApart lit.now unlit.now }
-        requires new { All (λ e. e.thread ≢ tid.0) self.old.entries.items }
+        requires ready { CanChange self.old.entries.items gone.now (Some comer) lit.now unlit.now }
         ensures indexed { IsIndexed self.new }
-        ensures ok { OnOk result (self.new.entries.items
-            ≡ with_entry (record { thread = tid.0; group = group.now })
-            (without gone.now self.old.entries.items)) }
-        ensures ok_lit { OnOk result ((l : Light) → spec.told self.new.flags.entries l
-            ≡ lit_after lit.now unlit.now l (spec.told self.old.flags.entries l)) }
-        ensures err { OnErr result (self.new.entries.items ≡ self.old.entries.items) }
-        ensures err_lit { OnErr result ((l : Light) →
-            spec.told self.new.flags.entries l ≡ spec.told self.old.flags.entries l) }
-        ensures err_cost { OnErr result (tally.new ≡ tally.old) }
-        ensures cost { OnOk result ((digits : ℕ) →
-            ((k : Slot) → length (lane_at self.old.lanes.by_slot k) < 2 ^ digits) →
+        ensures told { spec.HasTold result
+            (changed self.old.entries.items gone.now (Some comer.entry))
+            lit.now unlit.now (seen self.old) (seen self.new) tally.old tally.new }
+        ensures cost { OnOk result ((digits : ℕ) → HaveDigits self.old.lanes.by_slot digits →
             tally.new + self.new.leaves * (digits + 2) ≤ tally.old
-            + (self.old.leaves + 2 * length (bases group.now)) * (digits + 2)
+            + (self.old.leaves + 2 * length (bases comer.entry.1.now)) * (digits + 2)
             + (length lit.now + length unlit.now)) }
     {
-        let entry = Entry::new(alloc, tid, group)?;
+        let entry = Entry::new(alloc, comer.0, comer.1)?;
         let Ok(places) = self.make_ready(alloc, &entry, lit) else {
             drop(entry);
             return Err(AllocError);
@@ -185,8 +154,7 @@ impl Core {
         ensures indexed { IsIndexed self.new }
         ensures same { IsSame self.old self.new }
         ensures room { OnOk result (HasRoom self.new entry.now.group) }
-        ensures lights { OnOk result
-            (Every (λ l. spec.is_named self.new.flags.entries (Waiters l)) lit.now) }
+        ensures lights { OnOk result (spec.HavePlaces self.new.flags.entries lit.now) }
     {
         let places = self.make_places(alloc, entry)?;
         reserve_lights(&mut self.flags, lit)?;

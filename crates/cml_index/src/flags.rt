@@ -63,11 +63,8 @@ pub(crate) fn count_lit(flags: &Flags, bases: &[Base], tally: &mut Tally) -> usi
 
 // Reserves the place of a light of which nothing was told. What was told of any light stays.
 pub(crate) fn reserve(flags: &mut Flags, light: Light) -> Result<(), AllocError>
-    ensures told { (m : Light) →
-        spec.told flags.new.entries m ≡ spec.told flags.old.entries m }
+    ensures kept { spec.OnlyReserves flags.old.entries flags.new.entries }
     ensures there { OnOk result (spec.is_named flags.new.entries (Waiters light) ≡ true) }
-    ensures kept { (k : Slot) → spec.is_named flags.old.entries k ≡ true →
-        spec.is_named flags.new.entries k ≡ true }
     ensures sure { spec.is_named flags.old.entries (Waiters light) ≡ true → IsOk result }
 {
     let slot = Slot::Waiters(light);
@@ -85,8 +82,7 @@ pub(crate) fn flip(flags: &mut Flags, light: Light, lit: bool) -> bool
         ≡ (if same_light light m then lit else spec.told flags.old.entries m) }
     ensures changed { result ≡ (if lit then not (spec.told flags.old.entries light)
         else spec.told flags.old.entries light) }
-    ensures kept { (k : Slot) → spec.is_named flags.old.entries k ≡ true →
-        spec.is_named flags.new.entries k ≡ true }
+    ensures kept { spec.KeepsPlaces flags.old.entries flags.new.entries }
 {
     let slot = Slot::Waiters(light);
     match flags.get_mut(&slot) {

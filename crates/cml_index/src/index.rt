@@ -1,11 +1,10 @@
 //! The index.
 
-ghost use Rattle.std.specs.Prelude.{◌≡◌, ◌≢◌, ◌≤◌, ◌<◌, ◌+◌, ◌*◌, ◌^◌, [], ℕ, Bool, true, false, length, filter, All, AllPairs, Some, slice_get, OnOk, OnErr, IfOk, IsOk, IsNone};
-ghost use Rattle.cml_scan.specs.declared.object.Light.{Light};
+ghost use Rattle.std.specs.Prelude.{◌≡◌, ◌≤◌, ◌<◌, ◌+◌, ◌*◌, [], ℕ, length, filter, All, Some, slice_get, OnOk, IfOk, IsOk, IsNone};
 ghost use Rattle.cml_scan.specs.Light.{lit_by};
 ghost use Rattle.cml_scan.specs.Order.{before, place, is_lit_there, meet_at, base_at};
 ghost use Rattle.cml_scan.specs.Scan.{scan_of, has_row, offers_of, heads_of, partners_of};
-ghost use Rattle.cml_scan.specs.Table.{changed, lit_after, IsThere, IsNew, AreApart, IsNackOf, nacks_among};
+ghost use Rattle.cml_scan.specs.Table.{changed, CanChange, IsNackOf, nacks_among};
 ghost use Rattle.cml_index.specs.Posts as spec;
 
 use crate::entries::Entries;
@@ -71,16 +70,9 @@ impl OfferIndex {
         unlit: &[Light],
         tally: &mut Tally,
     ) -> Result<(), AllocError>
-        requires there { All (IsThere self.old.entries) gone.now }
-        requires once { AllPairs (λ a b. a.0 ≢ b.0) gone.now }
-        requires new { IsNew self.old.entries came }
-        requires apart { AreApart lit.now unlit.now }
-        ensures ok { OnOk result (self.new.entries ≡ changed self.old.entries gone.now came.entry) }
-        ensures ok_lit { OnOk result ((l : Light) → spec.told self.new.flags l
-            ≡ lit_after lit.now unlit.now l (spec.told self.old.flags l)) }
-        ensures err { OnErr result (self.new.entries ≡ self.old.entries) }
-        ensures err_lit { OnErr result ((l : Light) →
-            spec.told self.new.flags l ≡ spec.told self.old.flags l) }
+        requires ready { CanChange self.old.entries gone.now came lit.now unlit.now }
+        ensures told { spec.HasTold result (changed self.old.entries gone.now came.entry)
+            lit.now unlit.now self.old self.new tally.old tally.new }
         ensures sure { IsNone came.entry →
             All (IsNackOf (nacks_among gone.now self.old.entries)) lit.now → IsOk result }
         ensures cost { OnOk result ((digits : ℕ) → spec.HasDigits self.old.entries digits →
@@ -88,13 +80,12 @@ impl OfferIndex {
             + (spec.gone_leaves gone.now self.old.entries + spec.came_leaves came.entry)
             * (2 + digits)
             + (length lit.now + length unlit.now)) }
-        ensures err_cost { OnErr result (tally.new ≡ tally.old) }
     {
         match came {
             None => self.core.leave_only(gone, lit, unlit, tally),
-            Some((tid, group)) => self
+            Some(comer) => self
                 .core
-                .leave_and_come(alloc, gone, tid, group, lit, unlit, tally),
+                .leave_and_come(alloc, gone, comer, lit, unlit, tally),
         }
     }
 

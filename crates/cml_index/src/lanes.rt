@@ -162,8 +162,7 @@ impl Lanes {
         requires ascend { (k : Slot) → Ascends nat_lt (spec.run_in runs.now k) }
         ensures lanes { (k : Slot) → spec.lane_at self.new.by_slot k
             ≡ with_run tid (spec.run_in runs.now k) (spec.lane_at self.old.by_slot k) }
-        ensures cost { (digits : ℕ) →
-            ((k : Slot) → length (spec.lane_at self.old.by_slot k) < 2 ^ digits) →
+        ensures cost { (digits : ℕ) → spec.HaveDigits self.old.by_slot digits →
             tally.new ≤ tally.old + length runs.now.entries * digits }
     {
         for i in 0..runs.len() {
@@ -180,8 +179,7 @@ impl Lanes {
             ≡ others tid (spec.lane_at self.old.by_slot k) }
         ensures room { (k : Slot) →
             spec.room_at self.old.by_slot k ≤ spec.room_at self.new.by_slot k }
-        ensures cost { (digits : ℕ) →
-            ((k : Slot) → length (spec.lane_at self.old.by_slot k) < 2 ^ digits) →
+        ensures cost { (digits : ℕ) → spec.HaveDigits self.old.by_slot digits →
             tally.new ≤ tally.old + length runs.now.entries * digits }
     {
         for i in 0..runs.len() {

@@ -1,11 +1,8 @@
 //! The nacks of a group's scopes, and their places among the lights.
 
-ghost use Rattle.std.specs.Prelude.{◌≡◌, ◌++◌, true, drop, OnOk, IfOk, IsOk};
+ghost use Rattle.std.specs.Prelude.{◌≡◌, ◌++◌, OnOk, IfOk, IsOk};
 ghost use Rattle.cml_value.specs.Group.{scopes, nacks_of};
-ghost use Rattle.cml_scan.specs.declared.object.Light.{Light};
 ghost use Rattle.cml_scan.specs.Order.{Every};
-ghost use Rattle.cml_index.specs.declared.slot.Slot.{Slot};
-ghost use Rattle.cml_index.specs.declared.slot.Slot.TheVariants.{Waiters};
 ghost use Rattle.cml_index.specs.Posts as spec;
 
 use crate::flags::{Flags, reserve};
@@ -37,12 +34,9 @@ fn push_nacks(all: &mut Vec<u32>, group: &Group) -> Result<(), AllocError>
 
 // Reserves the places of these nacks. What was told of any light stays.
 fn reserve_all(flags: &mut Flags, nacks: &[u32]) -> Result<(), AllocError>
-    ensures told { (m : Light) →
-        spec.told flags.new.entries m ≡ spec.told flags.old.entries m }
+    ensures kept { spec.OnlyReserves flags.old.entries flags.new.entries }
     ensures there { OnOk result
         (Every (λ k. spec.is_named flags.new.entries (spec.slot_of_nack k)) nacks.now) }
-    ensures kept { (k : Slot) → spec.is_named flags.old.entries k ≡ true →
-        spec.is_named flags.new.entries k ≡ true }
 {
     for nack in nacks {
         reserve(flags, Light::Nack(NackId(*nack)))?;
@@ -56,12 +50,9 @@ pub(crate) fn reserve_nacks(
     alloc: Global,
     group: &Group,
 ) -> Result<(), AllocError>
-    ensures told { (m : Light) →
-        spec.told flags.new.entries m ≡ spec.told flags.old.entries m }
+    ensures kept { spec.OnlyReserves flags.old.entries flags.new.entries }
     ensures there { OnOk result (Every (λ k. spec.is_named flags.new.entries (spec.slot_of_nack k))
         (nacks_of (scopes group.now))) }
-    ensures kept { (k : Slot) → spec.is_named flags.old.entries k ≡ true →
-        spec.is_named flags.new.entries k ≡ true }
 {
     let mut nacks = Vec::new(alloc);
     push_nacks(&mut nacks, group)?;
@@ -70,14 +61,9 @@ pub(crate) fn reserve_nacks(
 
 // Reserves the places of these lights. What was told of any light stays.
 pub(crate) fn reserve_lights(flags: &mut Flags, lights: &[Light]) -> Result<(), AllocError>
-    ensures told { (m : Light) →
-        spec.told flags.new.entries m ≡ spec.told flags.old.entries m }
-    ensures there { OnOk result
-        (Every (λ l. spec.is_named flags.new.entries (Waiters l)) lights.now) }
-    ensures kept { (k : Slot) → spec.is_named flags.old.entries k ≡ true →
-        spec.is_named flags.new.entries k ≡ true }
-    ensures sure { Every (λ l. spec.is_named flags.old.entries (Waiters l)) lights.now →
-        IsOk result }
+    ensures kept { spec.OnlyReserves flags.old.entries flags.new.entries }
+    ensures there { OnOk result (spec.HavePlaces flags.new.entries lights.now) }
+    ensures sure { spec.HavePlaces flags.old.entries lights.now → IsOk result }
 {
     for light in lights {
         reserve(flags, *light)?;

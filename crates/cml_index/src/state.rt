@@ -1,19 +1,16 @@
 //! The fields of the index, and the steps of a change.
 
-ghost use Rattle.std.specs.Prelude.{◌≡◌, ◌≢◌, ◌≤◌, ◌<◌, ◌+◌, ◌*◌, ◌^◌, [], ◌∷◌, ℕ, Bool, true, false, if◌then◌else◌, length, map, All, AllPairs, slice_get, OnOk, IsOk, IfOk};
-ghost use Rattle.cml_value.specs.Group.{PlainGroup, bases, scopes, nacks_of};
+ghost use Rattle.std.specs.Prelude.{◌≡◌, ◌≢◌, ◌≤◌, ◌+◌, ◌*◌, [], ◌∷◌, ℕ, true, if◌then◌else◌, length, All, slice_get, OnOk};
+ghost use Rattle.cml_value.specs.Group.{bases};
 ghost use Rattle.cml_scan.specs.declared.object.Light.{Light};
 ghost use Rattle.cml_scan.specs.Scan.{offers_of};
 ghost use Rattle.std.specs.Option.{option_copied};
-ghost use Rattle.cml_scan.specs.Order.{Every, base_at as scan_base_at};
-ghost use Rattle.cml_scan.specs.Table.{without, with_entry, IsThere, same_light};
-ghost use Rattle.cml_scan.specs.World.{PlainEntry};
-ghost use Rattle.cml_index.specs.declared.slot.Slot.{Slot};
-ghost use Rattle.indexmap.specs.IndexSet.{spare};
+ghost use Rattle.cml_scan.specs.Order.{base_at as scan_base_at};
+ghost use Rattle.cml_scan.specs.Table.{without, IsThere, same_light};
 ghost use Rattle.cml_index.specs.Posts as spec;
-ghost use Rattle.cml_index.specs.Cores.{IsIndexed, AreThere, IsSame, HasFreed, HasRoom};
+ghost use Rattle.cml_index.specs.Cores.{IsIndexed, AreThere, IsSame, IsStill, HasCome, HasFreed, HasRoom};
 ghost use Rattle.cml_index.specs.declared.slot.Slot.TheVariants.{Waiters};
-ghost use Rattle.cml_index.specs.Slots.{lane_at, room_at, slot_leaves};
+ghost use Rattle.cml_index.specs.Slots.{HaveDigits};
 
 use crate::entries::Entries;
 use crate::entry::Entry;
@@ -48,8 +45,7 @@ impl Core {
         ensures entries { self.new.entries.items ≡ without (tid ∷ []) self.old.entries.items }
         ensures indexed { IsIndexed self.new }
         ensures flags { self.new.flags ≡ self.old.flags }
-        ensures cost { (digits : ℕ) →
-            ((k : Slot) → length (lane_at self.old.lanes.by_slot k) < 2 ^ digits) →
+        ensures cost { (digits : ℕ) → HaveDigits self.old.lanes.by_slot digits →
             tally.new + self.new.leaves * (digits + 2)
             ≤ tally.old + self.old.leaves * (digits + 2) }
         ensures freed { HasFreed self.old self.new }
@@ -70,8 +66,7 @@ impl Core {
         ensures entries { self.new.entries.items ≡ without gone.now self.old.entries.items }
         ensures indexed { IsIndexed self.new }
         ensures flags { self.new.flags ≡ self.old.flags }
-        ensures cost { (digits : ℕ) →
-            ((k : Slot) → length (lane_at self.old.lanes.by_slot k) < 2 ^ digits) →
+        ensures cost { (digits : ℕ) → HaveDigits self.old.lanes.by_slot digits →
             tally.new + self.new.leaves * (digits + 2)
             ≤ tally.old + self.old.leaves * (digits + 2) }
         ensures freed { HasFreed self.old self.new }
@@ -87,8 +82,7 @@ impl Core {
         requires indexed { IsIndexed self.old }
         ensures indexed { IsIndexed self.new }
         ensures same { IsSame self.old self.new }
-        ensures kept { (k : Slot) → spec.is_named self.old.flags.entries k ≡ true →
-            spec.is_named self.new.flags.entries k ≡ true }
+        ensures kept { spec.KeepsPlaces self.old.flags.entries self.new.flags.entries }
         ensures room { OnOk result (HasRoom self.new entry.now.group) }
     {
         if self.leaves.checked_add(entry.bases().len()).is_none() {
@@ -109,12 +103,8 @@ impl Core {
         ensures told { (m : Light) → spec.told self.new.flags.entries m
             ≡ (if same_light light m then lit else spec.told self.old.flags.entries m) }
         ensures indexed { IsIndexed self.new }
-        ensures entries { self.new.entries ≡ self.old.entries }
-        ensures lanes { self.new.lanes.by_slot ≡ self.old.lanes.by_slot }
-        ensures leaves { self.new.leaves ≡ self.old.leaves }
-        ensures live { self.new.live ≡ self.old.live }
-        ensures kept { (k : Slot) → spec.is_named self.old.flags.entries k ≡ true →
-            spec.is_named self.new.flags.entries k ≡ true }
+        ensures still { IsStill self.old self.new }
+        ensures kept { spec.KeepsPlaces self.old.flags.entries self.new.flags.entries }
         ensures cost { tally.new ≤ tally.old + 1 }
     {
         tally.add();
@@ -133,12 +123,9 @@ impl Core {
         requires indexed { IsIndexed self.old }
         requires new { All (λ e. e.thread ≢ entry.thread) self.old.entries.items }
         requires room { HasRoom self.old entry.group }
-        ensures entries { self.new.entries.items ≡ with_entry entry self.old.entries.items }
-        ensures leaves { self.new.leaves ≡ self.old.leaves + length (bases entry.group) }
+        ensures came { HasCome entry self.old self.new }
         ensures indexed { IsIndexed self.new }
-        ensures flags { self.new.flags ≡ self.old.flags }
-        ensures cost { (digits : ℕ) →
-            ((k : Slot) → length (lane_at self.old.lanes.by_slot k) < 2 ^ digits) →
+        ensures cost { (digits : ℕ) → HaveDigits self.old.lanes.by_slot digits →
             tally.new ≤ tally.old + length (bases entry.group) * (digits + 2) }
     {
         let lit = count_lit(&self.flags, entry.bases(), tally);

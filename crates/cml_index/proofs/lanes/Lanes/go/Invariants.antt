@@ -1,4 +1,4 @@
-use Rattle.std.proofs.Common.{◌≡◌, ◌≤◌, ◌<◌, ◌+◌, ◌*◌, ◌^◌, ℕ, length, drop, true, false}
+use Rattle.std.proofs.Common.{◌≡◌, ◌≤◌, ◌+◌, ◌*◌, ℕ, drop, true, false}
 use Rattle.cml_channel.specs.Lanes.{others}
 use Rattle.cml_index.specs.declared.slot.Slot.{Slot}
 use Rattle.cml_index.specs.Slots as spec
@@ -10,5 +10,5 @@ invariant-loop-i l = record {
   done : (k : Slot) → spec.has_run (drop l.i l.runs.entries) k ≡ false → spec.lane_at l.self.by_slot k ≡ others l.tid (spec.lane_at l.fn.self.by_slot k);
   left : (k : Slot) → spec.has_run (drop l.i l.runs.entries) k ≡ true → spec.lane_at l.self.by_slot k ≡ spec.lane_at l.fn.self.by_slot k;
   room : (k : Slot) → spec.room_at l.fn.self.by_slot k ≤ spec.room_at l.self.by_slot k;
-  cost : (digits : ℕ) → ((k : Slot) → length (spec.lane_at l.fn.self.by_slot k) < 2 ^ digits) → l.tally ≤ l.fn.tally + l.i * digits;
+  cost : (digits : ℕ) → spec.HaveDigits l.fn.self.by_slot digits → l.tally ≤ l.fn.tally + l.i * digits;
 }

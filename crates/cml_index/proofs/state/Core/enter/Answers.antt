@@ -74,8 +74,8 @@ add_all-requires-clause-under c n dark =
     omega (arith, few, same) in
     c.requires.indexed.sides n ∙ meet_more (one_lane n.kind) (length (lane_at lanes (Side true n))) (length (lane_at lanes (Side false n))) (length (lane_at after (Side true n))) (length (lane_at after (Side false n))) (more (Side true n)) (more (Side false n)) dark
 
-pub returns-clause-entries : goal.returns-clause-entries
-returns-clause-entries c = c.put.ensures
+pub returns-clause-came-entries : goal.returns-clause-came-entries
+returns-clause-came-entries c = c.put.ensures
 
 pub returns-clause-indexed : goal.returns-clause-indexed
 returns-clause-indexed c =

@@ -98,10 +98,13 @@ returns-clause-indexed c =
     }
 
 pub returns-clause-freed-shorter : goal.returns-clause-freed-shorter
-returns-clause-shorter c k =
+returns-clause-freed-shorter c k =
     let fewer : length (others c.args.tid (lane_at c.args.self.now.lanes.by_slot k)) ≤ length (lane_at c.args.self.now.lanes.by_slot k) = filter_fewer (is_others c.args.tid) (lane_at c.args.self.now.lanes.by_slot k) in
     let same : length (lane_at c.go.new.self.by_slot k) ≡ length (others c.args.tid (lane_at c.args.self.now.lanes.by_slot k)) = ap length (c.go.ensures.lanes k) in
     omega (arith, fewer, same)
+
+pub returns-clause-freed-named : goal.returns-clause-freed-named
+returns-clause-freed-named c = λ k named. named
 
 pub returns-clause-cost : goal.returns-clause-cost
 returns-clause-cost c digits few =

@@ -1,9 +1,6 @@
-use Rattle.std.proofs.Common.{◌≡◌, ◌≤◌, ◌<◌, ◌+◌, ◌*◌, ◌^◌, ℕ, length, take}
-use Rattle.indexmap.specs.IndexSet.{spare}
+use Rattle.std.proofs.Common.{◌≡◌, ◌≤◌, ◌+◌, ◌*◌, ℕ, take}
 use Rattle.cml_scan.specs.Table.{without}
-use Rattle.cml_index.specs.declared.slot.Slot.{Slot}
-use Rattle.cml_index.specs.Slots.{lane_at, room_at}
-use Rattle.cml_index.specs.Posts as spec
+use Rattle.cml_index.specs.Slots.{HaveDigits}
 use Rattle.cml_index.specs.Cores.{IsIndexed, HasFreed}
 use Rattle.cml_index.proofs.state.Core.leave_all.Given as goal
 
@@ -14,5 +11,5 @@ invariant-loop-tid l = record {
   indexed : IsIndexed l.self;
   flags : l.self.flags ≡ l.fn.self.flags;
   freed : HasFreed l.fn.self l.self;
-  cost : (digits : ℕ) → ((k : Slot) → length (lane_at l.fn.self.lanes.by_slot k) < 2 ^ digits) → l.tally + l.self.leaves * (digits + 2) ≤ l.fn.tally + l.fn.self.leaves * (digits + 2);
+  cost : (digits : ℕ) → HaveDigits l.fn.self.lanes.by_slot digits → l.tally + l.self.leaves * (digits + 2) ≤ l.fn.tally + l.fn.self.leaves * (digits + 2);
 }

@@ -16,10 +16,10 @@ loop-light-preserved c =
     record {
       told = λ m. told_more c.args.lights.now c.loop-light.light-index _ m c.args.lit _ _ _ c.loop-light-test.true (c.tell.ensures.told m) (c.loop-light.invariant.told m);
       indexed = c.tell.ensures.indexed;
-      entries = c.tell.ensures.entries ∙ c.loop-light.invariant.entries;
-      lanes = c.tell.ensures.lanes ∙ c.loop-light.invariant.lanes;
-      live = c.tell.ensures.live ∙ c.loop-light.invariant.live;
-      leaves = c.tell.ensures.leaves ∙ c.loop-light.invariant.leaves;
+      entries = c.tell.ensures.still.entries ∙ c.loop-light.invariant.entries;
+      lanes = c.tell.ensures.still.lanes ∙ c.loop-light.invariant.lanes;
+      live = c.tell.ensures.still.live ∙ c.loop-light.invariant.live;
+      leaves = c.tell.ensures.still.leaves ∙ c.loop-light.invariant.leaves;
       kept = λ k h. c.tell.ensures.kept k (c.loop-light.invariant.kept k h);
       cost = omega (arith, c.tell.ensures.cost, c.loop-light.invariant.cost);
     }

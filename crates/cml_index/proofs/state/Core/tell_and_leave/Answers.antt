@@ -11,6 +11,9 @@ tell_all-requires-2-clause-there c = λ on. Every-weaker (λ l. spec.is_named c.
 
 pub leave_all-requires-clause-there : goal.leave_all-requires-clause-there
 leave_all-requires-clause-there c = record {
-  there = subst (λ es. All (IsThere es) c.args.gone.now) (sym (ap (λ v. v.items) (c.tell_all-2.ensures.entries ∙ c.tell_all.ensures.entries))) c.requires.there.there;
+  there = subst (λ es. All (IsThere es) c.args.gone.now) (sym (ap (λ v. v.items) (c.tell_all-2.ensures.still.entries ∙ c.tell_all.ensures.still.entries))) c.requires.there.there;
   once = c.requires.there.once;
 }
+
+pub returns-clause-freed-named : goal.returns-clause-freed-named
+returns-clause-freed-named c = λ k named. c.leave_all.ensures.freed.named k (c.tell_all-2.ensures.kept k (c.tell_all.ensures.kept k named))
