@@ -19,6 +19,7 @@ pub mod Clock
 pub mod Step
 pub mod Keeping
 pub mod Telling
+pub mod Feeding
 pub mod Homes
 pub mod Leaving
 pub mod Parties

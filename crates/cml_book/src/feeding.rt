@@ -1,11 +1,10 @@
 //! Objects whose lights are turned on when they are fed.
 
-ghost use Rattle.std.specs.Prelude.{◌≡◌, ◌<◌, Ok, [], length, map, OnOk, OnErr, IfErr};
-ghost use Rattle.cml_scan.specs.Table.{lit_after};
-ghost use Rattle.cml_scan.specs.declared.object.Light.{Light};
+ghost use Rattle.std.specs.Prelude.{◌≡◌, ◌<◌, length, map};
 ghost use Rattle.cml_base.specs.Feeds.{IsAccepted};
 ghost use Rattle.cml_base.specs.Registered.{lit_at, fed_at};
-ghost use Rattle.cml_book.specs.Telling.{newly_lit};
+ghost use Rattle.cml_book.specs.Feeding.{IsTaken};
+ghost use Rattle.cml_book.specs.Telling.{newly_lit, TurnsOn};
 
 use cml_base::{FeedFault, Register, Source};
 use cml_scan::{Light, Table};
@@ -37,15 +36,11 @@ pub(crate) fn feed<K: Source<Feed = Value>, T: Table>(
 ) -> Result<(), Value>
     requires there { id < length objects.old.objects }
     requires accepted { IsAccepted (fed_at K.fed (map K.state objects.old.objects) id value) }
-    ensures ok { let old = map K.state objects.old.objects in
-        OnOk result (fed_at K.fed old id value ≡ Ok (map K.state objects.new.objects)) }
-    ensures ok_told { let was_lit = lit_at K.is_lit (map K.state objects.old.objects) id in
-        OnOk result ((l : Light) →
-        T.is_lit table.new l ≡ lit_after (newly_lit was_lit light) [] l (T.is_lit table.old l)) }
-    ensures err { OnErr result (map K.state objects.new.objects ≡ map K.state objects.old.objects) }
-    ensures err_told { OnErr result ((l : Light) → T.is_lit table.new l ≡ T.is_lit table.old l) }
-    ensures back { IfErr result (λ back. back ≡ value) }
-    ensures entries { T.entries table.new ≡ T.entries table.old }
+    ensures states { IsTaken result (fed_at K.fed (map K.state objects.old.objects) id value) value
+        (map K.state objects.old.objects) (map K.state objects.new.objects) }
+    ensures told { TurnsOn result
+        (newly_lit (lit_at K.is_lit (map K.state objects.old.objects) id) light)
+        (T.entries table.old) (T.entries table.new) (T.is_lit table.old) (T.is_lit table.new) }
     ensures len { length objects.new.objects ≡ length objects.old.objects }
     ensures waits { objects.new.waits ≡ objects.old.waits }
 {
@@ -71,10 +66,8 @@ pub(crate) fn tell_lit<T: Table>(
     is_known: bool,
     light: Light,
 ) -> Result<(), AllocError>
-    ensures ok { OnOk result ((l : Light) →
-        T.is_lit table.new l ≡ lit_after (newly_lit is_known light) [] l (T.is_lit table.old l)) }
-    ensures err { OnErr result ((l : Light) → T.is_lit table.new l ≡ T.is_lit table.old l) }
-    ensures entries { T.entries table.new ≡ T.entries table.old }
+    ensures told { TurnsOn result (newly_lit is_known light)
+        (T.entries table.old) (T.entries table.new) (T.is_lit table.old) (T.is_lit table.new) }
 {
     if is_known {
         return Ok(());

@@ -1,9 +1,8 @@
 //! Multicast channels and their ports.
 
-ghost use Rattle.std.specs.Prelude.{◌≡◌, ◌≤◌, ◌<◌, ◌++◌, ◌∷◌, [], Bool, List, not, All, Some, length, IfOk, OnOk, OnErr};
+ghost use Rattle.std.specs.Prelude.{◌≡◌, ◌<◌, Bool, List, not, All, Some, length, IfOk, OnOk, OnErr};
 ghost use Rattle.cml_scan.specs.World.{PlainEntry};
 ghost use Rattle.cml_scan.specs.Light.{has_item};
-ghost use Rattle.cml_scan.specs.Table.{lit_after};
 ghost use Rattle.cml_scan.specs.declared.object.Light.{Light};
 ghost use Rattle.cml_base.specs.Registered.{HasRoomAt};
 ghost use Rattle.cml_queues.specs.Posts.{port_numbers, unread, any_is_full, posted, says_full};
@@ -12,9 +11,9 @@ ghost use Rattle.cml_book.specs.MakeObjects.{make_mchan};
 ghost use Rattle.cml_book.specs.MakePort as spec;
 ghost use Rattle.cml_book.specs.MakePort.{with_port};
 ghost use Rattle.cml_book.specs.Multicast as multicast_spec;
-ghost use Rattle.cml_book.specs.Telling.{StaysKept, newly_lit};
-ghost use Rattle.cml_book.specs.Homes.{ArePorts, AreBelow, has_room, port_light, first_lights};
-ghost use Rattle.cml_book.specs.Views.{queues_of, ports_of};
+ghost use Rattle.cml_book.specs.Telling.{StaysKept, TurnsOn, newly_lit};
+ghost use Rattle.cml_book.specs.Homes.{AddsPort, ArePorts, AreBelow, StillFew, has_room, port_light, first_lights};
+ghost use Rattle.cml_book.specs.Views.{ports_of};
 
 use crate::book::MAX_OBJECTS;
 use crate::feeding::tell_lit;
@@ -169,26 +168,13 @@ fn add_port<T: Table>(
     requires there { channel.0 < length channels.old.items }
     requires few { length ports.old.objects < max_objects }
     requires housed { ArePorts channels.old.items homes.old.items (length ports.old.objects) }
-    ensures id { IfOk result (λ id. id.0 ≡ length ports.old.objects) }
-    ensures channels { OnOk result (ports_of channels.new.items
-        ≡ with_port (ports_of channels.old.items) channel.0 (length ports.old.objects)) }
-    ensures ports { OnOk result
-        (queues_of ports.new.objects ≡ queues_of ports.old.objects ++ port.items ∷ []) }
-    ensures told { let empty = not (has_item (Some port.items)) in
-        let light = port_light (length ports.old.objects) in
-        OnOk result ((l : Light) →
-        T.is_lit table.new l ≡ lit_after (newly_lit empty light) [] l (T.is_lit table.old l)) }
-
-    ensures err_channels { OnErr result
-        (ports_of channels.new.items ≡ ports_of channels.old.items) }
-    ensures err_ports { OnErr result (queues_of ports.new.objects ≡ queues_of ports.old.objects) }
-    ensures err_told { OnErr result ((l : Light) → T.is_lit table.new l ≡ T.is_lit table.old l) }
-
-    ensures entries { T.entries table.new ≡ T.entries table.old }
+    ensures added { AddsPort result channel.0 port.items channels.old.items channels.new.items
+        ports.old.objects ports.new.objects }
+    ensures told { TurnsOn result
+        (newly_lit (not (has_item (Some port.items))) (port_light (length ports.old.objects)))
+        (T.entries table.old) (T.entries table.new) (T.is_lit table.old) (T.is_lit table.new) }
     ensures housed { ArePorts channels.new.items homes.new.items (length ports.new.objects) }
-    ensures few { length ports.new.objects ≤ max_objects }
-    ensures len { length channels.new.items ≡ length channels.old.items }
-    ensures waits { ports.new.waits ≡ ports.old.waits }
+    ensures still { StillFew channels.old.items channels.new.items ports.old ports.new }
 {
     let id = PortId(ports.len() as u32);
     let Ok(()) = room_at(channels, channel) else {
@@ -254,13 +240,10 @@ fn send<T: Table>(
         says_full result ≡ any_is_full (port_numbers channel.now.ports) old }
     ensures ok { let new = posted message.now (port_numbers channel.now.ports) (unread ports.old.objects) in
         OnOk result (unread ports.new.objects ≡ new) }
-    ensures ok_told { let ids = port_numbers channel.now.ports in
-        let first = first_lights ids (unread ports.old.objects) in
-        OnOk result ((l : Light) →
-        T.is_lit table.new l ≡ lit_after first [] l (T.is_lit table.old l)) }
     ensures err { OnErr result (unread ports.new.objects ≡ unread ports.old.objects) }
-    ensures err_told { OnErr result ((l : Light) → T.is_lit table.new l ≡ T.is_lit table.old l) }
-    ensures entries { T.entries table.new ≡ T.entries table.old }
+    ensures told { TurnsOn result
+        (first_lights (port_numbers channel.now.ports) (unread ports.old.objects))
+        (T.entries table.old) (T.entries table.new) (T.is_lit table.old) (T.is_lit table.new) }
     ensures len { length ports.new.objects ≡ length ports.old.objects }
     ensures waits { ports.new.waits ≡ ports.old.waits }
 {
@@ -280,11 +263,8 @@ fn tell_first<T: Table>(
     ports: &Register<Port>,
     ids: &[PortId],
 ) -> Result<(), AllocError>
-    ensures ok { let first = first_lights (port_numbers ids.now) (unread ports.now.objects) in
-        OnOk result ((l : Light) →
-        T.is_lit table.new l ≡ lit_after first [] l (T.is_lit table.old l)) }
-    ensures err { OnErr result ((l : Light) → T.is_lit table.new l ≡ T.is_lit table.old l) }
-    ensures entries { T.entries table.new ≡ T.entries table.old }
+    ensures told { TurnsOn result (first_lights (port_numbers ids.now) (unread ports.now.objects))
+        (T.entries table.old) (T.entries table.new) (T.is_lit table.old) (T.is_lit table.new) }
 {
     let lights = unlit_ports(alloc, ports, ids)?;
     if lights.is_empty() {

@@ -27,11 +27,11 @@ returns-clause-step g c =
     let few : length (queues_of s.ports.objects) < max_objects = omega (arith, c.len-2.ensures, c.if-len-ge-MAX_OBJECTS.false, queue_count s.ports.objects) in
     let home = home_get s.homes.items c.args.port.0 c.index-home.result.now (found_there _ _ _ there c.index-home.ensures) in
     let unread = queue_get s.ports.objects c.args.port.0 c.in-Some.original.now (sym c.in-Some.ensures) ∙ ap (λ (items : List PlainValue). Some items) (sym c.in-Ok.ensures) in
-    let made = ap (λ (n : ℕ). let port : PortId = record { 0 = n } in port) c.in-Ok-add_port.ensures.id in
-    rw (← c.self.view_is, c.in-Ok-add_port.ensures.channels, c.in-Ok-add_port.ensures.ports, made, ← queue_count s.ports.objects)
+    let made = ap (λ (n : ℕ). let port : PortId = record { 0 = n } in port) c.in-Ok-add_port.ensures.added.id in
+    rw (← c.self.view_is, c.in-Ok-add_port.ensures.added.channels, c.in-Ok-add_port.ensures.added.ports, made, ← queue_count s.ports.objects)
     (copy_port_does (the_view s) (channel_numbers s.homes.items) c.args.port.0 c.index-home.result.now.0 c.in-Ok.copy.items within few c.self.invariant.2.housed home unread)
 
 pub returns-clause-kept : goal.returns-clause-kept
 returns-clause-kept g c =
-    rw (← c.self.view_is, c.in-Ok-add_port.ensures.ports) (stays_kept _ _ _ _ _ _ refl refl c.in-Ok-add_port.ensures.entries
-    (make_port_true (the_view c.self.inside) _ _ (ports_of c.add_port.new.channels.items) c.in-Ok.copy.items _ (sym (queue_count c.self.inside.ports.objects)) c.in-Ok-add_port.ensures.told))
+    rw (← c.self.view_is, c.in-Ok-add_port.ensures.added.ports) (stays_kept _ _ _ _ _ _ refl refl c.in-Ok-add_port.ensures.told.entries
+    (make_port_true (the_view c.self.inside) _ _ (ports_of c.add_port.new.channels.items) c.in-Ok.copy.items _ (sym (queue_count c.self.inside.ports.objects)) c.in-Ok-add_port.ensures.told.ok))

@@ -8,5 +8,5 @@ use Rattle.cml_book.proofs.state.State.make_port.Goals as goal
 
 pub returns-clause-kept : goal.returns-clause-kept
 returns-clause-kept g c =
-    rw (← c.self.view_is, c.in-Ok.ensures.ports) (stays_kept _ _ _ _ _ _ refl refl c.in-Ok.ensures.entries
-    (make_port_true (the_view c.self.inside) _ _ (ports_of c.add_port.new.channels.items) c.new.result.items _ (sym (queue_count c.self.inside.ports.objects)) c.in-Ok.ensures.told))
+    rw (← c.self.view_is, c.in-Ok.ensures.added.ports) (stays_kept _ _ _ _ _ _ refl refl c.in-Ok.ensures.told.entries
+    (make_port_true (the_view c.self.inside) _ _ (ports_of c.add_port.new.channels.items) c.new.result.items _ (sym (queue_count c.self.inside.ports.objects)) c.in-Ok.ensures.told.ok))

@@ -6,20 +6,20 @@ use Rattle.cml_book.proofs.state.State.mput.Goals as goal
 
 pub returns-in-Err-clause-kept : goal.returns-in-Err-clause-kept
 returns-in-Err-clause-kept g c =
-    let same = same_variables c.feed.new.objects.objects c.self.inside.mvars.objects c.in-Err.ensures.err in
-    rw (← c.self.view_is) (stays_kept _ _ _ _ _ _ refl refl c.in-Err.ensures.entries (rw same (λ l t. c.in-Err.ensures.err_told l ∙ t)))
+    let same = same_variables c.feed.new.objects.objects c.self.inside.mvars.objects c.in-Err.ensures.states.err in
+    rw (← c.self.view_is) (stays_kept _ _ _ _ _ _ refl refl c.in-Err.ensures.told.entries (rw same (λ l t. c.in-Err.ensures.told.err l ∙ t)))
 
 pub returns-clause-step : goal.returns-clause-step
 returns-clause-step g c =
     let there : c.args.mvar.0 < length c.self.inside.mvars.objects = omega (arith, c.if-mvar-len.false, c.len.ensures) in
     let fits : value_fits c.args.value ≡ true = sym c.fits.ensures ∙ c.if-not-fits.false in
     let empty = sym c.mvar_is_full.ensures ∙ c.if-mvar_is_full.false in
-    let done = put_done c.self.inside.mvars.objects c.feed.new.objects.objects c.args.mvar.0 c.args.value there empty c.in_default.ensures.ok in
+    let done = put_done c.self.inside.mvars.objects c.feed.new.objects.objects c.args.mvar.0 c.args.value there empty c.in_default.ensures.states.ok in
     rw (← c.self.view_is, done) (mput_does _ c.args.mvar.0 c.args.value there empty fits)
 
 pub returns-clause-kept : goal.returns-clause-kept
 returns-clause-kept g c =
     let there : c.args.mvar.0 < length c.self.inside.mvars.objects = omega (arith, c.if-mvar-len.false, c.len.ensures) in
     let empty = sym c.mvar_is_full.ensures ∙ c.if-mvar_is_full.false in
-    let done = put_done c.self.inside.mvars.objects c.feed.new.objects.objects c.args.mvar.0 c.args.value there empty c.in_default.ensures.ok in
-    rw (← c.self.view_is, done) (stays_kept _ _ _ _ _ _ refl refl c.in_default.ensures.entries (mput_true (the_view c.self.inside) _ _ c.args.mvar c.args.value there empty c.in_default.ensures.ok_told))
+    let done = put_done c.self.inside.mvars.objects c.feed.new.objects.objects c.args.mvar.0 c.args.value there empty c.in_default.ensures.states.ok in
+    rw (← c.self.view_is, done) (stays_kept _ _ _ _ _ _ refl refl c.in_default.ensures.told.entries (mput_true (the_view c.self.inside) _ _ c.args.mvar c.args.value there empty c.in_default.ensures.told.ok))

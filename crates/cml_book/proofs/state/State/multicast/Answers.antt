@@ -48,5 +48,5 @@ returns-clause-kept g c =
     let count = queue_count s.ports.objects in
     let below : (p : ℕ) → has_port (port_numbers c.index.result.now.ports) p ≡ true → p < length (queues_of s.ports.objects)
     = λ p k. (let b = ports_below s.mchans.items s.homes.items _ c.args.channel.0 c.self.invariant.2 p (rw ids k) in omega (arith, b, count)) in
-    rw (← c.self.view_is, c.in_default.ensures.ok) (stays_kept _ _ _ _ _ _ refl refl c.in_default.ensures.entries
-    (multicast_true (the_view s) _ _ (port_numbers c.index.result.now.ports) c.args.message below c.in_default.ensures.ok_told))
+    rw (← c.self.view_is, c.in_default.ensures.ok) (stays_kept _ _ _ _ _ _ refl refl c.in_default.ensures.told.entries
+    (multicast_true (the_view s) _ _ (port_numbers c.index.result.now.ports) c.args.message below c.in_default.ensures.told.ok))
