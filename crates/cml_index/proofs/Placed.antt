@@ -62,3 +62,25 @@ key_found (x ∷ es) (suc i) key lane e = key_found es i key lane e
 pub key_of_place : (es : List (Slot × PlainLane)) (place : ℕ) (slot key : Slot) (lane : PlainLane) → Some place ≡ position (same_slot slot) (keys_of es) → slice_get es place ≡ Some (key, lane) → key ≡ slot
 key_of_place es place slot key lane index at =
     sym (same_slot_is slot key (sym (ap (same_slot slot) (key_found es place key lane at)) ∙ (position-Some (same_slot slot) (keys_of es) place key (sym index)).1))
+
+-- there is more room in the lane at this place, and no offer has changed
+pub record IsRoomier {S : Type 0} (lanes : IndexMap Slot PlainLane S) (place : ℕ) (slot : Slot) (new : PlainLane) : Type 0 where
+  pub same : (k : Slot) → places_in (get same_slot (with_value_at lanes place new) k) ≡ places_in (get same_slot lanes k)
+  pub kept : (k : Slot) → room_in (get same_slot lanes k) ≤ room_in (get same_slot (with_value_at lanes place new) k)
+  pub room : room_in (get same_slot (with_value_at lanes place new) slot) ≡ new.room
+
+pub roomier : {S : Type 0} (lanes : IndexMap Slot PlainLane S) (place : ℕ) (slot key : Slot) (lane new : PlainLane) → IsUnique same_slot lanes → Some place ≡ position (same_slot slot) (keys_of lanes.entries) → slice_get lanes.entries place ≡ Some (key, lane)
+    → new.places ≡ lane.places → lane.room ≤ new.room → IsRoomier lanes place slot new
+roomier lanes place slot key lane new unique index at same more =
+    let is = key_of_place lanes.entries place slot key lane index at in
+    let was = found_at lanes place slot key lane unique at is in
+    let now = written_here lanes place slot key lane new unique at is in
+    let else_ = written_else lanes place slot key lane new unique at is in
+    let room_was : room_in (get same_slot lanes slot) ≡ lane.room = ap room_in was in
+    let room_now : room_in (get same_slot (with_value_at lanes place new) slot) ≡ new.room = ap room_in now in
+    let grown : room_in (get same_slot lanes slot) ≤ room_in (get same_slot (with_value_at lanes place new) slot) = omega (arith, room_was, room_now, more) in
+    record {
+      same = lanes_kept lanes (with_value_at lanes place new) slot (ap places_in now ∙ same ∙ sym (ap places_in was)) else_;
+      kept = room_grown lanes (with_value_at lanes place new) slot grown else_;
+      room = room_now;
+    }

@@ -16,7 +16,7 @@ use Rattle.cml_scan.specs.declared.meet.Place.{Place}
 use Rattle.cml_scan.specs.Light.{lit_by}
 use Rattle.cml_scan.specs.World.{PlainEntry}
 use Rattle.cml_scan.specs.Scan.{PlainOffer}
-use Rattle.cml_scan.specs.Order.{place, has_partner}
+use Rattle.cml_scan.specs.Order.{before, place, has_partner}
 use Rattle.cml_index.specs.declared.slot.Slot.{Slot}
 use Rattle.cml_index.specs.declared.heads.HeadKind.{HeadKind}
 use Rattle.cml_index.specs.declared.heads.HeadKind.TheVariants.{Alone, Met}
@@ -60,3 +60,9 @@ met_among meets others heads = filter (λ q. list_any (is_of (meets q.tid)) othe
 -- the leaves that can stand first on the object and have a partner there
 abbrev pub heads_on : List PlainOffer → PairedId → List Place
 heads_on os n = met_among (whom n.kind) (lane_of slot_of (met_lane n) os) (lane_of slot_of (Side true n) os)
+
+-- The place is the one of this number among those that were sought, and at most three looks were made for each of the lane that is not
+-- after it. The last two are the looks before the search and after it.
+pub record IsFoundEarly (sought : List Place) (k : ℕ) (lane : List Place) (p : Place) (was now : ℕ) : Type 0 where
+  pub value : slice_get sought k ≡ Some p
+  pub early : now + 3 * length (filter (before p) lane) ≤ was + 3 * length lane

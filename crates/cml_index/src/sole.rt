@@ -1,14 +1,13 @@
 //! The head at a place, where all that have a partner stand on one object.
 
-ghost use Rattle.std.specs.Prelude.{◌≡◌, ◌≤◌, ◌<◌, ◌+◌, ◌*◌, true, false, length, filter, slice_get, Some};
-ghost use Rattle.std.specs.List.{list_any};
+ghost use Rattle.std.specs.Prelude.{◌≡◌, ◌≤◌, ◌<◌, ◌+◌, true, false, length, filter, slice_get, Some};
 ghost use Rattle.cml_scan.specs.Order.{Ascends, before};
 ghost use Rattle.cml_scan.specs.Scan.{offers_of};
 ghost use Rattle.cml_channel.specs.Lanes.{is_own, others as of_others};
 ghost use Rattle.cml_channel.specs.declared.lane.Whom.TheVariants.{Others, Above};
 ghost use Rattle.cml_index.specs.declared.slot.Slot.TheVariants.{Side};
 ghost use Rattle.cml_index.specs.Slots.{lane_at, lane_of};
-ghost use Rattle.cml_index.specs.Heads.{met_among, heads_on};
+ghost use Rattle.cml_index.specs.Heads.{IsFoundEarly, met_among, heads_on};
 ghost use Rattle.cml_index.specs.Posts as spec;
 ghost use Rattle.cml_index.specs.Cores.{IsIndexed};
 
@@ -70,9 +69,8 @@ fn head_beside(
     requires sorted { Ascends before others.now.places }
     requires some { 0 < length others.now.places }
     requires within { k < length (met_among Others others.now.places heads.now.places) }
-    ensures value { slice_get (met_among Others others.now.places heads.now.places) k ≡ Some result }
-    ensures early { tally.new + 3 * length (filter (before result) heads.now.places)
-        ≤ tally.old + 3 * length heads.now.places }
+    ensures found { IsFoundEarly (met_among Others others.now.places heads.now.places) k
+        heads.now.places result tally.old tally.new }
 {
     let _len = heads.len();
     match only_thread(others, tally) {
@@ -91,10 +89,9 @@ fn head_in(core: &Core, object: PairedId, heads: &Lane, k: usize, tally: &mut Ta
         ≡ lane_of spec.slot_of (Side true object) (offers_of core.now.entries.items) }
     requires within { k < length (met_among Others
         (lane_at core.now.lanes.by_slot (Side false object)) heads.now.places) }
-    ensures value { slice_get (met_among Others (lane_at core.now.lanes.by_slot (Side false object))
-        heads.now.places) k ≡ Some result }
-    ensures early { tally.new + 3 * length (filter (before result) heads.now.places)
-        ≤ tally.old + 3 * length heads.now.places }
+    ensures found { IsFoundEarly
+        (met_among Others (lane_at core.now.lanes.by_slot (Side false object)) heads.now.places) k
+        heads.now.places result tally.old tally.new }
 {
     let slot = Slot::Side {
         heads: true,
@@ -114,9 +111,8 @@ fn head_in(core: &Core, object: PairedId, heads: &Lane, k: usize, tally: &mut Ta
 fn head_below(lane: &Lane, k: usize, tally: &mut Tally) -> Place
     requires sorted { Ascends before lane.now.places }
     requires within { k < length (met_among Above lane.now.places lane.now.places) }
-    ensures value { slice_get (met_among Above lane.now.places lane.now.places) k ≡ Some result }
-    ensures early { tally.new + 3 * length (filter (before result) lane.now.places)
-        ≤ tally.old + 3 * length lane.now.places }
+    ensures found { IsFoundEarly (met_among Above lane.now.places lane.now.places) k
+        lane.now.places result tally.old tally.new }
 {
     let _len = lane.len();
     lane.look(k, tally)
@@ -126,10 +122,8 @@ fn head_below(lane: &Lane, k: usize, tally: &mut Tally) -> Place
 pub(crate) fn head_on(core: &Core, object: PairedId, k: usize, tally: &mut Tally) -> Place
     requires indexed { IsIndexed core.now }
     requires within { k < length (heads_on (offers_of core.now.entries.items) object) }
-    ensures value { slice_get (heads_on (offers_of core.now.entries.items) object) k ≡ Some result }
-    ensures early { tally.new
-        + 3 * length (filter (before result) (lane_at core.now.lanes.by_slot (Side true object)))
-        ≤ tally.old + 3 * length (lane_at core.now.lanes.by_slot (Side true object)) }
+    ensures found { IsFoundEarly (heads_on (offers_of core.now.entries.items) object) k
+        (lane_at core.now.lanes.by_slot (Side true object)) result tally.old tally.new }
 {
     let slot = Slot::Side {
         heads: true,

@@ -35,13 +35,13 @@ returns-then-len-eq1-clause-value c =
     let both : AreBoth keys os = λ m. c.requires.indexed.sides m ∙ ap (λ ps. may_meet (one_lane m.kind) (length ps) (length (lane_at lanes (Side false m)))) (c.requires.indexed.placed (Side true m)) ∙ ap (λ ps. may_meet (one_lane m.kind) (length (lane_of slot_of (Side true m) os)) (length ps)) (c.requires.indexed.placed (Side false m)) in
     let is = one_key keys n (omega (arith, c.len.ensures.len, c.if-len-eq1.true)) c.object_at.ensures in
     let whole = sole os n (subst (IsDistinct same_object) is c.len.ensures.unique) (subst (λ ks. AreBoth ks os) is both) in
-    ap (λ ps. slice_get ps c.args.k) whole ∙ c.head_on.ensures.value
+    ap (λ ps. slice_get ps c.args.k) whole ∙ c.head_on.ensures.found.value
 
 pub returns-then-len-eq1-clause-early : goal.returns-then-len-eq1-clause-early
 returns-then-len-eq1-clause-early c =
     let os = offers_of c.args.core.now.entries.items in
     let n = c.object_at.result in
     let r = c.head_on.result in
-    let looks = subst (λ ps. c.head_on.new.tally + 3 * length (filter (before r) ps) ≤ c.args.tally.now + 3 * length ps) (c.requires.indexed.placed (Side true n)) c.head_on.ensures.early in
+    let looks = subst (λ ps. c.head_on.new.tally + 3 * length (filter (before r) ps) ≤ c.args.tally.now + 3 * length ps) (c.requires.indexed.placed (Side true n)) c.head_on.ensures.found.early in
     let lift = behind_lift slot_of (Side true n) r os in
     omega (arith, looks, lift)

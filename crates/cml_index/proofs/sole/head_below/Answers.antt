@@ -16,8 +16,8 @@ look-requires c =
     let fewer = filter_fewer (λ (q : Place). list_any (is_of (Above q.tid)) ps) ps in
     omega (arith, fewer, c.requires.within)
 
-pub returns-clause-value : goal.returns-clause-value
-returns-clause-value c =
+pub returns-clause-found-value : goal.returns-clause-found-value
+returns-clause-found-value c =
     let ps = c.args.lane.now.places in
     let r = c.look.result in
     let fewer = filter_fewer (λ (q : Place). list_any (is_of (Above q.tid)) ps) ps in
@@ -25,8 +25,8 @@ returns-clause-value c =
     ap (λ qs. slice_get qs c.args.k) among ∙ low_get ps (get_or ps (length ps - 1) r).tid.0 c.args.k c.requires.sorted (subst (λ qs. c.args.k < length qs) among c.requires.within)
     ∙ slice_get_read ps (length ps) c.args.k r refl (omega (arith, fewer, c.requires.within)) c.look.ensures.value
 
-pub returns-clause-early : goal.returns-clause-early
-returns-clause-early c =
+pub returns-clause-found-early : goal.returns-clause-found-early
+returns-clause-found-early c =
     let ps = c.args.lane.now.places in
     let r = c.look.result in
     let fewer = filter_fewer (λ (q : Place). list_any (is_of (Above q.tid)) ps) ps in

@@ -31,8 +31,8 @@ head_in-requires-clause-within c =
     ∙ sym (ap (λ b. met_among (λ tid. cond b (Above tid) (Others tid)) (lane_of slot_of (Side b object) os) (lane_of slot_of (Side true object) os)) kind) in
     subst (λ qs. c.args.k < length qs) (sym same) c.requires.within
 
-pub returns-else-one_lane-clause-value : goal.returns-else-one_lane-clause-value
-returns-else-one_lane-clause-value c =
+pub returns-else-one_lane-clause-found-value : goal.returns-else-one_lane-clause-found-value
+returns-else-one_lane-clause-found-value c =
     let object = c.args.object in
     let os = offers_of c.args.core.now.entries.items in
     let lanes = c.args.core.now.lanes.by_slot in
@@ -41,4 +41,4 @@ returns-else-one_lane-clause-value c =
     let kind : one_lane object.kind ≡ false = sym c.one_lane.ensures ∙ c.if-one_lane.false in
     let same : met_among Others (lane_at lanes (Side false object)) hs ≡ heads_on os object = ap (λ ps. met_among Others ps hs) (c.requires.indexed.placed (Side false object)) ∙ ap (λ ps. met_among Others (lane_of slot_of (Side false object) os) ps) there
     ∙ sym (ap (λ b. met_among (λ tid. cond b (Above tid) (Others tid)) (lane_of slot_of (Side b object) os) (lane_of slot_of (Side true object) os)) kind) in
-    ap (λ qs. slice_get qs c.args.k) (sym same) ∙ c.head_in.ensures.value
+    ap (λ qs. slice_get qs c.args.k) (sym same) ∙ c.head_in.ensures.found.value
