@@ -8,7 +8,7 @@ use Rattle.cml_book.specs.declared.command.Command.{Command}
 use Rattle.cml_book.specs.declared.command.Command.TheVariants as command
 use Rattle.cml_book.specs.declared.command.Reply.{Reply}
 use Rattle.cml_book.specs.declared.command.Reply.TheVariants as reply
-use Rattle.cml_book.specs.Outcomes.{Outcome}
+use Rattle.cml_book.specs.Outcomes.{Outcome, DoesWith}
 use Rattle.cml_book.specs.Spawn.{spawn}
 use Rattle.cml_book.specs.MakeChan.{make_chan}
 use Rattle.cml_book.specs.MakeSwap.{make_swap}
@@ -48,6 +48,10 @@ step w (command.Sync t g) = answered (λ _. reply.Done) w (sync w t.0 g)
 step w (command.Commit row) = answered reply.Committed w (commit w row)
 step w (command.End t) = answered (λ _. reply.Done) w (end w t.0)
 step w (command.Clock k) = answered (λ _. reply.Done) w (clock w k)
+
+-- The call does the command, and returns its reply; or it runs out of memory, nothing changes, and the command comes back.
+abbrev pub Performs : Result Reply (Returned Command) → Command → PlainWorld → PlainWorld → Type 0
+Performs result asked old new = DoesWith result asked (Ok (step old asked)) old new
 
 -- the replies to a list of commands, in order
 abbrev pub replies_of : List Command → PlainWorld → List Reply

@@ -1,8 +1,6 @@
 //! The commands that make and change objects.
 
-ghost use Rattle.std.specs.Prelude.{Ok};
-ghost use Rattle.cml_book.specs.Outcomes.{DoesWith};
-ghost use Rattle.cml_book.specs.Step.{step};
+ghost use Rattle.cml_book.specs.Step.{Performs};
 ghost use Rattle.cml_book.specs.declared.command.Command.TheVariants as command;
 
 use crate::book::Book;
@@ -15,8 +13,7 @@ use std::alloc::Global;
 
 impl<T: Table> Book<T> {
     pub(crate) fn perform_make_ivar(&mut self) -> Result<Reply, Returned<Command>>
-        ensures { let asked = command.MakeIVar in
-            DoesWith result asked (Ok (step self.old asked)) self.old self.new }
+        ensures { Performs result command.MakeIVar self.old self.new }
     {
         match self.make_ivar() {
             Ok(ivar) => Ok(Reply::IVar(ivar)),
@@ -29,8 +26,7 @@ impl<T: Table> Book<T> {
         alloc: Global,
         held: Option<Value>,
     ) -> Result<Reply, Returned<Command>>
-        ensures { let asked = command.MakeMVar held in
-            DoesWith result asked (Ok (step self.old asked)) self.old self.new }
+        ensures { Performs result (command.MakeMVar held) self.old self.new }
     {
         match self.make_mvar(alloc, held) {
             Ok(mvar) => Ok(Reply::MVar(mvar)),
@@ -39,8 +35,7 @@ impl<T: Table> Book<T> {
     }
 
     pub(crate) fn perform_make_mailbox(&mut self, alloc: Global) -> Result<Reply, Returned<Command>>
-        ensures { let asked = command.MakeMailbox in
-            DoesWith result asked (Ok (step self.old asked)) self.old self.new }
+        ensures { Performs result command.MakeMailbox self.old self.new }
     {
         match self.make_mailbox(alloc) {
             Ok(mailbox) => Ok(Reply::Mailbox(mailbox)),
@@ -49,8 +44,7 @@ impl<T: Table> Book<T> {
     }
 
     pub(crate) fn perform_make_mchan(&mut self, alloc: Global) -> Result<Reply, Returned<Command>>
-        ensures { let asked = command.MakeMChan in
-            DoesWith result asked (Ok (step self.old asked)) self.old self.new }
+        ensures { Performs result command.MakeMChan self.old self.new }
     {
         match self.make_mchan(alloc) {
             Ok(channel) => Ok(Reply::MChan(channel)),
@@ -63,8 +57,7 @@ impl<T: Table> Book<T> {
         alloc: Global,
         channel: McastId,
     ) -> Result<Reply, Returned<Command>>
-        ensures { let asked = command.MakePort channel in
-            DoesWith result asked (Ok (step self.old asked)) self.old self.new }
+        ensures { Performs result (command.MakePort channel) self.old self.new }
     {
         match self.make_port(alloc, channel) {
             Ok(port) => Ok(Reply::Port(port)),
@@ -77,8 +70,7 @@ impl<T: Table> Book<T> {
         alloc: Global,
         port: PortId,
     ) -> Result<Reply, Returned<Command>>
-        ensures { let asked = command.CopyPort port in
-            DoesWith result asked (Ok (step self.old asked)) self.old self.new }
+        ensures { Performs result (command.CopyPort port) self.old self.new }
     {
         match self.copy_port(alloc, port) {
             Ok(copy) => Ok(Reply::Port(copy)),
@@ -92,8 +84,7 @@ impl<T: Table> Book<T> {
         ivar: IVarId,
         value: Value,
     ) -> Result<Reply, Returned<Command>>
-        ensures { let asked = command.IPut ivar value in
-            DoesWith result asked (Ok (step self.old asked)) self.old self.new }
+        ensures { Performs result (command.IPut ivar value) self.old self.new }
     {
         match self.iput(alloc, ivar, value) {
             Ok(()) => Ok(Reply::Done),
@@ -107,8 +98,7 @@ impl<T: Table> Book<T> {
         mvar: MVarId,
         value: Value,
     ) -> Result<Reply, Returned<Command>>
-        ensures { let asked = command.MPut mvar value in
-            DoesWith result asked (Ok (step self.old asked)) self.old self.new }
+        ensures { Performs result (command.MPut mvar value) self.old self.new }
     {
         match self.mput(alloc, mvar, value) {
             Ok(()) => Ok(Reply::Done),
@@ -122,8 +112,7 @@ impl<T: Table> Book<T> {
         mailbox: MboxId,
         value: Value,
     ) -> Result<Reply, Returned<Command>>
-        ensures { let asked = command.Mail mailbox value in
-            DoesWith result asked (Ok (step self.old asked)) self.old self.new }
+        ensures { Performs result (command.Mail mailbox value) self.old self.new }
     {
         match self.mail(alloc, mailbox, value) {
             Ok(()) => Ok(Reply::Done),
@@ -137,8 +126,7 @@ impl<T: Table> Book<T> {
         channel: McastId,
         message: Value,
     ) -> Result<Reply, Returned<Command>>
-        ensures { let asked = command.Multicast channel message in
-            DoesWith result asked (Ok (step self.old asked)) self.old self.new }
+        ensures { Performs result (command.Multicast channel message) self.old self.new }
     {
         match self.multicast(alloc, channel, message) {
             Ok(()) => Ok(Reply::Done),

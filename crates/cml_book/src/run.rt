@@ -1,7 +1,6 @@
 //! Lists of commands, done by one call.
 
-ghost use Rattle.std.specs.Prelude.{◌≡◌, ◌++◌, ◌∷◌, [], Ok, IfOk, IfErr, OnOk, OnErr};
-ghost use Rattle.cml_book.specs.Outcomes.{DoesWith};
+ghost use Rattle.std.specs.Prelude.{◌≡◌, ◌++◌, ◌∷◌, [], IfOk, IfErr, OnOk, OnErr};
 ghost use Rattle.cml_book.specs.Step as spec;
 
 use crate::book::Book;
@@ -16,7 +15,7 @@ impl<T: Table> Book<T> {
     /// # Errors
     /// Out of memory: the command comes back, and nothing changes.
     pub fn perform(&mut self, alloc: Global, command: Command) -> Result<Reply, Returned<Command>>
-        ensures { DoesWith result command (Ok (spec.step self.old command)) self.old self.new }
+        ensures { spec.Performs result command self.old self.new }
     {
         match command {
             Command::Spawn => match self.spawn() {

@@ -18,7 +18,7 @@ use Rattle.cml_channel.specs.Pairings.{one_lane, side_place, same_object}
 use Rattle.cml_channel.specs.declared.pairing.PairedId.{PairedId}
 use Rattle.cml_channel.specs.declared.pairing.SidePlace.{SidePlace}
 use Rattle.cml_index.specs.Slots.{is_slot, lane_of, lane_at}
-use Rattle.cml_index.specs.Posts.{slot_of, told, is_named, slot_of_nack, nacks_in, OnlyReserves, AreIndexed}
+use Rattle.cml_index.specs.Posts.{slot_of, told, is_named, slot_of_nack, nacks_in, lit_offers, KeepsPlaces, OnlyReserves, AreIndexed}
 use Rattle.cml_index.specs.declared.slot.Slot.{Slot}
 use Rattle.indexmap.specs.IndexMap.{IndexMap}
 use Rattle.indexmap.specs.IndexSet.{IndexSet}
@@ -162,6 +162,19 @@ pub still_indexed : {S T U V : Type 0} (es : List PlainEntry) (lanes : IndexMap 
     → AreIndexed es after live_after new leaves lit
 still_indexed es lanes after live live_after old new leaves lit x same same_live kept =
     still_named es lanes after live live_after old new leaves lit x same same_live kept.same (λ k. kept.named (slot_of_nack k))
+
+-- a light was told, and no place is lost
+pub told_indexed : {S T : Type 0} (es : List PlainEntry) (lanes : IndexMap Slot PlainLane S) (live : IndexSet PairedId T) (old new : List (Slot × Bool)) (leaves was lit : ℕ)
+    → AreIndexed es lanes live old leaves was → lit ≡ length (lit_offers new es) → KeepsPlaces old new → AreIndexed es lanes live new leaves lit
+told_indexed es lanes live old new leaves was lit x alone kept =
+    record {
+      sorted = x.sorted;
+      placed = x.placed;
+      sides = x.sides;
+      all = x.all;
+      alone = alone;
+      named = Every-weaker (λ k. is_named old (slot_of_nack k)) (λ k. is_named new (slot_of_nack k)) (nacks_in es) (λ k. kept (slot_of_nack k)) x.named;
+    }
 
 same_light-turned : (l m : Light) → same_light l m ≡ same_light m l
 same_light-turned l m = at (same_light l m) (same_light m l) refl refl

@@ -21,6 +21,12 @@ all_above tid p (q ∷ ps) up low off = rw (at p.tid.0 p.leaf q.tid.0 q.leaf tid
     at : (a m c n t : ℕ) → before_numbers a m c n ≡ true → nat_lt a t ≡ false → not (nat_eq t a) ≡ true → not (nat_eq t c) ≡ true
     at a m c n t e f g = grind (arith, nat_tests)
 
+-- within a list the default does not matter
+pub any_default : (ps : List Place) (k : ℕ) (d e : Place) → k < length ps → get_or ps k d ≡ get_or ps k e
+any_default [] k d e within = absurd (omega (arith, within))
+any_default (p ∷ ps) zero d e within = refl
+any_default (p ∷ ps) (suc k) d e within = any_default ps k d e (omega (arith, within))
+
 -- one that stands below the thread is at its own place
 pub other_before : (tid : Tid) (ps : List Place) (j : ℕ) (d : Place) → Ascends before ps → j < length ps → nat_lt (get_or ps j d).tid.0 tid.0 ≡ true → get_or (others tid ps) j d ≡ get_or ps j d
 other_before tid [] j d up within low = absurd (omega (arith, within))

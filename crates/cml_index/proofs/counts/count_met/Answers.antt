@@ -5,22 +5,17 @@ use Rattle.cml_scan.specs.Scan.{offers_of}
 use Rattle.cml_scan.specs.Order.{has_partner}
 use Rattle.cml_index.specs.declared.slot.Slot.TheVariants.{Side}
 use Rattle.cml_channel.specs.declared.pairing.PairedId.{PairedId}
-use Rattle.cml_channel.specs.Pairings.{one_lane}
-use Rattle.cml_index.specs.Live.{may_meet}
-use Rattle.cml_index.specs.Slots.{lane_at, lane_of}
-use Rattle.cml_index.specs.Posts.{slot_of}
 use Rattle.cml_index.specs.Heads.{heads_on}
 use Rattle.cml_index.proofs.Parted.{filter_fewer}
 use Rattle.cml_index.proofs.Beside.{got, within}
-use Rattle.cml_index.proofs.Counted.{AreBoth, total, size_on, all_met, sizes}
+use Rattle.cml_index.proofs.Counted.{both_kept, total, size_on, all_met, sizes}
 use Rattle.cml_index.proofs.counts.count_met.Goals as goal
 
 pub overflow_add-count : goal.overflow_add-count
 overflow_add-count c =
     let os = offers_of c.args.core.now.entries.items in
     let keys = c.args.core.now.live.keys in
-    let lanes = c.args.core.now.lanes.by_slot in
-    let both : AreBoth keys os = λ n. c.requires.sides n ∙ ap (λ ps. may_meet (one_lane n.kind) (length ps) (length (lane_at lanes (Side false n)))) (c.requires.placed (Side true n)) ∙ ap (λ ps. may_meet (one_lane n.kind) (length (lane_of slot_of (Side true n) os)) (length ps)) (c.requires.placed (Side false n)) in
+    let both = both_kept c.args.core.now.lanes.by_slot c.args.core.now.live os c.requires.sides c.requires.placed in
     let i = c.loop-i.i in
     let m = c.object_at.result in
     let on = λ (n : PairedId). length (heads_on os n) in
@@ -49,8 +44,7 @@ pub returns-clause-count : goal.returns-clause-count
 returns-clause-count c =
     let os = offers_of c.args.core.now.entries.items in
     let keys = c.args.core.now.live.keys in
-    let lanes = c.args.core.now.lanes.by_slot in
-    let both : AreBoth keys os = λ n. c.requires.sides n ∙ ap (λ ps. may_meet (one_lane n.kind) (length ps) (length (lane_at lanes (Side false n)))) (c.requires.placed (Side true n)) ∙ ap (λ ps. may_meet (one_lane n.kind) (length (lane_of slot_of (Side true n) os)) (length ps)) (c.requires.placed (Side false n)) in
+    let both = both_kept c.args.core.now.lanes.by_slot c.args.core.now.live os c.requires.sides c.requires.placed in
     let on = λ (n : PairedId). length (heads_on os n) in
     let none : total on (drop c.loop-i.i keys) ≡ 0 = at_drop_all (total on) keys c.loop-i.i (omega (arith, c.len-i-end.ensures.len, c.loop-i-test.false)) in
     let whole = all_met os keys c.len-i-end.ensures.unique both in
@@ -60,7 +54,6 @@ pub returns-clause-cost : goal.returns-clause-cost
 returns-clause-cost c =
     let os = offers_of c.args.core.now.entries.items in
     let keys = c.args.core.now.live.keys in
-    let lanes = c.args.core.now.lanes.by_slot in
-    let both : AreBoth keys os = λ n. c.requires.sides n ∙ ap (λ ps. may_meet (one_lane n.kind) (length ps) (length (lane_at lanes (Side false n)))) (c.requires.placed (Side true n)) ∙ ap (λ ps. may_meet (one_lane n.kind) (length (lane_of slot_of (Side true n) os)) (length ps)) (c.requires.placed (Side false n)) in
+    let both = both_kept c.args.core.now.lanes.by_slot c.args.core.now.live os c.requires.sides c.requires.placed in
     let few = sizes os keys c.len-i-end.ensures.unique both os in
     omega (arith, few, c.loop-i.invariant.cost)

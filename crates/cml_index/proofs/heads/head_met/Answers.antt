@@ -4,12 +4,10 @@ use Rattle.std.specs.List.{filter, IsDistinct}
 use Rattle.std.proofs.lemmas.List.{length-map}
 use Rattle.cml_scan.specs.Order.{place, before, has_partner}
 use Rattle.cml_scan.specs.Scan.{offers_of}
-use Rattle.cml_channel.specs.Pairings.{one_lane, same_object}
+use Rattle.cml_channel.specs.Pairings.{same_object}
 use Rattle.cml_index.specs.declared.slot.Slot.TheVariants.{Side}
-use Rattle.cml_index.specs.Live.{may_meet}
-use Rattle.cml_index.specs.Slots.{lane_at, lane_of}
 use Rattle.cml_index.specs.Posts.{slot_of}
-use Rattle.cml_index.proofs.Counted.{AreBoth}
+use Rattle.cml_index.proofs.Counted.{AreBoth, both_kept}
 use Rattle.cml_index.proofs.OneObject.{sole, one_key, behind_lift}
 use Rattle.cml_index.proofs.heads.head_met.Goals as goal
 
@@ -17,9 +15,8 @@ pub head_on-requires-clause-within : goal.head_on-requires-clause-within
 head_on-requires-clause-within c =
     let os = offers_of c.args.core.now.entries.items in
     let keys = c.args.core.now.live.keys in
-    let lanes = c.args.core.now.lanes.by_slot in
     let n = c.object_at.result in
-    let both : AreBoth keys os = λ m. c.requires.indexed.sides m ∙ ap (λ ps. may_meet (one_lane m.kind) (length ps) (length (lane_at lanes (Side false m)))) (c.requires.indexed.placed (Side true m)) ∙ ap (λ ps. may_meet (one_lane m.kind) (length (lane_of slot_of (Side true m) os)) (length ps)) (c.requires.indexed.placed (Side false m)) in
+    let both = both_kept c.args.core.now.lanes.by_slot c.args.core.now.live os c.requires.indexed.sides c.requires.indexed.placed in
     let is = one_key keys n (omega (arith, c.len.ensures.len, c.if-len-eq1.true)) c.object_at.ensures in
     let whole = sole os n (subst (IsDistinct same_object) is c.len.ensures.unique) (subst (λ ks. AreBoth ks os) is both) in
     let many = ap length whole in
@@ -30,9 +27,8 @@ pub returns-then-len-eq1-clause-value : goal.returns-then-len-eq1-clause-value
 returns-then-len-eq1-clause-value c =
     let os = offers_of c.args.core.now.entries.items in
     let keys = c.args.core.now.live.keys in
-    let lanes = c.args.core.now.lanes.by_slot in
     let n = c.object_at.result in
-    let both : AreBoth keys os = λ m. c.requires.indexed.sides m ∙ ap (λ ps. may_meet (one_lane m.kind) (length ps) (length (lane_at lanes (Side false m)))) (c.requires.indexed.placed (Side true m)) ∙ ap (λ ps. may_meet (one_lane m.kind) (length (lane_of slot_of (Side true m) os)) (length ps)) (c.requires.indexed.placed (Side false m)) in
+    let both = both_kept c.args.core.now.lanes.by_slot c.args.core.now.live os c.requires.indexed.sides c.requires.indexed.placed in
     let is = one_key keys n (omega (arith, c.len.ensures.len, c.if-len-eq1.true)) c.object_at.ensures in
     let whole = sole os n (subst (IsDistinct same_object) is c.len.ensures.unique) (subst (λ ks. AreBoth ks os) is both) in
     ap (λ ps. slice_get ps c.args.k) whole ∙ c.head_on.ensures.found.value

@@ -1,17 +1,12 @@
-use Rattle.std.proofs.Common.{◌≡◌, ◌∙◌, ◌<◌, true, [], ◌∷◌, List, length, zero, suc, ℕ, Bool, take, get_or, subst, sym, arith}
+use Rattle.std.proofs.Common.{◌∙◌, [], ◌∷◌, take, get_or, subst, sym}
 use Rattle.std.proofs.lemmas.List.{take_more}
 use Rattle.cml_scan.specs.Order.{Every}
-use Rattle.cml_scan.specs.declared.object.Light.{Light}
 use Rattle.cml_scan.specs.declared.object.Light.TheVariants as of
 use Rattle.cml_scan.proofs.Ordered.{Every-weaker, Every-append}
 use Rattle.cml_index.specs.declared.slot.Slot.TheVariants.{Waiters}
 use Rattle.cml_index.specs.Posts as spec
+use Rattle.cml_index.proofs.Lit.{at_place}
 use Rattle.cml_index.proofs.nacks.reserve_lights.Goals as goal
-
-at_place : (p : Light → Bool) (xs : List Light) (i : ℕ) (d : Light) → i < length xs → Every p xs → p (get_or xs i d) ≡ true
-at_place p [] i d within each = absurd (omega arith)
-at_place p (x ∷ xs) zero d within each = each.0
-at_place p (x ∷ xs) (suc i) d within each = at_place p xs i d (omega arith) each.1
 
 pub returns-in_err-reserve-clause-sure : goal.returns-in_err-reserve-clause-sure
 returns-in_err-reserve-clause-sure c = λ each.

@@ -1,4 +1,4 @@
-use Rattle.std.proofs.Common.{◌≡◌, ◌∙◌, ◌+◌, ◌<◌, zero, suc, List, [], ◌∷◌, true, false, nat_lt, length, get_or, refl, ap, sym, arith}
+use Rattle.std.proofs.Common.{◌≡◌, ◌∙◌, ◌+◌, true, false, nat_lt, length, get_or, refl, ap, sym, arith}
 use Rattle.std.specs.Prelude.{slice_get}
 use Rattle.std.specs.List.{filter}
 use Rattle.std.proofs.lemmas.Option.{slice_get_read}
@@ -6,7 +6,7 @@ use Rattle.cml_scan.specs.declared.meet.Place.{Place}
 use Rattle.cml_channel.specs.Lanes.{is_own, others}
 use Rattle.cml_index.proofs.Walks.{others_all}
 use Rattle.cml_index.proofs.Parted.{lt_is, ge_is}
-use Rattle.cml_index.proofs.Others.{other_before, other_behind}
+use Rattle.cml_index.proofs.Others.{any_default, other_before, other_behind}
 use Rattle.cml_index.proofs.OneObject.{behind_at, own_and_others}
 use Rattle.cml_index.proofs.sole.other_at.Goals as goal
 
@@ -49,19 +49,13 @@ returns-then-place-tid-clause-ahead c =
     let few = behind_at ps c.args.j c.look-place.result c.requires.sorted (slice_get_read ps (length ps) c.args.j c.look-place.result refl (omega (arith, c.requires.own, c.requires.within)) c.look-place.ensures.value) in
     omega (arith, few)
 
--- within a list the default does not matter
-one : (ps : List Place) (k : Prim.Native.Nat.ℕ) (d e : Place) → k < length ps → get_or ps k d ≡ get_or ps k e
-one [] k d e within = absurd (omega (arith, within))
-one (p ∷ ps) zero d e within = refl
-one (p ∷ ps) (suc k) d e within = one ps k d e (omega (arith, within))
-
 pub returns-clause-value : goal.returns-clause-value
 returns-clause-value c =
     let ps = c.args.lane.now.places in
     let tid = c.args.tid in
     let d = c.look-place.result in
     let e = c.look.result in
-    let there : get_or ps c.args.j e ≡ d = one ps c.args.j e d (omega (arith, c.requires.own, c.requires.within)) ∙ sym c.look-place.ensures.value in
+    let there : get_or ps c.args.j e ≡ d = any_default ps c.args.j e d (omega (arith, c.requires.own, c.requires.within)) ∙ sym c.look-place.ensures.value in
     let above : nat_lt d.tid.0 tid.0 ≡ false = ge_is _ tid.0 c.if-place-tid.false in
     slice_get_read (others tid ps) _ c.args.j e refl c.requires.within
     (c.look.ensures.value ∙ sym (other_behind tid ps c.args.own c.args.j e c.requires.sorted c.requires.own c.requires.within (ap (λ (p : Place). nat_lt p.tid.0 tid.0) there ∙ above)))

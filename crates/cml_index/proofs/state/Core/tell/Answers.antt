@@ -1,13 +1,12 @@
-use Rattle.std.proofs.Common.{◌≡◌, ◌≤◌, ◌∙◌, length, ap, sym, arith}
+use Rattle.std.proofs.Common.{◌≡◌, ◌≤◌, ◌+◌, ◌-◌, ◌∙◌, length, ap, sym, arith}
 use Rattle.std.specs.List.{filter}
 use Rattle.cml_scan.specs.Light.{lit_by}
 use Rattle.cml_scan.specs.Scan.{PlainOffer, offers_of}
-use Rattle.cml_scan.proofs.Ordered.{Every-weaker}
 use Rattle.cml_index.specs.declared.slot.Slot.TheVariants.{Waiters}
 use Rattle.cml_index.specs.Slots.{lane_of}
 use Rattle.cml_index.specs.Posts as spec
 use Rattle.cml_index.proofs.Parted.{filter_fewer}
-use Rattle.cml_index.proofs.Lit.{retold_lit, retold_unlit, retold_same, told_same}
+use Rattle.cml_index.proofs.Lit.{retold_lit, retold_unlit, retold_same, told_same, told_indexed}
 use Rattle.cml_index.proofs.state.Core.tell.Goals as goal
 
 pub overflow_add-self : goal.overflow_add-self
@@ -39,14 +38,8 @@ returns-then-lit-clause-indexed c =
     let waiters : c.len-waiters.result ≡ length (lane_of spec.slot_of (Waiters c.args.light) os) =
     c.len-waiters.ensures ∙ ap length (c.requires.indexed.placed (Waiters c.args.light)) in
     let many = retold_lit c.args.light c.args.lit old new c.flip.result c.if-lit.true c.if-flip.true c.flip.ensures.changed c.flip.ensures.told os in
-    record {
-      sorted = c.requires.indexed.sorted;
-      placed = c.requires.indexed.placed;
-      sides = c.requires.indexed.sides;
-      all = c.requires.indexed.all;
-      alone = omega (arith, waiters, many, c.requires.indexed.alone);
-      named = Every-weaker (λ k. spec.is_named c.args.self.now.flags.entries (spec.slot_of_nack k)) (λ k. spec.is_named c.flip.new.flags.entries (spec.slot_of_nack k)) (spec.nacks_in c.args.self.now.entries.items) (λ k h. c.flip.ensures.kept (spec.slot_of_nack k) h) c.requires.indexed.named;
-    }
+    told_indexed c.args.self.now.entries.items c.args.self.now.lanes.by_slot c.args.self.now.live c.args.self.now.flags.entries c.flip.new.flags.entries c.args.self.now.leaves c.args.self.now.lit (c.args.self.now.lit + c.len-waiters.result) c.requires.indexed
+    (omega (arith, waiters, many, c.requires.indexed.alone)) c.flip.ensures.kept
 
 pub returns-else-lit-clause-indexed : goal.returns-else-lit-clause-indexed
 returns-else-lit-clause-indexed c =
@@ -56,25 +49,13 @@ returns-else-lit-clause-indexed c =
     let waiters : c.len-waiters.result ≡ length (lane_of spec.slot_of (Waiters c.args.light) os) =
     c.len-waiters.ensures ∙ ap length (c.requires.indexed.placed (Waiters c.args.light)) in
     let many = retold_unlit c.args.light c.args.lit old new c.flip.result c.if-lit.false c.if-flip.true c.flip.ensures.changed c.flip.ensures.told os in
-    record {
-      sorted = c.requires.indexed.sorted;
-      placed = c.requires.indexed.placed;
-      sides = c.requires.indexed.sides;
-      all = c.requires.indexed.all;
-      alone = omega (arith, waiters, many, c.requires.indexed.alone);
-      named = Every-weaker (λ k. spec.is_named c.args.self.now.flags.entries (spec.slot_of_nack k)) (λ k. spec.is_named c.flip.new.flags.entries (spec.slot_of_nack k)) (spec.nacks_in c.args.self.now.entries.items) (λ k h. c.flip.ensures.kept (spec.slot_of_nack k) h) c.requires.indexed.named;
-    }
+    told_indexed c.args.self.now.entries.items c.args.self.now.lanes.by_slot c.args.self.now.live c.args.self.now.flags.entries c.flip.new.flags.entries c.args.self.now.leaves c.args.self.now.lit (c.args.self.now.lit - c.len-waiters.result) c.requires.indexed
+    (omega (arith, waiters, many, c.requires.indexed.alone)) c.flip.ensures.kept
 
 pub returns-else-flip-clause-indexed : goal.returns-else-flip-clause-indexed
 returns-else-flip-clause-indexed c =
     let os = offers_of c.args.self.now.entries.items in
     let old = spec.told c.args.self.now.flags.entries in
     let new = spec.told c.flip.new.flags.entries in
-    record {
-      sorted = c.requires.indexed.sorted;
-      placed = c.requires.indexed.placed;
-      sides = c.requires.indexed.sides;
-      all = c.requires.indexed.all;
-      alone = c.requires.indexed.alone ∙ sym (ap length (told_same old new (retold_same c.args.light c.args.lit old new c.flip.result c.if-flip.false c.flip.ensures.changed c.flip.ensures.told) os));
-      named = Every-weaker (λ k. spec.is_named c.args.self.now.flags.entries (spec.slot_of_nack k)) (λ k. spec.is_named c.flip.new.flags.entries (spec.slot_of_nack k)) (spec.nacks_in c.args.self.now.entries.items) (λ k h. c.flip.ensures.kept (spec.slot_of_nack k) h) c.requires.indexed.named;
-    }
+    told_indexed c.args.self.now.entries.items c.args.self.now.lanes.by_slot c.args.self.now.live c.args.self.now.flags.entries c.flip.new.flags.entries c.args.self.now.leaves c.args.self.now.lit c.args.self.now.lit c.requires.indexed
+    (c.requires.indexed.alone ∙ sym (ap length (told_same old new (retold_same c.args.light c.args.lit old new c.flip.result c.if-flip.false c.flip.ensures.changed c.flip.ensures.told) os))) c.flip.ensures.kept
