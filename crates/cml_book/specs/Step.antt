@@ -50,8 +50,8 @@ step w (command.End t) = answered (λ _. reply.Done) w (end w t.0)
 step w (command.Clock k) = answered (λ _. reply.Done) w (clock w k)
 
 -- The call does the command, and returns its reply; or it runs out of memory, nothing changes, and the command comes back.
-abbrev pub Performs : Result Reply (Returned Command) → Command → PlainWorld → PlainWorld → Type 0
-Performs result asked old new = DoesWith result asked (Ok (step old asked)) old new
+abbrev pub DoesStep : Result Reply (Returned Command) → Command → PlainWorld → PlainWorld → Type 0
+DoesStep result asked old new = DoesWith result asked (Ok (step old asked)) old new
 
 -- the replies to a list of commands, in order
 abbrev pub replies_of : List Command → PlainWorld → List Reply

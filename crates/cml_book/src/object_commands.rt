@@ -1,6 +1,6 @@
 //! The commands that make and change objects.
 
-ghost use Rattle.cml_book.specs.Step.{Performs};
+ghost use Rattle.cml_book.specs.Step.{DoesStep};
 ghost use Rattle.cml_book.specs.declared.command.Command.TheVariants as command;
 
 use crate::book::Book;
@@ -13,7 +13,7 @@ use std::alloc::Global;
 
 impl<T: Table> Book<T> {
     pub(crate) fn perform_make_ivar(&mut self) -> Result<Reply, Returned<Command>>
-        ensures { Performs result command.MakeIVar self.old self.new }
+        ensures { DoesStep result command.MakeIVar self.old self.new }
     {
         match self.make_ivar() {
             Ok(ivar) => Ok(Reply::IVar(ivar)),
@@ -26,7 +26,7 @@ impl<T: Table> Book<T> {
         alloc: Global,
         held: Option<Value>,
     ) -> Result<Reply, Returned<Command>>
-        ensures { Performs result (command.MakeMVar held) self.old self.new }
+        ensures { DoesStep result (command.MakeMVar held) self.old self.new }
     {
         match self.make_mvar(alloc, held) {
             Ok(mvar) => Ok(Reply::MVar(mvar)),
@@ -35,7 +35,7 @@ impl<T: Table> Book<T> {
     }
 
     pub(crate) fn perform_make_mailbox(&mut self, alloc: Global) -> Result<Reply, Returned<Command>>
-        ensures { Performs result command.MakeMailbox self.old self.new }
+        ensures { DoesStep result command.MakeMailbox self.old self.new }
     {
         match self.make_mailbox(alloc) {
             Ok(mailbox) => Ok(Reply::Mailbox(mailbox)),
@@ -44,7 +44,7 @@ impl<T: Table> Book<T> {
     }
 
     pub(crate) fn perform_make_mchan(&mut self, alloc: Global) -> Result<Reply, Returned<Command>>
-        ensures { Performs result command.MakeMChan self.old self.new }
+        ensures { DoesStep result command.MakeMChan self.old self.new }
     {
         match self.make_mchan(alloc) {
             Ok(channel) => Ok(Reply::MChan(channel)),
@@ -57,7 +57,7 @@ impl<T: Table> Book<T> {
         alloc: Global,
         channel: McastId,
     ) -> Result<Reply, Returned<Command>>
-        ensures { Performs result (command.MakePort channel) self.old self.new }
+        ensures { DoesStep result (command.MakePort channel) self.old self.new }
     {
         match self.make_port(alloc, channel) {
             Ok(port) => Ok(Reply::Port(port)),
@@ -70,7 +70,7 @@ impl<T: Table> Book<T> {
         alloc: Global,
         port: PortId,
     ) -> Result<Reply, Returned<Command>>
-        ensures { Performs result (command.CopyPort port) self.old self.new }
+        ensures { DoesStep result (command.CopyPort port) self.old self.new }
     {
         match self.copy_port(alloc, port) {
             Ok(copy) => Ok(Reply::Port(copy)),
@@ -84,7 +84,7 @@ impl<T: Table> Book<T> {
         ivar: IVarId,
         value: Value,
     ) -> Result<Reply, Returned<Command>>
-        ensures { Performs result (command.IPut ivar value) self.old self.new }
+        ensures { DoesStep result (command.IPut ivar value) self.old self.new }
     {
         match self.iput(alloc, ivar, value) {
             Ok(()) => Ok(Reply::Done),
@@ -98,7 +98,7 @@ impl<T: Table> Book<T> {
         mvar: MVarId,
         value: Value,
     ) -> Result<Reply, Returned<Command>>
-        ensures { Performs result (command.MPut mvar value) self.old self.new }
+        ensures { DoesStep result (command.MPut mvar value) self.old self.new }
     {
         match self.mput(alloc, mvar, value) {
             Ok(()) => Ok(Reply::Done),
@@ -112,7 +112,7 @@ impl<T: Table> Book<T> {
         mailbox: MboxId,
         value: Value,
     ) -> Result<Reply, Returned<Command>>
-        ensures { Performs result (command.Mail mailbox value) self.old self.new }
+        ensures { DoesStep result (command.Mail mailbox value) self.old self.new }
     {
         match self.mail(alloc, mailbox, value) {
             Ok(()) => Ok(Reply::Done),
@@ -126,7 +126,7 @@ impl<T: Table> Book<T> {
         channel: McastId,
         message: Value,
     ) -> Result<Reply, Returned<Command>>
-        ensures { Performs result (command.Multicast channel message) self.old self.new }
+        ensures { DoesStep result (command.Multicast channel message) self.old self.new }
     {
         match self.multicast(alloc, channel, message) {
             Ok(()) => Ok(Reply::Done),

@@ -15,7 +15,7 @@ impl<T: Table> Book<T> {
     /// # Errors
     /// Out of memory: the command comes back, and nothing changes.
     pub fn perform(&mut self, alloc: Global, command: Command) -> Result<Reply, Returned<Command>>
-        ensures { spec.Performs result command self.old self.new }
+        ensures { spec.DoesStep result command self.old self.new }
     {
         match command {
             Command::Spawn => match self.spawn() {
