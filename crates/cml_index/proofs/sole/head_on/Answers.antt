@@ -1,4 +1,4 @@
-use Rattle.std.proofs.Common.{◌≡◌, ◌<◌, true, false, cond, [], length, ap, sym, subst, ◌∙◌}
+use Rattle.std.proofs.Common.{rules, ◌≡◌, ◌<◌, true, false, cond, [], length, ap, sym, subst, ◌∙◌}
 use Rattle.std.specs.Prelude.{slice_get}
 use Rattle.std.specs.Option.{option_map_or}
 use Rattle.cml_scan.specs.Order.{Ascends, before}
@@ -31,8 +31,9 @@ head_in-requires-clause-within c =
     ∙ sym (ap (λ b. met_among (λ tid. cond b (Above tid) (Others tid)) (lane_of slot_of (Side b object) os) (lane_of slot_of (Side true object) os)) kind) in
     subst (λ qs. c.args.k < length qs) (sym same) c.requires.within
 
-pub returns-else-one_lane-clause-found-value : goal.returns-else-one_lane-clause-found-value
-returns-else-one_lane-clause-found-value c =
+pub returns-else-one_lane : goal.returns-else-one_lane
+returns-else-one_lane c = record { found = record {
+  value =
     let object = c.args.object in
     let os = offers_of c.args.core.now.entries.items in
     let lanes = c.args.core.now.lanes.by_slot in
@@ -41,4 +42,6 @@ returns-else-one_lane-clause-found-value c =
     let kind : one_lane object.kind ≡ false = sym c.one_lane.ensures ∙ c.if-one_lane.false in
     let same : met_among Others (lane_at lanes (Side false object)) hs ≡ heads_on os object = ap (λ ps. met_among Others ps hs) (c.requires.indexed.placed (Side false object)) ∙ ap (λ ps. met_among Others (lane_of slot_of (Side false object) os) ps) there
     ∙ sym (ap (λ b. met_among (λ tid. cond b (Above tid) (Others tid)) (lane_of slot_of (Side b object) os) (lane_of slot_of (Side true object) os)) kind) in
-    ap (λ qs. slice_get qs c.args.k) (sym same) ∙ c.head_in.ensures.found.value
+    ap (λ qs. slice_get qs c.args.k) (sym same) ∙ c.head_in.ensures.found.value;
+  early = search rules;
+} }

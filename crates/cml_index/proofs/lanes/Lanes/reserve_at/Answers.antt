@@ -9,7 +9,7 @@ use Rattle.cml_index.proofs.lanes.Lanes.reserve_at.Goals as goal
 pub returns-in_err-reserve : goal.returns-in_err-reserve
 returns-in_err-reserve c =
     let more = roomier c.args.self.now.by_slot c.in-Some.place c.args.slot c.pair_mut-lane.result.0.now c.pair_mut-lane.result.1.now c.reserve.new.self c.pair_mut-lane.ensures.unique c.in-Some.ensures.index c.pair_mut-lane.ensures.value c.reserve.ensures.same c.reserve.ensures.kept in
-    record { same = more.same; kept = more.kept; room = tt }
+    record { same = more.same; kept = more.kept; room = search rules }
 
 pub returns-in-Some : goal.returns-in-Some
 returns-in-Some c =

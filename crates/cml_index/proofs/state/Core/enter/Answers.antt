@@ -1,4 +1,4 @@
-use Rattle.std.proofs.Common.{◌≡◌, ℕ, true, false, [], ◌≤◌, ◌+◌, ◌*◌, ◌∙◌, length, nat_eq, nat_lt, not, map, ap, sym, subst, arith}
+use Rattle.std.proofs.Common.{rules, ◌≡◌, ℕ, true, false, [], ◌≤◌, ◌+◌, ◌*◌, ◌∙◌, length, nat_eq, nat_lt, not, map, ap, sym, subst, arith}
 use Rattle.std.specs.List.{filter}
 use Rattle.cml_value.specs.Group.{bases}
 use Rattle.cml_scan.specs.World.{PlainEntry}
@@ -74,8 +74,8 @@ add_all-requires-clause-under c n dark =
     omega (arith, few, same) in
     c.requires.indexed.sides n ∙ meet_more (one_lane n.kind) (length (lane_at lanes (Side true n))) (length (lane_at lanes (Side false n))) (length (lane_at after (Side true n))) (length (lane_at after (Side false n))) (more (Side true n)) (more (Side false n)) dark
 
-pub returns-clause-came-entries : goal.returns-clause-came-entries
-returns-clause-came-entries c = c.put.ensures
+pub returns-clause-came : goal.returns-clause-came
+returns-clause-came c = record { entries = c.put.ensures; leaves = search rules; flags = search rules }
 
 pub returns-clause-indexed : goal.returns-clause-indexed
 returns-clause-indexed c =

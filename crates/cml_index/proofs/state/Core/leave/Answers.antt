@@ -1,4 +1,4 @@
-use Rattle.std.proofs.Common.{◌≡◌, ℕ, true, false, ◌≤◌, ◌-◌, ◌+◌, ◌*◌, ◌∙◌, [], ◌∷◌, length, nat_eq, not, ap, sym, subst, arith}
+use Rattle.std.proofs.Common.{rules, ◌≡◌, ℕ, true, false, ◌≤◌, ◌-◌, ◌+◌, ◌*◌, ◌∙◌, [], ◌∷◌, length, nat_eq, not, ap, sym, subst, arith}
 use Rattle.std.specs.List.{filter}
 use Rattle.cml_value.specs.Group.{bases}
 use Rattle.cml_scan.specs.Scan.{offers_of}
@@ -97,14 +97,18 @@ returns-clause-indexed c =
       named = subst (λ xs. Every (λ k. spec.is_named c.args.self.now.flags.entries (spec.slot_of_nack k)) (spec.nacks_in xs)) (sym rest) (nacks_left (λ k. spec.is_named c.args.self.now.flags.entries (spec.slot_of_nack k)) (λ e. not (nat_eq c.args.tid.0 e.thread)) es c.requires.indexed.named);
     }
 
-pub returns-clause-freed-shorter : goal.returns-clause-freed-shorter
-returns-clause-freed-shorter c k =
+pub returns-clause-freed : goal.returns-clause-freed
+returns-clause-freed c = record {
+  room = search rules;
+  shorter = λ k.
     let fewer : length (others c.args.tid (lane_at c.args.self.now.lanes.by_slot k)) ≤ length (lane_at c.args.self.now.lanes.by_slot k) = filter_fewer (is_others c.args.tid) (lane_at c.args.self.now.lanes.by_slot k) in
     let same : length (lane_at c.go.new.self.by_slot k) ≡ length (others c.args.tid (lane_at c.args.self.now.lanes.by_slot k)) = ap length (c.go.ensures.lanes k) in
-    omega (arith, fewer, same)
-
-pub returns-clause-freed-named : goal.returns-clause-freed-named
-returns-clause-freed-named c = λ k named. named
+    omega (arith, fewer, same);
+  lighter = search rules;
+  seat = search rules;
+  seats = search rules;
+  named = λ k named. named;
+}
 
 pub returns-clause-cost : goal.returns-clause-cost
 returns-clause-cost c digits few =

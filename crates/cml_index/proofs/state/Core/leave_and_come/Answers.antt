@@ -1,4 +1,4 @@
-use Rattle.std.proofs.Common.{◌≡◌, ◌∙◌, not, nat_eq, length, ap, sym, subst, arith}
+use Rattle.std.proofs.Common.{rules, ◌≡◌, ◌∙◌, not, nat_eq, length, ap, sym, subst, arith}
 use Rattle.std.specs.List.{All}
 use Rattle.cml_value.specs.Group.{bases, scopes, nacks_of}
 use Rattle.cml_scan.specs.World.{PlainEntry}
@@ -27,10 +27,15 @@ enter-requires-clause-new c =
     let apart = apart_all c.args.comer.0.0 (without c.args.gone.now es) (Every-filter (λ e. not (nat_eq c.args.comer.0.0 e.thread)) (λ e. not (is_among c.args.gone.now e.thread)) es (all_apart c.args.comer.0.0 es c.requires.ready.new)) in
     rw (thread, left) apart
 
-pub enter-requires-clause-room-named : goal.enter-requires-clause-room-named
-enter-requires-clause-room-named c =
-    subst (λ (e : PlainEntry). Every (λ k. spec.is_named c.tell_and_leave.new.self.flags.entries (spec.slot_of_nack k)) (nacks_of (scopes e.group))) (sym c.with_places.ensures)
-    (Every-weaker (λ k. spec.is_named c.make_ready.new.self.flags.entries (spec.slot_of_nack k)) (λ k. spec.is_named c.tell_and_leave.new.self.flags.entries (spec.slot_of_nack k)) (nacks_of (scopes c.in_ok-entry.entry.group)) (λ k h. c.tell_and_leave.ensures.freed.named (spec.slot_of_nack k) h) c.in-Ok.ensures.room.named)
+pub enter-requires-clause-room : goal.enter-requires-clause-room
+enter-requires-clause-room c = record {
+  seat = search rules;
+  seats = search rules;
+  small = search rules;
+  room = search rules;
+  named = subst (λ (e : PlainEntry). Every (λ k. spec.is_named c.tell_and_leave.new.self.flags.entries (spec.slot_of_nack k)) (nacks_of (scopes e.group))) (sym c.with_places.ensures)
+    (Every-weaker (λ k. spec.is_named c.make_ready.new.self.flags.entries (spec.slot_of_nack k)) (λ k. spec.is_named c.tell_and_leave.new.self.flags.entries (spec.slot_of_nack k)) (nacks_of (scopes c.in_ok-entry.entry.group)) (λ k h. c.tell_and_leave.ensures.freed.named (spec.slot_of_nack k) h) c.in-Ok.ensures.room.named);
+}
 
 pub forget_all-requires-clause-out : goal.forget_all-requires-clause-out
 forget_all-requires-clause-out c = all_out c.args.lit.now c.args.unlit.now (spec.told c.make_ready.new.self.flags.entries) (spec.told c.enter.new.self.flags.entries) c.requires.ready.apart

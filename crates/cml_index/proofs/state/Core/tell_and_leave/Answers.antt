@@ -1,4 +1,4 @@
-use Rattle.std.proofs.Common.{◌∙◌, ap, sym, subst}
+use Rattle.std.proofs.Common.{rules, ◌∙◌, ap, sym, subst}
 use Rattle.std.specs.List.{All}
 use Rattle.cml_scan.specs.Table.{IsThere}
 use Rattle.cml_scan.proofs.Ordered.{Every-weaker}
@@ -15,5 +15,12 @@ leave_all-requires-clause-there c = record {
   once = c.requires.there.once;
 }
 
-pub returns-clause-freed-named : goal.returns-clause-freed-named
-returns-clause-freed-named c = λ k named. c.leave_all.ensures.freed.named k (c.tell_all-2.ensures.kept k (c.tell_all.ensures.kept k named))
+pub returns-clause-freed : goal.returns-clause-freed
+returns-clause-freed c = record {
+  room = search rules;
+  shorter = search rules;
+  lighter = search rules;
+  seat = search rules;
+  seats = search rules;
+  named = λ k named. c.leave_all.ensures.freed.named k (c.tell_all-2.ensures.kept k (c.tell_all.ensures.kept k named));
+}
