@@ -1,5 +1,5 @@
 -- The core of an index, and what a change of it leaves as it was.
-use Rattle.std.specs.Prelude.{ℕ, ◌≡◌, ◌≢◌, ◌≤◌, ◌<◌, ◌+◌, ◌*◌, ◌^◌, List, All, AllPairs, map, length}
+use Rattle.std.specs.Prelude.{◌≡◌, ◌≢◌, ◌≤◌, ◌<◌, ◌+◌, List, All, AllPairs, map, length}
 use Rattle.indexmap.specs.IndexSet.{spare}
 use Rattle.cml_value.specs.Group.{PlainGroup, bases, scopes, nacks_of}
 use Rattle.cml_value.specs.declared.number.Tid.{Tid}
