@@ -1,4 +1,4 @@
-use Rattle.std.proofs.Common.{◌≡◌, [], ◌∷◌, ◌++◌, length, sym, ◌∙◌, ap, refl, arith, subst, All}
+use Rattle.std.proofs.Common.{rules, ◌≡◌, [], ◌∷◌, ◌++◌, length, sym, ◌∙◌, ap, refl, arith, subst, All}
 use Rattle.std.specs.Vec.{vec_capacity}
 use Rattle.std.proofs.lemmas.List.Elements.{All-nil, All-cons}
 use Rattle.cml_value.specs.Group.{bases, lost}
@@ -87,17 +87,18 @@ push_left_ticks-requires g c =
     let is = flat_is c.waiting.result c.in-Some.flat w c.args.tid.0 p.group c.waiting.ensures p.waits c.in-Some.is in
     rw c.push_turned_off.ensures.room (room_for_out w c.leaf-base.result.now c.self.inside.unlit.items c.push_turned_off.new.lights.items c.in-Some.flat.now p.group (vec_capacity c.self.inside.unlit) c.self.invariant.2 is c.push_turned_off.ensures.lights p.fits.ticks)
 
-pub change-changed-requires-clause-ready-there : goal.change-changed-requires-clause-ready-there
-change-changed-requires-clause-ready-there g c =
+pub change-changed-requires : goal.change-changed-requires
+change-changed-requires g c = record { ready = record {
+  there =
     let w = c.self.inside.state in
     let has = rw (← c.self.view_is) at c.requires in
     let e = single_party w _ _ _ c.args.tid c.args.leaf c.self.invariant.0 has in
     let p = e.1 in
     let there = IsThere (g.T.Table.entries c.self.inside.table) in
-    All-cons there c.args.tid [] (is_there w (g.T.Table.entries c.self.inside.table) c.args.tid p.group p.waits c.self.invariant.0.told_groups) (All-nil there)
-
-pub change-changed-requires-clause-ready-apart : goal.change-changed-requires-clause-ready-apart
-change-changed-requires-clause-ready-apart g c =
+    All-cons there c.args.tid [] (is_there w (g.T.Table.entries c.self.inside.table) c.args.tid p.group p.waits c.self.invariant.0.told_groups) (All-nil there);
+  once = search rules;
+  new = search rules;
+  apart =
     let w = c.self.inside.state in
     let has = rw (← c.self.view_is) at c.requires in
     let e = single_party w _ _ _ c.args.tid c.args.leaf c.self.invariant.0 has in
@@ -105,7 +106,8 @@ change-changed-requires-clause-ready-apart g c =
     let is = flat_is c.waiting.result c.in-Some.flat w c.args.tid.0 p.group c.waiting.ensures p.waits c.in-Some.is in
     let lights = told_lights c.self.inside.lit.items c.push_lights.new.lights.items c.deref.result.now c.in-Some.flat.now p.group c.args.leaf c.self.invariant.1 is c.push_lights.ensures.lights c.deref.ensures.value in
     let dark = told_out w c.leaf-base.result.now c.self.inside.unlit.items c.push_turned_off.new.lights.items c.push_left_ticks.new.lights.items c.deref-2.result.now c.in-Some.flat.now p.group c.self.invariant.2 is c.push_turned_off.ensures.lights c.push_left_ticks.ensures.lights c.deref-2.ensures.value in
-    apart_from (lost p.group c.args.leaf) _ _ lights (λ k. ap (λ x. has_light x (nack_light k)) dark ∙ single_apart w c.leaf-base.result.now (bases_awaited (pending w)) (bases p.group) [] k)
+    apart_from (lost p.group c.args.leaf) _ _ lights (λ k. ap (λ x. has_light x (nack_light k)) dark ∙ single_apart w c.leaf-base.result.now (bases_awaited (pending w)) (bases p.group) [] k);
+} }
 
 pub returns-in_default-changed-clause-sure : goal.returns-in_default-changed-clause-sure
 returns-in_default-changed-clause-sure g c = λ sure no_copy wants.
