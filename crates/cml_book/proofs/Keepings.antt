@@ -16,6 +16,7 @@ use Rattle.cml_scan.specs.declared.object.Light.{Light}
 use Rattle.cml_scan.specs.declared.object.Light.TheVariants as of
 use Rattle.cml_scan.proofs.Telling.{AgreeForGroup, AgreeFor-without, AgreeFor-with_entry}
 use Rattle.cml_book.specs.declared.refusal.Refusal.{Refusal}
+use Rattle.cml_book.specs.declared.refusal.Refusal.TheVariants.{Full}
 use Rattle.cml_book.specs.declared.refusal.Fault.{Fault}
 use Rattle.cml_book.specs.declared.refusal.Fault.TheVariants.{Refused, Memory}
 use Rattle.cml_book.specs.Outcomes.{Outcome, refuse_if, refuse_by, thread_refusal, with_thread, Does, max_threads, max_objects}
@@ -26,9 +27,11 @@ use Rattle.cml_book.specs.Nack.{nack}
 use Rattle.cml_book.specs.Sync.{times_named, waiting}
 use Rattle.cml_book.specs.Commit.{released, settled}
 use Rattle.cml_book.specs.Keeping.{AreLiveNacks, nack_light, lights_in, Room, FitsIn, RoomGrows, Keeps}
+use Rattle.cml_book.specs.Telling.{StaysTrue}
 use Rattle.cml_book.proofs.Pendings.{pending-push, pending-end, pending-wait, pending-resume, without_none}
 use Rattle.cml_book.proofs.LightLemmas.{agree_still, has_ended-push, has_ended-set, has_fired-push, light_of-same}
 use Rattle.cml_book.proofs.NackLemmas.{CanEnter, lives-push, nacks-wait, nacks-resume, lives-settled_group, fired-settled_group, lives-enter, fired-enter, get-set_other}
+use Rattle.cml_book.proofs.ObjectLemmas.{stays_kept}
 use Rattle.cml_book.proofs.Retold.{retold, group_told, has_nack_light, no_nack_light}
 
 -- what is refused is not accepted
@@ -80,20 +83,19 @@ module _ (w : PlainWorld) (es : List PlainEntry) (told : Light → Bool) (room :
         roomy = k.roomy;
       })
 
+  -- something was made that is no thread and no nack, and every light is as it was
+  keeps_made : {R : Type 0} (full : Bool) (why : Refusal) (made : PlainWorld) (id : R) (r : Result R Fault) (w' : PlainWorld) → made.threads ≡ w.threads → made.nacks ≡ w.nacks → StaysTrue w told made told
+      → Does r (refuse_if full why (Ok (made, id))) w w' → Keeps w es told room → Keeps w' es told room
+  keeps_made full why made id (Err (Refused x)) w' threads nacks same d k = rw d.1 k
+  keeps_made full why made id (Err Memory) w' threads nacks same d k = rw d.1 k
+  keeps_made {R = R} full why made id (Ok x) w' threads nacks same d k =
+      let e = not_refused full why _ _ d in
+      let new : w' ≡ made = sym (ap (λ (o : Outcome R). next_of w o) e) in
+      rw new (stays_kept w made es es told told threads nacks refl same room k)
+
   -- a new channel
   pub keeps_chan : (r : Result ChanId Fault) (w' : PlainWorld) → Does r (make_chan w) w w' → Keeps w es told room → Keeps w' es told room
-  keeps_chan (Err (Refused why)) w' d k = rw d.1 k
-  keeps_chan (Err Memory) w' d k = rw d.1 k
-  keeps_chan (Ok c) w' d k =
-      let e = not_refused (nat_le max_objects w.channels) _ _ _ d in
-      let new : w' ≡ record w { channels = w.channels + 1 } = sym (ap (λ (o : Outcome ChanId). next_of w o) e) in
-      rw new
-      (record {
-        told_groups = k.told_groups;
-        told_lights = agree_still (pending w) told told (light_of w) (light_of (record w { channels = w.channels + 1 })) same k.told_lights;
-        nacks_live = k.nacks_live;
-        roomy = k.roomy;
-      })
+  keeps_chan r w' d k = keeps_made {R = ChanId} (nat_le max_objects w.channels) Full (record w { channels = w.channels + 1 }) (record { 0 = w.channels }) r w' refl refl same d k
     where
       same : (l : Light) → told l ≡ light_of w l → told l ≡ light_of (record w { channels = w.channels + 1 }) l
       same (of.Joined t) h = h
@@ -101,18 +103,7 @@ module _ (w : PlainWorld) (es : List PlainEntry) (told : Light → Bool) (room :
 
   -- a new swap channel
   pub keeps_swap : (r : Result SwapId Fault) (w' : PlainWorld) → Does r (make_swap w) w w' → Keeps w es told room → Keeps w' es told room
-  keeps_swap (Err (Refused why)) w' d k = rw d.1 k
-  keeps_swap (Err Memory) w' d k = rw d.1 k
-  keeps_swap (Ok s) w' d k =
-      let e = not_refused (nat_le max_objects w.swaps) _ _ _ d in
-      let new : w' ≡ record w { swaps = w.swaps + 1 } = sym (ap (λ (o : Outcome SwapId). next_of w o) e) in
-      rw new
-      (record {
-        told_groups = k.told_groups;
-        told_lights = agree_still (pending w) told told (light_of w) (light_of (record w { swaps = w.swaps + 1 })) same k.told_lights;
-        nacks_live = k.nacks_live;
-        roomy = k.roomy;
-      })
+  keeps_swap r w' d k = keeps_made {R = SwapId} (nat_le max_objects w.swaps) Full (record w { swaps = w.swaps + 1 }) (record { 0 = w.swaps }) r w' refl refl same d k
     where
       same : (l : Light) → told l ≡ light_of w l → told l ≡ light_of (record w { swaps = w.swaps + 1 }) l
       same (of.Joined t) h = h

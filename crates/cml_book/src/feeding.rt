@@ -66,7 +66,7 @@ pub(crate) fn tell_lit<T: Table>(
     is_known: bool,
     light: Light,
 ) -> Result<(), AllocError>
-    ensures told { TurnsOn result (newly_lit is_known light)
+    ensures { TurnsOn result (newly_lit is_known light)
         (T.entries table.old) (T.entries table.new) (T.is_lit table.old) (T.is_lit table.new) }
 {
     if is_known {

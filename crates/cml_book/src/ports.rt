@@ -263,7 +263,7 @@ fn tell_first<T: Table>(
     ports: &Register<Port>,
     ids: &[PortId],
 ) -> Result<(), AllocError>
-    ensures told { TurnsOn result (first_lights (port_numbers ids.now) (unread ports.now.objects))
+    ensures { TurnsOn result (first_lights (port_numbers ids.now) (unread ports.now.objects))
         (T.entries table.old) (T.entries table.new) (T.is_lit table.old) (T.is_lit table.new) }
 {
     let lights = unlit_ports(alloc, ports, ids)?;

@@ -1,10 +1,30 @@
-use Rattle.std.proofs.Common.{◌≡◌, ◌∙◌, ◌++◌, ◌∷◌, [], ℕ, suc, List, length, ap, arith}
+use Rattle.std.proofs.Common.{rules, ◌≡◌, ◌∙◌, ◌++◌, ◌∷◌, [], ℕ, suc, List, length, ap, arith}
 use Rattle.std.proofs.lemmas.List.{length_push}
 use Rattle.cml_value.specs.declared.number.McastId.{McastId}
 use Rattle.cml_book.specs.MakePort.{with_port}
 use Rattle.cml_book.specs.Views.{ports_of}
 use Rattle.cml_book.proofs.PortLemmas.{ports_more}
 use Rattle.cml_book.proofs.ports.add_port.Goals as goal
+
+pub returns-clause-added : goal.returns-clause-added
+returns-clause-added g c =
+    record {
+      id = search rules;
+      channels = c.add_at.ensures.ports ∙ ap (λ (ps : List (List ℕ)). with_port ps c.args.channel.0 c.len.result) c.room_at.ensures.ports
+          ∙ ap (λ (n : ℕ). with_port (ports_of c.args.channels.now.items) c.args.channel.0 n) c.len.ensures;
+      ports = search rules;
+      err_channels = tt;
+      err_ports = tt;
+    }
+
+pub returns-clause-told : goal.returns-clause-told
+returns-clause-told g c = record { ok = search rules; err = tt; entries = c.tell_lit.ensures.entries }
+
+pub returns-clause-still : goal.returns-clause-still
+returns-clause-still g c =
+    let a = ap length c.in-Ok-make.ensures.objects in
+    let b = length_push c.room.new.self.objects c.args.port in
+    record { few = omega (arith, a, b, c.in-Ok-room.ensures.len, c.requires.few); len = c.add_at.ensures.len ∙ c.room_at.ensures.len; waits = c.make.ensures.waits ∙ c.room.ensures.waits }
 
 pub returns-clause-housed : goal.returns-clause-housed
 returns-clause-housed g c =

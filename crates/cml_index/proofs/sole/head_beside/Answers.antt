@@ -26,14 +26,16 @@ other_at-requires-clause-within c =
     subst (λ qs. c.args.k < length qs) among c.requires.within
 
 pub returns-in-Some : goal.returns-in-Some
-returns-in-Some c = record { found = record {
-  value =
-    let hs = c.args.heads.now.places in
-    let same = subst (λ o. (q : Place) → list_any (is_others q.tid) c.args.others.now.places ≡ is_beside o q) c.in-Some.is c.only_thread.ensures.value in
-    let among = among_is c.args.others.now.places hs (Some c.in-Some.tid) same in
-    ap (λ qs. slice_get qs c.args.k) among ∙ c.other_at.ensures.value;
-  early = omega (arith, c.only_thread.ensures.cost, c.other_at.ensures.cost, c.other_at.ensures.ahead);
-} }
+returns-in-Some c = record {
+  found = record {
+    value =
+        let hs = c.args.heads.now.places in
+        let same = subst (λ o. (q : Place) → list_any (is_others q.tid) c.args.others.now.places ≡ is_beside o q) c.in-Some.is c.only_thread.ensures.value in
+        let among = among_is c.args.others.now.places hs (Some c.in-Some.tid) same in
+        ap (λ qs. slice_get qs c.args.k) among ∙ c.other_at.ensures.value;
+    early = omega (arith, c.only_thread.ensures.cost, c.other_at.ensures.cost, c.other_at.ensures.ahead);
+  };
+}
 
 pub look-requires : goal.look-requires
 look-requires c =
@@ -44,18 +46,20 @@ look-requires c =
     within
 
 pub returns-in-None : goal.returns-in-None
-returns-in-None c = record { found = record {
-  value =
-    let hs = c.args.heads.now.places in
-    let same = subst (λ o. (q : Place) → list_any (is_others q.tid) c.args.others.now.places ≡ is_beside o q) c.in-None.is c.only_thread.ensures.value in
-    let among = among_is c.args.others.now.places hs None same ∙ all_stay hs in
-    let within = subst (λ qs. c.args.k < length qs) among c.requires.within in
-    ap (λ qs. slice_get qs c.args.k) among ∙ slice_get_read hs (length hs) c.args.k c.look.result refl within c.look.ensures.value;
-  early =
-    let hs = c.args.heads.now.places in
-    let same = subst (λ o. (q : Place) → list_any (is_others q.tid) c.args.others.now.places ≡ is_beside o q) c.in-None.is c.only_thread.ensures.value in
-    let among = among_is c.args.others.now.places hs None same ∙ all_stay hs in
-    let within = subst (λ qs. c.args.k < length qs) among c.requires.within in
-    let few = behind_at hs c.args.k c.look.result c.requires.heads (slice_get_read hs (length hs) c.args.k c.look.result refl within c.look.ensures.value) in
-    omega (arith, few, c.only_thread.ensures.cost, c.look.ensures.most);
-} }
+returns-in-None c = record {
+  found = record {
+    value =
+        let hs = c.args.heads.now.places in
+        let same = subst (λ o. (q : Place) → list_any (is_others q.tid) c.args.others.now.places ≡ is_beside o q) c.in-None.is c.only_thread.ensures.value in
+        let among = among_is c.args.others.now.places hs None same ∙ all_stay hs in
+        let within = subst (λ qs. c.args.k < length qs) among c.requires.within in
+        ap (λ qs. slice_get qs c.args.k) among ∙ slice_get_read hs (length hs) c.args.k c.look.result refl within c.look.ensures.value;
+    early =
+        let hs = c.args.heads.now.places in
+        let same = subst (λ o. (q : Place) → list_any (is_others q.tid) c.args.others.now.places ≡ is_beside o q) c.in-None.is c.only_thread.ensures.value in
+        let among = among_is c.args.others.now.places hs None same ∙ all_stay hs in
+        let within = subst (λ qs. c.args.k < length qs) among c.requires.within in
+        let few = behind_at hs c.args.k c.look.result c.requires.heads (slice_get_read hs (length hs) c.args.k c.look.result refl within c.look.ensures.value) in
+        omega (arith, few, c.only_thread.ensures.cost, c.look.ensures.most);
+  };
+}

@@ -83,33 +83,35 @@ push_left_ticks-requires-2 g c =
     c.self.invariant.2 is1 is2 c.push_left_ticks.ensures.lights p.head.fits.ticks p.other.fits.ticks)
 
 pub change-changed-requires : goal.change-changed-requires
-change-changed-requires g c = record { ready = record {
-  there =
-    let w = c.self.inside.state in
-    let has = rw (← c.self.view_is) at c.requires in
-    let p = pair_parties w _ _ _ c.args.head c.args.head_leaf c.args.other c.args.other_leaf c.self.invariant.0 has in
-    let there = IsThere (g.T.Table.entries c.self.inside.table) in
-    All-cons there c.args.head (c.args.other ∷ []) (is_there w (g.T.Table.entries c.self.inside.table) c.args.head p.head.group p.head.waits c.self.invariant.0.told_groups)
-    (All-cons there c.args.other [] (is_there w (g.T.Table.entries c.self.inside.table) c.args.other p.other.group p.other.waits c.self.invariant.0.told_groups) (All-nil there));
-  once =
-    let w = c.self.inside.state in
-    let has = rw (← c.self.view_is) at c.requires in
-    let p = pair_parties w _ _ _ c.args.head c.args.head_leaf c.args.other c.args.other_leaf c.self.invariant.0 has in
-    two_differ c.args.head c.args.other p.differ;
-  new = search rules;
-  apart =
-    let w = c.self.inside.state in
-    let has = rw (← c.self.view_is) at c.requires in
-    let p = pair_parties w _ _ _ c.args.head c.args.head_leaf c.args.other c.args.other_leaf c.self.invariant.0 has in
-    let is1 = flat_is c.waiting.result c.in-Some.first w c.args.head.0 p.head.group c.waiting.ensures p.head.waits c.in-Some.is in
-    let is2 = flat_is c.waiting-2.result c.in-Some-waiting.second w c.args.other.0 p.other.group c.waiting-2.ensures p.other.waits c.in-Some-waiting.is in
-    let lights = told_two c.self.inside.lit.items c.push_lights.new.lights.items c.push_lights-2.new.lights.items c.deref.result.now c.in-Some.first.now c.in-Some-waiting.second.now p.head.group p.other.group
-    c.args.head_leaf c.args.other_leaf c.self.invariant.1 is1 is2 c.push_lights.ensures.lights c.push_lights-2.ensures.lights c.deref.ensures.value in
-    let dark = told_both_out w c.self.inside.unlit.items c.push_left_ticks.new.lights.items c.push_left_ticks-2.new.lights.items c.deref-2.result.now c.in-Some.first.now c.in-Some-waiting.second.now p.head.group p.other.group
-    c.self.invariant.2 is1 is2 c.push_left_ticks.ensures.lights c.push_left_ticks-2.ensures.lights c.deref-2.ensures.value in
-    apart_from (lost p.head.group c.args.head_leaf ++ lost p.other.group c.args.other_leaf) _ _ (lights ∙ sym (map-append nack_light (lost p.head.group c.args.head_leaf) (lost p.other.group c.args.other_leaf)))
-    (λ k. ap (λ x. has_light x (nack_light k)) dark ∙ pair_apart (bases_awaited (pending w)) (bases p.head.group) (bases p.other.group) (bases p.other.group) (bases p.head.group) k);
-} }
+change-changed-requires g c = record {
+  ready = record {
+    there =
+        let w = c.self.inside.state in
+        let has = rw (← c.self.view_is) at c.requires in
+        let p = pair_parties w _ _ _ c.args.head c.args.head_leaf c.args.other c.args.other_leaf c.self.invariant.0 has in
+        let there = IsThere (g.T.Table.entries c.self.inside.table) in
+        All-cons there c.args.head (c.args.other ∷ []) (is_there w (g.T.Table.entries c.self.inside.table) c.args.head p.head.group p.head.waits c.self.invariant.0.told_groups)
+        (All-cons there c.args.other [] (is_there w (g.T.Table.entries c.self.inside.table) c.args.other p.other.group p.other.waits c.self.invariant.0.told_groups) (All-nil there));
+    once =
+        let w = c.self.inside.state in
+        let has = rw (← c.self.view_is) at c.requires in
+        let p = pair_parties w _ _ _ c.args.head c.args.head_leaf c.args.other c.args.other_leaf c.self.invariant.0 has in
+        two_differ c.args.head c.args.other p.differ;
+    new = search rules;
+    apart =
+        let w = c.self.inside.state in
+        let has = rw (← c.self.view_is) at c.requires in
+        let p = pair_parties w _ _ _ c.args.head c.args.head_leaf c.args.other c.args.other_leaf c.self.invariant.0 has in
+        let is1 = flat_is c.waiting.result c.in-Some.first w c.args.head.0 p.head.group c.waiting.ensures p.head.waits c.in-Some.is in
+        let is2 = flat_is c.waiting-2.result c.in-Some-waiting.second w c.args.other.0 p.other.group c.waiting-2.ensures p.other.waits c.in-Some-waiting.is in
+        let lights = told_two c.self.inside.lit.items c.push_lights.new.lights.items c.push_lights-2.new.lights.items c.deref.result.now c.in-Some.first.now c.in-Some-waiting.second.now p.head.group p.other.group
+        c.args.head_leaf c.args.other_leaf c.self.invariant.1 is1 is2 c.push_lights.ensures.lights c.push_lights-2.ensures.lights c.deref.ensures.value in
+        let dark = told_both_out w c.self.inside.unlit.items c.push_left_ticks.new.lights.items c.push_left_ticks-2.new.lights.items c.deref-2.result.now c.in-Some.first.now c.in-Some-waiting.second.now p.head.group p.other.group
+        c.self.invariant.2 is1 is2 c.push_left_ticks.ensures.lights c.push_left_ticks-2.ensures.lights c.deref-2.ensures.value in
+        apart_from (lost p.head.group c.args.head_leaf ++ lost p.other.group c.args.other_leaf) _ _ (lights ∙ sym (map-append nack_light (lost p.head.group c.args.head_leaf) (lost p.other.group c.args.other_leaf)))
+        (λ k. ap (λ x. has_light x (nack_light k)) dark ∙ pair_apart (bases_awaited (pending w)) (bases p.head.group) (bases p.other.group) (bases p.other.group) (bases p.head.group) k);
+  };
+}
 
 pub returns-in_err-changed-clause-sure : goal.returns-in_err-changed-clause-sure
 returns-in_err-changed-clause-sure g c = λ sure wants.

@@ -88,26 +88,28 @@ push_left_ticks-requires g c =
     rw c.push_turned_off.ensures.room (room_for_out w c.leaf-base.result.now c.self.inside.unlit.items c.push_turned_off.new.lights.items c.in-Some.flat.now p.group (vec_capacity c.self.inside.unlit) c.self.invariant.2 is c.push_turned_off.ensures.lights p.fits.ticks)
 
 pub change-changed-requires : goal.change-changed-requires
-change-changed-requires g c = record { ready = record {
-  there =
-    let w = c.self.inside.state in
-    let has = rw (← c.self.view_is) at c.requires in
-    let e = single_party w _ _ _ c.args.tid c.args.leaf c.self.invariant.0 has in
-    let p = e.1 in
-    let there = IsThere (g.T.Table.entries c.self.inside.table) in
-    All-cons there c.args.tid [] (is_there w (g.T.Table.entries c.self.inside.table) c.args.tid p.group p.waits c.self.invariant.0.told_groups) (All-nil there);
-  once = search rules;
-  new = search rules;
-  apart =
-    let w = c.self.inside.state in
-    let has = rw (← c.self.view_is) at c.requires in
-    let e = single_party w _ _ _ c.args.tid c.args.leaf c.self.invariant.0 has in
-    let p = e.1 in
-    let is = flat_is c.waiting.result c.in-Some.flat w c.args.tid.0 p.group c.waiting.ensures p.waits c.in-Some.is in
-    let lights = told_lights c.self.inside.lit.items c.push_lights.new.lights.items c.deref.result.now c.in-Some.flat.now p.group c.args.leaf c.self.invariant.1 is c.push_lights.ensures.lights c.deref.ensures.value in
-    let dark = told_out w c.leaf-base.result.now c.self.inside.unlit.items c.push_turned_off.new.lights.items c.push_left_ticks.new.lights.items c.deref-2.result.now c.in-Some.flat.now p.group c.self.invariant.2 is c.push_turned_off.ensures.lights c.push_left_ticks.ensures.lights c.deref-2.ensures.value in
-    apart_from (lost p.group c.args.leaf) _ _ lights (λ k. ap (λ x. has_light x (nack_light k)) dark ∙ single_apart w c.leaf-base.result.now (bases_awaited (pending w)) (bases p.group) [] k);
-} }
+change-changed-requires g c = record {
+  ready = record {
+    there =
+        let w = c.self.inside.state in
+        let has = rw (← c.self.view_is) at c.requires in
+        let e = single_party w _ _ _ c.args.tid c.args.leaf c.self.invariant.0 has in
+        let p = e.1 in
+        let there = IsThere (g.T.Table.entries c.self.inside.table) in
+        All-cons there c.args.tid [] (is_there w (g.T.Table.entries c.self.inside.table) c.args.tid p.group p.waits c.self.invariant.0.told_groups) (All-nil there);
+    once = search rules;
+    new = search rules;
+    apart =
+        let w = c.self.inside.state in
+        let has = rw (← c.self.view_is) at c.requires in
+        let e = single_party w _ _ _ c.args.tid c.args.leaf c.self.invariant.0 has in
+        let p = e.1 in
+        let is = flat_is c.waiting.result c.in-Some.flat w c.args.tid.0 p.group c.waiting.ensures p.waits c.in-Some.is in
+        let lights = told_lights c.self.inside.lit.items c.push_lights.new.lights.items c.deref.result.now c.in-Some.flat.now p.group c.args.leaf c.self.invariant.1 is c.push_lights.ensures.lights c.deref.ensures.value in
+        let dark = told_out w c.leaf-base.result.now c.self.inside.unlit.items c.push_turned_off.new.lights.items c.push_left_ticks.new.lights.items c.deref-2.result.now c.in-Some.flat.now p.group c.self.invariant.2 is c.push_turned_off.ensures.lights c.push_left_ticks.ensures.lights c.deref-2.ensures.value in
+        apart_from (lost p.group c.args.leaf) _ _ lights (λ k. ap (λ x. has_light x (nack_light k)) dark ∙ single_apart w c.leaf-base.result.now (bases_awaited (pending w)) (bases p.group) [] k);
+  };
+}
 
 pub returns-in_default-changed-clause-sure : goal.returns-in_default-changed-clause-sure
 returns-in_default-changed-clause-sure g c = λ sure no_copy wants.

@@ -40,21 +40,23 @@ unreachable-requires g c =
     found c.waiting.result c.wait.new.self c.args.thread.0 flat c.waiting.ensures waits c.in_default-waiting.is
 
 pub change-requires : goal.change-requires
-change-requires g c = record { ready = record {
-  there = search rules;
-  once = search rules;
-  new =
-    let w = c.sync_refusal.new.self in
-    let same = c.sync_refusal.ensures.same in
-    let none : sync_refusal w c.args.thread.0 c.args.group.now ≡ None = ap (λ (x : PlainWorld). sync_refusal x c.args.thread.0 c.args.group.now) same ∙ sym c.sync_refusal.ensures.why ∙ c.in_default.is in
-    let a = accepted w c.args.thread.0 c.args.group.now none in
-    let k = keeps_again same c.self.invariant.0 in
-    rw (k.told_groups) (running_is_new c.args.thread.0 0 c.args.thread.0 w.threads (omega arith) a.thread_runs);
-  apart =
-    let w = c.sync_refusal.new.self in
-    let flat = c.in_ok-arrival.arrival.flat in
-    apart_of (light_of w) (lights_in (bases flat)) _ _ (c.deref.ensures.value ∙ c.in_ok-arrival.ensures.lit) (c.deref-2.ensures.value ∙ c.in_ok-arrival.ensures.unlit);
-} }
+change-requires g c = record {
+  ready = record {
+    there = search rules;
+    once = search rules;
+    new =
+        let w = c.sync_refusal.new.self in
+        let same = c.sync_refusal.ensures.same in
+        let none : sync_refusal w c.args.thread.0 c.args.group.now ≡ None = ap (λ (x : PlainWorld). sync_refusal x c.args.thread.0 c.args.group.now) same ∙ sym c.sync_refusal.ensures.why ∙ c.in_default.is in
+        let a = accepted w c.args.thread.0 c.args.group.now none in
+        let k = keeps_again same c.self.invariant.0 in
+        rw (k.told_groups) (running_is_new c.args.thread.0 0 c.args.thread.0 w.threads (omega arith) a.thread_runs);
+    apart =
+        let w = c.sync_refusal.new.self in
+        let flat = c.in_ok-arrival.arrival.flat in
+        apart_of (light_of w) (lights_in (bases flat)) _ _ (c.deref.ensures.value ∙ c.in_ok-arrival.ensures.lit) (c.deref-2.ensures.value ∙ c.in_ok-arrival.ensures.unlit);
+  };
+}
 
 pub invariant_of-self-in_default-change : goal.invariant_of-self-in_default-change
 invariant_of-self-in_default-change g c =

@@ -9,5 +9,5 @@ returns-in-Some-clause-why c = sym (shape_refused c.args.self.now c.args.thread.
 
 pub each_once-requires : goal.each_once-requires
 each_once-requires c =
-    subst (λ n. list_all (λ k. nat_lt k n) (nacks_of (scopes c.args.group.now)) ≡ true) (sym c.self.invariant.1)
-    (shape_exists c.args.self.now c.args.thread.0 c.args.group.now (sym c.shape_refusal.ensures ∙ c.in_default.is))
+    let there = shape_exists c.args.self.now c.args.thread.0 c.args.group.now (sym c.shape_refusal.ensures ∙ c.in_default.is) in
+    subst (λ n. list_all (λ k. nat_lt k n) (nacks_of (scopes c.args.group.now)) ≡ true) (sym c.self.invariant.1) (rw (← c.self.view_is) at there)

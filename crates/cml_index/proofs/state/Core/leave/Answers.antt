@@ -101,9 +101,9 @@ pub returns-clause-freed : goal.returns-clause-freed
 returns-clause-freed c = record {
   room = search rules;
   shorter = λ k.
-    let fewer : length (others c.args.tid (lane_at c.args.self.now.lanes.by_slot k)) ≤ length (lane_at c.args.self.now.lanes.by_slot k) = filter_fewer (is_others c.args.tid) (lane_at c.args.self.now.lanes.by_slot k) in
-    let same : length (lane_at c.go.new.self.by_slot k) ≡ length (others c.args.tid (lane_at c.args.self.now.lanes.by_slot k)) = ap length (c.go.ensures.lanes k) in
-    omega (arith, fewer, same);
+      let fewer : length (others c.args.tid (lane_at c.args.self.now.lanes.by_slot k)) ≤ length (lane_at c.args.self.now.lanes.by_slot k) = filter_fewer (is_others c.args.tid) (lane_at c.args.self.now.lanes.by_slot k) in
+      let same : length (lane_at c.go.new.self.by_slot k) ≡ length (others c.args.tid (lane_at c.args.self.now.lanes.by_slot k)) = ap length (c.go.ensures.lanes k) in
+      omega (arith, fewer, same);
   lighter = search rules;
   seat = search rules;
   seats = search rules;

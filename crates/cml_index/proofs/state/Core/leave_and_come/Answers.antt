@@ -34,7 +34,7 @@ enter-requires-clause-room c = record {
   small = search rules;
   room = search rules;
   named = subst (λ (e : PlainEntry). Every (λ k. spec.is_named c.tell_and_leave.new.self.flags.entries (spec.slot_of_nack k)) (nacks_of (scopes e.group))) (sym c.with_places.ensures)
-    (Every-weaker (λ k. spec.is_named c.make_ready.new.self.flags.entries (spec.slot_of_nack k)) (λ k. spec.is_named c.tell_and_leave.new.self.flags.entries (spec.slot_of_nack k)) (nacks_of (scopes c.in_ok-entry.entry.group)) (λ k h. c.tell_and_leave.ensures.freed.named (spec.slot_of_nack k) h) c.in-Ok.ensures.room.named);
+      (Every-weaker (λ k. spec.is_named c.make_ready.new.self.flags.entries (spec.slot_of_nack k)) (λ k. spec.is_named c.tell_and_leave.new.self.flags.entries (spec.slot_of_nack k)) (nacks_of (scopes c.in_ok-entry.entry.group)) (λ k h. c.tell_and_leave.ensures.freed.named (spec.slot_of_nack k) h) c.in-Ok.ensures.room.named);
 }
 
 pub forget_all-requires-clause-out : goal.forget_all-requires-clause-out
