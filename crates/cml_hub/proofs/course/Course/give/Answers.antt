@@ -17,26 +17,16 @@ prepare-requires-clause-running c =
     let e : c.thread-thread.result.0 ≡ ran.start.thread = c.thread-thread.ensures ∙ ap (λ m. m.thread) c.start.ensures in
     rw e (ours_own k ran c.self.invariant ours).running
 
-pub prepare-requires-clause-ready-fits : goal.prepare-requires-clause-ready-fits
-prepare-requires-clause-ready-fits c =
+pub prepare-requires-clause-ready : goal.prepare-requires-clause-ready
+prepare-requires-clause-ready c =
     let s = c.self.inside in
     let k : PlainCourse = record { program = s.program; items = s.items.items; world = s.threads; machines = s.machines.items; output = string_bytes s.output; used = s.used } in
     let ours : IsOurs k c.args.ran = rw (← c.self.view_is) at c.requires in
-    rw c.end.ensures (slice_here s.program c.args.ran ours.0 c.steps-steps.ensures.meant).fits
-
-pub prepare-requires-clause-ready-awaits : goal.prepare-requires-clause-ready-awaits
-prepare-requires-clause-ready-awaits c =
-    let s = c.self.inside in
-    let k : PlainCourse = record { program = s.program; items = s.items.items; world = s.threads; machines = s.machines.items; output = string_bytes s.output; used = s.used } in
-    let ours : IsOurs k c.args.ran = rw (← c.self.view_is) at c.requires in
-    rw (c.end.ensures, c.ask.ensures) (slice_here s.program c.args.ran ours.0 c.steps-steps.ensures.meant).awaits
-
-pub prepare-requires-clause-ready-agrees : goal.prepare-requires-clause-ready-agrees
-prepare-requires-clause-ready-agrees c =
-    let s = c.self.inside in
-    let k : PlainCourse = record { program = s.program; items = s.items.items; world = s.threads; machines = s.machines.items; output = string_bytes s.output; used = s.used } in
-    let ours : IsOurs k c.args.ran = rw (← c.self.view_is) at c.requires in
-    rw c.ask.ensures (slice_here s.program c.args.ran ours.0 c.steps-steps.ensures.meant).agrees
+    record {
+      fits = rw c.end.ensures (slice_here s.program c.args.ran ours.0 c.steps-steps.ensures.meant).fits;
+      awaits = rw (c.end.ensures, c.ask.ensures) (slice_here s.program c.args.ran ours.0 c.steps-steps.ensures.meant).awaits;
+      agrees = rw c.ask.ensures (slice_here s.program c.args.ran ours.0 c.steps-steps.ensures.meant).agrees;
+    }
 
 pub settle-requires-clause-settles : goal.settle-requires-clause-settles
 settle-requires-clause-settles c =
