@@ -20,9 +20,8 @@ pub fn trace<R: Read, O: Write, E: Write>(
     out: &mut Counting<'_, O>,
     err: &mut Counting<'_, E>,
 ) -> u8
-    requires reads { (input.old.calls ≡ 0) × (input.old.failed ≡ 0) }
-    requires writes { (out.old.calls ≡ 0) × (out.old.failed ≡ 0) }
-    requires complaints { (err.old.calls ≡ 0) × (err.old.failed ≡ 0) }
+    requires given { (input.old.calls ≡ 0) × (input.old.failed ≡ 0) }
+    requires written { (out.old.calls ≡ 0) × (out.old.failed ≡ 0) × (err.old.calls ≡ 0) × (err.old.failed ≡ 0) }
     ensures ran { let given = counted_stream (R.remaining input.old.stream.now) (R.remaining input.new.stream.now) input.new.calls input.new.failed in
         let output = counted_stream (O.contents out.old.stream.now) (O.contents out.new.stream.now) out.new.calls out.new.failed in
         let errors = counted_stream (E.contents err.old.stream.now) (E.contents err.new.stream.now) err.new.calls err.new.failed in

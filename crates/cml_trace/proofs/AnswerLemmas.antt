@@ -1,5 +1,5 @@
 -- How the answers to lines put together the answer to a trace.
-use Rattle.std.proofs.Common.{◌≡◌, ℕ, ◌+◌, ◌⊎◌, List, [], ◌∷◌, ◌++◌, Option, Some, None, length, refl, ap, sym, ◌∙◌, subst, inl, inr, append_assoc, arith}
+use Rattle.std.proofs.Common.{◌≡◌, ℕ, ◌+◌, ◌⊎◌, List, [], ◌∷◌, ◌++◌, Option, Some, None, length, refl, sym, subst, inl, inr, append_assoc, arith}
 use Rattle.std.specs.List.{flat_map}
 use Rattle.cml_scan.specs.World.{PlainWorld}
 use Rattle.cml_book.specs.declared.command.Command.{Command}

@@ -1,12 +1,11 @@
 -- Commands that were gathered, line by line.
-use Rattle.std.proofs.Common.{◌≡◌, ℕ, ◌+◌, ◌⊎◌, List, [], ◌∷◌, ◌++◌, length, refl, ap, sym, ◌∙◌, inl, inr, append_assoc, append-nil, length-append, arith}
+use Rattle.std.proofs.Common.{◌≡◌, ℕ, ◌+◌, List, [], ◌∷◌, ◌++◌, length, refl, ap, sym, ◌∙◌, inl, inr, append_assoc, length-append, arith}
 use Rattle.cml_book.specs.declared.command.Command.{Command}
 use Rattle.cml_trace.specs.declared.order.Order.TheVariants as order
-use Rattle.cml_trace.specs.declared.batch.Stop.{Stop}
 use Rattle.cml_trace.specs.declared.batch.Stop.TheVariants.{Rows, Bad, End, Memory}
 use Rattle.cml_trace.specs.Lines.{TraceLines}
 use Rattle.cml_trace.specs.Orders.{AsksFor, IsBad}
-use Rattle.cml_trace.specs.Batches.{AskFor, StopsAt, Gathers}
+use Rattle.cml_trace.specs.Batches.{AskFor, Gathers}
 
 -- a line that asks for nothing
 asked_skip : (done : List (List ℕ)) (cs : List Command) (first : List ℕ) → AskFor done cs → AsksFor first order.Skip → AskFor (done ++ first ∷ []) cs

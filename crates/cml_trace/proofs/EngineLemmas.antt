@@ -9,7 +9,7 @@ use Rattle.cml_scan.specs.Scan.{scan}
 use Rattle.cml_book.specs.declared.command.Command.{Command}
 use Rattle.std.specs.List.{flat_map}
 use Rattle.cml_book.specs.declared.command.Reply.{Reply}
-use Rattle.cml_book.specs.Step.{step, replies_of, world_after, empty_world, HasStopped}
+use Rattle.cml_book.specs.Step.{step, world_after, empty_world, HasStopped}
 use Rattle.cml_text.specs.Laws.{SpelledOrFaulty}
 use Rattle.cml_trace.specs.declared.order.Order.TheVariants as order
 use Rattle.cml_trace.specs.declared.batch.Stop.{Stop}

@@ -1,5 +1,5 @@
 -- What a run of the engine did: which bytes came, and which text was written.
-use Rattle.std.specs.Prelude.{◌≡◌, ◌⊎◌, ℕ, ◌<◌, List, length}
+use Rattle.std.specs.Prelude.{◌⊎◌, ℕ, ◌<◌, List, length}
 use Rattle.cml_scan.specs.World.{PlainWorld}
 use Rattle.cml_trace.specs.declared.fault.TraceEnd.{TraceEnd}
 use Rattle.cml_trace.specs.declared.fault.TraceFault.{TraceFault}

@@ -39,8 +39,7 @@ pub fn run_trace<R: Read, W: Write>(
     reader: &mut Counting<'_, R>,
     writer: &mut Counting<'_, W>,
 ) -> Result<TraceEnd, TraceFault>
-    requires reads { (reader.old.calls ≡ 0) × (reader.old.failed ≡ 0) }
-    requires writes { (writer.old.calls ≡ 0) × (writer.old.failed ≡ 0) }
+    requires uncalled { (reader.old.calls ≡ 0) × (reader.old.failed ≡ 0) × (writer.old.calls ≡ 0) × (writer.old.failed ≡ 0) }
     ensures ok { let input = stream (R.remaining reader.old.stream.now) (R.remaining reader.new.stream.now) in
         let output = stream (W.contents writer.old.stream.now) (W.contents writer.new.stream.now) in
         IfOk result (IsAnswered input output) }
@@ -51,8 +50,7 @@ pub fn run_trace<R: Read, W: Write>(
         let writes : Calls = record { calls = writer.new.calls; failed = writer.new.failed } in
         HasCause result reads writes }
     ensures reads { reader.new.calls ≤ most_reads max_input }
-    ensures same_reader { reader.new.stream.ghost_name ≡ reader.old.stream.ghost_name }
-    ensures same_writer { writer.new.stream.ghost_name ≡ writer.old.stream.ghost_name }
+    ensures same { (reader.new.stream.ghost_name ≡ reader.old.stream.ghost_name) × (writer.new.stream.ghost_name ≡ writer.old.stream.ghost_name) }
 {
     run_trace_over(alloc, OfferIndex::new(alloc), reader, writer)
 }
@@ -68,8 +66,7 @@ pub fn run_trace_over<T: Table + Drop, R: Read, W: Write>(
     writer: &mut Counting<'_, W>,
 ) -> Result<TraceEnd, TraceFault>
     requires nothing_told { T.entries table ≡ [] }
-    requires reads { (reader.old.calls ≡ 0) × (reader.old.failed ≡ 0) }
-    requires writes { (writer.old.calls ≡ 0) × (writer.old.failed ≡ 0) }
+    requires uncalled { (reader.old.calls ≡ 0) × (reader.old.failed ≡ 0) × (writer.old.calls ≡ 0) × (writer.old.failed ≡ 0) }
     ensures ok { let input = stream (R.remaining reader.old.stream.now) (R.remaining reader.new.stream.now) in
         let output = stream (W.contents writer.old.stream.now) (W.contents writer.new.stream.now) in
         IfOk result (IsAnswered input output) }
@@ -80,8 +77,7 @@ pub fn run_trace_over<T: Table + Drop, R: Read, W: Write>(
         let writes : Calls = record { calls = writer.new.calls; failed = writer.new.failed } in
         HasCause result reads writes }
     ensures reads { reader.new.calls ≤ most_reads max_input }
-    ensures same_reader { reader.new.stream.ghost_name ≡ reader.old.stream.ghost_name }
-    ensures same_writer { writer.new.stream.ghost_name ≡ writer.old.stream.ghost_name }
+    ensures same { (reader.new.stream.ghost_name ≡ reader.old.stream.ghost_name) × (writer.new.stream.ghost_name ≡ writer.old.stream.ghost_name) }
 {
     let input = read_all(alloc, reader, MAX_INPUT)?;
     if input.len() > MAX_INPUT {
