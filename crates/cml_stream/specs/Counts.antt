@@ -1,5 +1,5 @@
 -- How often a stream is called, and how often that fails.
-use Rattle.std.specs.Prelude.{◌≡◌, ℕ, ◌+◌, ◌*◌, ◌-◌, ◌^◌, min, Result, Ok, Err}
+use Rattle.std.specs.Prelude.{◌≡◌, ℕ, ◌+◌, ◌*◌, ◌-◌, ◌^◌, min, Result, Err}
 use Rattle.cml_stream.specs.declared.input_output.ReadFault.{ReadFault}
 use Rattle.cml_stream.specs.declared.input_output.ReadFault.TheVariants as read
 
