@@ -30,6 +30,9 @@ run_slice-requires-clause-awaits c =
     let keeps : HasMachine k c.args.thread.0 c.index.result.now = machine_keeps k c.args.thread.0 c.index.result.now c.self.invariant (rw (← c.self.view_is) at c.requires) c.index.ensures in
     (machine_goes k c.args.thread.0 c.index.result.now c.self.invariant keeps).1
 
+pub prepare-requires-clause-ready : goal.prepare-requires-clause-ready
+prepare-requires-clause-ready c = record { fits = c.in_ok-slice.ensures.fits; awaits = c.in_ok-slice.ensures.awaits; agrees = c.in_ok-slice.ensures.agrees }
+
 pub settle-requires-clause-there : goal.settle-requires-clause-there
 settle-requires-clause-there c =
     let s = c.self.inside in
