@@ -1,10 +1,10 @@
-"""The cases of the tests of the whole program, read from the tables in `crates/cml_tests/src`: traces, and words over files."""
+"""The cases of the tests of the whole program, read from the tables in `crates/cml_program_tests/src`: traces, and words over files."""
 import ast
 import collections
 import pathlib
 import re
 
-TESTS = pathlib.Path(__file__).resolve().parent.parent.parent / "crates" / "cml_tests" / "src"
+TESTS = pathlib.Path(__file__).resolve().parent.parent.parent / "crates" / "cml_program_tests" / "src"
 TOKEN = re.compile(r'\s+|//[^\n]*|("(?:[^"\\]|\\.)*"|[A-Za-z_]\w*(?:::\w+)*|[\d_]+|\S)', re.S)
 
 Case = collections.namedtuple("Case", "name words files input output errors status saved")

@@ -1,7 +1,7 @@
 use Rattle.std.proofs.Common.{◌≤◌, ◌<◌, arith}
 use Rattle.cml_text.specs.Forms.{nesting, nesting_of, plain_forms}
-use Rattle.cml_call_tests.proofs.FormLemmas.{member_below}
-use Rattle.cml_call_tests.proofs.making.Made.+take.Goals as goal
+use Rattle.cml_library_tests.proofs.FormLemmas.{member_below}
+use Rattle.cml_library_tests.proofs.making.Made.+take.Goals as goal
 
 -- a part nests less deep than the list in which it stands
 pub take-requires : goal.take-requires

@@ -1,4 +1,4 @@
-use Rattle.cml_call_tests.proofs.values.+tree.Given as goal
+use Rattle.cml_library_tests.proofs.values.+tree.Given as goal
 
 -- one level less at each call
 abbrev pub decreases-tree : goal.decreases-tree

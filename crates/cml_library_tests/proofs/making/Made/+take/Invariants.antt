@@ -1,5 +1,5 @@
 use Rattle.cml_text.specs.Forms.{nesting}
-use Rattle.cml_call_tests.proofs.making.Made.+take.Given as goal
+use Rattle.cml_library_tests.proofs.making.Made.+take.Given as goal
 
 -- a part nests less deep than the list in which it stands
 abbrev pub decreases-take : goal.decreases-take

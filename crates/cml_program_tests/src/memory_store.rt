@@ -3,7 +3,7 @@
 ghost use Rattle.std.specs.Prelude.{◌≡◌, ◌+◌, ℕ, List, take, IfOk, IfSome, IfNone};
 ghost use Rattle.std.specs.String.{string_bytes};
 ghost use Rattle.cml_host.specs.Stores.{nothing, bytes};
-ghost use Rattle.cml_tests.specs.Files.{content_under};
+ghost use Rattle.cml_program_tests.specs.Files.{content_under};
 
 use cml_host::{Store, StoreFault};
 use std::alloc::{AllocError, Global};
