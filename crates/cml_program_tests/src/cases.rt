@@ -1,9 +1,9 @@
-//! Worked cases: each line of a trace beside what answers it.
+//! Worked cases: each line of a trace beside what answers it. One long table would cost the prover the square of its length.
 
 use crate::run::{Case, Long, Part, all_hold, each_holds};
 use std::test::Fail;
 
-const CASES: &[Case] = &[
+const MEETINGS: &[Case] = &[
     Case {
         name: "bad-line",
         shows: "A line that is no command ends the trace, and its number is told.",
@@ -166,6 +166,9 @@ const CASES: &[Case] = &[
         ],
         status: 0,
     },
+];
+
+const VALUES: &[Case] = &[
     Case {
         name: "values-of-every-kind",
         shows: "Each kind of value is handed over as it is.",
@@ -284,6 +287,9 @@ const CASES: &[Case] = &[
         ],
         status: 0,
     },
+];
+
+const OBJECTS: &[Case] = &[
     Case {
         name: "ivar-put-twice",
         shows: "An I-variable is filled once.",
@@ -401,6 +407,9 @@ const CASES: &[Case] = &[
         ],
         status: 0,
     },
+];
+
+const SWAPS: &[Case] = &[
     Case {
         name: "swap-rows",
         shows: "Each two swaps of two threads on one swap channel make a row, which the lower thread begins.",
@@ -500,6 +509,9 @@ const CASES: &[Case] = &[
         lines: &[("swapchan 0", "bad 1")],
         status: 2,
     },
+];
+
+const TIMES_AND_SHAPES: &[Case] = &[
     Case {
         name: "timeouts-and-clock",
         shows: "An after counts from when its wait began; the clock never goes back.",
@@ -587,8 +599,28 @@ const UNENDED: &[Long] = &[Long {
 }];
 
 #[test]
-fn cases(rt: HostRuntime) -> Result<(), Fail> {
-    all_hold(&rt, rt.alloc(), CASES)
+fn meetings(rt: HostRuntime) -> Result<(), Fail> {
+    all_hold(&rt, rt.alloc(), MEETINGS)
+}
+
+#[test]
+fn values(rt: HostRuntime) -> Result<(), Fail> {
+    all_hold(&rt, rt.alloc(), VALUES)
+}
+
+#[test]
+fn objects(rt: HostRuntime) -> Result<(), Fail> {
+    all_hold(&rt, rt.alloc(), OBJECTS)
+}
+
+#[test]
+fn swaps(rt: HostRuntime) -> Result<(), Fail> {
+    all_hold(&rt, rt.alloc(), SWAPS)
+}
+
+#[test]
+fn times_and_shapes(rt: HostRuntime) -> Result<(), Fail> {
+    all_hold(&rt, rt.alloc(), TIMES_AND_SHAPES)
 }
 
 #[test]

@@ -3,7 +3,7 @@
 use crate::run::{Case, all_hold};
 use std::test::Fail;
 
-const EXAMPLES: &[Case] = &[
+const EXCHANGES: &[Case] = &[
     Case {
         name: "cancelled-branch",
         shows: "A nack tells a thread that its branch was not chosen.",
@@ -125,6 +125,9 @@ const EXAMPLES: &[Case] = &[
         ],
         status: 0,
     },
+];
+
+const OBJECTS: &[Case] = &[
     Case {
         name: "join",
         shows: "A thread waits for the end of another.",
@@ -216,6 +219,9 @@ const EXAMPLES: &[Case] = &[
         ],
         status: 0,
     },
+];
+
+const SWAPS_AND_TIMES: &[Case] = &[
     Case {
         name: "swap",
         shows: "Two threads exchange values.",
@@ -306,6 +312,16 @@ const EXAMPLES: &[Case] = &[
 ];
 
 #[test]
-fn examples(rt: HostRuntime) -> Result<(), Fail> {
-    all_hold(&rt, rt.alloc(), EXAMPLES)
+fn exchanges(rt: HostRuntime) -> Result<(), Fail> {
+    all_hold(&rt, rt.alloc(), EXCHANGES)
+}
+
+#[test]
+fn objects(rt: HostRuntime) -> Result<(), Fail> {
+    all_hold(&rt, rt.alloc(), OBJECTS)
+}
+
+#[test]
+fn swaps_and_times(rt: HostRuntime) -> Result<(), Fail> {
+    all_hold(&rt, rt.alloc(), SWAPS_AND_TIMES)
 }
