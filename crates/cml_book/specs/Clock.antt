@@ -8,8 +8,8 @@ use Rattle.cml_book.specs.declared.refusal.Refusal.TheVariants as refusal
 use Rattle.cml_book.specs.Entering.{max_tick}
 use Rattle.cml_book.specs.Outcomes.{Outcome, refuse_if}
 
--- The clock moves to this tick, which must be neither before now nor above the greatest. This time is the project's own: it moves by this
--- command alone.
+-- The clock moves to this tick, which must be neither before now nor above the greatest. This time is the project's own: no other
+-- command moves it. A run moves it in the same way, to the next tick for which a thread waits.
 abbrev pub clock : PlainWorld → ℕ → Outcome (Unit {0})
 clock w to = refuse_if (nat_lt to w.tick) refusal.Clock
     (refuse_if (nat_lt max_tick to) refusal.Far

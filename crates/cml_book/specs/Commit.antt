@@ -52,7 +52,7 @@ rest_of (Some (v ∷ vs)) = vs
 rest_of _ = []
 
 -- The value of a base event that is taken alone: that of an alwaysEvt, that in a variable, the first item of a mailbox or a port,
--- and unit for a join, a time and a nack.
+-- and unit for a join, a time and a nack. Base events that are never taken alone have unit too.
 abbrev pub given : PlainWorld → PlainBase → PlainValue
 given w (always v) = v
 given w (iget i) = variable_value (slice_get w.ivars i)
@@ -125,7 +125,7 @@ abbrev pub after : PlainWorld → Meet → PlainWorld
 after w (Single t n) = released (taken w (base_awaited w t.0 n)) t.0 n
 after w (Pair h i o j) = released (released w h.0 i) o.0 j
 
--- The row is taken, if it is enabled now.
+-- The row is taken, if it is one of the scan; else it is refused.
 abbrev pub commit : PlainWorld → Meet → Outcome Committed
 commit w row = refuse_if (not (has_row (scan w) row)) Row
     (Ok (after w row, hands w row))

@@ -3,7 +3,7 @@ use Rattle.std.specs.Prelude.{ℕ, List}
 use Rattle.cml_value.specs.Value.{PlainValue, PlainFunction}
 
 -- the thread, the value of its event, the functions that the value then goes through, innermost first, and the nacks that fired
--- since their branches lack the leaf that was chosen
+-- because their branches lack the leaf that was chosen
 pub record PlainResume : Type 0 where
   pub thread : ℕ
   pub value : PlainValue

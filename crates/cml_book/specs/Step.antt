@@ -49,7 +49,8 @@ step w (command.Commit row) = answered reply.Committed w (commit w row)
 step w (command.End t) = answered (λ _. reply.Done) w (end w t.0)
 step w (command.Clock k) = answered (λ _. reply.Done) w (clock w k)
 
--- The call does the command, and returns its reply; or it runs out of memory, nothing changes, and the command comes back.
+-- The call does the command, and returns its reply; or it runs out of memory, nothing changes, and the command comes back. That may come
+-- also where the command would be refused.
 abbrev pub DoesStep : Result Reply (Returned Command) → Command → PlainWorld → PlainWorld → Type 0
 DoesStep result asked old new = DoesWith result asked (Ok (step old asked)) old new
 

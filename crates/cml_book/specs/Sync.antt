@@ -16,7 +16,7 @@ abbrev pub with_each : {X : Type 0} → List ℕ → X → List X → List X
 with_each [] so xs = xs
 with_each (k ∷ ks) so xs = with_each ks so (slice_set xs k so)
 
--- the thread or object that the base names exists
+-- the thread, object or nack that the base event names exists; what its value names is not looked at
 abbrev pub base_exists : PlainWorld → PlainBase → Bool
 base_exists w (always v) = true
 base_exists w (send c v) = nat_lt c w.channels
@@ -33,7 +33,7 @@ base_exists w (at_tick t) = true
 base_exists w (after_ticks d) = true
 base_exists w (nack k) = nat_lt k (length w.nacks)
 
--- all that the bases and the scopes of a group name exists
+-- all that the base events and the scopes of a group name exists
 abbrev pub group_exists : PlainWorld → PlainGroup → Bool
 group_exists w g = list_all (base_exists w) (bases g) && list_all (λ k. nat_lt k (length w.nacks)) (nacks_of (scopes g))
 
@@ -60,10 +60,11 @@ sync_refusal w t g =
     (first_if (list_any (is_far w.tick) (bases g)) refusal.Far
     (first_if (not (can_enter w t (nacks_of (scopes g)))) refusal.Nack None)))))
 
--- The thread waits on the group (Reppy's sync), whose afters count from now on. Its scopes' nacks are live.
+-- the thread waits on a group that has entered, and the nacks of its scopes are live
 abbrev pub waiting : PlainWorld → ℕ → PlainGroup → PlainWorld
 waiting w t g = record w { threads = slice_set w.threads t (pending_on g); nacks = with_each (nacks_of (scopes g)) live w.nacks }
 
+-- The thread waits on the group (Reppy's sync), in which each `after` counts from now; or that is refused.
 abbrev pub sync : PlainWorld → ℕ → PlainGroup → Outcome (Unit {0})
 sync w t g = refuse_by (sync_refusal w t g)
     (Ok (waiting w t (entered w.tick g), tt))

@@ -16,7 +16,7 @@ pub struct Resume {
     pub value: Value,
     /// The functions that the value then goes through, innermost first.
     pub wraps: Vec<FnRef>,
-    /// The nacks that fired since their branches lack the chosen leaf, from the left, an outer one before those in it.
+    /// The nacks that fired because their branches lack the chosen leaf, from the left, an outer one before those in it.
     pub fired: Vec<NackId>,
 }
 

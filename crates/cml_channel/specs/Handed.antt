@@ -1,7 +1,8 @@
 -- What a side hands to the one that it meets.
 use Rattle.cml_value.specs.Value.{PlainValue, unit, PlainBase, always, send, recv, swap, iget, mtake, mget, mswap, mail_recv, port_recv, join, at_tick, after_ticks, nack}
 
--- A send and a swap hand over their value, a receive unit (Reppy's sendEvt and recvEvt). What is no side meets nobody.
+-- A send and a swap hand over their value, a receive unit (Reppy's sendEvt and recvEvt). Any other base event meets nobody; its unit is
+-- never handed over.
 abbrev pub handed : PlainBase → PlainValue
 handed (send c v) = v
 handed (recv c) = unit

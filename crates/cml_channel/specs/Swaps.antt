@@ -1,5 +1,5 @@
--- The sides of a swap channel: a rule of this project's own, of which Concurrent ML has none. Any two swaps on one swap channel
--- communicate, and each is given the other's value.
+-- The sides of a swap channel: as a base event a rule of this project's own. Any two swaps on one swap channel communicate, and each is
+-- given the other's value.
 use Rattle.std.specs.Prelude.{ℕ, ◌==◌, Bool, true, Option, Some, None}
 use Rattle.cml_value.specs.Value.{PlainValue, PlainBase, swap}
 use Rattle.cml_channel.specs.declared.swap.SwapSide.{SwapSide}

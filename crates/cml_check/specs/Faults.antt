@@ -29,7 +29,8 @@ check_kind_name Arity = codes "arity"
 check_kind_name Main = codes "main"
 check_kind_name Limit = codes "limit"
 
--- the line that reports a fault: its kind's number and name, and its place
+-- The line that reports a fault: its kind's number and name, and its place. Where memory ran out this is the text of the error; the program
+-- says `memory`.
 abbrev pub check_fault_line : CheckFault → List ℕ
 check_fault_line (At kind at) = codes "check " ++ (decimal (check_kind_number kind) ++ (codes " " ++ (check_kind_name kind ++ (codes " at " ++ decimal at))))
 check_fault_line Memory = codes "out of memory"

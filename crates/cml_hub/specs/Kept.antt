@@ -105,7 +105,7 @@ pub record Extends (old new : Kept) : Type 0 where
   pub no_turn : All IsNoTurn continues.more
 
 -- What is handed out. A job is the machine of a running thread; no slice of the thread was out, and now one is. The hub says to wait only
--- where no row can be taken, some thread runs, and a slice of every thread that runs is out.
+-- where no row can be taken, some thread runs, and a slice of every thread that runs is out. When it says that it has ended, `is_ended` says.
 abbrev pub HandsOut : Kept → Next → Kept → Type 0
 HandsOut old (next.Job m) new =
     HasMachine new.course m.thread m × GoesOn new.course.program m

@@ -1,5 +1,5 @@
 -- Queues of values: Reppy's mailboxes, and the ports of his multicast channels. A recvEvt is enabled where there is an item, and
--- takes the first. That a queue holds this many items at most is a rule of our own.
+-- takes the first. That a queue holds at most 65,536 items is a rule of our own.
 use Rattle.std.specs.Prelude.{ℕ, ◌∷◌, ◌++◌, [], List, length, nat_lt, not, if◌then◌else◌, Bool, true, false, Result, Ok, Err, slice_get, slice_set}
 use Rattle.std.specs.Option.{option_map_or}
 use Rattle.cml_value.specs.Value.{PlainValue, unit}
@@ -9,10 +9,12 @@ use Rattle.cml_base.specs.Feeds.{PlainRefusal, full}
 abbrev pub max_items : ℕ
 max_items = 65536
 
+-- a queue has an item
 abbrev pub is_filled : List PlainValue → Bool
 is_filled [] = false
 is_filled (v ∷ vs) = true
 
+-- a queue takes no more items
 abbrev pub is_at_limit : List PlainValue → Bool
 is_at_limit items = not (nat_lt (length items) max_items)
 

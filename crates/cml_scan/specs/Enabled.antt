@@ -1,4 +1,5 @@
--- Which communications Concurrent ML allows, said of one row at a time, by what the threads wait on.
+-- Which communications are possible, said of one row at a time, by what the threads wait on: those of Concurrent ML, and the swap, which
+-- is a base event of this project's own.
 use Rattle.std.specs.Prelude.{ℕ, ◌≡◌, ◌≢◌, ◌<◌, ◌⊎◌, true, Option, Some, None, slice_get}
 use Rattle.cml_value.specs.Value.{PlainValue, PlainBase, send, recv, swap}
 use Rattle.cml_value.specs.Group.{bases}

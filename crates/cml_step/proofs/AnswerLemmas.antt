@@ -4,7 +4,7 @@ use Rattle.std.proofs.lemmas.List.{reverse-reverse}
 use Rattle.std.proofs.lemmas.Bool.{and_parts, and_from}
 use mathlib.Core.List.{reverse_aux}
 use Rattle.cml_value.specs.Value.{PlainValue, PlainFunction, PlainEvent, guard, scope}
-use Rattle.cml_group.specs.Force.{PlainNeed as PlainPlace, calls, needs_nack, unforced, replaced, given_nack, AwaitsNack}
+use Rattle.cml_group.specs.Force.{PlainNeed, calls, needs_nack, unforced, replaced, given_nack, AwaitsNack}
 use Rattle.cml_check.specs.Syntax.{PlainItem, no_stmts}
 use Rattle.cml_check.specs.Names.{AreDistinct}
 use Rattle.cml_check.specs.InOrder.{InOrder, arities}
@@ -34,12 +34,12 @@ IsCall e = (c : Call) × (e ≡ entry.Call c)
 abbrev pub IsForce : Entry → Type 0
 IsForce e = (g : PlainEvent) × (asked : Bool) × (e ≡ entry.Force g asked)
 
-by_no_value : (o : Option PlainPlace) → awaited_by o ≡ await.value → ⊥
+by_no_value : (o : Option PlainNeed) → awaited_by o ≡ await.value → ⊥
 by_no_value (Some (calls f)) h = cc
 by_no_value (Some (needs_nack f)) h = cc
 by_no_value None h = cc
 
-by_nack : (o : Option PlainPlace) → awaited_by o ≡ await.nack → (f : PlainFunction) × (o ≡ Some (needs_nack f))
+by_nack : (o : Option PlainNeed) → awaited_by o ≡ await.nack → (f : PlainFunction) × (o ≡ Some (needs_nack f))
 by_nack (Some (calls f)) h = absurd (cc)
 by_nack (Some (needs_nack f)) h = (f, refl)
 by_nack None h = absurd (cc)
@@ -160,7 +160,7 @@ nack_fits p es g new asked k f c u n a i h =
     (i (nack_agrees (arities p) g f k r.1 u))
 
 -- an answered thread waits for nothing
-nack_runs : (p : Program) (k : ℕ) (o : Option PlainPlace) (e : PlainEvent) (below : Term) → unforced e ≡ o → awaited_by o ≡ await.nack → top_await (with_nack_number p k o e below) ≡ await.nothing
+nack_runs : (p : Program) (k : ℕ) (o : Option PlainNeed) (e : PlainEvent) (below : Term) → unforced e ≡ o → awaited_by o ≡ await.nack → top_await (with_nack_number p k o e below) ≡ await.nothing
 nack_runs p k (Some (calls f)) e below u h = absurd (cc)
 nack_runs p k (Some (needs_nack f)) e below u h = begun_runs p (given_nack k f) (force (replaced (scope k (guard (given_nack k f))) e) false ∷ below)
 nack_runs p k None e below u h = absurd (cc)

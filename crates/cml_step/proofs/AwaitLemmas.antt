@@ -2,7 +2,7 @@
 use Rattle.std.proofs.Common.{◌≡◌, ℕ, zero, suc, ◌+◌, Bool, true, false, if◌then◌else◌, List, [], ◌∷◌, refl, ap, Option, Some, None, Ok, Err, slice_get}
 use Rattle.cml_value.specs.Value.{PlainValue, unit, thread, PlainFunction, function, PlainEvent, values}
 use Rattle.cml_value.specs.Limits.{event_fits}
-use Rattle.cml_group.specs.Force.{PlainNeed as PlainPlace, calls, needs_nack, unforced, replaced}
+use Rattle.cml_group.specs.Force.{PlainNeed, calls, needs_nack, unforced, replaced}
 use Rattle.cml_check.specs.declared.syntax.Act.{Act}
 use Rattle.cml_check.specs.declared.syntax.Act.TheVariants as act_of
 use Rattle.cml_check.specs.declared.syntax.ActOnOne.{ActOnOne}
@@ -109,7 +109,7 @@ if_asked : (b : Bool) (t : Term) → top_await t ≡ await.nack → Waits (if b 
 if_asked true t h = h
 if_asked false t h = refl
 
-force_waits : (p : Program) (o : Option PlainPlace) (e : PlainEvent) (t : Term) → unforced e ≡ o → Waits (force_step p o e t)
+force_waits : (p : Program) (o : Option PlainNeed) (e : PlainEvent) (t : Term) → unforced e ≡ o → Waits (force_step p o e t)
 force_waits p (Some (calls f)) e t h = pushed_waits (call_of p f) (force e false ∷ t) (begun_runs p f (force e false ∷ t))
 force_waits p (Some (needs_nack f)) e t h = if_asked (is_below_limit (force e false ∷ t)) (force e true ∷ t) (ap awaited_by h)
 force_waits p None e t h = ap awaited_by h

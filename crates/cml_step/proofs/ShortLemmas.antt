@@ -3,7 +3,7 @@ use Rattle.std.proofs.Common.{◌≡◌, ℕ, zero, suc, ◌+◌, ◌≤◌, ◌
 use Rattle.std.proofs.lemmas.Bool.Decides.{nat_tests}
 use Rattle.cml_value.specs.Value.{PlainValue, unit, thread, PlainFunction, function, PlainEvent, values}
 use Rattle.cml_value.specs.Limits.{event_fits}
-use Rattle.cml_group.specs.Force.{PlainNeed as PlainPlace, calls, needs_nack, unforced, replaced}
+use Rattle.cml_group.specs.Force.{PlainNeed, calls, needs_nack, unforced, replaced}
 use Rattle.cml_check.specs.declared.syntax.Act.{Act}
 use Rattle.cml_check.specs.declared.syntax.Act.TheVariants as act_of
 use Rattle.cml_check.specs.declared.syntax.ActOnOne.{ActOnOne}
@@ -129,7 +129,7 @@ if_asked : (b : Bool) (e : PlainEvent) (t : Term) → is_below_limit (force e fa
 if_asked true e t h = omega (arith, less (length (force e false ∷ t)) max_entries h)
 if_asked false e t h = failed Stack
 
-force_short : (p : Program) (o : Option PlainPlace) (e : PlainEvent) (t : Term) → length t < max_entries → IsShortStep (force_step p o e t)
+force_short : (p : Program) (o : Option PlainNeed) (e : PlainEvent) (t : Term) → length t < max_entries → IsShortStep (force_step p o e t)
 force_short p (Some (calls f)) e t h = pushed_short (call_of p f) (force e false ∷ t)
 force_short p (Some (needs_nack f)) e t h = if_asked (is_below_limit (force e false ∷ t)) e t refl
 force_short p None e t h = omega (arith, h)
@@ -169,7 +169,7 @@ pub few_short : (t : Term) → top_await t ≡ await.nothing → length t ≤ ma
 few_short t w h = subst (λ a. length t + entries_to_come a ≤ max_entries) (sym w) (omega (arith, h))
 
 -- an answered thread
-nack_few : (p : Program) (k : ℕ) (o : Option PlainPlace) (e : PlainEvent) (t : Term) → awaited_by o ≡ await.nack → length t + 1 < max_entries → length (with_nack_number p k o e t) ≤ max_entries
+nack_few : (p : Program) (k : ℕ) (o : Option PlainNeed) (e : PlainEvent) (t : Term) → awaited_by o ≡ await.nack → length t + 1 < max_entries → length (with_nack_number p k o e t) ≤ max_entries
 nack_few p k (Some (calls f)) e t h l = absurd (cc)
 nack_few p k (Some (needs_nack f)) e t h l = omega (arith, l)
 nack_few p k None e t h l = absurd (cc)

@@ -1,7 +1,7 @@
 -- What becomes of a thread that is answered. To answer it is no step.
 use Rattle.std.specs.Prelude.{ℕ, ◌+◌, ◌≤◌, true, false, ◌∷◌, length, Option, Some, None}
 use Rattle.cml_value.specs.Value.{guard, scope, PlainEvent}
-use Rattle.cml_group.specs.Force.{PlainNeed as PlainPlace, calls, needs_nack, unforced, replaced, given_nack}
+use Rattle.cml_group.specs.Force.{PlainNeed, calls, needs_nack, unforced, replaced, given_nack}
 use Rattle.cml_step.specs.Terms.{Program, runs, drops, gives, call, force, wraps, Term, max_entries, call_of}
 use Rattle.cml_step.specs.Asks as ask
 use Rattle.cml_step.specs.Asks.{PlainAsk, PlainAnswer, a_value, a_nack, a_commit}
@@ -15,7 +15,7 @@ pub data PlainAwait : Type 0 where
   commit : PlainAwait
 
 -- an event that has asked waits for a nack while a withNack is next, and for its commit once all is forced
-abbrev pub awaited_by : Option PlainPlace → PlainAwait
+abbrev pub awaited_by : Option PlainNeed → PlainAwait
 awaited_by (Some (calls f)) = nothing
 awaited_by (Some (needs_nack f)) = nack
 awaited_by None = commit
@@ -51,7 +51,7 @@ answer_for (a_commit v fs) = commit
 
 -- a withNack's function is called with the nack's event as its last argument, under a scope of the nack's number, in which the event
 -- that it returns takes its place (Reppy's withNack)
-abbrev pub with_nack_number : Program → ℕ → Option PlainPlace → PlainEvent → Term → Term
+abbrev pub with_nack_number : Program → ℕ → Option PlainNeed → PlainEvent → Term → Term
 with_nack_number p k (Some (needs_nack f)) e below =
     call_of p (given_nack k f) ∷ force (replaced (scope k (guard (given_nack k f))) e) false ∷ below
 with_nack_number p k place e below = force e true ∷ below

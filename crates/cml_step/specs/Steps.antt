@@ -2,7 +2,7 @@
 use Rattle.std.specs.Prelude.{ℕ, Bool, true, false, nat_lt, if◌then◌else◌, List, [], ◌∷◌, length, Option, Some, None, Ok, Err}
 use Rattle.cml_value.specs.Value.{PlainValue, unit, thread, PlainFunction, function, PlainEvent, values}
 use Rattle.cml_value.specs.Limits.{event_fits}
-use Rattle.cml_group.specs.Force.{PlainNeed as PlainPlace, calls, needs_nack, unforced, replaced}
+use Rattle.cml_group.specs.Force.{PlainNeed, calls, needs_nack, unforced, replaced}
 use Rattle.cml_check.specs.declared.syntax.Act.{Act}
 use Rattle.cml_check.specs.declared.syntax.Act.TheVariants as act_of
 use Rattle.cml_check.specs.declared.syntax.ActOnOne.{ActOnOne}
@@ -158,7 +158,7 @@ call_step p self (stmts_and s left) variables below = statement_step p self s le
 
 -- The leftmost outermost of the guards and withNacks is next: a guard's function is called, a withNack's needs a fresh nack. With
 -- neither left the event is ready to be synchronized on.
-abbrev pub force_step : Program → Option PlainPlace → PlainEvent → Term → PlainStep
+abbrev pub force_step : Program → Option PlainNeed → PlainEvent → Term → PlainStep
 force_step p (Some (calls f)) e below = pushed (call_of p f) (force e false ∷ below)
 force_step p (Some (needs_nack f)) e below = if is_below_limit (force e false ∷ below) then asks ask.fresh_nack (force e true ∷ below) else fails Stack
 force_step p None e below = asks (ask.sync (group_of e)) (force e true ∷ below)

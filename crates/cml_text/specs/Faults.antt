@@ -31,7 +31,8 @@ kind_name Deep = codes "deep"
 kind_name Long = codes "long"
 kind_name Utf8 = codes "utf8"
 
--- the line that reports a fault: its kind's number and name, and its place
+-- The line that reports a fault: its kind's number and name, and its place. Where memory ran out this is the text of the error; the program
+-- says `memory`.
 abbrev pub fault_line : TextFault → List ℕ
 fault_line (At kind at) = codes "text " ++ (decimal (kind_number kind) ++ (codes " " ++ (kind_name kind ++ (codes " at " ++ decimal at))))
 fault_line Memory = codes "out of memory"

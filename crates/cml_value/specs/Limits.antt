@@ -58,7 +58,7 @@ event_depth x = event_size max x
 abbrev pub events_depth : PlainEvents → ℕ
 events_depth x = events_size max x
 
--- the number of nodes: one for each value, base event and form of event in it
+-- the number of nodes: one for each part that the size counts
 abbrev pub value_nodes : PlainValue → ℕ
 value_nodes x = value_size (λ a b. a + b) x
 
