@@ -1,7 +1,7 @@
 -- The base events and the scopes of a group, by its parts.
-use Rattle.std.proofs.Common.{◌≡◌, ℕ, ◌+◌, suc, ◌<◌, get_or, drop, drop-cons, add-one, sym, ◌&&◌, ◌||◌, Bool, true, false, not, List, [], ◌∷◌, ◌++◌, length, map, refl, ap, ◌∙◌, length-append}
+use Rattle.std.proofs.Common.{◌≡◌, ℕ, ◌+◌, suc, ◌<◌, get_or, drop, drop-cons, add-one, sym, ◌&&◌, ◌||◌, Bool, true, false, not, List, [], ◌∷◌, ◌++◌, length, map, refl, ap, ◌∙◌}
 use Rattle.std.specs.List.{list_all, list_any}
-use Rattle.std.proofs.lemmas.List.{length-map, map-append}
+use Rattle.std.proofs.lemmas.List.{map-append}
 use Rattle.std.proofs.lemmas.List.Folds.{list_all-append}
 use Rattle.cml_value.specs.Value.{PlainBase, PlainFunction}
 use Rattle.cml_value.specs.Group.{PlainGroup, never, leaf, choose, wrap, scope, PlainGroups, no_groups, groups_and, groups, PlainLeaf, wrapped_by, leaves, leaves_of_all, leaf_count, bases, PlainScope, scopes, scopes_from, scopes_from_all, nacks_of}
@@ -75,14 +75,6 @@ nacks_go_on p gs i g h is passes =
     both ∙ list_all-append p (nacks_of (scopes g)) (nacks_of_all rest) ∙ ap (λ (b : Bool). b && list_all p (nacks_of_all rest)) passes
 
 pub ruleset nack_steps = (nacks-groups_and, list_all-append)
-
-pub leaf_count-wrap : (g : PlainGroup) (f : PlainFunction) → length (map (wrapped_by f) (leaves g)) ≡ length (leaves g)
-leaf_count-wrap g f = length-map (leaves g) (wrapped_by f)
-
-pub leaf_count-append : (g : PlainGroup) (gs : PlainGroups) → length (leaves g ++ leaves_of_all gs) ≡ length (leaves g) + length (leaves_of_all gs)
-leaf_count-append g gs = length-append (leaves g) (leaves_of_all gs)
-
-pub ruleset leaf_steps = (leaf_count-wrap, leaf_count-append)
 
 not_any : {X : Type 0} (p : X → Bool) (xs : List X) → list_any p xs ≡ not (list_all (λ x. not (p x)) xs)
 not_any p [] = refl

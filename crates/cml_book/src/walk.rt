@@ -1,10 +1,9 @@
 //! Walks over a group that take no memory, and why a wait on it is refused.
 
-ghost use Rattle.std.specs.Prelude.{◌≡◌, ◌+◌, ℕ, Bool, not, nat_lt, nat_le, length, slice_get, is_some, IfSome};
+ghost use Rattle.std.specs.Prelude.{◌≡◌, ℕ, Bool, not, nat_lt, length, slice_get};
 ghost use Rattle.std.specs.List.{list_all};
 ghost use Rattle.cml_value.specs.Value.{PlainBase};
-ghost use Rattle.cml_value.specs.Group.{bases, scopes, nacks_of, leaf_count};
-ghost use Rattle.cml_group.specs.LaidOut.{max_leaves};
+ghost use Rattle.cml_value.specs.Group.{bases, scopes, nacks_of};
 ghost use Rattle.cml_book.specs.Entering.{is_far};
 ghost use Rattle.cml_book.specs.Sync as spec;
 ghost use Rattle.cml_book.specs.Sync.{base_exists, is_fresh_for};
@@ -13,7 +12,7 @@ ghost use Rattle.cml_book.specs.Walks.{shape_refusal};
 use crate::refusal::Refusal;
 use crate::state::State;
 use cml_base::Register;
-use cml_group::MAX_LEAVES;
+use cml_group::has_few_leaves;
 use cml_signal::NackCell;
 use cml_value::{Base, BaseKind, Group, GroupKind, NackId, Tid};
 
@@ -75,34 +74,6 @@ pub(crate) fn all_nacks<P: NackTest>(test: &P, group: &Group) -> bool
         GroupKind::Wrap(g, _) => all_nacks(test, g),
         GroupKind::Scope(k, g) => test.passes(*k) && all_nacks(test, g),
     }
-}
-
-// What is left of a budget of leaves after the group, where it is enough.
-#[tactic(auto, using(std::proofs::lemmas::Bool::Decides::nat_tests, crate::proofs::Walks::leaf_steps))]
-fn spend_leaves(group: &Group, budget: usize) -> Option<usize>
-    ensures enough { is_some result ≡ nat_le (leaf_count group.now) budget }
-    ensures left { IfSome result (λ left. left + leaf_count group.now ≡ budget) }
-{
-    match group.kind() {
-        GroupKind::Never => Some(budget),
-        GroupKind::Leaf(_) => budget.checked_sub(1),
-        GroupKind::Choose(gs) => {
-            let mut left = budget;
-            for g in gs.iter() {
-                left = spend_leaves(g, left)?;
-            }
-            Some(left)
-        }
-        GroupKind::Wrap(g, _) => spend_leaves(g, budget),
-        GroupKind::Scope(_, g) => spend_leaves(g, budget),
-    }
-}
-
-/// Whether the group has at most 256 leaves. The walk stops at the first one above.
-pub(crate) fn has_few_leaves(group: &Group) -> bool
-    ensures { result ≡ not (nat_lt max_leaves (leaf_count group.now)) }
-{
-    spend_leaves(group, MAX_LEAVES).is_some()
 }
 
 impl BaseTest for State {

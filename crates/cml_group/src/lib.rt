@@ -12,4 +12,4 @@ mod limit;
 pub use fault::{FlatFault, ForceFault};
 pub use flat::{Chosen, Flat, flatten};
 pub use force::{Forcing, Next};
-pub use limit::MAX_LEAVES;
+pub use limit::{MAX_LEAVES, has_few_leaves};

@@ -1,7 +1,8 @@
 //! How many leaves a group has.
 
-ghost use Rattle.std.specs.Prelude.{◌≡◌, ◌+◌, nat_le, is_some, IfSome};
+ghost use Rattle.std.specs.Prelude.{◌≡◌, ◌+◌, not, nat_lt, nat_le, is_some, IfSome};
 ghost use Rattle.cml_value.specs.Group.{leaf_count};
+ghost use Rattle.cml_group.specs.LaidOut.{max_leaves};
 
 use cml_value::{Group, GroupKind};
 
@@ -27,4 +28,11 @@ pub fn spend_leaves(group: &Group, budget: usize) -> Option<usize>
         GroupKind::Wrap(g, _) => spend_leaves(g, budget),
         GroupKind::Scope(_, g) => spend_leaves(g, budget),
     }
+}
+
+/// Whether the group has at most [`MAX_LEAVES`] leaves. The walk stops at the first one above, and takes no memory.
+pub fn has_few_leaves(group: &Group) -> bool
+    ensures { result ≡ not (nat_lt max_leaves (leaf_count group.now)) }
+{
+    spend_leaves(group, MAX_LEAVES).is_some()
 }

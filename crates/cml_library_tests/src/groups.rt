@@ -2,7 +2,7 @@
 
 use crate::choosing::chosen;
 use crate::making::{MEMORY, group, many};
-use cml_group::{Flat, FlatFault, flatten};
+use cml_group::{Flat, FlatFault, flatten, has_few_leaves};
 use cml_value::{Base, BaseKind, FnRef, Group, GroupKind, NackId};
 use std::process::Abort;
 
@@ -182,6 +182,7 @@ fn limits(rt: HostRuntime) {
         }
         let group = made.group(&rt);
         drop(made);
+        assert!(rt; has_few_leaves(&group) == (members <= 256));
         answers(&rt, group, expected);
     }
     let fault = FlatFault::Memory(Group::new(GroupKind::Never));
