@@ -13,7 +13,7 @@ use cml_value::Tid;
 use std::alloc::{AllocError, Global};
 use std::marker::Model;
 
-/// Whose offers in a lane are meant.
+/// Which threads' offers in a lane are looked for.
 #[derive(Clone, Copy)]
 pub enum Whom {
     /// Those of other threads than this one.
@@ -23,7 +23,7 @@ pub enum Whom {
 }
 
 impl Whom {
-    /// Whether the offers of this thread are meant.
+    /// Whether the offers of this thread are looked for.
     pub fn is(self, other: Tid) -> bool
         ensures { (leaf : ℕ) → result ≡ spec.is_of self (record { tid = other; leaf = leaf }) }
     {
@@ -119,7 +119,7 @@ impl Lane {
         self.count_under(Bound::Below(tid), tally)
     }
 
-    /// How many offers are of those that are meant.
+    /// How many offers are of the threads that `whom` names.
     pub fn others_count(&self, whom: Whom, tally: &mut Tally) -> usize
         ensures count { result ≡ length (spec.those whom self.now.places) }
         ensures cost { (digits : ℕ) → length self.now.places < 2 ^ digits →
@@ -136,7 +136,7 @@ impl Lane {
         }
     }
 
-    /// The offer at this place among those that are meant.
+    /// The offer at this place among those of the threads that `whom` names.
     pub fn other(&self, whom: Whom, j: usize, tally: &mut Tally) -> Place
         requires { j < length (spec.those whom self.now.places) }
         ensures value { result ≡ slice_index_or (spec.those whom self.now.places) j result }
@@ -159,7 +159,7 @@ impl Lane {
         }
     }
 
-    /// Whether there is an offer of those that are meant.
+    /// Whether there is an offer of a thread that `whom` names.
     pub fn has_other(&self, whom: Whom, tally: &mut Tally) -> bool
         ensures value { result ≡ list_any (spec.is_of whom) self.now.places }
         ensures cost { tally.new ≤ tally.old + 2 }

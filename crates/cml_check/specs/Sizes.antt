@@ -26,6 +26,6 @@ statements_of functions = sum_by (λ f. stmts_count f.body) functions
 abbrev pub size_of : List (PlainItem ℕ) → Size
 size_of functions = record { functions = length functions; statements = statements_of functions }
 
--- the size is one that a program may have: there is `main`, and neither limit is passed
+-- the size is one that a program may have: there is at least one function, and neither limit is passed
 abbrev pub IsWithinSize : Size → Type 0
 IsWithinSize size = (1 ≤ size.functions) × (size.functions ≤ function_limit) × (size.statements ≤ statement_limit)

@@ -83,7 +83,7 @@ source_in heads names form = form_source heads names form
 abbrev pub statement_counted : Scope → Span → Checked Scope
 statement_counted scope span = if nat_lt scope.statements statement_limit then Ok (record scope { statements = scope.statements + 1 }) else check_fault Limit span
 
--- what follows the keyword for a branch
+-- what the forms after the keyword are found to be, where it is `do`; a fault where it is another
 abbrev pub behind_do : {A : Type 0} → Span → Option Word → Checked A → Checked A
 behind_do span (Some word.Do) found = found
 behind_do span first found = check_fault Form span

@@ -1,4 +1,5 @@
--- A program, apart from how it lies in memory. V is what stands for a variable: its name in the text, its slot in the code.
+-- A program, apart from how it lies in memory. V is what stands for a variable: its name in the text; in the code its slot, which is the
+-- position of its name among the names that the function declares.
 use Rattle.std.specs.Prelude.{ℕ, ℤ, ◌+◌, max, List, [], ◌∷◌, get_or}
 use Rattle.cml_check.specs.declared.syntax.Constant.{Constant}
 use Rattle.cml_check.specs.declared.syntax.Unary.{Unary}

@@ -21,7 +21,7 @@ pub enum CheckKind {
     Function,
     /// A variable that is not declared.
     Unbound,
-    /// Too many or too few values for a function.
+    /// Too many or too few values for a function, or a function `main` with parameters.
     Arity,
     /// No function of the name `main`.
     Main,

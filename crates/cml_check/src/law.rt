@@ -2,7 +2,7 @@
 
 ghost use Rattle.cml_check.specs.Laws.{SpellingNamesWord};
 
-/// Every keyword that is reserved is the one that its spelling names.
+/// The spelling of every keyword names that keyword; `mvar` is one keyword in both its uses.
 pub fn spelling_names_word()
     ensures { SpellingNamesWord }
 {}

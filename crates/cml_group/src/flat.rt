@@ -78,7 +78,8 @@ fn nacks_in(alloc: Global, branches: &[Branch]) -> Result<Vec<NackId>, AllocErro
 /// The group laid flat: a thread offers its leaves. All that [`Flat::choose`] will hand out is reserved here.
 ///
 /// The leaves are counted exactly, up to the limit, by a walk over the tree, in which a shared part counts each time that it
-/// stands there. So a group of more than 65,536 nodes and few leaves takes as long as it has nodes; any other stops before.
+/// stands there. It stops at the first leaf above the limit. So a group with few leaves takes as long as it has nodes, also where these
+/// are more than 65,536.
 ///
 /// # Errors
 /// More than [`MAX_LEAVES`] leaves, then too much depth or too many nodes, then out of memory. Each hands the group back.

@@ -56,8 +56,8 @@ ScheduleRan p watch name content output errors status =
     ⊎ ((told : List ℕ) × IsWrong p text told × Says errors told × (status ≡ 3) × IsIdle output)))
     ⊎ (RefusedRan content name errors status × IsIdle output)
 
--- `replay`: the script that lies under its name, by the schedule that lies under its own; or there is no script, and nothing was written
--- to the output.
+-- `replay`: the script that lies under its name was run by the schedule that lies under its own, or that schedule was refused; or the
+-- script was not run (no script lies there, it was not read, or memory ran out), and nothing was written to the output.
 abbrev pub ReplayRan : ReplayOptions → (List ℕ → Content) → Counted → Counted → ℕ → Type 0
 ReplayRan options held output errors status =
     ((p : List (PlainItem ℕ)) × IsOpened (held options.script.now) p

@@ -58,9 +58,9 @@ EndRan name schedule reports budget r output errors store status =
 abbrev pub ReportsAreLive : RunOptions → Type 0
 ReportsAreLive options = (1 < options.workers) × (options.watch ≢ None)
 
--- The program was run: it came to its end, and that was told; or it was cut off on the way, and nothing was saved. Only where reports are
--- written while the program runs, it is not known at a fault whose reports stand before it; and where they are found not to be those of
--- the run, that is told.
+-- The program was run: it came to its end, and that was told; or it was cut off on the way, and nothing was saved. Where reports are
+-- written while the program runs, there are two more cases, in which nothing was saved either: it was cut off after reports that are not
+-- known to be its own; or the reports that were written are not its own, and the errors tell that.
 abbrev pub ProgramRan : List (PlainItem ℕ) → RunOptions → Counted → Counted → Shelf → ℕ → Type 0
 ProgramRan p options output errors store status =
     (items : List Item) × (reports : List PlainReport) × (r : Run) × IsRunOf p options.watch items reports r
@@ -70,7 +70,8 @@ ProgramRan p options output errors store status =
     ⊎ (ReportsAreLive options × (IsLiveCutOff r.output output errors status ⊎ IsForeign reports output errors status)
     × IsUnchanged store.before store.after))
 
--- `run`: the script that lies under the name was run; or there is none, and nothing was written to the output or saved.
+-- `run`: the script that lies under the name was run; or it was not (no script lies there, it was not read, or memory ran out), and nothing
+-- was written to the output or saved.
 abbrev pub RunRan : RunOptions → Counted → Counted → Shelf → ℕ → Type 0
 RunRan options output errors store status =
     ((p : List (PlainItem ℕ)) × IsOpened (store.before options.file.now) p × ProgramRan p options output errors store status)

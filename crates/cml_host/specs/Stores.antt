@@ -12,8 +12,8 @@ abbrev pub content_of : Option (List ℕ) → Content
 content_of (Some all) = bytes all
 content_of None = unknown
 
--- These bytes are handed over for that: the first bytes of what lies there, one more than the limit at most. Nothing is handed over
--- where nothing lies.
+-- A call may hand these bytes over for what lies there: the first bytes of it, at most one more than the limit. Where nothing lies there,
+-- no call hands bytes over. Where it is unknown what does, they may be any bytes, at most one more than the limit.
 abbrev pub IsLoaded : Content → ℕ → List ℕ → Type 0
 IsLoaded unknown limit found = length found ≤ limit + 1
 IsLoaded nothing limit found = ⊥
@@ -34,7 +34,7 @@ pub record Shelf : Type 0 where
   pub before : List ℕ → Content
   pub after : List ℕ → Content
 
--- nothing was saved
+-- nothing was saved: under each name the same is known to lie as before; where that is unknown, this says nothing of it
 abbrev pub IsUnchanged : (List ℕ → Content) → (List ℕ → Content) → Type 0
 IsUnchanged old new = (name : List ℕ) → new name ≡ old name
 

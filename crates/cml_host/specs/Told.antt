@@ -97,8 +97,8 @@ OutputBroke reports = OutputBrokeAfter (reports_text reports)
 abbrev pub MemoryBroke : List PlainReport → List ℕ → Counted → Counted → ℕ → Type 0
 MemoryBroke reports = MemoryBrokeAfter (reports_text reports)
 
--- Memory ran out, in the run or at one of its reports: those before it were told, and the output so far; or a write of that failed. Where
--- a write of the reports failed, that was the end.
+-- The run was cut off. A write of its reports failed, and the output was not called; or the first n of its reports were written, for some
+-- n, and either its output so far and the line `memory`, or a prefix of that output, since a write of it failed.
 abbrev pub IsCutOff : List PlainReport → List ℕ → Counted → Counted → ℕ → Type 0
 IsCutOff reports text output errors status =
     ReportsBroke reports output errors status

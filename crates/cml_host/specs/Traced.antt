@@ -29,8 +29,8 @@ trace_fault_line Turns = line (codes "cannot read input")
 trace_fault_line Write = line (codes "cannot write output")
 trace_fault_line Memory = line (codes "memory")
 
--- The trace on the input was answered, and no call of its streams failed; or not to its end, for a fault that has its cause in these calls,
--- and the errors tell of it.
+-- The trace on the input was answered, and no call of its streams failed; or not to its end, since a call failed, the input did not end
+-- or memory ran out, and the errors tell of it.
 abbrev pub TraceRan : Counted → Counted → Counted → ℕ → Type 0
 TraceRan input output errors status =
     ((end : TraceEnd) × IsAnswered input.bytes output.bytes end × HasCause (Ok end) input.counts output.counts

@@ -24,9 +24,10 @@ use std::thread::Threads;
 
 /// Runs the command that the arguments name, the first of which is the program's name, and returns the status of the process.
 ///
-/// It reads the input or a file of the store, and writes what the command says to the output and what went wrong to the errors. The
-/// status is 0 where all was done, 1 where the arguments, the input, a file or the output are at fault, 2 where a text is refused, 3
-/// where a schedule is refused, 4 where a script did not end within its steps, and 5 where memory ran out.
+/// It reads the input or files of the store, writes what the command says to the output, and reports and what went wrong to the errors.
+/// The status is 0 where all was done; 1 where the arguments, the input, a file or the output are at fault, a write of reports failed, or
+/// the reports that were written are not those of the run; 2 where a text is refused; 3 where a schedule is refused; 4 where a script did
+/// not end within its steps; and 5 where memory ran out or no thread could be started.
 pub fn run_command<R, I, O, E, S>(
     rt: &R,
     alloc: Global,

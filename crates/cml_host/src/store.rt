@@ -37,7 +37,7 @@ pub trait Store {
     /// Keeps the bytes under the name, in place of what lay there, and touches no other name.
     ///
     /// # Errors
-    /// A refusal, or out of memory. What the store holds then stays as it is.
+    /// A refusal, or out of memory. What is known to lie under each name then stays the same.
     fn save(&mut self, name: &str, bytes: &[u8]) -> Result<(), StoreFault>
         ensures saved { OnOk result (IsSaved (holds self.old) (holds self.new) name.now bytes.now) }
         ensures same { OnErr result (IsUnchanged (holds self.old) (holds self.new)) };

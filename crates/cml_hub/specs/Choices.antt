@@ -9,6 +9,6 @@ abbrev pub first_number : List ℕ → ℕ
 first_number [] = 0
 first_number (n ∷ ns) = n
 
--- the first state of the generator with this seed
+-- the state with which the PCG32 generator of this seed begins
 abbrev pub seeded : ℕ → Lcg
 seeded seed = pcg32_of_seed (pcg32_seed 16 seed)

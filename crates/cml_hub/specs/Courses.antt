@@ -48,7 +48,7 @@ MachinesStand p k (t ∷ ts) [] = ⊥
 MachinesStand p k (t ∷ ts) (m ∷ ms) = (m.thread ≡ k) × MachineStands p t m × MachinesStand p (suc k) ts ms
 
 -- What holds of every course: the schedule leads to where it stands; each machine can go on, or waits for its commit, as its thread does;
--- the world agrees with the program; a turn takes at most 1,000 of the budget; and each item can be written.
+-- the world agrees with the program; what was used of the budget is at most 1,000 times the number of items; and each item can be written.
 pub record Leads (c : PlainCourse) : Type 0 where
   pub leads : stands (text_of c.program) c.items ≡ Some (run_of c)
   pub machines : MachinesStand c.program 0 c.world.threads c.machines

@@ -83,8 +83,8 @@ pub record IsAtStart (p : List (PlainItem ℕ)) (budget : ℕ) (watch : Option �
   pub reports : h.reports ≡ []
   pub none_out : NoneOut h
 
--- The hub goes on from the other one: it has the same program, budget and watch, and more items and more reports. (That each item is
--- allowed where it stands holds of every hub.)
+-- The hub goes on from the other one: it has the same program, budget and watch, and its items and reports begin with the other's. (That
+-- each item is allowed where it stands holds of every hub.)
 pub record Continues (old new : Kept) : Type 0 where
   pub program : new.course.program ≡ old.course.program
   pub budget : new.budget ≡ old.budget
@@ -105,7 +105,8 @@ pub record Extends (old new : Kept) : Type 0 where
   pub no_turn : All IsNoTurn continues.more
 
 -- What is handed out. A job is the machine of a running thread; no slice of the thread was out, and now one is. The hub says to wait only
--- where no row can be taken, some thread runs, and a slice of every thread that runs is out. When it says that it has ended, `is_ended` says.
+-- where no row can be taken, some thread runs, and a slice of every thread that runs is out. That it says `Ended` exactly where the run
+-- is over stands in the contract of `take`.
 abbrev pub HandsOut : Kept → Next → Kept → Type 0
 HandsOut old (next.Job m) new =
     HasMachine new.course m.thread m × GoesOn new.course.program m
@@ -120,7 +121,7 @@ is_ended (next.Job m) = false
 is_ended next.Wait = false
 is_ended next.Ended = true
 
--- one turn more, of this thread, of which no slice is out now; and the report that was due before
+-- One turn more, of this thread, of which no slice is out now; and reports that were due may have been made.
 pub record Given (old : Kept) (t : Tid) (new : Kept) : Type 0 where
   pub adds : Adds old.course (item.Turn t) new.course
   pub budget : new.budget ≡ old.budget

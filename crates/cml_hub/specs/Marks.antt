@@ -38,7 +38,7 @@ abbrev pub count_of : ℕ → List Tid → ℕ
 count_of t [] = 0
 count_of t (x ∷ xs) = is_at t x.0 + count_of t xs
 
--- 1 for one that is ready, and for one that is out
+-- 1 where the thread is ready, else 0; below, the same where it is out
 abbrev pub readies : Mark → ℕ
 readies mark.Ready = 1
 readies m = 0

@@ -21,9 +21,9 @@ use Rattle.cml_book.specs.Nack.{nack}
 use Rattle.cml_book.specs.Sync.{sync}
 use Rattle.cml_book.specs.End.{end}
 
--- What becomes of a thread that has asked: it goes on, with nothing or with an answer; a thread of this number begins with a call of this
--- function, and it goes on with that thread; it has printed this text, and goes on; it waits; it has ended; or it has ended at a fault of
--- this name.
+-- What becomes of a thread that has asked: it goes on, with nothing or with an answer; a new thread of this number begins with a call of
+-- this function, and the one that asked gets the new thread as its answer; it has printed this text, and goes on; it waits; it has ended;
+-- or it has ended at a fault of this name.
 pub data PlainDone : Type 0 where
   goes : PlainDone
   gets : PlainAnswer → PlainDone
@@ -48,7 +48,7 @@ abbrev pub spoken : PlainValue → List ℕ
 spoken (text bytes) = bytes
 spoken v = shown v
 
--- Each ask is a command of the book, done for the thread of this number; a print and the time need none.
+-- Each ask but nothing, a yield, a print and the time is a command of the book, done for the thread of this number.
 abbrev pub asked : PlainWorld → ℕ → PlainAsk → Outcome PlainDone
 asked w t ask.nothing = Ok (w, goes)
 asked w t ask.yield = Ok (w, gets (a_value unit))

@@ -461,8 +461,8 @@ impl Hub {
         Ok(())
     }
 
-    /// Runs until nothing is left to do or the budget is used. Threads whose slices are out are ready again first, in the order of their
-    /// numbers, after those that are ready.
+    /// Runs until nothing is left to do or the budget is used. Before that, the threads whose slices are out are made ready again: they
+    /// come after those that are ready, in the order of their numbers.
     ///
     /// # Errors
     /// Out of memory. The items and reports that were made before stay; the chooser's picks for the one that was not made are spent.

@@ -21,7 +21,7 @@ pub enum Item {
 /// A schedule as it was read.
 #[derive(Drop)]
 pub struct Plan {
-    /// How many steps the run may take, from 1 to 1,000,000,000.
+    /// The budget of the run, from 1 to 1,000,000,000: a turn uses its steps, any other item uses 1.
     pub budget: u64,
     /// The size of the program, where the text says it.
     pub size: Option<Size>,

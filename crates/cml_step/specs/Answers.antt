@@ -49,8 +49,8 @@ answer_for (a_value v) = value
 answer_for (a_nack k) = nack
 answer_for (a_commit v fs) = commit
 
--- a withNack's function is called with the nack's event as its last argument, under a scope of the nack's number, in which the event
--- that it returns takes its place (Reppy's withNack)
+-- The withNack gives way to a scope of its nack, and its function, given the nack's event as its last argument, is called. In the scope
+-- stands a guard of that call, whose place the event that it returns takes (Reppy's withNack). With no withNack next nothing is called.
 abbrev pub with_nack_number : Program → ℕ → Option PlainNeed → PlainEvent → Term → Term
 with_nack_number p k (Some (needs_nack f)) e below =
     call_of p (given_nack k f) ∷ force (replaced (scope k (guard (given_nack k f))) e) false ∷ below

@@ -21,7 +21,7 @@ pub record PlainRan : Type 0 where
   pub ask : PlainAsk
   pub steps : ℕ
 
--- Where the slice ends, what it asks there and how many steps it took are what the meaning says for the program and the start. It took
+-- Where the slice ends, what it asks there and how many steps it took are what `sliced` gives for the program and the start. It took
 -- at least one step and at most 1,000. The machine at the end is the same thread's and fits the program again; it waits for the answer to
 -- what the slice asks, and that agrees with the program.
 pub record IsSlice (r : PlainRan) : Type 0 where

@@ -20,7 +20,7 @@ abbrev pub carried : (Term → PlainSlice) → ℕ → PlainAsk → Term → Pla
 carried go steps ask.nothing term = go term
 carried go steps what term = record { ask = what; end = term; steps = steps }
 
--- as many steps as there are up to the first that asks, ends or is at fault, at most `left`, after `steps` of them
+-- the steps up to the first that asks, ends or is at fault, at most `left` of them, where `steps` were taken before
 unfoldable pub sliced_from : Program → ℕ → ℕ → ℕ → Term → PlainSlice
 sliced_from p self zero steps term = record { ask = ask.nothing; end = term; steps = steps }
 sliced_from p self (suc left) steps term =

@@ -57,7 +57,8 @@ abbrev pub filled : PlainWait → PlainValue → Variables → Variables
 filled (gives x) v variables = assigned variables x v
 filled wait v variables = variables
 
--- An event in which what a guard's or a withNack's function returned has taken its place: the whole is measured, and forced further.
+-- The event, once what a guard's or a withNack's function returned stands in its place: within the limits it is forced further, else the
+-- fault is `deep`.
 abbrev pub forced_on : PlainEvent → Term → PlainStep
 forced_on e below = if event_fits e then goes_on (force e false ∷ below) else fails Deep
 
@@ -156,8 +157,8 @@ abbrev pub call_step : Program → ℕ → PlainStmts Name → Variables → Ter
 call_step p self no_stmts variables below = delivered unit below
 call_step p self (stmts_and s left) variables below = statement_step p self s left variables below
 
--- The leftmost outermost of the guards and withNacks is next: a guard's function is called, a withNack's needs a fresh nack. With
--- neither left the event is ready to be synchronized on.
+-- The leftmost outermost of the guards and withNacks is next: a guard's function is called, a withNack's needs a fresh nack, for which it
+-- asks only where there is room for the call on the stack. With neither left the thread asks to synchronize on the event.
 abbrev pub force_step : Program → Option PlainNeed → PlainEvent → Term → PlainStep
 force_step p (Some (calls f)) e below = pushed (call_of p f) (force e false ∷ below)
 force_step p (Some (needs_nack f)) e below = if is_below_limit (force e false ∷ below) then asks ask.fresh_nack (force e true ∷ below) else fails Stack

@@ -9,7 +9,8 @@ use Rattle.cml_trace.specs.Replies.{line}
 abbrev pub files : Shelf
 files = record { before = λ name. unknown; after = λ name. unknown }
 
--- What the arguments of the command line ask for was done over the files of the system; or there was no memory for the arguments.
+-- There are arguments, and what they ask for was done over the files of the system; or there was no memory for the arguments. That they
+-- are those of the command line is not said here.
 abbrev pub RanOnSystem : Stream → Stream → Stream → ℕ → Type 0
 RanOnSystem input output errors status =
     ((words : List (List ℕ)) × RanOver words input output errors files status)

@@ -8,14 +8,14 @@ use Rattle.cml_text.specs.Grammar.{whole_text, Gives}
 use Rattle.cml_text.specs.Lexemes.{Lexeme, opening, closing, leaf, faulty}
 use Rattle.cml_text.specs.Texts.{words_of}
 
--- with closing parentheses after them, or as they are, the lexemes spell forms
+-- with closing parentheses after them, or as they are, the lexemes spell forms that nest at most `nesting_limit` deep
 pub record CanBeClosed (words : List Lexeme) : Type 0 where
   pub ends : List ℕ
   pub forms : PlainForms
   pub spelled : words ++ map closing ends ≡ words_of forms
   pub shallow : nesting_of forms ≤ nesting_limit
 
--- whatever stands after them, the lexemes spell no forms
+-- whatever stands after them, the lexemes spell no forms that nest at most `nesting_limit` deep
 abbrev pub CannotGoOn : List Lexeme → Type 0
 CannotGoOn words = (rest : List Lexeme) (forms : PlainForms) → nesting_of forms ≤ nesting_limit → words ++ rest ≡ words_of forms → ⊥
 
@@ -43,7 +43,8 @@ pub record CanBeCompleted (text : List ℕ) : Type 0 where
   pub given : Gives whole_text 0 (text ++ map (λ start. 41) opens) forms
   pub shallow : nesting_of forms ≤ nesting_limit
 
--- The text goes on so far before the lexeme at fault: the fault stands right after, or in the text literal that begins there.
+-- The text begins with bytes that closing parentheses make a text of the grammar. The fault stands right after them; or it is an escape
+-- that there is not, further on.
 pub record StandsBefore (text : List ℕ) (fault : PlainFault) : Type 0 where
   pub front : List ℕ
   pub behind : List ℕ

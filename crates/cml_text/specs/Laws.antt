@@ -82,7 +82,8 @@ abbrev pub FaultIsFirst : Type 0
 FaultIsFirst = (text : List ℕ) (fault : PlainFault) → length text ≤ text_limit → IsUtf8 text → fault_of text ≡ Some fault →
     IsFirstFault (lexemes 0 0 text) fault ⊎ (CanBeClosed (lexemes 0 0 text) × (fault.kind ≡ Unclosed))
 
--- What stands before a fault could still become forms: closing parentheses make it a text of the grammar. Faults at the end are left out.
+-- What stands before the lexeme at fault could still become forms: closing parentheses make it a text of the grammar. Faults of the kind
+-- `Unclosed` are left out.
 abbrev pub BeforeFaultIsBegun : Type 0
 BeforeFaultIsBegun = (text : List ℕ) (fault : PlainFault) → length text ≤ text_limit → IsUtf8 text → fault_of text ≡ Some fault → fault.kind ≢ Unclosed →
     StandsBefore text fault

@@ -69,8 +69,8 @@ is_name bytes = is_operator bytes || is_word (chars bytes)
 abbrev pub is_plain : ℕ → Bool
 is_plain b = not ((b == 34) || (b == 92))
 
--- What stands after an opening quote: the bytes of the text after its escapes and how many bytes up to and with the closing quote;
--- or no closing quote; or an escape that is none, that many bytes after the quote.
+-- What stands after an opening quote: the bytes that the literal stands for, and how many bytes it takes up to and with the closing quote;
+-- or no closing quote; or a backslash that makes no escape, and how many bytes stand between the quote and it.
 pub data Literal : Type 0 where
   closed : List ℕ → ℕ → Literal
   endless : Literal

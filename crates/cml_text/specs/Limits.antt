@@ -10,7 +10,7 @@ abbrev pub IsSmall : ℤ → Type 0
 IsSmall (pos n) = n < 2 ^ 63
 IsSmall (negsuc n) = n < 2 ^ 63
 
--- a name is spelled as one, a number has 64 bits, and a text is not too long
+-- a name is UTF-8 and spelled as a name, a number is an `i64`, and a text is UTF-8 and has at most `literal_limit` bytes
 abbrev mutual
   pub IsProper : PlainSexpr → Type 0
   IsProper (plain_name span bytes) = IsUtf8 bytes × IsTrue (is_name bytes)

@@ -2,7 +2,7 @@
 use Rattle.std.specs.Prelude.{ℕ, ℤ, pos, negsuc, nat_lt, if◌then◌else◌, Option, Some, None}
 use Rattle.cml_text.specs.Forms.{PlainSexpr, plain_int}
 
--- every number of a thread, an object, a leaf or a function is below this
+-- every number of a thread, an object, a nack, a leaf or a function is below this
 abbrev pub number_limit : ℕ
 number_limit = 4294967296
 

@@ -41,7 +41,7 @@ pub fn printed_again_is_same()
     ensures { PrintedAgainIsSame }
 {}
 
-/// What is written as a line in front of a text is the first line of the whole.
+/// Bytes without a line feed, written as a line in front of a text, are the first line of the whole, and the lines of the text follow.
 pub fn written_line_is_first()
     ensures { WrittenLineIsFirst }
 {}
@@ -51,22 +51,24 @@ pub fn printed_line_is_read()
     ensures { PrintedLineIsRead }
 {}
 
-/// What is printed on one line has no line feed in it.
+/// What is printed on one line, of forms within the limits, has no line feed in it.
 pub fn printed_line_is_one_line()
     ensures { PrintedLineIsOneLine }
 {}
 
-/// A text in parentheses spells a list exactly where the text alone spells the list's forms, and these nest less deep than the limit.
+/// Where there is room for the parentheses, a text in parentheses spells a list exactly where the text alone spells the list's forms, spans
+/// aside, and these nest less deep than the limit.
 pub fn a_list_is_its_forms()
     ensures { AListIsItsForms }
 {}
 
-/// The fault of a text is that of the first lexeme with which nothing can become forms any more, or only closing parentheses are missing.
+/// Of a text that is UTF-8 and not too long, the fault is that of the first lexeme with which, whatever follows, no forms are spelled; or
+/// only closing parentheses are missing.
 pub fn fault_is_first()
     ensures { FaultIsFirst }
 {}
 
-/// What stands before a fault of a text, if that is not at the end, could still become forms.
+/// Of a text that is UTF-8 and not too long, what stands before a fault that is not `Unclosed` could still become forms.
 pub fn before_fault_is_begun()
     ensures { BeforeFaultIsBegun }
 {}

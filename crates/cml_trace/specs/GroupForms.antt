@@ -1,6 +1,7 @@
 -- The groups that forms of a trace are: never, (choose G*), (wrap G F V*), (scope N G), and the base events (always V), (send C V),
 -- (recv C), (swap X V), (iget I), (mtake M), (mget M), (mswap M V), (mailrecv B), (portrecv P), (join T), (at K), (after K) and
--- (nack N).
+-- (nack N). G is a group, V a value, K a tick or how many ticks, and every other letter a number: F of a function, N of a nack, T of a
+-- thread, and else of an object of the kind that the base event takes.
 use Rattle.std.specs.Prelude.{ℕ, List, [], ◌∷◌, drop, map, Option, Some, None, option_map, option_and_then}
 use Rattle.cml_value.specs.Value.{PlainValue, values, PlainFunction, function, PlainBase, always, send, recv, swap, iget, mtake, mget, mswap, mail_recv, port_recv, join, at_tick, after_ticks, nack}
 use Rattle.cml_value.specs.Group.{PlainGroup, never, leaf, choose, wrap, scope, groups}

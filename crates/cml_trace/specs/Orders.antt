@@ -1,5 +1,7 @@
 -- What a line of a trace asks for: rows, or one of the commands spawn, chan, swapchan, ivar, mvar, mvar V, mailbox, mchan, port X, copy P,
--- iput I V, mput M V, mail B V, multicast X V, nack T, sync T G, commit T L, commit T L U M, end T, clock K.
+-- iput I V, mput M V, mail B V, multicast X V, nack T, sync T G, commit T L, commit T L U M, end T, clock K. V is a value, G a group, K a
+-- tick; every other letter is a number: in commit T and U of threads, L and M of their leaves; else T of a thread, X of a multicast
+-- channel, P of a port, I and M of a variable, B of a mailbox.
 use Rattle.std.specs.Prelude.{◌≡◌, ◌⊎◌, ℕ, List, [], ◌∷◌, Option, Some, None, option_map, option_and_then}
 use Rattle.cml_scan.specs.declared.meet.Meet.{Meet}
 use Rattle.cml_scan.specs.declared.meet.Meet.TheVariants.{Single, Pair}
@@ -122,7 +124,7 @@ order_of (form ∷ forms) = option_and_then (λ head. order_by head.0 head.1) (h
 abbrev pub AsksFor : List ℕ → Order → Type 0
 AsksFor line what = (forms : List PlainSexpr) × Spells line forms × (order_of forms ≡ Some what)
 
--- the line is at fault as a text, or its forms ask for nothing that there is
+-- the line has a fault as a text, or it has forms, and they are neither `rows` nor a command
 abbrev pub IsBad : List ℕ → Type 0
 IsBad line =
     ((fault : PlainFault) × (fault_of line ≡ Some fault))

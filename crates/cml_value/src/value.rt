@@ -27,7 +27,7 @@ pub struct Value {
 #[cycle(value)]
 #[derive(Drop)]
 pub enum ValueKind {
-    /// The value that says nothing.
+    /// The unit value.
     Unit,
     /// A number.
     Int(i64),
@@ -110,7 +110,7 @@ pub enum BaseKind {
     At(u64),
     /// This many ticks from the moment at which the synchronization begins.
     After(u64),
-    /// A choice that leaves out the branch of this nack.
+    /// The nack's firing: its group has chosen a leaf outside the branch of this nack.
     Nack(NackId),
 }
 

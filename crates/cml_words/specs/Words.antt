@@ -72,7 +72,7 @@ commands = record {
       ∷ [];
 }
 
--- what may be wrong with the arguments, the first of which is the program's name: nothing where they name a command
+-- the kinds of error that clap may report for the arguments, of which the first is the program's name; a request for help is one of them
 abbrev pub faults : List (List ℕ) → Kinds
 faults words = fault_of commands words
 
@@ -113,8 +113,8 @@ Names (name, given) (task_of.Fmt file) = (name ≡ codes "fmt") × (first_of (co
 Names (name, given) (task_of.Run options) = (name ≡ codes "run") × IsRun given options
 Names (name, given) (task_of.Replay options) = (name ≡ codes "replay") × IsReplay given options
 
--- The answer is a command only where nothing is wrong and the arguments name it, help only where it is asked for, and a fault only where
--- there is one.
+-- The answer is a command only where clap finds no error and the arguments name it, help only where a request for help or for the version
+-- is among the kinds of error, and a fault only where another kind is among them.
 abbrev pub IsAnswer : List (List ℕ) → Answer → Type 0
 IsAnswer words (answer.Task task) = (faults words ≡ []) × IsSomeAnd (subcommand_of commands words) (λ named. Names named task)
 IsAnswer words (answer.Help text) = IsAmong DisplayHelp (faults words) ⊎ IsAmong DisplayVersion (faults words)

@@ -72,7 +72,7 @@ pub enum Answer<'a> {
     Task(Task<'a>),
     /// They ask for this text.
     Help(String),
-    /// They name no command, as this text says.
+    /// Something is wrong with them, as this text says.
     Fault(String),
 }
 

@@ -66,8 +66,7 @@ WatchBreaks hub (Start new) = GoesOnFrom hub new × (new.course.items ≡ hub.co
 WatchBreaks hub (Write new) = GoesOnFrom hub new
 WatchBreaks hub (Foreign new seen) = IsWorked hub new × (seen.items ≢ new.reports)
 
--- Why `run_watched` returns no hub that is at its end: it was asked for another number of workers, and the hub comes back; or the run
--- broke off.
+-- Why `run_watched` fails: the number of workers is not allowed, and the hub comes back; or the run broke off.
 abbrev pub WatchFails : Kept → ℕ → WorkFault → Type 0
 WatchFails hub workers (Count new) = (IsWorkerCount workers → ⊥) × (new ≡ hub)
 WatchFails hub workers fault = IsWorkerCount workers × WatchBreaks hub fault

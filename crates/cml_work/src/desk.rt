@@ -35,7 +35,7 @@ pub trait Desk {
     /// Takes a slice back that it handed out. It may wait.
     ///
     /// # Errors
-    /// A slice that is a stranger by now; or out of memory. The slice comes back.
+    /// A slice that began with a machine that no running thread has any more; or out of memory. The slice comes back.
     fn give<R: Wait>(&self, rt: &R, alloc: Global, ran: Ran) -> Result<(), GiveFault>
         requires { hands self.now ran.program ran.start };
 

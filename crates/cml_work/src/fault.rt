@@ -24,7 +24,7 @@ impl From<AllocError> for WatchFault {
     }
 }
 
-/// Why a run of workers returns no hub that has run to its end. Each hands over a hub, from which the run can go on.
+/// Why a run of workers fails. Each hands over a hub.
 #[derive(Drop)]
 pub enum WorkFault {
     /// The number of workers is not 1 to 64. The hub is the one that was handed in.
@@ -35,6 +35,6 @@ pub enum WorkFault {
     Start(Hub),
     /// A write of the reports failed. The hub goes on from the one that was handed in.
     Write(Hub),
-    /// The reports that were seen, which it hands over, are not those of the hub, which goes on from the one that was handed in.
+    /// The hub has run to its end, but the reports that were seen, which are handed over too, are not those of the hub.
     Foreign(Hub, Vec<Report>),
 }
