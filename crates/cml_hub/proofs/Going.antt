@@ -1,16 +1,36 @@
 -- How a hub goes on from where it stood.
 use Rattle.std.proofs.Common.{◌≡◌, ℕ, ◌-◌, ◌<◌, Bool, true, false, ◌||◌, [], ◌∷◌, ◌++◌, refl, arith, Some, None, sym, ap, ◌∙◌, subst, append_assoc}
-use Rattle.std.specs.Prelude.{nat_le}
+use Rattle.std.specs.Prelude.{List, nat_le}
 use Rattle.std.proofs.lemmas.List.{append-nil}
 use Rattle.std.proofs.lemmas.List.Elements.{All-nil, All-cons, All-append}
 use Rattle.std.proofs.lemmas.Bool.Decides.{nat_tests}
 use Rattle.cml_schedule.specs.declared.item.Item.{Item}
+use Rattle.cml_check.specs.Syntax.{PlainItem}
+use Rattle.cml_step.specs.Calls.{text_of}
 use Rattle.cml_step.specs.Machines.{PlainMachine}
 use Rattle.cml_hub.specs.declared.fault.Next.TheVariants as next
-use Rattle.cml_hub.specs.Runs.{Run, over, terminal}
+use Rattle.cml_hub.specs.Runs.{Run, stands, over, terminal}
 use Rattle.cml_hub.specs.Courses.{run_of}
-use Rattle.cml_hub.specs.Kept.{Kept, Continues, Extends, IsNoTurn, NoneOut, AllOut, HandsOut}
-use Rattle.cml_hub.specs.Moves.{AddsItem, Reported, HandedOut, MovedOn, CalledBack}
+use Rattle.cml_hub.specs.Kept.{Kept, AddedInTime, Continues, Extends, IsNoTurn, NoneOut, NoMoreOut, AllOut, HandsOut, is_out_of}
+use Rattle.cml_hub.specs.Moves.{AddsItem, Reported, HandedOut, MovedOn, CalledBack, GoesAlone}
+
+-- Items that were added in time, and then others.
+time_more : (p : List (PlainItem ℕ)) (budget : ℕ) (items xs ys : List Item) → AddedInTime p budget items xs → AddedInTime p budget (items ++ xs) ys → AddedInTime p budget items (xs ++ ys)
+time_more p budget items [] ys h k = subst (λ zs. AddedInTime p budget zs ys) (append-nil items) k
+time_more p budget items (x ∷ xs) ys h k =
+    (h.0, time_more p budget (items ++ x ∷ []) xs ys h.1 (subst (λ zs. AddedInTime p budget zs ys) (sym (append_assoc items (x ∷ []) xs)) k))
+
+time_from : (p q : List (PlainItem ℕ)) (m n : ℕ) (items others more : List Item) → q ≡ p → n ≡ m → others ≡ items → AddedInTime q n others more → AddedInTime p m items more
+time_from p q m n items others more e f g h =
+    subst (λ x. AddedInTime x m items more) e (subst (λ x. AddedInTime q x items more) f (subst (λ x. AddedInTime q n x more) g h))
+
+-- Where the schedule has led, and that the run is not over there.
+pub record IsGoing (h : Kept) : Type 0 where
+  pub leads : stands (text_of h.course.program) h.course.items ≡ Some (run_of h.course)
+  pub going : over h.budget (run_of h.course) ≡ false
+
+time_one : (h : Kept) (item : Item) → IsGoing h → AddedInTime h.course.program h.budget h.course.items (item ∷ [])
+time_one h item g = (rw (g.leads) g.going, tt)
 
 -- It goes on from itself, and from what it went on from goes on.
 pub continues_self : (h : Kept) → Continues h h
@@ -20,6 +40,7 @@ continues_self h = record {
   watch = refl;
   more = [];
   items = sym (append-nil h.course.items);
+  in_time = tt;
   made = [];
   reports = sym (append-nil h.reports);
 }
@@ -31,6 +52,8 @@ continues_more a b c p q = record {
   watch = q.watch ∙ p.watch;
   more = p.more ++ q.more;
   items = q.items ∙ (ap (λ xs. xs ++ q.more) p.items ∙ append_assoc a.course.items p.more q.more);
+  in_time = time_more a.course.program a.budget a.course.items p.more q.more p.in_time
+      (time_from a.course.program b.course.program a.budget b.budget (a.course.items ++ p.more) b.course.items q.more p.program p.budget p.items q.in_time);
   made = p.made ++ q.made;
   reports = q.reports ∙ (ap (λ xs. xs ++ q.made) p.reports ∙ append_assoc a.reports p.made q.made);
 }
@@ -42,17 +65,19 @@ continues_reported a b r = record {
   watch = r.watch;
   more = [];
   items = ap (λ c. c.items) r.course ∙ sym (append-nil a.course.items);
+  in_time = tt;
   made = r.made;
   reports = r.reports;
 }
 
-pub continues_moved : (a b : Kept) (item : Item) → AddsItem a item b → Continues a b
-continues_moved a b item m = record {
+pub continues_moved : (a b : Kept) (item : Item) → IsGoing a → AddsItem a item b → Continues a b
+continues_moved a b item g m = record {
   program = m.adds.program;
   budget = m.budget;
   watch = m.watch;
   more = item ∷ [];
   items = m.adds.items;
+  in_time = time_one a item g;
   made = [];
   reports = m.reports ∙ sym (append-nil a.reports);
 }
@@ -64,6 +89,7 @@ continues_called a b r = record {
   watch = r.watch;
   more = [];
   items = ap (λ c. c.items) r.course ∙ sym (append-nil a.course.items);
+  in_time = tt;
   made = [];
   reports = r.reports ∙ sym (append-nil a.reports);
 }
@@ -80,10 +106,10 @@ extends_reported h a b e r = record {
   no_turn = All-append IsNoTurn e.continues.more [] e.no_turn (All-nil IsNoTurn);
 }
 
-extends_moved : (h a b : Kept) (item : Item) → IsNoTurn item → Extends h a → AddsItem a item b → Extends h b
+extends_moved : (h a b : Kept) (item : Item) → IsNoTurn item → Extends h a → IsGoing a → AddsItem a item b → Extends h b
 unfolding continues_more continues_moved
-extends_moved h a b item n e m = record {
-  continues = continues_more h a b e.continues (continues_moved a b item m);
+extends_moved h a b item n e g m = record {
+  continues = continues_more h a b e.continues (continues_moved a b item g m);
   no_turn = All-append IsNoTurn e.continues.more (item ∷ []) e.no_turn (All-cons IsNoTurn item [] n (All-nil IsNoTurn));
 }
 
@@ -111,8 +137,8 @@ going_still a b h o = subst (λ (x : Kept). terminal x.course.world ≡ false) (
 pub still_extends : (h a b : Kept) → Extends h a → b ≡ a → Extends h b
 still_extends h a b e s = subst (λ (x : Kept). Extends h x) (sym s) e
 
-pub moved_extends : (h a b c : Kept) → Extends h a → HandedOut a None b → MovedOn b true c → Extends h c
-moved_extends h a b c e n m = extends_moved h b c m.0 m.1 (still_extends h a b e n.1) m.2
+pub moved_extends : (h a b c : Kept) → Extends h a → IsGoing a → HandedOut a None b → MovedOn b true c → Extends h c
+moved_extends h a b c e g n m = extends_moved h b c m.0 m.1 (still_extends h a b e n.1) (subst (λ (x : Kept). IsGoing x) (sym n.1) g) m.2
 
 pub moved_out : (h a b c : Kept) → a.out ≡ h.out → HandedOut a None b → MovedOn b true c → c.out ≡ h.out
 moved_out h a b c o n m = m.3 ∙ (ap (λ (x : Kept). x.out) n.1 ∙ o)
@@ -129,6 +155,7 @@ job_extends h a b m e s = record {
     watch = ap (λ (x : Kept). x.watch) s.3 ∙ e.continues.watch;
     more = e.continues.more;
     items = ap (λ (x : Kept). x.course.items) s.3 ∙ e.continues.items;
+    in_time = e.continues.in_time;
     made = e.continues.made;
     reports = ap (λ (x : Kept). x.reports) s.3 ∙ e.continues.reports;
   };
@@ -152,3 +179,13 @@ none_out_reported a b n r = λ t. rw r.out (n t)
 
 pub still_continues : (h a b : Kept) → Continues h a → b ≡ a → Continues h b
 still_continues h a b e s = subst (λ (x : Kept). Continues h x) (sym s) e
+
+-- One thread ran alone.
+pub alone_continues : (h a b : Kept) → Continues h a → IsGoing a → GoesAlone a b → Continues h b
+alone_continues h a b e g m = continues_more h a b e (continues_moved a b m.item g m.moves)
+
+pub no_more_same : (a b : Kept) → b ≡ a → NoMoreOut a b
+no_more_same a b e t h = subst (λ (x : Kept). is_out_of x.out t ≡ false) (sym e) h
+
+pub no_more_than_none : (h a b : Kept) → NoneOut a → b ≡ a → NoMoreOut h b
+no_more_than_none h a b n e t x = subst (λ (x : Kept). is_out_of x.out t ≡ false) (sym e) (n t)

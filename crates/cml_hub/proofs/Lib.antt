@@ -22,3 +22,4 @@ pub mod Giving
 pub mod Written
 pub mod Deciding
 pub mod Onward
+pub mod Shown

@@ -32,6 +32,21 @@ none_ready_all_out (x ∷ ts) (Out ∷ ms) p n zero h = refl
 none_ready_all_out (x ∷ ts) (Away ∷ ms) p n zero h = let e : x ≡ running = cc in let b : runs x ≡ true = ap runs e in let f : false ≡ runs x = p.0 in cc
 none_ready_all_out (x ∷ ts) (m ∷ ms) p n (suc t) h = none_ready_all_out ts ms p.1 (λ u. n (suc u)) t h
 
+-- who is out runs
+out_here : (m : Mark) → is_out m ≡ true → is_here m ≡ true
+out_here Ready h = cc
+out_here Out h = refl
+out_here Away h = cc
+
+pub out_runs : (ts : List PlainThread) (ms : List Mark) → Placed ts ms → (t : ℕ) → is_out_of (map is_out ms) t ≡ true → slice_get ts t ≡ Some running
+out_runs [] [] p t h = cc
+out_runs [] (m ∷ ms) p t h = absurd p
+out_runs (x ∷ ts) [] p t h = absurd p
+out_runs (running ∷ ts) (m ∷ ms) p zero h = refl
+out_runs (pending_on g ∷ ts) (m ∷ ms) p zero h = let b : is_here m ≡ true = out_here m h in let f : is_here m ≡ false = p.0 in cc
+out_runs (ended ∷ ts) (m ∷ ms) p zero h = let b : is_here m ≡ true = out_here m h in let f : is_here m ≡ false = p.0 in cc
+out_runs (x ∷ ts) (m ∷ ms) p (suc t) h = out_runs ts ms p.1 t h
+
 -- who was out is ready
 here_home : (m : Mark) → is_here (home m) ≡ is_here m
 here_home Ready = refl

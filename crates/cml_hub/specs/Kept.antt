@@ -1,5 +1,5 @@
 -- What a hub keeps, and how its calls change it.
-use Rattle.std.specs.Prelude.{ℕ, ◌≡◌, ◌≢◌, ◌+◌, ◌≤◌, Bool, true, false, List, [], ◌∷◌, ◌++◌, length, Option, Some, None, Result, Ok, Err, unwrap_or, slice_get, slice_set}
+use Rattle.std.specs.Prelude.{ℕ, ◌≡◌, ◌≢◌, ◌+◌, ◌≤◌, Bool, true, false, List, [], ◌∷◌, ◌++◌, length, Option, Some, None, IfSome, Result, Ok, Err, unwrap_or, slice_get, slice_set}
 use Rattle.std.specs.List.{All}
 use Rattle.cml_value.specs.declared.number.Tid.{Tid}
 use Rattle.cml_scan.specs.World.{PlainThread, running}
@@ -74,6 +74,14 @@ NoneOut h = (t : ℕ) → is_out_of h.out t ≡ false
 abbrev pub AllOut : Kept → Type 0
 AllOut h = (t : ℕ) → slice_get h.course.world.threads t ≡ Some running → is_out_of h.out t ≡ true
 
+-- only of threads that run a slice is out; so where no thread runs none is
+abbrev pub OnlyRunningOut : Kept → Type 0
+OnlyRunningOut h = (t : ℕ) → is_out_of h.out t ≡ true → slice_get h.course.world.threads t ≡ Some running
+
+-- no slice is out that was not
+abbrev pub NoMoreOut : Kept → Kept → Type 0
+NoMoreOut old new = (t : ℕ) → is_out_of old.out t ≡ false → is_out_of new.out t ≡ false
+
 -- the hub is at its beginning: nothing has happened yet
 pub record IsAtStart (p : List (PlainItem ℕ)) (budget : ℕ) (watch : Option ℕ) (h : Kept) : Type 0 where
   pub program : h.course.program ≡ p
@@ -83,14 +91,21 @@ pub record IsAtStart (p : List (PlainItem ℕ)) (budget : ℕ) (watch : Option �
   pub reports : h.reports ≡ []
   pub none_out : NoneOut h
 
--- The hub goes on from the other one: it has the same program, budget and watch, and its items and reports begin with the other's. (That
--- each item is allowed where it stands holds of every hub.)
+-- These items come after those, and none of them where the run was over: something was left to do, and the budget was not used.
+abbrev pub AddedInTime : List (PlainItem ℕ) → ℕ → List Item → List Item → Type 0
+AddedInTime p budget items [] = Unit {0}
+AddedInTime p budget items (item ∷ more) =
+    IfSome (stands (text_of p) items) (λ r. over budget r ≡ false) × AddedInTime p budget (items ++ item ∷ []) more
+
+-- The hub goes on from the other one: it has the same program, budget and watch, and its items and reports begin with the other's. No item
+-- was added once the run was over. (That each item is allowed where it stands holds of every hub.)
 pub record Continues (old new : Kept) : Type 0 where
   pub program : new.course.program ≡ old.course.program
   pub budget : new.budget ≡ old.budget
   pub watch : new.watch ≡ old.watch
   pub more : List Item
   pub items : new.course.items ≡ old.course.items ++ more
+  pub in_time : AddedInTime old.course.program old.budget old.course.items more
   pub made : List PlainReport
   pub reports : new.reports ≡ old.reports ++ made
 

@@ -11,5 +11,6 @@ pub mod Marks
 pub mod MarkCodes
 pub mod Reports
 pub mod Kept
+pub mod Laws
 pub mod KeptCodes
 pub mod Moves

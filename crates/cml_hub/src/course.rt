@@ -126,9 +126,10 @@ impl Course {
         self.output.as_str()
     }
 
-    // How much of the budget was used.
+    // How much of the budget was used by the schedule so far, which leads to where the course stands.
     pub(crate) fn used(&self) -> u128
-        ensures { result ≡ self.now.used }
+        ensures used { result ≡ self.now.used }
+        ensures leads { spec.stands (text_of self.now.program) self.now.items ≡ Some (run_of self.now) }
     {
         self.used
     }
@@ -197,7 +198,7 @@ impl Course {
     {
         let rows = self.threads.table().rows(alloc)?;
         let waiting = self.threads.pending(alloc)?;
-        Report::new(alloc, at, rows, waiting)
+        Ok(Report::new(alloc, at, rows, waiting)?)
     }
 
     // The machine of a thread that runs.

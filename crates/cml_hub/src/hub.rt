@@ -11,7 +11,7 @@ ghost use Rattle.cml_step.specs.Calls.{text_of};
 ghost use Rattle.cml_hub.specs.Runs as spec;
 ghost use Rattle.cml_hub.specs.Courses.{run_of, TakesRow, IsOurs};
 ghost use Rattle.cml_hub.specs.Reports.{AreReports, IsDueReport};
-ghost use Rattle.cml_hub.specs.Kept.{IsBudget, IsWatch, IsAtStart, Continues, Extends, HandsOut, is_ended, NoneDue, NoneOut, AllOut, TakesSlice, IsOver, Replays, FitsSize};
+ghost use Rattle.cml_hub.specs.Kept.{IsBudget, IsWatch, IsAtStart, Continues, Extends, HandsOut, is_ended, NoneDue, NoneOut, AllOut, OnlyRunningOut, NoMoreOut, TakesSlice, IsOver, Replays, FitsSize};
 ghost use Rattle.cml_hub.specs.Moves.{IsNext, marks_after, PartiesAway, marks_met, AddsItem, TakesBack, Reported, HandedOut, MovedOn, CalledBack, Happens, GoesAlone, with_report};
 
 use crate::choose::Chooser;
@@ -201,10 +201,11 @@ impl Hub {
         self.watch
     }
 
-    /// What happened, in order. It leads to where the hub stands.
+    /// What happened, in order. It leads to where the hub stands: there only threads that run can have a slice out.
     pub fn schedule(&self) -> &[Item]
         ensures items { result.now ≡ self.now.course.items }
         ensures leads { spec.stands (text_of self.now.course.program) self.now.course.items ≡ Some (run_of self.now.course) }
+        ensures out { OnlyRunningOut self.now }
     {
         self.course.items()
     }
@@ -258,9 +259,10 @@ impl Hub {
         self.marks.is_idle() && self.course.is_still() && self.course.next_alarm().is_none()
     }
 
-    // Whether nothing is left to do, or the budget is used.
+    // Whether nothing is left to do, or the budget is used, where the schedule has led.
     fn is_over(&self) -> bool
-        ensures { result ≡ spec.over self.now.budget (run_of self.now.course) }
+        ensures over { result ≡ spec.over self.now.budget (run_of self.now.course) }
+        ensures leads { spec.stands (text_of self.now.course.program) self.now.course.items ≡ Some (run_of self.now.course) }
     {
         u128::from(self.budget) <= self.course.used() || self.is_terminal()
     }
@@ -465,7 +467,8 @@ impl Hub {
     /// come after those that are ready, in the order of their numbers.
     ///
     /// # Errors
-    /// Out of memory. The items and reports that were made before stay; the chooser's picks for the one that was not made are spent.
+    /// Out of memory. The items and reports that were made before stay; the chooser's picks for the one that was not made are spent. No
+    /// slice is out then that was not.
     pub fn run_alone<C: Chooser>(
         &mut self,
         alloc: Global,
@@ -473,6 +476,7 @@ impl Hub {
     ) -> Result<End, AllocError>
         ensures more { Continues self.old self.new }
         ensures ok { IfOk result (λ end. IsOver end self.new) }
+        ensures err { OnErr result (NoMoreOut self.old self.new) }
     {
         self.call_back()?;
         self.report(alloc)?;

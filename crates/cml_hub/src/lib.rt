@@ -6,6 +6,7 @@ mod course;
 mod done;
 mod fault;
 mod hub;
+pub mod law;
 mod marks;
 mod perform;
 mod pick;

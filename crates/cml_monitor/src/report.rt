@@ -1,13 +1,13 @@
 //! Reports of a run, made while it goes on.
 
-ghost use Rattle.std.specs.Prelude.{◌≡◌, ◌++◌, IfOk, OnOk, IsTrue, ◌↔◌, map};
+ghost use Rattle.std.specs.Prelude.{◌≡◌, ◌++◌, IfOk, IfErr, OnOk, IsTrue, ◌↔◌, map};
 ghost use Rattle.std.specs.List.{flat_map};
 ghost use Rattle.std.specs.String.{string_bytes};
 ghost use Rattle.cml_monitor.specs.Reports as spec;
 
 use cml_scan::Meet;
 use cml_value::Tid;
-use std::alloc::{AllocError, Global};
+use std::alloc::{AllocError, AllocFailed, Global};
 use std::marker::Model;
 use std::sync::Arc;
 
@@ -46,17 +46,22 @@ impl Report {
     /// The report of these rows and waiting threads, after this many items.
     ///
     /// # Errors
-    /// Out of memory.
+    /// Out of memory; both lists come back.
     pub fn new(
         alloc: Global,
         at: u64,
         rows: Vec<Meet>,
         waiting: Vec<Tid>,
-    ) -> Result<Report, AllocError>
-        ensures { IfOk result (λ report. report ≡ record { at = at; rows = rows.items; waiting = map (λ t. t.0) waiting.items }) }
+    ) -> Result<Report, AllocFailed<(Vec<Meet>, Vec<Tid>)>>
+        ensures ok { IfOk result (λ report. report ≡ record { at = at; rows = rows.items; waiting = map (λ t. t.0) waiting.items }) }
+        ensures err { IfErr result (λ back. back.value ≡ (rows, waiting)) }
     {
-        let shown = Arc::new(alloc, Shown { rows, waiting })?;
-        Ok(Report { at, shown })
+        match Arc::new(alloc, Shown { rows, waiting }) {
+            Ok(shown) => Ok(Report { at, shown }),
+            Err(back) => Err(AllocFailed {
+                value: (back.value.rows, back.value.waiting),
+            }),
+        }
     }
 
     /// After how many items it was made.

@@ -1,4 +1,5 @@
-use Rattle.cml_hub.proofs.Going.{continues_self, continues_called, continues_more, continues_reported, still_continues, none_out_reported}
+use Rattle.std.proofs.Common.{sym}
+use Rattle.cml_hub.proofs.Going.{alone_continues, continues_self, continues_called, continues_more, continues_reported, still_continues, none_out_reported}
 use Rattle.cml_hub.proofs.hub.Hub.run_alone.Goals as goal
 
 pub returns-in_err-call_back-clause-more : goal.returns-in_err-call_back-clause-more
@@ -20,3 +21,25 @@ turns-init g c =
       none_out = none_out_reported a b k.none_out r;
       due = r.none_due;
     }
+
+pub turns-preserved : goal.turns-preserved
+turns-preserved g c =
+    let h = c.args.self.now in
+    let a = c.turns.self in
+    let b = c.go_alone.new.self in
+    let d = c.report-in-turns.new.self in
+    let k = c.in_ok-go_alone.ensures.ok in
+    let r = c.in_ok-report-2.ensures.ok in
+    record {
+      more = continues_more h b d (alone_continues h a b c.turns.invariant.more (record { leads = c.turns-test.ensures.leads; going = sym c.turns-test.ensures.over }) k) (continues_reported b d r);
+      none_out = none_out_reported b d k.none_out r;
+      due = r.none_due;
+    }
+
+pub returns-in_err-report-2-clause-more : goal.returns-in_err-report-2-clause-more
+returns-in_err-report-2-clause-more g c =
+    let h = c.args.self.now in
+    let a = c.turns.self in
+    let b = c.go_alone.new.self in
+    let d = c.report-in-turns.new.self in
+    still_continues h b d (alone_continues h a b c.turns.invariant.more (record { leads = c.turns-test.ensures.leads; going = sym c.turns-test.ensures.over }) c.in_ok-go_alone.ensures.ok) c.in_err-report-2.ensures.err

@@ -23,14 +23,14 @@ returns-in-Some-clause-ended g c =
     let a = c.moves.self in
     let b = c.hand_out.new.self in
     let e = subst (λ o. HandedOut a o b) c.in-Some.is c.in_ok-machine.ensures.ok in
-    job_over a b c.in-Some.machine (sym c.moves-test.ensures) e
+    job_over a b c.in-Some.machine (sym c.moves-test.ensures.over) e
 
 pub move_on-requires-clause-going : goal.move_on-requires-clause-going
 move_on-requires-clause-going g c =
     let a = c.moves.self in
     let b = c.hand_out.new.self in
     let e = subst (λ o. HandedOut a o b) c.in_default.is c.in_ok-machine.ensures.ok in
-    going_still a b e (sym c.moves-test.ensures)
+    going_still a b e (sym c.moves-test.ensures.over)
 
 pub returns-then-not-branch-clause-next : goal.returns-then-not-branch-clause-next
 returns-then-not-branch-clause-next g c =
@@ -50,7 +50,7 @@ moves-preserved g c =
     let m = subst (λ o. MovedOn b o d) c.if-not-branch.false c.in_ok-move_on.ensures.ok in
     let r = c.in_ok-report-2.ensures.ok in
     record {
-      more = extends_reported c.args.self.now d c.report-in-moves.new.self (moved_extends c.args.self.now a b d c.moves.invariant.more e m) r;
+      more = extends_reported c.args.self.now d c.report-in-moves.new.self (moved_extends c.args.self.now a b d c.moves.invariant.more (record { leads = c.moves-test.ensures.leads; going = sym c.moves-test.ensures.over }) e m) r;
       due = r.none_due;
       out = r.out ∙ moved_out c.args.self.now a b d c.moves.invariant.out e m;
     }
@@ -62,4 +62,4 @@ returns-in_err-report-2-clause-more g c =
     let d = c.move_on.new.self in
     let e = subst (λ o. HandedOut a o b) c.in_default.is c.in_ok-machine.ensures.ok in
     let m = subst (λ o. MovedOn b o d) c.if-not-branch.false c.in_ok-move_on.ensures.ok in
-    still_extends c.args.self.now d c.report-in-moves.new.self (moved_extends c.args.self.now a b d c.moves.invariant.more e m) c.in_err-report-2.ensures.err
+    still_extends c.args.self.now d c.report-in-moves.new.self (moved_extends c.args.self.now a b d c.moves.invariant.more (record { leads = c.moves-test.ensures.leads; going = sym c.moves-test.ensures.over }) e m) c.in_err-report-2.ensures.err
