@@ -34,7 +34,7 @@ pub fn make_room(
         (record { lit = vec_capacity lit.new; unlit = vec_capacity unlit.new }) }
 {
     lit.reserve(2 * flat.flat().scopes().len())?;
-    unlit.reserve(2 * flat.len() + 1)
+    unlit.reserve(2 * flat.flat().len() + 1)
 }
 
 /// Appends the lights of the nacks that choosing the leaf fires. There is room for them.
