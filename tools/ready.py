@@ -17,6 +17,7 @@ import hashlib
 import os
 import pathlib
 import re
+import shutil
 import signal
 import subprocess
 import sys
@@ -107,7 +108,7 @@ def chosen(command):
 def make():
     """Compiles the program with nothing proved."""
     for it in OUT.glob(".making-*"):
-        unproved.shutil.rmtree(it, ignore_errors=True)
+        shutil.rmtree(it, ignore_errors=True)
     before = None
     while before != sources("unproved"):
         before = sources("unproved")
@@ -116,13 +117,22 @@ def make():
     print("cml: compiled with nothing proved; tools/prove proves it", file=sys.stderr, flush=True)
 
 
+def wait_for(lock):
+    try:
+        fcntl.flock(lock, fcntl.LOCK_EX | fcntl.LOCK_NB)
+    except BlockingIOError:
+        if sys.stderr.isatty():
+            print("cml: another cml compiles it; waiting", file=sys.stderr, flush=True)
+        fcntl.flock(lock, fcntl.LOCK_EX)
+
+
 def ready(command):
     """The kind of the program, which is there now: of two at once one compiles, and the other waits."""
     OUT.mkdir(exist_ok=True)
     kind = chosen(command)
     if not kind:
         with open(OUT / "lock", "w", encoding="utf-8") as lock:
-            fcntl.flock(lock, fcntl.LOCK_EX)
+            wait_for(lock)
             if not chosen(command):
                 make()
             kind = chosen(command)
