@@ -8,7 +8,9 @@ import collections
 import re
 
 NAME = re.compile(r'@("[^"]*"|[\w.$]+)')
-SMALL = 3000  # letters of a function up to which its body goes along
+SMALL = 4000  # letters of a function up to which its body goes along
+# The compiler of `rt try` fills each place of a function with a pattern before anything is written to it.
+FILL = re.compile(r"( = alloca [^\n]*\n)  call void @llvm\.memset\.p0\.i64\(ptr %[\w.]+, i8 -86, i64 \d+, i1 false\)\n")
 COPIED = " private unnamed_addr constant "  # a constant whose address nobody asks for: each part has its own
 
 
@@ -77,8 +79,8 @@ def shares(module, names, count):
 
 
 def parts(text, count):
-    """The texts of so many parts. A ValueError, AttributeError or TypeError where the text is not of this form."""
-    module = Module(text)
+    """The texts of so many parts, without the fills. A ValueError, AttributeError or TypeError where the text is not of this form."""
+    module = Module(FILL.sub(r"\1", text))
     if not all(it.startswith("internal ") or NAME.search(it)[1] == "main" for it in module.functions.values()) or "main" not in module.functions:
         raise ValueError("a function is not internal")
     alive = module.reached(["main"], lambda it: True)
