@@ -145,7 +145,7 @@ def version(command):
     print(f"cml {commit or 'of no commit'}{' and changes that are not committed' if commit and changes else ''}")
     kind = chosen(command)
     print(recorded(kind)["toolchain"] if kind else toolchain.line() or "no toolchain: there is no command rt")
-    print(WORDS[kind] if kind else "not compiled yet: the first command compiles it with nothing proved, in one to four minutes")
+    print(WORDS[kind] if kind else "not compiled yet: the next command compiles it with nothing proved, in one to four minutes")
 
 
 def main():
