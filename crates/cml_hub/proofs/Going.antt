@@ -191,6 +191,9 @@ wait_hands h a b c o n m =
 pub none_out_reported : (a b : Kept) → NoneOut a → Reported a b → NoneOut b
 none_out_reported a b n r = λ t. rw r.out (n t)
 
+pub none_out_same : (a b : Kept) → NoneOut a → b ≡ a → NoneOut b
+none_out_same a b n e = subst (λ (x : Kept). NoneOut x) (sym e) n
+
 pub still_continues : (h a b : Kept) → Continues h a → b ≡ a → Continues h b
 still_continues h a b e s = subst (λ (x : Kept). Continues h x) (sym s) e
 
