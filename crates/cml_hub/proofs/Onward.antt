@@ -1,6 +1,6 @@
 -- Whether there is more to do, and what comes next.
 use Rattle.std.proofs.Common.{◌≡◌, ℕ, zero, suc, Bool, true, false, not, nat_eq, List, [], ◌∷◌, map, refl, ap, sym, subst, ◌∙◌, arith, Option, Some, None, Result, Ok, Err}
-use Rattle.std.specs.Prelude.{is_some, OnOk, slice_get, slice_set}
+use Rattle.std.specs.Prelude.{is_some, OnOk, OnErr, slice_get, slice_set}
 use Rattle.std.proofs.lemmas.Bool.Decides.{nat_tests}
 use Rattle.cml_scan.specs.World.{PlainWorld, running}
 use Rattle.cml_scan.specs.Scan.{scan, has_row}
@@ -55,6 +55,11 @@ terminal_is w still idle next = rw (next, idle, still) refl
 pub on_ok : {A E P Q : Type 0} (r : Result A E) → OnOk r P → (P → Q) → OnOk r Q
 on_ok (Ok x) h f = f h
 on_ok (Err e) h f = h
+
+-- what holds where a call fails
+pub on_err : {A E P : Type 0} (r : Result A E) → P → OnErr r P
+on_err (Ok x) p = tt
+on_err (Err e) p = p
 
 -- at the beginning
 pub stands_begun : (p : List (PlainItem ℕ)) (course : PlainCourse) (budget : ℕ) (watch : Option ℕ) → Begins p course → IsBudget budget → IsWatch watch

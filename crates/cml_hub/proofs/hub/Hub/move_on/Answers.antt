@@ -15,7 +15,7 @@ pub meet-requires-clause-allowed : goal.meet-requires-clause-allowed
 meet-requires-clause-allowed g c =
     elim c.if-swaps.branch [
       | then-swaps w ↦ rw (← c.self.view_is)
-        (swap_allowed c.self.inside.course.world w.item c.in-Some.row (rw (w.item-is) refl) c.in-Some.ensures (sym c.swaps.ensures ∙ w.if-swaps.true))
+          (swap_allowed c.self.inside.course.world c.if-swaps.item c.in-Some.row (rw (w.item-is) refl) c.in-Some.ensures (sym c.swaps.ensures ∙ w.if-swaps.true))
       | else-swaps w ↦ rw (← c.self.view_is, w.item-is) c.in-Some.ensures
     ]
 
@@ -27,10 +27,10 @@ pub returns-in-Some-clause-ok : goal.returns-in-Some-clause-ok
 returns-in-Some-clause-ok g c =
     let no_turn : IsNoTurn c.if-swaps.item = elim c.if-swaps.branch [ then-swaps w ↦ rw (w.item-is) tt | else-swaps w ↦ rw (w.item-is) tt ] in
     let tells : TellsSwaps c.args.self.now.course.world c.if-swaps.item =
-        elim c.if-swaps.branch [
-          | then-swaps w ↦ rw (w.item-is) tt
-          | else-swaps w ↦ rw (← c.self.view_is, w.item-is) (sym c.swaps.ensures ∙ w.if-swaps.false)
-        ] in
+    elim c.if-swaps.branch [
+      | then-swaps w ↦ rw (w.item-is) tt
+      | else-swaps w ↦ rw (← c.self.view_is, w.item-is) (sym c.swaps.ensures ∙ w.if-swaps.false)
+    ] in
     (c.if-swaps.item, no_turn, tells, c.in_ok-meet.ensures.moves, c.meet.ensures.out)
 
 pub returns-then-not-is_idle-clause-ok : goal.returns-then-not-is_idle-clause-ok
