@@ -64,8 +64,8 @@ follows_given o old t new p g =
 pub follows_slice : (o : PlainOpening) (old : Kept) (ran : PlainRan) (r : Result (Unit {0}) GiveFault) (new : Kept) → Follows o old → TakesSlice old ran r new
     → Follows o new
 follows_slice o old ran (Ok done) new p t = follows_given o old _ new p t.1
-follows_slice o old ran (Err (Stranger back)) new p t = subst (λ (h : Kept). Follows o h) (sym t.1.1) p
-follows_slice o old ran (Err (Memory back)) new p t = subst (λ (h : Kept). Follows o h) (sym t.1.1) p
+follows_slice o old ran (Err (Stranger back)) new p t = subst (λ (h : Kept). Follows o h) (sym t.2) p
+follows_slice o old ran (Err (Memory back)) new p t = subst (λ (h : Kept). Follows o h) (sym t.2) p
 
 pub went_after : (o : PlainOpening) (hub mid new : Kept) → opening_of hub ≡ o → Follows o mid → GoesOnFrom mid new → GoesOnFrom hub new
 went_after o hub mid new is p q = subst (λ (x : PlainOpening). Follows x new) (sym is) (follows_on o mid new p q)
