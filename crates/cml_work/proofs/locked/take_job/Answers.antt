@@ -5,5 +5,5 @@ use Rattle.cml_work.proofs.locked.take_job.Goals as goal
 
 pub returns-in_err-program-clause-takes : goal.returns-in_err-program-clause-takes
 returns-in_err-program-clause-takes g c =
-    let p = err_from_is_err_and c.from_residual-in_err-program.result c.from_residual-in_err-program.ensures.1 in
+    let p = err_from_is_err_and c.from_residual.result c.from_residual.ensures.1 in
     rw p.1 (extends_same c.args.hub.now, refl)
