@@ -52,34 +52,33 @@ pub sent_more : (a b : Option (List ℕ)) (calls failed : ℕ) (text more : List
     IsSent text (Err fault) (counted_stream a b calls failed) → IsSent (text ++ more) (Err fault) (counted_stream a b calls failed)
 sent_more a b calls failed text more fault sent = (start_more a b text more sent.0, sent.1)
 
-lines_split : {A : Type 0} (f : A → List ℕ) (xs : List A) (i : ℕ) (x : A) → i < length xs → x ≡ get_or xs i x →
-    flat_map f (take (i + 1) xs) ≡ flat_map f (take i xs) ++ f x
-lines_split f xs i x there is =
-    ap (flat_map f) (take_more xs i x there)
-    ∙ flat_map-append f (take i xs) (get_or xs i x ∷ [])
-    ∙ ap (λ y. flat_map f (take i xs) ++ (f y ++ [])) (sym is)
-    ∙ ap (λ (ts : List ℕ). flat_map f (take i xs) ++ ts) (append-nil (f x))
+lines_split : {A : Type 0} (f : A → List ℕ) (xs : List A) (i : ℕ) (d : A) → i < length xs →
+    flat_map f (take (i + 1) xs) ≡ flat_map f (take i xs) ++ f (get_or xs i d)
+lines_split f xs i d there =
+    ap (flat_map f) (take_more xs i d there)
+    ∙ flat_map-append f (take i xs) (get_or xs i d ∷ [])
+    ∙ ap (λ (ts : List ℕ). flat_map f (take i xs) ++ ts) (append-nil (f (get_or xs i d)))
 
 -- the lines up to one, and then that one
-pub lines_behind : {A : Type 0} (f : A → List ℕ) (a b c : Option (List ℕ)) (xs : List A) (i : ℕ) (x : A) (text : List ℕ) →
-    i < length xs → x ≡ get_or xs i x → text ≡ f x →
+pub lines_behind : {A : Type 0} (f : A → List ℕ) (a b c : Option (List ℕ)) (xs : List A) (i : ℕ) (d : A) (text : List ℕ) →
+    i < length xs → text ≡ f (get_or xs i d) →
     Takes (stream a b) (flat_map f (take i xs)) → Takes (stream b c) text →
     Takes (stream a c) (flat_map f (take (i + 1) xs))
-lines_behind f a b c xs i x text there is same before then =
-    subst (λ (ts : List ℕ). Takes (stream a c) ts) (ap (λ (ts : List ℕ). flat_map f (take i xs) ++ ts) same ∙ sym (lines_split f xs i x there is))
+lines_behind f a b c xs i d text there same before then =
+    subst (λ (ts : List ℕ). Takes (stream a c) ts) (ap (λ (ts : List ℕ). flat_map f (take i xs) ++ ts) same ∙ sym (lines_split f xs i d there))
     (Appends-trans a b c _ _ before then)
 
 -- the lines up to one, of which a write failed
-pub lines_ended : {A : Type 0} (f : A → List ℕ) (a b c : Option (List ℕ)) (xs : List A) (i : ℕ) (x : A) (text : List ℕ) (fault : WriteFault) (calls failed : ℕ) →
-    i < length xs → x ≡ get_or xs i x → text ≡ f x →
+pub lines_ended : {A : Type 0} (f : A → List ℕ) (a b c : Option (List ℕ)) (xs : List A) (i : ℕ) (d : A) (text : List ℕ) (fault : WriteFault) (calls failed : ℕ) →
+    i < length xs → text ≡ f (get_or xs i d) →
     Takes (stream a b) (flat_map f (take i xs)) → IsSent text (Err fault) (counted_stream b c calls failed) →
     IsSent (flat_map f xs) (Err fault) (counted_stream a c calls failed)
-lines_ended f a b c xs i x text fault calls failed there is same before sent = (
+lines_ended f a b c xs i d text fault calls failed there same before sent = (
   subst (λ (ts : List ℕ). TakesStart (stream a c) ts)
       (sym (flat_map-append f (take (i + 1) xs) (drop (i + 1) xs)) ∙ ap (flat_map f) (take-append-drop (i + 1) xs))
       (start_more a c (flat_map f (take (i + 1) xs)) (flat_map f (drop (i + 1) xs))
       (subst (λ (ts : List ℕ). TakesStart (stream a c) ts)
-      (ap (λ (ts : List ℕ). flat_map f (take i xs) ++ ts) same ∙ sym (lines_split f xs i x there is))
+      (ap (λ (ts : List ℕ). flat_map f (take i xs) ++ ts) same ∙ sym (lines_split f xs i d there))
       (start_behind a b c _ _ before sent.0))),
   sent.1,
 )
