@@ -4,7 +4,7 @@ use Rattle.std.proofs.lemmas.List.{take-append-drop}
 use Rattle.cml_stream.specs.Counts.{Calls, counted}
 use Rattle.cml_stream.specs.Streams.{Stream, stream, Takes, TakesStart, Says}
 use Rattle.cml_stream.specs.declared.input_output.WriteFault.{WriteFault}
-use Rattle.cml_host.specs.Told.{SaysStill, IsSent}
+use Rattle.cml_host.specs.Told.{SaysStill, IsSentText}
 use Rattle.cml_host.proofs.TellLemmas.{start_behind}
 
 -- a first part of it was written
@@ -24,7 +24,7 @@ said_of (Err e) output text calls was failed none whole part fine broken =
 pub sent_of : (r : Result (Unit {0}) WriteFault) (output : Stream) (text : List ℕ) (calls was failed : ℕ) → was ≡ 0 →
     OnOk r (Takes output text) → OnErr r ((n : ℕ) × Takes output (take n text)) →
     OnOk r (failed ≡ was) → OnErr r (failed ≡ counted was) →
-    IsSent text r (record { bytes = output; counts = record { calls = calls; failed = failed } })
+    IsSentText text r (record { bytes = output; counts = record { calls = calls; failed = failed } })
 sent_of (Ok done) output text calls was failed none whole part fine broken = (whole, fine ∙ none)
 sent_of (Err fault) output text calls was failed none whole part fine broken = (start_taken output text part.0 part.1, broken ∙ ap counted none)
 

@@ -10,7 +10,7 @@ use Rattle.cml_monitor.specs.Reports.{PlainReport}
 use Rattle.cml_scan.specs.World.{pending}
 use Rattle.cml_stream.specs.Streams.{Counted, stream, counted_stream, Takes, TakesStart, Says, IsIdle}
 use Rattle.cml_stream.specs.declared.input_output.WriteFault.{WriteFault}
-use Rattle.cml_host.specs.Told.{reports_text, end_line, whole_output, cannot_write, SaysStill, Breaks, ReportsBroke, MemoryBroke, OutputBroke, OutputNotTold, IsTold, IsNotTold, IsCutOff, IsLiveCutOff, IsSent}
+use Rattle.cml_host.specs.Told.{reports_text, end_line, whole_output, cannot_write, SaysStill, Breaks, ReportsBroke, MemoryBroke, OutputBroke, OutputNotTold, IsTold, IsNotTold, IsCutOff, IsLiveCutOff, IsSentText}
 
 -- a text, and then a prefix of one more
 pub start_behind : (a b c : Option (List ℕ)) (text more : List ℕ) →
@@ -43,13 +43,13 @@ breaks_behind a b c calls failed text told part (inr said) =
 
 -- a text, and then how the writing of another ended
 pub sent_behind : (a b c : Option (List ℕ)) (calls failed : ℕ) (text more : List ℕ) (ended : Result (Unit {0}) WriteFault) →
-    Takes (stream a b) text → IsSent more ended (counted_stream b c calls failed) → IsSent (text ++ more) ended (counted_stream a c calls failed)
+    Takes (stream a b) text → IsSentText more ended (counted_stream b c calls failed) → IsSentText (text ++ more) ended (counted_stream a c calls failed)
 sent_behind a b c calls failed text more (Ok done) first then = (Appends-trans a b c text more first then.0, then.1)
 sent_behind a b c calls failed text more (Err fault) first then = (start_behind a b c text more first then.0, then.1)
 
 -- where the writing of a text failed, so did that of the text with more after it
 pub sent_more : (a b : Option (List ℕ)) (calls failed : ℕ) (text more : List ℕ) (fault : WriteFault) →
-    IsSent text (Err fault) (counted_stream a b calls failed) → IsSent (text ++ more) (Err fault) (counted_stream a b calls failed)
+    IsSentText text (Err fault) (counted_stream a b calls failed) → IsSentText (text ++ more) (Err fault) (counted_stream a b calls failed)
 sent_more a b calls failed text more fault sent = (start_more a b text more sent.0, sent.1)
 
 lines_split : {A : Type 0} (f : A → List ℕ) (xs : List A) (i : ℕ) (d : A) → i < length xs →
@@ -71,8 +71,8 @@ lines_behind f a b c xs i d text there same before then =
 -- the lines up to one, of which a write failed
 pub lines_ended : {A : Type 0} (f : A → List ℕ) (a b c : Option (List ℕ)) (xs : List A) (i : ℕ) (d : A) (text : List ℕ) (fault : WriteFault) (calls failed : ℕ) →
     i < length xs → text ≡ f (get_or xs i d) →
-    Takes (stream a b) (flat_map f (take i xs)) → IsSent text (Err fault) (counted_stream b c calls failed) →
-    IsSent (flat_map f xs) (Err fault) (counted_stream a c calls failed)
+    Takes (stream a b) (flat_map f (take i xs)) → IsSentText text (Err fault) (counted_stream b c calls failed) →
+    IsSentText (flat_map f xs) (Err fault) (counted_stream a c calls failed)
 lines_ended f a b c xs i d text fault calls failed there same before sent = (
   subst (λ (ts : List ℕ). TakesStart (stream a c) ts)
       (sym (flat_map-append f (take (i + 1) xs) (drop (i + 1) xs)) ∙ ap (flat_map f) (take-append-drop (i + 1) xs))

@@ -19,8 +19,8 @@ use Rattle.cml_stream.specs.declared.input_output.WriteFault.{WriteFault}
 -- ---- what there is to tell
 
 -- the first line of a report: after how many items it was made, and how many rows and threads it shows
-abbrev pub head_line : PlainReport → List ℕ
-head_line r = line (codes "report" ++ spaced r.at ++ codes " rows" ++ spaced (length r.rows) ++ codes " waiting" ++ spaced (length r.waiting))
+abbrev pub report_head : PlainReport → List ℕ
+report_head r = line (codes "report" ++ spaced r.at ++ codes " rows" ++ spaced (length r.rows) ++ codes " waiting" ++ spaced (length r.waiting))
 
 -- the line of a thread that waits
 abbrev pub waits_line : Tid → List ℕ
@@ -141,6 +141,6 @@ OutputNotTold reports so_far text output errors status =
     ⊎ (MemoryBroke reports so_far output errors status ⊎ OutputBroke reports so_far output errors status)
 
 -- how the writing of a text ends: it was written; or a write failed after a prefix of it
-abbrev pub IsSent : List ℕ → Result (Unit {0}) WriteFault → Counted → Type 0
-IsSent text (Ok done) errors = Takes errors.bytes text × (errors.counts.failed ≡ 0)
-IsSent text (Err fault) errors = TakesStart errors.bytes text × (errors.counts.failed ≡ 1)
+abbrev pub IsSentText : List ℕ → Result (Unit {0}) WriteFault → Counted → Type 0
+IsSentText text (Ok done) errors = Takes errors.bytes text × (errors.counts.failed ≡ 0)
+IsSentText text (Err fault) errors = TakesStart errors.bytes text × (errors.counts.failed ≡ 1)

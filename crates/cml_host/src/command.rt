@@ -54,7 +54,9 @@ where
     let mut input = Counting::new(input);
     let mut out = Counting::new(out);
     let mut err = Counting::new(err);
-    run_command_counted(rt, alloc, &Open, words, &mut input, &mut out, &mut err, store)
+    run_command_counted(
+        rt, alloc, &Open, words, &mut input, &mut out, &mut err, store,
+    )
 }
 
 /// Runs the command as [`run_command`] does, over streams whose calls are counted, and of which none was called yet. A fault of the input
@@ -97,7 +99,9 @@ where
         Ok(Answer::Task(Task::Trace)) => trace(alloc, input, out, err),
         Ok(Answer::Task(Task::Check(name))) => check_file(alloc, name, out, err, store),
         Ok(Answer::Task(Task::Fmt(name))) => print_file(alloc, name, out, err, store),
-        Ok(Answer::Task(Task::Run(options))) => run_file(rt, alloc, gate, &options, out, err, store),
+        Ok(Answer::Task(Task::Run(options))) => run_file(
+            rt, alloc, gate, &options, out, err, store,
+        ),
         Ok(Answer::Task(Task::Replay(options))) => replay_file(alloc, &options, out, err, store),
         Ok(Answer::Help(text)) => send_text(text.as_bytes(), out, err),
         Ok(Answer::Fault(text)) => {

@@ -2,7 +2,7 @@
 
 ghost use Rattle.std.specs.Prelude.{◌≡◌, ◌+◌, ◌≤◌, ◌++◌, length};
 ghost use Rattle.arrayvec.specs.ArrayString.{array_string_len};
-ghost use Rattle.cml_host.specs.Told.{head_line as head_text};
+ghost use Rattle.cml_host.specs.Told.{report_head};
 ghost use Rattle.cml_monitor.specs.Reports.{report_row_line, wait_line as wait_text};
 ghost use Rattle.cml_scan.specs.Numbers.{spaced};
 
@@ -17,7 +17,7 @@ pub const ROOM: usize = 256;
 
 /// The first line of a report.
 pub fn head_line(report: &Report) -> ArrayString<ROOM>
-    ensures { result.bytes ≡ head_text report.now }
+    ensures { result.bytes ≡ report_head report.now }
 {
     let mut line = ArrayString::new();
     line.push_str("report");

@@ -2,7 +2,7 @@
 
 ghost use Rattle.std.specs.Prelude.{◌≡◌};
 ghost use Rattle.std.specs.List.{flat_map};
-ghost use Rattle.cml_host.specs.Told.{IsSent, reports_text, waits_line};
+ghost use Rattle.cml_host.specs.Told.{IsSentText, reports_text, waits_line};
 ghost use Rattle.cml_monitor.specs.Reports.{report_row_line, report_text};
 ghost use Rattle.cml_stream.specs.Streams.{counted_stream};
 
@@ -24,7 +24,7 @@ pub fn send_reports<E: Write>(
 ) -> Result<(), WriteFault>
     requires fresh { err.old.failed ≡ 0 }
     ensures sent { let errors = counted_stream (E.contents err.old.stream.now) (E.contents err.new.stream.now) err.new.calls err.new.failed in
-        IsSent (reports_text reports.now) result errors }
+        IsSentText (reports_text reports.now) result errors }
     ensures same_err { err.new.stream.ghost_name ≡ err.old.stream.ghost_name }
 {
     for report in reports {
@@ -37,7 +37,7 @@ pub fn send_reports<E: Write>(
 fn send_report<E: Write>(report: &Report, err: &mut Counting<'_, E>) -> Result<(), WriteFault>
     requires fresh { err.old.failed ≡ 0 }
     ensures sent { let errors = counted_stream (E.contents err.old.stream.now) (E.contents err.new.stream.now) err.new.calls err.new.failed in
-        IsSent (report_text report.now) result errors }
+        IsSentText (report_text report.now) result errors }
     ensures same_err { err.new.stream.ghost_name ≡ err.old.stream.ghost_name }
 {
     send_line(head_line(report).as_str(), err)?;
@@ -49,7 +49,7 @@ fn send_report<E: Write>(report: &Report, err: &mut Counting<'_, E>) -> Result<(
 fn send_rows<E: Write>(rows: &[Meet], err: &mut Counting<'_, E>) -> Result<(), WriteFault>
     requires fresh { err.old.failed ≡ 0 }
     ensures sent { let errors = counted_stream (E.contents err.old.stream.now) (E.contents err.new.stream.now) err.new.calls err.new.failed in
-        IsSent (flat_map report_row_line rows.now) result errors }
+        IsSentText (flat_map report_row_line rows.now) result errors }
     ensures same_err { err.new.stream.ghost_name ≡ err.old.stream.ghost_name }
 {
     for row in rows {
@@ -62,7 +62,7 @@ fn send_rows<E: Write>(rows: &[Meet], err: &mut Counting<'_, E>) -> Result<(), W
 fn send_waiting<E: Write>(threads: &[Tid], err: &mut Counting<'_, E>) -> Result<(), WriteFault>
     requires fresh { err.old.failed ≡ 0 }
     ensures sent { let errors = counted_stream (E.contents err.old.stream.now) (E.contents err.new.stream.now) err.new.calls err.new.failed in
-        IsSent (flat_map waits_line threads.now) result errors }
+        IsSentText (flat_map waits_line threads.now) result errors }
     ensures same_err { err.new.stream.ghost_name ≡ err.old.stream.ghost_name }
 {
     for thread in threads {
@@ -75,7 +75,7 @@ fn send_waiting<E: Write>(threads: &[Tid], err: &mut Counting<'_, E>) -> Result<
 fn send_line<E: Write>(line: &str, err: &mut Counting<'_, E>) -> Result<(), WriteFault>
     requires fresh { err.old.failed ≡ 0 }
     ensures sent { let errors = counted_stream (E.contents err.old.stream.now) (E.contents err.new.stream.now) err.new.calls err.new.failed in
-        IsSent line.now result errors }
+        IsSentText line.now result errors }
     ensures same_err { err.new.stream.ghost_name ≡ err.old.stream.ghost_name }
 {
     write_out(err, line.as_bytes())

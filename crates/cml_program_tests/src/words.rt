@@ -23,7 +23,8 @@ Options:
 ";
 
 // The help of `run`.
-const RUN_HELP: &str = "Runs a script\n\nUsage: cml run [OPTIONS] <FILE>\n\nArguments:\n  <FILE>  \n\nOptions:\n      --workers <N>    How many workers run its threads, 1 to 64 [default: 1]\n      --steps <B>      How many steps it may take, 1 to 1000000000 [default: 1000000]\n      --seed <S>       Draws the choices from this number\n      --watch <K>      Reports after every K items of the schedule, 1 to 1000000000\n      --record <FILE>  Saves the schedule of the run\n  -h, --help           Print help\n";
+const RUN_HELP: &str =
+    "Runs a script\n\nUsage: cml run [OPTIONS] <FILE>\n\nArguments:\n  <FILE>  \n\nOptions:\n      --workers <N>    How many workers run its threads, 1 to 64 [default: 1]\n      --steps <B>      How many steps it may take, 1 to 1000000000 [default: 1000000]\n      --seed <S>       Draws the choices from this number\n      --watch <K>      Reports after every K items of the schedule, 1 to 1000000000\n      --record <FILE>  Saves the schedule of the run\n  -h, --help           Print help\n";
 
 // Arguments, what is written to the output and to the errors, and the status.
 struct Asked {

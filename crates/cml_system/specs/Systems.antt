@@ -14,5 +14,5 @@ abbrev pub RanOnSystem : Surroundings → ℕ → Type 0
 RanOnSystem around status = ((words : List (List ℕ)) × Ran words around status) ⊎ IsOutOfMemory around status
 
 -- no stream was called
-abbrev pub IsLeft : Surroundings → Type 0
-IsLeft around = IsIdle around.input × IsIdle around.output × IsIdle around.errors
+abbrev pub NothingCalled : Surroundings → Type 0
+NothingCalled around = IsIdle around.input × IsIdle around.output × IsIdle around.errors

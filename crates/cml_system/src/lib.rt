@@ -5,16 +5,15 @@ ghost use Rattle.std.specs.Prelude.{◌≡◌, ◌≤◌, IfOk, OnErr};
 ghost use Rattle.cml_host.specs.Statuses.{Surroundings};
 ghost use Rattle.cml_stream.specs.Counts.{most_reads};
 ghost use Rattle.cml_stream.specs.Streams.{counted_stream};
-ghost use Rattle.cml_system.specs.Systems.{RanOnSystem, IsLeft, files};
+ghost use Rattle.cml_system.specs.Systems.{RanOnSystem, NothingCalled, files};
 ghost use Rattle.cml_trace.specs.Answers.{max_input};
 
 mod disk;
 mod saving;
 
-pub use disk::Disk;
-
 use cml_host::{Open, run_command_counted, say};
 use cml_stream::Counting;
+pub use disk::Disk;
 use std::io::{ErrorKind, Read, Write};
 use std::rt::{Env, Files};
 use std::sync::Wait;
@@ -58,7 +57,7 @@ where
       errors = counted_stream (E.contents err.old.stream.now) (E.contents err.new.stream.now) err.new.calls err.new.failed;
       store = files;
     } in
-        OnErr result (IsLeft around) }
+        OnErr result (NothingCalled around) }
     ensures most { input.new.calls ≤ most_reads max_input }
 {
     let alloc = rt.alloc();

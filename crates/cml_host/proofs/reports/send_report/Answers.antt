@@ -4,7 +4,7 @@ use Rattle.std.proofs.KnownBytes.{Appends-trans}
 use Rattle.std.proofs.lemmas.List.Folds.{flat_map-map}
 use Rattle.cml_monitor.specs.Reports.{report_row_line, wait_line}
 use Rattle.cml_stream.specs.Streams.{stream, counted_stream, Takes}
-use Rattle.cml_host.specs.Told.{IsSent, head_line, waits_line}
+use Rattle.cml_host.specs.Told.{IsSentText, report_head, waits_line}
 use Rattle.cml_host.proofs.TellLemmas.{sent_behind, sent_more}
 use Rattle.cml_host.proofs.reports.send_report.Goals as goal
 
@@ -18,8 +18,8 @@ returns-in_err-send_line-clause-sent g c =
     let rows = flat_map report_row_line r.rows in
     let fault = c.in_err-send_line.field-0.0 in
     let is : c.from_residual.result ≡ Err fault = search rules in
-    let sent = subst (λ (ts : List ℕ). IsSent ts (Err fault) (counted_stream a b n k)) (c.as_str.ensures.value ∙ c.head_line.ensures) c.in_err-send_line.ensures.sent in
-    rw is (sent_more a b n k (head_line r ++ rows) (flat_map wait_line r.waiting) fault (sent_more a b n k (head_line r) rows fault sent))
+    let sent = subst (λ (ts : List ℕ). IsSentText ts (Err fault) (counted_stream a b n k)) (c.as_str.ensures.value ∙ c.report_head.ensures) c.in_err-send_line.ensures.sent in
+    rw is (sent_more a b n k (report_head r ++ rows) (flat_map wait_line r.waiting) fault (sent_more a b n k (report_head r) rows fault sent))
 
 pub returns-in_err-send_rows-clause-sent : goal.returns-in_err-send_rows-clause-sent
 returns-in_err-send_rows-clause-sent g c =
@@ -32,9 +32,9 @@ returns-in_err-send_rows-clause-sent g c =
     let rows = flat_map report_row_line r.rows in
     let fault = c.in_err-send_rows.field-0.0 in
     let is : c.from_residual-in_err-send_rows.result ≡ Err fault = search rules in
-    let first = subst (λ (ts : List ℕ). Takes (stream a b) ts) (c.as_str.ensures.value ∙ c.head_line.ensures) c.in_ok-send_line.ensures.sent.0 in
-    let then = subst (λ (ts : List ℕ). IsSent ts (Err fault) (counted_stream b d n k)) (ap (flat_map report_row_line) c.rows.ensures) c.in_err-send_rows.ensures.sent in
-    rw is (sent_more a d n k (head_line r ++ rows) (flat_map wait_line r.waiting) fault (sent_behind a b d n k (head_line r) rows (Err fault) first then))
+    let first = subst (λ (ts : List ℕ). Takes (stream a b) ts) (c.as_str.ensures.value ∙ c.report_head.ensures) c.in_ok-send_line.ensures.sent.0 in
+    let then = subst (λ (ts : List ℕ). IsSentText ts (Err fault) (counted_stream b d n k)) (ap (flat_map report_row_line) c.rows.ensures) c.in_err-send_rows.ensures.sent in
+    rw is (sent_more a d n k (report_head r ++ rows) (flat_map wait_line r.waiting) fault (sent_behind a b d n k (report_head r) rows (Err fault) first then))
 
 pub returns-clause-sent : goal.returns-clause-sent
 returns-clause-sent g c =
@@ -46,9 +46,9 @@ returns-clause-sent g c =
     let k = c.send_waiting.new.err.failed in
     let r = c.args.report.now in
     let rows = flat_map report_row_line r.rows in
-    let first = subst (λ (ts : List ℕ). Takes (stream a b) ts) (c.as_str.ensures.value ∙ c.head_line.ensures) c.in_ok-send_line.ensures.sent.0 in
+    let first = subst (λ (ts : List ℕ). Takes (stream a b) ts) (c.as_str.ensures.value ∙ c.report_head.ensures) c.in_ok-send_line.ensures.sent.0 in
     let then = subst (λ (ts : List ℕ). Takes (stream b d) ts) (ap (flat_map report_row_line) c.rows.ensures) c.in_ok-send_rows.ensures.sent.0 in
     let same : flat_map waits_line c.waiting.result.now ≡ flat_map wait_line r.waiting =
     sym (flat_map-map wait_line (λ t. t.0) c.waiting.result.now) ∙ ap (flat_map wait_line) c.waiting.ensures in
-    let last = subst (λ (ts : List ℕ). IsSent ts c.send_waiting.result (counted_stream d e n k)) same c.send_waiting.ensures.sent in
-    sent_behind a d e n k (head_line r ++ rows) (flat_map wait_line r.waiting) c.send_waiting.result (Appends-trans a b d (head_line r) rows first then) last
+    let last = subst (λ (ts : List ℕ). IsSentText ts c.send_waiting.result (counted_stream d e n k)) same c.send_waiting.ensures.sent in
+    sent_behind a d e n k (report_head r ++ rows) (flat_map wait_line r.waiting) c.send_waiting.result (Appends-trans a b d (report_head r) rows first then) last
