@@ -1,5 +1,8 @@
 //! Saving a file: beside the one that is meant, in place of which it comes when it is whole.
 
+ghost use Rattle.std.specs.Prelude.{OnOk};
+ghost use Rattle.cml_stream.specs.Streams.{stream, Takes};
+
 use arrayvec::ArrayString;
 use cml_host::{StoreFault, save_to};
 use cml_stream::Counting;
@@ -86,7 +89,10 @@ fn fill<F: Write + OpenFile>(
     file: &mut F,
     old: Option<Permissions>,
     bytes: &[u8],
-) -> Result<(), StoreFault> {
+) -> Result<(), StoreFault>
+    ensures { let kept = stream (F.contents file.old) (F.contents file.new) in
+        OnOk result (Takes kept bytes.now) }
+{
     if let Some(permissions) = old
         && file.set_permissions(permissions).is_err()
     {
