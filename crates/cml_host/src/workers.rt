@@ -22,7 +22,7 @@ use std::thread::Threads;
 use thiserror::Error;
 
 /// Why a run is not told as one that has come to its end.
-#[derive(Clone, Copy, Debug, PartialEq, Eq, Error)]
+#[derive(Clone, Copy, Debug, Error)]
 pub enum Cause {
     /// Out of memory, or no thread could be started.
     #[error("out of memory")]
