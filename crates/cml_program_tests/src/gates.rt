@@ -7,10 +7,13 @@ use cml_stream::Counting;
 use cml_value::Tid;
 use cml_work::Gate;
 use std::alloc::Global;
+use std::process::Abort;
 use std::rt::HostRuntime;
+use std::sync::Wait;
 use std::sync::atomic::{AtomicU64, Ordering};
 use std::test::Fail;
 use std::thread;
+use std::thread::Threads;
 use std::time::Duration;
 
 // Six threads, of which each ends after one turn.
@@ -60,33 +63,31 @@ impl Gate for Meeting {
 
 // Runs the script through the gate.
 fn run_through(
-    rt: HostRuntime,
+    rt: &(impl Abort + Threads + Wait + Sync),
     alloc: Global,
     line: &str,
-    wanted: u64,
-    patience: u64,
-) -> Result<Meeting, Fail> {
-    let gate = Meeting::new(rt, wanted, patience);
+    gate: &Meeting,
+) -> Result<(), Fail> {
     let words = words(alloc, line)?;
-    let mut store = filled(&rt, alloc, &[("A", TURNS)]);
+    let mut store = filled(rt, alloc, &[("A", TURNS)]);
     let mut input = "".as_bytes();
     let (mut out, mut err) = (Vec::new(alloc), Vec::new(alloc));
     let status = run_command_counted(
-        &rt,
+        rt,
         alloc,
-        &gate,
+        gate,
         words.as_slice(),
         &mut Counting::new(&mut input),
         &mut Counting::new(&mut out),
         &mut Counting::new(&mut err),
         &mut store,
     );
-    assert!(rt; status == 0 && out.as_slice() == b"end quiet pending 0\n");
+    assert!(rt; status == 0 && out.as_slice() == b"end quiet pending 0\n".as_slice());
     drop(words);
     drop(store);
     drop(out);
     drop(err);
-    Ok(gate)
+    Ok(())
 }
 
 #[test]
@@ -97,7 +98,8 @@ fn as_many_slices_are_out_as_there_are_workers(rt: HostRuntime) -> Result<(), Fa
         ("run A --workers 4 --watch 1", 4),
         ("run A --workers 6 --seed 7", 6),
     ] {
-        let gate = run_through(rt, rt.alloc(), line, wanted, 10_000)?;
+        let gate = Meeting::new(rt, wanted, 10_000);
+        run_through(&rt, rt.alloc(), line, &gate)?;
         assert!(rt; gate.missed.load(Ordering::SeqCst) == 0, "{line}");
         drop(gate);
     }
@@ -107,12 +109,14 @@ fn as_many_slices_are_out_as_there_are_workers(rt: HostRuntime) -> Result<(), Fa
 #[test]
 fn no_more_slices_are_out_than_there_are_workers(rt: HostRuntime) -> Result<(), Fail> {
     for (line, wanted) in [("run A --workers 2", 3), ("run A --workers 3 --watch 1", 4)] {
-        let gate = run_through(rt, rt.alloc(), line, wanted, 100)?;
+        let gate = Meeting::new(rt, wanted, 100);
+        run_through(&rt, rt.alloc(), line, &gate)?;
         assert!(rt; gate.missed.load(Ordering::SeqCst) > 0, "{line}");
         drop(gate);
     }
     for line in ["run A", "run A --workers 1 --watch 1"] {
-        let gate = run_through(rt, rt.alloc(), line, 1, 100)?;
+        let gate = Meeting::new(rt, 1, 100);
+        run_through(&rt, rt.alloc(), line, &gate)?;
         assert!(rt; gate.slices.load(Ordering::SeqCst) == 0, "{line}");
         drop(gate);
     }
