@@ -56,14 +56,22 @@ pub fn save_as_it_lies<R: Files>(rt: &R, name: &str, bytes: &[u8]) -> Result<(),
 // The name of a file beside the one of this name, in the same folder; none where it is longer than a path.
 fn name_beside(name: &str, number: u32) -> Option<ArrayString<PATH>> {
     let mut path = ArrayString::new();
+    let mut fits = true;
     if let Some((folder, _)) = name.rsplit_once('/') {
-        path.try_push_str(folder).ok()?;
-        path.try_push_str("/").ok()?;
+        fits = push(&mut path, folder) && push(&mut path, "/");
     }
+    fits = fits && push(&mut path, ".cml-saving-") && push_number(&mut path, number);
+    if fits { Some(path) } else { None }
+}
+
+// Appends the text, and returns whether there was room.
+fn push(path: &mut ArrayString<PATH>, text: &str) -> bool {
+    path.try_push_str(text).is_ok()
+}
+
+fn push_number(path: &mut ArrayString<PATH>, number: u32) -> bool {
     let mut digits = Buffer::new();
-    path.try_push_str(".cml-saving-").ok()?;
-    path.try_push_str(digits.format(number)).ok()?;
-    Some(path)
+    push(path, digits.format(number))
 }
 
 // Fills the new file and gives it the name; or where that is refused takes it away.
