@@ -45,6 +45,8 @@ impl Meeting {
 }
 
 impl Gate for Meeting {
+    ghost told = { λ gate thread. Unit {0} };
+
     fn enter(&self, thread: Tid) {
         self.slices.fetch_add(1, Ordering::SeqCst);
         if thread.0 == 0 || u64::from(thread.0) > self.wanted {
