@@ -18,7 +18,7 @@ returns-in_err-send_line-clause-sent g c =
     let rows = flat_map report_row_line r.rows in
     let fault = c.in_err-send_line.field-0.0 in
     let is : c.from_residual.result ≡ Err fault = search rules in
-    let sent = subst (λ (ts : List ℕ). IsSentText ts (Err fault) (counted_stream a b n k)) (c.as_str.ensures.value ∙ c.report_head.ensures) c.in_err-send_line.ensures.sent in
+    let sent = subst (λ (ts : List ℕ). IsSentText ts (Err fault) (counted_stream a b n k)) (c.as_str.ensures.value ∙ c.head_line.ensures) c.in_err-send_line.ensures.sent in
     rw is (sent_more a b n k (report_head r ++ rows) (flat_map wait_line r.waiting) fault (sent_more a b n k (report_head r) rows fault sent))
 
 pub returns-in_err-send_rows-clause-sent : goal.returns-in_err-send_rows-clause-sent
@@ -32,7 +32,7 @@ returns-in_err-send_rows-clause-sent g c =
     let rows = flat_map report_row_line r.rows in
     let fault = c.in_err-send_rows.field-0.0 in
     let is : c.from_residual-in_err-send_rows.result ≡ Err fault = search rules in
-    let first = subst (λ (ts : List ℕ). Takes (stream a b) ts) (c.as_str.ensures.value ∙ c.report_head.ensures) c.in_ok-send_line.ensures.sent.0 in
+    let first = subst (λ (ts : List ℕ). Takes (stream a b) ts) (c.as_str.ensures.value ∙ c.head_line.ensures) c.in_ok-send_line.ensures.sent.0 in
     let then = subst (λ (ts : List ℕ). IsSentText ts (Err fault) (counted_stream b d n k)) (ap (flat_map report_row_line) c.rows.ensures) c.in_err-send_rows.ensures.sent in
     rw is (sent_more a d n k (report_head r ++ rows) (flat_map wait_line r.waiting) fault (sent_behind a b d n k (report_head r) rows (Err fault) first then))
 
@@ -46,7 +46,7 @@ returns-clause-sent g c =
     let k = c.send_waiting.new.err.failed in
     let r = c.args.report.now in
     let rows = flat_map report_row_line r.rows in
-    let first = subst (λ (ts : List ℕ). Takes (stream a b) ts) (c.as_str.ensures.value ∙ c.report_head.ensures) c.in_ok-send_line.ensures.sent.0 in
+    let first = subst (λ (ts : List ℕ). Takes (stream a b) ts) (c.as_str.ensures.value ∙ c.head_line.ensures) c.in_ok-send_line.ensures.sent.0 in
     let then = subst (λ (ts : List ℕ). Takes (stream b d) ts) (ap (flat_map report_row_line) c.rows.ensures) c.in_ok-send_rows.ensures.sent.0 in
     let same : flat_map waits_line c.waiting.result.now ≡ flat_map wait_line r.waiting =
     sym (flat_map-map wait_line (λ t. t.0) c.waiting.result.now) ∙ ap (flat_map wait_line) c.waiting.ensures in
