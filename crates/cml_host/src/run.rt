@@ -17,6 +17,7 @@ use cml_check::Prog;
 use cml_hub::Hub;
 use cml_stream::Counting;
 use cml_words::RunOptions;
+use cml_work::Gate;
 use std::alloc::{AllocError, Global};
 use std::io::Write;
 use std::sync::Wait;
@@ -30,9 +31,10 @@ struct Record {
 }
 
 /// Runs the script that lies under the name.
-pub fn run_file<R, O, E, S>(
+pub fn run_file<R, G, O, E, S>(
     rt: &R,
     alloc: Global,
+    gate: &G,
     options: &RunOptions<'_>,
     out: &mut Counting<'_, O>,
     err: &mut Counting<'_, E>,
@@ -40,6 +42,7 @@ pub fn run_file<R, O, E, S>(
 ) -> u8
 where
     R: Threads + Wait + Sync,
+    G: Gate + Sync,
     O: Write,
     E: Write + Send,
     S: Store,
@@ -53,15 +56,16 @@ where
     ensures same_err { err.new.stream.ghost_name ≡ err.old.stream.ghost_name }
 {
     match open_script(alloc, options.file, store) {
-        Ok(program) => run_program(rt, alloc, program, options, out, err, store),
+        Ok(program) => run_program(rt, alloc, gate, program, options, out, err, store),
         Err(why) => refuse(alloc, options.file, why, 2, err),
     }
 }
 
 // Runs the program.
-fn run_program<R, O, E, S>(
+fn run_program<R, G, O, E, S>(
     rt: &R,
     alloc: Global,
+    gate: &G,
     program: Prog,
     options: &RunOptions<'_>,
     out: &mut Counting<'_, O>,
@@ -70,6 +74,7 @@ fn run_program<R, O, E, S>(
 ) -> u8
 where
     R: Threads + Wait + Sync,
+    G: Gate + Sync,
     O: Write,
     E: Write + Send,
     S: Store,
@@ -86,7 +91,7 @@ where
         say(err, b"memory\n");
         return 5;
     };
-    match run_hub(rt, alloc, hub, options, err) {
+    match run_hub(rt, alloc, gate, hub, options, err) {
         Ok(hub) => {
             hub_is_a_run(&hub);
             end(alloc, &hub, options, out, err, store)
