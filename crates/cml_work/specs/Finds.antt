@@ -36,7 +36,7 @@ HaveOneState old new = (new.is_stopped ≡ old.is_stopped) × (new.is_done ≡ o
 
 -- What the watcher is told of the report of this number: the hub's own; or that the hub has none of that number, and whether the workers
 -- have ended.
-abbrev pub Tells : Held → ℕ → Told → Type 0
-Tells held n (told.Report r) = slice_get held.hub.reports n ≡ Some r
-Tells held n told.Wait = (length held.hub.reports ≤ n) × (held.is_done ≡ false)
-Tells held n told.Over = (length held.hub.reports ≤ n) × (held.is_done ≡ true)
+abbrev pub TellsReport : Held → ℕ → Told → Type 0
+TellsReport held n (told.Report r) = slice_get held.hub.reports n ≡ Some r
+TellsReport held n told.Wait = (length held.hub.reports ≤ n) × (held.is_done ≡ false)
+TellsReport held n told.Over = (length held.hub.reports ≤ n) × (held.is_done ≡ true)

@@ -11,8 +11,8 @@ pub record Held : Type 0 where
   pub is_done : Bool
 
 -- A code of it: a tree of numbers from which it can be read back. The toolchain asks for it; no rule uses it.
-abbrev pub held_code : Coded Held
-held_code =
+abbrev pub locked_code : Coded Held
+locked_code =
     code_by (Kept × (Bool × Bool)) (coded× kept_code (coded× coded_bool coded_bool))
     (λ h. (h.hub, (h.is_stopped, h.is_done)))
     (λ t. record { hub = t.0; is_stopped = t.1.0; is_done = t.1.1 })

@@ -2,7 +2,7 @@
 
 ghost use Rattle.std.specs.Prelude.{◌≡◌, IfOk, true, false};
 ghost use Rattle.cml_hub.specs.Kept.{TakesSlice};
-ghost use Rattle.cml_work.specs.Finds.{TakesOnce, FindsNothing, HaveOneState, Tells};
+ghost use Rattle.cml_work.specs.Finds.{TakesOnce, FindsNothing, HaveOneState, TellsReport};
 ghost use Rattle.cml_work.specs.Works.{Follows, GoesOnFrom, IsJob, opening_of};
 
 use crate::opening::Opening;
@@ -25,12 +25,12 @@ pub(crate) struct Locked<O: Opening, C: Chooser + Drop> {
 }
 
 impl<O: Opening, C: Chooser + Drop> Model for Locked<O, C> {
-    ghost use Rattle.cml_work.specs.Held.{Held, held_code};
+    ghost use Rattle.cml_work.specs.Held.{Held, locked_code};
     ghost use Rattle.cml_work.specs.Works.{Follows};
 
     ghost Value = { Held };
 
-    ghost coded = { held_code };
+    ghost coded = { locked_code };
 
     ghost view = { λ l. record { hub = l.hub; is_stopped = l.is_stopped; is_done = l.is_done } };
 
@@ -153,7 +153,7 @@ impl<O: Opening, C: Chooser + Drop> Locked<O, C> {
 
     // A copy of the report of this number, from 0, if it is made, whether the workers go on or not.
     pub(crate) fn report(&self, number: usize) -> Result<Told, AllocError>
-        ensures { IfOk result (λ told. Tells self.now number told) }
+        ensures { IfOk result (λ told. TellsReport self.now number told) }
     {
         if let Some(report) = self.hub.reports().get(number) {
             return Ok(Told::Report(report.copy()?));
