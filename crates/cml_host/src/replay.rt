@@ -2,7 +2,7 @@
 
 ghost use Rattle.std.specs.Prelude.{◌≡◌, IfOk, IfErr};
 ghost use Rattle.cml_hub.specs.Kept.{IsBudget, IsWatch, FitsSize, IsReplayed};
-ghost use Rattle.cml_host.specs.Replaying.{ReplayRan, ScheduleRan, IsPlanOf, IsSchedule, IsHubOf, IsNoHub, IsNoPlan, IsNotRead, IsNotRun};
+ghost use Rattle.cml_host.specs.Replaying.{ReplayRan, ReplayTold, ScheduleRan, IsPlanOf, IsSchedule, IsHubOf, IsNoHub, IsNoPlan, IsNotRead, IsNotRun};
 ghost use Rattle.cml_host.specs.Stores.{IsUnchanged};
 ghost use Rattle.cml_stream.specs.Streams.{counted_stream};
 
@@ -62,14 +62,29 @@ fn replay_program<O: Write, E: Write, S: Store>(
     ensures same_err { err.new.stream.ghost_name ≡ err.old.stream.ghost_name }
 {
     match replayed(alloc, program, options, store) {
-        Ok(hub) => {
-            hub_is_a_run(&hub);
-            match tell(alloc, &hub, out, err) {
-                Ok(status) => status,
-                Err(status) => status,
-            }
-        }
+        Ok(hub) => tell_run(alloc, &hub, out, err),
         Err(why) => refuse(alloc, options.schedule, why, 3, err),
+    }
+}
+
+// Tells where the schedule has led.
+fn tell_run<O: Write, E: Write>(
+    alloc: Global,
+    hub: &Hub,
+    out: &mut Counting<'_, O>,
+    err: &mut Counting<'_, E>,
+) -> u8
+    requires fresh { (out.old.calls ≡ 0) × (out.old.failed ≡ 0) × (err.old.failed ≡ 0) }
+    ensures told { let output = counted_stream (O.contents out.old.stream.now) (O.contents out.new.stream.now) out.new.calls out.new.failed in
+        let errors = counted_stream (E.contents err.old.stream.now) (E.contents err.new.stream.now) err.new.calls err.new.failed in
+        ReplayTold hub.now output errors result }
+    ensures same_out { out.new.stream.ghost_name ≡ out.old.stream.ghost_name }
+    ensures same_err { err.new.stream.ghost_name ≡ err.old.stream.ghost_name }
+{
+    hub_is_a_run(hub);
+    match tell(alloc, hub, out, err) {
+        Ok(status) => status,
+        Err(status) => status,
     }
 }
 
