@@ -1,5 +1,5 @@
 -- What a command did, by what it told of the hub that it had.
-use Rattle.std.proofs.Common.{◌≡◌, ◌∙◌, ◌⊎◌, ℕ, List, [], ◌++◌, true, Option, Some, None, Result, Ok, Err, IfOk, IfErr, ap, inl, inr, refl, subst, sym}
+use Rattle.std.proofs.Common.{◌≡◌, ◌∙◌, ◌⊎◌, ℕ, List, [], ◌++◌, true, Option, Some, None, ap, inl, inr, refl, subst, sym}
 use Rattle.std.specs.String.{string_bytes}
 use Rattle.cml_check.specs.Sizes.{size_of}
 use Rattle.cml_check.specs.Syntax.{PlainItem}
@@ -21,7 +21,7 @@ use Rattle.cml_host.specs.declared.workers.Cause.{Cause}
 use Rattle.cml_host.specs.declared.workers.Cause.TheVariants as cause
 use Rattle.cml_host.specs.declared.workers.Stopped.{Stopped}
 use Rattle.cml_host.specs.Replaying.{IsHubOf, IsNotRun, ScheduleRan}
-use Rattle.cml_host.specs.Running.{HasEnded, record_name, IsRecorded, RecordBroke, EndRan, ReportsAreLive, ProgramRan, RunRan, BegunRan, AreToldBy, HasRun, IsStopped, StopRan, EndedRan, RunTold, failed_at, IsMade, RecordRan}
+use Rattle.cml_host.specs.Running.{HasEnded, record_name, IsRecorded, RecordBroke, EndRan, ReportsAreLive, ProgramRan, RunRan, BegunRan, AreToldBy, IsStopped, StopRan, EndedRan, IsMade, RecordRan}
 use Rattle.cml_host.specs.Said.{RefusalRan}
 use Rattle.cml_host.specs.Scripts.{IsOpened, IsNotOpened, NoScriptRan}
 use Rattle.cml_host.specs.Stores.{Content, Shelf, IsReplacedBy, IsSaved, IsUnchanged}
@@ -123,7 +123,7 @@ record_broke_behind (Some name) a b d reports text output calls failed store sta
     (broke.0, broke.1, says_behind a b d calls failed (reports_text reports) _ before broke.2, broke.3, broke.4)
 
 -- what was told of the output, after the reports that were told before
-ended_behind : (name : Option (List ℕ)) (h : Kept) (a b d : Option (List ℕ)) (output : Counted) (calls failed : ℕ) (store : Shelf) (status : ℕ) →
+pub ended_behind : (name : Option (List ℕ)) (h : Kept) (a b d : Option (List ℕ)) (output : Counted) (calls failed : ℕ) (store : Shelf) (status : ℕ) →
     Takes (stream a b) (reports_text h.reports) → EndedRan name h [] output (counted_stream b d calls failed) store status →
     EndRan name (schedule_text h.budget (size_of h.course.program) h.course.items) h.reports h.budget (run_of h.course) output
     (counted_stream a d calls failed) store status
@@ -145,7 +145,7 @@ exchanged p budget watch begun h begins more =
     subst (λ (ts : List Item). SwapsAreExchanges p [] ts) (sym same)
     (each_from p begun.course.program (λ r item. TellsSwaps r.world item) [] begun.course.items more.more begins.program begins.items more.exchanges)
 
-ended_ran : (p : List (PlainItem ℕ)) (options : RunOptions) (begun h : Kept) (output errors : Counted) (store : Shelf) (status : ℕ) →
+pub ended_ran : (p : List (PlainItem ℕ)) (options : RunOptions) (begun h : Kept) (output errors : Counted) (store : Shelf) (status : ℕ) →
     IsAtStart p options.steps options.watch begun → IsWorked begun h → IsRunOf h.course.program h.watch h.course.items h.reports (run_of h.course) →
     (EndRan (record_name options) (schedule_text h.budget (size_of h.course.program) h.course.items) h.reports h.budget (run_of h.course) output errors store status
     ⊎ (IsCutOff h.reports h.course.output output errors status × IsUnchanged store.before store.after)) →
@@ -199,7 +199,7 @@ stop_behind options h cause.Write a b d output calls failed status (inr live) st
 stop_behind options h cause.Foreign a b d output calls failed status live stopped =
     inr (live.0, inr (live.1.0, live.1.1, says_behind a b d calls failed (reports_text live.1.0) _ live.1.2 stopped.0, stopped.1, stopped.2))
 
-stopped_ran : (p : List (PlainItem ℕ)) (options : RunOptions) (begun : Kept) (stopped : Stopped) (a b d : Option (List ℕ)) (output : Counted)
+pub stopped_ran : (p : List (PlainItem ℕ)) (options : RunOptions) (begun : Kept) (stopped : Stopped) (a b d : Option (List ℕ)) (output : Counted)
     (before broke calls failed : ℕ) (store : Shelf) (status : ℕ) → IsAtStart p options.steps options.watch begun →
     IsStopped options begun stopped (counted_stream a b before broke) →
     IsRunOf stopped.hub.course.program stopped.hub.watch stopped.hub.course.items stopped.hub.reports (run_of stopped.hub.course) →
@@ -231,25 +231,6 @@ stopped_ran p options begun stopped a b d output before broke calls failed store
 pub starts_itself : (p : List (PlainItem ℕ)) (budget : ℕ) (watch : Option ℕ) (h : Kept) → IsAtStart p budget watch h → IsAtStart h.course.program budget watch h
 starts_itself p budget watch h begins =
     record { program = refl; budget_is = begins.budget_is; watch_is = begins.watch_is; items = begins.items; reports = begins.reports; none_out = begins.none_out }
-
--- how many writes to the errors have failed
-pub failed_is : (options : RunOptions) (begun : Kept) (ran : Result Kept Stopped) (errors : Counted) →
-    IfOk ran (λ new. HasRun begun new errors) → IfErr ran (λ stopped. IsStopped options begun stopped errors) → errors.counts.failed ≡ failed_at ran
-failed_is options begun (Ok new) errors has stops = has.2
-failed_is options begun (Err stopped) errors has stops = stops.2
-
--- a run that has ended in either way, and what was told of it
-pub ran_told : (p : List (PlainItem ℕ)) (options : RunOptions) (begun : Kept) (ran : Result Kept Stopped) (a b d : Option (List ℕ)) (output : Counted)
-    (before broke calls failed : ℕ) (store : Shelf) (status : ℕ) → IsAtStart p options.steps options.watch begun →
-    IfOk ran (λ new. HasRun begun new (counted_stream a b before broke)) →
-    IfErr ran (λ stopped. IsStopped options begun stopped (counted_stream a b before broke)) →
-    RunTold (record_name options) ran output (counted_stream b d calls failed) store status →
-    ProgramRan p options output (counted_stream a d calls failed) store status
-ran_told p options begun (Ok h) a b d output before broke calls failed store status begins has stops told =
-    ended_ran p options begun h output (counted_stream a d calls failed) store status begins has.0 told.1
-    (ended_behind (record_name options) h a b d output calls failed store status has.1 told.0)
-ran_told p options begun (Err stopped) a b d output before broke calls failed store status begins has stops told =
-    stopped_ran p options begun stopped a b d output before broke calls failed store status begins stops told.2 told.0 told.1
 
 -- ---- a store that was read first
 

@@ -1,5 +1,5 @@
 -- The command `run`: what it does with a script.
-use Rattle.std.specs.Prelude.{◌≡◌, ◌≢◌, ◌⊎◌, ℕ, ◌<◌, List, [], ◌++◌, true, codes, Option, Some, None, option_map, Result, Ok, Err}
+use Rattle.std.specs.Prelude.{◌≡◌, ◌≢◌, ◌⊎◌, ℕ, ◌<◌, List, [], ◌++◌, true, codes, Option, Some, None, option_map}
 use Rattle.std.specs.String.{string_bytes}
 use Rattle.cml_check.specs.Sizes.{size_of}
 use Rattle.cml_check.specs.Syntax.{PlainItem}
@@ -141,19 +141,6 @@ EndedRan name h reports output errors store status =
     EndRan name (schedule_text h.budget (size_of h.course.program) h.course.items) reports h.budget (run_of h.course) output errors store status
     ⊎ ((MemoryBroke reports h.course.output output errors status ⊎ OutputBroke reports h.course.output output errors status)
     × IsUnchanged store.before store.after)
-
--- how many writes to the errors have failed when a run has ended so
-abbrev pub failed_at : Result Kept Stopped → ℕ
-failed_at (Ok h) = 0
-failed_at (Err stopped) = failed_by stopped.cause
-
--- what is told of a run that has ended so, after what was written of its reports
-abbrev pub RunTold : Option (List ℕ) → Result Kept Stopped → Counted → Counted → Shelf → ℕ → Type 0
-RunTold name (Ok h) output errors store status =
-    EndedRan name h [] output errors store status × IsRunOf h.course.program h.watch h.course.items h.reports (run_of h.course)
-RunTold name (Err stopped) output errors store status =
-    StopRan stopped.hub stopped.cause output errors status × IsUnchanged store.before store.after
-    × IsRunOf stopped.hub.course.program stopped.hub.watch stopped.hub.course.items stopped.hub.reports (run_of stopped.hub.course)
 
 -- what there is to save of a hub under this name, and what is said where that can't be
 abbrev pub IsMade : Kept → List ℕ → Record → Type 0

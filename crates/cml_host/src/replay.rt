@@ -9,7 +9,7 @@ ghost use Rattle.cml_stream.specs.Streams.{counted_stream};
 use crate::said::{Refusal, refuse};
 use crate::script::open_script;
 use crate::store::Store;
-use crate::tell::{hub_is_a_run, tell};
+use crate::tell::{hub_is_a_run, let_go, tell};
 use cml_check::Prog;
 use cml_hub::{Hub, Plan, ReplayFault, ScheduleFault, matches_program, read_schedule};
 use cml_stream::Counting;
@@ -62,7 +62,11 @@ fn replay_program<O: Write, E: Write, S: Store>(
     ensures same_err { err.new.stream.ghost_name ≡ err.old.stream.ghost_name }
 {
     match replayed(alloc, program, options, store) {
-        Ok(hub) => tell_run(alloc, &hub, out, err),
+        Ok(hub) => {
+            let status = tell_run(alloc, &hub, out, err);
+            let_go(hub);
+            status
+        }
         Err(why) => refuse(alloc, options.schedule, why, 3, err),
     }
 }

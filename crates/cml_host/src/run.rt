@@ -2,7 +2,7 @@
 
 ghost use Rattle.std.specs.Prelude.{◌≡◌, [], IfOk};
 ghost use Rattle.cml_hub.specs.Kept.{IsAtStart, IsBudget, IsWatch};
-ghost use Rattle.cml_host.specs.Running.{RunRan, BegunRan, ProgramRan, RunTold, EndedRan, failed_at, record_name, IsMade, RecordRan};
+ghost use Rattle.cml_host.specs.Running.{RunRan, BegunRan, ProgramRan, EndedRan, record_name, IsMade, RecordRan};
 ghost use Rattle.cml_host.specs.Stores.{Shelf};
 ghost use Rattle.cml_stream.specs.Streams.{counted_stream};
 ghost use Rattle.cml_work.specs.Works.{IsWorkerCount};
@@ -11,8 +11,8 @@ use crate::output::say;
 use crate::said::refuse;
 use crate::script::open_script;
 use crate::store::Store;
-use crate::tell::{cut_output, hub_is_a_run, stop, tell_output};
-use crate::workers::{Stopped, run_hub};
+use crate::tell::{cut_output, hub_is_a_run, let_go, stop, tell_output};
+use crate::workers::run_hub;
 use cml_check::Prog;
 use cml_hub::Hub;
 use cml_stream::Counting;
@@ -123,35 +123,18 @@ where
     ensures same_out { out.new.stream.ghost_name ≡ out.old.stream.ghost_name }
     ensures same_err { err.new.stream.ghost_name ≡ err.old.stream.ghost_name }
 {
-    let ran = run_hub(rt, alloc, gate, hub, options, err);
-    tell_run(alloc, &ran, options, out, err, store)
-}
-
-// Tells a run that is over, or why it was stopped, after what is told of its reports.
-fn tell_run<O: Write, E: Write, S: Store>(
-    alloc: Global,
-    ran: &Result<Hub, Stopped>,
-    options: &RunOptions<'_>,
-    out: &mut Counting<'_, O>,
-    err: &mut Counting<'_, E>,
-    store: &mut S,
-) -> u8
-    requires fresh { (out.old.calls ≡ 0) × (out.old.failed ≡ 0) × (err.old.failed ≡ failed_at ran.now) }
-    ensures told { let output = counted_stream (O.contents out.old.stream.now) (O.contents out.new.stream.now) out.new.calls out.new.failed in
-        let errors = counted_stream (E.contents err.old.stream.now) (E.contents err.new.stream.now) err.new.calls err.new.failed in
-        let shelf : Shelf = record { before = S.holds store.old; after = S.holds store.new } in
-        RunTold (record_name options.now) ran.now output errors shelf result }
-    ensures same_out { out.new.stream.ghost_name ≡ out.old.stream.ghost_name }
-    ensures same_err { err.new.stream.ghost_name ≡ err.old.stream.ghost_name }
-{
-    match ran {
+    match run_hub(rt, alloc, gate, hub, options, err) {
         Ok(hub) => {
-            hub_is_a_run(hub);
-            end(alloc, hub, options, out, err, store)
+            hub_is_a_run(&hub);
+            let status = end(alloc, &hub, options, out, err, store);
+            let_go(hub);
+            status
         }
         Err(stopped) => {
             hub_is_a_run(&stopped.hub);
-            stop(stopped, out, err)
+            let status = stop(&stopped, out, err);
+            let_go(stopped.hub);
+            status
         }
     }
 }
