@@ -146,13 +146,18 @@ fn follow(alloc: Global, program: Prog, plan: &Plan, watch: Option<u64>) -> Resu
     ensures err { IfErr result (IsNoHub program plan.now) }
 {
     if !matches_program(plan, &program) {
+        drop(program);
         return Err(Refusal::Wrong(format!(in alloc; "schedule program\n")?));
     }
     match Hub::replay(alloc, program, plan.budget, watch, plan.items.as_slice()) {
         Ok(hub) => Ok(hub),
-        Err(ReplayFault::BadItem(number, _)) => {
+        Err(ReplayFault::BadItem(number, program)) => {
+            drop(program);
             Err(Refusal::Wrong(format!(in alloc; "schedule item {number}\n")?))
         }
-        Err(ReplayFault::Memory(_)) => Err(Refusal::Memory),
+        Err(ReplayFault::Memory(program)) => {
+            drop(program);
+            Err(Refusal::Memory)
+        }
     }
 }

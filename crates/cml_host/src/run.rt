@@ -89,7 +89,8 @@ where
 {
     match Hub::begin(alloc, program, options.steps, options.watch) {
         Ok(hub) => run_begun(rt, alloc, gate, hub, options, out, err, store),
-        Err(_) => {
+        Err(back) => {
+            drop(back.value);
             say(err, b"memory\n");
             5
         }
