@@ -228,6 +228,10 @@ stopped_ran p options begun stopped a b d output before broke calls failed store
     go (inl cut) = inr (inl (cut, same))
     go (inr live) = inr (inr (live.0, live.1, same))
 
+pub starts_itself : (p : List (PlainItem ℕ)) (budget : ℕ) (watch : Option ℕ) (h : Kept) → IsAtStart p budget watch h → IsAtStart h.course.program budget watch h
+starts_itself p budget watch h begins =
+    record { program = refl; budget_is = begins.budget_is; watch_is = begins.watch_is; items = begins.items; reports = begins.reports; none_out = begins.none_out }
+
 -- ---- a store that was read first
 
 recorded_behind : (old mid new : List ℕ → Content) (name : Option (List ℕ)) (schedule : List ℕ) → IsUnchanged old mid →
