@@ -1,6 +1,6 @@
 //! The lines of a report, each in a text of fixed room, so that no memory is needed to write them.
 
-ghost use Rattle.std.specs.Prelude.{◌≡◌, ◌+◌, ◌≤◌, ◌++◌, length};
+ghost use Rattle.std.specs.Prelude.{◌≡◌, ◌+◌, ◌≤◌, ◌++◌};
 ghost use Rattle.arrayvec.specs.ArrayString.{array_string_len};
 ghost use Rattle.cml_host.specs.Told.{report_head};
 ghost use Rattle.cml_monitor.specs.Reports.{report_row_line, wait_line as wait_text};
