@@ -16,7 +16,7 @@ use Rattle.cml_book.specs.Resumes.{PlainResume}
 use Rattle.cml_book.specs.Commit.{awaited, group_awaited, base_or_unit, wraps_or_none, base_awaited, given, taken, resume, hands, settled, released, after, commit}
 use Rattle.cml_book.proofs.Commits.{commit_is}
 use Rattle.cml_book.proofs.NackLemmas.{get-set_other}
-use Rattle.cml_rules.specs.Rules.{Sequel, branches, Offers, Alone, at_any_time, gets, reads, takes, replaces, mailed, posted, joins, comes, fires, Meets, sends, swaps, Waits, goes_on, given_to, Synchronizes, alone, together}
+use Rattle.cml_rules.specs.Rules.{Sequel, branches, Offers, Alone, at_any_time, gets, reads, takes, replaces, mailed, posted, joins, comes, fires, Communicate, sends, swaps, Waits, went_on, given_to, Synchronizes, alone, together}
 use Rattle.cml_rules.specs.Places.{ends_at, row_of}
 use Rattle.cml_rules.specs.Laws.{StepsAreCommits}
 use Rattle.cml_rules.proofs.Derivations.{leaf_is}
@@ -74,7 +74,7 @@ alone_nacks (fires k e) = refl
 awaited_is : (w : PlainWorld) (t : ℕ) (g : PlainGroup) → Waits w t g → group_awaited w t ≡ g
 awaited_is w t g p = ap awaited p
 
-base_is : (w : PlainWorld) (t : ℕ) {g : PlainGroup} {b : PlainBase} {s : Sequel} (d : Offers g b s) → Waits w t g → base_awaited w t (ends_at d) ≡ b
+pub base_is : (w : PlainWorld) (t : ℕ) {g : PlainGroup} {b : PlainBase} {s : Sequel} (d : Offers g b s) → Waits w t g → base_awaited w t (ends_at d) ≡ b
 base_is w t {g = g} d p = ap (λ x. base_or_unit (slice_get (leaves x) (ends_at d))) (awaited_is w t g p) ∙ ap base_or_unit (leaf_is d)
 
 resume_by : (t : ℕ) (u v : PlainValue) (fs gs : List PlainFunction) (ks js : List ℕ) → u ≡ v → fs ≡ gs → ks ≡ js
@@ -90,22 +90,22 @@ resume_is w t {g = g} d u v p e =
 settled_is : {g : PlainGroup} {b : PlainBase} {s : Sequel} (d : Offers g b s) (ns : List PlainNack) → settled (ends_at d) g ns ≡ with_each s.fired fired (with_each (branches g) held ns)
 settled_is {g = g} d ns = ap₂ (λ ks js. with_each ks fired (with_each js held ns)) (lost_is d) (branches_are g)
 
-released_is : (w : PlainWorld) (t : ℕ) {g : PlainGroup} {b : PlainBase} {s : Sequel} (d : Offers g b s) → Waits w t g → released w t (ends_at d) ≡ goes_on w t g s
+released_is : (w : PlainWorld) (t : ℕ) {g : PlainGroup} {b : PlainBase} {s : Sequel} (d : Offers g b s) → Waits w t g → released w t (ends_at d) ≡ went_on w t g s
 released_is w t {g = g} d p =
     ap (λ ns. record w { threads = slice_set w.threads t running; nacks = ns }) (ap (λ x. settled (ends_at d) x w.nacks) (awaited_is w t g p) ∙ settled_is d w.nacks)
 
-meet_differ : {t u : ℕ} {a b : PlainBase} {x y : PlainValue} → Meets t u a b x y → t ≢ u
+pub meet_differ : {t u : ℕ} {a b : PlainBase} {x y : PlainValue} → Communicate t u a b x y → t ≢ u
 meet_differ (sends c v h) = h
 meet_differ (swaps s x y h) = λ e. below e h
   where
     below : {t u : ℕ} → t ≡ u → t < u → ⊥
     below e h = omega arith
 
-meet_head : {t u : ℕ} {a b : PlainBase} {x y : PlainValue} → Meets t u a b x y → handed b ≡ x
+meet_head : {t u : ℕ} {a b : PlainBase} {x y : PlainValue} → Communicate t u a b x y → handed b ≡ x
 meet_head (sends c v h) = refl
 meet_head (swaps s x y h) = refl
 
-meet_other : {t u : ℕ} {a b : PlainBase} {x y : PlainValue} → Meets t u a b x y → handed a ≡ y
+meet_other : {t u : ℕ} {a b : PlainBase} {x y : PlainValue} → Communicate t u a b x y → handed a ≡ y
 meet_other (sends c v h) = refl
 meet_other (swaps s x y h) = refl
 
@@ -114,8 +114,8 @@ after_is {w = w} (alone t g b s v w' p d h) =
     let q : Waits w' t g = ap (λ ts. slice_get ts t) (alone_threads h) ∙ p in
     ap (λ x. released (taken w x) t (ends_at d)) (base_is w t d p) ∙ ap (λ x. released x t (ends_at d)) (alone_taken h) ∙ released_is w' t d q
 after_is {w = w} (together t u g h a b r s x y p q d e m) =
-    let k : Waits (goes_on w t g r) u h = get-set_other w.threads t u running (meet_differ m) ∙ q in
-    ap (λ x. released x u (ends_at e)) (released_is w t d p) ∙ released_is (goes_on w t g r) u e k
+    let k : Waits (went_on w t g r) u h = get-set_other w.threads t u running (meet_differ m) ∙ q in
+    ap (λ x. released x u (ends_at e)) (released_is w t d p) ∙ released_is (went_on w t g r) u e k
 
 hands_is : {w w' : PlainWorld} {c : Committed} (d : Synchronizes w w' c) → hands w (row_of d) ≡ c
 hands_is {w = w} (alone t g b s v w' p d h) =

@@ -119,7 +119,7 @@ record EndsOne (gs : PlainGroups) (n : ℕ) : Type 0 where
   derivation : OffersOne gs base sequel
   at : ends_at_one derivation ≡ n
 
-below : (n c : ℕ) → (n < c) ⊎ (c ≤ n)
+pub below : (n c : ℕ) → (n < c) ⊎ (c ≤ n)
 below n zero = inr (omega arith)
 below zero (suc c) = inl (omega arith)
 below (suc n) (suc c) = elim (below n c) [ inl h ↦ inl (omega arith) | inr h ↦ inr (omega arith) ]

@@ -1,11 +1,11 @@
 -- The derivations of a group are its leaves.
 use Rattle.std.proofs.Common.{ap}
 use Rattle.cml_value.specs.Group.{PlainGroup}
-use Rattle.cml_rules.specs.Laws.{Offer, OffersAreLeaves}
+use Rattle.cml_rules.specs.Laws.{Derivation, OffersAreLeaves}
 use Rattle.cml_rules.proofs.Derivations.{Derived, leaf_is, reached, one_each}
 use Rattle.cml_rules.proofs.Losing.{lost_is}
 
-abbrev as_offer : (g : PlainGroup) → Derived g → Offer g
+abbrev as_offer : (g : PlainGroup) → Derived g → Derivation g
 as_offer g d = record { base = d.0; sequel = d.1; derivation = d.2 }
 
 pub offers_are_leaves : (g : PlainGroup) → OffersAreLeaves g

@@ -11,7 +11,7 @@ use Rattle.cml_scan.specs.declared.meet.Meet.{Meet}
 use Rattle.cml_scan.specs.declared.meet.Meet.TheVariants.{Single, Pair}
 use Rattle.cml_scan.proofs.Enabling.{scan-members}
 use Rattle.cml_book.specs.declared.command.Committed.{Committed}
-use Rattle.cml_rules.specs.Rules.{Sequel, Offers, Meets, sends, swaps, Waits, goes_on, given_to, Synchronizes, alone, together}
+use Rattle.cml_rules.specs.Rules.{Sequel, Offers, Communicate, sends, swaps, Waits, went_on, given_to, Synchronizes, alone, together}
 use Rattle.cml_rules.specs.Places.{ends_at, row_of}
 use Rattle.cml_rules.specs.Laws.{Step, StepsAreRows}
 use Rattle.cml_rules.proofs.Derivations.{Derived, Ends, get_map, leaf_is, reached, one_each}
@@ -26,7 +26,7 @@ base_is {g = g} d = get_map (λ (l : PlainLeaf). l.base) (leaves g) (ends_at d) 
 waits_for : (w : PlainWorld) (t : ℕ) {g : PlainGroup} {b : PlainBase} {s : Sequel} (d : Offers g b s) → Waits w t g → WaitsFor w (record { 0 = t }) (ends_at d) b
 waits_for w t {g = g} {b = b} d p = subst (λ o. leaf_of o (ends_at d) ≡ Some b) (sym p) (base_is d)
 
-meet_enabled : (w : PlainWorld) {t u : ℕ} {a b : PlainBase} {x y : PlainValue} (m : Meets t u a b x y) (i j : ℕ) → WaitsFor w (record { 0 = t }) i a → WaitsFor w (record { 0 = u }) j b
+meet_enabled : (w : PlainWorld) {t u : ℕ} {a b : PlainBase} {x y : PlainValue} (m : Communicate t u a b x y) (i j : ℕ) → WaitsFor w (record { 0 = t }) i a → WaitsFor w (record { 0 = u }) j b
     → IsSent w (record { 0 = t }) i (record { 0 = u }) j ⊎ IsSwapped w (record { 0 = t }) i (record { 0 = u }) j
 meet_enabled w (sends c v h) i j p q = inl (c, v, p, q, h)
 meet_enabled w (swaps s x y h) i j p q = inr (s, x, y, p, q, h)
@@ -71,19 +71,19 @@ single_step w t n h =
     let o = offered w t n h.0 h.1 in
     let r = o.ends in
     let l = lit_happens w r.base (ap (lit w) o.same ∙ h.2) in (
-      record { next = goes_on l.1 t.0 o.group r.sequel; gives = record { head = given_to t.0 l.0 r.sequel; partner = None }; derivation = alone t.0 o.group r.base r.sequel l.0 l.1 o.waits r.derivation l.2 },
+      record { next = went_on l.1 t.0 o.group r.sequel; gives = record { head = given_to t.0 l.0 r.sequel; partner = None }; derivation = alone t.0 o.group r.base r.sequel l.0 l.1 o.waits r.derivation l.2 },
       ap (Single t) r.at,
     )
 
-pair_step : (w : PlainWorld) (t u : Tid) (n m : ℕ) (a b : PlainBase) (x y : PlainValue) → WaitsFor w t n a → WaitsFor w u m b → Meets t.0 u.0 a b x y → IsOf w (Pair t n u m)
+pair_step : (w : PlainWorld) (t u : Tid) (n m : ℕ) (a b : PlainBase) (x y : PlainValue) → WaitsFor w t n a → WaitsFor w u m b → Communicate t.0 u.0 a b x y → IsOf w (Pair t n u m)
 pair_step w t u n m a b x y h k meet =
     let o = offered w t n a h in
     let p = offered w u m b k in
     let q = o.ends in
     let r = p.ends in
-    let both = subst₂ (λ c d. Meets t.0 u.0 c d x y) (sym o.same) (sym p.same) meet in (
+    let both = subst₂ (λ c d. Communicate t.0 u.0 c d x y) (sym o.same) (sym p.same) meet in (
       record {
-        next = goes_on (goes_on w t.0 o.group q.sequel) u.0 p.group r.sequel;
+        next = went_on (went_on w t.0 o.group q.sequel) u.0 p.group r.sequel;
         gives = record { head = given_to t.0 x q.sequel; partner = Some (given_to u.0 y r.sequel) };
         derivation = together t.0 u.0 o.group p.group q.base r.base q.sequel r.sequel x y o.waits p.waits q.derivation r.derivation both;
       },
@@ -110,7 +110,7 @@ of_solo w s =
     let d = s.1.1.0 in
     let h = s.1.1.1 in
     record {
-      next = goes_on h.1 s.0 s.1.0.0 d.1;
+      next = went_on h.1 s.0 s.1.0.0 d.1;
       gives = record { head = given_to s.0 h.0 d.1; partner = None };
       derivation = alone s.0 s.1.0.0 d.0 d.1 h.0 h.1 s.1.0.1 d.2 h.2;
     }
@@ -125,7 +125,7 @@ of_duo w s =
     let e = s.1.1.1.1.1.0 in
     let m = s.1.1.1.1.1.1 in
     record {
-      next = goes_on (goes_on w t p.0 d.1) u q.0 e.1;
+      next = went_on (went_on w t p.0 d.1) u q.0 e.1;
       gives = record { head = given_to t m.0 d.1; partner = Some (given_to u m.1 e.1) };
       derivation = together t u p.0 q.0 d.0 e.0 d.1 e.1 m.0 m.1 p.1 q.1 d.2 e.2 m.2;
     }

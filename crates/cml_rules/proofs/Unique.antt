@@ -10,7 +10,7 @@ use Rattle.cml_value.specs.Codes.{value_code}
 use Rattle.cml_value.specs.Group.{PlainGroup}
 use Rattle.cml_scan.specs.World.{PlainThread, pending_on, ended, fired, PlainWorld}
 use Rattle.cml_scan.specs.Codes.{thread_code, nack_code}
-use Rattle.cml_rules.specs.Rules.{Alone, at_any_time, gets, reads, takes, replaces, mailed, posted, joins, comes, fires, Meets, sends, swaps, Waits}
+use Rattle.cml_rules.specs.Rules.{Alone, at_any_time, gets, reads, takes, replaces, mailed, posted, joins, comes, fires, Communicate, sends, swaps, Waits}
 use Rattle.cml_rules.proofs.Happening.{Happens}
 
 -- what a base event needs to happen alone
@@ -110,7 +110,7 @@ happens_once w b = λ x y. sym (back x.2) ∙ ap (happens w b) (needs_once w b (
 
 -- two base events meet, with what each party is given
 abbrev pub Meeting : ℕ → ℕ → PlainBase → PlainBase → Type 0
-Meeting t u a b = (x : PlainValue) × (y : PlainValue) × Meets t u a b x y
+Meeting t u a b = (x : PlainValue) × (y : PlainValue) × Communicate t u a b x y
 
 abbrev Fit : ℕ → ℕ → PlainBase → PlainBase → Type 0
 Fit t u (send c v) (recv d) = (c ≡ d) × (t ≢ u)
@@ -122,19 +122,19 @@ fit_once t u (send c v) (recv d) = ×_prop (ℕ_set c d) ¬_prop
 fit_once t u (swap s x) (swap r y) = ×_prop (ℕ_set s r) le_prop
 fit_once t u _ _ = ⊥_prop
 
-fitting : {t u : ℕ} {a b : PlainBase} {x y : PlainValue} → Meets t u a b x y → Fit t u a b
+fitting : {t u : ℕ} {a b : PlainBase} {x y : PlainValue} → Communicate t u a b x y → Fit t u a b
 fitting (sends c v h) = (refl, h)
 fitting (swaps s x y h) = (refl, h)
 
 meeting : (t u : ℕ) (a b : PlainBase) → Fit t u a b → Meeting t u a b
-meeting t u (send c v) (recv d) f = (unit, v, subst (λ k. Meets t u (send c v) (recv k) unit v) f.0 (sends c v f.1))
-meeting t u (swap s x) (swap r y) f = (y, x, subst (λ k. Meets t u (swap s x) (swap k y) y x) f.0 (swaps s x y f.1))
+meeting t u (send c v) (recv d) f = (unit, v, subst (λ k. Communicate t u (send c v) (recv k) unit v) f.0 (sends c v f.1))
+meeting t u (swap s x) (swap r y) f = (y, x, subst (λ k. Communicate t u (swap s x) (swap k y) y x) f.0 (swaps s x y f.1))
 meeting t u _ _ f = absurd f
 
-met : {t u : ℕ} {a b : PlainBase} {x y : PlainValue} (m : Meets t u a b x y) → meeting t u a b (fitting m) ≡ (x, y, m)
+met : {t u : ℕ} {a b : PlainBase} {x y : PlainValue} (m : Communicate t u a b x y) → meeting t u a b (fitting m) ≡ (x, y, m)
 unfolding meeting fitting
-met {t = t} {u = u} (sends c v h) = ap {B = Meeting t u (send c v) (recv c)} (λ m. (unit, v, m)) (subst_refl (λ k. Meets t u (send c v) (recv k) unit v) (sends c v h))
-met {t = t} {u = u} (swaps s x y h) = ap {B = Meeting t u (swap s x) (swap s y)} (λ m. (y, x, m)) (subst_refl (λ k. Meets t u (swap s x) (swap k y) y x) (swaps s x y h))
+met {t = t} {u = u} (sends c v h) = ap {B = Meeting t u (send c v) (recv c)} (λ m. (unit, v, m)) (subst_refl (λ k. Communicate t u (send c v) (recv k) unit v) (sends c v h))
+met {t = t} {u = u} (swaps s x y h) = ap {B = Meeting t u (swap s x) (swap s y)} (λ m. (y, x, m)) (subst_refl (λ k. Communicate t u (swap s x) (swap k y) y x) (swaps s x y h))
 
 pub meeting_once : (t u : ℕ) (a b : PlainBase) → IsProp (Meeting t u a b)
 meeting_once t u a b = λ x y. sym (met x.2) ∙ ap (meeting t u a b) (fit_once t u a b (fitting x.2) (fitting y.2)) ∙ met y.2

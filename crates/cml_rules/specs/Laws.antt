@@ -12,7 +12,7 @@ use Rattle.cml_rules.specs.Rules.{Sequel, Offers, Synchronizes}
 use Rattle.cml_rules.specs.Places.{ends_at, row_of}
 
 -- a derivation that a group offers something
-pub record Offer (g : PlainGroup) : Type 0 where
+pub record Derivation (g : PlainGroup) : Type 0 where
   pub base : PlainBase
   pub sequel : Sequel
   pub derivation : Offers g base sequel
@@ -20,10 +20,10 @@ pub record Offer (g : PlainGroup) : Type 0 where
 -- The derivations of a group are its leaves. Each ends at a leaf with its base event and the functions of its sequel, and where that leaf is
 -- chosen just the nacks of its sequel fire; each leaf has one; and no two have one leaf.
 pub record OffersAreLeaves (g : PlainGroup) : Type 0 where
-  pub leaf : (o : Offer g) → slice_get (leaves g) (ends_at o.derivation) ≡ Some (record { base = o.base; wraps = o.sequel.wraps })
-  pub fired : (o : Offer g) → lost g (ends_at o.derivation) ≡ o.sequel.fired
-  pub each : (n : ℕ) → n < leaf_count g → (o : Offer g) × (ends_at o.derivation ≡ n)
-  pub once : (o p : Offer g) → ends_at o.derivation ≡ ends_at p.derivation → o ≡ p
+  pub leaf : (o : Derivation g) → slice_get (leaves g) (ends_at o.derivation) ≡ Some (record { base = o.base; wraps = o.sequel.wraps })
+  pub fired : (o : Derivation g) → lost g (ends_at o.derivation) ≡ o.sequel.fired
+  pub each : (n : ℕ) → n < leaf_count g → (o : Derivation g) × (ends_at o.derivation ≡ n)
+  pub once : (o p : Derivation g) → ends_at o.derivation ≡ ends_at p.derivation → o ≡ p
 
 -- a derivation that the world can make a step
 pub record Step (w : PlainWorld) : Type 0 where

@@ -1,5 +1,6 @@
 -- Concurrent ML's rules for one synchronization, as rules of inference by cases on events, after Reppy, Concurrent Programming in ML (1999):
--- what a group offers, when base events happen, and what one step of the world is. They speak of groups as trees: no leaf has a number here.
+-- what a group offers, when base events happen, and what one step of the world is. A group is an event whose guards and withNacks have been
+-- called; the branch of a nack is the event that a withNack's function returned.
 use Rattle.std.specs.Prelude.{ℕ, ◌≡◌, ◌≢◌, ◌<◌, ◌≤◌, List, [], ◌∷◌, ◌++◌, Some, None, slice_get, slice_set}
 use Rattle.cml_value.specs.Value.{PlainValue, unit, PlainFunction, PlainBase, always, send, recv, swap, iget, mtake, mget, mswap, mail_recv, port_recv, join, at_tick, nack}
 use Rattle.cml_value.specs.Group.{PlainGroup, leaf, choose, wrap, scope, PlainGroups, no_groups, groups_and}
@@ -26,7 +27,7 @@ abbrev mutual
   branches_of_all (groups_and g gs) = branches g ++ branches_of_all gs
 
 mutual
-  -- The group can synchronize by this base event, and this follows (chapter 3).
+  -- The group can synchronize by this base event, and this follows (chapter 3). No rule has a never, which offers nothing.
   pub data Offers : PlainGroup → PlainBase → Sequel → Type 0 where
     -- sync: a thread that waits on a base event waits for just that; nothing is done with its result, and no nack fires
     itself : (b : PlainBase) → Offers (leaf b) b (record { wraps = []; fired = [] })
@@ -45,13 +46,14 @@ mutual
 -- Two threads communicate by these base events, and this is what each is given: by a send and a receive on one channel the receiver gets the
 -- value and the sender unit, and no thread communicates with itself (chapter 3); by two swaps on one swap channel, which are this project's
 -- own, each gets the value of the other, and the lower thread is named first.
-pub data Meets (t u : ℕ) : PlainBase → PlainBase → PlainValue → PlainValue → Type 0 where
-  sends : (c : ℕ) (v : PlainValue) → t ≢ u → Meets t u (send c v) (recv c) unit v
-  swaps : (s : ℕ) (x y : PlainValue) → t < u → Meets t u (swap s x) (swap s y) y x
+pub data Communicate (t u : ℕ) : PlainBase → PlainBase → PlainValue → PlainValue → Type 0 where
+  sends : (c : ℕ) (v : PlainValue) → t ≢ u → Communicate t u (send c v) (recv c) unit v
+  swaps : (s : ℕ) (x y : PlainValue) → t < u → Communicate t u (swap s x) (swap s y) y x
 
 -- The base event happens by itself, gives this value, and leaves this world (chapters 3 and 4, appendix A): an alwaysEvt at any time; an iGet
 -- and an mGet where the variable is full, and the value stays; an mTake, which empties it; an mSwap, which leaves its own value there; a
--- receive from a mailbox or a port, which takes the first item; a join once the thread has ended; a time once it has come; a nack once it has fired.
+-- receive from a mailbox or a port, which takes the first item; a join once the thread has ended; a time once it has come; a nack once it has
+-- fired. A time counted from now became such a time when the wait began.
 pub data Alone (w : PlainWorld) : PlainBase → PlainValue → PlainWorld → Type 0 where
   at_any_time : (v : PlainValue) → Alone w (always v) v w
   gets : (i : ℕ) (v : PlainValue) → slice_get w.ivars i ≡ Some (Some v) → Alone w (iget i) v w
@@ -69,8 +71,8 @@ abbrev pub Waits : PlainWorld → ℕ → PlainGroup → Type 0
 Waits w t g = slice_get w.threads t ≡ Some (pending_on g)
 
 -- A thread goes on: it runs; of the nacks of its group's branches, those that fire have fired, and the others are held from now on.
-abbrev pub goes_on : PlainWorld → ℕ → PlainGroup → Sequel → PlainWorld
-goes_on w t g s = record w { threads = slice_set w.threads t running; nacks = with_each s.fired fired (with_each (branches g) held w.nacks) }
+abbrev pub went_on : PlainWorld → ℕ → PlainGroup → Sequel → PlainWorld
+went_on w t g s = record w { threads = slice_set w.threads t running; nacks = with_each s.fired fired (with_each (branches g) held w.nacks) }
 
 -- what a thread that goes on is given, and what it then does
 abbrev pub given_to : ℕ → PlainValue → Sequel → PlainResume
@@ -80,7 +82,7 @@ given_to t v s = record { thread = t; value = v; wraps = s.wraps; fired = s.fire
 pub data Synchronizes (w : PlainWorld) : PlainWorld → Committed → Type 0 where
   alone : (t : ℕ) (g : PlainGroup) (b : PlainBase) (s : Sequel) (v : PlainValue) (w' : PlainWorld)
       → Waits w t g → Offers g b s → Alone w b v w'
-      → Synchronizes w (goes_on w' t g s) (record { head = given_to t v s; partner = None })
+      → Synchronizes w (went_on w' t g s) (record { head = given_to t v s; partner = None })
   together : (t u : ℕ) (g h : PlainGroup) (a b : PlainBase) (r s : Sequel) (x y : PlainValue)
-      → Waits w t g → Waits w u h → Offers g a r → Offers h b s → Meets t u a b x y
-      → Synchronizes w (goes_on (goes_on w t g r) u h s) (record { head = given_to t x r; partner = Some (given_to u y s) })
+      → Waits w t g → Waits w u h → Offers g a r → Offers h b s → Communicate t u a b x y
+      → Synchronizes w (went_on (went_on w t g r) u h s) (record { head = given_to t x r; partner = Some (given_to u y s) })
