@@ -12,6 +12,7 @@ mod kind;
 pub mod law;
 mod machine;
 mod nack;
+mod number;
 mod operator;
 mod place;
 mod quiet;
