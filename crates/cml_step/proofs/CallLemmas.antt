@@ -18,8 +18,8 @@ use Rattle.cml_check.specs.Names.{AreDistinct}
 use Rattle.cml_step.specs.declared.call.Wait.{Wait}
 use Rattle.cml_step.specs.declared.call.Wait.TheVariants as wait
 use Rattle.cml_step.specs.Variables.{Variables, bound, value_of}
-use Rattle.cml_step.specs.Steps.{PlainStep, goes_on, ◌>>=◌, filled, delivered, call_step, statement_step}
-use Rattle.cml_step.specs.Calls.{text_of, statements_at, chosen, wait_of, slots_with, WaitFits, ActionAgrees, Moves, Stays, StepsOn, RunsOn}
+use Rattle.cml_step.specs.Steps.{PlainStep, goes_on, ◌>>=◌, filled, delivered, call_step, statement_step, next}
+use Rattle.cml_step.specs.Calls.{call_at, entry_for, text_of, variables_of, statements_at, chosen, wait_of, slots_with, WaitFits, ActionAgrees, Moves, Stays, StepsOn, RunsOn}
 use Rattle.cml_step.specs.Agrees.{value_agrees, all_agree}
 use Rattle.cml_step.proofs.VariableLemmas.{bound_unit, bound_set}
 
@@ -71,6 +71,11 @@ runs_on_stays fs f r old new on did = record {
   agrees = did;
   same = on.same;
 }
+
+-- a call that runs does what is left at its place
+pub steps_there : (p : Program) (self : ℕ) (f : PlainItem ℕ) (c : Call) (below : Term) → c.wait ≡ wait.Runs →
+    next p self (entry_for f c ∷ below) ≡ call_step p self (statements_at f c.at) (variables_of f c) below
+steps_there p self f c below runs = ap (λ w. next p self (call_at f c.at c.slots.items w ∷ below)) runs
 
 module _ (p : Program) (self : ℕ) (f : PlainItem ℕ) (variables : Variables) (below : Term) where
   -- a call does the statement at its place

@@ -1,7 +1,7 @@
 //! A call on the stack of a thread, and what it does in a step.
 
-ghost use Rattle.std.specs.Prelude.{◌≡◌, ℕ, ◌<◌, List, ◌∷◌, length, true, Ok, IfOk, IfErr};
-ghost use Rattle.cml_value.specs.Value.{thread as plain_thread};
+ghost use Rattle.std.specs.Prelude.{◌≡◌, ℕ, ◌<◌, List, ◌∷◌, length, true, Ok, IfOk, IfErr, IfSome};
+ghost use Rattle.cml_value.specs.Value.{int, thread as plain_thread};
 ghost use Rattle.cml_check.specs.Syntax.{Name, act_on_one, act_on_two, call as plain_call, spawn as plain_spawn, name_at, expr_map, exprs_map, effect_map, source_map, value as plain_source_value};
 ghost use Rattle.cml_check.specs.StmtViews.{plain_effect, plain_source};
 ghost use Rattle.cml_check.specs.Names.{AreDistinct};
@@ -25,6 +25,7 @@ use crate::ask::Ask;
 use crate::evaluate::{evaluate, evaluate_all};
 use crate::fault::Stop;
 use crate::kind::{event_of, ivar_of, mailbox_of, mchan_of, mvar_of, port_of, truth_of};
+use crate::number::{quick_int, quick_truth};
 use cml_check::{Act, ActOnOne, ActOnTwo, Effect, Expr, Exprs, Function, Instr, Prog, Source};
 use cml_value::{Event, FnRef, Tid, Value, ValueKind};
 use std::alloc::Global;
@@ -82,9 +83,23 @@ fn value_in(
     evaluate(alloc, slots, e)
 }
 
-// Whether a test holds in a call.
+// The number that an expression in a call is, where it can be found so.
+#[inline(always)]
+#[tactic(auto, using(crate::proofs::VariableLemmas::evaluate_named))]
+fn number_in(program: &Prog, f: &Function, slots: &[Value], e: &Expr) -> Option<i64>
+    requires fits { expr_fits (arities program.now) (length f.now.names) e.now ≡ true }
+    requires distinct { AreDistinct f.now.names }
+    ensures { let of = value_of (bound f.now.names slots.now) in
+        IfSome result (λ z.
+        meaning.evaluate of (expr_map (name_at f.now.names) e.now) ≡ Ok (int z)) }
+{
+    quick_int(slots, e)
+}
+
+// Whether a test holds in a call, found from its value.
+#[inline(never)]
 #[tactic(auto, using(crate::proofs::CallLemmas::tested, crate::proofs::CallLemmas::not_tested))]
-fn truth_in(
+fn truth_in_full(
     alloc: Global,
     program: &Prog,
     f: &Function,
@@ -99,6 +114,27 @@ fn truth_in(
 {
     let value = value_in(alloc, program, f, slots, e)?;
     truth_of(&value)
+}
+
+// Whether a test holds in a call.
+#[tactic(auto, using(crate::proofs::CallLemmas::tested, crate::proofs::VariableLemmas::evaluate_named))]
+fn truth_in(
+    alloc: Global,
+    program: &Prog,
+    f: &Function,
+    slots: &[Value],
+    e: &Expr,
+) -> Result<bool, Stop>
+    requires fits { expr_fits (arities program.now) (length f.now.names) e.now ≡ true }
+    requires distinct { AreDistinct f.now.names }
+    requires agree { all_agree (arities program.now) slots.now ≡ true }
+    ensures { let of = value_of (bound f.now.names slots.now) in
+        ComesTo (λ b. b) result (meaning.holds of (expr_map (name_at f.now.names) e.now)) }
+{
+    match quick_truth(slots, e) {
+        Some(b) => Ok(b),
+        None => truth_in_full(alloc, program, f, slots, e),
+    }
 }
 
 // The values of expressions in a call.
@@ -138,9 +174,10 @@ fn pad(slots: &mut Vec<Value>, slot: usize) -> Result<(), Stop>
     Ok(())
 }
 
-// The instruction sets a variable to the value of an expression, and goes on at `next`.
+// The instruction sets a variable to the value of an expression, whatever it is, and goes on at `next`.
+#[inline(never)]
 #[tactic(auto, using(crate::proofs::VariableLemmas::bound_set, crate::proofs::CallLemmas::agree_set))]
-pub(crate) fn assign(
+fn assign_in_full(
     alloc: Global,
     program: &Prog,
     f: &Function,
@@ -168,7 +205,40 @@ pub(crate) fn assign(
     Ok(())
 }
 
-// The instruction goes on at the first of two places where its test holds, else at the second.
+/// The instruction sets a variable to the value of an expression, and goes on at `next`.
+#[tactic(auto, using(crate::proofs::VariableLemmas::bound_set, crate::proofs::CallLemmas::agree_set))]
+pub(crate) fn assign(
+    alloc: Global,
+    program: &Prog,
+    f: &Function,
+    slot: usize,
+    e: &Expr,
+    next: usize,
+    call: &mut Call,
+) -> Result<(), Stop>
+    requires slot { slot < length f.now.names }
+    requires fits { expr_fits (arities program.now) (length f.now.names) e.now ≡ true }
+    requires ready { IsReady (arities program.now) f.now call.old }
+    ensures steps { (self : ℕ) (below : Term) →
+        let x = name_at f.now.names slot in
+        let source = plain_source_value (expr_map (name_at f.now.names) e.now) in
+        let after = statements_at f.now next in
+        let variables = variables_of f.now call.old in
+        StepsOn f.now result call.old call.new below
+        (steps.source_step (text_of program.now) self x source after variables below) }
+    ensures kept { RunsOn (arities program.now) call.old call.new }
+{
+    if let Some(z) = number_in(program, f, call.slots.as_slice(), e) {
+        if slot < call.slots.len() {
+            call.slots[slot] = Value::new(ValueKind::Int(z));
+            call.at = next;
+            return Ok(());
+        }
+    }
+    assign_in_full(alloc, program, f, slot, e, next, call)
+}
+
+/// The instruction goes on at the first of two places where its test holds, else at the second.
 pub(crate) fn choose(
     alloc: Global,
     program: &Prog,
