@@ -75,7 +75,7 @@ runs_on_stays fs f r old new on did = record {
 -- a call that runs does what is left at its place
 pub steps_there : (p : Program) (self : ℕ) (f : PlainItem ℕ) (c : Call) (below : Term) → c.wait ≡ wait.Runs →
     next p self (entry_for f c ∷ below) ≡ call_step p self (statements_at f c.at) (variables_of f c) below
-steps_there p self f c below runs = ap (λ w. next p self (call_at f c.at c.slots.items w ∷ below)) runs
+steps_there p self f c below is = ap (λ w. next p self (call_at f c.at c.slots.items w ∷ below)) is
 
 module _ (p : Program) (self : ℕ) (f : PlainItem ℕ) (variables : Variables) (below : Term) where
   -- a call does the statement at its place

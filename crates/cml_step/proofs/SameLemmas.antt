@@ -1,8 +1,8 @@
 -- What a test of two values has told.
-use Rattle.std.proofs.Common.{◌≡◌, Bool, true, false, refl, ap, sym, ◌∙◌, ◌↔◌}
+use Rattle.std.proofs.Common.{◌≡◌, Bool, true, false, refl, ap, sym, ◌∙◌, ◌↔◌, to_z, of_z}
 use Rattle.std.proofs.lemmas.Bool.{eqb-true, eq-eqb}
 use Rattle.std.proofs.lemmas.Int.{to_z-of_z}
-use Rattle.std.specs.Prelude.{ℤ, FitsSigned, nat_eq, to_z, of_z}
+use Rattle.std.specs.Prelude.{ℤ, FitsSigned, nat_eq}
 use Rattle.std.specs.Int.{w64}
 use Rattle.cml_value.specs.Value.{PlainValue, int}
 use Rattle.cml_step.specs.Same.{same_or_other, is_yes, are_same}

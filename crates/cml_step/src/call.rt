@@ -558,7 +558,6 @@ fn drop_effect(
 }
 
 // A `let`, which goes on at `next`.
-#[tactic(auto, using(crate::proofs::CallLemmas::runs_on_stays))]
 fn let_step(
     alloc: Global,
     thread: Tid,
@@ -591,7 +590,6 @@ fn let_step(
 }
 
 /// What the instruction at the call's place does.
-#[tactic(auto, using(crate::proofs::CallLemmas::runs_on_stays))]
 fn instr_step(
     alloc: Global,
     thread: Tid,

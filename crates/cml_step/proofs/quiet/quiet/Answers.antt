@@ -12,52 +12,52 @@ use Rattle.cml_step.proofs.quiet.quiet.Goals as goal
 pub returns-in-Value-clause-goes : goal.returns-in-Value-clause-goes
 returns-in-Value-clause-goes c = λ on self below.
     let f = c.args.f.now in
-    went f c.assign.result c.args.call.now c.assign.new.call below _ (sym c.is_ok.ensures ∙ on)
+    went f c.assign.result c.args.call.now c.assign.new.call below _ (sym c.is_ok.ensures.value ∙ on)
     (steps_at (text_of c.args.program.now) self f (variables_of f c.args.call.now) below c.assign.result c.args.call.now c.assign.new.call c.args.call.now.at
-    (let_be c.in-Let.slot.now (value c.in-Value.e.now)) (left f.body c.in-Let.next.now)
-    (subst (λ s. left f.body c.args.call.now.at ≡ stmts_and (let_be c.in-Let.slot.now (plain_source s)) (left f.body c.in-Let.next.now)) c.in-Value.is
+    (let_be c.in-Let.slot (value c.in-Value.e)) (left f.body c.in-Let.next)
+    (subst (λ s. left f.body c.args.call.now.at ≡ stmts_and (let_be c.in-Let.slot (plain_source s)) (left f.body c.in-Let.next)) c.in-Value.is
     (subst (λ i. Follows (left f.body) (plain_instr i) (left f.body c.args.call.now.at)) c.in-Let.is c.requires.here))
     (c.assign.ensures.steps self below))
 
 pub returns-in-Value-clause-stays : goal.returns-in-Value-clause-stays
 returns-in-Value-clause-stays c = λ off.
-    stayed c.args.f.now c.assign.result c.args.call.now c.assign.new.call [] _ (sym c.is_ok.ensures ∙ off) (c.assign.ensures.steps 0 [])
+    stayed c.args.f.now c.assign.result c.args.call.now c.assign.new.call [] _ (sym c.is_ok.ensures.value ∙ off) (c.assign.ensures.steps 0 [])
 
 pub returns-in-Set-clause-goes : goal.returns-in-Set-clause-goes
 returns-in-Set-clause-goes c = λ on self below.
     let f = c.args.f.now in
-    went f c.assign-in-Set.result c.args.call.now c.assign-in-Set.new.call below _ (sym c.is_ok-in-Set.ensures ∙ on)
+    went f c.assign-in-Set.result c.args.call.now c.assign-in-Set.new.call below _ (sym c.is_ok-in-Set.ensures.value ∙ on)
     (steps_at (text_of c.args.program.now) self f (variables_of f c.args.call.now) below c.assign-in-Set.result c.args.call.now c.assign-in-Set.new.call c.args.call.now.at
-    (set_to c.in-Set.slot.now c.in-Set.e.now) (left f.body c.in-Set.next.now)
+    (set_to c.in-Set.slot c.in-Set.e) (left f.body c.in-Set.next)
     (subst (λ i. Follows (left f.body) (plain_instr i) (left f.body c.args.call.now.at)) c.in-Set.is c.requires.here)
     (c.assign-in-Set.ensures.steps self below))
 
 pub returns-in-Set-clause-stays : goal.returns-in-Set-clause-stays
 returns-in-Set-clause-stays c = λ off.
-    stayed c.args.f.now c.assign-in-Set.result c.args.call.now c.assign-in-Set.new.call [] _ (sym c.is_ok-in-Set.ensures ∙ off) (c.assign-in-Set.ensures.steps 0 [])
+    stayed c.args.f.now c.assign-in-Set.result c.args.call.now c.assign-in-Set.new.call [] _ (sym c.is_ok-in-Set.ensures.value ∙ off) (c.assign-in-Set.ensures.steps 0 [])
 
 pub returns-in-If-clause-goes : goal.returns-in-If-clause-goes
 returns-in-If-clause-goes c = λ on self below.
     let f = c.args.f.now in
-    went f c.choose.result c.args.call.now c.choose.new.call below _ (sym c.is_ok-in-If.ensures ∙ on)
+    went f c.choose.result c.args.call.now c.choose.new.call below _ (sym c.is_ok-in-If.ensures.value ∙ on)
     (chosen_at (text_of c.args.program.now) self f (variables_of f c.args.call.now) below c.choose.result c.args.call.now c.choose.new.call c.args.call.now.at
-    c.in-If.e.now c.in-If.yes.now c.in-If.no.now
+    c.in-If.e c.in-If.yes c.in-If.no
     (subst (λ i. Follows (left f.body) (plain_instr i) (left f.body c.args.call.now.at)) c.in-If.is c.requires.here)
     (c.choose.ensures.steps below))
 
 pub returns-in-If-clause-stays : goal.returns-in-If-clause-stays
 returns-in-If-clause-stays c = λ off.
-    stayed c.args.f.now c.choose.result c.args.call.now c.choose.new.call [] _ (sym c.is_ok-in-If.ensures ∙ off) (c.choose.ensures.steps [])
+    stayed c.args.f.now c.choose.result c.args.call.now c.choose.new.call [] _ (sym c.is_ok-in-If.ensures.value ∙ off) (c.choose.ensures.steps [])
 
 pub returns-in-While-clause-goes : goal.returns-in-While-clause-goes
 returns-in-While-clause-goes c = λ on self below.
     let f = c.args.f.now in
-    went f c.choose-in-While.result c.args.call.now c.choose-in-While.new.call below _ (sym c.is_ok-in-While.ensures ∙ on)
+    went f c.choose-in-While.result c.args.call.now c.choose-in-While.new.call below _ (sym c.is_ok-in-While.ensures.value ∙ on)
     (looped_at (text_of c.args.program.now) self f (variables_of f c.args.call.now) below c.choose-in-While.result c.args.call.now c.choose-in-While.new.call c.args.call.now.at
-    c.in-While.e.now c.in-While.body.now c.in-While.next.now
+    c.in-While.e c.in-While.body c.in-While.next
     (subst (λ i. Follows (left f.body) (plain_instr i) (left f.body c.args.call.now.at)) c.in-While.is c.requires.here)
     (c.choose-in-While.ensures.steps below))
 
 pub returns-in-While-clause-stays : goal.returns-in-While-clause-stays
 returns-in-While-clause-stays c = λ off.
-    stayed c.args.f.now c.choose-in-While.result c.args.call.now c.choose-in-While.new.call [] _ (sym c.is_ok-in-While.ensures ∙ off) (c.choose-in-While.ensures.steps [])
+    stayed c.args.f.now c.choose-in-While.result c.args.call.now c.choose-in-While.new.call [] _ (sym c.is_ok-in-While.ensures.value ∙ off) (c.choose-in-While.ensures.steps [])
