@@ -13,7 +13,6 @@ pub mod law;
 mod machine;
 mod nack;
 mod operator;
-mod place;
 mod quiet;
 mod ran;
 mod slices;

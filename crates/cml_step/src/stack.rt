@@ -63,7 +63,6 @@ fn push_call(
 {
     let call = Call {
         func,
-        path: Vec::new(alloc),
         at: 0,
         slots: args,
         wait: Wait::Runs,
