@@ -1,5 +1,5 @@
 -- How the code of statements is put together.
-use Rattle.std.proofs.Common.{◌≡◌, ℕ, suc, ◌+◌, ◌<◌, ◌≤◌, List, [], ◌∷◌, ◌++◌, length, get_or, drop, map, refl, sym, ap, ◌∙◌, subst, arith, append_assoc, append-nil, length-append}
+use Rattle.std.proofs.Common.{◌≡◌, ℕ, zero, suc, ◌+◌, ◌<◌, ◌≤◌, List, [], ◌∷◌, ◌++◌, length, get_or, drop, map, refl, sym, ap, ◌∙◌, subst, arith, append_assoc, append-nil, length-append}
 use Rattle.std.proofs.lemmas.List.{length-map, map_push}
 use Rattle.std.proofs.Math.ListN.{drop_of_length-le}
 use Rattle.std.proofs.Math.Seq.{drop-cons}
@@ -52,6 +52,15 @@ laid_length old new added e =
     let r = length-map new plain_instr in
     let s = length-map old plain_instr in
     omega arith
+
+-- where a statement is left, they begin where they are laid, else at the place after them
+pub entry_some : (base at next : ℕ) (xs : List (PlainStmt ℕ)) → at < length xs → base ≡ entry base (stmts (drop at xs)) next
+entry_some base at next [] h = absurd (omega arith)
+entry_some base zero next (x ∷ xs) h = refl
+entry_some base (suc at) next (x ∷ xs) h = entry_some base at next xs (omega arith)
+
+pub entry_none : (base at next : ℕ) (xs : List (PlainStmt ℕ)) → length xs ≤ at → next ≡ entry base (stmts (drop at xs)) next
+entry_none base at next xs h = sym (ap (λ ys. entry base (stmts ys) next) (drop_of_length-le xs h))
 
 -- a statement is laid, and those after it are left
 pub laid_next : (whole : List PlainInstr) (old new : List Instr) (xs : List (PlainStmt ℕ)) (s : PlainStmt ℕ) (at next after : ℕ) →

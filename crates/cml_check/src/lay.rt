@@ -1,6 +1,6 @@
 //! Statements laid flat.
 
-ghost use Rattle.std.specs.Prelude.{◌≡◌, ◌+◌, ◌++◌, length, map, IfOk};
+ghost use Rattle.std.specs.Prelude.{◌≡◌, ◌+◌, ◌++◌, drop, length, map, IfOk};
 ghost use Rattle.cml_check.specs.Sizes.{stmt_count, stmts_count};
 ghost use Rattle.cml_check.specs.Syntax.{stmts};
 ghost use Rattle.cml_check.specs.Layout as layout;
@@ -49,13 +49,15 @@ impl Block {
     }
 }
 
-// Where the statements begin that are laid from this place on, if the place after them is `next`.
-fn start(base: usize, statements: &[Stmt], next: usize) -> usize
-    ensures { result ≡ layout.entry base (stmts statements.now) next }
+// Where the statements from this one on begin, if they are laid from `base` on and the place after them is `next`.
+#[tactic(auto, using(crate::proofs::Laid::entry_some, crate::proofs::Laid::entry_none))]
+fn start(base: usize, statements: &[Stmt], at: usize, next: usize) -> usize
+    ensures { result ≡ layout.entry base (stmts (drop at statements.now)) next }
 {
-    match statements {
-        [] => next,
-        [_, ..] => base,
+    if at < statements.len() {
+        base
+    } else {
+        next
     }
 }
 
@@ -63,7 +65,7 @@ fn start(base: usize, statements: &[Stmt], next: usize) -> usize
 fn entry(base: usize, block: &Block, next: usize) -> usize
     ensures { result ≡ layout.entry base block.now next }
 {
-    start(base, block.items.as_slice(), next)
+    start(base, block.items.as_slice(), 0, next)
 }
 
 // Lays the statements behind the code; the place after them is `next`.
@@ -82,7 +84,7 @@ fn lay_block(
     for at in 0..block.items.len() {
         let stmt = &block.items[at];
         let end = sum(code.len(), stmt.count()?)?;
-        let after = start(end, &block.items[at + 1..], next);
+        let after = start(end, block.items.as_slice(), at + 1, next);
         lay_stmt(alloc, code, stmt, after)?;
     }
     Ok(())
@@ -124,7 +126,8 @@ fn lay_stmt(
             let on_no = entry(sum(base, yes.count()?)?, no, next);
             code.push(Instr::If(test, on_yes, on_no))?;
             lay_block(alloc, code, yes, next)?;
-            lay_block(alloc, code, no, next)
+            lay_block(alloc, code, no, next)?;
+            Ok(())
         }
         StmtKind::While(test, body) => {
             let test = test.copy(alloc)?;
