@@ -54,11 +54,7 @@ impl Block {
 fn start(base: usize, statements: &[Stmt], at: usize, next: usize) -> usize
     ensures { result ≡ layout.entry base (stmts (drop at statements.now)) next }
 {
-    if at < statements.len() {
-        base
-    } else {
-        next
-    }
+    if at < statements.len() { base } else { next }
 }
 
 // The same of a block.

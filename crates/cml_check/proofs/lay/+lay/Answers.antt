@@ -1,8 +1,8 @@
-use Rattle.std.proofs.Common.{rules, ◌≡◌, ◌+◌, ◌++◌, length, map, get_or, drop, refl, sym, ap, ◌∙◌, subst, arith}
+use Rattle.std.proofs.Common.{◌≡◌, ◌+◌, ◌++◌, length, map, drop, refl, sym, ap, ◌∙◌, subst, arith}
 use Rattle.cml_check.specs.Sizes.{stmt_count, stmts_count}
 use Rattle.cml_check.specs.Syntax.{if_so, stmts}
 use Rattle.cml_check.specs.StmtViews.{plain_stmt}
-use Rattle.cml_check.specs.Layout.{entry, stmt_code, stmts_code}
+use Rattle.cml_check.specs.Layout.{entry, stmt_code}
 use Rattle.cml_check.specs.InstrViews.{plain_instr}
 use Rattle.cml_check.specs.declared.instr.Instr.TheVariants as instr
 use Rattle.cml_check.proofs.Laid.{laid_next, laid_if}
