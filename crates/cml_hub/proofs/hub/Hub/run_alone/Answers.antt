@@ -96,6 +96,6 @@ returns-in_err-report-2-clause-so_far g c =
     let b = c.go_alone.new.self in
     let k = c.in_ok-go_alone.ensures.ok in
     let way = way_more rules h a b c.args.chooser.now c.turns.chooser c.go_alone.new.chooser k.item c.turns.invariant.way c.turns.invariant.more
-        (sym c.turns-test.ensures.over) (below a.budget (run_of a.course) (sym c.turns-test.ensures.over)) c.in_ok-go_alone.ensures.plays k.moves in
+    (sym c.turns-test.ensures.over) (below a.budget (run_of a.course) (sym c.turns-test.ensures.over)) c.in_ok-go_alone.ensures.plays k.moves in
     on_err c.from_residual-in_err-report-2.result
     (inl (way_on rules h b c.report-in-turns.new.self c.args.chooser.now c.go_alone.new.chooser way c.in_err-report-2.ensures.err))
