@@ -8,7 +8,7 @@ use Rattle.cml_hub.proofs.hub.Hub.meet.Goals as goal
 
 pub invariant_of-self : goal.invariant_of-self
 invariant_of-self c =
-    rw (c.reserve.ensures.marks) c.self.invariant
+    rw (c.reserve.ensures.marks, c.reserve.ensures.queue) c.self.invariant
 
 pub meet-requires-clause-allowed : goal.meet-requires-clause-allowed
 meet-requires-clause-allowed c =
@@ -16,7 +16,7 @@ meet-requires-clause-allowed c =
 
 pub invariant_of-self-in_err-meet : goal.invariant_of-self-in_err-meet
 invariant_of-self-in_err-meet c =
-    rw (c.in_err-meet.ensures.err, c.reserve.ensures.marks) c.self.invariant
+    rw (c.in_err-meet.ensures.err, c.reserve.ensures.marks, c.reserve.ensures.queue) c.self.invariant
 
 pub place_all-requires-clause-away : goal.place_all-requires-clause-away
 place_all-requires-clause-away c =

@@ -1,10 +1,10 @@
-use Rattle.std.proofs.Common.{◌≡◌, true, false, not, refl, sym, ap, ◌∙◌}
+use Rattle.std.proofs.Common.{◌≡◌, true, false, not, refl, sym, ap, subst, ◌∙◌}
 use Rattle.cml_schedule.specs.declared.item.Item.TheVariants.{Clock}
 use Rattle.cml_hub.specs.Runs.{any_runs, terminal}
 use Rattle.cml_hub.specs.Kept.{IsNoTurn, TellsSwaps}
 use Rattle.cml_hub.proofs.Marking.{placed_any}
 use Rattle.cml_hub.proofs.Onward.{none_runs, some_runs, swap_allowed, tick_allowed, terminal_is}
-use Rattle.cml_hub.specs.Playing.{taking}
+use Rattle.cml_hub.specs.Playing.{spent, taking}
 use Rattle.cml_hub.proofs.Played.{taking_swap, taking_row, row_moves, tick_moves}
 use Rattle.cml_hub.proofs.hub.Hub.move_on.Goals.{then-swaps, else-swaps}
 use Rattle.cml_hub.proofs.hub.Hub.move_on.Goals as goal
@@ -79,11 +79,11 @@ returns-in-Some-clause-plays g c =
     ] in
     row_moves (record { picks = g.C.Chooser.picks; next = g.C.Chooser.next }) old c.meet.new.self c.args.chooser.now c.pick.new.chooser c.in-Some.row c.if-swaps.item
     (rw (← c.self.view_is) (sym c.in-Some.is ∙ c.pick.ensures.picked)) (rw (← c.self.view_is) is) c.in_ok-meet.ensures.moves c.in_ok-meet.ensures.queue
-    (rw (← c.in-Some.is) c.pick.ensures.spent)
+    (subst (λ o. c.pick.new.chooser ≡ spent (record { picks = g.C.Chooser.picks; next = g.C.Chooser.next }) c.args.chooser.now o) c.in-Some.is c.pick.ensures.spent)
 
 pub returns-clause-plays : goal.returns-clause-plays
 returns-clause-plays g c =
     let old = c.args.self.now in
     tick_moves (record { picks = g.C.Chooser.picks; next = g.C.Chooser.next }) old c.tick.new.self c.args.chooser.now c.pick.new.chooser c.in-Some-next_alarm.tick
     (rw (← c.self.view_is) (sym c.in_default.is ∙ c.pick.ensures.picked)) (rw (← c.self.view_is) (sym c.in-Some-next_alarm.is ∙ c.next_alarm.ensures)) c.in_ok-tick-in-Some-next_alarm.ensures.moves c.tick.ensures.queue
-    (rw (← c.in_default.is) c.pick.ensures.spent)
+    (subst (λ o. c.pick.new.chooser ≡ spent (record { picks = g.C.Chooser.picks; next = g.C.Chooser.next }) c.args.chooser.now o) c.in_default.is c.pick.ensures.spent)

@@ -77,25 +77,22 @@ returns-in_err-call_back-clause-so_far g c = on_err c.from_residual.result (inr 
 
 pub returns-in_err-report-clause-so_far : goal.returns-in_err-report-clause-so_far
 returns-in_err-report-clause-so_far g c =
-    let rules = record { picks = g.C.Chooser.picks; next = g.C.Chooser.next } in
     let h = c.args.self.now in
-    let way = way_called rules h c.call_back.new.self c.args.chooser.now c.in_ok-call_back.ensures.ok in
-    on_err c.from_residual-in_err-report.result (inl (way_on rules h c.call_back.new.self c.report.new.self c.args.chooser.now c.args.chooser.now way c.in_err-report.ensures.err))
+    let way = way_called (record { picks = g.C.Chooser.picks; next = g.C.Chooser.next }) h c.call_back.new.self c.args.chooser.now c.in_ok-call_back.ensures.ok in
+    on_err c.from_residual-in_err-report.result (inl (way_on (record { picks = g.C.Chooser.picks; next = g.C.Chooser.next }) h c.call_back.new.self c.report.new.self c.args.chooser.now c.args.chooser.now way c.in_err-report.ensures.err))
 
 pub returns-in_err-go_alone-clause-so_far : goal.returns-in_err-go_alone-clause-so_far
 returns-in_err-go_alone-clause-so_far g c =
-    let rules = record { picks = g.C.Chooser.picks; next = g.C.Chooser.next } in
     on_err c.from_residual-in_err-go_alone.result
-    (inl (way_on rules c.args.self.now c.turns.self c.go_alone.new.self c.args.chooser.now c.turns.chooser c.turns.invariant.way c.in_err-go_alone.ensures.err))
+    (inl (way_on (record { picks = g.C.Chooser.picks; next = g.C.Chooser.next }) c.args.self.now c.turns.self c.go_alone.new.self c.args.chooser.now c.turns.chooser c.turns.invariant.way c.in_err-go_alone.ensures.err))
 
 pub returns-in_err-report-2-clause-so_far : goal.returns-in_err-report-2-clause-so_far
 returns-in_err-report-2-clause-so_far g c =
-    let rules = record { picks = g.C.Chooser.picks; next = g.C.Chooser.next } in
     let h = c.args.self.now in
     let a = c.turns.self in
     let b = c.go_alone.new.self in
     let k = c.in_ok-go_alone.ensures.ok in
-    let way = way_more rules h a b c.args.chooser.now c.turns.chooser c.go_alone.new.chooser k.item c.turns.invariant.way c.turns.invariant.more
+    let way = way_more (record { picks = g.C.Chooser.picks; next = g.C.Chooser.next }) h a b c.args.chooser.now c.turns.chooser c.go_alone.new.chooser k.item c.turns.invariant.way c.turns.invariant.more
     (sym c.turns-test.ensures.over) (below a.budget (run_of a.course) (sym c.turns-test.ensures.over)) c.in_ok-go_alone.ensures.plays k.moves in
     on_err c.from_residual-in_err-report-2.result
-    (inl (way_on rules h b c.report-in-turns.new.self c.args.chooser.now c.go_alone.new.chooser way c.in_err-report-2.ensures.err))
+    (inl (way_on (record { picks = g.C.Chooser.picks; next = g.C.Chooser.next }) h b c.report-in-turns.new.self c.args.chooser.now c.go_alone.new.chooser way c.in_err-report-2.ensures.err))

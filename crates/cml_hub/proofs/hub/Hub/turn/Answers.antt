@@ -11,7 +11,7 @@ use Rattle.cml_hub.proofs.hub.Hub.turn.Goals as goal
 
 pub invariant_of-self : goal.invariant_of-self
 invariant_of-self c =
-    rw (c.reserve.ensures.marks) c.self.invariant
+    rw (c.reserve.ensures.marks, c.reserve.ensures.queue) c.self.invariant
 
 pub turn-requires : goal.turn-requires
 turn-requires c =
@@ -19,7 +19,7 @@ turn-requires c =
 
 pub invariant_of-self-in_err-gone : goal.invariant_of-self-in_err-gone
 invariant_of-self-in_err-gone c =
-    rw (c.in_err-gone.ensures.err, c.reserve.ensures.marks) c.self.invariant
+    rw (c.in_err-gone.ensures.err, c.reserve.ensures.marks, c.reserve.ensures.queue) c.self.invariant
 
 pub place-requires-clause-there : goal.place-requires-clause-there
 place-requires-clause-there c =
