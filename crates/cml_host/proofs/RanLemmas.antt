@@ -230,7 +230,7 @@ stopped_ran p options begun stopped a b d output before broke calls failed store
 
 pub starts_itself : (p : List (PlainItem ℕ)) (budget : ℕ) (watch : Option ℕ) (h : Kept) → IsAtStart p budget watch h → IsAtStart h.course.program budget watch h
 starts_itself p budget watch h begins =
-    record { program = refl; budget_is = begins.budget_is; watch_is = begins.watch_is; items = begins.items; reports = begins.reports; none_out = begins.none_out }
+    record { program = refl; budget_is = begins.budget_is; watch_is = begins.watch_is; items = begins.items; reports = begins.reports; none_out = begins.none_out; queue = begins.queue }
 
 -- ---- a store that was read first
 
