@@ -135,16 +135,14 @@ filled_for f c d v i h e w s =
     ∙ ap (λ x. call (stmts_map (name_at f.names) (left_at f.body c.path.items c.at)) x runs) (ap (bound f.names) s ∙ sym (filled_is f.names c.slots.items c.wait v i h))
 
 -- what delivering to it comes to
-pub delivered_call : (p : List (PlainItem ℕ)) (f : PlainItem ℕ) (c d : Call) (v : PlainValue) (es : List PlainHeld) → CallFits p c → f ≡ get_or p c.func f → AreDistinct f.names →
+pub delivered_call : (p : List (PlainItem ℕ)) (f : PlainItem ℕ) (c d : Call) (v : PlainValue) (below : Term) → CallFits p c → f ≡ get_or p c.func f → AreDistinct f.names →
     (d.func ≡ c.func) × (d.at ≡ c.at) × (d.path ≡ c.path) → d.wait ≡ wait.Runs → d.slots.items ≡ slots_with c.wait v c.slots.items →
-    delivered v (entry_of p c ∷ term_of p es) ≡ goes_on (term_of p (es ++ plain_held (entry.Call d) ∷ []))
-delivered_call p f c d v es h g i e w s =
+    delivered v (entry_of p c ∷ below) ≡ goes_on (entry_of p d ∷ below)
+delivered_call p f c d v below h g i e w s =
     let o : slice_get p c.func ≡ Some f = fun_at p c.func f h.there g in
     let room : WaitFits c.wait (length f.names) (length c.slots.items) = subst (λ x. WaitFits c.wait (name_count x) (length c.slots.items)) o h.waits in
     let q : entry_of p d ≡ entry_for f d = ap (λ n. entry_in (slice_get p n) d) e.0 ∙ ap (λ x. entry_in x d) o in
-    ap (λ x. delivered v (entry_in x c ∷ term_of p es)) o
-    ∙ ap (λ x. goes_on (x ∷ term_of p es)) (sym (q ∙ filled_for f c d v i room e w s))
-    ∙ ap goes_on (sym (term_pushed p es (plain_held (entry.Call d))))
+    ap (λ x. delivered v (entry_in x c ∷ below)) o ∙ ap (λ x. goes_on (x ∷ below)) (sym (q ∙ filled_for f c d v i room e w s))
 
 -- an entry put on top, with what it waits for
 pub pushed_is : (p : List (PlainItem ℕ)) (es fs : List PlainHeld) (e : PlainHeld) → fs ≡ es ++ e ∷ [] → term_of p fs ≡ held_entry p e ∷ term_of p es
@@ -193,3 +191,23 @@ waiting p self c below h = waiting_in (text_of p) self (slice_get p c.func) c c.
 pub next_wrap : (p : Program) (self : ℕ) (all left : List PlainFunction) (f : PlainFunction) (v : PlainValue) (below : Term) → all ≡ left ++ f ∷ [] →
     wraps_step p (reverse all) v below ≡ pushed (call_of p (with_argument f v)) (wraps (reverse left) v ∷ below)
 next_wrap p self all left f v below h = ap (λ fs. wraps_step p fs v below) (ap reverse h ∙ last_next left f)
+
+-- the top entry, and those below it
+pub top_and_rest : (es fs : List PlainHeld) (e f : PlainHeld) → es ++ e ∷ [] ≡ fs ++ f ∷ [] → (es ≡ fs) × (e ≡ f)
+top_and_rest [] [] e f h = (refl, cc)
+top_and_rest [] (y ∷ []) e f h = absurd (cc)
+top_and_rest [] (y ∷ z ∷ fs) e f h = absurd (cc)
+top_and_rest (x ∷ []) [] e f h = absurd (cc)
+top_and_rest (x ∷ y ∷ es) [] e f h = absurd (cc)
+top_and_rest (x ∷ es) (y ∷ fs) e f h = let t : es ++ e ∷ [] ≡ fs ++ f ∷ [] = cc in let r = top_and_rest es fs e f t in let i : x ≡ y = cc in (ap (λ z. z ∷ es) i ∙ ap (λ zs. y ∷ zs) r.0, r.1)
+
+pub nothing_on_top : (es : List PlainHeld) (e : PlainHeld) → es ++ e ∷ [] ≡ [] → ⊥
+nothing_on_top [] e h = cc
+nothing_on_top (x ∷ es) e h = cc
+
+-- a stack with this entry on top
+pub stands_fits : (p : List (PlainItem ℕ)) (es hs : List PlainHeld) (h : PlainHeld) → es ≡ hs ++ h ∷ [] → EachBeneath p hs → HeldFits p h → StackFits p es
+stands_fits p es hs h e b f = subst (StackFits p) (sym e) (fits_pushed p hs h b f)
+
+pub stands_beneath : (p : List (PlainItem ℕ)) (es hs : List PlainHeld) (h : PlainHeld) → es ≡ hs ++ h ∷ [] → EachBeneath p hs → HeldFitsBeneath p h → EachBeneath p es
+stands_beneath p es hs h e b f = subst (EachBeneath p) (sym e) (beneath_pushed p hs h b f)
