@@ -6,18 +6,31 @@ ghost use Rattle.cml_base.specs.Feeds.{PlainRefusal, Feeds, WantsNoMemory};
 
 use cml_value::Value;
 use std::alloc::AllocError;
+use std::fmt;
+use thiserror::Error;
 
 /// Why an object did not take what it was fed. The feed comes back, and the object is as it was.
-#[derive(Drop)]
+#[derive(Drop, Error)]
 pub enum FeedFault<F> {
     /// The object holds a value already.
+    #[error("the object holds a value already")]
     Put(F),
     /// The object holds as many items as it may.
+    #[error("the object is full")]
     Full(F),
     /// The object takes no such feed any more, or not yet.
+    #[error("the object takes no such feed now")]
     Spent(F),
     /// Out of memory.
+    #[error("out of memory")]
     Memory(F),
+}
+
+// The feed itself is not shown.
+impl<F> fmt::Debug for FeedFault<F> {
+    fn fmt<W: fmt::Write>(&self, f: &mut fmt::Formatter<W>) -> fmt::Result {
+        write!(f, "{self}")
+    }
 }
 
 /// A kind of object that is lit in some of its states, and gives something to those who wait for it while it is.

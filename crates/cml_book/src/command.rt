@@ -5,7 +5,9 @@ use cml_scan::Meet;
 use cml_value::{
     ChanId, FnRef, Group, IVarId, MVarId, MboxId, McastId, NackId, PortId, SwapId, Tid, Value,
 };
+use std::fmt;
 use std::marker::Model;
+use thiserror::Error;
 
 /// A party of a committed row, which goes on.
 #[derive(Drop)]
@@ -112,10 +114,18 @@ pub enum Reply {
 }
 
 /// A run that was stopped since memory ran out: the replies to the commands that were done, and the commands that were not.
-#[derive(Drop)]
+#[derive(Drop, Error)]
+#[error("out of memory")]
 pub struct Stopped {
     /// The replies to the commands that were done, in order.
     pub replies: Vec<Reply>,
     /// The commands that were not done, in order. Memory ran out at the first of them.
     pub left: Vec<Command>,
+}
+
+// The replies and the commands themselves are not shown.
+impl fmt::Debug for Stopped {
+    fn fmt<W: fmt::Write>(&self, f: &mut fmt::Formatter<W>) -> fmt::Result {
+        write!(f, "{self}")
+    }
 }

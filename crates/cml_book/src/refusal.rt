@@ -4,6 +4,7 @@ ghost use Rattle.std.specs.Prelude.{◌≡◌, codes};
 ghost use Rattle.cml_book.specs.Refusals.{number_of, name_of};
 
 use std::alloc::AllocError;
+use std::fmt;
 use thiserror::Error;
 
 /// Why a command was refused. The first that fits, in this order, is returned, and the command changes nothing.
@@ -85,12 +86,20 @@ pub enum Fault {
 }
 
 /// Why a call that was handed a value did nothing. The value comes back unchanged.
-#[derive(Drop)]
+#[derive(Drop, Error)]
+#[error("{fault}")]
 pub struct Returned<V> {
     /// What was handed in.
     pub value: V,
     /// Why nothing was done.
     pub fault: Fault,
+}
+
+// The value itself is not shown.
+impl<V> fmt::Debug for Returned<V> {
+    fn fmt<W: fmt::Write>(&self, f: &mut fmt::Formatter<W>) -> fmt::Result {
+        write!(f, "{self}")
+    }
 }
 
 impl<V> Returned<V> {

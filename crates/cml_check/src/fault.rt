@@ -7,8 +7,8 @@ ghost use Rattle.cml_check.specs.declared.fault.CheckFault.TheVariants.{At, Memo
 
 use cml_text::Sexpr;
 use std::alloc::{AllocError, AllocFailed};
-use std::error::Error;
 use std::fmt;
+use thiserror::Error;
 
 /// What is wrong at a place of a script.
 #[derive(Clone, Copy, Debug, PartialEq, Eq)]
@@ -62,7 +62,7 @@ impl CheckKind {
 }
 
 /// Why no program was made.
-#[derive(Clone, Copy, Debug, PartialEq, Eq)]
+#[derive(Clone, Copy, Debug, PartialEq, Eq, Error)]
 pub enum CheckFault {
     /// The script has this fault at this byte, counted from 0.
     At { kind: CheckKind, at: usize },
@@ -87,8 +87,6 @@ impl fmt::Display for CheckFault {
         }
     }
 }
-
-impl Error for CheckFault {}
 
 impl From<AllocError> for CheckFault {
     ghost from_gives = { λ _ e. e ≡ Memory };

@@ -11,6 +11,7 @@ use crate::port::Port;
 use cml_base::{FeedFault, Register, Source};
 use cml_value::{PortId, Value};
 use std::alloc::{AllocError, Global};
+use thiserror::Error;
 
 /// Puts the message after the unread ones of every port of the channel, or of none. A channel without ports drops it.
 ///
@@ -43,11 +44,13 @@ pub fn post(
 }
 
 /// Why a message can't be posted. Nothing has changed.
-#[derive(Clone, Copy, PartialEq, Eq)]
+#[derive(Clone, Copy, Debug, PartialEq, Eq, Error)]
 pub enum PostFault {
     /// One of the ports is full.
+    #[error("a port is full")]
     Full,
     /// Memory ran out, where none of the ports is full.
+    #[error("out of memory")]
     Memory,
 }
 

@@ -394,8 +394,9 @@ fn effect_alone(act: Act) -> Action
         Act::Mailbox => Action::Asks(Ask::MakeMailbox),
         Act::MChan => Action::Asks(Ask::MakeMchan),
         Act::Exit => Action::Ends,
-        Act::Yield | Act::OwnThread => Action::Asks(Ask::Yield),
+        Act::Yield => Action::Asks(Ask::Yield),
         Act::Now => Action::Asks(Ask::Now),
+        Act::OwnThread => unreachable!(),
     }
 }
 

@@ -4,8 +4,8 @@ ghost use Rattle.cml_text.specs.Faults.{kind_number, kind_name};
 ghost use Rattle.cml_text.specs.declared.fault.TextFault.TheVariants.{Memory};
 
 use std::alloc::{AllocError, AllocFailed};
-use std::error::Error;
 use std::fmt;
+use thiserror::Error;
 
 /// What is wrong at a place of a text.
 #[derive(Clone, Copy, Debug, PartialEq, Eq)]
@@ -63,7 +63,7 @@ impl FaultKind {
 }
 
 /// Why no forms were read.
-#[derive(Clone, Copy, Debug, PartialEq, Eq)]
+#[derive(Clone, Copy, Debug, PartialEq, Eq, Error)]
 pub enum TextFault {
     /// The text has this fault at this byte, counted from 0.
     At { kind: FaultKind, at: usize },
@@ -88,8 +88,6 @@ impl fmt::Display for TextFault {
         }
     }
 }
-
-impl Error for TextFault {}
 
 impl From<AllocError> for TextFault {
     ghost from_gives = { λ _ e. e ≡ Memory };
