@@ -24,11 +24,14 @@ use Rattle.cml_step.specs.Calls.{entry_for, slots_with}
 use Rattle.cml_step.proofs.CallLemmas.{filled_is, agree_filled, wait_room}
 use Rattle.cml_step.proofs.AgreeLemmas.{all_values}
 use Rattle.cml_step.proofs.ForceLemmas.{list_values}
+use Rattle.cml_step.specs.declared.call.Action.{Action}
+use Rattle.cml_step.specs.declared.call.Action.TheVariants as did
+use Rattle.cml_step.specs.declared.entry.Wraps.{Wraps}
 use Rattle.cml_step.specs.declared.entry.Entry.TheVariants as entry
 use Rattle.cml_step.specs.Terms.{Program, call, wraps, Term, list_of, started, call_of}
 use Rattle.cml_step.specs.Agrees.{functions_agree}
 use Rattle.cml_step.specs.Machines.{PlainHeld, plain_held, held_entry, held_on, HeldFits, HeldFitsBeneath, name_count}
-use Rattle.cml_step.specs.Stacks.{CallFits, term_of, EachBeneath, StackFits}
+use Rattle.cml_step.specs.Stacks.{CallFits, WrapsFit, term_of, EachBeneath, StackFits, StandsAfter}
 
 term_on_pushed : (p : List (PlainItem ℕ)) (es : List PlainHeld) (e : PlainHeld) (below : Term) → held_on p (es ++ e ∷ []) below ≡ held_entry p e ∷ held_on p es below
 term_on_pushed p [] e below = refl
@@ -211,3 +214,20 @@ stands_fits p es hs h e b f = subst (StackFits p) (sym e) (fits_pushed p hs h b 
 
 pub stands_beneath : (p : List (PlainItem ℕ)) (es hs : List PlainHeld) (h : PlainHeld) → es ≡ hs ++ h ∷ [] → EachBeneath p hs → HeldFitsBeneath p h → EachBeneath p es
 stands_beneath p es hs h e b f = subst (EachBeneath p) (sym e) (beneath_pushed p hs h b f)
+
+-- a call stands as well beneath another entry as on top, and so do wraps
+pub call_stands : (p : List (PlainItem ℕ)) (a : Action) (c : Call) → CallFits p c → StandsAfter p a (plain_held (entry.Call c))
+call_stands p did.Goes c h = h
+call_stands p (did.Calls g args) c h = h
+call_stands p (did.Forces e) c h = h
+call_stands p (did.Returns v) c h = tt
+call_stands p (did.Asks a) c h = h
+call_stands p did.Ends c h = tt
+
+pub wraps_stand : (p : List (PlainItem ℕ)) (a : Action) (w : Wraps) → WrapsFit p w → StandsAfter p a (plain_held (entry.Wraps w))
+wraps_stand p did.Goes w h = h
+wraps_stand p (did.Calls g args) w h = h
+wraps_stand p (did.Forces e) w h = h
+wraps_stand p (did.Returns v) w h = tt
+wraps_stand p (did.Asks a) w h = h
+wraps_stand p did.Ends w h = tt

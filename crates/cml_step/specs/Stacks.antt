@@ -1,5 +1,5 @@
 -- The stack of the machine, and the term that it stands for under a program.
-use Rattle.std.specs.Prelude.{◌≡◌, ℕ, true, List, [], ◌∷◌, Result, Ok, Err}
+use Rattle.std.specs.Prelude.{◌≡◌, ℕ, true, List, [], ◌∷◌, ◌++◌, Result, Ok, Err}
 use Rattle.cml_check.specs.Syntax.{PlainItem}
 use Rattle.cml_check.specs.InOrder.{arities}
 use Rattle.cml_step.specs.declared.ask.Ask.{Ask}
@@ -68,3 +68,11 @@ StandsAfter p (did.Forces e) h = HeldFitsBeneath p h
 StandsAfter p (did.Returns v) h = Unit {0}
 StandsAfter p (did.Asks a) h = HeldFits p h
 StandsAfter p did.Ends h = Unit {0}
+
+-- such an entry is on top of this stack, and those below it are in order there
+pub record Stands (p : List (PlainItem ℕ)) (a : Action) (es : List PlainHeld) : Type 0 where
+  pub rest : List PlainHeld
+  pub top : PlainHeld
+  pub is : es ≡ rest ++ top ∷ []
+  pub beneath : EachBeneath p rest
+  pub stands : StandsAfter p a top

@@ -210,7 +210,7 @@ pub(crate) fn as_seen(entry: &Entry) -> Seen<'_>
 
 /// Whether the two may be the same: no value is looked at.
 pub(crate) fn may_be_same(entry: Seen<'_>, other: Seen<'_>) -> bool
-    ensures { plain_seen entry ≡ plain_seen other → IsTrue result }
+    ensures { plain_seen entry.entry ≡ plain_seen other.entry → IsTrue result }
 {
     match (entry, other) {
         (Seen::Call(call), Seen::Call(second)) => same_place(call, second),
@@ -222,7 +222,7 @@ pub(crate) fn may_be_same(entry: Seen<'_>, other: Seen<'_>) -> bool
 
 /// Whether the two are the same entry.
 pub(crate) fn same_entry(entry: Seen<'_>, other: Seen<'_>) -> bool
-    ensures { IsTrue result ↔ (plain_seen entry ≡ plain_seen other) }
+    ensures { IsTrue result ↔ (plain_seen entry.entry ≡ plain_seen other.entry) }
 {
     match (entry, other) {
         (Seen::Call(call), Seen::Call(second)) => same_place(call, second)

@@ -13,7 +13,7 @@ ghost use Rattle.cml_step.specs.Steps as steps;
 ghost use Rattle.cml_step.specs.Steps.{PlainStep};
 ghost use Rattle.cml_step.specs.Calls.{text_of, entry_of, MovesTo, ActionAgrees};
 ghost use Rattle.cml_step.specs.Machines.{PlainHeld, force as plain_force, plain_held, held_entry};
-ghost use Rattle.cml_step.specs.Stacks.{entry_view, term_of, EntryFits, BeneathFits, EachBeneath, StackFits, IsStep, StepFits, CallFits, WrapsFit, IsDelivered, StandsAfter};
+ghost use Rattle.cml_step.specs.Stacks.{entry_view, term_of, EntryFits, BeneathFits, EachBeneath, StackFits, IsStep, StepFits, CallFits, WrapsFit, IsDelivered, StandsAfter, Stands};
 
 use crate::ask::Ask;
 use crate::call::{Action, Call, Wait, call_step, fill};
@@ -179,15 +179,13 @@ fn deliver(alloc: Global, program: &Prog, value: Value, stack: &mut Stack) -> Re
 
 // What comes of what the entry on top did.
 fn after(alloc: Global, program: &Prog, did: Action, stack: &mut Stack) -> Result<Ask, Stop>
-    requires stands { (hs : List PlainHeld) (h : PlainHeld) → stack.old ≡ hs ++ h ∷ []
-        → EachBeneath program.now hs × StandsAfter program.now did h }
+    requires stands { Stands program.now did stack.old }
     requires did { ActionAgrees (arities program.now) (Ok did) }
     ensures meant { (hs : List PlainHeld) (h : PlainHeld) (step : PlainStep) →
         stack.old ≡ hs ++ h ∷ []
         → MovesTo program.now (Ok did) (held_entry program.now h) (term_of program.now hs) step
         → IsStep program.now result step stack.new }
-    ensures fits { (hs : List PlainHeld) (h : PlainHeld) → stack.old ≡ hs ++ h ∷ []
-        → StepFits program.now result stack.new }
+    ensures fits { StepFits program.now result stack.new }
 {
     match did {
         Action::Goes => Ok(Ask::Nothing),
