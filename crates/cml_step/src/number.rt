@@ -59,8 +59,17 @@ fn part_int(slots: &[Value], e: &Expr) -> Option<i64>
     match &e.kind {
         ExprKind::Variable(at) => number_in(slots, *at),
         ExprKind::Number(z) => Some(*z),
-        _ => quick_int(slots, e),
+        _ => deep_int(slots, e),
     }
+}
+
+// The same of a part that is an operation itself.
+#[cycle(quick)]
+#[inline(never)]
+fn deep_int(slots: &[Value], e: &Expr) -> Option<i64>
+    ensures { IfSome result (λ z. evaluate (slot_value slots.now) e.now ≡ Ok (int z)) }
+{
+    quick_int(slots, e)
 }
 
 /// The number that an expression is, where it can be found so and has no fault.
