@@ -23,7 +23,7 @@ use crate::fault::{Fault, Stop};
 use crate::kind::event_of;
 use cml_check::Prog;
 use cml_group::{ForceFault, Forcing, Next};
-use cml_value::{FnRef, Group, Tid, Value, ValueKind};
+use cml_value::{Event, FnRef, Group, Tid, Value, ValueKind};
 use std::alloc::Global;
 use std::mem::replace;
 
@@ -46,6 +46,7 @@ fn push(alloc: Global, entry: Entry, below: &mut Stack) -> Result<Ask, Stop>
 }
 
 // A call of the function with these values, on top.
+#[inline(never)]
 #[tactic(auto, using(crate::proofs::StackLemmas::begun, crate::proofs::StackLemmas::begun_fits, crate::proofs::StackLemmas::term_pushed, crate::proofs::StackLemmas::term_length, crate::proofs::StackLemmas::fits_pushed))]
 fn push_call(
     alloc: Global,
@@ -177,6 +178,32 @@ fn deliver(alloc: Global, program: &Prog, value: Value, stack: &mut Stack) -> Re
     }
 }
 
+// The event is to be forced, on top.
+#[inline(never)]
+fn push_force(alloc: Global, program: &Prog, event: Event, stack: &mut Stack) -> Result<Ask, Stop>
+    requires agrees { event_agrees (arities program.now) event ≡ true }
+    requires beneath { EachBeneath program.now stack.old }
+    ensures meant { IsStep program.now result
+        (steps.pushed (force event false) (term_of program.now stack.old)) stack.new }
+    ensures fits { StepFits program.now result stack.new }
+{
+    let forcing = Forcing::start(alloc, event)?;
+    push(alloc, Entry::Force(forcing, false), stack)
+}
+
+// The entry on top goes, and the value is delivered to what waits beneath.
+#[inline(never)]
+fn leave(alloc: Global, program: &Prog, value: Value, stack: &mut Stack) -> Result<Ask, Stop>
+    requires agrees { value_agrees (arities program.now) value ≡ true }
+    requires stands { Stands program.now (Action.Returns value) stack.old }
+    ensures meant { (hs : List PlainHeld) (h : PlainHeld) → stack.old ≡ hs ++ h ∷ [] →
+        IsStep program.now result (steps.delivered value (term_of program.now hs)) stack.new }
+    ensures fits { StepFits program.now result stack.new }
+{
+    stack.drop_top(alloc)?;
+    deliver(alloc, program, value, stack)
+}
+
 // What comes of what the entry on top did.
 fn after(alloc: Global, program: &Prog, did: Action, stack: &mut Stack) -> Result<Ask, Stop>
     requires stands { Stands program.now did stack.old }
@@ -190,15 +217,9 @@ fn after(alloc: Global, program: &Prog, did: Action, stack: &mut Stack) -> Resul
     match did {
         Action::Goes => Ok(Ask::Nothing),
         Action::Asks(ask) => Ok(ask),
-        Action::Forces(event) => {
-            let forcing = Forcing::start(alloc, event)?;
-            push(alloc, Entry::Force(forcing, false), stack)
-        }
+        Action::Forces(event) => push_force(alloc, program, event, stack),
         Action::Calls(func, args) => push_call(alloc, program, func, args, stack),
-        Action::Returns(value) => {
-            stack.drop_top(alloc)?;
-            deliver(alloc, program, value, stack)
-        }
+        Action::Returns(value) => leave(alloc, program, value, stack),
         Action::Ends => {
             stack.clear();
             Ok(Ask::End)
