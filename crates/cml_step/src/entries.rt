@@ -5,7 +5,9 @@ ghost use Rattle.cml_step.specs.Machines.{PlainHeld, plain_held};
 ghost use Rattle.cml_step.specs.Shared.{TakesOff, frame_entries, left_of, topped, called, plain_seen, entries_left};
 
 use crate::call::Call;
-use crate::entry::{Entry, Seen, as_seen, copy_call, copy_entry, may_be_same, renew_call, same_entry};
+use crate::entry::{
+    Entry, Seen, as_seen, copy_call, copy_entry, may_be_same, renew_call, same_entry,
+};
 use std::alloc::{AllocError, Global};
 use std::marker::Model;
 use std::mem::replace;

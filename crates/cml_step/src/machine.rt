@@ -177,11 +177,7 @@ impl Machine {
     }
 
     // A slice of steps: what is asked in the end, and how many they were.
-    pub(crate) fn run(
-        &mut self,
-        alloc: Global,
-        program: &Prog,
-    ) -> Result<(Ask, u32), AllocError>
+    pub(crate) fn run(&mut self, alloc: Global, program: &Prog) -> Result<(Ask, u32), AllocError>
         requires fits { Fits program.now self.old }
         requires awaits { top_await (machine_term program.now self.old) ≡ answers.nothing }
         ensures { IfOk result (λ r. IsSlice (record {

@@ -23,7 +23,7 @@ use crate::fault::{Fault, Stop};
 use crate::kind::event_of;
 use cml_check::Prog;
 use cml_group::{ForceFault, Forcing, Next};
-use cml_value::{Event, FnRef, Group, Tid, Value, ValueKind};
+use cml_value::{Event, Group, Tid, Value, ValueKind};
 use std::alloc::Global;
 use std::mem::replace;
 
@@ -126,12 +126,7 @@ fn deliver_to_call(program: &Prog, call: &mut Call, value: Value)
 
 // The value is delivered to an entry that waits for it.
 #[inline(never)]
-fn deliver_to(
-    alloc: Global,
-    program: &Prog,
-    entry: &mut Entry,
-    value: Value,
-) -> Result<(), Stop>
+fn deliver_to(alloc: Global, program: &Prog, entry: &mut Entry, value: Value) -> Result<(), Stop>
     requires fits { BeneathFits program.now entry.old }
     requires agrees { value_agrees (arities program.now) value ≡ true }
     ensures meant { (below : Term) → IsDelivered result
@@ -229,12 +224,7 @@ fn after(alloc: Global, program: &Prog, did: Action, stack: &mut Stack) -> Resul
 
 // What a call does in its step, if it runs.
 #[tactic(auto, using(crate::proofs::StackLemmas::waiting))]
-fn step_of_call(
-    alloc: Global,
-    thread: Tid,
-    program: &Prog,
-    call: &mut Call,
-) -> Result<Action, Stop>
+fn step_of_call(alloc: Global, thread: Tid, program: &Prog, call: &mut Call) -> Result<Action, Stop>
     requires fits { CallFits program.now call.old }
     ensures moves { (below : Term) →
         MovesTo program.now result (entry_of program.now call.new) below
