@@ -31,6 +31,8 @@ use Rattle.cml_step.specs.declared.entry.Entry.TheVariants as entry
 use Rattle.cml_step.specs.Terms.{Program, call, wraps, Term, list_of, started, call_of}
 use Rattle.cml_step.specs.Agrees.{functions_agree}
 use Rattle.cml_step.specs.Machines.{PlainHeld, plain_held, held_entry, held_on, HeldFits, HeldFitsBeneath, name_count}
+use Rattle.cml_step.specs.declared.entry.Entry.{Entry}
+use Rattle.cml_step.specs.Shared.{topped, called}
 use Rattle.cml_step.specs.Stacks.{CallFits, WrapsFit, term_of, EachBeneath, StackFits, StandsAfter}
 
 term_on_pushed : (p : List (PlainItem ℕ)) (es : List PlainHeld) (e : PlainHeld) (below : Term) → held_on p (es ++ e ∷ []) below ≡ held_entry p e ∷ held_on p es below
@@ -231,3 +233,12 @@ wraps_stand p (did.Forces e) w h = h
 wraps_stand p (did.Returns v) w h = tt
 wraps_stand p (did.Asks a) w h = h
 wraps_stand p did.Ends w h = tt
+
+-- what is left of the entries in their places where the top one goes
+pub over_dropped : (below : List PlainHeld) (call : Option Call) (over : Option Entry) (hs : List PlainHeld) (h : PlainHeld) → topped (called below call) over ≡ hs ++ h ∷ [] → (over ≡ None → ⊥) → called below call ≡ hs
+over_dropped below call None hs h e n = absurd (n refl)
+over_dropped below call (Some o) hs h e n = (top_and_rest (called below call) hs (plain_held o) h e).0
+
+pub call_dropped : (below : List PlainHeld) (call : Option Call) (hs : List PlainHeld) (h : PlainHeld) → (call ≡ None → below ≡ []) → called below call ≡ hs ++ h ∷ [] → below ≡ hs
+call_dropped below None hs h lifted e = absurd (nothing_on_top hs h (sym e ∙ lifted refl))
+call_dropped below (Some c) hs h lifted e = (top_and_rest below hs (plain_held (entry.Call c)) h e).0

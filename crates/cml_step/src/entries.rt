@@ -1,6 +1,6 @@
 //! The entries of a thread's stack, of which copies share all but those that lie in the stack itself.
 
-ghost use Rattle.std.specs.Prelude.{◌≡◌, ◌↔◌, ◌++◌, ◌+◌, ◌<◌, ◌∷◌, List, [], None, length, IfOk, IsTrue, MatchOption, option_copied};
+ghost use Rattle.std.specs.Prelude.{◌≡◌, ◌↔◌, ◌++◌, ◌+◌, ◌<◌, ◌≤◌, ◌∷◌, List, [], None, length, IfOk, OnErr, IsTrue, MatchOption, option_copied};
 ghost use Rattle.cml_step.specs.Machines.{PlainHeld, plain_held};
 ghost use Rattle.cml_step.specs.Shared.{TakesOff, frame_entries, left_of, topped, called, plain_seen, entries_left};
 
@@ -213,15 +213,25 @@ impl Model for Stack {
     ghost invariant = { λ a. a.over ≡ None → a.call ≡ None → a.below ≡ [] };
 }
 
-// The same entry, if there is one, whose values have one more owner each.
-#[inline(never)]
-fn copy_over(alloc: Global, over: &Option<Entry>) -> Result<Option<Entry>, AllocError>
-    ensures same { IfOk result (λ copy. (hs : List PlainHeld) → topped hs copy ≡ topped hs over.now) }
-    ensures there { IfOk result (λ copy. copy ≡ None → over.now ≡ None) }
+// The entry becomes the same as the other, if there is one.
+fn copy_over_into(
+    alloc: Global,
+    mine: &mut Option<Entry>,
+    other: &Option<Entry>,
+) -> Result<(), AllocError>
+    ensures same { IfOk result (λ _. (hs : List PlainHeld) →
+        topped hs mine.new ≡ topped hs other.now) }
+    ensures there { IfOk result (λ _. mine.new ≡ None → other.now ≡ None) }
 {
-    match over {
-        None => Ok(None),
-        Some(entry) => Ok(Some(copy_entry(alloc, entry)?)),
+    match other {
+        None => {
+            *mine = None;
+            Ok(())
+        }
+        Some(entry) => {
+            *mine = Some(copy_entry(alloc, entry)?);
+            Ok(())
+        }
     }
 }
 
@@ -290,7 +300,6 @@ pub(crate) fn under(
 }
 
 // The entries with both on top.
-#[inline(never)]
 fn sunk(
     alloc: Global,
     over: Option<Entry>,
@@ -306,6 +315,25 @@ fn sunk(
             Err(error)
         }
     }
+}
+
+// Puts what lies in the two places among the entries below.
+#[inline(never)]
+fn sink(
+    alloc: Global,
+    over: &mut Option<Entry>,
+    call: &mut Option<Call>,
+    below: &mut Frames,
+) -> Result<(), AllocError>
+    ensures all { IfOk result (λ _. below.new ≡ topped (called below.old call.old) over.old) }
+    ensures empty { (over.new ≡ None) × (call.new ≡ None) }
+    ensures err { OnErr result (below.new ≡ []) }
+{
+    let stands = over.take();
+    let waits = call.take();
+    let all = replace(below, Frames::new());
+    *below = sunk(alloc, stands, waits, all)?;
+    Ok(())
 }
 
 // Brings the top one of the entries up to one of the two places, which are empty.
@@ -340,6 +368,28 @@ fn lift(
     }
 }
 
+// How many entries the place over the call has.
+fn over_count(over: &Option<Entry>) -> usize
+    ensures count { (hs : List PlainHeld) → length (topped hs over.now) ≡ length hs + result }
+    ensures most { result ≤ 1 }
+{
+    match over {
+        None => 0,
+        Some(_) => 1,
+    }
+}
+
+// The same of the call's.
+fn call_count(call: &Option<Call>) -> usize
+    ensures count { (hs : List PlainHeld) → length (called hs call.now) ≡ length hs + result }
+    ensures most { result ≤ 1 }
+{
+    match call {
+        None => 0,
+        Some(_) => 1,
+    }
+}
+
 impl Stack {
     /// Nothing.
     pub fn new() -> Stack
@@ -367,9 +417,7 @@ impl Stack {
     pub fn len(&self) -> usize
         ensures { result ≡ length self.now }
     {
-        let over = if self.over.is_some() { 1 } else { 0 };
-        let call = if self.call.is_some() { 1 } else { 0 };
-        self.below.len() + over + call
+        self.below.len() + call_count(&self.call) + over_count(&self.over)
     }
 
     /// Takes all entries off.
@@ -381,23 +429,13 @@ impl Stack {
         self.below = Frames::new();
     }
 
-    // Puts what is on top among the entries below.
-    #[inline(never)]
-    fn sink(&mut self, alloc: Global) -> Result<Frames, AllocError>
-        ensures all { IfOk result (λ all. all ≡ self.old) }
-        ensures none { self.new ≡ [] }
-    {
-        let below = replace(&mut self.below, Frames::new());
-        sunk(alloc, self.over.take(), self.call.take(), below)
-    }
-
     /// Puts a call on top.
     pub fn push_call(&mut self, alloc: Global, call: Call) -> Result<(), AllocError>
-        ensures items { IfOk result (λ _. self.new ≡ self.old ++ plain_held (Entry.Call call) ∷ []) }
+        ensures items { IfOk result (λ _.
+            self.new ≡ self.old ++ plain_held (Entry.Call call) ∷ []) }
     {
-        match self.sink(alloc) {
-            Ok(below) => {
-                self.below = below;
+        match sink(alloc, &mut self.over, &mut self.call, &mut self.below) {
+            Ok(()) => {
                 self.call = Some(call);
                 Ok(())
             }
@@ -416,9 +454,8 @@ impl Stack {
             self.over = Some(entry);
             return Ok(());
         }
-        match self.sink(alloc) {
-            Ok(below) => {
-                self.below = below;
+        match sink(alloc, &mut self.over, &mut self.call, &mut self.below) {
+            Ok(()) => {
                 self.over = Some(entry);
                 Ok(())
             }
@@ -446,13 +483,13 @@ impl Stack {
     {
         if self.over.is_some() {
             self.over = None;
-        } else {
-            self.call = None;
+            if self.call.is_some() {
+                return Ok(());
+            }
+            return lift(alloc, &mut self.over, &mut self.call, &mut self.below);
         }
-        if self.call.is_none() {
-            lift(alloc, &mut self.over, &mut self.call, &mut self.below)?;
-        }
-        Ok(())
+        self.call = None;
+        lift(alloc, &mut self.over, &mut self.call, &mut self.below)
     }
 
     /// The same entries, whose values have one more owner each.
@@ -470,15 +507,10 @@ impl Stack {
     pub fn copy_from(&mut self, alloc: Global, other: &Stack) -> Result<(), AllocError>
         ensures { IfOk result (λ _. self.new ≡ other.now) }
     {
-        self.over = None;
         self.below = Frames::new();
-        if other.over.is_some() {
-            self.over = copy_over(alloc, &other.over)?;
-        }
+        copy_over_into(alloc, &mut self.over, &other.over)?;
         copy_call_into(alloc, &mut self.call, &other.call)?;
-        if other.below.len() > 0 {
-            self.below = other.below.copy()?;
-        }
+        self.below = other.below.copy()?;
         Ok(())
     }
 
