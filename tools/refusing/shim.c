@@ -1,21 +1,25 @@
 /* Refuses one call of the C library, by the words of the environment:
        REFUSE=alloc N    the Nth growth (malloc, realloc, calloc, posix_memalign) finds no memory
-       REFUSE=io N       the Nth read, write or sync fails
+       REFUSE=io N       the Nth read, write, sync, rename or change of permissions fails
+       REFUSE=kill N     the process is killed before the Nth of these
+       REFUSE=part N     the process is killed in the midst of the Nth, where that is a write of several bytes, else before it
        REFUSE=short N    the Nth read or write of several bytes moves one
        REFUSE=interrupt  every read is interrupted
-   The file REFUSE_TO is filled with four counts of 8 bytes, while the program runs: growths, calls of read, write and sync, those of read
+   The file REFUSE_TO is filled with four counts of 8 bytes, while the program runs: growths, these calls, those of read
    alone, and reads and writes of several bytes. A growth of the C library's own, before `main`, counts too. It is loaded before the C
    library, by the tools beside it. */
 #define _GNU_SOURCE
 #include <dlfcn.h>
 #include <errno.h>
 #include <fcntl.h>
+#include <signal.h>
 #include <stdlib.h>
 #include <string.h>
 #include <sys/mman.h>
+#include <sys/stat.h>
 #include <unistd.h>
 
-enum { NOTHING, ALLOC, IO, SHORT, INTERRUPT };
+enum { NOTHING, ALLOC, IO, SHORT, INTERRUPT, KILL, PART };
 
 struct counts {
     unsigned long growths, calls, reads, several;
@@ -46,7 +50,7 @@ __attribute__((constructor)) static void begin(void)
     seen->growths = seen->calls = seen->reads = seen->several = 0;
     if (!words)
         return;
-    kind = *words == 'a' ? ALLOC : *words == 'i' && words[1] == 'o' ? IO : *words == 's' ? SHORT : INTERRUPT;
+    kind = *words == 'a' ? ALLOC : *words == 'i' && words[1] == 'o' ? IO : *words == 's' ? SHORT : *words == 'k' ? KILL : *words == 'p' ? PART : INTERRUPT;
     words = strchr(words, ' ');
     which = words ? strtoul(words, 0, 10) : 0;
 }
@@ -96,7 +100,11 @@ void *aligned_alloc(size_t align, size_t size)
 
 static int fails(void)
 {
-    if (one_more(&seen->calls) == which && kind == IO) {
+    if (one_more(&seen->calls) != which)
+        return 0;
+    if (kind == KILL || kind == PART)
+        kill(getpid(), SIGKILL);
+    if (kind == IO) {
         errno = EIO;
         return 1;
     }
@@ -122,6 +130,8 @@ ssize_t read(int file, void *bytes, size_t size)
 
 ssize_t write(int file, const void *bytes, size_t size)
 {
+    if (kind == PART && size > 1 && seen->calls + 1 == which)
+        __write(file, bytes, size / 2);
     return fails() ? -1 : __write(file, bytes, moved(size));
 }
 
@@ -135,4 +145,16 @@ int fdatasync(int file)
 {
     int (*real)(int) = (int (*)(int))dlsym(RTLD_NEXT, "fdatasync");
     return fails() ? -1 : real(file);
+}
+
+int fchmod(int file, mode_t mode)
+{
+    int (*real)(int, mode_t) = (int (*)(int, mode_t))dlsym(RTLD_NEXT, "fchmod");
+    return fails() ? -1 : real(file, mode);
+}
+
+int rename(const char *from, const char *to)
+{
+    int (*real)(const char *, const char *) = (int (*)(const char *, const char *))dlsym(RTLD_NEXT, "rename");
+    return fails() ? -1 : real(from, to);
 }

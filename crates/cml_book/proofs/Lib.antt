@@ -22,3 +22,4 @@ pub mod PortLemmas
 pub mod PortSteps
 pub mod PostedLights
 pub mod Running
+pub mod Performs

@@ -1,7 +1,7 @@
 -- What a book keeps at all times.
 use Rattle.std.specs.Prelude.{ℕ, ◌≡◌, ◌+◌, ◌*◌, ◌≤◌, ◌==◌, Bool, true, false, not, List, [], length, All, Option, Some, slice_get, count_by}
 use Rattle.std.specs.List.{flat_map, filter_map}
-use Rattle.cml_value.specs.Group.{PlainGroup, scopes, nacks_of, leaf_count}
+use Rattle.cml_value.specs.Group.{PlainGroup, bases, scopes, nacks_of, leaf_count}
 use Rattle.cml_group.specs.LaidOut.{max_leaves}
 use Rattle.cml_scan.specs.World.{PlainThread, PlainNack, fresh_of, live, PlainWorld, PlainEntry, pending, pending_from}
 use Rattle.cml_scan.specs.Table.{TellsLights}
@@ -61,6 +61,10 @@ awaits_tick t _ = false
 -- how many of these base events wait for the tick
 abbrev pub times_awaited : ℕ → List PlainBase → ℕ
 times_awaited t bs = count_by (awaits_tick t) bs
+
+-- what is counted for each tick are the leaves of the group that wait for it
+abbrev pub CountsLeaves : List (ℕ × ℕ) → PlainGroup → Type 0
+CountsLeaves waited g = (t : ℕ) → leaves_at waited t ≡ times_awaited t (bases g)
 
 -- The clock counts for each tick the leaves of pending threads that wait for it. No pending group has more leaves than are allowed.
 pub record Counts (threads : List PlainThread) (waited : List (ℕ × ℕ)) : Type 0 where

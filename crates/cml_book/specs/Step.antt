@@ -1,5 +1,5 @@
 -- What each command does, and what a list of commands does.
-use Rattle.std.specs.Prelude.{◌≡◌, ◌≢◌, List, [], ◌∷◌, ◌++◌, Result, Ok, Err}
+use Rattle.std.specs.Prelude.{◌≡◌, ◌≢◌, Bool, true, false, List, [], ◌∷◌, ◌++◌, Result, Ok, Err}
 use Rattle.cml_scan.specs.World.{PlainWorld}
 use Rattle.cml_book.specs.declared.refusal.Fault.{Fault}
 use Rattle.cml_book.specs.declared.refusal.Returned.{Returned}
@@ -8,7 +8,7 @@ use Rattle.cml_book.specs.declared.command.Command.{Command}
 use Rattle.cml_book.specs.declared.command.Command.TheVariants as command
 use Rattle.cml_book.specs.declared.command.Reply.{Reply}
 use Rattle.cml_book.specs.declared.command.Reply.TheVariants as reply
-use Rattle.cml_book.specs.Outcomes.{Outcome, DoesWith}
+use Rattle.cml_book.specs.Outcomes.{Outcome}
 use Rattle.cml_book.specs.Spawn.{spawn}
 use Rattle.cml_book.specs.MakeChan.{make_chan}
 use Rattle.cml_book.specs.MakeSwap.{make_swap}
@@ -49,10 +49,16 @@ step w (command.Commit row) = answered reply.Committed w (commit w row)
 step w (command.End t) = answered (λ _. reply.Done) w (end w t.0)
 step w (command.Clock k) = answered (λ _. reply.Done) w (clock w k)
 
--- The call does the command, and returns its reply; or it runs out of memory, nothing changes, and the command comes back. That may come
--- also where the command would be refused.
+-- whether the reply says that the command was refused
+abbrev pub is_refusal : Reply → Bool
+is_refusal (reply.Refused why) = true
+is_refusal _ = false
+
+-- The call does the command, and returns its reply; or it runs out of memory, which can happen only where the command is not refused,
+-- nothing changes, and the command comes back.
 abbrev pub DoesStep : Result Reply (Returned Command) → Command → PlainWorld → PlainWorld → Type 0
-DoesStep result asked old new = DoesWith result asked (Ok (step old asked)) old new
+DoesStep (Ok reply) asked old new = step old asked ≡ (new, reply)
+DoesStep (Err back) asked old new = (back.value ≡ asked) × (back.fault ≡ Memory) × (is_refusal (step old asked).1 ≡ false) × (new ≡ old)
 
 -- the replies to a list of commands, in order
 abbrev pub replies_of : List Command → PlainWorld → List Reply
@@ -64,7 +70,8 @@ abbrev pub world_after : List Command → PlainWorld → PlainWorld
 world_after [] w = w
 world_after (c ∷ cs) w = world_after cs (step w c).0
 
--- Some of the commands were done, with these replies, and these are left, of which there is at least one.
+-- Some of the commands were done, with these replies, and these are left, of which there is at least one. A run stops where memory runs
+-- out; that may be at a command that would be refused, since its reply needs room too.
 pub record HasStopped (commands : List Command) (replies : List Reply) (left : List Command) (old new : PlainWorld) : Type 0 where
   pub done : List Command
   pub split : commands ≡ done ++ left

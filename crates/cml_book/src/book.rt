@@ -21,7 +21,7 @@ ghost use Rattle.cml_book.specs.Entering.{max_tick};
 
 use crate::command::{Committed, Resume};
 use crate::lights::Arrival;
-use crate::nacks::{make_room, push_lights};
+use crate::nacks::make_room;
 use crate::refusal::{Fault, Refusal};
 use crate::state::State;
 use crate::walk::MAX_TICK;
@@ -306,7 +306,7 @@ impl<T: Table> Book<T> {
         };
         let base = flat.leaf(leaf as usize);
         let copy = self.state.spare(base)?;
-        push_lights(&mut self.lit, flat, leaf as usize);
+        flat.push_lights(&mut self.lit, leaf as usize);
         self.state.push_turned_off(&mut self.unlit, base);
         self.state.push_left_ticks(&mut self.unlit, flat, None);
         let changed = self
@@ -349,8 +349,8 @@ impl<T: Table> Book<T> {
         let Some(second) = self.state.waiting(other) else {
             unreachable!();
         };
-        push_lights(&mut self.lit, first, head_leaf as usize);
-        push_lights(&mut self.lit, second, other_leaf as usize);
+        first.push_lights(&mut self.lit, head_leaf as usize);
+        second.push_lights(&mut self.lit, other_leaf as usize);
         self.state
             .push_left_ticks(&mut self.unlit, first, Some(second));
         self.state

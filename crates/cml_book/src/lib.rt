@@ -3,6 +3,7 @@
 
 mod book;
 mod command;
+mod counted;
 mod entering;
 mod feeding;
 mod fullness;

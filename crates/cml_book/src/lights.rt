@@ -8,15 +8,16 @@ ghost use Rattle.cml_scan.specs.Light.{light_of};
 ghost use Rattle.cml_book.specs.Entering.{is_far, entered};
 ghost use Rattle.cml_book.specs.Keeping.{lights_in, is_so};
 
+use crate::counted::Counted;
 use crate::entering::entering;
 use crate::state::State;
-use cml_group::{Flat, FlatFault, flatten};
+use cml_group::{FlatFault, flatten};
 use cml_scan::{Light, Lights, light};
 use cml_value::{Base, Group};
 use std::alloc::{AllocError, Global};
 
 // The group as it enters at this tick, laid flat.
-fn laid_flat(alloc: Global, group: &Group, tick: u64) -> Result<Flat, AllocError>
+fn laid_flat(alloc: Global, group: &Group, tick: u64) -> Result<Counted, AllocError>
     requires near { list_any (is_far tick) (bases group.now) ≡ false }
     requires few { leaf_count group.now ≤ max_leaves }
     requires fits { group_fits group.now ≡ true }
@@ -24,7 +25,7 @@ fn laid_flat(alloc: Global, group: &Group, tick: u64) -> Result<Flat, AllocError
 {
     let entered = entering(alloc, group, tick)?;
     match flatten(alloc, entered) {
-        Ok(flat) => Ok(flat),
+        Ok(flat) => Counted::new(alloc, flat),
         Err(FlatFault::Memory(_)) => Err(AllocError),
         Err(FlatFault::Leaves(_)) => unreachable!(),
         Err(FlatFault::Deep(_)) => unreachable!(),
@@ -34,7 +35,7 @@ fn laid_flat(alloc: Global, group: &Group, tick: u64) -> Result<Flat, AllocError
 /// A group that is about to enter, and the lights that its leaves wait for: those that are lit, and those that are not.
 #[derive(Drop)]
 pub struct Arrival {
-    pub flat: Flat,
+    pub flat: Counted,
     pub lit: Vec<Light>,
     pub unlit: Vec<Light>,
 }
@@ -76,7 +77,7 @@ impl State {
 }
 
 // The lights that the leaves wait for.
-fn awaited_lights(alloc: Global, flat: &Flat) -> Result<Vec<Light>, AllocError>
+fn awaited_lights(alloc: Global, flat: &Counted) -> Result<Vec<Light>, AllocError>
     ensures { IfOk result (λ lights. lights.items ≡ lights_in (bases flat.now)) }
 {
     let mut lights = Vec::new(alloc);

@@ -9,6 +9,7 @@ ghost use Rattle.cml_book.specs.Commit.{settled};
 ghost use Rattle.cml_book.specs.Sync.{with_each};
 ghost use Rattle.cml_book.specs.Keeping.{nack_light, AreLiveNacks, AreFresh, is_fresh, FitsIn, RoomGrows};
 
+use crate::counted::Counted;
 use cml_base::Register;
 use cml_group::Flat;
 use cml_scan::Light;
@@ -23,7 +24,7 @@ use std::alloc::AllocError;
 pub fn make_room(
     lit: &mut Vec<Light>,
     unlit: &mut Vec<Light>,
-    flat: &Flat,
+    flat: &Counted,
 ) -> Result<(), AllocError>
     ensures lit { lit.new.items ≡ lit.old.items }
     ensures unlit { unlit.new.items ≡ unlit.old.items }
@@ -32,8 +33,8 @@ pub fn make_room(
     ensures grows { RoomGrows (record { lit = vec_capacity lit.old; unlit = vec_capacity unlit.old })
         (record { lit = vec_capacity lit.new; unlit = vec_capacity unlit.new }) }
 {
-    lit.reserve(2 * flat.scopes().len())?;
-    unlit.reserve(2 * flat.len() + 1)
+    lit.reserve(2 * flat.flat().scopes().len())?;
+    unlit.reserve(2 * flat.flat().len() + 1)
 }
 
 /// Appends the lights of the nacks that choosing the leaf fires. There is room for them.

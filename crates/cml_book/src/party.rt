@@ -17,10 +17,11 @@ ghost use Rattle.cml_book.specs.Parties.{WaitsOn};
 ghost use Rattle.cml_book.specs.Swaps.{is_swap, are_swaps};
 ghost use Rattle.cml_book.specs.Threads.{flat_of};
 
+use crate::counted::Counted;
 use crate::nacks::{enter, settle};
 use crate::state::{State, put};
 use crate::thread::Thread;
-use crate::ticks::{count_ticks, uncount_ticks};
+use crate::ticks::uncount_ticks;
 use cml_base::{Register, Source};
 use cml_group::{Chosen, Flat};
 use cml_scan::{Light, Meet};
@@ -34,12 +35,12 @@ impl State {
     ///
     /// # Errors
     /// Out of memory: nothing changes.
-    pub fn wait(&mut self, thread: Tid, flat: Flat) -> Result<(), AllocError>
+    pub fn wait(&mut self, thread: Tid, flat: Counted) -> Result<(), AllocError>
         requires { slice_get self.old.threads thread.0 ≡ Some running }
         ensures ok { OnOk result (self.new ≡ with_thread self.old thread.0 (pending_on flat)) }
         ensures err { OnErr result (self.new ≡ self.old) }
     {
-        let Ok(()) = count_ticks(&mut self.clock, &flat) else {
+        let Ok(()) = flat.count_ticks(&mut self.clock) else {
             drop(flat);
             return Err(AllocError);
         };
@@ -65,7 +66,7 @@ impl State {
     }
 
     /// The group that the thread waits on, if it does.
-    pub fn waiting(&self, thread: Tid) -> Option<&Flat>
+    pub fn waiting(&self, thread: Tid) -> Option<&Counted>
         ensures { option_copied result ≡ option_and_then flat_of (slice_get self.now.threads thread.0) }
     {
         match self.threads.get(thread.0 as usize) {
@@ -232,6 +233,6 @@ fn enter_all(cells: &mut Register<NackCell>, threads: &Vec<Thread>, thread: Tid)
         return;
     };
     if let Some(flat) = found.flat() {
-        enter(cells, flat.scopes());
+        enter(cells, flat.flat().scopes());
     }
 }

@@ -13,7 +13,7 @@ impl<T: Table> Book<T> {
     /// The reply to one command, as `run` replies to each of a list. A refusal is a reply.
     ///
     /// # Errors
-    /// Out of memory: the command comes back, and nothing changes.
+    /// Out of memory, only where the command is not refused: it comes back, and nothing changes.
     pub fn perform(&mut self, alloc: Global, command: Command) -> Result<Reply, Returned<Command>>
         ensures { spec.DoesStep result command self.old self.new }
     {
@@ -66,7 +66,8 @@ impl<T: Table> Book<T> {
     /// The reply to each command in order.
     ///
     /// # Errors
-    /// Out of memory, which ends the run: the replies so far and the commands that were not done come back.
+    /// Out of memory, which ends the run: the replies so far and the commands that were not done come back. Room for a reply is made
+    /// before its command is done, so a run may stop also at a command that would be refused.
     pub fn run(&mut self, alloc: Global, mut commands: Vec<Command>) -> Result<Vec<Reply>, Stopped>
         ensures replies { IfOk result (λ replies. replies.items ≡ spec.replies_of commands.items self.old) }
         ensures world { OnOk result (self.new ≡ spec.world_after commands.items self.old) }

@@ -4,6 +4,7 @@ ghost use Rattle.std.specs.Prelude.{◌≡◌, ◌≤◌, Some, IfOk, length, ma
 ghost use Rattle.cml_scan.specs.World.{running, pending_on, ended, pending_from};
 ghost use Rattle.cml_book.specs.Outcomes.{max_threads};
 
+use crate::counted::Counted;
 use cml_group::Flat;
 use cml_value::Tid;
 use std::alloc::{AllocError, Global};
@@ -19,8 +20,8 @@ pub struct Thread {
 #[derive(Drop)]
 enum Doing {
     Running,
-    // with the group that it waits on, laid flat
-    Pending(Flat),
+    // with the group that it waits on
+    Pending(Counted),
     Ended,
 }
 
@@ -50,7 +51,7 @@ impl Thread {
         }
     }
 
-    pub fn pending(flat: Flat) -> Thread
+    pub fn pending(flat: Counted) -> Thread
         ensures { result ≡ pending_on flat }
     {
         Thread {
@@ -87,7 +88,7 @@ impl Thread {
     }
 
     /// The group that it waits on, if it does.
-    pub fn flat(&self) -> Option<&Flat>
+    pub fn flat(&self) -> Option<&Counted>
         ensures { option_copied result ≡ flat_of self.now }
     {
         match &self.doing {
@@ -102,7 +103,7 @@ impl Thread {
         ensures runs { self.new ≡ running }
     {
         match mem::replace(&mut self.doing, Doing::Running) {
-            Doing::Pending(flat) => Some(flat),
+            Doing::Pending(flat) => Some(flat.into_flat()),
             Doing::Running | Doing::Ended => None,
         }
     }

@@ -14,6 +14,7 @@ ghost use Rattle.cml_book.specs.Clock.{bases_awaited};
 ghost use Rattle.cml_book.specs.Keeping.{lights_in, awaits_tick, times_awaited};
 ghost use Rattle.cml_book.specs.Leaving.{comes, is_left, bases_of};
 
+use crate::counted::Counted;
 use crate::state::State;
 use cml_group::Flat;
 use cml_scan::Light;
@@ -76,8 +77,8 @@ fn uncount_tick(clock: &mut Clock, base: &Base)
     }
 }
 
-// How many leaves of the group wait for the tick.
-fn leaves_for(flat: &Flat, tick: u64) -> u64
+/// How many leaves of the group wait for the tick, found by looking at each.
+pub fn leaves_for(flat: &Flat, tick: u64) -> u64
     ensures leaves { result ≡ times_awaited tick (bases flat.now) }
     ensures few { result ≤ max_leaves }
 {
@@ -100,12 +101,12 @@ fn awaits(base: &Base, tick: u64) -> bool
 }
 
 // How many leaves of the group wait for the tick, if there is a group.
-fn leaves_for_other(flat: Option<&Flat>, tick: u64) -> u64
+fn leaves_for_other(flat: Option<&Counted>, tick: u64) -> u64
     ensures leaves { result ≡ times_awaited tick (bases_of flat.entry) }
     ensures few { result ≤ max_leaves }
 {
     match flat {
-        Some(flat) => leaves_for(flat, tick),
+        Some(flat) => flat.leaves_for(tick),
         None => 0,
     }
 }
@@ -127,7 +128,7 @@ impl State {
 
     /// Appends the lights of those ticks of the group for which only its own leaves and those of the other group wait. There is room
     /// for them.
-    pub fn push_left_ticks(&self, lights: &mut Vec<Light>, flat: &Flat, other: Option<&Flat>)
+    pub fn push_left_ticks(&self, lights: &mut Vec<Light>, flat: &Counted, other: Option<&Counted>)
         requires { length lights.old.items + leaf_count flat.now ≤ vec_capacity lights.old }
         ensures lights { lights.new.items ≡ lights.old.items
             ++ lights_in (filter (is_left (bases_awaited (pending self.now)) (bases flat.now) (bases_of other.entry)) (bases flat.now)) }
@@ -141,8 +142,8 @@ impl State {
     fn push_left_tick(
         &self,
         lights: &mut Vec<Light>,
-        flat: &Flat,
-        other: Option<&Flat>,
+        flat: &Counted,
+        other: Option<&Counted>,
         base: &Base,
     )
         requires { length lights.old.items + 1 ≤ vec_capacity lights.old }
@@ -151,9 +152,7 @@ impl State {
         ensures room { vec_capacity lights.new ≡ vec_capacity lights.old }
     {
         if let BaseKind::At(tick) = base.kind() {
-            if self.clock.leaves(*tick)
-                == leaves_for(flat, *tick) + leaves_for_other(other, *tick)
-            {
+            if self.clock.leaves(*tick) == flat.leaves_for(*tick) + leaves_for_other(other, *tick) {
                 lights.push_reserved(Light::Alarm(*tick));
             }
         }

@@ -27,4 +27,4 @@ run_counts options given is = (
 pub counted : (given : List (List ℕ)) (options : RunOptions) → IsAnswer given (answer.Task (Run options)) →
     IsWorkerCount options.workers × IsBudget options.steps × IsWatch options.watch
 counted given options is =
-    some_gives _ (λ named. Names named (Run options)) _ (λ named names. run_counts options named.1 names.1) is.1
+    some_gives _ (λ named. Names named (Run options)) _ (λ named names. run_counts options named.1 names.1) is.0.1

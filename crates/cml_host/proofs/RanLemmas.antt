@@ -1,10 +1,11 @@
 -- What a command did, by what it told of the hub that it had.
-use Rattle.std.proofs.Common.{◌≡◌, ◌∙◌, ◌⊎◌, ℕ, List, [], true, Option, Some, None, inl, inr, refl, subst}
+use Rattle.std.proofs.Common.{◌≡◌, ◌∙◌, ◌⊎◌, ℕ, List, [], ◌++◌, true, Option, Some, None, ap, inl, inr, refl, subst, sym}
 use Rattle.std.specs.String.{string_bytes}
 use Rattle.cml_check.specs.Sizes.{size_of}
 use Rattle.cml_check.specs.Syntax.{PlainItem}
 use Rattle.cml_hub.specs.Courses.{run_of}
-use Rattle.cml_hub.specs.Kept.{Kept, IsAtStart}
+use Rattle.cml_hub.specs.Kept.{Kept, IsAtStart, SwapsAreExchanges, TellsSwaps}
+use Rattle.cml_hub.proofs.Going.{each_from}
 use Rattle.cml_hub.specs.Runs.{Run, ending, over}
 use Rattle.cml_monitor.specs.Reports.{PlainReport}
 use Rattle.cml_schedule.specs.declared.item.Item.{Item}
@@ -12,7 +13,7 @@ use Rattle.cml_schedule.specs.Written.{schedule_text}
 use Rattle.cml_stream.specs.Streams.{Counted, stream, counted_stream, Takes, Says, IsIdle}
 use Rattle.std.proofs.KnownBytes.{Appends-trans}
 use Rattle.cml_words.specs.declared.RunOptions.{RunOptions}
-use Rattle.cml_work.specs.Works.{IsWorked}
+use Rattle.cml_work.specs.Works.{IsWorked, GoesOnFrom}
 use Rattle.cml_host.specs.declared.run.Record.{Record}
 use Rattle.cml_host.specs.declared.said.Refusal.{Refusal}
 use Rattle.cml_host.specs.declared.said.Refusal.TheVariants.{Unread, Wrong, Memory}
@@ -25,7 +26,7 @@ use Rattle.cml_host.specs.Said.{RefusalRan}
 use Rattle.cml_host.specs.Scripts.{IsOpened, IsNotOpened, NoScriptRan}
 use Rattle.cml_host.specs.Stores.{Content, Shelf, IsReplacedBy, IsSaved, IsUnchanged}
 use Rattle.cml_host.specs.Told.{IsRunOf, AllReported, reports_text, whole_output, end_status, IsTold, IsNotTold, OutputNotTold, IsCutOff, IsLiveCutOff, IsForeign}
-use Rattle.cml_host.proofs.TellLemmas.{says_behind, reports_broke, cut_behind, cut_behind_all, output_behind, told_behind, live_cut_behind}
+use Rattle.cml_host.proofs.TellLemmas.{says_behind, reports_broke, cut_behind, output_behind, told_behind, live_cut_behind}
 
 -- the hub's run is one of this program
 run_is : (p : List (PlainItem ℕ)) (watch : Option ℕ) (items : List Item) (h : Kept) → h.course.program ≡ p → h.watch ≡ watch → h.course.items ≡ items →
@@ -134,7 +135,15 @@ ended_behind name h a b d output calls failed store status before (inl (inr (inl
 ended_behind name h a b d output calls failed store status before (inl (inr (inr broke))) =
     inl (inr (inr (output_behind a b d h.reports (whole_output h.budget (run_of h.course)) output calls failed status before broke.0, broke.1)))
 ended_behind name h a b d output calls failed store status before (inr cut) =
-    inr (cut_behind_all a b d h.reports h.course.output output calls failed status before cut.0, cut.1)
+    inr (cut_behind a b d h.reports h.course.output output calls failed status before cut.0, cut.1)
+
+-- each row of two swaps that the run took from its beginning on is an exchange
+exchanged : (p : List (PlainItem ℕ)) (budget : ℕ) (watch : Option ℕ) (begun h : Kept) → IsAtStart p budget watch begun → GoesOnFrom begun h →
+    SwapsAreExchanges p [] h.course.items
+exchanged p budget watch begun h begins more =
+    let same : h.course.items ≡ more.more = more.items ∙ ap (λ (ts : List Item). ts ++ more.more) begins.items in
+    subst (λ (ts : List Item). SwapsAreExchanges p [] ts) (sym same)
+    (each_from p begun.course.program (λ r item. TellsSwaps r.world item) [] begun.course.items more.more begins.program begins.items more.exchanges)
 
 pub ended_ran : (p : List (PlainItem ℕ)) (options : RunOptions) (begun h : Kept) (output errors : Counted) (store : Shelf) (status : ℕ) →
     IsAtStart p options.steps options.watch begun → IsWorked begun h → IsRunOf h.course.program h.watch h.course.items h.reports (run_of h.course) →
@@ -154,6 +163,7 @@ ended_ran p options begun h output errors store status begins worked run (inl en
       h.reports,
       r,
       run_is p options.watch h.course.items h program watch refl run,
+      exchanged p options.steps options.watch begun h begins more,
       inl (
         (
           subst (λ (b : ℕ). over b r ≡ true) budget worked.over_is,
@@ -168,6 +178,7 @@ ended_ran p options begun h output errors store status begins worked run (inr cu
       h.reports,
       run_of h.course,
       run_is p options.watch h.course.items h (more.program ∙ begins.program) (more.watch ∙ begins.watch_is) refl run,
+      exchanged p options.steps options.watch begun h begins more,
       inr (inl cut),
     )
 
@@ -178,7 +189,7 @@ stop_behind : (options : RunOptions) (h : Kept) (why : Cause) (a b d : Option (L
     ⊎ (ReportsAreLive options × (IsLiveCutOff h.course.output output (counted_stream a d calls failed) status
     ⊎ IsForeign h.reports output (counted_stream a d calls failed) status))
 stop_behind options h cause.Memory a b d output calls failed status (inl before) stopped =
-    inl (cut_behind a b d h.reports before.0 h.course.output output calls failed status before.1 stopped)
+    inl (cut_behind a b d h.reports h.course.output output calls failed status before stopped)
 stop_behind options h cause.Memory a b d output calls failed status (inr live) stopped =
     inr (live.0, inl (live_cut_behind a b d live.1.0 h.course.output output calls failed status live.1.1 stopped))
 stop_behind options h cause.Write a b d output calls failed status (inl part) stopped =
@@ -201,6 +212,7 @@ stopped_ran p options begun stopped a b d output before broke calls failed store
       h.reports,
       run_of h.course,
       run_is p options.watch h.course.items h (more.program ∙ begins.program) (more.watch ∙ begins.watch_is) refl run,
+      exchanged p options.steps options.watch begun h begins more,
       go (stop_behind options h stopped.cause a b d output calls failed status stops.1 tells),
     )
   where
@@ -215,6 +227,10 @@ stopped_ran p options begun stopped a b d output before broke calls failed store
         ⊎ IsForeign stopped.hub.reports output (counted_stream a d calls failed) status) × IsUnchanged store.before store.after)
     go (inl cut) = inr (inl (cut, same))
     go (inr live) = inr (inr (live.0, live.1, same))
+
+pub starts_itself : (p : List (PlainItem ℕ)) (budget : ℕ) (watch : Option ℕ) (h : Kept) → IsAtStart p budget watch h → IsAtStart h.course.program budget watch h
+starts_itself p budget watch h begins =
+    record { program = refl; budget_is = begins.budget_is; watch_is = begins.watch_is; items = begins.items; reports = begins.reports; none_out = begins.none_out }
 
 -- ---- a store that was read first
 
@@ -248,20 +264,21 @@ end_behind old mid new name schedule reports budget r output errors status same 
 pub program_behind : (old mid new : List ℕ → Content) (p : List (PlainItem ℕ)) (options : RunOptions) (output errors : Counted) (status : ℕ) →
     IsUnchanged old mid → ProgramRan p options output errors (record { before = mid; after = new }) status →
     ProgramRan p options output errors (record { before = old; after = new }) status
-program_behind old mid new p options output errors status same (items, reports, r, run, inl ended) = (
+program_behind old mid new p options output errors status same (items, reports, r, run, exchanges, inl ended) = (
   items,
   reports,
   r,
   run,
+  exchanges,
   inl (
     ended.0,
     end_behind old mid new (record_name options) (schedule_text options.steps (size_of p) items) reports options.steps r output errors status same ended.1,
   ),
 )
-program_behind old mid new p options output errors status same (items, reports, r, run, inr (inl cut)) =
-    (items, reports, r, run, inr (inl (cut.0, λ n. cut.1 n ∙ same n)))
-program_behind old mid new p options output errors status same (items, reports, r, run, inr (inr live)) =
-    (items, reports, r, run, inr (inr (live.0, live.1, λ n. live.2 n ∙ same n)))
+program_behind old mid new p options output errors status same (items, reports, r, run, exchanges, inr (inl cut)) =
+    (items, reports, r, run, exchanges, inr (inl (cut.0, λ n. cut.1 n ∙ same n)))
+program_behind old mid new p options output errors status same (items, reports, r, run, exchanges, inr (inr live)) =
+    (items, reports, r, run, exchanges, inr (inr (live.0, live.1, λ n. live.2 n ∙ same n)))
 
 -- the program that was opened was run, or memory ran out before it began
 pub run_ran : (old mid new : List ℕ → Content) (p : List (PlainItem ℕ)) (options : RunOptions) (output errors : Counted) (status : ℕ) →

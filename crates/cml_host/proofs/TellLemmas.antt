@@ -1,16 +1,16 @@
 -- What was written of several texts, one after another.
-use Rattle.std.proofs.Common.{◌≡◌, ◌∙◌, ◌⊎◌, ◌+◌, ◌<◌, ℕ, List, [], ◌∷◌, ◌++◌, Option, Err, take, drop, length, get_or, sym, ap, subst, inl, inr, append_assoc, append-nil, take_all, arith}
+use Rattle.std.proofs.Common.{◌≡◌, ◌∙◌, ◌⊎◌, ◌+◌, ◌<◌, ℕ, List, [], ◌∷◌, ◌++◌, Option, Result, Ok, Err, take, drop, length, get_or, sym, ap, subst, inl, inr, append_assoc, append-nil}
+use Rattle.std.specs.List.{flat_map}
 use Rattle.std.proofs.KnownBytes.{Appends-trans}
 use Rattle.std.proofs.lemmas.Grind.{flat_map-append}
 use Rattle.std.proofs.lemmas.List.{take-append-drop, take_more}
 use Rattle.cml_hub.specs.declared.fault.End.{End}
 use Rattle.cml_hub.specs.Runs.{Run, ending}
-use Rattle.cml_monitor.specs.Reports.{PlainReport, report_text}
+use Rattle.cml_monitor.specs.Reports.{PlainReport}
 use Rattle.cml_scan.specs.World.{pending}
 use Rattle.cml_stream.specs.Streams.{Counted, stream, counted_stream, Takes, TakesStart, Says, IsIdle}
-use Rattle.cml_host.specs.Told.{reports_text, end_line, whole_output, cannot_write, SaysStill, Breaks, ReportsBroke, MemoryBroke, OutputBroke, OutputNotTold, IsTold, IsNotTold, IsCutOff, IsLiveCutOff, AreSent, IsReportSent}
-use Rattle.cml_host.specs.declared.tell.ReportFault.{ReportFault}
-use Rattle.cml_host.specs.declared.tell.ReportFault.TheVariants.{Write, Memory}
+use Rattle.cml_stream.specs.declared.input_output.WriteFault.{WriteFault}
+use Rattle.cml_host.specs.Told.{reports_text, end_line, whole_output, cannot_write, SaysStill, Breaks, ReportsBroke, MemoryBroke, OutputBroke, OutputNotTold, IsTold, IsNotTold, IsCutOff, IsLiveCutOff, IsSentText}
 
 -- a text, and then a prefix of one more
 pub start_behind : (a b c : Option (List ℕ)) (text more : List ℕ) →
@@ -41,43 +41,47 @@ breaks_behind a b c calls failed text told part (inl whole) =
 breaks_behind a b c calls failed text told part (inr said) =
     (part.0, part.1, part.2, inr (said.0, said.1, said.2, Appends-trans a b c part.0 said.0 part.3 said.3, said.4))
 
-reports_split : (reports : List PlainReport) (i : ℕ) (report : PlainReport) → i < length reports → report ≡ get_or reports i report →
-    reports_text (take (i + 1) reports) ≡ reports_text (take i reports) ++ report_text report
-reports_split reports i report there is =
-    ap reports_text (take_more reports i report there)
-    ∙ flat_map-append report_text (take i reports) (get_or reports i report ∷ [])
-    ∙ ap (λ (r : PlainReport). reports_text (take i reports) ++ (report_text r ++ [])) (sym is)
-    ∙ ap (λ (ts : List ℕ). reports_text (take i reports) ++ ts) (append-nil (report_text report))
+-- a text, and then how the writing of another ended
+pub sent_behind : (a b c : Option (List ℕ)) (calls failed : ℕ) (text more : List ℕ) (ended : Result (Unit {0}) WriteFault) →
+    Takes (stream a b) text → IsSentText more ended (counted_stream b c calls failed) → IsSentText (text ++ more) ended (counted_stream a c calls failed)
+sent_behind a b c calls failed text more (Ok done) first then = (Appends-trans a b c text more first then.0, then.1)
+sent_behind a b c calls failed text more (Err fault) first then = (start_behind a b c text more first then.0, then.1)
 
--- the reports up to one, and then that one
-pub reports_behind : (a b c : Option (List ℕ)) (reports : List PlainReport) (i : ℕ) (report : PlainReport) →
-    i < length reports → report ≡ get_or reports i report →
-    Takes (stream a b) (reports_text (take i reports)) → Takes (stream b c) (report_text report) →
-    Takes (stream a c) (reports_text (take (i + 1) reports))
-reports_behind a b c reports i report there is before then =
-    subst (λ (ts : List ℕ). Takes (stream a c) ts) (sym (reports_split reports i report there is))
+-- where the writing of a text failed, so did that of the text with more after it
+pub sent_more : (a b : Option (List ℕ)) (calls failed : ℕ) (text more : List ℕ) (fault : WriteFault) →
+    IsSentText text (Err fault) (counted_stream a b calls failed) → IsSentText (text ++ more) (Err fault) (counted_stream a b calls failed)
+sent_more a b calls failed text more fault sent = (start_more a b text more sent.0, sent.1)
+
+lines_split : {A : Type 0} (f : A → List ℕ) (xs : List A) (i : ℕ) (d : A) → i < length xs →
+    flat_map f (take (i + 1) xs) ≡ flat_map f (take i xs) ++ f (get_or xs i d)
+lines_split f xs i d there =
+    ap (flat_map f) (take_more xs i d there)
+    ∙ flat_map-append f (take i xs) (get_or xs i d ∷ [])
+    ∙ ap (λ (ts : List ℕ). flat_map f (take i xs) ++ ts) (append-nil (f (get_or xs i d)))
+
+-- the lines up to one, and then that one
+pub lines_behind : {A : Type 0} (f : A → List ℕ) (a b c : Option (List ℕ)) (xs : List A) (i : ℕ) (d : A) (text : List ℕ) →
+    i < length xs → text ≡ f (get_or xs i d) →
+    Takes (stream a b) (flat_map f (take i xs)) → Takes (stream b c) text →
+    Takes (stream a c) (flat_map f (take (i + 1) xs))
+lines_behind f a b c xs i d text there same before then =
+    subst (λ (ts : List ℕ). Takes (stream a c) ts) (ap (λ (ts : List ℕ). flat_map f (take i xs) ++ ts) same ∙ sym (lines_split f xs i d there))
     (Appends-trans a b c _ _ before then)
 
--- the reports up to one, and then a prefix of that one
-pub reports_start : (a b c : Option (List ℕ)) (reports : List PlainReport) (i : ℕ) (report : PlainReport) →
-    i < length reports → report ≡ get_or reports i report →
-    Takes (stream a b) (reports_text (take i reports)) → TakesStart (stream b c) (report_text report) →
-    TakesStart (stream a c) (reports_text reports)
-reports_start a b c reports i report there is before then =
-    subst (λ (ts : List ℕ). TakesStart (stream a c) ts)
-    (sym (flat_map-append report_text (take (i + 1) reports) (drop (i + 1) reports)) ∙ ap reports_text (take-append-drop (i + 1) reports))
-    (start_more a c (reports_text (take (i + 1) reports)) (reports_text (drop (i + 1) reports))
-    (subst (λ (ts : List ℕ). TakesStart (stream a c) ts) (sym (reports_split reports i report there is))
-    (start_behind a b c _ _ before then)))
-
--- the reports up to one, at which the writing ended by a fault
-pub reports_ended : (a b c : Option (List ℕ)) (reports : List PlainReport) (i : ℕ) (report : PlainReport) (fault : ReportFault) (calls failed : ℕ) →
-    i < length reports → report ≡ get_or reports i report →
-    Takes (stream a b) (reports_text (take i reports)) → IsReportSent report (Err fault) (counted_stream b c calls failed) →
-    AreSent reports (Err fault) (counted_stream a c calls failed)
-reports_ended a b c reports i report Memory calls failed there is before sent =
-    (i, subst (λ (ts : List ℕ). Takes (stream a c) ts) (append-nil (reports_text (take i reports))) (Appends-trans a b c _ _ before sent.0), sent.1)
-reports_ended a b c reports i report Write calls failed there is before sent = (reports_start a b c reports i report there is before sent.0, sent.1)
+-- the lines up to one, of which a write failed
+pub lines_ended : {A : Type 0} (f : A → List ℕ) (a b c : Option (List ℕ)) (xs : List A) (i : ℕ) (d : A) (text : List ℕ) (fault : WriteFault) (calls failed : ℕ) →
+    i < length xs → text ≡ f (get_or xs i d) →
+    Takes (stream a b) (flat_map f (take i xs)) → IsSentText text (Err fault) (counted_stream b c calls failed) →
+    IsSentText (flat_map f xs) (Err fault) (counted_stream a c calls failed)
+lines_ended f a b c xs i d text fault calls failed there same before sent = (
+  subst (λ (ts : List ℕ). TakesStart (stream a c) ts)
+      (sym (flat_map-append f (take (i + 1) xs) (drop (i + 1) xs)) ∙ ap (flat_map f) (take-append-drop (i + 1) xs))
+      (start_more a c (flat_map f (take (i + 1) xs)) (flat_map f (drop (i + 1) xs))
+      (subst (λ (ts : List ℕ). TakesStart (stream a c) ts)
+      (ap (λ (ts : List ℕ). flat_map f (take i xs) ++ ts) same ∙ sym (lines_split f xs i d there))
+      (start_behind a b c _ _ before sent.0))),
+  sent.1,
+)
 
 -- a line that tells of a write that failed, after reports of which one was written in part
 pub reports_broke : (a b c : Option (List ℕ)) (reports : List PlainReport) (output : Counted) (calls failed status : ℕ) →
@@ -86,15 +90,15 @@ pub reports_broke : (a b c : Option (List ℕ)) (reports : List PlainReport) (ou
 reports_broke a b c reports output calls failed status part said idle is =
     (breaks_behind a b c calls failed (reports_text reports) cannot_write part said, idle, is)
 
--- how it is told that a run was cut off, after this many reports
-pub cut_behind : (a b c : Option (List ℕ)) (reports : List PlainReport) (n : ℕ) (text : List ℕ) (output : Counted) (calls failed status : ℕ) →
-    Takes (stream a b) (reports_text (take n reports)) →
+-- how it is told that a run was cut off, after its reports
+pub cut_behind : (a b c : Option (List ℕ)) (reports : List PlainReport) (text : List ℕ) (output : Counted) (calls failed status : ℕ) →
+    Takes (stream a b) (reports_text reports) →
     MemoryBroke [] text output (counted_stream b c calls failed) status ⊎ OutputBroke [] text output (counted_stream b c calls failed) status →
     IsCutOff reports text output (counted_stream a c calls failed) status
-cut_behind a b c reports n text output calls failed status before (inl broke) =
-    inr (n, inl (broke.0, broke.1, says_behind a b c calls failed (reports_text (take n reports)) _ before broke.2, broke.3))
-cut_behind a b c reports n text output calls failed status before (inr broke) =
-    inr (n, inr (broke.0, broke.1, says_behind a b c calls failed (reports_text (take n reports)) _ before broke.2, broke.3))
+cut_behind a b c reports text output calls failed status before (inl broke) =
+    inr (inl (broke.0, broke.1, says_behind a b c calls failed (reports_text reports) _ before broke.2, broke.3))
+cut_behind a b c reports text output calls failed status before (inr broke) =
+    inr (inr (broke.0, broke.1, says_behind a b c calls failed (reports_text reports) _ before broke.2, broke.3))
 
 -- how it is told that the output could not be, after reports that were told
 pub output_behind : (a b c : Option (List ℕ)) (reports : List PlainReport) (text : List ℕ) (output : Counted) (calls failed status : ℕ) →
@@ -103,22 +107,13 @@ pub output_behind : (a b c : Option (List ℕ)) (reports : List PlainReport) (te
 output_behind a b c reports text output calls failed status before broke =
     (broke.0, broke.1, says_behind a b c calls failed (reports_text reports) _ before broke.2, broke.3)
 
--- the same where all reports were told
-pub cut_behind_all : (a b c : Option (List ℕ)) (reports : List PlainReport) (text : List ℕ) (output : Counted) (calls failed status : ℕ) →
-    Takes (stream a b) (reports_text reports) →
-    MemoryBroke [] text output (counted_stream b c calls failed) status ⊎ OutputBroke [] text output (counted_stream b c calls failed) status →
-    IsCutOff reports text output (counted_stream a c calls failed) status
-cut_behind_all a b c reports text output calls failed status before broke =
-    cut_behind a b c reports (length reports) text output calls failed status
-    (subst (λ (rs : List PlainReport). Takes (stream a b) (reports_text rs)) (sym (take_all (length reports) reports (omega arith))) before) broke
-
 pub not_told_behind : (a b c : Option (List ℕ)) (reports : List PlainReport) (so_far text : List ℕ) (output : Counted) (calls failed status : ℕ) →
     Takes (stream a b) (reports_text reports) → OutputNotTold [] so_far text output (counted_stream b c calls failed) status →
     IsNotTold reports so_far text output (counted_stream a c calls failed) status
 not_told_behind a b c reports so_far text output calls failed status before (inl broke) =
     inl (output_behind a b c reports text output calls failed status before broke)
 not_told_behind a b c reports so_far text output calls failed status before (inr cut) =
-    inr (cut_behind_all a b c reports so_far output calls failed status before cut)
+    inr (cut_behind a b c reports so_far output calls failed status before cut)
 
 -- reports were told, and then the output
 pub told_behind : (a b c : Option (List ℕ)) (reports : List PlainReport) (text : List ℕ) (output : Counted) (calls failed : ℕ) →

@@ -1,9 +1,12 @@
 -- How a hub was run: by one thread, or by workers.
-use Rattle.std.proofs.Common.{◌≡◌, ◌∙◌, ap, ℕ, List, [], Option, Result, Ok, Err, IfOk, OnOk, length, inl, inr, refl, sym, subst, take_all, arith}
+use Rattle.std.proofs.Common.{◌≡◌, ◌∙◌, ap, ℕ, List, [], Option, Some, None, Result, Ok, Err, IfOk, OnOk, inl, inr, refl, sym, subst}
 use Rattle.std.proofs.KnownBytes.{Appends-nil}
+use Rattle.cml_check.specs.Syntax.{PlainItem}
 use Rattle.cml_hub.specs.Kept.{Kept, Continues, IsOver}
+use Rattle.cml_hub.specs.Runs.{Run}
 use Rattle.cml_hub.specs.declared.fault.End.{End}
 use Rattle.cml_monitor.specs.Reports.{PlainReport}
+use Rattle.cml_schedule.specs.declared.item.Item.{Item}
 use Rattle.cml_stream.specs.Counts.{counted}
 use Rattle.cml_stream.specs.Streams.{stream, counted_stream, Takes}
 use Rattle.cml_words.specs.declared.RunOptions.{RunOptions}
@@ -12,7 +15,7 @@ use Rattle.cml_work.specs.Works.{IsWorkerCount, GoesOnFrom, IsWorked, Works, Wat
 use Rattle.cml_work.specs.declared.fault.WorkFault.{WorkFault}
 use Rattle.cml_work.specs.declared.fault.WorkFault.TheVariants as fault
 use Rattle.cml_host.specs.Running.{ReportsAreLive, HasRun, AreToldBy, IsStopped, IsCounted, failed_by, hub_of, cause_of}
-use Rattle.cml_host.specs.Told.{reports_text}
+use Rattle.cml_host.specs.Told.{IsRunOf, reports_text}
 use Rattle.cml_host.specs.declared.workers.Cause.{Cause}
 use Rattle.cml_host.specs.declared.workers.Cause.TheVariants as cause
 use Rattle.cml_host.specs.declared.workers.Stopped.{Stopped}
@@ -21,7 +24,7 @@ use Rattle.cml_host.specs.declared.workers.Stopped.{Stopped}
 
 pub goes_on : (old new : Kept) → Continues old new → GoesOnFrom old new
 goes_on old new more =
-    record { program = more.program; budget = more.budget; watch = more.watch; more = more.more; items = more.items }
+    record { program = more.program; budget = more.budget; watch = more.watch; more = more.more; items = more.items; exchanges = more.exchanges }
 
 pub worked : (old new : Kept) (end : End) → Continues old new → IsOver end new → IsWorked old new
 worked old new end more is_over =
@@ -38,14 +41,7 @@ has_run old new (Err e) a b calls failed more is_over sent x is = cc
 pub all_told : (options : RunOptions) (old new : Kept) (a b : Option (List ℕ)) (calls failed : ℕ) → Continues old new →
     Takes (stream a b) (reports_text new.reports) → failed ≡ 0 →
     IsStopped options old (record { hub = new; cause = cause.Memory }) (counted_stream a b calls failed)
-all_told options old new a b calls failed more told none = (
-  goes_on old new more,
-  inl (
-    length new.reports,
-    subst (λ (rs : List PlainReport). Takes (stream a b) (reports_text rs)) (sym (take_all (length new.reports) new.reports (omega arith))) told,
-  ),
-  none,
-)
+all_told options old new a b calls failed more told none = (goes_on old new more, inl told, none)
 
 -- ---- by workers
 
@@ -71,12 +67,20 @@ ran_out hub workers (fault.Start new) count works = absurd works
 ran_out hub workers (fault.Write new) count works = absurd works
 ran_out hub workers (fault.Foreign new seen) count works = absurd works
 
+-- where none is asked for there is no report
+pub unwatched : (p : List (PlainItem ℕ)) (watch : Option ℕ) (items : List Item) (reports : List PlainReport) (r : Run) → watch ≡ None →
+    IsRunOf p watch items reports r → reports ≡ []
+unwatched p None items reports r none run = run.reported
+unwatched p (Some k) items reports r none run = cc
+
 -- the hub was stopped, without a report asked for
 pub stopped_silent : (options : RunOptions) (hub : Kept) (stopped : Stopped) (a : Option (List ℕ)) (calls failed : ℕ) →
-    GoesOnFrom hub stopped.hub → stopped.cause ≡ cause.Memory → failed ≡ 0 → IsStopped options hub stopped (counted_stream a a calls failed)
-stopped_silent options hub stopped a calls failed more is none = (
+    GoesOnFrom hub stopped.hub → stopped.hub.reports ≡ [] → stopped.cause ≡ cause.Memory → failed ≡ 0 →
+    IsStopped options hub stopped (counted_stream a a calls failed)
+stopped_silent options hub stopped a calls failed more unreported is none = (
   more,
-  subst (λ (why : Cause). AreToldBy options stopped.hub why (stream a a)) (sym is) (inl (0, Appends-nil a)),
+  subst (λ (why : Cause). AreToldBy options stopped.hub why (stream a a)) (sym is)
+      (inl (subst (λ (rs : List PlainReport). Takes (stream a a) (reports_text rs)) (sym unreported) (Appends-nil a))),
   subst (λ (why : Cause). failed ≡ failed_by why) (sym is) none,
 )
 

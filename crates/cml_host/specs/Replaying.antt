@@ -3,6 +3,7 @@ use Rattle.std.specs.Prelude.{◌≡◌, ◌⊎◌, ℕ, ◌<◌, ◌≤◌, Lis
 use Rattle.std.specs.Fmt.{decimal}
 use Rattle.std.specs.String.{string_bytes}
 use Rattle.cml_check.specs.Syntax.{PlainItem}
+use Rattle.cml_hub.specs.Courses.{run_of}
 use Rattle.cml_hub.specs.Kept.{Kept, IsFirstBad, IsReplayed, FitsSize}
 use Rattle.cml_hub.specs.Runs.{Run, ending}
 use Rattle.cml_monitor.specs.Reports.{PlainReport}
@@ -65,6 +66,13 @@ ReplayRan options held output errors status =
     ⊎ (NoScriptRan (held options.script.now) options.script.now errors status × IsIdle output)
 
 -- ---- what private functions say
+
+-- where this hub stands was told, and it is a run of its program; or a write failed, or memory ran out
+abbrev pub ReplayTold : Kept → Counted → Counted → ℕ → Type 0
+ReplayTold h output errors status =
+    IsRunOf h.course.program h.watch h.course.items h.reports (run_of h.course)
+    × ((IsTold h.reports (whole_output h.budget (run_of h.course)) output errors × (status ≡ end_status (ending h.budget (run_of h.course))))
+    ⊎ IsNotTold h.reports h.course.output (whole_output h.budget (run_of h.course)) output errors status)
 
 -- the plan of what lies there
 abbrev pub IsPlanOf : Content → PlainPlan → Type 0

@@ -1,10 +1,10 @@
 -- The command `run`: what it does with a script.
-use Rattle.std.specs.Prelude.{◌≡◌, ◌≢◌, ◌⊎◌, ℕ, ◌<◌, List, [], ◌++◌, take, true, codes, Option, Some, None, option_map}
+use Rattle.std.specs.Prelude.{◌≡◌, ◌≢◌, ◌⊎◌, ℕ, ◌<◌, List, [], ◌++◌, true, codes, Option, Some, None, option_map}
 use Rattle.std.specs.String.{string_bytes}
 use Rattle.cml_check.specs.Sizes.{size_of}
 use Rattle.cml_check.specs.Syntax.{PlainItem}
 use Rattle.cml_hub.specs.Courses.{run_of}
-use Rattle.cml_hub.specs.Kept.{Kept}
+use Rattle.cml_hub.specs.Kept.{Kept, SwapsAreExchanges}
 use Rattle.cml_hub.specs.Runs.{Run, ending, over}
 use Rattle.cml_monitor.specs.Reports.{PlainReport}
 use Rattle.cml_schedule.specs.declared.item.Item.{Item}
@@ -58,12 +58,13 @@ EndRan name schedule reports budget r output errors store status =
 abbrev pub ReportsAreLive : RunOptions → Type 0
 ReportsAreLive options = (1 < options.workers) × (options.watch ≢ None)
 
--- The program was run: it came to its end, and that was told; or it was cut off on the way, and nothing was saved. Where reports are
--- written while the program runs, there are two more cases, in which nothing was saved either: it was cut off after reports that are not
--- known to be its own; or the reports that were written are not its own, and the errors tell that.
+-- The program was run, and each row of two swaps that was taken is an exchange. The run came to its end, and that was told; or it was cut
+-- off on the way, and nothing was saved. Where reports are written while the program runs, there are two more cases, in which nothing was
+-- saved either: it was cut off after reports that are not known to be its own; or the reports that were written are not its own, and the
+-- errors tell that.
 abbrev pub ProgramRan : List (PlainItem ℕ) → RunOptions → Counted → Counted → Shelf → ℕ → Type 0
 ProgramRan p options output errors store status =
-    (items : List Item) × (reports : List PlainReport) × (r : Run) × IsRunOf p options.watch items reports r
+    (items : List Item) × (reports : List PlainReport) × (r : Run) × IsRunOf p options.watch items reports r × SwapsAreExchanges p [] items
     × ((HasEnded options.steps options.watch items reports r
     × EndRan (record_name options) (schedule_text options.steps (size_of p) items) reports options.steps r output errors store status)
     ⊎ (IsCutOff reports r.output output errors status × IsUnchanged store.before store.after)
@@ -95,11 +96,11 @@ abbrev pub failed_by : Cause → ℕ
 failed_by cause.Write = 1
 failed_by _ = 0
 
--- What was written of the reports, where this is why: the first of them, or a prefix of them; or where they are written while the
--- program runs, a prefix of some reports; or the reports of another run.
+-- What was written of the reports, where this is why: all of them, or a prefix of them; or where they are written while the program
+-- runs, a prefix of some reports; or the reports of another run.
 abbrev pub AreToldBy : RunOptions → Kept → Cause → Stream → Type 0
 AreToldBy options h cause.Memory errors =
-    ((n : ℕ) × Takes errors (reports_text (take n h.reports))) ⊎ (ReportsAreLive options × BreaksOff errors)
+    Takes errors (reports_text h.reports) ⊎ (ReportsAreLive options × BreaksOff errors)
 AreToldBy options h cause.Write errors = TakesStart errors (reports_text h.reports) ⊎ (ReportsAreLive options × BreaksOff errors)
 AreToldBy options h cause.Foreign errors =
     ReportsAreLive options × ((seen : List PlainReport) × (seen ≢ h.reports) × Takes errors (reports_text seen))

@@ -1,22 +1,30 @@
 -- What is told of a run of a script: its reports to the errors, its output and its end line to the output.
-use Rattle.std.specs.Prelude.{◌≡◌, ◌≢◌, ◌⊎◌, ℕ, List, [], ◌++◌, length, take, codes, Option, Some, Result, Ok, Err}
+use Rattle.std.specs.Prelude.{◌≡◌, ◌≢◌, ◌⊎◌, ℕ, List, [], ◌++◌, length, codes, Option, Some, Result, Ok, Err}
 use Rattle.std.specs.List.{flat_map}
 use Rattle.cml_check.specs.Syntax.{PlainItem}
 use Rattle.cml_hub.specs.declared.fault.End.{End}
 use Rattle.cml_hub.specs.declared.fault.End.TheVariants.{Quiet, Budget, Partial}
 use Rattle.cml_hub.specs.Runs.{Run, stands, ending}
 use Rattle.cml_hub.specs.Reports.{AreReports, IsDue}
-use Rattle.cml_monitor.specs.Reports.{PlainReport, report_text}
+use Rattle.cml_monitor.specs.Reports.{PlainReport, report_text, wait_line}
+use Rattle.cml_value.specs.declared.number.Tid.{Tid}
 use Rattle.cml_scan.specs.Numbers.{spaced}
 use Rattle.cml_scan.specs.World.{pending}
 use Rattle.cml_schedule.specs.declared.item.Item.{Item}
 use Rattle.cml_step.specs.Calls.{text_of}
 use Rattle.cml_stream.specs.Streams.{Counted, IsIdle, Says, Takes, TakesStart}
 use Rattle.cml_text.specs.Lines.{line}
-use Rattle.cml_host.specs.declared.tell.ReportFault.{ReportFault}
-use Rattle.cml_host.specs.declared.tell.ReportFault.TheVariants as report_fault
+use Rattle.cml_stream.specs.declared.input_output.WriteFault.{WriteFault}
 
 -- ---- what there is to tell
+
+-- the first line of a report: after how many items it was made, and how many rows and threads it shows
+abbrev pub report_head : PlainReport → List ℕ
+report_head r = line (codes "report" ++ spaced r.at ++ codes " rows" ++ spaced (length r.rows) ++ codes " waiting" ++ spaced (length r.waiting))
+
+-- the line of a thread that waits
+abbrev pub waits_line : Tid → List ℕ
+waits_line t = wait_line t.0
 
 -- the lines of these reports, one report after another
 abbrev pub reports_text : List PlainReport → List ℕ
@@ -97,12 +105,12 @@ OutputBroke reports = OutputBrokeAfter (reports_text reports)
 abbrev pub MemoryBroke : List PlainReport → List ℕ → Counted → Counted → ℕ → Type 0
 MemoryBroke reports = MemoryBrokeAfter (reports_text reports)
 
--- The run was cut off. A write of its reports failed, and the output was not called; or the first n of its reports were written, for some
--- n, and either its output so far and the line `memory`, or a prefix of that output, since a write of it failed.
+-- The run was cut off. A write of its reports failed, and the output was not called; or all of its reports were written, and either its
+-- output so far and the line `memory`, or a prefix of that output, since a write of it failed.
 abbrev pub IsCutOff : List PlainReport → List ℕ → Counted → Counted → ℕ → Type 0
 IsCutOff reports text output errors status =
     ReportsBroke reports output errors status
-    ⊎ ((n : ℕ) × (MemoryBroke (take n reports) text output errors status ⊎ OutputBroke (take n reports) text output errors status))
+    ⊎ (MemoryBroke reports text output errors status ⊎ OutputBroke reports text output errors status)
 
 -- Reports that are written while the program runs: memory ran out, or a write of them failed. Of what was written before, it is known that
 -- it is the lines of some reports, the last of them perhaps not whole.
@@ -132,15 +140,7 @@ OutputNotTold reports so_far text output errors status =
     OutputBroke reports text output errors status
     ⊎ (MemoryBroke reports so_far output errors status ⊎ OutputBroke reports so_far output errors status)
 
--- how the writing of reports ends
-abbrev pub AreSent : List PlainReport → Result (Unit {0}) ReportFault → Counted → Type 0
-AreSent reports (Ok done) errors = Takes errors.bytes (reports_text reports) × (errors.counts.failed ≡ 0)
-AreSent reports (Err report_fault.Memory) errors =
-    (n : ℕ) × Takes errors.bytes (reports_text (take n reports)) × (errors.counts.failed ≡ 0)
-AreSent reports (Err report_fault.Write) errors = TakesStart errors.bytes (reports_text reports) × (errors.counts.failed ≡ 1)
-
--- how the writing of a report ends
-abbrev pub IsReportSent : PlainReport → Result (Unit {0}) ReportFault → Counted → Type 0
-IsReportSent report (Ok done) errors = Takes errors.bytes (report_text report) × (errors.counts.failed ≡ 0)
-IsReportSent report (Err report_fault.Memory) errors = Takes errors.bytes [] × (errors.counts.failed ≡ 0)
-IsReportSent report (Err report_fault.Write) errors = TakesStart errors.bytes (report_text report) × (errors.counts.failed ≡ 1)
+-- how the writing of a text ends: it was written; or a write failed after a prefix of it
+abbrev pub IsSentText : List ℕ → Result (Unit {0}) WriteFault → Counted → Type 0
+IsSentText text (Ok done) errors = Takes errors.bytes text × (errors.counts.failed ≡ 0)
+IsSentText text (Err fault) errors = TakesStart errors.bytes text × (errors.counts.failed ≡ 1)

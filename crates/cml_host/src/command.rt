@@ -15,8 +15,10 @@ use crate::replay::replay_file;
 use crate::run::run_file;
 use crate::store::Store;
 use crate::trace::trace;
+use crate::workers::Open;
 use cml_stream::Counting;
 use cml_words::{Answer, Task, read_words};
+use cml_work::Gate;
 use std::alloc::{AllocError, Global};
 use std::io::{Read, Write};
 use std::sync::Wait;
@@ -52,15 +54,19 @@ where
     let mut input = Counting::new(input);
     let mut out = Counting::new(out);
     let mut err = Counting::new(err);
-    run_command_counted(rt, alloc, words, &mut input, &mut out, &mut err, store)
+    run_command_counted(
+        rt, alloc, &Open, words, &mut input, &mut out, &mut err, store,
+    )
 }
 
 /// Runs the command as [`run_command`] does, over streams whose calls are counted, and of which none was called yet. A fault of the input
 /// is told only where a read failed, or 2,097,152 reads came to no end; a fault of the output only where a write failed or took nothing;
-/// and what is told is written to the errors whole, except where a write of it failed.
-pub fn run_command_counted<R, I, O, E, S>(
+/// and what is told is written to the errors whole, except where a write of it failed. More workers than one go through the gate with each
+/// slice of a script's thread.
+pub fn run_command_counted<R, G, I, O, E, S>(
     rt: &R,
     alloc: Global,
+    gate: &G,
     words: &[String],
     input: &mut Counting<'_, I>,
     out: &mut Counting<'_, O>,
@@ -69,6 +75,7 @@ pub fn run_command_counted<R, I, O, E, S>(
 ) -> u8
 where
     R: Threads + Wait + Sync,
+    G: Gate + Sync,
     I: Read,
     O: Write,
     E: Write + Send,
@@ -92,7 +99,9 @@ where
         Ok(Answer::Task(Task::Trace)) => trace(alloc, input, out, err),
         Ok(Answer::Task(Task::Check(name))) => check_file(alloc, name, out, err, store),
         Ok(Answer::Task(Task::Fmt(name))) => print_file(alloc, name, out, err, store),
-        Ok(Answer::Task(Task::Run(options))) => run_file(rt, alloc, &options, out, err, store),
+        Ok(Answer::Task(Task::Run(options))) => run_file(
+            rt, alloc, gate, &options, out, err, store,
+        ),
         Ok(Answer::Task(Task::Replay(options))) => replay_file(alloc, &options, out, err, store),
         Ok(Answer::Help(text)) => send_text(text.as_bytes(), out, err),
         Ok(Answer::Fault(text)) => {

@@ -5,8 +5,10 @@ mod check;
 mod command;
 mod file;
 mod fmt;
+mod lines;
 mod output;
 mod replay;
+mod reports;
 mod run;
 mod said;
 mod script;
@@ -17,4 +19,6 @@ mod workers;
 
 pub use command::{run_command, run_command_counted};
 pub use file::{load_from, save_to};
+pub use output::say;
 pub use store::{Store, StoreFault};
+pub use workers::Open;

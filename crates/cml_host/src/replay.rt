@@ -2,14 +2,14 @@
 
 ghost use Rattle.std.specs.Prelude.{◌≡◌, IfOk, IfErr};
 ghost use Rattle.cml_hub.specs.Kept.{IsBudget, IsWatch, FitsSize, IsReplayed};
-ghost use Rattle.cml_host.specs.Replaying.{ReplayRan, ScheduleRan, IsPlanOf, IsSchedule, IsHubOf, IsNoHub, IsNoPlan, IsNotRead, IsNotRun};
+ghost use Rattle.cml_host.specs.Replaying.{ReplayRan, ReplayTold, ScheduleRan, IsPlanOf, IsSchedule, IsHubOf, IsNoHub, IsNoPlan, IsNotRead, IsNotRun};
 ghost use Rattle.cml_host.specs.Stores.{IsUnchanged};
 ghost use Rattle.cml_stream.specs.Streams.{counted_stream};
 
 use crate::said::{Refusal, refuse};
 use crate::script::open_script;
 use crate::store::Store;
-use crate::tell::{hub_is_a_run, tell};
+use crate::tell::{hub_is_a_run, let_go, tell};
 use cml_check::Prog;
 use cml_hub::{Hub, Plan, ReplayFault, ScheduleFault, matches_program, read_schedule};
 use cml_stream::Counting;
@@ -63,13 +63,32 @@ fn replay_program<O: Write, E: Write, S: Store>(
 {
     match replayed(alloc, program, options, store) {
         Ok(hub) => {
-            hub_is_a_run(&hub);
-            match tell(alloc, &hub, out, err) {
-                Ok(status) => status,
-                Err(status) => status,
-            }
+            let status = tell_run(alloc, &hub, out, err);
+            let_go(hub);
+            status
         }
         Err(why) => refuse(alloc, options.schedule, why, 3, err),
+    }
+}
+
+// Tells where the schedule has led.
+fn tell_run<O: Write, E: Write>(
+    alloc: Global,
+    hub: &Hub,
+    out: &mut Counting<'_, O>,
+    err: &mut Counting<'_, E>,
+) -> u8
+    requires fresh { (out.old.calls ≡ 0) × (out.old.failed ≡ 0) × (err.old.failed ≡ 0) }
+    ensures told { let output = counted_stream (O.contents out.old.stream.now) (O.contents out.new.stream.now) out.new.calls out.new.failed in
+        let errors = counted_stream (E.contents err.old.stream.now) (E.contents err.new.stream.now) err.new.calls err.new.failed in
+        ReplayTold hub.now output errors result }
+    ensures same_out { out.new.stream.ghost_name ≡ out.old.stream.ghost_name }
+    ensures same_err { err.new.stream.ghost_name ≡ err.old.stream.ghost_name }
+{
+    hub_is_a_run(hub);
+    match tell(alloc, hub, out, err) {
+        Ok(status) => status,
+        Err(status) => status,
     }
 }
 
@@ -127,13 +146,18 @@ fn follow(alloc: Global, program: Prog, plan: &Plan, watch: Option<u64>) -> Resu
     ensures err { IfErr result (IsNoHub program plan.now) }
 {
     if !matches_program(plan, &program) {
+        drop(program);
         return Err(Refusal::Wrong(format!(in alloc; "schedule program\n")?));
     }
     match Hub::replay(alloc, program, plan.budget, watch, plan.items.as_slice()) {
         Ok(hub) => Ok(hub),
-        Err(ReplayFault::BadItem(number, _)) => {
+        Err(ReplayFault::BadItem(number, program)) => {
+            drop(program);
             Err(Refusal::Wrong(format!(in alloc; "schedule item {number}\n")?))
         }
-        Err(ReplayFault::Memory(_)) => Err(Refusal::Memory),
+        Err(ReplayFault::Memory(program)) => {
+            drop(program);
+            Err(Refusal::Memory)
+        }
     }
 }

@@ -12,6 +12,7 @@ use cml_stream::Counting;
 use cml_text::TextFault;
 use std::alloc::{AllocError, Global};
 use std::io::Write;
+use thiserror::Error;
 
 /// The most bytes of a text.
 pub const TEXT_LIMIT: usize = 1_048_576;
@@ -26,13 +27,16 @@ pub enum Said {
 }
 
 /// Why a command goes no further with a file.
-#[derive(Drop)]
+#[derive(Debug, Drop, Error)]
 pub enum Refusal {
     /// It can't be read.
+    #[error("the file can't be read")]
     Unread,
     /// Its text is refused, as this line says.
+    #[error("{0}")]
     Wrong(String),
     /// Out of memory.
+    #[error("out of memory")]
     Memory,
 }
 

@@ -6,26 +6,17 @@ ghost use Rattle.cml_hub.specs.Runs.{ending};
 ghost use Rattle.cml_hub.specs.Courses.{run_of};
 ghost use Rattle.cml_host.specs.Told as spec;
 ghost use Rattle.cml_host.specs.Running.{StopRan, failed_by};
-ghost use Rattle.cml_host.specs.Told.{IsRunOf, IsTold, IsNotTold, OutputNotTold, AreSent, IsReportSent, SaysStill, MemoryBroke, OutputBroke, whole_output, cannot_write};
+ghost use Rattle.cml_host.specs.Told.{IsRunOf, IsTold, IsNotTold, OutputNotTold, SaysStill, MemoryBroke, OutputBroke, whole_output, cannot_write};
 ghost use Rattle.cml_stream.specs.Streams.{counted_stream, stream, Says, Takes, TakesStart};
 
 use crate::output::say;
+use crate::reports::send_reports;
 use crate::workers::{Cause, Stopped};
 use cml_hub::{End, Hub};
-use cml_monitor::{Report, render};
 use cml_stream::Counting;
 use cml_stream::input_output::{WriteFault, write_out};
 use std::alloc::{AllocError, Global};
 use std::io::Write;
-
-/// Why not all reports were written.
-#[derive(Clone, Copy)]
-pub enum ReportFault {
-    /// A write failed.
-    Write,
-    /// Out of memory.
-    Memory,
-}
 
 /// Tells all of a run that has come to its end: its reports to the errors, then its output and the end line to the output. It returns the
 /// status of such an end.
@@ -50,10 +41,9 @@ pub fn tell<O: Write, E: Write>(
     ensures same_out { out.new.stream.ghost_name ≡ out.old.stream.ghost_name }
     ensures same_err { err.new.stream.ghost_name ≡ err.old.stream.ghost_name }
 {
-    match send_reports(alloc, hub.reports(), err) {
+    match send_reports(hub.reports(), err) {
         Ok(()) => tell_output(alloc, hub, out, err),
-        Err(ReportFault::Write) => Err(refuse_reports(err)),
-        Err(ReportFault::Memory) => Err(cut_output(hub.out(), out, err)),
+        Err(_) => Err(refuse_reports(err)),
     }
 }
 
@@ -120,6 +110,11 @@ pub fn hub_is_a_run(hub: &Hub)
     let _reports = hub.reports();
 }
 
+/// Lets the hub go, at the one place where that has to be proved.
+pub fn let_go(hub: Hub) {
+    drop(hub);
+}
+
 // The end line of a run that ends in this way, where this many threads wait.
 fn end_line(alloc: Global, end: End, waiting: usize) -> Result<String, AllocError>
     ensures { IfOk result (λ line. string_bytes line ≡ spec.end_line end waiting) }
@@ -145,46 +140,6 @@ fn end_status(end: End) -> u8
         End::Quiet => 0,
         End::Budget => 4,
         End::Partial => 0,
-    }
-}
-
-/// Writes the lines of the reports, one report after another.
-///
-/// # Errors
-/// A write failed, or memory ran out.
-pub fn send_reports<E: Write>(
-    alloc: Global,
-    reports: &[Report],
-    err: &mut Counting<'_, E>,
-) -> Result<(), ReportFault>
-    requires fresh { err.old.failed ≡ 0 }
-    ensures sent { let errors = counted_stream (E.contents err.old.stream.now) (E.contents err.new.stream.now) err.new.calls err.new.failed in
-        AreSent reports.now result errors }
-    ensures same_err { err.new.stream.ghost_name ≡ err.old.stream.ghost_name }
-{
-    for report in reports {
-        send_report(alloc, report, err)?;
-    }
-    Ok(())
-}
-
-// Writes the lines of a report.
-fn send_report<E: Write>(
-    alloc: Global,
-    report: &Report,
-    err: &mut Counting<'_, E>,
-) -> Result<(), ReportFault>
-    requires fresh { err.old.failed ≡ 0 }
-    ensures sent { let errors = counted_stream (E.contents err.old.stream.now) (E.contents err.new.stream.now) err.new.calls err.new.failed in
-        IsReportSent report.now result errors }
-    ensures same_err { err.new.stream.ghost_name ≡ err.old.stream.ghost_name }
-{
-    let Ok(text) = render(alloc, report) else {
-        return Err(ReportFault::Memory);
-    };
-    match write_out(err, text.as_bytes()) {
-        Ok(()) => Ok(()),
-        Err(_) => Err(ReportFault::Write),
     }
 }
 

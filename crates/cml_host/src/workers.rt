@@ -1,36 +1,43 @@
 //! How a script's threads are run: one after another, or by workers side by side.
 
-ghost use Rattle.std.specs.Prelude.{◌≡◌, ◌≢◌, ◌<◌, [], Some, None, IfOk, IfErr};
+ghost use Rattle.std.specs.Prelude.{◌≡◌, ◌≢◌, ◌<◌, [], None, IfOk, IfErr};
 ghost use Rattle.cml_hub.specs.Kept.{NoneOut};
 ghost use Rattle.cml_host.specs.Running.{HasRun, IsStopped, IsCounted, hub_of, cause_of};
 ghost use Rattle.cml_host.specs.declared.workers.Cause.TheVariants.{Memory};
 ghost use Rattle.cml_stream.specs.Streams.{counted_stream};
 ghost use Rattle.cml_work.specs.Works.{IsWorkerCount, IsWorked, GoesOnFrom};
 
-use crate::tell::{ReportFault, hub_is_a_run, send_reports};
+use crate::reports::send_reports;
+use crate::tell::hub_is_a_run;
 use cml_hub::{Chooser, First, Hub, Seeded};
 use cml_stream::Counting;
 use cml_value::Tid;
 use cml_words::RunOptions;
 use cml_work::{Gate, WorkFault, run_watched, run_workers};
 use std::alloc::Global;
+use std::fmt;
 use std::io::Write;
 use std::sync::Wait;
 use std::thread::Threads;
+use thiserror::Error;
 
 /// Why a run is not told as one that has come to its end.
-#[derive(Clone, Copy)]
+#[derive(Clone, Copy, Debug, Error)]
 pub enum Cause {
     /// Out of memory, or no thread could be started.
+    #[error("out of memory")]
     Memory,
     /// A write of the reports failed.
+    #[error("a write of the reports failed")]
     Write,
     /// The reports that were written are not those of the run.
+    #[error("the reports are not those of the run")]
     Foreign,
 }
 
 /// A run that is not told as one that has come to its end.
-#[derive(Drop)]
+#[derive(Drop, Error)]
+#[error("{cause}")]
 pub struct Stopped {
     /// The hub, as far as it has gone on.
     pub hub: Hub,
@@ -38,28 +45,39 @@ pub struct Stopped {
     pub cause: Cause,
 }
 
-// Every slice may begin.
+// The hub itself is not shown.
+impl fmt::Debug for Stopped {
+    fn fmt<W: fmt::Write>(&self, f: &mut fmt::Formatter<W>) -> fmt::Result {
+        write!(f, "{self}")
+    }
+}
+
+/// The gate through which every slice may go.
 #[derive(Clone, Copy)]
-struct Open;
+pub struct Open;
 
 impl Gate for Open {
+    ghost told = { λ gate thread. Unit {0} };
+
     fn enter(&self, _thread: Tid) {}
 }
 
 /// Runs the hub to its end, and writes its reports to the errors: after the run, or, with more workers than one, each as soon as it is
-/// made. With a seed it chooses by that, else always the first.
+/// made. With a seed it chooses by that, else always the first. More workers than one go through the gate with each slice.
 ///
 /// # Errors
 /// Memory ran out, a write of the reports failed, or the reports that were written are not those of the run.
-pub fn run_hub<R, E>(
+pub fn run_hub<R, G, E>(
     rt: &R,
     alloc: Global,
+    gate: &G,
     hub: Hub,
     options: &RunOptions<'_>,
     err: &mut Counting<'_, E>,
 ) -> Result<Hub, Stopped>
 where
     R: Threads + Wait + Sync,
+    G: Gate + Sync,
     E: Write + Send,
     requires fresh { err.old.failed ≡ 0 }
     requires none_out { NoneOut hub }
@@ -72,15 +90,16 @@ where
     ensures same_err { err.new.stream.ghost_name ≡ err.old.stream.ghost_name }
 {
     match options.seed {
-        Some(seed) => run_by(rt, alloc, hub, options, Seeded::new(seed), err),
-        None => run_by(rt, alloc, hub, options, First, err),
+        Some(seed) => run_by(rt, alloc, gate, hub, options, Seeded::new(seed), err),
+        None => run_by(rt, alloc, gate, hub, options, First, err),
     }
 }
 
 // The same, by this chooser.
-fn run_by<R, C, E>(
+fn run_by<R, G, C, E>(
     rt: &R,
     alloc: Global,
+    gate: &G,
     hub: Hub,
     options: &RunOptions<'_>,
     chooser: C,
@@ -88,6 +107,7 @@ fn run_by<R, C, E>(
 ) -> Result<Hub, Stopped>
 where
     R: Threads + Wait + Sync,
+    G: Gate + Sync,
     C: Chooser + Drop + Send,
     E: Write + Send,
     requires fresh { err.old.failed ≡ 0 }
@@ -103,9 +123,9 @@ where
     if options.workers == 1 {
         run_alone(alloc, hub, options, chooser, err)
     } else if options.watch.is_some() {
-        run_live(rt, alloc, hub, options, chooser, err)
+        run_live(rt, alloc, gate, hub, options, chooser, err)
     } else {
-        run_silent(rt, alloc, hub, options.workers, chooser)
+        run_silent(rt, alloc, gate, hub, options.workers, chooser)
     }
 }
 
@@ -125,15 +145,11 @@ fn run_alone<C: Chooser + Drop, E: Write>(
     ensures same_err { err.new.stream.ghost_name ≡ err.old.stream.ghost_name }
 {
     let ended = hub.run_alone(alloc, &mut chooser);
-    match send_reports(alloc, hub.reports(), err) {
+    match send_reports(hub.reports(), err) {
         Ok(()) => {}
-        Err(ReportFault::Write) => return Err(Stopped {
+        Err(_) => return Err(Stopped {
             hub,
             cause: Cause::Write,
-        }),
-        Err(ReportFault::Memory) => return Err(Stopped {
-            hub,
-            cause: Cause::Memory,
         }),
     }
     match ended {
@@ -146,35 +162,42 @@ fn run_alone<C: Chooser + Drop, E: Write>(
 }
 
 // By workers, where no reports are asked for.
-fn run_silent<R, C>(
+fn run_silent<R, G, C>(
     rt: &R,
     alloc: Global,
+    gate: &G,
     hub: Hub,
     workers: usize,
     chooser: C,
 ) -> Result<Hub, Stopped>
 where
     R: Threads + Wait + Sync,
+    G: Gate + Sync,
     C: Chooser + Drop + Send,
     requires none_out { NoneOut hub }
     requires count { IsWorkerCount workers }
     requires watch { hub.watch ≡ None }
     ensures ok { IfOk result (λ new. IsWorked hub new × (new.reports ≡ [])) }
-    ensures err { IfErr result (λ stopped. GoesOnFrom hub stopped.hub × (stopped.cause ≡ Memory)) }
+    ensures err { IfErr result (λ stopped. GoesOnFrom hub stopped.hub × (stopped.hub.reports ≡ []) × (stopped.cause ≡ Memory)) }
 {
-    match run_workers(rt, alloc, hub, workers, chooser, &Open) {
+    match run_workers(rt, alloc, hub, workers, chooser, gate) {
         Ok(hub) => {
             hub_is_a_run(&hub);
             Ok(hub)
         }
-        Err(fault) => Err(stopped_by(fault)),
+        Err(fault) => {
+            let stopped = stopped_by(fault);
+            hub_is_a_run(&stopped.hub);
+            Err(stopped)
+        }
     }
 }
 
 // By workers, while a watcher writes the reports.
-fn run_live<R, C, E>(
+fn run_live<R, G, C, E>(
     rt: &R,
     alloc: Global,
+    gate: &G,
     hub: Hub,
     options: &RunOptions<'_>,
     chooser: C,
@@ -182,6 +205,7 @@ fn run_live<R, C, E>(
 ) -> Result<Hub, Stopped>
 where
     R: Threads + Wait + Sync,
+    G: Gate + Sync,
     C: Chooser + Drop + Send,
     E: Write + Send,
     requires fresh { err.old.failed ≡ 0 }
@@ -194,7 +218,7 @@ where
         IfErr result (λ stopped. IsStopped options.now hub stopped errors) }
     ensures same_err { err.new.stream.ghost_name ≡ err.old.stream.ghost_name }
 {
-    match run_watched(rt, alloc, hub, options.workers, chooser, &Open, err) {
+    match run_watched(rt, alloc, hub, options.workers, chooser, gate, err) {
         Ok((hub, seen)) => {
             drop(seen);
             Ok(hub)

@@ -11,18 +11,21 @@ use Rattle.cml_step.specs.Machines.{PlainMachine}
 use Rattle.cml_hub.specs.declared.fault.Next.TheVariants as next
 use Rattle.cml_hub.specs.Runs.{Run, stands, over, terminal}
 use Rattle.cml_hub.specs.Courses.{run_of}
-use Rattle.cml_hub.specs.Kept.{Kept, AddedInTime, Continues, Extends, IsNoTurn, NoneOut, NoMoreOut, AllOut, HandsOut, is_out_of}
+use Rattle.cml_hub.specs.Kept.{Kept, EachAdded, AddedInTime, TellsSwaps, SwapsAreExchanges, Continues, Extends, IsNoTurn, NoneOut, AllOut, HandsOut}
 use Rattle.cml_hub.specs.Moves.{AddsItem, Reported, HandedOut, MovedOn, CalledBack, GoesAlone}
 
--- Items that were added in time, and then others.
-time_more : (p : List (PlainItem ℕ)) (budget : ℕ) (items xs ys : List Item) → AddedInTime p budget items xs → AddedInTime p budget (items ++ xs) ys → AddedInTime p budget items (xs ++ ys)
-time_more p budget items [] ys h k = subst (λ zs. AddedInTime p budget zs ys) (append-nil items) k
-time_more p budget items (x ∷ xs) ys h k =
-    (h.0, time_more p budget (items ++ x ∷ []) xs ys h.1 (subst (λ zs. AddedInTime p budget zs ys) (sym (append_assoc items (x ∷ []) xs)) k))
+-- What holds of each item that was added, and of each that was added after those.
+pub each_more : (p : List (PlainItem ℕ)) (Holds : Run → Item → Type 0) (items xs ys : List Item) → EachAdded p Holds items xs → EachAdded p Holds (items ++ xs) ys → EachAdded p Holds items (xs ++ ys)
+each_more p Holds items [] ys h k = subst (λ zs. EachAdded p Holds zs ys) (append-nil items) k
+each_more p Holds items (x ∷ xs) ys h k =
+    (h.0, each_more p Holds (items ++ x ∷ []) xs ys h.1 (subst (λ zs. EachAdded p Holds zs ys) (sym (append_assoc items (x ∷ []) xs)) k))
 
-time_from : (p q : List (PlainItem ℕ)) (m n : ℕ) (items others more : List Item) → q ≡ p → n ≡ m → others ≡ items → AddedInTime q n others more → AddedInTime p m items more
-time_from p q m n items others more e f g h =
-    subst (λ x. AddedInTime x m items more) e (subst (λ x. AddedInTime q x items more) f (subst (λ x. AddedInTime q n x more) g h))
+pub each_from : (p q : List (PlainItem ℕ)) (Holds : Run → Item → Type 0) (items others more : List Item) → q ≡ p → others ≡ items → EachAdded q Holds others more → EachAdded p Holds items more
+each_from p q Holds items others more e f h =
+    subst (λ x. EachAdded x Holds items more) e (subst (λ x. EachAdded q Holds x more) f h)
+
+time_from : (p : List (PlainItem ℕ)) (m n : ℕ) (items more : List Item) → n ≡ m → AddedInTime p n items more → AddedInTime p m items more
+time_from p m n items more e h = subst (λ x. AddedInTime p x items more) e h
 
 -- Where the schedule has led, and that the run is not over there.
 pub record IsGoing (h : Kept) : Type 0 where
@@ -31,6 +34,9 @@ pub record IsGoing (h : Kept) : Type 0 where
 
 time_one : (h : Kept) (item : Item) → IsGoing h → AddedInTime h.course.program h.budget h.course.items (item ∷ [])
 time_one h item g = (rw (g.leads) g.going, tt)
+
+exchange_one : (h : Kept) (item : Item) → IsGoing h → TellsSwaps h.course.world item → SwapsAreExchanges h.course.program h.course.items (item ∷ [])
+exchange_one h item g t = (rw (g.leads) t, tt)
 
 -- It goes on from itself, and from what it went on from goes on.
 pub continues_self : (h : Kept) → Continues h h
@@ -41,6 +47,7 @@ continues_self h = record {
   more = [];
   items = sym (append-nil h.course.items);
   in_time = tt;
+  exchanges = tt;
   made = [];
   reports = sym (append-nil h.reports);
 }
@@ -52,8 +59,11 @@ continues_more a b c p q = record {
   watch = q.watch ∙ p.watch;
   more = p.more ++ q.more;
   items = q.items ∙ (ap (λ xs. xs ++ q.more) p.items ∙ append_assoc a.course.items p.more q.more);
-  in_time = time_more a.course.program a.budget a.course.items p.more q.more p.in_time
-      (time_from a.course.program b.course.program a.budget b.budget (a.course.items ++ p.more) b.course.items q.more p.program p.budget p.items q.in_time);
+  in_time = each_more a.course.program _ a.course.items p.more q.more p.in_time
+      (each_from a.course.program b.course.program _ (a.course.items ++ p.more) b.course.items q.more p.program p.items
+      (time_from b.course.program a.budget b.budget b.course.items q.more p.budget q.in_time));
+  exchanges = each_more a.course.program _ a.course.items p.more q.more p.exchanges
+      (each_from a.course.program b.course.program _ (a.course.items ++ p.more) b.course.items q.more p.program p.items q.exchanges);
   made = p.made ++ q.made;
   reports = q.reports ∙ (ap (λ xs. xs ++ q.made) p.reports ∙ append_assoc a.reports p.made q.made);
 }
@@ -66,18 +76,20 @@ continues_reported a b r = record {
   more = [];
   items = ap (λ c. c.items) r.course ∙ sym (append-nil a.course.items);
   in_time = tt;
+  exchanges = tt;
   made = r.made;
   reports = r.reports;
 }
 
-pub continues_moved : (a b : Kept) (item : Item) → IsGoing a → AddsItem a item b → Continues a b
-continues_moved a b item g m = record {
+pub continues_moved : (a b : Kept) (item : Item) → IsGoing a → TellsSwaps a.course.world item → AddsItem a item b → Continues a b
+continues_moved a b item g t m = record {
   program = m.adds.program;
   budget = m.budget;
   watch = m.watch;
   more = item ∷ [];
   items = m.adds.items;
   in_time = time_one a item g;
+  exchanges = exchange_one a item g t;
   made = [];
   reports = m.reports ∙ sym (append-nil a.reports);
 }
@@ -90,6 +102,7 @@ continues_called a b r = record {
   more = [];
   items = ap (λ c. c.items) r.course ∙ sym (append-nil a.course.items);
   in_time = tt;
+  exchanges = tt;
   made = [];
   reports = r.reports ∙ sym (append-nil a.reports);
 }
@@ -106,10 +119,10 @@ extends_reported h a b e r = record {
   no_turn = All-append IsNoTurn e.continues.more [] e.no_turn (All-nil IsNoTurn);
 }
 
-extends_moved : (h a b : Kept) (item : Item) → IsNoTurn item → Extends h a → IsGoing a → AddsItem a item b → Extends h b
+extends_moved : (h a b : Kept) (item : Item) → IsNoTurn item → TellsSwaps a.course.world item → Extends h a → IsGoing a → AddsItem a item b → Extends h b
 unfolding continues_more continues_moved
-extends_moved h a b item n e g m = record {
-  continues = continues_more h a b e.continues (continues_moved a b item g m);
+extends_moved h a b item n t e g m = record {
+  continues = continues_more h a b e.continues (continues_moved a b item g t m);
   no_turn = All-append IsNoTurn e.continues.more (item ∷ []) e.no_turn (All-cons IsNoTurn item [] n (All-nil IsNoTurn));
 }
 
@@ -138,10 +151,10 @@ pub still_extends : (h a b : Kept) → Extends h a → b ≡ a → Extends h b
 still_extends h a b e s = subst (λ (x : Kept). Extends h x) (sym s) e
 
 pub moved_extends : (h a b c : Kept) → Extends h a → IsGoing a → HandedOut a None b → MovedOn b true c → Extends h c
-moved_extends h a b c e g n m = extends_moved h b c m.0 m.1 (still_extends h a b e n.1) (subst (λ (x : Kept). IsGoing x) (sym n.1) g) m.2
+moved_extends h a b c e g n m = extends_moved h b c m.0 m.1 m.2 (still_extends h a b e n.1) (subst (λ (x : Kept). IsGoing x) (sym n.1) g) m.3
 
 pub moved_out : (h a b c : Kept) → a.out ≡ h.out → HandedOut a None b → MovedOn b true c → c.out ≡ h.out
-moved_out h a b c o n m = m.3 ∙ (ap (λ (x : Kept). x.out) n.1 ∙ o)
+moved_out h a b c o n m = m.4 ∙ (ap (λ (x : Kept). x.out) n.1 ∙ o)
 
 less : (k l m n u v w x : ℕ) → l ≡ k → m ≡ l → n ≡ m → v ≡ u → v < w → x ≡ w → u < k → n - x < k - u
 less k l m n u v w x h1 h2 h3 h4 h5 h6 h7 = omega arith
@@ -156,6 +169,7 @@ job_extends h a b m e s = record {
     more = e.continues.more;
     items = ap (λ (x : Kept). x.course.items) s.3 ∙ e.continues.items;
     in_time = e.continues.in_time;
+    exchanges = e.continues.exchanges;
     made = e.continues.made;
     reports = ap (λ (x : Kept). x.reports) s.3 ∙ e.continues.reports;
   };
@@ -177,15 +191,12 @@ wait_hands h a b c o n m =
 pub none_out_reported : (a b : Kept) → NoneOut a → Reported a b → NoneOut b
 none_out_reported a b n r = λ t. rw r.out (n t)
 
+pub none_out_same : (a b : Kept) → NoneOut a → b ≡ a → NoneOut b
+none_out_same a b n e = subst (λ (x : Kept). NoneOut x) (sym e) n
+
 pub still_continues : (h a b : Kept) → Continues h a → b ≡ a → Continues h b
 still_continues h a b e s = subst (λ (x : Kept). Continues h x) (sym s) e
 
 -- One thread ran alone.
 pub alone_continues : (h a b : Kept) → Continues h a → IsGoing a → GoesAlone a b → Continues h b
-alone_continues h a b e g m = continues_more h a b e (continues_moved a b m.item g m.moves)
-
-pub no_more_same : (a b : Kept) → b ≡ a → NoMoreOut a b
-no_more_same a b e t h = subst (λ (x : Kept). is_out_of x.out t ≡ false) (sym e) h
-
-pub no_more_than_none : (h a b : Kept) → NoneOut a → b ≡ a → NoMoreOut h b
-no_more_than_none h a b n e t x = subst (λ (x : Kept). is_out_of x.out t ≡ false) (sym e) (n t)
+alone_continues h a b e g m = continues_more h a b e (continues_moved a b m.item g m.tells m.moves)

@@ -1,11 +1,14 @@
 -- Whether there is more to do, and what comes next.
 use Rattle.std.proofs.Common.{◌≡◌, ℕ, zero, suc, Bool, true, false, not, nat_eq, List, [], ◌∷◌, map, refl, ap, sym, subst, ◌∙◌, arith, Option, Some, None, Result, Ok, Err}
-use Rattle.std.specs.Prelude.{is_some, OnOk, slice_get, slice_set}
+use Rattle.std.specs.Prelude.{is_some, OnOk, OnErr, slice_get, slice_set}
 use Rattle.std.proofs.lemmas.Bool.Decides.{nat_tests}
 use Rattle.cml_scan.specs.World.{PlainWorld, running}
-use Rattle.cml_scan.specs.Scan.{scan}
+use Rattle.cml_scan.specs.Scan.{scan, has_row}
+use Rattle.cml_scan.specs.declared.meet.Meet.{Meet}
+use Rattle.cml_book.specs.Swaps.{swaps}
 use Rattle.cml_monitor.specs.Reports.{PlainReport}
-use Rattle.cml_schedule.specs.declared.item.Item.TheVariants.{Clock}
+use Rattle.cml_schedule.specs.declared.item.Item.{Item}
+use Rattle.cml_schedule.specs.declared.item.Item.TheVariants.{Turn, Meet as Commit, Exchange, Clock}
 use Rattle.cml_step.specs.Calls.{text_of}
 use Rattle.cml_step.specs.Machines.{PlainMachine}
 use Rattle.cml_check.specs.Syntax.{PlainItem}
@@ -14,7 +17,7 @@ use Rattle.cml_hub.specs.declared.marks.Mark.TheVariants.{Ready, Out}
 use Rattle.cml_hub.specs.Marks.{is_out}
 use Rattle.cml_hub.specs.Runs.{any_runs, is_none, next_alarm, terminal, is_allowed}
 use Rattle.cml_hub.specs.Dones.{GoesOn}
-use Rattle.cml_hub.specs.Courses.{PlainCourse, Begins, HasMachine}
+use Rattle.cml_hub.specs.Courses.{PlainCourse, Begins, HasMachine, TakesRow}
 use Rattle.cml_hub.specs.Kept.{Kept, Stands, IsBudget, IsWatch, IsAtStart, is_out_of}
 use Rattle.cml_hub.specs.Moves.{HandedOut}
 use Rattle.cml_hub.proofs.Standing.{map_set}
@@ -35,6 +38,13 @@ pub none_runs : (b a : Bool) → b ≡ not a → b ≡ true → a ≡ false
 none_runs b true e f = absurd (cc)
 none_runs b false e f = refl
 
+-- a row of two swaps may be taken by each item that takes it
+pub swap_allowed : (w : PlainWorld) (item : Item) (row : Meet) → TakesRow item row → has_row (scan w) row ≡ true → swaps w row ≡ true → is_allowed w item ≡ true
+swap_allowed w (Turn t) row takes has swap = absurd takes
+swap_allowed w (Commit taken) row takes has swap = subst (λ r. has_row (scan w) r ≡ true) (sym takes) has
+swap_allowed w (Exchange taken) row takes has swap = subst (λ r. swaps w r ≡ true) (sym takes) swap
+swap_allowed w (Clock tick) row takes has swap = absurd takes
+
 pub tick_allowed : (w : PlainWorld) (tick : ℕ) → scan w ≡ [] → any_runs w ≡ false → next_alarm w ≡ Some tick → is_allowed w (Clock tick) ≡ true
 tick_allowed w tick still idle next = let same : nat_eq tick tick ≡ true = grind (arith, nat_tests) in rw (next, idle, still, same) refl
 
@@ -45,6 +55,11 @@ terminal_is w still idle next = rw (next, idle, still) refl
 pub on_ok : {A E P Q : Type 0} (r : Result A E) → OnOk r P → (P → Q) → OnOk r Q
 on_ok (Ok x) h f = f h
 on_ok (Err e) h f = h
+
+-- what holds where a call fails
+pub on_err : {A E P : Type 0} (r : Result A E) → P → OnErr r P
+on_err (Ok x) p = tt
+on_err (Err e) p = p
 
 -- at the beginning
 pub stands_begun : (p : List (PlainItem ℕ)) (course : PlainCourse) (budget : ℕ) (watch : Option ℕ) → Begins p course → IsBudget budget → IsWatch watch

@@ -102,7 +102,8 @@ runs_somewhere (ended ∷ ts) h = let r = runs_somewhere ts h in (suc r.0, r.1)
 pub alone_moved : (a b : Kept) (moved : Bool) → NoneOut a → AllOut a → MovedOn a moved b → GoesAlone a b
 alone_moved a b true n o m = record {
   item = m.0;
-  moves = m.2;
-  none_out = λ t. rw m.3 (n t);
+  tells = m.2;
+  moves = m.3;
+  none_out = λ t. rw m.4 (n t);
 }
 alone_moved a b false n o m = let r = runs_somewhere a.course.world.threads m.1 in let y = o r.0 r.1 in let z = n r.0 in cc

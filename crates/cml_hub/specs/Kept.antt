@@ -1,13 +1,14 @@
 -- What a hub keeps, and how its calls change it.
-use Rattle.std.specs.Prelude.{ℕ, ◌≡◌, ◌≢◌, ◌+◌, ◌≤◌, Bool, true, false, List, [], ◌∷◌, ◌++◌, length, Option, Some, None, IfSome, Result, Ok, Err, unwrap_or, slice_get, slice_set}
+use Rattle.std.specs.Prelude.{ℕ, ◌≡◌, ◌≢◌, ◌+◌, ◌≤◌, Bool, true, false, List, [], ◌∷◌, ◌++◌, ◌⊎◌, length, Option, Some, None, IfSome, Result, Ok, Err, unwrap_or, slice_get, slice_set}
 use Rattle.std.specs.List.{All}
 use Rattle.cml_value.specs.declared.number.Tid.{Tid}
-use Rattle.cml_scan.specs.World.{PlainThread, running}
+use Rattle.cml_scan.specs.World.{PlainThread, PlainWorld, running}
 use Rattle.cml_scan.specs.Scan.{scan}
 use Rattle.cml_check.specs.Syntax.{PlainItem}
 use Rattle.cml_check.specs.Sizes.{size_of}
 use Rattle.cml_check.specs.declared.size.Size.{Size}
 use Rattle.cml_book.specs.Walks.{runs}
+use Rattle.cml_book.specs.Swaps.{swaps}
 use Rattle.cml_monitor.specs.Reports.{PlainReport}
 use Rattle.cml_schedule.specs.declared.item.Item.{Item}
 use Rattle.cml_schedule.specs.declared.item.Item.TheVariants as item
@@ -78,9 +79,9 @@ AllOut h = (t : ℕ) → slice_get h.course.world.threads t ≡ Some running →
 abbrev pub OnlyRunningOut : Kept → Type 0
 OnlyRunningOut h = (t : ℕ) → is_out_of h.out t ≡ true → slice_get h.course.world.threads t ≡ Some running
 
--- no slice is out that was not
-abbrev pub NoMoreOut : Kept → Kept → Type 0
-NoMoreOut old new = (t : ℕ) → is_out_of old.out t ≡ false → is_out_of new.out t ≡ false
+-- Where memory ran out: no slice is out; or those that are out could not be queued again, and nothing has changed.
+abbrev pub NoneOutOrSame : Kept → Kept → Type 0
+NoneOutOrSame old new = NoneOut new ⊎ (new ≡ old)
 
 -- the hub is at its beginning: nothing has happened yet
 pub record IsAtStart (p : List (PlainItem ℕ)) (budget : ℕ) (watch : Option ℕ) (h : Kept) : Type 0 where
@@ -91,14 +92,28 @@ pub record IsAtStart (p : List (PlainItem ℕ)) (budget : ℕ) (watch : Option �
   pub reports : h.reports ≡ []
   pub none_out : NoneOut h
 
--- These items come after those, and none of them where the run was over: something was left to do, and the budget was not used.
+-- Of each of these items, which come after those, this holds where it was added: of the run there, and of the item.
+abbrev pub EachAdded : List (PlainItem ℕ) → (Run → Item → Type 0) → List Item → List Item → Type 0
+EachAdded p Holds items [] = Unit {0}
+EachAdded p Holds items (item ∷ more) =
+    IfSome (stands (text_of p) items) (λ r. Holds r item) × EachAdded p Holds (items ++ item ∷ []) more
+
+-- Each of these items was added where the run was not over: something was left to do, and the budget was not used.
 abbrev pub AddedInTime : List (PlainItem ℕ) → ℕ → List Item → List Item → Type 0
-AddedInTime p budget items [] = Unit {0}
-AddedInTime p budget items (item ∷ more) =
-    IfSome (stands (text_of p) items) (λ r. over budget r ≡ false) × AddedInTime p budget (items ++ item ∷ []) more
+AddedInTime p budget items more = EachAdded p (λ r item. over budget r ≡ false) items more
+
+-- The item takes a row of two swaps only as an exchange.
+abbrev pub TellsSwaps : PlainWorld → Item → Type 0
+TellsSwaps w (item.Meet row) = swaps w row ≡ false
+TellsSwaps w _ = Unit {0}
+
+-- Each of these items, where it was added, took a row of two swaps only as an exchange.
+abbrev pub SwapsAreExchanges : List (PlainItem ℕ) → List Item → List Item → Type 0
+SwapsAreExchanges p items more = EachAdded p (λ r item. TellsSwaps r.world item) items more
 
 -- The hub goes on from the other one: it has the same program, budget and watch, and its items and reports begin with the other's. No item
--- was added once the run was over. (That each item is allowed where it stands holds of every hub.)
+-- was added once the run was over, and each row of two swaps that was taken is an exchange. (That each item is allowed where it stands holds
+-- of every hub.)
 pub record Continues (old new : Kept) : Type 0 where
   pub program : new.course.program ≡ old.course.program
   pub budget : new.budget ≡ old.budget
@@ -106,6 +121,7 @@ pub record Continues (old new : Kept) : Type 0 where
   pub more : List Item
   pub items : new.course.items ≡ old.course.items ++ more
   pub in_time : AddedInTime old.course.program old.budget old.course.items more
+  pub exchanges : SwapsAreExchanges old.course.program old.course.items more
   pub made : List PlainReport
   pub reports : new.reports ≡ old.reports ++ made
 

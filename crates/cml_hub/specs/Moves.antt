@@ -13,7 +13,7 @@ use Rattle.cml_hub.specs.declared.marks.Mark.TheVariants as mark
 use Rattle.cml_hub.specs.Runs.{any_runs}
 use Rattle.cml_hub.specs.Dones.{GoesOn}
 use Rattle.cml_hub.specs.Courses.{Adds, HasMachine}
-use Rattle.cml_hub.specs.Kept.{Kept, AllOut, NoneOut, NoneDue, IsNoTurn, is_out_of}
+use Rattle.cml_hub.specs.Kept.{Kept, AllOut, NoneOut, NoneDue, IsNoTurn, TellsSwaps, is_out_of}
 
 -- the thread that begins, if one does, has the next number
 abbrev pub IsNext : Gone → List Mark → Type 0
@@ -66,9 +66,9 @@ HandedOut old (Some m) new =
     HasMachine old.course m.thread m × GoesOn old.course.program m × (is_out_of old.out m.thread ≡ false)
     × (new ≡ record old { out = slice_set old.out m.thread true })
 
--- A row was taken, or the time moved; or there is nothing to do before a slice comes back.
+-- A row was taken, as an exchange where it is of two swaps, or the time moved; or there is nothing to do before a slice comes back.
 abbrev pub MovedOn : Kept → Bool → Kept → Type 0
-MovedOn old true new = (item : Item) × IsNoTurn item × AddsItem old item new × (new.out ≡ old.out)
+MovedOn old true new = (item : Item) × IsNoTurn item × TellsSwaps old.course.world item × AddsItem old item new × (new.out ≡ old.out)
 MovedOn old false new = (scan old.course.world ≡ []) × (any_runs old.course.world ≡ true) × (new ≡ old)
 
 -- no slice is out any more, and all else is as before
@@ -87,9 +87,10 @@ pub record Happens (old : Kept) (item : Item) (new : Kept) : Type 0 where
   pub none_due : NoneDue new
   pub none_out : NoneOut new
 
--- one item more, and no slice is out
+-- one item more, which is an exchange where it takes a row of two swaps; and no slice is out
 pub record GoesAlone (old new : Kept) : Type 0 where
   pub item : Item
+  pub tells : TellsSwaps old.course.world item
   pub moves : AddsItem old item new
   pub none_out : NoneOut new
 

@@ -11,7 +11,7 @@ ghost use Rattle.cml_step.specs.Calls.{text_of};
 ghost use Rattle.cml_hub.specs.Runs as spec;
 ghost use Rattle.cml_hub.specs.Courses.{run_of, TakesRow, IsOurs};
 ghost use Rattle.cml_hub.specs.Reports.{AreReports, IsDueReport};
-ghost use Rattle.cml_hub.specs.Kept.{IsBudget, IsWatch, IsAtStart, Continues, Extends, HandsOut, is_ended, NoneDue, NoneOut, AllOut, OnlyRunningOut, NoMoreOut, TakesSlice, IsOver, Replays, FitsSize};
+ghost use Rattle.cml_hub.specs.Kept.{IsBudget, IsWatch, IsAtStart, Continues, Extends, HandsOut, is_ended, NoneDue, NoneOut, AllOut, OnlyRunningOut, NoneOutOrSame, TakesSlice, IsOver, Replays, FitsSize};
 ghost use Rattle.cml_hub.specs.Moves.{IsNext, marks_after, PartiesAway, marks_met, AddsItem, TakesBack, Reported, HandedOut, MovedOn, CalledBack, Happens, GoesAlone, with_report};
 
 use crate::choose::Chooser;
@@ -468,7 +468,7 @@ impl Hub {
     ///
     /// # Errors
     /// Out of memory. The items and reports that were made before stay; the chooser's picks for the one that was not made are spent. No
-    /// slice is out then that was not.
+    /// slice is out then; or those that are out could not be queued, and nothing has changed.
     pub fn run_alone<C: Chooser>(
         &mut self,
         alloc: Global,
@@ -476,7 +476,7 @@ impl Hub {
     ) -> Result<End, AllocError>
         ensures more { Continues self.old self.new }
         ensures ok { IfOk result (λ end. IsOver end self.new) }
-        ensures err { OnErr result (NoMoreOut self.old self.new) }
+        ensures err { OnErr result (NoneOutOrSame self.old self.new) }
     {
         self.call_back()?;
         self.report(alloc)?;

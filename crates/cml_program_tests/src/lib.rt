@@ -8,6 +8,8 @@ mod examples;
 #[cfg(test)]
 mod faults;
 #[cfg(test)]
+mod gates;
+#[cfg(test)]
 mod limits;
 pub mod memory_store;
 #[cfg(test)]

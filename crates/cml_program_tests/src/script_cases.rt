@@ -36,6 +36,15 @@ end
         )],
     },
     Case {
+        name: "record-over-its-script",
+        words: "run S --record S",
+        files: &[("S", ADDITION)],
+        output: "",
+        errors: "--record would replace S\n",
+        status: 1,
+        saved: &[],
+    },
+    Case {
         name: "addition-steps-6",
         words: "run A --steps 6",
         files: &[("A", ADDITION)],

@@ -22,6 +22,10 @@ Options:
   -h, --help  Print help
 ";
 
+// The help of `run`.
+const RUN_HELP: &str =
+    "Runs a script\n\nUsage: cml run [OPTIONS] <FILE>\n\nArguments:\n  <FILE>  \n\nOptions:\n      --workers <N>    How many workers run its threads, 1 to 64 [default: 1]\n      --steps <B>      How many steps it may take, 1 to 1000000000 [default: 1000000]\n      --seed <S>       Draws the choices from this number\n      --watch <K>      Reports after every K items of the schedule, 1 to 1000000000\n      --record <FILE>  Saves the schedule of the run\n  -h, --help           Print help\n";
+
 // Arguments, what is written to the output and to the errors, and the status.
 struct Asked {
     words: &'static str,
@@ -86,7 +90,7 @@ For more information, try '--help'.
     },
     Asked {
         words: "run --help",
-        output: "Runs a script\n\nUsage: cml run [OPTIONS] <FILE>\n\nArguments:\n  <FILE>  \n\nOptions:\n      --workers <N>    How many workers run its threads, 1 to 64 [default: 1]\n      --steps <B>      How many steps it may take, 1 to 1000000000 [default: 1000000]\n      --seed <S>       Draws the choices from this number\n      --watch <K>      Reports after every K items of the schedule, 1 to 1000000000\n      --record <FILE>  Saves the schedule of the run\n  -h, --help           Print help\n",
+        output: RUN_HELP,
         errors: "",
         status: 0,
     },
@@ -158,6 +162,42 @@ For more information, try '--help'.
     },
     Asked {
         words: "run x.cml --workers 64",
+        output: "",
+        errors: "cannot read x.cml\n",
+        status: 1,
+    },
+    Asked {
+        words: "run x.cml --record x.cml",
+        output: "",
+        errors: "--record would replace x.cml\n",
+        status: 1,
+    },
+    Asked {
+        words: "run --record=x.cml --watch 5 --workers 4 x.cml",
+        output: "",
+        errors: "--record would replace x.cml\n",
+        status: 1,
+    },
+    Asked {
+        words: "run x.cml --record x.cml --steps 0",
+        output: "",
+        errors: "error: invalid value '0' for '--steps <B>': 0 is not in 1..=1000000000\n\nFor more information, try '--help'.\n",
+        status: 1,
+    },
+    Asked {
+        words: "run x.cml --record x.cml --workers 65",
+        output: "",
+        errors: "error: invalid value '65' for '--workers <N>': 65 is not in 1..=64\n\nFor more information, try '--help'.\n",
+        status: 1,
+    },
+    Asked {
+        words: "run x.cml --record x.cml --help",
+        output: RUN_HELP,
+        errors: "",
+        status: 0,
+    },
+    Asked {
+        words: "run x.cml --record ./x.cml",
         output: "",
         errors: "cannot read x.cml\n",
         status: 1,

@@ -8,7 +8,8 @@ use Rattle.clap.specs.declared.error.kind.ErrorKind.TheVariants.{OutOfMemory}
 use Rattle.clap.specs.declared.parser.matches.ArgMatches.{ArgMatches}
 use Rattle.cml_words.specs.declared.Answer.{Answer}
 use Rattle.cml_words.specs.declared.Answer.TheVariants as answer
-use Rattle.cml_words.specs.Words.{commands, faults, IsAnswer, AnswersError}
+use Rattle.cml_words.specs.declared.Task.{Task}
+use Rattle.cml_words.specs.Words.{commands, faults, IsAnswer, IsTask, AnswersError, AnswersTask, ReplacesScript}
 
 commands_are_simple : is_simple_and_free commands ≡ true
 unfolding clap_on_literals
@@ -37,4 +38,12 @@ IsAnswer-error words kind (answer.Help text) (inl none) (inr version) = cc
 IsAnswer-error words kind (answer.Help text) (inr here) (inl help) = inl (subst (λ (k : ErrorKind). IsAmong k (faults words)) help here)
 IsAnswer-error words kind (answer.Help text) (inr here) (inr version) = inr (subst (λ (k : ErrorKind). IsAmong k (faults words)) version here)
 IsAnswer-error words kind (answer.Fault text) (inl none) says = absurd (says.2 none)
-IsAnswer-error words kind (answer.Fault text) (inr here) says = (kind, here, says.0, says.1)
+IsAnswer-error words kind (answer.Fault text) (inr here) says = inl (kind, here, says.0, says.1)
+
+-- and the answer to a command that they name is one too
+pub IsAnswer-task : (words : List (List ℕ)) (task : Task) (a : Answer) → IsTask words task → AnswersTask task a → IsAnswer words a
+IsAnswer-task words task (answer.Task same) is says =
+    (subst (λ (t : Task). IsTask words t) (sym says.0) is, λ replaces. says.1 (subst ReplacesScript says.0 replaces))
+IsAnswer-task words task (answer.Help text) is says = absurd says
+IsAnswer-task words task (answer.Fault text) is says =
+    inr (says.0, subst (λ (t : Task). IsTask words t) says.1 is, says.2, says.3)

@@ -1,9 +1,10 @@
 -- What the arguments of the command line ask for, as clap reads them.
-use Rattle.std.specs.Prelude.{◌≡◌, ◌≢◌, ◌⊎◌, ◌&&◌, ℕ, Bool, true, false, not, Option, Some, None, IfSome, IsSomeAnd, List, [], ◌∷◌, codes, find, slice_get, option_map, unwrap_or}
+use Rattle.std.specs.Prelude.{◌≡◌, ◌≢◌, ◌⊎◌, ◌&&◌, ℕ, Bool, true, false, not, Option, Some, None, IfSome, IsSomeAnd, List, [], ◌∷◌, ◌++◌, codes, find, slice_get, option_map, unwrap_or}
 use Rattle.std.specs.List.{list_all}
 use Rattle.std.specs.Int.{IsInRange}
 use Rattle.std.specs.Option.{option_map_or}
 use Rattle.std.specs.Str.{bytes_eq}
+use Rattle.std.specs.String.{string_bytes}
 use Rattle.std.specs.Str.Parse.{digits_value, without_leading_plus}
 use Rattle.clap.specs.Takes.{value_passes}
 use Rattle.clap.specs.Words.{App, Shape, Rule, Row, Text, new_app, new_rule, fault_of, Kinds, IsAmong, first_of, subcommand_of}
@@ -113,12 +114,36 @@ Names (name, given) (task_of.Fmt file) = (name ≡ codes "fmt") × (first_of (co
 Names (name, given) (task_of.Run options) = (name ≡ codes "run") × IsRun given options
 Names (name, given) (task_of.Replay options) = (name ≡ codes "replay") × IsReplay given options
 
--- The answer is a command only where clap finds no error and the arguments name it, help only where a request for help or for the version
--- is among the kinds of error, and a fault only where another kind is among them.
+-- the record would be saved under the name of the script: both are given by the same text
+abbrev pub Replaces : RunOptions → Type 0
+Replaces options = option_map (λ name. name.now) options.record ≡ Some options.file.now
+
+-- the record of the command would replace its script
+abbrev pub ReplacesScript : Task → Type 0
+ReplacesScript (task_of.Run options) = Replaces options
+ReplacesScript _ = ⊥
+
+-- what is said of a record that would replace this script
+abbrev pub would_replace : List ℕ → List ℕ
+would_replace name = codes "--record would replace " ++ name ++ codes "\n"
+
+-- clap finds no error in the arguments, and they name this command
+abbrev pub IsTask : List (List ℕ) → Task → Type 0
+IsTask words task = (faults words ≡ []) × IsSomeAnd (subcommand_of commands words) (λ named. Names named task)
+
+-- the arguments name a command whose record would replace its script, and this says so
+abbrev pub IsReplacing : List (List ℕ) → List ℕ → Type 0
+IsReplacing words told =
+    (options : RunOptions) × IsTask words (task_of.Run options) × Replaces options × (told ≡ would_replace options.file.now)
+
+-- The answer is a command only where clap finds no error and the arguments name it, and its record would not replace its script; help only
+-- where a request for help or for the version is among the kinds of error; and a fault only where another kind is among them, or where clap
+-- finds none and the record would replace the script.
 abbrev pub IsAnswer : List (List ℕ) → Answer → Type 0
-IsAnswer words (answer.Task task) = (faults words ≡ []) × IsSomeAnd (subcommand_of commands words) (λ named. Names named task)
+IsAnswer words (answer.Task task) = IsTask words task × (ReplacesScript task → ⊥)
 IsAnswer words (answer.Help text) = IsAmong DisplayHelp (faults words) ⊎ IsAmong DisplayVersion (faults words)
-IsAnswer words (answer.Fault text) = (kind : ErrorKind) × IsAmong kind (faults words) × (kind ≢ DisplayHelp) × (kind ≢ DisplayVersion)
+IsAnswer words (answer.Fault text) =
+    ((kind : ErrorKind) × IsAmong kind (faults words) × (kind ≢ DisplayHelp) × (kind ≢ DisplayVersion)) ⊎ IsReplacing words (string_bytes text)
 
 -- ---- what private functions ask for
 
@@ -140,6 +165,13 @@ abbrev pub is_complete : App → Option (Text × List Row) → Bool
 is_complete app None = false
 is_complete app (Some named) =
     option_map_or (λ command. list_all (is_served named.1) command.rules) (find (λ command. bytes_eq command.name named.0) app.subs) false
+
+-- The answer to arguments that name this command: it, or where its record would replace its script that this is so.
+abbrev pub AnswersTask : Task → Answer → Type 0
+AnswersTask task (answer.Task same) = (same ≡ task) × (ReplacesScript task → ⊥)
+AnswersTask task (answer.Help text) = ⊥
+AnswersTask task (answer.Fault text) =
+    (options : RunOptions) × (task ≡ task_of.Run options) × Replaces options × (string_bytes text ≡ would_replace options.file.now)
 
 -- the answer to an error of this kind
 abbrev pub AnswersError : ErrorKind → Answer → Type 0

@@ -1,13 +1,13 @@
 //! What the arguments of the program's command line ask for.
 #![tactic(auto)]
 
-ghost use Rattle.std.specs.Prelude.{◌≡◌, [], codes, false, true, is_some, map, IfOk, IsSomeAnd, Some};
+ghost use Rattle.std.specs.Prelude.{◌≡◌, ◌↔◌, [], codes, false, true, is_some, map, IfOk, IsSomeAnd, IsTrue, Some};
 ghost use Rattle.std.specs.List.{list_all};
 ghost use Rattle.std.specs.String.{string_bytes};
 ghost use Rattle.clap.specs.Words.{app_of, first_of, found_of, kind_of, rows_of, rule_of, shape_of, subcommand_rows_of};
 ghost use Rattle.clap.specs.declared.builder.command.Command.TheViews.{out-Command};
 ghost use Rattle.cml_words.specs.Words.{any_rule, command_of, commands, count_rule, file_command, file_rule, option_rule, replay_command, run_command, workers_rule};
-ghost use Rattle.cml_words.specs.Words.{is_complete, is_served, option_number, AnswersError, IsAnswer, IsReplay, IsRun, Names};
+ghost use Rattle.cml_words.specs.Words.{is_complete, is_served, option_number, AnswersError, AnswersTask, IsAnswer, IsReplay, IsRun, Names, Replaces};
 
 use clap::error::ErrorKind;
 use clap::{Arg, ArgAction, ArgMatches, Command, Error, value_parser};
@@ -84,8 +84,31 @@ pub fn read_words<'a>(alloc: Global, words: &'a [String]) -> Result<Answer<'a>, 
     ensures { IfOk result (IsAnswer (map string_bytes words.now)) }
 {
     match command(alloc)?.try_get_matches_from(words) {
-        Ok(matches) => Ok(Answer::Task(task_of(&matches))),
+        Ok(matches) => answer_to_task(alloc, task_of(&matches)),
         Err(error) => answer_to_error(alloc, &error),
+    }
+}
+
+// The task, unless its record would replace its script, which is the last of the faults that arguments can have.
+fn answer_to_task<'a>(alloc: Global, task: Task<'a>) -> Result<Answer<'a>, AllocError>
+    ensures { IfOk result (AnswersTask task.entry) }
+{
+    if let Task::Run(options) = task
+        && replaces(&options)
+    {
+        let name = options.file;
+        return Ok(Answer::Fault(format!(in alloc; "--record would replace {name}\n")?));
+    }
+    Ok(Answer::Task(task))
+}
+
+// Whether the record would replace the script.
+fn replaces(options: &RunOptions<'_>) -> bool
+    ensures { IsTrue result ↔ Replaces options.now }
+{
+    match options.record {
+        Some(name) => name == options.file,
+        None => false,
     }
 }
 

@@ -6,8 +6,8 @@ use Rattle.cml_hub.specs.Dones.{GoesOn}
 use Rattle.cml_hub.specs.Kept.{Kept, Extends, HandsOut}
 use Rattle.cml_hub.specs.declared.fault.Next.{Next}
 use Rattle.cml_hub.specs.declared.fault.Next.TheVariants as next
-use Rattle.cml_work.specs.declared.shared.Found.{Found}
-use Rattle.cml_work.specs.declared.shared.Found.TheVariants as found
+use Rattle.cml_work.specs.declared.locked.Found.{Found}
+use Rattle.cml_work.specs.declared.locked.Found.TheVariants as found
 use Rattle.cml_work.specs.Works.{PlainOpening, Follows, IsJob}
 
 -- the machine that is handed out is one of a thread of the program that was copied before

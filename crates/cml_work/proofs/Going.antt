@@ -1,13 +1,33 @@
 -- Hubs that go on from others.
-use Rattle.std.proofs.Common.{◌≡◌, ◌++◌, List, [], ◌∷◌, length, refl, ap, sym, subst, ◌∙◌, append_assoc, append-nil, arith}
+use Rattle.std.proofs.Common.{◌≡◌, ℕ, ◌++◌, List, [], ◌∷◌, length, Option, Some, None, IfSome, Result, Ok, Err, refl, ap, sym, subst, ◌∙◌, append_assoc, append-nil, arith}
+use Rattle.cml_check.specs.Syntax.{PlainItem}
 use Rattle.cml_schedule.specs.declared.item.Item.{Item}
-use Rattle.cml_hub.specs.Kept.{Kept, Continues, IsOver}
+use Rattle.cml_schedule.specs.declared.item.Item.TheVariants as item
+use Rattle.cml_step.specs.Calls.{text_of}
+use Rattle.cml_step.specs.Rans.{PlainRan}
+use Rattle.cml_value.specs.declared.number.Tid.{Tid}
+use Rattle.cml_hub.specs.Runs.{Run, stands}
+use Rattle.cml_hub.specs.Kept.{Kept, Continues, Extends, IsOver, EachAdded, SwapsAreExchanges, TellsSwaps, Given, TakesSlice}
 use Rattle.cml_hub.specs.declared.fault.End.{End}
+use Rattle.cml_hub.specs.declared.fault.GiveFault.{GiveFault}
+use Rattle.cml_hub.specs.declared.fault.GiveFault.TheVariants.{Stranger, Memory}
 use Rattle.cml_work.specs.Works.{PlainOpening, opening_of, Follows, GoesOnFrom, IsWorked}
+
+-- what holds of each of these items and of each that comes after them holds of all
+each_more : (p : List (PlainItem ℕ)) (Holds : Run → Item → Type 0) (items more rest : List Item) → EachAdded p Holds items more
+    → EachAdded p Holds (items ++ more) rest → EachAdded p Holds items (more ++ rest)
+each_more p Holds items [] rest h q = subst (λ (l : List Item). EachAdded p Holds l rest) (append-nil items) q
+each_more p Holds items (x ∷ more) rest h q =
+    (h.0, each_more p Holds (items ++ x ∷ []) more rest h.1 (subst (λ (l : List Item). EachAdded p Holds l rest) (sym (append_assoc items (x ∷ []) more)) q))
+
+-- nothing is asked of what is there
+if_there : {A : Type 0} (o : Option A) → IfSome o (λ x. Unit {0})
+if_there None = tt
+if_there (Some x) = tt
 
 -- a hub goes on from itself
 pub goes_on_same : (h : Kept) → GoesOnFrom h h
-goes_on_same h = record { program = refl; budget = refl; watch = refl; more = []; items = sym (append-nil _) }
+goes_on_same h = record { program = refl; budget = refl; watch = refl; more = []; items = sym (append-nil _); exchanges = tt }
 
 pub follows_itself : (o : PlainOpening) (h : Kept) → opening_of h ≡ o → Follows o h
 follows_itself o h is = subst (λ (p : PlainOpening). Follows p h) is (goes_on_same h)
@@ -20,10 +40,32 @@ follows_on o mid new p q = record {
   watch = q.watch ∙ p.watch;
   more = p.more ++ q.more;
   items = q.items ∙ ap (λ xs. xs ++ q.more) p.items ∙ append_assoc o.items p.more q.more;
+  exchanges =
+      each_more o.program (λ r i. TellsSwaps r.world i) o.items p.more q.more p.exchanges
+      (subst (λ (x : List (PlainItem ℕ) × List Item). SwapsAreExchanges x.0 x.1 q.more) (λ i. (p.program i, p.items i)) q.exchanges);
 }
 
 pub goes_on_continues : (old new : Kept) → Continues old new → GoesOnFrom old new
-goes_on_continues old new c = record { program = c.program; budget = c.budget; watch = c.watch; more = c.more; items = c.items }
+goes_on_continues old new c = record { program = c.program; budget = c.budget; watch = c.watch; more = c.more; items = c.items; exchanges = c.exchanges }
+
+-- a hub that has taken a turn goes on
+pub follows_given : (o : PlainOpening) (old : Kept) (t : Tid) (new : Kept) → Follows o old → Given old t new → Follows o new
+follows_given o old t new p g =
+    follows_on o old new p record {
+      program = g.adds.program;
+      budget = g.budget;
+      watch = g.watch;
+      more = item.Turn t ∷ [];
+      items = g.adds.items;
+      exchanges = (if_there (stands (text_of old.course.program) old.course.items), tt);
+    }
+
+-- whatever came of a slice, the hub goes on
+pub follows_slice : (o : PlainOpening) (old : Kept) (ran : PlainRan) (r : Result (Unit {0}) GiveFault) (new : Kept) → Follows o old → TakesSlice old ran r new
+    → Follows o new
+follows_slice o old ran (Ok done) new p t = follows_given o old _ new p t.1
+follows_slice o old ran (Err (Stranger back)) new p t = subst (λ (h : Kept). Follows o h) (sym t.2) p
+follows_slice o old ran (Err (Memory back)) new p t = subst (λ (h : Kept). Follows o h) (sym t.2) p
 
 pub went_after : (o : PlainOpening) (hub mid new : Kept) → opening_of hub ≡ o → Follows o mid → GoesOnFrom mid new → GoesOnFrom hub new
 went_after o hub mid new is p q = subst (λ (x : PlainOpening). Follows x new) (sym is) (follows_on o mid new p q)
@@ -58,4 +100,21 @@ worked_over old new end c over = record {
   over_is = over.over_is;
   none_out = over.none_out;
   none_due = over.none_due;
+}
+
+-- nothing has happened
+pub extends_same : (h : Kept) → Extends h h
+extends_same h = record {
+  continues = record {
+    program = refl;
+    budget = refl;
+    watch = refl;
+    more = [];
+    items = sym (append-nil _);
+    in_time = tt;
+    exchanges = tt;
+    made = [];
+    reports = sym (append-nil _);
+  };
+  no_turn = λ k d below. absurd (omega arith);
 }

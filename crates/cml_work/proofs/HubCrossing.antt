@@ -29,7 +29,7 @@ use Rattle.cml_step.specs.contracts.machine.Machine as Machine
 use Rattle.cml_hub.specs.contracts.course.Course as Course
 use Rattle.cml_hub.specs.contracts.hub.Hub as Hub
 use Rattle.cml_stream.specs.contracts.counts.Counting as Counting
-use Rattle.cml_work.specs.contracts.shared.Locked as Locked
+use Rattle.cml_work.specs.contracts.locked.Locked as Locked
 use Rattle.cml_work.specs.contracts.shared.Shared as Shared
 use Rattle.cml_work.proofs.Crossing.{all_cross}
 

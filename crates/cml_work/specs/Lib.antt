@@ -1,2 +1,5 @@
-pub mod Works
+pub mod Desks
+pub mod Finds
+pub mod Held
 pub mod Seen
+pub mod Works

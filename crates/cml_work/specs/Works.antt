@@ -6,9 +6,9 @@ use Rattle.cml_schedule.specs.declared.item.Item.{Item}
 use Rattle.cml_hub.specs.Courses.{run_of}
 use Rattle.cml_hub.specs.Dones.{GoesOn}
 use Rattle.cml_hub.specs.Runs.{over}
-use Rattle.cml_hub.specs.Kept.{Kept, NoneOut, NoneDue}
-use Rattle.cml_work.specs.declared.shared.Found.{Found}
-use Rattle.cml_work.specs.declared.shared.Found.TheVariants as found
+use Rattle.cml_hub.specs.Kept.{Kept, NoneOut, NoneDue, SwapsAreExchanges}
+use Rattle.cml_work.specs.declared.locked.Found.{Found}
+use Rattle.cml_work.specs.declared.locked.Found.TheVariants as found
 use Rattle.cml_work.specs.declared.fault.WorkFault.{WorkFault}
 use Rattle.cml_work.specs.declared.fault.WorkFault.TheVariants.{Count, Memory, Start, Write, Foreign}
 
@@ -26,13 +26,15 @@ pub record PlainOpening : Type 0 where
 abbrev pub opening_of : Kept → PlainOpening
 opening_of h = record { program = h.course.program; budget = h.budget; watch = h.watch; items = h.course.items }
 
--- the hub is of this program, budget and watch, and its schedule begins with this one
+-- The hub is of this program, budget and watch, and its schedule begins with this one. After that a row of two swaps was taken as an
+-- exchange, and by no other item.
 pub record Follows (opening : PlainOpening) (h : Kept) : Type 0 where
   pub program : h.course.program ≡ opening.program
   pub budget : h.budget ≡ opening.budget
   pub watch : h.watch ≡ opening.watch
   pub more : List Item
   pub items : h.course.items ≡ opening.items ++ more
+  pub exchanges : SwapsAreExchanges opening.program opening.items more
 
 -- The hub goes on from the other. (That its schedule leads to where it stands, and that its reports are those of its schedule, holds of
 -- every hub.)

@@ -1,6 +1,6 @@
 //! Where a worker gets slices to run, and gives them back.
 
-ghost use Rattle.std.specs.Prelude.{◌≡◌, ℕ, List, IfOk, IfSome};
+ghost use Rattle.std.specs.Prelude.{◌≡◌, ℕ, List, IfOk, IfSome, IfNone, OnErr};
 ghost use Rattle.cml_check.specs.Syntax.{PlainItem};
 ghost use Rattle.cml_step.specs.Answers.{top_await, nothing};
 ghost use Rattle.cml_step.specs.Machines.{PlainMachine, machine_term, Fits};
@@ -14,14 +14,27 @@ use std::sync::Wait;
 
 /// What is told of each slice before it runs, by the worker that runs it, while it holds no lock.
 pub trait Gate {
+    /// Whether it was told that a slice of this thread begins.
+    ghost told: { Self → ℕ → Type 0 };
+
     /// A slice of this thread begins.
-    fn enter(&self, thread: Tid);
+    fn enter(&self, thread: Tid)
+        ensures { told self.now thread.0 };
 }
 
 /// Where workers get their jobs and give the slices back.
 pub trait Desk {
     /// Whether it may hand out a slice of this program that begins with this machine.
     ghost hands: { Self → List (PlainItem ℕ) → PlainMachine → Type 0 };
+
+    /// Whether it has said that there is nothing more to hand out.
+    ghost over: { Self → Type 0 };
+
+    /// Whether it was asked for a job and found no memory for it.
+    ghost lacks: { Self → Type 0 };
+
+    /// Whether it was stopped.
+    ghost stopped: { Self → Type 0 };
 
     /// The machine of a thread to run, with its program; `None` where nothing is left to do. It may wait.
     ///
@@ -30,7 +43,9 @@ pub trait Desk {
     fn next<R: Wait>(&self, rt: &R, alloc: Global) -> Result<Option<(Prog, Machine)>, AllocError>
         ensures fits { IfOk result (λ job. IfSome job (λ j. Fits j.0 j.1)) }
         ensures awaits { IfOk result (λ job. IfSome job (λ j. top_await (machine_term j.0 j.1) ≡ nothing)) }
-        ensures hands { IfOk result (λ job. IfSome job (λ j. hands self.now j.0 j.1)) };
+        ensures hands { IfOk result (λ job. IfSome job (λ j. hands self.now j.0 j.1)) }
+        ensures over { IfOk result (λ job. IfNone job (over self.now)) }
+        ensures lacks { OnErr result (lacks self.now) };
 
     /// Takes a slice back that it handed out. It may wait.
     ///
@@ -40,5 +55,6 @@ pub trait Desk {
         requires { hands self.now ran.program ran.start };
 
     /// From now on no job is handed out. It may wait.
-    fn stop<R: Wait>(&self, rt: &R);
+    fn stop<R: Wait>(&self, rt: &R)
+        ensures { stopped self.now };
 }

@@ -3,14 +3,18 @@
 
 mod desk;
 mod fault;
+mod locked;
+mod opening;
 mod shared;
+mod started;
 mod watching;
 mod workers;
 mod working;
 
 pub use desk::{Desk, Gate};
 pub use fault::{WatchFault, WorkFault};
-pub use shared::{Opening, Shared};
+pub use opening::Opening;
+pub use shared::Shared;
 pub use watching::watch;
 pub use workers::{run_watched, run_workers};
 pub use working::worker;

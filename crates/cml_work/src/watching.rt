@@ -7,7 +7,8 @@ ghost use Rattle.cml_work.specs.Seen.{texts_of, BreaksOff, failed_after};
 
 use crate::desk::Desk;
 use crate::fault::WatchFault;
-use crate::shared::{Opening, Shared};
+use crate::opening::Opening;
+use crate::shared::Shared;
 use cml_hub::Chooser;
 use cml_monitor::{Report, render};
 use cml_stream::Counting;

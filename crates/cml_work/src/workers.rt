@@ -1,6 +1,6 @@
 //! Runs of a hub with many workers.
 
-ghost use Rattle.std.specs.Prelude.{◌≡◌, ◌↔◌, IfOk, IfErr, OnErr, IsTrue};
+ghost use Rattle.std.specs.Prelude.{◌≡◌, ◌↔◌, true, Err, IfOk, IfErr, OnErr, IsTrue};
 ghost use Rattle.cml_hub.specs.Kept.{NoneOut};
 ghost use Rattle.cml_stream.specs.Streams.{stream, Takes};
 ghost use Rattle.cml_work.specs.Seen.{texts_of, BreaksOff, FaultWrites, failed_after, failed_after_all};
@@ -8,7 +8,9 @@ ghost use Rattle.cml_work.specs.Works.{Works, IsWorkerCount, IsWorked, GoesOnFro
 
 use crate::desk::Gate;
 use crate::fault::{WatchFault, WorkFault};
-use crate::shared::{Opening, Shared};
+use crate::opening::Opening;
+use crate::shared::Shared;
+use crate::started::Started;
 use crate::watching::watch;
 use crate::working::worker;
 use cml_hub::{Chooser, Hub};
@@ -31,14 +33,14 @@ fn is_count(workers: usize) -> bool
     (1..=MAX_WORKERS).contains(&workers)
 }
 
-// Runs the workers, each in a thread of its own. Returns how many were started, once all have ended.
+// Runs the workers, each in a thread of its own. Returns which were started, once all have ended.
 fn work_together<'x, R, O, C, G>(
     rt: &'x R,
     alloc: Global,
     shared: &'x Shared<O, C>,
     gate: &'x G,
     workers: usize,
-) -> usize
+) -> Started
 where
     R: Threads + Wait + Sync,
     O: Opening + Send + Sync,
@@ -46,10 +48,11 @@ where
     G: Gate + Sync,
 {
     thread::scope(thread::scope_env(), rt, |scope| {
-        let mut started = 0usize;
+        let mut started = Started::none();
         for _ in 0..workers {
-            if scope.spawn(move || worker(rt, alloc, shared, gate)).is_ok() {
-                started = started.saturating_add(1);
+            if let Ok(handle) = scope.spawn(move || worker(rt, alloc, shared, gate)) {
+                started.add(&handle);
+                drop(handle);
             }
         }
         started
@@ -119,6 +122,7 @@ fn end_alone<C: Chooser + Drop>(
 ) -> Result<Hub, Hub>
     ensures ok { IfOk result (λ new. IsWorked hub new) }
     ensures err { IfErr result (λ new. GoesOnFrom hub new) }
+    ensures stopped { is_stopped ≡ true → result ≡ Err hub }
 {
     if is_stopped {
         return Err(hub);
@@ -129,7 +133,8 @@ fn end_alone<C: Chooser + Drop>(
     }
 }
 
-// Runs the watcher in a thread of its own, beside the workers. Returns what the watcher saw, and how many workers were started.
+// Runs the watcher in a thread of its own, beside the workers; where none can be started for it, once the workers have ended. Returns what
+// the watcher saw, and which workers were started.
 fn watched<R, O, C, G, W>(
     rt: &R,
     alloc: Global,
@@ -137,7 +142,7 @@ fn watched<R, O, C, G, W>(
     gate: &G,
     workers: usize,
     writer: &mut Counting<'_, W>,
-) -> (Result<Vec<Report>, WatchFault>, usize)
+) -> (Result<Vec<Report>, WatchFault>, Started)
 where
     R: Threads + Wait + Sync,
     O: Opening + Send + Sync,
@@ -252,7 +257,7 @@ where
         Err(WatchFault::Write) => Err(WorkFault::Write(hub)),
         Err(WatchFault::Memory) => Err(WorkFault::Memory(hub)),
         Ok(seen) => {
-            if started == 0 && hub.schedule().len() == before {
+            if started.is_none() && hub.schedule().len() == before {
                 drop(seen);
                 drop(chooser);
                 return Err(WorkFault::Start(hub));

@@ -1,8 +1,9 @@
 //! One worker.
 
-ghost use Rattle.std.specs.Prelude.{◌≡◌, IfOk};
+ghost use Rattle.std.specs.Prelude.{◌≡◌, IfOk, OnOk, OnErr};
 ghost use Rattle.cml_step.specs.Answers.{top_await, nothing};
 ghost use Rattle.cml_step.specs.Machines.{machine_term, Fits};
+ghost use Rattle.cml_work.specs.Desks.{WantedMemory};
 
 use crate::desk::{Desk, Gate};
 use cml_check::Prog;
@@ -35,19 +36,22 @@ fn settled(given: Result<(), GiveFault>) -> Result<(), AllocError> {
     if is_refused { Err(AllocError) } else { Ok(()) }
 }
 
-// Runs one slice and gives it back.
+// Runs one slice, of which the gate was told, and gives it back.
 #[tactic(none)]
-fn work_once<R: Wait, D: Desk>(
+fn work_once<R: Wait, D: Desk, G: Gate>(
     rt: &R,
     alloc: Global,
     desk: &D,
+    gate: &G,
     program: Prog,
     machine: Machine,
 ) -> Result<(), AllocError>
     requires fits { Fits program machine }
     requires awaits { top_await (machine_term program machine) ≡ nothing }
     requires hands { D.hands desk.now program machine }
+    requires told { G.told gate.now machine.thread }
 {
+    let _ = gate;
     let answer = run(alloc, &program, machine);
     drop(program);
     let ran = answer?;
@@ -55,37 +59,45 @@ fn work_once<R: Wait, D: Desk>(
 }
 
 // Runs slices, one after another, until none is left.
-#[tactic(none)]
 fn work_on<R: Wait, D: Desk, G: Gate>(
     rt: &R,
     alloc: Global,
     desk: &D,
     gate: &G,
-) -> Result<(), AllocError> {
+) -> Result<(), AllocError>
+    ensures ok { OnOk result (D.over desk.now) }
+    ensures err { OnErr result (WantedMemory (D.lacks desk.now) (D.hands desk.now)) }
+{
     for _ in rt.forever() {
         let Some((program, machine)) = desk.next(rt, alloc)? else {
-            break;
+            return Ok(());
         };
         gate.enter(machine.thread());
-        work_once(rt, alloc, desk, program, machine)?;
+        work_once(rt, alloc, desk, gate, program, machine)?;
     }
-    Ok(())
+    unreachable!()
 }
 
-/// Runs slices, one after another, until none is left. It gives back only slices of what it was handed. A slice that is a stranger when it
-/// comes back is dropped.
+/// Runs slices, one after another, until the desk says that there is nothing more. It tells the gate before each, and gives back only slices
+/// of what it was handed. A slice that is a stranger when it comes back is dropped.
 ///
 /// # Errors
-/// Out of memory. The desk is stopped then.
+/// Out of memory: for a job, or after one was handed out. The desk is stopped then.
 pub fn worker<R: Wait, D: Desk, G: Gate>(
     rt: &R,
     alloc: Global,
     desk: &D,
     gate: &G,
-) -> Result<(), AllocError> {
-    let answer = work_on(rt, alloc, desk, gate);
-    if answer.is_err() {
-        desk.stop(rt);
+) -> Result<(), AllocError>
+    ensures ok { OnOk result (D.over desk.now) }
+    ensures err { OnErr result (WantedMemory (D.lacks desk.now) (D.hands desk.now)) }
+    ensures stopped { OnErr result (D.stopped desk.now) }
+{
+    match work_on(rt, alloc, desk, gate) {
+        Ok(()) => Ok(()),
+        Err(error) => {
+            desk.stop(rt);
+            Err(error)
+        }
     }
-    answer
 }

@@ -25,6 +25,15 @@ struct Bench {
     entered: [AtomicU64; 3],
     given: [AtomicU64; 3],
     stopped: AtomicU64,
+    refuses: Refuses,
+}
+
+// How a desk refuses each slice that comes back, if it does.
+#[derive(Clone, Copy, PartialEq, Eq)]
+enum Refuses {
+    Nothing,
+    Strangers,
+    ForMemory,
 }
 
 // The machine of the thread before `main`.
@@ -52,6 +61,8 @@ fn note(moment: &AtomicU64, places: &[AtomicU64; 3], thread: Tid) {
 }
 
 impl Gate for Bench {
+    ghost told = { λ gate thread. Unit {0} };
+
     fn enter(&self, thread: Tid) {
         note(&self.moment, &self.entered, thread);
     }
@@ -59,6 +70,12 @@ impl Gate for Bench {
 
 impl Desk for Bench {
     ghost hands = { λ bench program machine. program ≡ bench.program };
+
+    ghost over = { λ bench. Unit {0} };
+
+    ghost lacks = { λ bench. Unit {0} };
+
+    ghost stopped = { λ bench. Unit {0} };
 
     fn next<R: Wait>(&self, _rt: &R, alloc: Global) -> Result<Option<(Prog, Machine)>, AllocError> {
         let thread = self.handed.fetch_add(1, Ordering::SeqCst);
@@ -76,6 +93,11 @@ impl Desk for Bench {
     }
 
     fn give<R: Wait>(&self, _rt: &R, alloc: Global, ran: Ran) -> Result<(), GiveFault> {
+        match self.refuses {
+            Refuses::Nothing => {}
+            Refuses::Strangers => return Err(GiveFault::Stranger(ran)),
+            Refuses::ForMemory => return Err(GiveFault::Memory(ran)),
+        }
         let thread = ran.start().thread();
         let Ok(start) = before_main(alloc, &self.program, thread) else {
             return Err(GiveFault::Memory(ran));
@@ -93,16 +115,45 @@ impl Desk for Bench {
     }
 }
 
-#[test]
-fn a_worker_runs_what_it_is_handed(rt: HostRuntime) {
-    let bench = Bench {
-        program: program_of(&rt, "(fn main () (let c (chan)) (print 1))"),
+// A desk that has handed out nothing yet.
+fn bench_that(rt: &(impl Abort + AllocGlobal), refuses: Refuses) -> Bench {
+    Bench {
+        program: program_of(rt, "(fn main () (let c (chan)) (print 1))"),
         handed: AtomicU64::new(0),
         moment: AtomicU64::new(1),
         entered: [AtomicU64::new(0), AtomicU64::new(0), AtomicU64::new(0)],
         given: [AtomicU64::new(0), AtomicU64::new(0), AtomicU64::new(0)],
         stopped: AtomicU64::new(0),
-    };
+        refuses,
+    }
+}
+
+#[test]
+fn a_stranger_is_dropped_and_the_worker_goes_on(rt: HostRuntime) {
+    let bench = bench_that(&rt, Refuses::Strangers);
+    worker(&rt, rt.alloc(), &bench, &bench).expect(&rt, MEMORY);
+    assert!(rt;
+        bench.handed.load(Ordering::SeqCst) == 4,
+        "all were handed out"
+    );
+    assert!(rt; bench.stopped.load(Ordering::SeqCst) == 0, "not stopped");
+}
+
+#[test]
+fn a_worker_stops_the_desk_where_memory_is_lost(rt: HostRuntime) {
+    let bench = bench_that(&rt, Refuses::ForMemory);
+    let answer = worker(&rt, rt.alloc(), &bench, &bench);
+    assert!(rt; answer.is_err(), "memory was lost");
+    assert!(rt;
+        bench.handed.load(Ordering::SeqCst) == 1,
+        "no more was asked"
+    );
+    assert!(rt; bench.stopped.load(Ordering::SeqCst) == 1, "stopped");
+}
+
+#[test]
+fn a_worker_runs_what_it_is_handed(rt: HostRuntime) {
+    let bench = bench_that(&rt, Refuses::Nothing);
     worker(&rt, rt.alloc(), &bench, &bench).expect(&rt, MEMORY);
     assert!(rt;
         bench.handed.load(Ordering::SeqCst) == 4,

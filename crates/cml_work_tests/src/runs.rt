@@ -51,6 +51,8 @@ const SCRIPTS: [(&str, End); 5] = [
 struct Open;
 
 impl Gate for Open {
+    ghost told = { λ gate thread. Unit {0} };
+
     fn enter(&self, _thread: Tid) {}
 }
 
@@ -63,6 +65,8 @@ struct Meeting {
 }
 
 impl Gate for Meeting {
+    ghost told = { λ gate thread. Unit {0} };
+
     fn enter(&self, thread: Tid) {
         let own = if thread.0 == 0 { 0 } else { 1 };
         let before = self.entered[own].fetch_add(1, Ordering::SeqCst);
@@ -77,6 +81,51 @@ impl Gate for Meeting {
             }
             thread::sleep(&self.rt, Duration::from_millis(1));
         }
+    }
+}
+
+// Each slice but the first two waits until something was written, for ten seconds at most; where one has waited in vain no other does.
+#[derive(Drop)]
+struct Patient {
+    rt: HostRuntime,
+    entered: AtomicU64,
+    writes: AtomicU64,
+    missed: AtomicU64,
+}
+
+impl Gate for Patient {
+    ghost told = { λ gate thread. Unit {0} };
+
+    fn enter(&self, _thread: Tid) {
+        if self.entered.fetch_add(1, Ordering::SeqCst) < 2
+            || self.missed.load(Ordering::SeqCst) > 0
+        {
+            return;
+        }
+        for _ in 0..10_000 {
+            if self.writes.load(Ordering::SeqCst) > 0 {
+                return;
+            }
+            thread::sleep(&self.rt, Duration::from_millis(1));
+        }
+        self.missed.fetch_add(1, Ordering::SeqCst);
+    }
+}
+
+// A writer that tells the gate of each write.
+#[derive(Drop)]
+struct Telling<'a> {
+    gate: &'a Patient,
+}
+
+impl Write for Telling<'_> {
+    fn write(&mut self, buf: &[u8]) -> IoResult<usize> {
+        self.gate.writes.fetch_add(1, Ordering::SeqCst);
+        Ok(buf.len())
+    }
+
+    fn flush(&mut self) -> IoResult<()> {
+        Ok(())
     }
 }
 
@@ -290,6 +339,35 @@ fn reports_are_written_beside_four_workers(rt: HostRuntime) {
         }
         drop(written);
     }
+}
+
+#[test]
+fn a_report_is_written_before_the_workers_go_on(rt: HostRuntime) {
+    let gate = Patient {
+        rt,
+        entered: AtomicU64::new(0),
+        writes: AtomicU64::new(0),
+        missed: AtomicU64::new(0),
+    };
+    let hub = begun(&rt, SPIN, 20, Some(1));
+    let mut telling = Telling { gate: &gate };
+    let mut writer = Counting::new(&mut telling);
+    match run_watched(&rt, rt.alloc(), hub, 2, First, &gate, &mut writer) {
+        Ok((hub, seen)) => {
+            has_ended(&rt, &hub, End::Budget);
+            drop(hub);
+            drop(seen);
+        }
+        Err(_) => rt.panic("a fault"),
+    }
+    assert!(rt;
+        gate.entered.load(Ordering::SeqCst) > 2,
+        "a slice that waits"
+    );
+    assert!(rt;
+        gate.missed.load(Ordering::SeqCst) == 0,
+        "a report was written before it"
+    );
 }
 
 #[test]

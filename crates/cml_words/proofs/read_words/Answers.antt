@@ -2,8 +2,8 @@ use Rattle.std.proofs.Common.{◌∙◌, ap, map, subst, IsSomeAnd}
 use Rattle.std.specs.String.{string_bytes}
 use Rattle.std.proofs.lemmas.Result.{IfOk-weaker}
 use Rattle.clap.specs.Words.{kind_of}
-use Rattle.cml_words.specs.Words.{commands, is_complete, Names}
-use Rattle.cml_words.proofs.Answers.{among_faults, named_by, no_fault, IsAnswer-error}
+use Rattle.cml_words.specs.Words.{commands, is_complete, IsTask, Names}
+use Rattle.cml_words.proofs.Answers.{among_faults, named_by, no_fault, IsAnswer-error, IsAnswer-task}
 use Rattle.cml_words.proofs.Entered.{commands_complete}
 use Rattle.cml_words.proofs.read_words.Goals as goal
 
@@ -16,10 +16,10 @@ task_of-requires c =
 pub returns-in-Ok : goal.returns-in-Ok
 returns-in-Ok c =
     let app = c.in_ok-command.ensures in
-    let words = map string_bytes c.args.words.now in (
-      no_fault _ words app c.in-Ok.ensures.kinds,
-      subst (λ found. IsSomeAnd found (λ named. Names named c.task_of.result)) (named_by _ words c.in-Ok.matches app c.in-Ok.ensures.matches) c.task_of.ensures,
-    )
+    let words = map string_bytes c.args.words.now in
+    let named = subst (λ found. IsSomeAnd found (λ named. Names named c.task_of.result)) (named_by _ words c.in-Ok.matches app c.in-Ok.ensures.matches) c.task_of.ensures in
+    let is : IsTask words c.task_of.result = (no_fault _ words app c.in-Ok.ensures.kinds, named) in
+    IfOk-weaker c.answer_to_task.result _ _ (λ a says. IsAnswer-task words c.task_of.result a is says) c.answer_to_task.ensures
 
 pub returns-in-Err : goal.returns-in-Err
 returns-in-Err c =

@@ -2,7 +2,7 @@ use Rattle.std.proofs.Common.{rules, inl, inr}
 use Rattle.std.proofs.lemmas.Result.{IfOk-weaker, IfErr-weaker}
 use Rattle.cml_hub.specs.Courses.{run_of}
 use Rattle.cml_host.specs.Told.{whole_output}
-use Rattle.cml_host.proofs.TellLemmas.{reports_broke, cut_behind, told_behind, not_told_behind}
+use Rattle.cml_host.proofs.TellLemmas.{reports_broke, told_behind, not_told_behind}
 use Rattle.cml_stream.specs.Streams.{counted_stream}
 use Rattle.cml_host.proofs.tell.tell.Goals as goal
 
@@ -37,32 +37,18 @@ returns-in-Ok-clause-not_told g c =
     c.tell_output.ensures.not_told
     )
 
-pub returns-in-Err-Write-clause-not_told : goal.returns-in-Err-Write-clause-not_told
-returns-in-Err-Write-clause-not_told g c =
+pub returns-in-Err-clause-not_told : goal.returns-in-Err-clause-not_told
+returns-in-Err-clause-not_told g c =
     let a = g.E.Write.contents c.args.err.now.stream.now in
     let b = g.E.Write.contents c.send_reports.new.err.stream.now in
     let d = g.E.Write.contents c.refuse_reports.new.err.stream.now in
-    let sent = rw c.in-Err-Write.field-0-is at c.in-Err-Write.ensures.sent in
     rw (← c.reports.ensures.reports) (
     inr (
     inl (
     reports_broke a b d c.reports.result.now
     (counted_stream (g.O.Write.contents c.args.out.now.stream.now) (g.O.Write.contents c.args.out.now.stream.now) c.args.out.now.calls c.args.out.now.failed)
     c.refuse_reports.new.err.calls c.refuse_reports.new.err.failed c.refuse_reports.result
-    sent.0 c.refuse_reports.ensures.said (search rules, c.requires.fresh.0, c.requires.fresh.1) c.refuse_reports.ensures.status
+    c.in-Err.ensures.sent.0 c.refuse_reports.ensures.said (search rules, c.requires.fresh.0, c.requires.fresh.1) c.refuse_reports.ensures.status
     )
-    )
-    )
-
-pub returns-in-Err-Memory-clause-not_told : goal.returns-in-Err-Memory-clause-not_told
-returns-in-Err-Memory-clause-not_told g c =
-    let a = g.E.Write.contents c.args.err.now.stream.now in
-    let b = g.E.Write.contents c.send_reports.new.err.stream.now in
-    let d = g.E.Write.contents c.cut_output.new.err.stream.now in
-    let sent = rw c.in-Err-Memory.field-0-is at c.in-Err-Memory.ensures.sent in
-    inr (
-    rw (← c.reports.ensures.reports, ← c.out.ensures) (
-    cut_behind a b d c.reports.result.now sent.0 c.out.result.now _ c.cut_output.new.err.calls c.cut_output.new.err.failed c.cut_output.result
-    sent.1 c.cut_output.ensures.told
     )
     )

@@ -9,7 +9,7 @@ use Rattle.cml_book.proofs.state.State.push_left_ticks.Goals as goal
 pub push_left_tick-requires : goal.push_left_tick-requires
 push_left_tick-requires c =
     let fits = c.loop-n.invariant.fits in
-    let all = c.len-n-end.ensures.len in
+    let all = c.len-n-end.ensures in
     let below = c.loop-n-test.true in
     omega arith
 
@@ -17,7 +17,7 @@ pub loop-n-preserved : goal.loop-n-preserved
 loop-n-preserved c =
     let p = is_left (bases_awaited (pending c.args.self.now)) (bases c.args.flat.now) (bases_of c.args.other) in
     let fits = c.loop-n.invariant.fits in
-    let all = c.len-n-end.ensures.len in
+    let all = c.len-n-end.ensures in
     let below = c.loop-n-test.true in
     let longer = left_longer p c.leaf.result.now c.loop-n.lights.items c.push_left_tick.new.lights.items c.push_left_tick.ensures.lights in
     let same = c.push_left_tick.ensures.room in

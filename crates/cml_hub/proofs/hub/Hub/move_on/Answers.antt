@@ -1,9 +1,9 @@
 use Rattle.std.proofs.Common.{◌≡◌, true, false, not, refl, sym, ap, ◌∙◌}
 use Rattle.cml_schedule.specs.declared.item.Item.TheVariants.{Clock}
 use Rattle.cml_hub.specs.Runs.{any_runs, terminal}
-use Rattle.cml_hub.specs.Kept.{IsNoTurn}
+use Rattle.cml_hub.specs.Kept.{IsNoTurn, TellsSwaps}
 use Rattle.cml_hub.proofs.Marking.{placed_any}
-use Rattle.cml_hub.proofs.Onward.{none_runs, some_runs, tick_allowed, terminal_is}
+use Rattle.cml_hub.proofs.Onward.{none_runs, some_runs, swap_allowed, tick_allowed, terminal_is}
 use Rattle.cml_hub.proofs.hub.Hub.move_on.Goals.{then-swaps, else-swaps}
 use Rattle.cml_hub.proofs.hub.Hub.move_on.Goals as goal
 
@@ -14,7 +14,8 @@ meet-requires-clause-takes g c =
 pub meet-requires-clause-allowed : goal.meet-requires-clause-allowed
 meet-requires-clause-allowed g c =
     elim c.if-swaps.branch [
-      | then-swaps w ↦ rw (← c.self.view_is, w.item-is) (sym c.swaps.ensures ∙ w.if-swaps.true)
+      | then-swaps w ↦ rw (← c.self.view_is)
+          (swap_allowed c.self.inside.course.world c.if-swaps.item c.in-Some.row (rw (w.item-is) refl) c.in-Some.ensures (sym c.swaps.ensures ∙ w.if-swaps.true))
       | else-swaps w ↦ rw (← c.self.view_is, w.item-is) c.in-Some.ensures
     ]
 
@@ -25,7 +26,12 @@ meet-requires-clause-due g c =
 pub returns-in-Some-clause-ok : goal.returns-in-Some-clause-ok
 returns-in-Some-clause-ok g c =
     let no_turn : IsNoTurn c.if-swaps.item = elim c.if-swaps.branch [ then-swaps w ↦ rw (w.item-is) tt | else-swaps w ↦ rw (w.item-is) tt ] in
-    (c.if-swaps.item, no_turn, c.in_ok-meet.ensures.moves, c.meet.ensures.out)
+    let tells : TellsSwaps c.args.self.now.course.world c.if-swaps.item =
+    elim c.if-swaps.branch [
+      | then-swaps w ↦ rw (w.item-is) tt
+      | else-swaps w ↦ rw (← c.self.view_is, w.item-is) (sym c.swaps.ensures ∙ w.if-swaps.false)
+    ] in
+    (c.if-swaps.item, no_turn, tells, c.in_ok-meet.ensures.moves, c.meet.ensures.out)
 
 pub returns-then-not-is_idle-clause-ok : goal.returns-then-not-is_idle-clause-ok
 returns-then-not-is_idle-clause-ok g c =
@@ -58,4 +64,4 @@ unreachable-requires g c =
 
 pub returns-clause-ok : goal.returns-clause-ok
 returns-clause-ok g c =
-    (Clock c.in-Some-next_alarm.tick, tt, c.in_ok-tick-in-Some-next_alarm.ensures.moves, c.tick.ensures.out)
+    (Clock c.in-Some-next_alarm.tick, tt, tt, c.in_ok-tick-in-Some-next_alarm.ensures.moves, c.tick.ensures.out)

@@ -1,5 +1,6 @@
-use Rattle.std.proofs.Common.{sym}
-use Rattle.cml_hub.proofs.Going.{alone_continues, continues_self, continues_called, continues_more, continues_reported, still_continues, none_out_reported}
+use Rattle.std.proofs.Common.{inl, inr, sym}
+use Rattle.cml_hub.proofs.Going.{alone_continues, continues_self, continues_called, continues_more, continues_reported, still_continues, none_out_reported, none_out_same}
+use Rattle.cml_hub.proofs.Onward.{on_err}
 use Rattle.cml_hub.proofs.hub.Hub.run_alone.Goals as goal
 
 pub returns-in_err-call_back-clause-more : goal.returns-in_err-call_back-clause-more
@@ -43,3 +44,19 @@ returns-in_err-report-2-clause-more g c =
     let b = c.go_alone.new.self in
     let d = c.report-in-turns.new.self in
     still_continues h b d (alone_continues h a b c.turns.invariant.more (record { leads = c.turns-test.ensures.leads; going = sym c.turns-test.ensures.over }) c.in_ok-go_alone.ensures.ok) c.in_err-report-2.ensures.err
+
+pub returns-in_err-call_back-clause-err : goal.returns-in_err-call_back-clause-err
+returns-in_err-call_back-clause-err g c = on_err c.from_residual.result (inr c.in_err-call_back.ensures.err)
+
+pub returns-in_err-report-clause-err : goal.returns-in_err-report-clause-err
+returns-in_err-report-clause-err g c =
+    on_err c.from_residual-in_err-report.result (inl (none_out_same c.call_back.new.self c.report.new.self c.in_ok-call_back.ensures.ok.none_out c.in_err-report.ensures.err))
+
+pub returns-in_err-go_alone-clause-err : goal.returns-in_err-go_alone-clause-err
+returns-in_err-go_alone-clause-err g c =
+    on_err c.from_residual-in_err-go_alone.result (inl (none_out_same c.turns.self c.go_alone.new.self c.turns.invariant.none_out c.in_err-go_alone.ensures.err))
+
+pub returns-in_err-report-2-clause-err : goal.returns-in_err-report-2-clause-err
+returns-in_err-report-2-clause-err g c =
+    on_err c.from_residual-in_err-report-2.result
+    (inl (none_out_same c.go_alone.new.self c.report-in-turns.new.self c.in_ok-go_alone.ensures.ok.none_out c.in_err-report-2.ensures.err))

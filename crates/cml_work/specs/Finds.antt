@@ -1,0 +1,42 @@
+-- What is found under the lock.
+use Rattle.std.specs.Prelude.{◌≡◌, ℕ, ◌≤◌, Bool, true, false, nat_lt, length, Some, Result, Ok, Err, slice_get}
+use Rattle.cml_hub.specs.Courses.{run_of}
+use Rattle.cml_hub.specs.Runs.{over}
+use Rattle.cml_hub.specs.Kept.{Kept, Extends, HandsOut, NoneDue}
+use Rattle.cml_hub.specs.declared.fault.Next.TheVariants as next
+use Rattle.cml_work.specs.Held.{Held}
+use Rattle.cml_work.specs.declared.locked.Found.{Found}
+use Rattle.cml_work.specs.declared.locked.Found.TheVariants as found
+use Rattle.cml_work.specs.declared.locked.Told.{Told}
+use Rattle.cml_work.specs.declared.locked.Told.TheVariants as told
+
+-- the run of the hub is over: nothing is left to do, or the budget is used
+abbrev pub is_over : Kept → Bool
+is_over h = over h.budget (run_of h.course)
+
+-- What the hub's `take` answered: the job that it handed out, with the hub's program; to wait, and whether a report was made; or nothing
+-- more, exactly where the run is over.
+abbrev pub TakesJob : Kept → Found → Kept → Type 0
+TakesJob old (found.Job p m) new = (p ≡ old.course.program) × HandsOut old (next.Job m) new × (is_over new ≡ false)
+TakesJob old (found.Wait more) new = HandsOut old next.Wait new × (is_over new ≡ false) × (more ≡ nat_lt (length old.reports) (length new.reports))
+TakesJob old found.Over new = HandsOut old next.Ended new × (is_over new ≡ true)
+
+-- the hub's `take` was called once; or memory ran out before it, or in it
+abbrev pub TakesOnce : {E : Type 0} → Kept → Result Found E → Kept → Type 0
+TakesOnce old (Ok f) new = Extends old new × TakesJob old f new × NoneDue new
+TakesOnce old (Err e) new = Extends old new × (new.out ≡ old.out)
+
+-- where the workers are to stop nothing is handed out, and nothing changes
+abbrev pub FindsNothing : {E : Type 0} → Kept → Result Found E → Kept → Type 0
+FindsNothing old r new = (r ≡ Ok found.Over) × (new ≡ old)
+
+-- whether the workers are to stop, and whether they all have ended, is as before
+abbrev pub HaveOneState : Held → Held → Type 0
+HaveOneState old new = (new.is_stopped ≡ old.is_stopped) × (new.is_done ≡ old.is_done)
+
+-- What the watcher is told of the report of this number: the hub's own; or that the hub has none of that number, and whether the workers
+-- have ended.
+abbrev pub TellsReport : Held → ℕ → Told → Type 0
+TellsReport held n (told.Report r) = slice_get held.hub.reports n ≡ Some r
+TellsReport held n told.Wait = (length held.hub.reports ≤ n) × (held.is_done ≡ false)
+TellsReport held n told.Over = (length held.hub.reports ≤ n) × (held.is_done ≡ true)

@@ -1,0 +1,167 @@
+//! What lies under the lock.
+
+ghost use Rattle.std.specs.Prelude.{◌≡◌, IfOk, true, false};
+ghost use Rattle.cml_hub.specs.Kept.{TakesSlice};
+ghost use Rattle.cml_work.specs.Finds.{TakesOnce, FindsNothing, HaveOneState, TellsReport};
+ghost use Rattle.cml_work.specs.Works.{Follows, GoesOnFrom, IsJob, opening_of};
+
+use crate::opening::Opening;
+use cml_check::Prog;
+use cml_hub::{Chooser, GiveFault, Hub, Next};
+use cml_monitor::Report;
+use cml_step::{Machine, Ran};
+use std::alloc::{AllocError, Global};
+use std::marker::{Model, PhantomData};
+
+// What lies under the lock: a hub that goes on from the opening, who chooses, whether the workers are to stop, and whether they all have
+// ended.
+#[derive(Drop)]
+pub(crate) struct Locked<O: Opening, C: Chooser + Drop> {
+    hub: Hub,
+    chooser: C,
+    is_stopped: bool,
+    is_done: bool,
+    of: PhantomData<O>,
+}
+
+impl<O: Opening, C: Chooser + Drop> Model for Locked<O, C> {
+    ghost use Rattle.cml_work.specs.Held.{Held, locked_code};
+    ghost use Rattle.cml_work.specs.Works.{Follows};
+
+    ghost Value = { Held };
+
+    ghost coded = { locked_code };
+
+    ghost view = { λ l. record { hub = l.hub; is_stopped = l.is_stopped; is_done = l.is_done } };
+
+    ghost invariant = { λ l. Follows O.opening l.hub };
+}
+
+// What a worker finds under the lock.
+#[derive(Drop)]
+pub(crate) enum Found {
+    // A slice to run, of a thread of this program.
+    Job(Prog, Machine),
+    // Nothing until a slice comes back; and whether a report was made.
+    Wait(bool),
+    // Nothing more.
+    Over,
+}
+
+// What the watcher finds under the lock.
+#[derive(Drop)]
+pub(crate) enum Told {
+    // The report for which it asked.
+    Report(Report),
+    // That one is not made yet.
+    Wait,
+    // The workers have ended without it.
+    Over,
+}
+
+// What there is to do. The copy of the program is made first, so that no job is lost where there is no memory for it.
+fn take_job<C: Chooser>(alloc: Global, hub: &mut Hub, chooser: &mut C) -> Result<Found, AllocError>
+    ensures job { IfOk result (λ found. IsJob hub.old.course.program found) }
+    ensures takes { TakesOnce hub.old result hub.new }
+    ensures goes_on { GoesOnFrom hub.old hub.new }
+{
+    let seen = hub.reports().len();
+    let program = hub.program().copy()?;
+    match hub.take(alloc, chooser) {
+        Ok(Next::Job(machine)) => Ok(Found::Job(program, machine)),
+        Ok(Next::Wait) => {
+            drop(program);
+            Ok(Found::Wait(seen < hub.reports().len()))
+        }
+        Ok(Next::Ended) => {
+            drop(program);
+            Ok(Found::Over)
+        }
+        Err(error) => {
+            drop(program);
+            Err(error)
+        }
+    }
+}
+
+impl<O: Opening, C: Chooser + Drop> Locked<O, C> {
+    // The hub with the chooser; the workers run.
+    pub(crate) fn new(hub: Hub, chooser: C) -> Locked<O, C>
+        requires { opening_of hub ≡ O.opening }
+        ensures { result ≡ record { hub = hub; is_stopped = false; is_done = false } }
+    {
+        Locked {
+            hub,
+            chooser,
+            is_stopped: false,
+            is_done: false,
+            of: PhantomData,
+        }
+    }
+
+    // The hub, the chooser, and whether the workers were stopped.
+    pub(crate) fn into_parts(self) -> (Hub, C, bool)
+        ensures follows { Follows O.opening result.0 }
+        ensures hub { result.0 ≡ self.hub }
+        ensures stopped { result.2 ≡ self.is_stopped }
+    {
+        let Locked {
+            hub,
+            chooser,
+            is_stopped,
+            is_done: _,
+            of: _,
+        } = self;
+        (hub, chooser, is_stopped)
+    }
+
+    // What there is to do, unless the workers are to stop: what the hub's `take` hands out.
+    pub(crate) fn find(&mut self, alloc: Global) -> Result<Found, AllocError>
+        ensures job { IfOk result (λ found. IsJob O.opening.program found) }
+        ensures flags { HaveOneState self.old self.new }
+        ensures stopped { self.old.is_stopped ≡ true → FindsNothing self.old.hub result self.new.hub }
+        ensures finds { self.old.is_stopped ≡ false → TakesOnce self.old.hub result self.new.hub }
+    {
+        if self.is_stopped {
+            return Ok(Found::Over);
+        }
+        take_job(alloc, &mut self.hub, &mut self.chooser)
+    }
+
+    // A slice of the program comes back: the hub's `give`. The program is not compared.
+    pub(crate) fn give(&mut self, alloc: Global, ran: Ran) -> Result<(), GiveFault>
+        requires { ran.program ≡ O.opening.program }
+        ensures hub { TakesSlice self.old.hub ran result self.new.hub }
+        ensures flags { HaveOneState self.old self.new }
+    {
+        self.hub.give_own(alloc, ran)
+    }
+
+    // The workers are to stop.
+    pub(crate) fn stop(&mut self)
+        ensures { self.new ≡ record self.old { is_stopped = true } }
+    {
+        self.is_stopped = true;
+    }
+
+    // All workers have ended.
+    pub(crate) fn close(&mut self)
+        ensures { self.new ≡ record self.old { is_done = true } }
+    {
+        self.is_done = true;
+    }
+
+    // A copy of the report of this number, from 0, if it is made, whether the workers go on or not.
+    pub(crate) fn report(&self, number: usize) -> Result<Told, AllocError>
+        ensures { IfOk result (λ told. TellsReport self.now number told) }
+    {
+        if let Some(report) = self.hub.reports().get(number) {
+            return Ok(Told::Report(report.copy()?));
+        }
+        if self.is_done {
+            Ok(Told::Over)
+        } else {
+            Ok(Told::Wait)
+        }
+    }
+}
