@@ -1,5 +1,5 @@
 -- A stack and its term.
-use Rattle.std.proofs.Common.{◌≡◌, ℕ, zero, suc, ◌+◌, ◌<◌, true, List, [], ◌∷◌, ◌++◌, length, map, refl, ap, sym, ◌∙◌, subst, arith, get_or, Option, Some, None, slice_get, reverse}
+use Rattle.std.proofs.Common.{◌≡◌, ℕ, zero, suc, ◌+◌, ◌<◌, true, List, [], ◌∷◌, ◌++◌, length, map, refl, ap, sym, ◌∙◌, subst, arith, get_or, Option, Some, None, Result, Err, slice_get, reverse}
 use Rattle.std.proofs.lemmas.List.{reverse-append}
 use Rattle.std.specs.Option.{option_map}
 use Rattle.std.proofs.lemmas.Bool.{and_parts, and_from}
@@ -17,10 +17,10 @@ use Rattle.cml_step.specs.Agrees.{function_agrees, values_count}
 use Rattle.cml_step.specs.Calls.{WaitFits}
 use Rattle.cml_check.specs.Names.{AreDistinct}
 use Rattle.cml_step.specs.Agrees.{value_agrees, all_agree}
-use Rattle.cml_step.specs.Steps.{filled, delivered, goes_on, next, wraps_step, pushed}
+use Rattle.cml_step.specs.Steps.{PlainStep, filled, delivered, goes_on, asks, next, wraps_step, pushed}
 use Rattle.cml_step.specs.Terms.{runs}
 use Rattle.cml_step.specs.Forced.{with_argument}
-use Rattle.cml_step.specs.Calls.{entry_for, slots_with}
+use Rattle.cml_step.specs.Calls.{entry_for, slots_with, MovesTo}
 use Rattle.cml_step.proofs.CallLemmas.{filled_is, agree_filled, wait_room}
 use Rattle.cml_step.proofs.AgreeLemmas.{all_values}
 use Rattle.cml_step.proofs.ForceLemmas.{list_values}
@@ -28,12 +28,16 @@ use Rattle.cml_step.specs.declared.call.Action.{Action}
 use Rattle.cml_step.specs.declared.call.Action.TheVariants as did
 use Rattle.cml_step.specs.declared.entry.Wraps.{Wraps}
 use Rattle.cml_step.specs.declared.entry.Entry.TheVariants as entry
-use Rattle.cml_step.specs.Terms.{Program, call, wraps, Term, list_of, started, call_of}
+use Rattle.cml_step.specs.Terms.{Program, StackEntry, call, wraps, Term, list_of, started, call_of}
 use Rattle.cml_step.specs.Agrees.{functions_agree}
 use Rattle.cml_step.specs.Machines.{PlainHeld, plain_held, held_entry, held_on, HeldFits, HeldFitsBeneath, name_count}
 use Rattle.cml_step.specs.declared.entry.Entry.{Entry}
 use Rattle.cml_step.specs.Shared.{topped, called}
-use Rattle.cml_step.specs.Stacks.{CallFits, WrapsFit, term_of, EachBeneath, StackFits, StandsAfter}
+use Rattle.cml_step.specs.Stacks.{CallFits, WrapsFit, term_of, EachBeneath, StackFits, IsStep, IsDelivered, StandsAfter}
+use Rattle.cml_step.specs.Asks.{PlainAsk}
+use Rattle.cml_step.specs.declared.ask.Ask.{Ask}
+use Rattle.cml_step.specs.declared.fault.Stop.{Stop}
+use Rattle.cml_step.specs.declared.fault.Stop.TheVariants as stop
 
 term_on_pushed : (p : List (PlainItem ℕ)) (es : List PlainHeld) (e : PlainHeld) (below : Term) → held_on p (es ++ e ∷ []) below ≡ held_entry p e ∷ held_on p es below
 term_on_pushed p [] e below = refl
@@ -242,3 +246,28 @@ over_dropped below call (Some o) hs h e n = (top_and_rest (called below call) hs
 pub call_dropped : (below : List PlainHeld) (call : Option Call) (hs : List PlainHeld) (h : PlainHeld) → (call ≡ None → below ≡ []) → called below call ≡ hs ++ h ∷ [] → below ≡ hs
 call_dropped below None hs h lifted e = absurd (nothing_on_top hs h (sym e ∙ lifted refl))
 call_dropped below (Some c) hs h lifted e = (top_and_rest below hs (plain_held (entry.Call c)) h e).0
+
+-- what comes of what the entry on top did
+pub stands_on : (p : List (PlainItem ℕ)) (es hs : List PlainHeld) (h : PlainHeld) (a : PlainAsk) (step : PlainStep) → es ≡ hs ++ h ∷ [] → step ≡ asks a (held_entry p h ∷ term_of p hs) → step ≡ asks a (term_of p es)
+stands_on p es hs h a step e m = m ∙ ap (asks a) (sym (pushed_is p hs es h e))
+
+pub stands_under : (p : List (PlainItem ℕ)) (es new hs : List PlainHeld) (h : PlainHeld) (e : StackEntry) (r : Result Ask Stop) (step : PlainStep) → es ≡ hs ++ h ∷ [] →
+    step ≡ pushed e (held_entry p h ∷ term_of p hs) → IsStep p r (pushed e (term_of p es)) new → IsStep p r step new
+stands_under p es new hs h e r step q m i = subst (λ (s : PlainStep). IsStep p r s new) (ap (pushed e) (pushed_is p hs es h q) ∙ sym m) i
+
+pub same_step : (p : List (PlainItem ℕ)) (new : List PlainHeld) (r : Result Ask Stop) (step other : PlainStep) → step ≡ other → IsStep p r other new → IsStep p r step new
+same_step p new r step other m i = subst (λ (s : PlainStep). IsStep p r s new) (sym m) i
+
+-- a step that could not be taken
+pub moved_failed : (p : List (PlainItem ℕ)) (e : Stop) (new : StackEntry) (below : Term) (step : PlainStep) (es : List PlainHeld) → MovesTo p (Err e) new below step → IsStep p (Err e) step es
+moved_failed p (stop.Fault why) new below step es h = h
+moved_failed p stop.Memory new below step es h = tt
+
+pub delivered_failed : (p : List (PlainItem ℕ)) (e : Stop) (new : StackEntry) (below : Term) (step : PlainStep) (es : List PlainHeld) → IsDelivered (Err e) new below step → IsStep p (Err e) step es
+delivered_failed p (stop.Fault why) new below step es h = h
+delivered_failed p stop.Memory new below step es h = tt
+
+-- a value that was delivered to the entry on top
+pub delivered_on : (p : List (PlainItem ℕ)) (old new hs : List PlainHeld) (h g : PlainHeld) (v : PlainValue) → old ≡ hs ++ h ∷ [] → new ≡ hs ++ g ∷ [] →
+    delivered v (held_entry p h ∷ term_of p hs) ≡ goes_on (held_entry p g ∷ term_of p hs) → delivered v (term_of p old) ≡ goes_on (term_of p new)
+delivered_on p old new hs h g v e f s = ap (delivered v) (pushed_is p hs old h e) ∙ s ∙ ap goes_on (sym (pushed_is p hs new g f))

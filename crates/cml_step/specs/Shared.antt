@@ -8,7 +8,7 @@ use Rattle.cml_step.specs.declared.entry.Entry.TheVariants as entry
 use Rattle.cml_step.specs.declared.entry.Seen.{Seen}
 use Rattle.cml_step.specs.declared.entry.Seen.TheVariants as seen
 use Rattle.cml_step.specs.declared.entries.Walk.{Walk}
-use Rattle.cml_step.specs.Machines.{PlainHeld, force, wraps, plain_held}
+use Rattle.cml_step.specs.Machines.{PlainHeld, call, force, wraps, plain_held}
 
 -- the entries of a frame, if there is one: its own is the last
 abbrev pub frame_entries : {Z : Type 0} → Option (Arc (List PlainHeld) Z) → List PlainHeld
@@ -43,3 +43,9 @@ left_of w = topped (called (entries_left (option_copied w.below)) (option_copied
 abbrev pub TakesOff : Option Entry → List PlainHeld → List PlainHeld → Type 0
 TakesOff None old new = (old ≡ []) × (new ≡ [])
 TakesOff (Some e) old new = old ≡ new ++ plain_held e ∷ []
+
+-- no value is held: nothing is there but calls without values
+abbrev pub HoldsNoValue : List PlainHeld → Type 0
+HoldsNoValue [] = Unit {0}
+HoldsNoValue (call f path at slots w ∷ hs) = (slots ≡ []) × HoldsNoValue hs
+HoldsNoValue (h ∷ hs) = ⊥

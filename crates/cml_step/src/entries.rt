@@ -2,7 +2,7 @@
 
 ghost use Rattle.std.specs.Prelude.{◌≡◌, ◌↔◌, ◌++◌, ◌+◌, ◌<◌, ◌≤◌, ◌∷◌, List, [], None, length, IfOk, OnErr, IsTrue, MatchOption, option_copied};
 ghost use Rattle.cml_step.specs.Machines.{PlainHeld, plain_held};
-ghost use Rattle.cml_step.specs.Shared.{TakesOff, frame_entries, left_of, topped, called, plain_seen, entries_left};
+ghost use Rattle.cml_step.specs.Shared.{TakesOff, frame_entries, left_of, topped, called, plain_seen, entries_left, HoldsNoValue};
 
 use crate::call::Call;
 use crate::entry::{
@@ -390,6 +390,15 @@ fn call_count(call: &Option<Call>) -> usize
     }
 }
 
+// The call, if there is one, holds no value from now on.
+fn empty(call: &mut Option<Call>)
+    ensures { HoldsNoValue (called [] call.new) }
+{
+    if let Some(call) = call {
+        call.slots.clear();
+    }
+}
+
 impl Stack {
     /// Nothing.
     pub fn new() -> Stack
@@ -478,8 +487,8 @@ impl Stack {
 
     /// Takes the top entry off and lets it go.
     pub fn drop_top(&mut self, alloc: Global) -> Result<(), AllocError>
-        ensures { (hs : List PlainHeld) (h : PlainHeld) → self.old ≡ hs ++ h ∷ []
-            → IfOk result (λ _. self.new ≡ hs) }
+        ensures { IfOk result (λ _. (hs : List PlainHeld) (h : PlainHeld) →
+            self.old ≡ hs ++ h ∷ [] → self.new ≡ hs) }
     {
         if self.over.is_some() {
             self.over = None;
@@ -515,12 +524,12 @@ impl Stack {
     }
 
     /// Lets go what it shares with others. It keeps the lists of its call.
-    pub fn rest(&mut self) {
+    pub fn rest(&mut self)
+        ensures { HoldsNoValue self.new }
+    {
         self.over = None;
         self.below = Frames::new();
-        if let Some(call) = &mut self.call {
-            call.slots.clear();
-        }
+        empty(&mut self.call);
     }
 }
 

@@ -13,6 +13,7 @@ ghost use Rattle.cml_step.specs.Calls.{text_of};
 ghost use Rattle.cml_step.specs.Machines.{machine_term, Fits};
 ghost use Rattle.cml_step.specs.Nacks.{nack_given, IsNackRoom};
 ghost use Rattle.cml_step.specs.Rans.{IsSlice};
+ghost use Rattle.cml_step.specs.Shared.{HoldsNoValue};
 ghost use Rattle.cml_step.specs.Stacks.{StackFits, term_of};
 ghost use Rattle.cml_step.specs.Terms.{call_of};
 
@@ -154,9 +155,11 @@ impl Machine {
         self.stack.copy_from(alloc, &other.stack)
     }
 
-    /// Lets go the values that a machine holds which is used no more but as a spare of others ([`run_here`](Machine::run_here)).
+    /// Lets go the values that a machine holds which is used no more but as a spare of others ([`run_here`](Machine::run_here)). It takes no
+    /// memory.
     pub fn rest(&mut self)
-        ensures { self.new.thread ≡ self.old.thread }
+        ensures values { HoldsNoValue self.new.stack }
+        ensures thread { self.new.thread ≡ self.old.thread }
     {
         self.stack.rest();
     }
