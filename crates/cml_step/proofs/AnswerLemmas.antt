@@ -85,14 +85,14 @@ value_nowhere p below e h = let t = ap (λ hs. top_await (term_of p hs)) (sym e)
 commit_nowhere : (p : List (PlainItem ℕ)) (below : List PlainHeld) → below ≡ [] → top_await (term_of p below) ≡ await.commit → ⊥
 commit_nowhere p below e h = let t = ap (λ hs. top_await (term_of p hs)) (sym e) ∙ h in cc
 
-pub no_value_alone : (p : List (PlainItem ℕ)) (below : List PlainHeld) (call : Option Call) (over : Option Entry) → (over ≡ None → call ≡ None → below ≡ []) →
-    top_await (term_of p (topped (called below call) over)) ≡ await.value → over ≡ None → call ≡ None → ⊥
-no_value_alone p below call over lifted h o c =
-    value_nowhere p below (lifted o c) (ap (λ x. top_await (term_of p (topped (called below call) x))) (sym o) ∙ ap (λ x. top_await (term_of p (called below x))) (sym c) ∙ h)
+pub no_value_alone : (p : List (PlainItem ℕ)) (below : List PlainHeld) (own : Option Call) (over : Option Entry) → (over ≡ None → own ≡ None → below ≡ []) →
+    top_await (term_of p (topped (called below own) over)) ≡ await.value → over ≡ None → own ≡ None → ⊥
+no_value_alone p below own over lifted h o c =
+    value_nowhere p below (lifted o c) (ap (λ x. top_await (term_of p (topped (called below own) x))) (sym o) ∙ ap (λ x. top_await (term_of p (called below x))) (sym c) ∙ h)
 
-pub commit_in_place : (p : List (PlainItem ℕ)) (below : List PlainHeld) (call : Option Call) (over : Option Entry) → (over ≡ None → call ≡ None → below ≡ []) →
-    top_await (term_of p (topped (called below call) over)) ≡ await.commit → (g : PlainEvent) × (asked : Bool) × (over ≡ Some (entry.Force g asked))
-commit_in_place p below call (Some e) lifted h = let r = commit_last p (called below call) e h in (r.0, r.1, ap Some r.2)
+pub commit_in_place : (p : List (PlainItem ℕ)) (below : List PlainHeld) (own : Option Call) (over : Option Entry) → (over ≡ None → own ≡ None → below ≡ []) →
+    top_await (term_of p (topped (called below own) over)) ≡ await.commit → (g : PlainEvent) × (asked : Bool) × (over ≡ Some (entry.Force g asked))
+commit_in_place p below own (Some e) lifted h = let r = commit_last p (called below own) e h in (r.0, r.1, ap Some r.2)
 commit_in_place p below (Some c) None lifted h = let r = commit_last p below (entry.Call c) h in absurd (cc)
 commit_in_place p below None None lifted h = absurd (commit_nowhere p below (lifted refl refl) h)
 

@@ -239,11 +239,11 @@ wraps_stand p (did.Asks a) w h = h
 wraps_stand p did.Ends w h = tt
 
 -- what is left of the entries in their places where the top one goes
-pub over_dropped : (below : List PlainHeld) (call : Option Call) (over : Option Entry) (hs : List PlainHeld) (h : PlainHeld) → topped (called below call) over ≡ hs ++ h ∷ [] → (over ≡ None → ⊥) → called below call ≡ hs
-over_dropped below call None hs h e n = absurd (n refl)
-over_dropped below call (Some o) hs h e n = (top_and_rest (called below call) hs (plain_held o) h e).0
+pub over_dropped : (below : List PlainHeld) (own : Option Call) (over : Option Entry) (hs : List PlainHeld) (h : PlainHeld) → topped (called below own) over ≡ hs ++ h ∷ [] → (over ≡ None → ⊥) → called below own ≡ hs
+over_dropped below own None hs h e n = absurd (n refl)
+over_dropped below own (Some o) hs h e n = (top_and_rest (called below own) hs (plain_held o) h e).0
 
-pub call_dropped : (below : List PlainHeld) (call : Option Call) (hs : List PlainHeld) (h : PlainHeld) → (call ≡ None → below ≡ []) → called below call ≡ hs ++ h ∷ [] → below ≡ hs
+pub call_dropped : (below : List PlainHeld) (own : Option Call) (hs : List PlainHeld) (h : PlainHeld) → (own ≡ None → below ≡ []) → called below own ≡ hs ++ h ∷ [] → below ≡ hs
 call_dropped below None hs h lifted e = absurd (nothing_on_top hs h (sym e ∙ lifted refl))
 call_dropped below (Some c) hs h lifted e = (top_and_rest below hs (plain_held (entry.Call c)) h e).0
 

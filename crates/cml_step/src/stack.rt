@@ -155,22 +155,16 @@ fn deliver(alloc: Global, program: &Prog, value: Value, stack: &mut Stack) -> Re
         (steps.delivered value (term_of program.now stack.old)) stack.new }
     ensures fits { StepFits program.now result stack.new }
 {
-    match &mut stack.over {
-        Some(entry) => {
-            deliver_to(alloc, program, entry, value)?;
-            Ok(Ask::Nothing)
-        }
-        None => match &mut stack.call {
-            Some(call) => {
-                deliver_to_call(program, call, value);
-                Ok(Ask::Nothing)
-            }
-            None => {
-                drop(value);
-                Ok(Ask::End)
-            }
-        },
+    if let Some(entry) = &mut stack.over {
+        deliver_to(alloc, program, entry, value)?;
+        return Ok(Ask::Nothing);
     }
+    if let Some(call) = &mut stack.call {
+        deliver_to_call(program, call, value);
+        return Ok(Ask::Nothing);
+    }
+    drop(value);
+    Ok(Ask::End)
 }
 
 // The event is to be forced, on top.

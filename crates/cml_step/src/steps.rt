@@ -63,10 +63,10 @@ fn quiet_steps(alloc: Global, program: &Prog, stack: &mut Stack, most: u32) -> u
     if stack.over.is_some() {
         return 0;
     }
-    match &mut stack.call {
-        Some(call) => quiet_run(alloc, program, call, most),
-        None => 0,
+    if let Some(call) = &mut stack.call {
+        return quiet_run(alloc, program, call, most);
     }
+    0
 }
 
 /// Takes at most this many steps of the thread, up to the first that asks, ends or is at fault. Returns what it asks, and how many

@@ -4,7 +4,7 @@ use Rattle.cml_step.specs.declared.entry.Entry.TheVariants as entry
 use Rattle.cml_step.specs.declared.nack.NackRoom.{NackRoom}
 use Rattle.cml_step.specs.Answers.{top_await}
 use Rattle.cml_step.specs.Machines.{plain_held, machine_term}
-use Rattle.cml_step.specs.Shared.{topped}
+use Rattle.cml_step.specs.Shared.{topped, called}
 use Rattle.cml_step.proofs.AnswerLemmas.{nack_last}
 use Rattle.cml_step.proofs.NackLemmas.{IsMade, room_made}
 use Rattle.cml_step.proofs.machine.Machine.reserve_nack.Goals as goal
@@ -12,7 +12,7 @@ use Rattle.cml_step.proofs.machine.Machine.reserve_nack.Goals as goal
 pub nacked-requires : goal.nacked-requires
 nacked-requires c =
     let m = c.args.self.now in
-    let es = c.self.inside.below in
+    let es = called c.stack.inside.below c.stack.inside.call in
     let top : Entry = entry.Force c.in-Force.forcing c.in-Force.field-1 in
     let st : m.stack ≡ es ++ plain_held top ∷ [] = ap (λ x. x.stack) (sym c.self.view_is) ∙ ap (topped es) (c.in-Some.is ∙ ap Some c.in-Force.is) in
     nack_last c.requires.0 es c.in-Force.forcing c.in-Force.field-1 (ap (λ hs. top_await (machine_term c.requires.0 (record { thread = m.thread; stack = hs }))) (sym st) ∙ c.requires.2)
@@ -20,7 +20,7 @@ nacked-requires c =
 pub returns-clause-room : goal.returns-clause-room
 returns-clause-room c =
     let m = c.args.self.now in
-    let es = c.self.inside.below in
+    let es = called c.stack.inside.below c.stack.inside.call in
     let g = c.in-Force.forcing in
     let asked = c.in-Force.field-1 in
     let k = c.args.nack.0 in
