@@ -2,7 +2,6 @@ pub mod Numbers
 pub mod SameLemmas
 pub mod Prefixes
 pub mod VariableLemmas
-pub mod PlaceLemmas
 pub mod AgreeLemmas
 pub mod CallLemmas
 pub mod ForceLemmas

@@ -9,8 +9,8 @@ use Rattle.cml_step.specs.declared.call.Wait.{Wait}
 use Rattle.cml_step.specs.declared.call.Wait.TheVariants as wait
 use Rattle.cml_step.specs.declared.call.Call.{Call}
 use Rattle.cml_step.specs.Variables.{bound}
-use Rattle.cml_step.specs.Places.{left_at}
-use Rattle.cml_step.specs.Calls.{entry_in, entry_of, wait_of, text_of}
+use Rattle.cml_check.proofs.Walk.{left_start}
+use Rattle.cml_step.specs.Calls.{statements_at, entry_in, entry_of, wait_of, text_of}
 use Rattle.cml_check.specs.Heads.{takes}
 use Rattle.cml_check.specs.InOrder.{arities}
 use Rattle.cml_step.specs.Agrees.{function_agrees, values_count}
@@ -76,20 +76,20 @@ text_at [] g o e = ap (option_map written) e
 text_at (x ∷ xs) zero o e = ap (option_map written) e
 text_at (x ∷ xs) (suc g) o e = text_at xs g o e
 
-begun_in : (o : Option (PlainItem ℕ)) (vs : List PlainValue) (c : Call) → c.path.items ≡ [] → c.at ≡ 0 → c.slots.items ≡ vs → c.wait ≡ wait.Runs →
+begun_in : (o : Option (PlainItem ℕ)) (vs : List PlainValue) (c : Call) → c.at ≡ 0 → c.slots.items ≡ vs → c.wait ≡ wait.Runs →
     entry_in o c ≡ started (option_map written o) vs
-begun_in (Some f) vs c h a s w =
-    ap (λ hs. call (stmts_map (name_at f.names) (left_at f.body hs c.at)) (bound f.names c.slots.items) (wait_of f.names c.wait)) h
-    ∙ ap (λ n. call (stmts_map (name_at f.names) (left_at f.body [] n)) (bound f.names c.slots.items) (wait_of f.names c.wait)) a
+begun_in (Some f) vs c a s w =
+    ap (λ n. call (statements_at f n) (bound f.names c.slots.items) (wait_of f.names c.wait)) a
+    ∙ ap (λ ss. call (stmts_map (name_at f.names) ss) (bound f.names c.slots.items) (wait_of f.names c.wait)) (left_start f.body)
     ∙ ap (λ ws. call (stmts_map (name_at f.names) f.body) (bound f.names ws) (wait_of f.names c.wait)) s
     ∙ ap (λ d. call (stmts_map (name_at f.names) f.body) (bound f.names vs) (wait_of f.names d)) w
-begun_in None vs c h a s w = ap (λ d. call no_stmts [] (wait_of [] d)) w
+begun_in None vs c a s w = ap (λ d. call no_stmts [] (wait_of [] d)) w
 
 -- a call of a function at its beginning
-pub begun : (p : List (PlainItem ℕ)) (vs : List PlainValue) (c : Call) → c.path.items ≡ [] → c.at ≡ 0 → c.slots.items ≡ vs → c.wait ≡ wait.Runs →
+pub begun : (p : List (PlainItem ℕ)) (vs : List PlainValue) (c : Call) → c.at ≡ 0 → c.slots.items ≡ vs → c.wait ≡ wait.Runs →
     entry_of p c ≡ call_of (text_of p) (function c.func (values vs))
-begun p vs c h a s w =
-    begun_in (slice_get p c.func) vs c h a s w
+begun p vs c a s w =
+    begun_in (slice_get p c.func) vs c a s w
     ∙ ap (λ ws. started (option_map written (slice_get p c.func)) ws) (sym (list_values vs))
     ∙ ap (λ o. started o (list_of (values vs))) (sym (text_at p c.func (slice_get p c.func) refl))
 
@@ -107,10 +107,10 @@ begun_fits p c h w = record {
 }
 
 -- the same of a call that begins with the values that the function has captured
-pub begun_by : (p : List (PlainItem ℕ)) (f : PlainFunction) (c : Call) → c.func ≡ func_of f → values c.slots.items ≡ args_of f → c.path.items ≡ [] → c.at ≡ 0 → c.wait ≡ wait.Runs →
+pub begun_by : (p : List (PlainItem ℕ)) (f : PlainFunction) (c : Call) → c.func ≡ func_of f → values c.slots.items ≡ args_of f → c.at ≡ 0 → c.wait ≡ wait.Runs →
     entry_of p c ≡ call_of (text_of p) f
-begun_by p (function g us) c e a h t w =
-    begun p c.slots.items c h t refl w ∙ ap (λ ws. call_of (text_of p) (function c.func ws)) a ∙ ap (λ n. call_of (text_of p) (function n us)) e
+begun_by p (function g us) c e a t w =
+    begun p c.slots.items c t refl w ∙ ap (λ ws. call_of (text_of p) (function c.func ws)) a ∙ ap (λ n. call_of (text_of p) (function n us)) e
 
 pub begun_by_fits : (p : List (PlainItem ℕ)) (f : PlainFunction) (c : Call) → c.func ≡ func_of f → values c.slots.items ≡ args_of f → c.wait ≡ wait.Runs →
     function_agrees (arities p) 0 f ≡ true → CallFits p c
@@ -135,17 +135,16 @@ fun_at (x ∷ xs) zero f l e = cc
 fun_at (x ∷ xs) (suc g) f l e = fun_at xs g f (omega arith) e
 
 pub filled_for : (f : PlainItem ℕ) (c d : Call) (v : PlainValue) → AreDistinct f.names → WaitFits c.wait (length f.names) (length c.slots.items) →
-    (d.func ≡ c.func) × (d.at ≡ c.at) × (d.path ≡ c.path) → d.wait ≡ wait.Runs → d.slots.items ≡ slots_with c.wait v c.slots.items →
-    entry_for f d ≡ call (stmts_map (name_at f.names) (left_at f.body c.path.items c.at)) (filled (wait_of f.names c.wait) v (bound f.names c.slots.items)) runs
+    (d.func ≡ c.func) × (d.at ≡ c.at) → d.wait ≡ wait.Runs → d.slots.items ≡ slots_with c.wait v c.slots.items →
+    entry_for f d ≡ call (statements_at f c.at) (filled (wait_of f.names c.wait) v (bound f.names c.slots.items)) runs
 filled_for f c d v i h e w s =
-    ap (λ n. call (stmts_map (name_at f.names) (left_at f.body d.path.items n)) (bound f.names d.slots.items) (wait_of f.names d.wait)) e.1
-    ∙ ap (λ hs. call (stmts_map (name_at f.names) (left_at f.body hs.items c.at)) (bound f.names d.slots.items) (wait_of f.names d.wait)) e.2
-    ∙ ap (λ x. call (stmts_map (name_at f.names) (left_at f.body c.path.items c.at)) (bound f.names d.slots.items) (wait_of f.names x)) w
-    ∙ ap (λ x. call (stmts_map (name_at f.names) (left_at f.body c.path.items c.at)) x runs) (ap (bound f.names) s ∙ sym (filled_is f.names c.slots.items c.wait v i h))
+    ap (λ n. call (statements_at f n) (bound f.names d.slots.items) (wait_of f.names d.wait)) e.1
+    ∙ ap (λ x. call (statements_at f c.at) (bound f.names d.slots.items) (wait_of f.names x)) w
+    ∙ ap (λ x. call (statements_at f c.at) x runs) (ap (bound f.names) s ∙ sym (filled_is f.names c.slots.items c.wait v i h))
 
 -- what delivering to it comes to
 pub delivered_call : (p : List (PlainItem ℕ)) (f : PlainItem ℕ) (c d : Call) (v : PlainValue) (below : Term) → CallFits p c → f ≡ get_or p c.func f → AreDistinct f.names →
-    (d.func ≡ c.func) × (d.at ≡ c.at) × (d.path ≡ c.path) → d.wait ≡ wait.Runs → d.slots.items ≡ slots_with c.wait v c.slots.items →
+    (d.func ≡ c.func) × (d.at ≡ c.at) → d.wait ≡ wait.Runs → d.slots.items ≡ slots_with c.wait v c.slots.items →
     delivered v (entry_of p c ∷ below) ≡ goes_on (entry_of p d ∷ below)
 delivered_call p f c d v below h g i e w s =
     let o : slice_get p c.func ≡ Some f = fun_at p c.func f h.there g in
@@ -183,11 +182,11 @@ waiting_in : (p : Program) (self : ℕ) (o : Option (PlainItem ℕ)) (c : Call) 
     next p self (entry_in o c ∷ below) ≡ goes_on (entry_in o c ∷ below)
 waiting_in p self o c wait.Runs below e h = absurd (h refl)
 waiting_in p self (Some f) c wait.Drops below e h =
-    ap (λ w. next p self (call (stmts_map (name_at f.names) (left_at f.body c.path.items c.at)) (bound f.names c.slots.items) (wait_of f.names w) ∷ below)) e
-    ∙ ap (λ w. goes_on (call (stmts_map (name_at f.names) (left_at f.body c.path.items c.at)) (bound f.names c.slots.items) (wait_of f.names w) ∷ below)) (sym e)
+    ap (λ w. next p self (call (statements_at f c.at) (bound f.names c.slots.items) (wait_of f.names w) ∷ below)) e
+    ∙ ap (λ w. goes_on (call (statements_at f c.at) (bound f.names c.slots.items) (wait_of f.names w) ∷ below)) (sym e)
 waiting_in p self (Some f) c (wait.Gives s) below e h =
-    ap (λ w. next p self (call (stmts_map (name_at f.names) (left_at f.body c.path.items c.at)) (bound f.names c.slots.items) (wait_of f.names w) ∷ below)) e
-    ∙ ap (λ w. goes_on (call (stmts_map (name_at f.names) (left_at f.body c.path.items c.at)) (bound f.names c.slots.items) (wait_of f.names w) ∷ below)) (sym e)
+    ap (λ w. next p self (call (statements_at f c.at) (bound f.names c.slots.items) (wait_of f.names w) ∷ below)) e
+    ∙ ap (λ w. goes_on (call (statements_at f c.at) (bound f.names c.slots.items) (wait_of f.names w) ∷ below)) (sym e)
 waiting_in p self None c wait.Drops below e h =
     ap (λ w. next p self (call no_stmts [] (wait_of [] w) ∷ below)) e ∙ ap (λ w. goes_on (call no_stmts [] (wait_of [] w) ∷ below)) (sym e)
 waiting_in p self None c (wait.Gives s) below e h =

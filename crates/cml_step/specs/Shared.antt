@@ -47,5 +47,5 @@ TakesOff (Some e) old new = old ≡ new ++ plain_held e ∷ []
 -- no value is held: nothing is there but calls without values
 abbrev pub HoldsNoValue : List PlainHeld → Type 0
 HoldsNoValue [] = Unit {0}
-HoldsNoValue (call f path at slots w ∷ hs) = (slots ≡ []) × HoldsNoValue hs
+HoldsNoValue (call f at slots w ∷ hs) = (slots ≡ []) × HoldsNoValue hs
 HoldsNoValue (h ∷ hs) = ⊥

@@ -11,7 +11,6 @@ ghost use Rattle.cml_step.specs.Shared.{plain_seen};
 ghost use Rattle.cml_step.specs.Stacks.{CallFits};
 
 use crate::call::{Call, Wait};
-use crate::place::Hop;
 use cml_group::Forcing;
 use cml_value::{FnRef, Value};
 use std::alloc::{AllocError, Global};
@@ -53,17 +52,6 @@ fn functions(alloc: Global, functions: &[FnRef]) -> Result<Vec<FnRef>, AllocErro
     Ok(copies)
 }
 
-// A copy of a way down through the blocks.
-fn copy_path(alloc: Global, path: &[Hop]) -> Result<Vec<Hop>, AllocError>
-    ensures { IfOk result (λ hops. hops.items ≡ path.now) }
-{
-    let mut hops = Vec::new(alloc);
-    for hop in path {
-        hops.push(*hop)?;
-    }
-    Ok(hops)
-}
-
 /// A call of the function at its first statement.
 pub(crate) fn begin(alloc: Global, function: &FnRef) -> Result<Call, AllocError>
     ensures term { IfOk result (λ call. (p : List (PlainItem ℕ)) →
@@ -74,7 +62,6 @@ pub(crate) fn begin(alloc: Global, function: &FnRef) -> Result<Call, AllocError>
 {
     Ok(Call {
         func: function.func(),
-        path: Vec::new(alloc),
         at: 0,
         slots: copies(alloc, function.args())?,
         wait: Wait::Runs,
@@ -87,7 +74,6 @@ pub(crate) fn copy_call(alloc: Global, call: &Call) -> Result<Call, AllocError>
 {
     Ok(Call {
         func: call.func,
-        path: copy_path(alloc, call.path.as_slice())?,
         at: call.at,
         slots: copies(alloc, call.slots.as_slice())?,
         wait: call.wait,
@@ -113,8 +99,6 @@ pub(crate) fn renew_call(own: &mut Call, call: &Call) -> Result<(), AllocError>
     own.func = call.func;
     own.at = call.at;
     own.wait = call.wait;
-    own.path.clear();
-    own.path.extend_from_slice(call.path.as_slice())?;
     renew_slots(&mut own.slots, call.slots.as_slice())
 }
 
@@ -132,31 +116,12 @@ pub(crate) fn copy_entry(alloc: Global, entry: &Entry) -> Result<Entry, AllocErr
     }
 }
 
-// Whether the two are the same way down through the blocks.
-fn same_path(hops: &[Hop], others: &[Hop]) -> bool
-    ensures { IsTrue result ↔ (hops.now ≡ others.now) }
-{
-    if hops.len() != others.len() {
-        return false;
-    }
-    for i in 0..hops.len() {
-        if hops[i] != others[i] {
-            return false;
-        }
-    }
-    true
-}
-
 // Whether two calls are of the same function, at the same place in it.
 fn same_place(call: &Call, other: &Call) -> bool
     ensures { IsTrue result ↔ (call.now.func ≡ other.now.func)
-        × (call.now.at ≡ other.now.at) × (call.now.wait ≡ other.now.wait)
-        × (call.now.path.items ≡ other.now.path.items) }
+        × (call.now.at ≡ other.now.at) × (call.now.wait ≡ other.now.wait) }
 {
-    call.func == other.func
-        && call.at == other.at
-        && call.wait == other.wait
-        && same_path(call.path.as_slice(), other.path.as_slice())
+    call.func == other.func && call.at == other.at && call.wait == other.wait
 }
 
 // Whether the two are the same values, one after another.

@@ -14,7 +14,6 @@ mod machine;
 mod nack;
 mod number;
 mod operator;
-mod place;
 mod quiet;
 mod ran;
 mod slices;

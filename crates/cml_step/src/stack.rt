@@ -66,7 +66,6 @@ fn push_call(
 {
     let call = Call {
         func,
-        path: Vec::new(alloc),
         at: 0,
         slots: args,
         wait: Wait::Runs,
