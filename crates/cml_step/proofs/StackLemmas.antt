@@ -1,6 +1,7 @@
 -- A stack and its term.
 use Rattle.std.proofs.Common.{◌≡◌, ℕ, zero, suc, ◌+◌, ◌<◌, true, List, [], ◌∷◌, ◌++◌, length, map, refl, ap, sym, ◌∙◌, subst, arith, get_or, Option, Some, None, Result, Err, slice_get, reverse}
 use Rattle.std.proofs.lemmas.List.{reverse-append}
+use Rattle.std.proofs.Common.{length-append}
 use Rattle.std.specs.Option.{option_map}
 use Rattle.std.proofs.lemmas.Bool.{and_parts, and_from}
 use Rattle.cml_value.specs.Value.{PlainValue, PlainFunction, function, func_of, args_of, values}
@@ -270,3 +271,7 @@ delivered_failed p stop.Memory new below step es h = tt
 pub delivered_on : (p : List (PlainItem ℕ)) (old new hs : List PlainHeld) (h g : PlainHeld) (v : PlainValue) → old ≡ hs ++ h ∷ [] → new ≡ hs ++ g ∷ [] →
     delivered v (held_entry p h ∷ term_of p hs) ≡ goes_on (held_entry p g ∷ term_of p hs) → delivered v (term_of p old) ≡ goes_on (term_of p new)
 delivered_on p old new hs h g v e f s = ap (delivered v) (pushed_is p hs old h e) ∙ s ∙ ap goes_on (sym (pushed_is p hs new g f))
+
+-- how many entries there are below the one on top
+pub count_under : (p : List (PlainItem ℕ)) (old hs : List PlainHeld) (h : PlainHeld) (n : ℕ) → old ≡ hs ++ h ∷ [] → n ≡ length old → length (term_of p hs) + 1 ≡ n
+count_under p old hs h n e l = let m = ap length e in omega (arith, term_length p hs, length-append hs (h ∷ []), m, l)

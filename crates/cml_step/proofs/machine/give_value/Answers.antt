@@ -1,22 +1,67 @@
+use Rattle.std.proofs.Common.{◌≡◌, ◌++◌, ◌∷◌, [], Some, ap, sym, ◌∙◌, subst}
+use Rattle.cml_step.specs.declared.entry.Entry.{Entry}
+use Rattle.cml_step.specs.declared.entry.Entry.TheVariants as entry
+use Rattle.cml_step.specs.Answers.{top_await, after_answer}
+use Rattle.cml_step.specs.Asks.{a_value}
+use Rattle.cml_step.specs.Calls.{text_of}
+use Rattle.cml_step.specs.Machines.{plain_held}
+use Rattle.cml_step.specs.Shared.{topped, called}
+use Rattle.cml_step.specs.Stacks.{StackFits, term_of}
+use Rattle.cml_step.proofs.AnswerLemmas.{value_last, value_given, value_given_fits}
+use Rattle.cml_step.proofs.StackLemmas.{fits_popped, filled_room}
 use Rattle.cml_step.proofs.machine.give_value.Goals as goal
 
 pub fill-requires : goal.fill-requires
-fill-requires c = ?
+fill-requires c =
+    let p = c.requires.0 in
+    let s = c.stack.inside in
+    let hs = called s.below s.call in
+    let e : Entry = entry.Call c.in-Some-Call.call in
+    let st : c.args.stack.now ≡ hs ++ plain_held e ∷ [] = sym c.stack.view_is ∙ ap (topped hs) (c.in-Some-Call.is ∙ ap Some c.in-Some-Call.field-0-is) in
+    record { waits = filled_room p c.in-Some-Call.call (fits_popped p hs (plain_held e) (subst (StackFits p) st c.requires.1)).1 }
 
 pub fill-requires-in-Some-call : goal.fill-requires-in-Some-call
-fill-requires-in-Some-call c = ?
+fill-requires-in-Some-call c =
+    let p = c.requires.0 in
+    let s = c.stack.inside in
+    let hs = s.below in
+    let e : Entry = entry.Call c.in-Some-call.call in
+    let st : c.args.stack.now ≡ hs ++ plain_held e ∷ [] = sym c.stack.view_is ∙ ap (topped (called hs s.call)) c.in-None.is ∙ ap (called hs) c.in-Some-call.is in
+    record { waits = filled_room p c.in-Some-call.call (fits_popped p hs (plain_held e) (subst (StackFits p) st c.requires.1)).1 }
 
 pub returns-in-Some-Call-clause-term : goal.returns-in-Some-Call-clause-term
-returns-in-Some-Call-clause-term c = ?
+returns-in-Some-Call-clause-term c = λ p o h.
+    let s = c.stack.inside in
+    let hs = called s.below s.call in
+    let e : Entry = entry.Call c.in-Some-Call.call in
+    let st : c.args.stack.now ≡ hs ++ plain_held e ∷ [] = sym c.stack.view_is ∙ ap (topped hs) (c.in-Some-Call.is ∙ ap Some c.in-Some-Call.field-0-is) in
+    value_given p hs c.in-Some-Call.call c.fill.new.call c.args.value o (subst (StackFits p) st h) c.fill.ensures.place c.fill.ensures.runs c.fill.ensures.slots
+    ∙ ap (λ es. after_answer (text_of p) (a_value c.args.value) (term_of p es)) (sym st)
 
 pub returns-in-Some-Call-clause-fits : goal.returns-in-Some-Call-clause-fits
-returns-in-Some-Call-clause-fits c = ?
+returns-in-Some-Call-clause-fits c = λ p h g.
+    let s = c.stack.inside in
+    let hs = called s.below s.call in
+    let e : Entry = entry.Call c.in-Some-Call.call in
+    let st : c.args.stack.now ≡ hs ++ plain_held e ∷ [] = sym c.stack.view_is ∙ ap (topped hs) (c.in-Some-Call.is ∙ ap Some c.in-Some-Call.field-0-is) in
+    value_given_fits p hs c.in-Some-Call.call c.fill.new.call c.args.value (subst (StackFits p) st h) g c.fill.ensures.place.0 c.fill.ensures.runs c.fill.ensures.slots
 
 pub returns-in-Some : goal.returns-in-Some
 returns-in-Some c = ?
 
 pub returns-in-Some-call-clause-term : goal.returns-in-Some-call-clause-term
-returns-in-Some-call-clause-term c = ?
+returns-in-Some-call-clause-term c = λ p o h.
+    let s = c.stack.inside in
+    let hs = s.below in
+    let e : Entry = entry.Call c.in-Some-call.call in
+    let st : c.args.stack.now ≡ hs ++ plain_held e ∷ [] = sym c.stack.view_is ∙ ap (topped (called hs s.call)) c.in-None.is ∙ ap (called hs) c.in-Some-call.is in
+    value_given p hs c.in-Some-call.call c.fill-in-Some-call.new.call c.args.value o (subst (StackFits p) st h) c.fill-in-Some-call.ensures.place c.fill-in-Some-call.ensures.runs c.fill-in-Some-call.ensures.slots
+    ∙ ap (λ es. after_answer (text_of p) (a_value c.args.value) (term_of p es)) (sym st)
 
 pub returns-in-Some-call-clause-fits : goal.returns-in-Some-call-clause-fits
-returns-in-Some-call-clause-fits c = ?
+returns-in-Some-call-clause-fits c = λ p h g.
+    let s = c.stack.inside in
+    let hs = s.below in
+    let e : Entry = entry.Call c.in-Some-call.call in
+    let st : c.args.stack.now ≡ hs ++ plain_held e ∷ [] = sym c.stack.view_is ∙ ap (topped (called hs s.call)) c.in-None.is ∙ ap (called hs) c.in-Some-call.is in
+    value_given_fits p hs c.in-Some-call.call c.fill-in-Some-call.new.call c.args.value (subst (StackFits p) st h) g c.fill-in-Some-call.ensures.place.0 c.fill-in-Some-call.ensures.runs c.fill-in-Some-call.ensures.slots
