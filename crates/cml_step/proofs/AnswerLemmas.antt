@@ -78,16 +78,8 @@ pub nack_last : (p : List (PlainItem ℕ)) (es : List PlainHeld) (g : PlainEvent
 nack_last p es g asked h = nack_top g asked (term_of p es) (ap top_await (sym (term_pushed p es (plain_held (entry.Force g asked)))) ∙ h)
 
 -- the same where the entries lie in their two places
-value_nowhere : (p : List (PlainItem ℕ)) (below : List PlainHeld) → below ≡ [] → top_await (term_of p below) ≡ await.value → ⊥
-value_nowhere p below e h = let t = ap (λ hs. top_await (term_of p hs)) (sym e) ∙ h in cc
-
 commit_nowhere : (p : List (PlainItem ℕ)) (below : List PlainHeld) → below ≡ [] → top_await (term_of p below) ≡ await.commit → ⊥
 commit_nowhere p below e h = let t = ap (λ hs. top_await (term_of p hs)) (sym e) ∙ h in cc
-
-pub no_value_alone : (p : List (PlainItem ℕ)) (below : List PlainHeld) (own : Option Call) (over : Option Entry) → (over ≡ None → own ≡ None → below ≡ []) →
-    top_await (term_of p (topped (called below own) over)) ≡ await.value → over ≡ None → own ≡ None → ⊥
-no_value_alone p below own over lifted h o c =
-    value_nowhere p below (lifted o c) (ap (λ x. top_await (term_of p (topped (called below own) x))) (sym o) ∙ ap (λ x. top_await (term_of p (called below x))) (sym c) ∙ h)
 
 pub commit_in_place : (p : List (PlainItem ℕ)) (below : List PlainHeld) (own : Option Call) (over : Option Entry) → (over ≡ None → own ≡ None → below ≡ []) →
     top_await (term_of p (topped (called below own) over)) ≡ await.commit → (g : PlainEvent) × (asked : Bool) × (over ≡ Some (entry.Force g asked))

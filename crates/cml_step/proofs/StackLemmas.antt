@@ -1,8 +1,9 @@
 -- A stack and its term.
-use Rattle.std.proofs.Common.{◌≡◌, ℕ, zero, suc, ◌+◌, ◌<◌, true, List, [], ◌∷◌, ◌++◌, length, map, refl, ap, sym, ◌∙◌, subst, arith, get_or, Option, Some, None, Result, Err, slice_get, reverse}
+use Rattle.std.proofs.Common.{◌≡◌, ℕ, zero, suc, ◌+◌, ◌<◌, true, List, [], ◌∷◌, ◌++◌, length, map, refl, ap, sym, ◌∙◌, subst, arith, get_or, Option, Some, None, Result, Ok, Err, false, slice_get, reverse}
 use Rattle.std.proofs.lemmas.List.{reverse-append}
 use Rattle.std.proofs.Common.{length-append}
-use Rattle.std.specs.Option.{option_map}
+use Rattle.std.specs.Option.{option_map, is_some}
+use Rattle.std.specs.Prelude.{IfOk, IsErrAnd}
 use Rattle.std.proofs.lemmas.Bool.{and_parts, and_from}
 use Rattle.cml_value.specs.Value.{PlainValue, PlainFunction, function, func_of, args_of, values}
 use Rattle.cml_check.specs.Syntax.{PlainItem, no_stmts, stmts_map, name_at, written}
@@ -275,3 +276,25 @@ delivered_on p old new hs h g v e f s = ap (delivered v) (pushed_is p hs old h e
 -- how many entries there are below the one on top
 pub count_under : (p : List (PlainItem ℕ)) (old hs : List PlainHeld) (h : PlainHeld) (n : ℕ) → old ≡ hs ++ h ∷ [] → n ≡ length old → length (term_of p hs) + 1 ≡ n
 count_under p old hs h n e l = let m = ap length e in omega (arith, term_length p hs, length-append hs (h ∷ []), m, l)
+
+-- an error that is passed on
+pub same_error : (p : List (PlainItem ℕ)) (r : Result Ask Stop) (e : Stop) (step : PlainStep) (es : List PlainHeld) → IsErrAnd r (λ x. x ≡ e) → IsStep p (Err e) step es → IsStep p r step es
+same_error p (Ok a) e step es h i = absurd h
+same_error p (Err x) e step es h i = subst (λ (y : Stop). IsStep p (Err y) step es) (sym h) i
+
+-- the top one was lifted from below
+pub dropped_lifted : {E : Type 0} (below : List PlainHeld) (own : Option Call) (over : Option Entry) (old new : List PlainHeld) (r : Result (Unit {0}) E) → topped (called below own) over ≡ old →
+    is_some over ≡ true → is_some own ≡ false → IfOk r (λ _. new ≡ below) → IfOk r (λ _. (hs : List PlainHeld) (h : PlainHeld) → old ≡ hs ++ h ∷ [] → new ≡ hs)
+dropped_lifted below own None old new r v s n g = absurd (cc)
+dropped_lifted below (Some c) (Some o) old new r v s n g = absurd (cc)
+dropped_lifted below None (Some o) old new (Err x) v s n g = tt
+dropped_lifted below None (Some o) old new (Ok x) v s n g = λ hs h e. g ∙ (top_and_rest below hs (plain_held o) h (v ∙ e)).0
+
+-- nothing stands over the call
+pub nothing_over : (over : Option Entry) → ((e : Entry) → over ≡ Some e → ⊥) → over ≡ None
+nothing_over None n = refl
+nothing_over (Some e) n = absurd (n e refl)
+
+pub none_over : (over : Option Entry) → is_some over ≡ false → over ≡ None
+none_over None n = refl
+none_over (Some e) n = absurd (cc)

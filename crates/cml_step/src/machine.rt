@@ -61,7 +61,8 @@ fn give_value(stack: &mut Stack, value: Value)
     match &mut stack.over {
         Some(Entry::Call(call)) => fill(call, value),
         // A value is awaited, so a call is on top.
-        Some(_) => drop(value),
+        Some(Entry::Force(_, _)) => drop(value),
+        Some(Entry::Wraps(_)) => drop(value),
         None => match &mut stack.call {
             Some(call) => fill(call, value),
             None => drop(value),

@@ -46,8 +46,25 @@ returns-in-Some-Call-clause-fits c = λ p h g.
     let st : c.args.stack.now ≡ hs ++ plain_held e ∷ [] = sym c.stack.view_is ∙ ap (topped hs) (c.in-Some-Call.is ∙ ap Some c.in-Some-Call.field-0-is) in
     value_given_fits p hs c.in-Some-Call.call c.fill.new.call c.args.value (subst (StackFits p) st h) g c.fill.ensures.place.0 c.fill.ensures.runs c.fill.ensures.slots
 
-pub returns-in-Some : goal.returns-in-Some
-returns-in-Some c = ?
+pub returns-in-Some-Force : goal.returns-in-Some-Force
+returns-in-Some-Force c =
+    let p = c.requires.0 in
+    let s = c.stack.inside in
+    let hs = called s.below s.call in
+    let e : Entry = entry.Force c.in-Some-Force.field-0-0 c.in-Some-Force.field-0-1 in
+    let st : c.args.stack.now ≡ hs ++ plain_held e ∷ [] = sym c.stack.view_is ∙ ap (topped hs) (c.in-Some-Force.is ∙ ap Some c.in-Some-Force.field-0-is) in
+    let r = value_last p hs e (ap (λ es. top_await (term_of p es)) (sym st) ∙ c.requires.2) in
+    absurd (cc)
+
+pub returns-in-Some-Wraps : goal.returns-in-Some-Wraps
+returns-in-Some-Wraps c =
+    let p = c.requires.0 in
+    let s = c.stack.inside in
+    let hs = called s.below s.call in
+    let e : Entry = entry.Wraps c.in-Some-Wraps.field-0-0 in
+    let st : c.args.stack.now ≡ hs ++ plain_held e ∷ [] = sym c.stack.view_is ∙ ap (topped hs) (c.in-Some-Wraps.is ∙ ap Some c.in-Some-Wraps.field-0-is) in
+    let r = value_last p hs e (ap (λ es. top_await (term_of p es)) (sym st) ∙ c.requires.2) in
+    absurd (cc)
 
 pub returns-in-Some-call-clause-term : goal.returns-in-Some-call-clause-term
 returns-in-Some-call-clause-term c = λ p o h.
@@ -55,7 +72,8 @@ returns-in-Some-call-clause-term c = λ p o h.
     let hs = s.below in
     let e : Entry = entry.Call c.in-Some-call.call in
     let st : c.args.stack.now ≡ hs ++ plain_held e ∷ [] = sym c.stack.view_is ∙ ap (topped (called hs s.call)) c.in-None.is ∙ ap (called hs) c.in-Some-call.is in
-    value_given p hs c.in-Some-call.call c.fill-in-Some-call.new.call c.args.value o (subst (StackFits p) st h) c.fill-in-Some-call.ensures.place c.fill-in-Some-call.ensures.runs c.fill-in-Some-call.ensures.slots
+    ap (λ x. term_of p (topped (hs ++ plain_held (entry.Call c.fill-in-Some-call.new.call) ∷ []) x)) c.in-None.is
+    ∙ value_given p hs c.in-Some-call.call c.fill-in-Some-call.new.call c.args.value o (subst (StackFits p) st h) c.fill-in-Some-call.ensures.place c.fill-in-Some-call.ensures.runs c.fill-in-Some-call.ensures.slots
     ∙ ap (λ es. after_answer (text_of p) (a_value c.args.value) (term_of p es)) (sym st)
 
 pub returns-in-Some-call-clause-fits : goal.returns-in-Some-call-clause-fits
@@ -64,4 +82,5 @@ returns-in-Some-call-clause-fits c = λ p h g.
     let hs = s.below in
     let e : Entry = entry.Call c.in-Some-call.call in
     let st : c.args.stack.now ≡ hs ++ plain_held e ∷ [] = sym c.stack.view_is ∙ ap (topped (called hs s.call)) c.in-None.is ∙ ap (called hs) c.in-Some-call.is in
-    value_given_fits p hs c.in-Some-call.call c.fill-in-Some-call.new.call c.args.value (subst (StackFits p) st h) g c.fill-in-Some-call.ensures.place.0 c.fill-in-Some-call.ensures.runs c.fill-in-Some-call.ensures.slots
+    subst (StackFits p) (sym (ap (topped (hs ++ plain_held (entry.Call c.fill-in-Some-call.new.call) ∷ [])) c.in-None.is))
+    (value_given_fits p hs c.in-Some-call.call c.fill-in-Some-call.new.call c.args.value (subst (StackFits p) st h) g c.fill-in-Some-call.ensures.place.0 c.fill-in-Some-call.ensures.runs c.fill-in-Some-call.ensures.slots)
