@@ -20,14 +20,14 @@ fill-requires c =
     let st : c.args.stack.now ≡ hs ++ plain_held e ∷ [] = sym c.stack.view_is ∙ ap (topped hs) (c.in-Some-Call.is ∙ ap Some c.in-Some-Call.field-0-is) in
     record { waits = filled_room p c.in-Some-Call.call (fits_popped p hs (plain_held e) (subst (StackFits p) st c.requires.1)).1 }
 
-pub fill-requires-in-Some-call : goal.fill-requires-in-Some-call
-fill-requires-in-Some-call c =
+pub fill-requires-in-Some : goal.fill-requires-in-Some
+fill-requires-in-Some c =
     let p = c.requires.0 in
     let s = c.stack.inside in
     let hs = s.below in
-    let e : Entry = entry.Call c.in-Some-call.call in
-    let st : c.args.stack.now ≡ hs ++ plain_held e ∷ [] = sym c.stack.view_is ∙ ap (topped (called hs s.call)) c.in-None.is ∙ ap (called hs) c.in-Some-call.is in
-    record { waits = filled_room p c.in-Some-call.call (fits_popped p hs (plain_held e) (subst (StackFits p) st c.requires.1)).1 }
+    let e : Entry = entry.Call c.in-Some.call in
+    let st : c.args.stack.now ≡ hs ++ plain_held e ∷ [] = sym c.stack.view_is ∙ ap (topped (called hs s.call)) c.in-None.is ∙ ap (called hs) c.in-Some.is in
+    record { waits = filled_room p c.in-Some.call (fits_popped p hs (plain_held e) (subst (StackFits p) st c.requires.1)).1 }
 
 pub returns-in-Some-Call-clause-term : goal.returns-in-Some-Call-clause-term
 returns-in-Some-Call-clause-term c = λ p o h.
@@ -66,21 +66,21 @@ returns-in-Some-Wraps c =
     let r = value_last p hs e (ap (λ es. top_await (term_of p es)) (sym st) ∙ c.requires.2) in
     absurd (cc)
 
-pub returns-in-Some-call-clause-term : goal.returns-in-Some-call-clause-term
-returns-in-Some-call-clause-term c = λ p o h.
+pub returns-in-Some-clause-term : goal.returns-in-Some-clause-term
+returns-in-Some-clause-term c = λ p o h.
     let s = c.stack.inside in
     let hs = s.below in
-    let e : Entry = entry.Call c.in-Some-call.call in
-    let st : c.args.stack.now ≡ hs ++ plain_held e ∷ [] = sym c.stack.view_is ∙ ap (topped (called hs s.call)) c.in-None.is ∙ ap (called hs) c.in-Some-call.is in
-    ap (λ x. term_of p (topped (hs ++ plain_held (entry.Call c.fill-in-Some-call.new.call) ∷ []) x)) c.in-None.is
-    ∙ value_given p hs c.in-Some-call.call c.fill-in-Some-call.new.call c.args.value o (subst (StackFits p) st h) c.fill-in-Some-call.ensures.place c.fill-in-Some-call.ensures.runs c.fill-in-Some-call.ensures.slots
+    let e : Entry = entry.Call c.in-Some.call in
+    let st : c.args.stack.now ≡ hs ++ plain_held e ∷ [] = sym c.stack.view_is ∙ ap (topped (called hs s.call)) c.in-None.is ∙ ap (called hs) c.in-Some.is in
+    ap (λ x. term_of p (topped (hs ++ plain_held (entry.Call c.fill-in-Some.new.call) ∷ []) x)) c.in-None.is
+    ∙ value_given p hs c.in-Some.call c.fill-in-Some.new.call c.args.value o (subst (StackFits p) st h) c.fill-in-Some.ensures.place c.fill-in-Some.ensures.runs c.fill-in-Some.ensures.slots
     ∙ ap (λ es. after_answer (text_of p) (a_value c.args.value) (term_of p es)) (sym st)
 
-pub returns-in-Some-call-clause-fits : goal.returns-in-Some-call-clause-fits
-returns-in-Some-call-clause-fits c = λ p h g.
+pub returns-in-Some-clause-fits : goal.returns-in-Some-clause-fits
+returns-in-Some-clause-fits c = λ p h g.
     let s = c.stack.inside in
     let hs = s.below in
-    let e : Entry = entry.Call c.in-Some-call.call in
-    let st : c.args.stack.now ≡ hs ++ plain_held e ∷ [] = sym c.stack.view_is ∙ ap (topped (called hs s.call)) c.in-None.is ∙ ap (called hs) c.in-Some-call.is in
-    subst (StackFits p) (sym (ap (topped (hs ++ plain_held (entry.Call c.fill-in-Some-call.new.call) ∷ [])) c.in-None.is))
-    (value_given_fits p hs c.in-Some-call.call c.fill-in-Some-call.new.call c.args.value (subst (StackFits p) st h) g c.fill-in-Some-call.ensures.place.0 c.fill-in-Some-call.ensures.runs c.fill-in-Some-call.ensures.slots)
+    let e : Entry = entry.Call c.in-Some.call in
+    let st : c.args.stack.now ≡ hs ++ plain_held e ∷ [] = sym c.stack.view_is ∙ ap (topped (called hs s.call)) c.in-None.is ∙ ap (called hs) c.in-Some.is in
+    subst (StackFits p) (sym (ap (topped (hs ++ plain_held (entry.Call c.fill-in-Some.new.call) ∷ [])) c.in-None.is))
+    (value_given_fits p hs c.in-Some.call c.fill-in-Some.new.call c.args.value (subst (StackFits p) st h) g c.fill-in-Some.ensures.place.0 c.fill-in-Some.ensures.runs c.fill-in-Some.ensures.slots)
