@@ -20,6 +20,7 @@ same_is v w b h = decided b (same_or_other v w) h
 -- the same of two numbers, told from their bits
 pub same_number : (x y : ℤ) → FitsSigned w64 x → FitsSigned w64 y → nat_eq (of_z w64 x) (of_z w64 y) ≡ are_same (int x) (int y)
 same_number x y f g =
-    same_is (int x) (int y) (nat_eq (of_z w64 x) (of_z w64 y))
-    ((λ h. ap int (sym (to_z-of_z w64 x f) ∙ ap (to_z w64) (eqb-true _ _ h) ∙ to_z-of_z w64 y g)),
-    (λ e. let same : x ≡ y = cc in eq-eqb _ _ (ap (of_z w64) same)))
+    same_is (int x) (int y) (nat_eq (of_z w64 x) (of_z w64 y)) (
+      (λ h. ap int (sym (to_z-of_z w64 x f) ∙ ap (to_z w64) (eqb-true _ _ h) ∙ to_z-of_z w64 y g)),
+      (λ e. let same : x ≡ y = cc in eq-eqb _ _ (ap (of_z w64) same)),
+    )
