@@ -42,9 +42,10 @@ returns-in-Asks-clause-meant c = λ hs h step e m.
 pub returns-in-Asks-clause-fits : goal.returns-in-Asks-clause-fits
 returns-in-Asks-clause-fits c =
     let p = c.args.program.now in
-    let s = c.requires.stands in
-    (stands_fits p c.args.stack.now s.rest s.top s.is s.beneath (subst (λ (d : Action). StandsAfter p d s.top) c.in-Asks.is s.stands),
-    subst (λ (d : Action). ActionAgrees (arities p) (Ok d)) c.in-Asks.is c.requires.did)
+    let s = c.requires.stands in (
+      stands_fits p c.args.stack.now s.rest s.top s.is s.beneath (subst (λ (d : Action). StandsAfter p d s.top) c.in-Asks.is s.stands),
+      subst (λ (d : Action). ActionAgrees (arities p) (Ok d)) c.in-Asks.is c.requires.did,
+    )
 
 pub returns-in-Forces-clause-meant : goal.returns-in-Forces-clause-meant
 returns-in-Forces-clause-meant c = λ hs h step e m.

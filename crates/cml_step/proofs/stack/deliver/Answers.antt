@@ -47,9 +47,11 @@ returns-in-Some-clause-fits c =
     let s = c.stack.inside in
     let hs = called s.below s.call in
     let e : Entry = c.in-Some.entry in
-    let st : c.args.stack.now ≡ hs ++ plain_held e ∷ [] = sym c.stack.view_is ∙ ap (topped hs) c.in-Some.is in
-    (stands_fits p (hs ++ plain_held c.deliver_to.new.entry ∷ []) hs (plain_held c.deliver_to.new.entry) refl
-    (beneath_popped p hs (plain_held e) (subst (EachBeneath p) st c.requires.beneath)).0 c.in_ok-deliver_to.ensures.fits, refl)
+    let st : c.args.stack.now ≡ hs ++ plain_held e ∷ [] = sym c.stack.view_is ∙ ap (topped hs) c.in-Some.is in (
+      stands_fits p (hs ++ plain_held c.deliver_to.new.entry ∷ []) hs (plain_held c.deliver_to.new.entry) refl
+          (beneath_popped p hs (plain_held e) (subst (EachBeneath p) st c.requires.beneath)).0 c.in_ok-deliver_to.ensures.fits,
+      refl,
+    )
 
 pub deliver_to_call-requires-clause-fits : goal.deliver_to_call-requires-clause-fits
 deliver_to_call-requires-clause-fits c =
