@@ -1,5 +1,5 @@
 use Rattle.std.proofs.Common.{subst}
-use Rattle.cml_check.specs.Syntax.{let_be, set_to, just_do, return_with}
+use Rattle.cml_check.specs.Syntax.{let_be, set_to, just_do}
 use Rattle.cml_check.specs.StmtViews.{plain_effect, plain_source}
 use Rattle.cml_check.specs.InOrder.{arities}
 use Rattle.cml_check.specs.Layout.{left}
