@@ -13,7 +13,7 @@ ghost use Rattle.cml_step.specs.Steps as steps;
 ghost use Rattle.cml_step.specs.Steps.{PlainStep};
 ghost use Rattle.cml_step.specs.Calls.{text_of, entry_of, MovesTo, ActionAgrees};
 ghost use Rattle.cml_step.specs.Machines.{PlainHeld, force as plain_force, plain_held, held_entry};
-ghost use Rattle.cml_step.specs.Stacks.{entry_view, term_of, EntryFits, BeneathFits, EachBeneath, StackFits, IsStep, StepFits, CallFits, WrapsFit, IsDelivered, EntryTopStands, TopStands};
+ghost use Rattle.cml_step.specs.Stacks.{entry_view, term_of, EntryFits, BeneathFits, EachBeneath, StackFits, IsStep, StepFits, CallFits, WrapsFit, IsDelivered, EntryStands, TopStands};
 
 use crate::ask::Ask;
 use crate::call::{Action, Call, Wait, call_step, fill};
