@@ -20,6 +20,7 @@ use Rattle.cml_step.specs.Answers.{PlainAwait, top_await, awaited_by, answer_for
 use Rattle.cml_step.specs.Asks.{PlainAnswer, a_value, a_nack, a_commit}
 use Rattle.cml_step.specs.Calls.{entry_of, entry_in, entry_for, placed_in, text_of, slots_with, WaitFits}
 use Rattle.cml_step.specs.Machines.{PlainHeld, plain_held, name_count}
+use Rattle.cml_step.specs.Shared.{topped, called}
 use Rattle.cml_step.specs.Stacks.{CallFits, entry_view, term_of, StackFits}
 use Rattle.cml_step.specs.Terms.{Program, runs, drops, gives, call, force, wraps, Term, call_of}
 use Rattle.cml_step.proofs.AwaitLemmas.{begun_runs}
@@ -75,6 +76,16 @@ commit_last p es e h = commit_top p e (term_of p es) (ap top_await (sym (term_pu
 
 pub nack_last : (p : List (PlainItem ℕ)) (es : List PlainHeld) (g : PlainEvent) (asked : Bool) → top_await (term_of p (es ++ plain_held (entry.Force g asked) ∷ [])) ≡ await.nack → AwaitsNack g
 nack_last p es g asked h = nack_top g asked (term_of p es) (ap top_await (sym (term_pushed p es (plain_held (entry.Force g asked)))) ∙ h)
+
+-- the same where the entries lie in their two places
+commit_nowhere : (p : List (PlainItem ℕ)) (below : List PlainHeld) → below ≡ [] → top_await (term_of p below) ≡ await.commit → ⊥
+commit_nowhere p below e h = let t = ap (λ hs. top_await (term_of p hs)) (sym e) ∙ h in cc
+
+pub commit_in_place : (p : List (PlainItem ℕ)) (below : List PlainHeld) (own : Option Call) (over : Option Entry) → (over ≡ None → own ≡ None → below ≡ []) →
+    top_await (term_of p (topped (called below own) over)) ≡ await.commit → (g : PlainEvent) × (asked : Bool) × (over ≡ Some (entry.Force g asked))
+commit_in_place p below own (Some e) lifted h = let r = commit_last p (called below own) e h in (r.0, r.1, ap Some r.2)
+commit_in_place p below (Some c) None lifted h = let r = commit_last p below (entry.Call c) h in absurd (cc)
+commit_in_place p below None None lifted h = absurd (commit_nowhere p below (lifted refl refl) h)
 
 -- a function of a program in order
 got : (p : List (PlainItem ℕ)) (g : ℕ) (d : PlainItem ℕ) → g < length p → slice_get p g ≡ Some (slice_index_or p g d)

@@ -13,4 +13,5 @@ pub mod AnswerLemmas
 pub mod ShortLemmas
 pub mod NackLemmas
 pub mod LeafLemmas
+pub mod RanLemmas
 mod Worked

@@ -7,6 +7,7 @@ ghost use Rattle.cml_step.specs.Agrees.{function_agrees};
 ghost use Rattle.cml_step.specs.Terms.{call_of};
 ghost use Rattle.cml_step.specs.Calls.{text_of, entry_of};
 ghost use Rattle.cml_step.specs.Machines.{plain_held};
+ghost use Rattle.cml_step.specs.Shared.{plain_seen};
 ghost use Rattle.cml_step.specs.Stacks.{CallFits};
 
 use crate::call::{Call, Wait};
@@ -67,17 +68,46 @@ pub(crate) fn begin(alloc: Global, function: &FnRef) -> Result<Call, AllocError>
     })
 }
 
+/// The same call, whose values have one more owner each.
+pub(crate) fn copy_call(alloc: Global, call: &Call) -> Result<Call, AllocError>
+    ensures { IfOk result (λ copy. plain_held (Entry.Call copy) ≡ plain_held (Entry.Call call.now)) }
+{
+    Ok(Call {
+        func: call.func,
+        at: call.at,
+        slots: copies(alloc, call.slots.as_slice())?,
+        wait: call.wait,
+    })
+}
+
+// Puts other owners of these values into the list.
+fn renew_slots(slots: &mut Vec<Value>, values: &[Value]) -> Result<(), AllocError>
+    ensures { IfOk result (λ _. slots.new.items ≡ values.now) }
+{
+    slots.clear();
+    for value in values {
+        slots.push(value.copy()?)?;
+    }
+    Ok(())
+}
+
+/// The call becomes the same as the other, in the lists that it has.
+pub(crate) fn renew_call(own: &mut Call, call: &Call) -> Result<(), AllocError>
+    ensures { IfOk result (λ _. plain_held (Entry.Call own.new)
+        ≡ plain_held (Entry.Call call.now)) }
+{
+    own.func = call.func;
+    own.at = call.at;
+    own.wait = call.wait;
+    renew_slots(&mut own.slots, call.slots.as_slice())
+}
+
 /// The same entry, whose values have one more owner each.
 pub(crate) fn copy_entry(alloc: Global, entry: &Entry) -> Result<Entry, AllocError>
     ensures { IfOk result (λ copy. plain_held copy ≡ plain_held entry.now) }
 {
     match entry {
-        Entry::Call(call) => Ok(Entry::Call(Call {
-            func: call.func,
-            at: call.at,
-            slots: copies(alloc, call.slots.as_slice())?,
-            wait: call.wait,
-        })),
+        Entry::Call(call) => Ok(Entry::Call(copy_call(alloc, call)?)),
         Entry::Force(forcing, asked) => Ok(Entry::Force(forcing.copy(alloc)?, *asked)),
         Entry::Wraps(wraps) => Ok(Entry::Wraps(Wraps {
             left: functions(alloc, wraps.left.as_slice())?,
@@ -124,29 +154,48 @@ fn same_functions(functions: &[FnRef], others: &[FnRef]) -> bool
     true
 }
 
+/// An entry of a stack, where it stands.
+#[derive(Clone, Copy)]
+pub(crate) enum Seen<'a> {
+    Call(&'a Call),
+    Force(&'a Forcing, bool),
+    Wraps(&'a Wraps),
+}
+
+/// The entry where it stands.
+pub(crate) fn as_seen(entry: &Entry) -> Seen<'_>
+    ensures { plain_seen result ≡ plain_held entry.now }
+{
+    match entry {
+        Entry::Call(call) => Seen::Call(call),
+        Entry::Force(forcing, asked) => Seen::Force(forcing, *asked),
+        Entry::Wraps(wraps) => Seen::Wraps(wraps),
+    }
+}
+
 /// Whether the two may be the same: no value is looked at.
-pub(crate) fn may_be_same(entry: &Entry, other: &Entry) -> bool
-    ensures { plain_held entry.now ≡ plain_held other.now → IsTrue result }
+pub(crate) fn may_be_same(entry: Seen<'_>, other: Seen<'_>) -> bool
+    ensures { plain_seen entry.entry ≡ plain_seen other.entry → IsTrue result }
 {
     match (entry, other) {
-        (Entry::Call(call), Entry::Call(second)) => same_place(call, second),
-        (Entry::Force(_, asked), Entry::Force(_, second)) => *asked == *second,
-        (Entry::Wraps(_), Entry::Wraps(_)) => true,
+        (Seen::Call(call), Seen::Call(second)) => same_place(call, second),
+        (Seen::Force(_, asked), Seen::Force(_, second)) => asked == second,
+        (Seen::Wraps(_), Seen::Wraps(_)) => true,
         _ => false,
     }
 }
 
 /// Whether the two are the same entry.
-pub(crate) fn same_entry(entry: &Entry, other: &Entry) -> bool
-    ensures { IsTrue result ↔ (plain_held entry.now ≡ plain_held other.now) }
+pub(crate) fn same_entry(entry: Seen<'_>, other: Seen<'_>) -> bool
+    ensures { IsTrue result ↔ (plain_seen entry.entry ≡ plain_seen other.entry) }
 {
     match (entry, other) {
-        (Entry::Call(call), Entry::Call(second)) => same_place(call, second)
+        (Seen::Call(call), Seen::Call(second)) => same_place(call, second)
             && same_values(call.slots.as_slice(), second.slots.as_slice()),
-        (Entry::Force(forcing, asked), Entry::Force(second, had_asked)) => {
-            *asked == *had_asked && forcing.same(second)
+        (Seen::Force(forcing, asked), Seen::Force(second, had_asked)) => {
+            asked == had_asked && forcing.same(second)
         }
-        (Entry::Wraps(wraps), Entry::Wraps(second)) => {
+        (Seen::Wraps(wraps), Seen::Wraps(second)) => {
             wraps.value.same(&second.value)
                 && same_functions(wraps.left.as_slice(), second.left.as_slice())
         }

@@ -1,6 +1,6 @@
-//! Steps that only set variables and choose places. The call on top does them where it is; for any other it is taken off the stack.
+//! Steps that only set variables and choose places.
 
-ghost use Rattle.std.specs.Prelude.{◌≡◌, ◌≤◌, ℕ, ◌∷◌, length, true, false, IfOk};
+ghost use Rattle.std.specs.Prelude.{◌≡◌, ◌≤◌, ℕ, ◌∷◌, length, true, false};
 ghost use Rattle.cml_check.specs.InOrder.{FunctionFits, arities};
 ghost use Rattle.cml_check.specs.Layout.{left};
 ghost use Rattle.cml_check.specs.Follows.{Follows, instr_fits};
@@ -11,13 +11,11 @@ ghost use Rattle.cml_step.specs.Calls.{entry_for, entry_of, text_of, variables_o
 ghost use Rattle.cml_step.specs.Steps as steps;
 ghost use Rattle.cml_step.specs.Steps.{goes_on};
 ghost use Rattle.cml_step.specs.Slices.{GoesIn};
-ghost use Rattle.cml_step.specs.Stacks.{term_of, CallFits, EachBeneath, StackFits};
+ghost use Rattle.cml_step.specs.Stacks.{CallFits};
 
 use crate::call::{Call, Wait, assign, choose};
-use crate::entries::Stack;
-use crate::entry::Entry;
 use cml_check::{Function, Instr, Prog, Source};
-use std::alloc::{AllocError, Global};
+use std::alloc::Global;
 
 // Whether the instruction only sets a variable or chooses a place, and was done. Else nothing has changed.
 fn quiet(alloc: Global, program: &Prog, f: &Function, instr: &Instr, call: &mut Call) -> bool
@@ -64,8 +62,8 @@ fn quiet_step(alloc: Global, program: &Prog, f: &Function, call: &mut Call) -> b
     }
 }
 
-// Takes the first steps of the call that do only this, at most this many. Returns how many they were.
-fn quiet_run(alloc: Global, program: &Prog, call: &mut Call, most: u32) -> u32
+/// Takes the first steps of the call that do only this, at most this many. Returns how many they were.
+pub(crate) fn quiet_run(alloc: Global, program: &Prog, call: &mut Call, most: u32) -> u32
     requires fits { CallFits program.now call.old }
     ensures fits { CallFits program.now call.new }
     ensures within { result ≤ most }
@@ -84,54 +82,4 @@ fn quiet_run(alloc: Global, program: &Prog, call: &mut Call, most: u32) -> u32
         done += 1;
     }
     done
-}
-
-// The same of the call on top, which is put back on the stack.
-#[tactic(auto, using(crate::proofs::StackLemmas::term_pushed, crate::proofs::StackLemmas::fits_pushed))]
-fn quiet_call(
-    alloc: Global,
-    program: &Prog,
-    call: Call,
-    below: &mut Stack,
-    most: u32,
-) -> Result<u32, AllocError>
-    requires fits { CallFits program.now call }
-    requires beneath { EachBeneath program.now below.old }
-    ensures fits { IfOk result (λ _. StackFits program.now below.new) }
-    ensures within { IfOk result (λ n. n ≤ most) }
-    ensures goes { IfOk result (λ n. (self : ℕ) → GoesIn (text_of program.now) self n
-        (entry_of program.now call ∷ term_of program.now below.old)
-        (term_of program.now below.new)) }
-{
-    let mut call = call;
-    let done = quiet_run(alloc, program, &mut call, most);
-    below.push(alloc, Entry::Call(call))?;
-    Ok(done)
-}
-
-/// Takes the first steps of a stack that only set variables and choose places, at most this many. Returns how many they were.
-#[tactic(auto, using(crate::proofs::StackLemmas::term_pushed, crate::proofs::StackLemmas::fits_popped))]
-pub(crate) fn quiet_steps(
-    alloc: Global,
-    program: &Prog,
-    stack: &mut Stack,
-    most: u32,
-) -> Result<u32, AllocError>
-    requires { StackFits program.now stack.old }
-    ensures fits { IfOk result (λ _. StackFits program.now stack.new) }
-    ensures within { IfOk result (λ n. n ≤ most) }
-    ensures goes { IfOk result (λ n. (self : ℕ) → GoesIn (text_of program.now) self n
-        (term_of program.now stack.old) (term_of program.now stack.new)) }
-{
-    if !stack.has_call() {
-        return Ok(0);
-    }
-    match stack.pop(alloc)? {
-        Some(Entry::Call(call)) => quiet_call(alloc, program, call, stack, most),
-        Some(other) => {
-            stack.push(alloc, other)?;
-            Ok(0)
-        }
-        None => Ok(0),
-    }
 }
