@@ -1,5 +1,5 @@
 -- How runs end that do not come to their end.
-use Rattle.std.proofs.Common.{◌≡◌, ℕ, List, Bool, true, false, true≢false, Result, Ok, Err, IfOk, IfErr, length, refl, sym, ap, subst, ◌∙◌}
+use Rattle.std.proofs.Common.{◌≡◌, ℕ, List, Bool, true, false, true≢false, Result, Ok, Err, IfErr, length, refl, sym, ap, subst, ◌∙◌}
 use Rattle.cml_monitor.specs.Reports.{PlainReport}
 use Rattle.cml_hub.specs.Kept.{Kept}
 use Rattle.cml_stream.specs.Streams.{Stream, Takes}
@@ -9,7 +9,6 @@ use Rattle.cml_work.specs.Works.{IsWorkerCount, PlainOpening, opening_of, Follow
 use Rattle.cml_work.specs.declared.fault.WorkFault.{WorkFault}
 use Rattle.cml_work.specs.declared.fault.WorkFault.TheVariants.{Count, Memory, Start, Write, Foreign}
 use Rattle.cml_work.proofs.Going.{goes_on_same, went, went_after, worked_after, nothing_more}
-use Rattle.cml_work.proofs.MarkSteps.{begins_trans}
 
 pub after_breaks : (o : PlainOpening) (hub mid : Kept) (is_still : Bool) (fault : WorkFault) → opening_of hub ≡ o → Follows o mid
     → (is_still ≡ true → length mid.course.items ≡ length hub.course.items) → BreaksAfter mid is_still fault → WatchBreaks hub fault

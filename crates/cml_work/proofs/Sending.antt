@@ -6,7 +6,6 @@ use Rattle.std.proofs.lemmas.Grind.{flat_map-append}
 use Rattle.std.proofs.lemmas.List.{take-append-drop, take_more}
 use Rattle.cml_stream.specs.Counts.{counted}
 use Rattle.cml_stream.specs.Streams.{Stream, stream, Takes, TakesStart}
-use Rattle.cml_stream.specs.declared.input_output.WriteFault.{WriteFault}
 use Rattle.cml_work.specs.Seen.{IsSentOut, failed_with}
 
 -- a text, and then a prefix of one more

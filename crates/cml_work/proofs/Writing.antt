@@ -1,6 +1,6 @@
 -- What was written of reports.
-use Rattle.std.proofs.Common.{ℕ, ◌≡◌, ◌-◌, ◌++◌, List, [], ◌∷◌, length, ap, refl, sym, subst, ◌∙◌, append_assoc, append-nil}
-use Rattle.std.specs.Prelude.{Option, Some, None, Result, Ok, Err, IfOk, IfSome, take, drop}
+use Rattle.std.proofs.Common.{ℕ, ◌≡◌, ◌-◌, ◌++◌, List, [], ◌∷◌, length, ap, sym, subst, ◌∙◌, append_assoc, append-nil}
+use Rattle.std.specs.Prelude.{Option, Some, Result, Ok, IfOk, IfSome, take, drop}
 use Rattle.std.proofs.lemmas.Grind.{flat_map-append}
 use Rattle.std.proofs.KnownBytes.{Appends-nil, Appends-trans}
 use Rattle.std.proofs.Math.Seq.{drop-append_seam, take-length}

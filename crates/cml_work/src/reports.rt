@@ -60,10 +60,7 @@ fn send_rows<W: Write>(rows: &[Meet], writer: &mut Counting<'_, W>) -> Result<()
 }
 
 // Writes a line for each thread that waits.
-fn send_waiting<W: Write>(
-    threads: &[Tid],
-    writer: &mut Counting<'_, W>,
-) -> Result<(), WriteFault>
+fn send_waiting<W: Write>(threads: &[Tid], writer: &mut Counting<'_, W>) -> Result<(), WriteFault>
     ensures sent { let output = stream (W.contents writer.old.stream.now) (W.contents writer.new.stream.now) in
         IsSentOut (flat_map waits_line threads.now) result output }
     ensures same_reference { writer.new.stream.ghost_name ≡ writer.old.stream.ghost_name }

@@ -1,7 +1,7 @@
-use Rattle.std.proofs.Common.{rules, ◌≡◌, ap, sym, subst, ◌∙◌}
+use Rattle.std.proofs.Common.{rules, ap, sym, subst, ◌∙◌}
 use Rattle.crossbeam_utils.specs.Seq.{cell_view}
 use Rattle.cml_work.specs.declared.marks.Known.{Known}
-use Rattle.cml_work.specs.Marks.{BeginsWith, known_of, shown_of, with_shown, Learned}
+use Rattle.cml_work.specs.Marks.{BeginsWith, known_of, shown_of, with_shown}
 use Rattle.cml_work.proofs.MarkSteps.{begins_trans, learns_as, takes_in_as}
 use Rattle.cml_work.proofs.marks.learn.Goals as goal
 

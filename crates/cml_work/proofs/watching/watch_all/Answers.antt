@@ -1,4 +1,4 @@
-use Rattle.std.proofs.Common.{◌≡◌, ℕ, arith, Some, List, [], ◌∷◌, ◌++◌, refl, sym, ap, subst, ◌∙◌}
+use Rattle.std.proofs.Common.{◌≡◌, ℕ, arith, Some, List, refl, sym, subst, ◌∙◌}
 use Rattle.std.specs.Prelude.{slice_get, length}
 use Rattle.std.proofs.KnownBytes.{Appends-nil}
 use Rattle.cml_monitor.specs.Reports.{PlainReport}
