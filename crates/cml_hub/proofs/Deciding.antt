@@ -1,26 +1,22 @@
 -- What the tests of a hub decide, and what is handed out.
 use Rattle.std.proofs.Common.{◌≡◌, ℕ, Bool, true, false, not, ◌&&◌, List, [], refl, arith, Some, None, sym, ap, ◌∙◌, subst}
-use Rattle.std.specs.Prelude.{Option, Result, Ok, Err, OnOk, OnErr, ◌==◌, slice_get, slice_set}
+use Rattle.std.specs.Prelude.{Option, Result, Ok, Err, OnOk, OnErr, ◌==◌}
 use Rattle.std.specs.List.{list_any}
 use Rattle.std.specs.Option.{is_some}
 use Rattle.std.proofs.lemmas.Bool.Decides.{nat_tests}
-use Rattle.cml_scan.specs.World.{PlainWorld, PlainThread, running}
+use Rattle.cml_scan.specs.World.{PlainWorld, PlainThread}
 use Rattle.cml_scan.specs.Scan.{scan}
 use Rattle.cml_scan.specs.declared.meet.Meet.{Meet}
 use Rattle.cml_book.specs.Walks.{runs}
-use Rattle.cml_monitor.specs.Reports.{PlainReport}
 use Rattle.cml_schedule.specs.declared.item.Item.{Item}
 use Rattle.cml_schedule.specs.declared.item.Item.TheVariants.{Clock}
 use Rattle.cml_hub.specs.declared.marks.Mark.{Mark}
-use Rattle.cml_hub.specs.declared.marks.Mark.TheVariants.{Ready, Out}
 use Rattle.cml_hub.specs.Marks.{is_here}
 use Rattle.cml_hub.specs.Runs.{any_runs, is_empty, has_number, is_none, next_alarm, is_allowed, terminal}
-use Rattle.cml_hub.specs.Courses.{PlainCourse, Adds}
-use Rattle.cml_hub.specs.Kept.{Kept, Stands, Placed}
+use Rattle.cml_hub.specs.Courses.{Adds}
+use Rattle.cml_hub.specs.Kept.{Kept, Placed}
 use Rattle.cml_hub.specs.Moves.{AddsItem, Reported}
-use Rattle.cml_hub.proofs.Marking.{placed_any, placed_kept}
-use Rattle.cml_hub.proofs.Placing.{ready_runs}
-use Rattle.cml_hub.proofs.Giving.{kept_of}
+use Rattle.cml_hub.proofs.Marking.{placed_any}
 
 -- whether some thread runs, by the marks
 pub idle_is : (ts : List PlainThread) (ms : List Mark) (i : Bool) → Placed ts ms → i ≡ not (list_any is_here ms) → i ≡ not (list_any runs ts)
@@ -76,16 +72,6 @@ tick_allowed w tick alarm idle still =
 pub is_terminal : (w : PlainWorld) → None ≡ next_alarm w → any_runs w ≡ false → scan w ≡ [] → terminal w ≡ true
 is_terminal w alarm idle still =
     all_three (not (any_runs w)) (is_empty (scan w)) (is_none (next_alarm w)) (ap not idle) (empty_is (scan w) still) (subst (λ o. is_none o ≡ true) alarm refl)
-
--- a machine is handed out
-pub stands_handed : (course : PlainCourse) (budget : ℕ) (watch : Option ℕ) (ms ns : List Mark) (reports : List PlainReport) (t : ℕ) → Stands (kept_of course budget watch ms reports) ms
-    → slice_get ms t ≡ Some Ready → ns ≡ slice_set ms t Out → Stands (kept_of course budget watch ns reports) ns
-stands_handed course budget watch ms ns reports t s ready e = rw e (record {
-  placed = placed_kept course.world.threads ms t running Out s.placed (ready_runs course.world.threads ms t s.placed ready) refl;
-  budgeted = s.budgeted;
-  watched = s.watched;
-  reported = s.reported;
-})
 
 -- what follows where it went well
 pub on_ok : {T E : Type 0} {A B : Type 0} (r : Result T E) → (A → B) → OnOk r A → OnOk r B

@@ -23,7 +23,7 @@ use Rattle.cml_hub.proofs.Reporting.{stands_reported, reported_one}
 use Rattle.cml_hub.proofs.Keeping.{stands_turned}
 
 abbrev with_due : Kept → Option PlainReport → Kept
-with_due h due = record { course = h.course; budget = h.budget; watch = h.watch; out = h.out; reports = with_report h.reports due }
+with_due h due = record { course = h.course; budget = h.budget; watch = h.watch; out = h.out; queue = h.queue; reports = with_report h.reports due }
 
 abbrev IsDueOf : Kept → Option PlainReport → Type 0
 IsDueOf h due = IsDueReport h.watch (length h.course.items) (length h.reports) h.course.world due
@@ -52,12 +52,12 @@ turn_runs : (p : Program) (r new : Run) (t : Tid) → advance p r (Turn t) ≡ S
 turn_runs p r new t h = runs_is (slice_get r.world.threads t.0) (taken (is_running r.world t.0) (turned p r t.0) new h)
 
 -- What holds of the hub holds of it after.
-pub given_stands : (h : Kept) (ms : List Mark) (due : Option PlainReport) (t : Tid) (g : Gone) (new : PlainCourse) → Stands h ms
+pub given_stands : (h : Kept) (ms : List Mark) (due : Option PlainReport) (t : Tid) (g : Gone) (new : PlainCourse) (q : List Tid) → Stands h ms
     → stands (text_of h.course.program) h.course.items ≡ Some (run_of h.course) → IsDueOf h due → Turns h.course t g new
-    → Stands (record { course = new; budget = h.budget; watch = h.watch; out = map is_out (marks_after t.0 g ms); reports = with_report h.reports due }) (marks_after t.0 g ms)
-given_stands h ms due t g new s leads d turns =
+    → Stands (record { course = new; budget = h.budget; watch = h.watch; out = map is_out (marks_after t.0 g ms); queue = q; reports = with_report h.reports due }) (marks_after t.0 g ms)
+given_stands h ms due t g new q s leads d turns =
     let run = turn_runs (text_of h.course.program) (run_of h.course) (run_of new) t turns.adds.run in
-    stands_turned (with_due h due) ms t g new (due_stands h ms due s leads d) (due_none h ms due s d) run turns
+    stands_turned (with_due h due) ms t g new q (due_stands h ms due s leads d) (due_none h ms due s d) run turns
 
 -- it has a mark
 pub there_given : (h : Kept) (ms : List Mark) (t : Tid) (g : Gone) (new : PlainCourse) → Stands h ms → Turns h.course t g new → t.0 < length ms
@@ -72,11 +72,11 @@ made_is xs None = sym (append-nil xs)
 made_is xs (Some r) = refl
 
 -- What has changed is that.
-pub given_so : (course : PlainCourse) (budget : ℕ) (watch : Option ℕ) (reports : List PlainReport) (ms : List Mark) (due : Option PlainReport) (t u : Tid) (g : Gone) (new : PlainCourse)
+pub given_so : (course : PlainCourse) (budget : ℕ) (watch : Option ℕ) (reports : List PlainReport) (ms : List Mark) (due : Option PlainReport) (t u : Tid) (g : Gone) (new : PlainCourse) (p q : List Tid)
     → Turns course t g new → t.0 ≡ u.0
-    → Given (record { course = course; budget = budget; watch = watch; out = map is_out ms; reports = reports }) u
-    (record { course = new; budget = budget; watch = watch; out = map is_out (marks_after t.0 g ms); reports = with_report reports due })
-given_so course budget watch reports ms due t u g new turns same =
+    → Given (record { course = course; budget = budget; watch = watch; out = map is_out ms; queue = p; reports = reports }) u
+    (record { course = new; budget = budget; watch = watch; out = map is_out (marks_after t.0 g ms); queue = q; reports = with_report reports due })
+given_so course budget watch reports ms due t u g new p q turns same =
     let e : t ≡ u = ap (λ (n : ℕ). record { 0 = n }) same in
     let b = takes_back ms t.0 g in
     record {
@@ -90,21 +90,22 @@ given_so course budget watch reports ms due t u g new turns same =
     }
 
 -- a hub by its parts
-abbrev pub kept_of : PlainCourse → ℕ → Option ℕ → List Mark → List PlainReport → Kept
-kept_of course budget watch ms reports = record { course = course; budget = budget; watch = watch; out = map is_out ms; reports = reports }
+abbrev pub kept_of : PlainCourse → ℕ → Option ℕ → List Mark → List Tid → List PlainReport → Kept
+kept_of course budget watch ms queue reports = record { course = course; budget = budget; watch = watch; out = map is_out ms; queue = queue; reports = reports }
 
-pub same_kept : (c d : PlainCourse) (budget : ℕ) (watch : Option ℕ) (ms ns : List Mark) (rs qs : List PlainReport) → c ≡ d → ms ≡ ns → rs ≡ qs
-    → kept_of c budget watch ms rs ≡ kept_of d budget watch ns qs
-same_kept c d budget watch ms ns rs qs e f g =
-    ap (λ x. kept_of x budget watch ms rs) e ∙ (ap (λ x. kept_of d budget watch x rs) f ∙ ap (λ x. kept_of d budget watch ns x) g)
+pub same_kept : (c d : PlainCourse) (budget : ℕ) (watch : Option ℕ) (ms ns : List Mark) (p q : List Tid) (rs qs : List PlainReport) → c ≡ d → ms ≡ ns → p ≡ q → rs ≡ qs
+    → kept_of c budget watch ms p rs ≡ kept_of d budget watch ns q qs
+same_kept c d budget watch ms ns p q rs qs e f k g =
+    ap (λ x. kept_of x budget watch ms p rs) e
+    ∙ (ap (λ x. kept_of d budget watch x p rs) f ∙ (ap (λ x. kept_of d budget watch ns x rs) k ∙ ap (λ x. kept_of d budget watch ns q x) g))
 
-pub kept_stands : (course new : PlainCourse) (budget : ℕ) (watch : Option ℕ) (ms ns : List Mark) (rs qs : List PlainReport) (due : Option PlainReport) (t : Tid) (g : Gone)
-    → Stands (kept_of course budget watch ms rs) ms → stands (text_of course.program) course.items ≡ Some (run_of course)
+pub kept_stands : (course new : PlainCourse) (budget : ℕ) (watch : Option ℕ) (ms ns : List Mark) (p q : List Tid) (rs qs : List PlainReport) (due : Option PlainReport) (t : Tid) (g : Gone)
+    → Stands (kept_of course budget watch ms p rs) ms → stands (text_of course.program) course.items ≡ Some (run_of course)
     → IsDueReport watch (length course.items) (length rs) course.world due → Turns course t g new → ns ≡ marks_after t.0 g ms → qs ≡ with_report rs due
-    → Stands (kept_of new budget watch ns qs) ns
-kept_stands course new budget watch ms ns rs qs due t g s leads d turns e f =
-    rw (e, f) (given_stands (kept_of course budget watch ms rs) ms due t g new s leads d turns)
+    → Stands (kept_of new budget watch ns q qs) ns
+kept_stands course new budget watch ms ns p q rs qs due t g s leads d turns e f =
+    rw (e, f) (given_stands (kept_of course budget watch ms p rs) ms due t g new q s leads d turns)
 
-pub kept_given : (course new : PlainCourse) (budget : ℕ) (watch : Option ℕ) (ms ns : List Mark) (rs qs : List PlainReport) (due : Option PlainReport) (t u : Tid) (g : Gone)
-    → Turns course t g new → t.0 ≡ u.0 → ns ≡ marks_after t.0 g ms → qs ≡ with_report rs due → Given (kept_of course budget watch ms rs) u (kept_of new budget watch ns qs)
-kept_given course new budget watch ms ns rs qs due t u g turns same e f = rw (e, f) (given_so course budget watch rs ms due t u g new turns same)
+pub kept_given : (course new : PlainCourse) (budget : ℕ) (watch : Option ℕ) (ms ns : List Mark) (p q : List Tid) (rs qs : List PlainReport) (due : Option PlainReport) (t u : Tid) (g : Gone)
+    → Turns course t g new → t.0 ≡ u.0 → ns ≡ marks_after t.0 g ms → qs ≡ with_report rs due → Given (kept_of course budget watch ms p rs) u (kept_of new budget watch ns q qs)
+kept_given course new budget watch ms ns p q rs qs due t u g turns same e f = rw (e, f) (given_so course budget watch rs ms due t u g new p q turns same)

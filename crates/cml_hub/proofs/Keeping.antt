@@ -15,34 +15,34 @@ use Rattle.cml_hub.specs.Moves.{IsNext, marks_after, PartiesAway, marks_met, Add
 use Rattle.cml_hub.proofs.Marking.{placed_turn, next_is, placed_met, parties_away}
 use Rattle.cml_hub.proofs.Reporting.{stands_moved}
 
-pub stands_turned : (h : Kept) (ms : List Mark) (t : Tid) (g : Gone) (new : PlainCourse) → Stands h ms → NoneDue h → slice_get h.course.world.threads t.0 ≡ Some running → Turns h.course t g new
-    → Stands (record { course = new; budget = h.budget; watch = h.watch; out = map is_out (marks_after t.0 g ms); reports = h.reports }) (marks_after t.0 g ms)
-stands_turned h ms t g new s none run turns =
-    stands_moved h ms (marks_after t.0 g ms) (Turn t) new s none turns.adds (placed_turn h.course.world.threads new.world.threads ms t.0 g s.placed run turns.threads)
+pub stands_turned : (h : Kept) (ms : List Mark) (t : Tid) (g : Gone) (new : PlainCourse) (q : List Tid) → Stands h ms → NoneDue h → slice_get h.course.world.threads t.0 ≡ Some running → Turns h.course t g new
+    → Stands (record { course = new; budget = h.budget; watch = h.watch; out = map is_out (marks_after t.0 g ms); queue = q; reports = h.reports }) (marks_after t.0 g ms)
+stands_turned h ms t g new q s none run turns =
+    stands_moved h ms (marks_after t.0 g ms) (Turn t) new q s none turns.adds (placed_turn h.course.world.threads new.world.threads ms t.0 g s.placed run turns.threads)
 
 pub next_turned : (h : Kept) (ms : List Mark) (t : Tid) (g : Gone) (new : PlainCourse) → Stands h ms → Turns h.course t g new → IsNext g ms
 next_turned h ms t g new s turns = next_is h.course.world.threads new.world.threads ms t.0 g s.placed turns.threads
 
-pub moves_turned : (h : Kept) (t : Tid) (g : Gone) (new : PlainCourse) (ms : List Mark) → Turns h.course t g new
-    → AddsItem h (Turn t) (record { course = new; budget = h.budget; watch = h.watch; out = map is_out ms; reports = h.reports })
-moves_turned h t g new ms turns = record { adds = turns.adds; budget = refl; watch = refl; reports = refl; used = turns.used }
+pub moves_turned : (h : Kept) (t : Tid) (g : Gone) (new : PlainCourse) (ms : List Mark) (q : List Tid) → Turns h.course t g new
+    → AddsItem h (Turn t) (record { course = new; budget = h.budget; watch = h.watch; out = map is_out ms; queue = q; reports = h.reports })
+moves_turned h t g new ms q turns = record { adds = turns.adds; budget = refl; watch = refl; reports = refl; used = turns.used }
 
-pub stands_met : (h : Kept) (ms : List Mark) (item : Item) (row : Meet) (new : PlainCourse) → Stands h ms → NoneDue h → Meets h.course item row new
-    → Stands (record { course = new; budget = h.budget; watch = h.watch; out = map is_out (marks_met row ms); reports = h.reports }) (marks_met row ms)
-stands_met h ms item row new s none meets =
-    stands_moved h ms (marks_met row ms) item new s none meets.adds (rw (meets.threads) (placed_met h.course.world.threads ms row s.placed))
+pub stands_met : (h : Kept) (ms : List Mark) (item : Item) (row : Meet) (new : PlainCourse) (q : List Tid) → Stands h ms → NoneDue h → Meets h.course item row new
+    → Stands (record { course = new; budget = h.budget; watch = h.watch; out = map is_out (marks_met row ms); queue = q; reports = h.reports }) (marks_met row ms)
+stands_met h ms item row new q s none meets =
+    stands_moved h ms (marks_met row ms) item new q s none meets.adds (rw (meets.threads) (placed_met h.course.world.threads ms row s.placed))
 
 pub away_met : (h : Kept) (ms : List Mark) (item : Item) (row : Meet) (new : PlainCourse) → Stands h ms → Meets h.course item row new → PartiesAway ms row
 away_met h ms item row new s meets = parties_away h.course.world ms row s.placed meets.parties
 
-pub moves_met : (h : Kept) (item : Item) (row : Meet) (new : PlainCourse) (ms : List Mark) → Meets h.course item row new
-    → AddsItem h item (record { course = new; budget = h.budget; watch = h.watch; out = map is_out ms; reports = h.reports })
-moves_met h item row new ms meets = record { adds = meets.adds; budget = refl; watch = refl; reports = refl; used = meets.used }
+pub moves_met : (h : Kept) (item : Item) (row : Meet) (new : PlainCourse) (ms : List Mark) (q : List Tid) → Meets h.course item row new
+    → AddsItem h item (record { course = new; budget = h.budget; watch = h.watch; out = map is_out ms; queue = q; reports = h.reports })
+moves_met h item row new ms q meets = record { adds = meets.adds; budget = refl; watch = refl; reports = refl; used = meets.used }
 
-pub stands_ticked : (h : Kept) (ms : List Mark) (tick : ℕ) (new : PlainCourse) → Stands h ms → NoneDue h → Ticks h.course tick new
-    → Stands (record { course = new; budget = h.budget; watch = h.watch; out = map is_out ms; reports = h.reports }) ms
-stands_ticked h ms tick new s none ticks = stands_moved h ms ms (Clock tick) new s none ticks.adds (rw (ticks.threads) s.placed)
+pub stands_ticked : (h : Kept) (ms : List Mark) (tick : ℕ) (new : PlainCourse) (q : List Tid) → Stands h ms → NoneDue h → Ticks h.course tick new
+    → Stands (record { course = new; budget = h.budget; watch = h.watch; out = map is_out ms; queue = q; reports = h.reports }) ms
+stands_ticked h ms tick new q s none ticks = stands_moved h ms ms (Clock tick) new q s none ticks.adds (rw (ticks.threads) s.placed)
 
-pub moves_ticked : (h : Kept) (tick : ℕ) (new : PlainCourse) (ms : List Mark) → Ticks h.course tick new
-    → AddsItem h (Clock tick) (record { course = new; budget = h.budget; watch = h.watch; out = map is_out ms; reports = h.reports })
-moves_ticked h tick new ms ticks = record { adds = ticks.adds; budget = refl; watch = refl; reports = refl; used = ticks.used }
+pub moves_ticked : (h : Kept) (tick : ℕ) (new : PlainCourse) (ms : List Mark) (q : List Tid) → Ticks h.course tick new
+    → AddsItem h (Clock tick) (record { course = new; budget = h.budget; watch = h.watch; out = map is_out ms; queue = q; reports = h.reports })
+moves_ticked h tick new ms q ticks = record { adds = ticks.adds; budget = refl; watch = refl; reports = refl; used = ticks.used }

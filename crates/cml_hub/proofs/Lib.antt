@@ -1,5 +1,7 @@
 pub mod MarkLemmas
+pub mod Queueing
 pub mod Homing
+pub mod Played
 pub mod RowLemmas
 pub mod Agreement
 pub mod Soon

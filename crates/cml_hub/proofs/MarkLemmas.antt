@@ -99,12 +99,28 @@ is_ready (Out ∷ ms) zero h = absurd (omega arith)
 is_ready (Away ∷ ms) zero h = absurd (omega arith)
 is_ready (m ∷ ms) (suc t) h = is_ready ms t h
 
+not_ready : (ms : List Mark) (t : ℕ) (m : Mark) → slice_get ms t ≡ Some m → readies m ≡ 0 → ready_at ms t ≡ 0
+not_ready [] t m h e = refl
+not_ready (x ∷ ms) zero m h e = let same : x ≡ m = cc in ap readies same ∙ e
+not_ready (x ∷ ms) (suc t) m h e = not_ready ms t m h e
+
+pub not_queued : (queue : List Tid) (ms : List Mark) (o t : ℕ) (m : Mark) → AreMarks queue ms o → slice_get ms t ≡ Some m → readies m ≡ 0 → count_of t queue ≡ 0
+not_queued queue ms o t m h e r = h.queued t ∙ not_ready ms t m e r
+
 pub queued_once : (queue : List Tid) (ms : List Mark) (o t : ℕ) → AreMarks queue ms o → slice_get ms t ≡ Some Ready → count_of t queue ≡ 1
 queued_once queue ms o t h e = h.queued t ∙ ready_is ms t e
 
 pub none_ready : (queue : List Tid) (ms : List Mark) (o t : ℕ) → AreMarks queue ms o → length queue ≡ 0 → slice_get ms t ≡ Some Ready → ⊥
 none_ready [] ms o t h e r = absurd (omega (arith, h.queued t, ready_is ms t r))
 none_ready (x ∷ queue) ms o t h e r = absurd (omega arith)
+
+pub none_first : (queue : List Tid) → length queue ≡ 0 → None ≡ slice_get queue 0
+none_first [] e = refl
+none_first (x ∷ queue) e = absurd (omega arith)
+
+pub first_is : (queue : List Tid) (x : Tid) → 0 < length queue → x ≡ slice_index_or queue 0 x → Some x ≡ slice_get queue 0
+first_is [] x lt e = absurd (omega arith)
+first_is (y ∷ queue) x lt e = ap (λ z. Some z) e
 
 pub front_ready : (queue : List Tid) (ms : List Mark) (o : ℕ) (x : Tid) → AreMarks queue ms o → 0 < length queue → x ≡ slice_index_or queue 0 x → slice_get ms x.0 ≡ Some Ready
 front_ready [] ms o x h lt e = absurd (omega arith)
@@ -164,7 +180,7 @@ got_is [] i d m lt e = absurd (omega arith)
 got_is (x ∷ xs) zero d m lt e = ap (λ y. Some y) (sym e)
 got_is (x ∷ xs) (suc i) d m lt e = got_is xs i d m (omega arith) e
 
-some_then : {P : Type 0} (r : Option Tid) → OnSome r P → IsSome r → P
+pub some_then : {P : Type 0} (r : Option Tid) → OnSome r P → IsSome r → P
 some_then None h is = absurd (cc)
 some_then (Some x) h is = h
 

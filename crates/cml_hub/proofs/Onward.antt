@@ -14,7 +14,8 @@ use Rattle.cml_step.specs.Machines.{PlainMachine}
 use Rattle.cml_check.specs.Syntax.{PlainItem}
 use Rattle.cml_hub.specs.declared.marks.Mark.{Mark}
 use Rattle.cml_hub.specs.declared.marks.Mark.TheVariants.{Ready, Out}
-use Rattle.cml_hub.specs.Marks.{is_out}
+use Rattle.cml_value.specs.declared.number.Tid.{Tid}
+use Rattle.cml_hub.specs.Marks.{is_out, left_by}
 use Rattle.cml_hub.specs.Runs.{any_runs, is_none, next_alarm, terminal, is_allowed}
 use Rattle.cml_hub.specs.Dones.{GoesOn}
 use Rattle.cml_hub.specs.Courses.{PlainCourse, Begins, HasMachine, TakesRow}
@@ -56,6 +57,10 @@ pub on_ok : {A E P Q : Type 0} (r : Result A E) → OnOk r P → (P → Q) → O
 on_ok (Ok x) h f = f h
 on_ok (Err e) h f = h
 
+pub on_ok_both : {A E P Q R : Type 0} (r : Result A E) → OnOk r P → OnOk r Q → (P → Q → R) → OnOk r R
+on_ok_both (Ok x) h k f = f h k
+on_ok_both (Err e) h k f = h
+
 -- what holds where a call fails
 pub on_err : {A E P : Type 0} (r : Result A E) → P → OnErr r P
 on_err (Ok x) p = tt
@@ -63,7 +68,7 @@ on_err (Err e) p = p
 
 -- at the beginning
 pub stands_begun : (p : List (PlainItem ℕ)) (course : PlainCourse) (budget : ℕ) (watch : Option ℕ) → Begins p course → IsBudget budget → IsWatch watch
-    → Stands (record { course = course; budget = budget; watch = watch; out = false ∷ []; reports = [] }) (Ready ∷ [])
+    → Stands (record { course = course; budget = budget; watch = watch; out = false ∷ []; queue = record { 0 = 0 } ∷ []; reports = [] }) (Ready ∷ [])
 stands_begun p course budget watch b within seen = record {
   placed = rw (b.threads) (refl, tt);
   budgeted = within;
@@ -76,7 +81,7 @@ alone_in zero = refl
 alone_in (suc t) = refl
 
 pub begun_is : (p : List (PlainItem ℕ)) (course : PlainCourse) (budget : ℕ) (watch : Option ℕ) → Begins p course
-    → IsAtStart p budget watch (record { course = course; budget = budget; watch = watch; out = false ∷ []; reports = [] })
+    → IsAtStart p budget watch (record { course = course; budget = budget; watch = watch; out = false ∷ []; queue = record { 0 = 0 } ∷ []; reports = [] })
 begun_is p course budget watch b = record {
   program = b.program;
   budget_is = refl;
@@ -84,32 +89,38 @@ begun_is p course budget watch b = record {
   items = b.items;
   reports = refl;
   none_out = alone_in;
+  queue = refl;
 }
 
 -- a slice is handed out
-pub stands_handed : (h : Kept) (ms : List Mark) (t : ℕ) → Stands h ms → slice_get ms t ≡ Some Ready
-    → Stands (record { course = h.course; budget = h.budget; watch = h.watch; out = map is_out (slice_set ms t Out); reports = h.reports }) (slice_set ms t Out)
-stands_handed h ms t s ready = record {
+pub stands_handed : (h : Kept) (ms : List Mark) (t : ℕ) (q : List Tid) → Stands h ms → slice_get ms t ≡ Some Ready
+    → Stands (record { course = h.course; budget = h.budget; watch = h.watch; out = map is_out (slice_set ms t Out); queue = q; reports = h.reports }) (slice_set ms t Out)
+stands_handed h ms t q s ready = record {
   placed = placed_kept h.course.world.threads ms t running Out s.placed (ready_running h.course.world.threads ms t s.placed ready) refl;
   budgeted = s.budgeted;
   watched = s.watched;
   reported = s.reported;
 }
 
-handed_same : (course : PlainCourse) (budget : ℕ) (watch : Option ℕ) (reports : List PlainReport) (ms : List Mark) (t : ℕ) (x : PlainMachine) → slice_get ms t ≡ Some Ready → HasMachine course t x
-    → GoesOn course.program x → x.thread ≡ t
-    → HandedOut (record { course = course; budget = budget; watch = watch; out = map is_out ms; reports = reports }) (Some x)
-    (record { course = course; budget = budget; watch = watch; out = map is_out (slice_set ms t Out); reports = reports })
-handed_same course budget watch reports ms t x ready keeps stands n =
+handed_same : (course : PlainCourse) (budget : ℕ) (watch : Option ℕ) (reports : List PlainReport) (ms : List Mark) (queue left : List Tid) (t : ℕ) (x : PlainMachine) → slice_get ms t ≡ Some Ready
+    → HasMachine course t x → GoesOn course.program x → x.thread ≡ t → left ≡ left_by t queue
+    → HandedOut (record { course = course; budget = budget; watch = watch; out = map is_out ms; queue = queue; reports = reports }) (Some x)
+    (record { course = course; budget = budget; watch = watch; out = map is_out (slice_set ms t Out); queue = left; reports = reports })
+handed_same course budget watch reports ms queue left t x ready keeps stands n l =
     let out : map is_out (slice_set ms t Out) ≡ slice_set (map is_out ms) x.thread true = map_set is_out ms t Out ∙ ap (λ k. slice_set (map is_out ms) k true) (sym n) in
-    let make : List Bool → Kept = λ o. record { course = course; budget = budget; watch = watch; out = o; reports = reports } in
-    (subst (λ k. HasMachine course k x) (sym n) keeps, stands, ap (is_out_of (map is_out ms)) n ∙ out_at ms t Ready ready, ap make out)
+    let rest : left ≡ left_by x.thread queue = l ∙ ap (λ k. left_by k queue) (sym n) in
+    let make : List Bool → List Tid → Kept = λ o q. record { course = course; budget = budget; watch = watch; out = o; queue = q; reports = reports } in (
+      subst (λ k. HasMachine course k x) (sym n) keeps,
+      stands,
+      ap (is_out_of (map is_out ms)) n ∙ out_at ms t Ready ready,
+      ap (λ o. make o left) out ∙ ap (make (slice_set (map is_out ms) x.thread true)) rest,
+    )
 
-pub handed_out : (course : PlainCourse) (budget : ℕ) (watch : Option ℕ) (reports : List PlainReport) (ms : List Mark) (t : ℕ) (m x : PlainMachine) → slice_get ms t ≡ Some Ready → HasMachine course t x
-    → GoesOn course.program x → x.thread ≡ t → m ≡ x
-    → HandedOut (record { course = course; budget = budget; watch = watch; out = map is_out ms; reports = reports }) (Some m)
-    (record { course = course; budget = budget; watch = watch; out = map is_out (slice_set ms t Out); reports = reports })
-handed_out course budget watch reports ms t m x ready keeps stands n e =
-    let old : Kept = record { course = course; budget = budget; watch = watch; out = map is_out ms; reports = reports } in
-    let new : Kept = record { course = course; budget = budget; watch = watch; out = map is_out (slice_set ms t Out); reports = reports } in
-    subst (λ (y : PlainMachine). HandedOut old (Some y) new) (sym e) (handed_same course budget watch reports ms t x ready keeps stands n)
+pub handed_out : (course : PlainCourse) (budget : ℕ) (watch : Option ℕ) (reports : List PlainReport) (ms : List Mark) (queue left : List Tid) (t : ℕ) (m x : PlainMachine) → slice_get ms t ≡ Some Ready
+    → HasMachine course t x → GoesOn course.program x → x.thread ≡ t → m ≡ x → left ≡ left_by t queue
+    → HandedOut (record { course = course; budget = budget; watch = watch; out = map is_out ms; queue = queue; reports = reports }) (Some m)
+    (record { course = course; budget = budget; watch = watch; out = map is_out (slice_set ms t Out); queue = left; reports = reports })
+handed_out course budget watch reports ms queue left t m x ready keeps stands n e l =
+    let old : Kept = record { course = course; budget = budget; watch = watch; out = map is_out ms; queue = queue; reports = reports } in
+    let new : Kept = record { course = course; budget = budget; watch = watch; out = map is_out (slice_set ms t Out); queue = left; reports = reports } in
+    subst (λ (y : PlainMachine). HandedOut old (Some y) new) (sym e) (handed_same course budget watch reports ms queue left t x ready keeps stands n l)

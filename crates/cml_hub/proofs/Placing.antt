@@ -1,12 +1,13 @@
 -- The threads that run, and their marks.
-use Rattle.std.proofs.Common.{◌≡◌, ◌≢◌, ℕ, zero, suc, Bool, true, false, List, [], ◌∷◌, map, refl, Some, ap, ◌∙◌}
+use Rattle.std.proofs.Common.{◌≡◌, ◌≢◌, ℕ, zero, suc, Bool, true, false, List, [], ◌∷◌, ◌++◌, map, refl, Some, ap, ◌∙◌}
 use Rattle.std.specs.Prelude.{Option, Result, Ok, Err, OnOk, OnErr, slice_get}
 use Rattle.std.specs.List.{list_any}
 use Rattle.cml_scan.specs.World.{PlainThread, running, pending_on, ended}
 use Rattle.cml_book.specs.Walks.{runs}
 use Rattle.cml_hub.specs.declared.marks.Mark.{Mark}
 use Rattle.cml_hub.specs.declared.marks.Mark.TheVariants.{Ready, Out, Away}
-use Rattle.cml_hub.specs.Marks.{is_here, is_out, home}
+use Rattle.cml_value.specs.declared.number.Tid.{Tid}
+use Rattle.cml_hub.specs.Marks.{is_here, is_out, home, those_out}
 use Rattle.cml_monitor.specs.Reports.{PlainReport}
 use Rattle.cml_hub.specs.Courses.{PlainCourse}
 use Rattle.cml_hub.specs.Kept.{Kept, Stands, Placed, is_out_of, AllOut, NoneOut}
@@ -59,8 +60,8 @@ placed_home [] (m ∷ ms) p = absurd p
 placed_home (x ∷ ts) [] p = absurd p
 placed_home (x ∷ ts) (m ∷ ms) p = (here_home m ∙ p.0, placed_home ts ms p.1)
 
-pub stands_home : (h : Kept) (ms : List Mark) (o : List Bool) → Stands h ms → Stands (record h { out = o }) (map home ms)
-stands_home h ms o s = record {
+pub stands_home : (h : Kept) (ms : List Mark) (o : List Bool) (q : List Tid) → Stands h ms → Stands (record h { out = o; queue = q }) (map home ms)
+stands_home h ms o q s = record {
   placed = placed_home h.course.world.threads ms s.placed;
   budgeted = s.budgeted;
   watched = s.watched;
@@ -75,22 +76,24 @@ none_out_home (Away ∷ ms) zero = refl
 none_out_home (m ∷ ms) (suc t) = none_out_home ms t
 
 -- what holds of the hub holds of it after, and who was out is ready, or nothing has changed
-pub stands_called : {T E : Type 0} (h : Kept) (ms new : List Mark) (r : Result T E) → Stands h ms → OnOk r (new ≡ map home ms) → OnErr r (new ≡ ms)
-    → Stands (record { course = h.course; budget = h.budget; watch = h.watch; out = map is_out new; reports = h.reports }) new
-stands_called h ms new (Ok x) s o e = rw o (stands_home h ms (map is_out (map home ms)) s)
-stands_called h ms new (Err x) s o e = rw e (record { placed = s.placed; budgeted = s.budgeted; watched = s.watched; reported = s.reported })
+pub stands_called : {T E : Type 0} (h : Kept) (ms new : List Mark) (q : List Tid) (r : Result T E) → Stands h ms → OnOk r (new ≡ map home ms) → OnErr r (new ≡ ms)
+    → Stands (record { course = h.course; budget = h.budget; watch = h.watch; out = map is_out new; queue = q; reports = h.reports }) new
+stands_called h ms new q (Ok x) s o e = rw o (stands_home h ms (map is_out (map home ms)) q s)
+stands_called h ms new q (Err x) s o e = rw e (record { placed = s.placed; budgeted = s.budgeted; watched = s.watched; reported = s.reported })
 
-pub called_so : {T E : Type 0} (course : PlainCourse) (budget : ℕ) (watch : Option ℕ) (reports : List PlainReport) (ms new : List Mark) (r : Result T E) → OnOk r (new ≡ map home ms)
-    → OnOk r (CalledBack (record { course = course; budget = budget; watch = watch; out = map is_out ms; reports = reports })
-    (record { course = course; budget = budget; watch = watch; out = map is_out new; reports = reports }))
-called_so course budget watch reports ms new (Ok x) o = record {
+pub called_so : {T E : Type 0} (course : PlainCourse) (budget : ℕ) (watch : Option ℕ) (reports : List PlainReport) (ms new : List Mark) (p q : List Tid) (r : Result T E) → OnOk r (new ≡ map home ms)
+    → OnOk r (q ≡ p ++ those_out 0 (map is_out ms))
+    → OnOk r (CalledBack (record { course = course; budget = budget; watch = watch; out = map is_out ms; queue = p; reports = reports })
+    (record { course = course; budget = budget; watch = watch; out = map is_out new; queue = q; reports = reports }))
+called_so course budget watch reports ms new p q (Ok x) o e = record {
+  queue = e;
   course = refl;
   budget = refl;
   watch = refl;
   reports = refl;
   none_out = λ t. rw o (none_out_home ms t);
 }
-called_so course budget watch reports ms new (Err x) o = tt
+called_so course budget watch reports ms new p q (Err x) o e = tt
 
 -- some thread runs
 runs_somewhere : (ts : List PlainThread) → list_any runs ts ≡ true → (t : ℕ) × (slice_get ts t ≡ Some running)
@@ -107,3 +110,7 @@ alone_moved a b true n o m = record {
   none_out = λ t. rw m.4 (n t);
 }
 alone_moved a b false n o m = let r = runs_somewhere a.course.world.threads m.1 in let y = o r.0 r.1 in let z = n r.0 in cc
+
+pub has_moved : (a b : Kept) (moved : Bool) → NoneOut a → AllOut a → MovedOn a moved b → moved ≡ true
+has_moved a b true n o m = refl
+has_moved a b false n o m = let r = runs_somewhere a.course.world.threads m.1 in let y = o r.0 r.1 in let z = n r.0 in cc

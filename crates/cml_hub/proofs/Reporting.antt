@@ -3,6 +3,7 @@ use Rattle.std.proofs.Common.{◌≡◌, ◌≢◌, ℕ, zero, suc, ◌+◌, ◌
 use Rattle.std.specs.Prelude.{slice_get, Option, option_map, IsTrue, ◌↔◌}
 use Rattle.std.proofs.lemmas.List.{take-append-le, take_all}
 use Rattle.std.proofs.Math.Nat.{mul-le-mul_left}
+use Rattle.cml_value.specs.declared.number.Tid.{Tid}
 use Rattle.cml_monitor.specs.Reports.{PlainReport}
 use Rattle.cml_schedule.specs.declared.item.Item.{Item}
 use Rattle.cml_step.specs.Terms.{Program}
@@ -84,9 +85,9 @@ none_then None items n m w due longer later = later
 none_then (Some k) items n m w due longer later = not_next k n items w.0 due (rw longer at later)
 
 -- the invariant, once an item was added where no report was due
-pub stands_moved : (h : Kept) (ms new : List Mark) (item : Item) (course : PlainCourse) → Stands h ms → NoneDue h → Adds h.course item course → Placed course.world.threads new
-    → Stands (record { course = course; budget = h.budget; watch = h.watch; out = map is_out new; reports = h.reports }) new
-stands_moved h ms new item course s none adds placed = record {
+pub stands_moved : (h : Kept) (ms new : List Mark) (item : Item) (course : PlainCourse) (q : List Tid) → Stands h ms → NoneDue h → Adds h.course item course → Placed course.world.threads new
+    → Stands (record { course = course; budget = h.budget; watch = h.watch; out = map is_out new; queue = q; reports = h.reports }) new
+stands_moved h ms new item course q s none adds placed = record {
   placed = placed;
   budgeted = s.budgeted;
   watched = s.watched;
@@ -96,7 +97,7 @@ stands_moved h ms new item course s none adds placed = record {
 -- the invariant, once the report that is due was made
 pub stands_reported : (h : Kept) (ms : List Mark) (r : PlainReport) → Stands h ms → stands (text_of h.course.program) h.course.items ≡ Some (run_of h.course)
     → IsDueReport h.watch (length h.course.items) (length h.reports) h.course.world (Some r)
-    → Stands (record { course = h.course; budget = h.budget; watch = h.watch; out = h.out; reports = h.reports ++ r ∷ [] }) ms
+    → Stands (record { course = h.course; budget = h.budget; watch = h.watch; out = h.out; queue = h.queue; reports = h.reports ++ r ∷ [] }) ms
 stands_reported h ms r s leads due = record {
   placed = s.placed;
   budgeted = s.budgeted;
@@ -106,19 +107,20 @@ stands_reported h ms r s leads due = record {
 
 -- what a made report changes
 pub reported_one : (h : Kept) (r : PlainReport) → IsWatch h.watch → IsDueReport h.watch (length h.course.items) (length h.reports) h.course.world (Some r)
-    → Reported h (record { course = h.course; budget = h.budget; watch = h.watch; out = h.out; reports = h.reports ++ r ∷ [] })
+    → Reported h (record { course = h.course; budget = h.budget; watch = h.watch; out = h.out; queue = h.queue; reports = h.reports ++ r ∷ [] })
 reported_one h r w due = record {
   course = refl;
   budget = refl;
   watch = refl;
   out = refl;
+  queue = refl;
   made = r ∷ [];
   reports = refl;
   none_due = none_then h.watch (length h.course.items) (length h.reports) (length (h.reports ++ r ∷ [])) w due.0 (length-append h.reports (r ∷ []));
 }
 
 pub reported_none : (h : Kept) → NoneDue h → Reported h h
-reported_none h none = record { course = refl; budget = refl; watch = refl; out = refl; made = []; reports = nothing h.reports; none_due = none }
+reported_none h none = record { course = refl; budget = refl; watch = refl; out = refl; queue = refl; made = []; reports = nothing h.reports; none_due = none }
   where
     nothing : (xs : List PlainReport) → xs ≡ xs ++ []
     nothing [] = refl

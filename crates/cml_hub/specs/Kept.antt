@@ -29,12 +29,13 @@ use Rattle.cml_hub.specs.Courses.{PlainCourse, run_of, Adds, HasMachine, IsOurs}
 use Rattle.cml_hub.specs.Reports.{AreReports, IsDue}
 
 -- a hub: its program with the schedule so far and where that has led; its budget; after how many items a report is made, if any is; by
--- thread whether a slice of it is out; and the reports
+-- thread whether a slice of it is out; the threads that are ready, in the order of their turns; and the reports
 pub record Kept : Type 0 where
   pub course : PlainCourse
   pub budget : ℕ
   pub watch : Option ℕ
   pub out : List Bool
+  pub queue : List Tid
   pub reports : List PlainReport
 
 -- the numbers that a budget and a watch may be
@@ -83,7 +84,7 @@ OnlyRunningOut h = (t : ℕ) → is_out_of h.out t ≡ true → slice_get h.cour
 abbrev pub NoneOutOrSame : Kept → Kept → Type 0
 NoneOutOrSame old new = NoneOut new ⊎ (new ≡ old)
 
--- the hub is at its beginning: nothing has happened yet
+-- the hub is at its beginning: nothing has happened yet, and thread 0 is ready
 pub record IsAtStart (p : List (PlainItem ℕ)) (budget : ℕ) (watch : Option ℕ) (h : Kept) : Type 0 where
   pub program : h.course.program ≡ p
   pub budget_is : h.budget ≡ budget
@@ -91,6 +92,7 @@ pub record IsAtStart (p : List (PlainItem ℕ)) (budget : ℕ) (watch : Option �
   pub items : h.course.items ≡ []
   pub reports : h.reports ≡ []
   pub none_out : NoneOut h
+  pub queue : h.queue ≡ record { 0 = 0 } ∷ []
 
 -- Of each of these items, which come after those, this holds where it was added: of the run there, and of the item.
 abbrev pub EachAdded : List (PlainItem ℕ) → (Run → Item → Type 0) → List Item → List Item → Type 0

@@ -13,4 +13,5 @@ pub mod Reports
 pub mod Kept
 pub mod Laws
 pub mod KeptCodes
+pub mod Playing
 pub mod Moves

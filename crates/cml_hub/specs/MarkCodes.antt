@@ -1,6 +1,7 @@
 -- A code of marks: a tree of numbers from which they can be read back. The toolchain asks for it; no rule uses it.
 use Rattle.std.specs.Prelude.{◌≡◌, ℕ, List, [], ◌∷◌, get_or, refl}
 use Rattle.std.specs.Coded.{Coded, code_by, coded×, coded_ℕ, coded_list}
+use Rattle.cml_value.specs.declared.number.Tid.{Tid}
 use Rattle.cml_hub.specs.declared.marks.Mark.{Mark}
 use Rattle.cml_hub.specs.declared.marks.Mark.TheVariants as mark
 use Rattle.cml_hub.specs.Marks.{PlainMarks}
@@ -21,7 +22,10 @@ mark_back mark.Away = refl
 abbrev pub mark_code : Coded Mark
 mark_code = code_by ℕ coded_ℕ mark_number mark_by mark_back
 
+abbrev pub tid_code : Coded Tid
+tid_code = code_by ℕ coded_ℕ (λ t. t.0) (λ n. record { 0 = n }) (λ _. refl)
+
 abbrev pub marks_code : Coded PlainMarks
 marks_code =
-    code_by (List Mark × (ℕ × ℕ)) (coded× (coded_list mark_code) (coded× coded_ℕ coded_ℕ))
-    (λ m. (m.marks, (m.room, m.more))) (λ p. record { marks = p.0; room = p.1.0; more = p.1.1 }) (λ _. refl)
+    code_by (List Mark × (List Tid × (ℕ × ℕ))) (coded× (coded_list mark_code) (coded× (coded_list tid_code) (coded× coded_ℕ coded_ℕ)))
+    (λ m. (m.marks, (m.queue, (m.room, m.more)))) (λ p. record { marks = p.0; queue = p.1.0; room = p.1.1.0; more = p.1.1.1 }) (λ _. refl)

@@ -1,12 +1,14 @@
 -- Where each thread of a hub is, and the queue of those that are ready.
-use Rattle.std.specs.Prelude.{ℕ, zero, suc, ◌≡◌, ◌+◌, ◌^◌, ◌≤◌, Bool, true, false, List, [], ◌∷◌, length}
+use Rattle.std.specs.Prelude.{ℕ, zero, suc, ◌≡◌, ◌+◌, ◌^◌, ◌≤◌, ◌==◌, Bool, true, false, if◌then◌else◌, List, [], ◌∷◌, length}
 use Rattle.cml_value.specs.declared.number.Tid.{Tid}
 use Rattle.cml_hub.specs.declared.marks.Mark.{Mark}
 use Rattle.cml_hub.specs.declared.marks.Mark.TheVariants as mark
 
--- for each thread where it is; for how many more there is room in the queue; and for how many more threads there is room
+-- for each thread where it is; the threads that are ready, the one that comes next first; for how many more there is room in the queue; and for
+-- how many more threads there is room
 pub record PlainMarks : Type 0 where
   pub marks : List Mark
+  pub queue : List Tid
   pub room : ℕ
   pub more : ℕ
 
@@ -25,6 +27,17 @@ is_out mark.Away = false
 abbrev pub home : Mark → Mark
 home mark.Out = mark.Ready
 home m = m
+
+-- the queue, once the thread has left its first place in it
+abbrev pub left_by : ℕ → List Tid → List Tid
+left_by t [] = []
+left_by t (x ∷ xs) = if x.0 == t then xs else x ∷ left_by t xs
+
+-- those of these threads, of which the first has this number, whose slices are out, in the order of their numbers
+abbrev pub those_out : ℕ → List Bool → List Tid
+those_out n [] = []
+those_out n (true ∷ out) = record { 0 = n } ∷ those_out (suc n) out
+those_out n (false ∷ out) = those_out (suc n) out
 
 -- 1 where the two numbers are the same, else 0
 abbrev pub is_at : ℕ → ℕ → ℕ

@@ -6,10 +6,12 @@ use Rattle.cml_scan.specs.declared.meet.Meet.TheVariants.{Single, Pair}
 use Rattle.cml_monitor.specs.Reports.{PlainReport}
 use Rattle.cml_schedule.specs.declared.item.Item.{Item}
 use Rattle.cml_step.specs.Machines.{PlainMachine}
+use Rattle.cml_value.specs.declared.number.Tid.{Tid}
 use Rattle.cml_hub.specs.declared.done.Gone.{Gone}
 use Rattle.cml_hub.specs.declared.done.Gone.TheVariants as gone_of
 use Rattle.cml_hub.specs.declared.marks.Mark.{Mark}
 use Rattle.cml_hub.specs.declared.marks.Mark.TheVariants as mark
+use Rattle.cml_hub.specs.Marks.{left_by, those_out}
 use Rattle.cml_hub.specs.Runs.{any_runs}
 use Rattle.cml_hub.specs.Dones.{GoesOn}
 use Rattle.cml_hub.specs.Courses.{Adds, HasMachine}
@@ -25,6 +27,12 @@ abbrev pub marks_after : ℕ → Gone → List Mark → List Mark
 marks_after t gone_of.On ms = slice_set ms t mark.Ready
 marks_after t (gone_of.With child) ms = slice_set ms t mark.Ready ++ mark.Ready ∷ []
 marks_after t gone_of.Off ms = slice_set ms t mark.Away
+
+-- who is ready after a turn of the thread and comes last in the queue
+abbrev pub lines_up : Tid → Gone → List Tid
+lines_up t gone_of.On = t ∷ []
+lines_up t (gone_of.With child) = child ∷ t ∷ []
+lines_up t gone_of.Off = []
 
 -- the parties of a row do not run; those of a pair are two different threads
 abbrev pub PartiesAway : List Mark → Meet → Type 0
@@ -55,6 +63,7 @@ pub record Reported (old new : Kept) : Type 0 where
   pub budget : new.budget ≡ old.budget
   pub watch : new.watch ≡ old.watch
   pub out : new.out ≡ old.out
+  pub queue : new.queue ≡ old.queue
   pub made : List PlainReport
   pub reports : new.reports ≡ old.reports ++ made
   pub none_due : NoneDue new
@@ -64,19 +73,20 @@ abbrev pub HandedOut : Kept → Option PlainMachine → Kept → Type 0
 HandedOut old None new = AllOut old × (new ≡ old)
 HandedOut old (Some m) new =
     HasMachine old.course m.thread m × GoesOn old.course.program m × (is_out_of old.out m.thread ≡ false)
-    × (new ≡ record old { out = slice_set old.out m.thread true })
+    × (new ≡ record old { out = slice_set old.out m.thread true; queue = left_by m.thread old.queue })
 
 -- A row was taken, as an exchange where it is of two swaps, or the time moved; or there is nothing to do before a slice comes back.
 abbrev pub MovedOn : Kept → Bool → Kept → Type 0
 MovedOn old true new = (item : Item) × IsNoTurn item × TellsSwaps old.course.world item × AddsItem old item new × (new.out ≡ old.out)
 MovedOn old false new = (scan old.course.world ≡ []) × (any_runs old.course.world ≡ true) × (new ≡ old)
 
--- no slice is out any more, and all else is as before
+-- No slice is out any more: the threads of those that were are ready, after the others. All else is as before.
 pub record CalledBack (old new : Kept) : Type 0 where
   pub course : new.course ≡ old.course
   pub budget : new.budget ≡ old.budget
   pub watch : new.watch ≡ old.watch
   pub reports : new.reports ≡ old.reports
+  pub queue : new.queue ≡ old.queue ++ those_out 0 old.out
   pub none_out : NoneOut new
 
 -- The item happened, and the report that was due after it was made: none is due now, and no slice is out.

@@ -15,14 +15,14 @@ pub trait Chooser {
     ghost picks: { Self → ℕ → ℕ };
 
     /// What it becomes by a pick.
-    ghost next: { Self → Self → Type 0 };
+    ghost next: { Self → Self };
 
     /// Picks one of this many things, by its number.
     fn pick(&mut self, count: usize) -> usize
         requires { 0 < count }
         ensures below { result < count }
         ensures picked { result ≡ picks self.old count }
-        ensures next { next self.old self.new };
+        ensures next { self.new ≡ next self.old };
 }
 
 /// Always the first.
@@ -32,7 +32,7 @@ pub struct First;
 impl Chooser for First {
     ghost picks = { λ _ _. 0 };
 
-    ghost next = { λ old new. new ≡ old };
+    ghost next = { λ first. first };
 
     fn pick(&mut self, _count: usize) -> usize {
         0
@@ -66,7 +66,7 @@ impl Script {
 impl Chooser for Script {
     ghost picks = { λ numbers count. first_number numbers % count };
 
-    ghost next = { λ old new. new ≡ drop 1 old };
+    ghost next = { λ numbers. drop 1 numbers };
 
     fn pick(&mut self, count: usize) -> usize {
         match self.numbers.get(self.at) {
@@ -108,7 +108,7 @@ impl Seeded {
 impl Chooser for Seeded {
     ghost picks = { λ state count. (pcg32 state).0 % count };
 
-    ghost next = { λ old new. new ≡ (pcg32 old).1 };
+    ghost next = { λ state. (pcg32 state).1 };
 
     fn pick(&mut self, count: usize) -> usize {
         self.random.next_word() as usize % count

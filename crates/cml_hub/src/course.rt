@@ -13,6 +13,7 @@ ghost use Rattle.cml_hub.specs.Runs as spec;
 ghost use Rattle.cml_hub.specs.Dones.{GoesOn};
 ghost use Rattle.cml_book.specs.Swaps.{swaps};
 ghost use Rattle.cml_hub.specs.Courses.{IsOpening, Begins, HasMachine, IsOurs, run_of, Turns, TakesRow, Meets, Ticks};
+ghost use Rattle.cml_hub.specs.Playing.{picked, spent};
 ghost use Rattle.cml_hub.specs.Reports.{report_of};
 
 use crate::choose::Chooser;
@@ -165,7 +166,9 @@ impl Course {
 
     // A row that the chooser picks, if one can be taken.
     pub(crate) fn pick<C: Chooser>(&self, chooser: &mut C) -> Option<Meet>
-        ensures { MatchOption result (scan self.now.world ≡ []) (λ row. has_row (scan self.now.world) row ≡ true) }
+        ensures row { MatchOption result (scan self.now.world ≡ []) (λ row. has_row (scan self.now.world) row ≡ true) }
+        ensures picked { result ≡ picked (record { picks = C.picks; next = C.next }) chooser.old (scan self.now.world) }
+        ensures spent { chooser.new ≡ spent (record { picks = C.picks; next = C.next }) chooser.old result }
     {
         pick_row(self.threads.table(), chooser)
     }

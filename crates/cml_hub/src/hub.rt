@@ -1,7 +1,7 @@
 //! The hub: it hands out slices of the threads and takes them back, chooses among the communications that are possible, and keeps the
 //! schedule of what happened.
 
-ghost use Rattle.std.specs.Prelude.{◌≡◌, ◌↔◌, ◌+◌, ◌*◌, ◌≤◌, ◌<◌, [], Some, IfOk, IfErr, IfSome, OnOk, OnErr, IsTrue, Ok, true, false, length, slice_get};
+ghost use Rattle.std.specs.Prelude.{◌≡◌, ◌↔◌, ◌++◌, ◌+◌, ◌*◌, ◌≤◌, ◌<◌, [], Some, IfOk, IfErr, IfSome, OnOk, OnErr, IsTrue, Ok, true, false, length, slice_get};
 ghost use Rattle.std.specs.Vec.{vec_len, vec_capacity};
 ghost use Rattle.cml_scan.specs.World.{pending, running};
 ghost use Rattle.cml_check.specs.Sizes.{size_of};
@@ -12,7 +12,9 @@ ghost use Rattle.cml_hub.specs.Runs as spec;
 ghost use Rattle.cml_hub.specs.Courses.{run_of, TakesRow, IsOurs};
 ghost use Rattle.cml_hub.specs.Reports.{AreReports, IsDueReport};
 ghost use Rattle.cml_hub.specs.Kept.{IsBudget, IsWatch, IsAtStart, Continues, Extends, HandsOut, is_ended, NoneDue, NoneOut, AllOut, OnlyRunningOut, NoneOutOrSame, TakesSlice, IsOver, Replays, FitsSize};
-ghost use Rattle.cml_hub.specs.Moves.{IsNext, marks_after, PartiesAway, marks_met, AddsItem, TakesBack, Reported, HandedOut, MovedOn, CalledBack, Happens, GoesAlone, with_report};
+ghost use Rattle.cml_hub.specs.Marks.{left_by};
+ghost use Rattle.cml_hub.specs.Playing.{parties, ready_after, MovesBy, GoesBy, PlaysOut, PlaysSoFar};
+ghost use Rattle.cml_hub.specs.Moves.{IsNext, lines_up, marks_after, PartiesAway, marks_met, AddsItem, TakesBack, Reported, HandedOut, MovedOn, CalledBack, Happens, GoesAlone, with_report};
 
 use crate::choose::Chooser;
 use crate::course::Course;
@@ -55,6 +57,7 @@ impl Model for Hub {
       budget = h.budget;
       watch = h.watch;
       out = map is_out h.marks.marks;
+      queue = h.marks.queue;
       reports = h.reports.items;
     } };
 
@@ -63,6 +66,7 @@ impl Model for Hub {
       budget = h.budget;
       watch = h.watch;
       out = map is_out h.marks.marks;
+      queue = h.marks.queue;
       reports = h.reports.items;
     }) h.marks.marks };
 }
@@ -73,7 +77,8 @@ fn place(marks: &mut Marks, thread: Tid, gone: Gone)
     requires next { IsNext gone marks.old.marks }
     requires room { 2 ≤ marks.old.room }
     requires more { 1 ≤ marks.old.more }
-    ensures { marks.new.marks ≡ marks_after thread.0 gone marks.old.marks }
+    ensures marks { marks.new.marks ≡ marks_after thread.0 gone marks.old.marks }
+    ensures queue { marks.new.queue ≡ left_by thread.0 marks.old.queue ++ lines_up thread gone }
 {
     marks.take_away(thread);
     match gone {
@@ -90,7 +95,8 @@ fn place(marks: &mut Marks, thread: Tid, gone: Gone)
 fn place_all(marks: &mut Marks, row: Meet)
     requires away { PartiesAway marks.old.marks row }
     requires room { 2 ≤ marks.old.room }
-    ensures { marks.new.marks ≡ marks_met row marks.old.marks }
+    ensures marks { marks.new.marks ≡ marks_met row marks.old.marks }
+    ensures queue { marks.new.queue ≡ marks.old.queue ++ parties row }
 {
     match row {
         Meet::Single { tid, .. } => marks.make_ready(tid),
@@ -297,6 +303,7 @@ impl Hub {
         requires due { NoneDue self.old }
         ensures moves { OnOk result (AddsItem self.old (Item.Turn thread) self.new) }
         ensures back { OnOk result (TakesBack self.old.out thread.0 self.new.out) }
+        ensures queue { OnOk result (self.new.queue ≡ left_by thread.0 self.old.queue ++ ready_after self.old.course.world self.new.course.world thread) }
         ensures err { OnErr result (self.new ≡ self.old) }
     {
         self.marks.reserve()?;
@@ -312,6 +319,7 @@ impl Hub {
         requires due { NoneDue self.old }
         ensures moves { OnOk result (AddsItem self.old item self.new) }
         ensures out { self.new.out ≡ self.old.out }
+        ensures queue { OnOk result (self.new.queue ≡ self.old.queue ++ parties row) }
         ensures err { OnErr result (self.new ≡ self.old) }
     {
         self.marks.reserve()?;
@@ -326,6 +334,7 @@ impl Hub {
         requires due { NoneDue self.old }
         ensures moves { OnOk result (AddsItem self.old (Item.Clock tick) self.new) }
         ensures out { self.new.out ≡ self.old.out }
+        ensures queue { self.new.queue ≡ self.old.queue }
         ensures err { OnErr result (self.new ≡ self.old) }
     {
         self.course.tick(alloc, tick)?;
@@ -339,6 +348,7 @@ impl Hub {
         requires due { NoneDue self.old }
         requires going { spec.terminal self.old.course.world ≡ false }
         ensures ok { IfOk result (λ moved. MovedOn self.old moved self.new) }
+        ensures plays { IfOk result (λ moved. MovesBy (record { picks = C.picks; next = C.next }) self.old chooser.old moved self.new chooser.new) }
         ensures err { OnErr result (self.new ≡ self.old) }
     {
         if let Some(row) = self.course.pick(chooser) {
@@ -454,6 +464,7 @@ impl Hub {
         requires due { NoneDue self.old }
         requires going { spec.terminal self.old.course.world ≡ false }
         ensures ok { OnOk result (GoesAlone self.old self.new) }
+        ensures plays { OnOk result (GoesBy (record { picks = C.picks; next = C.next }) self.old chooser.old self.new chooser.new) }
         ensures err { OnErr result (self.new ≡ self.old) }
     {
         if let Some(thread) = self.marks.front() {
@@ -476,6 +487,8 @@ impl Hub {
     ) -> Result<End, AllocError>
         ensures more { Continues self.old self.new }
         ensures ok { IfOk result (λ end. IsOver end self.new) }
+        ensures plays { OnOk result (PlaysOut (record { picks = C.picks; next = C.next }) self.old chooser.old self.new chooser.new) }
+        ensures so_far { OnErr result (PlaysSoFar (record { picks = C.picks; next = C.next }) self.old chooser.old self.new) }
         ensures err { OnErr result (NoneOutOrSame self.old self.new) }
     {
         self.call_back()?;

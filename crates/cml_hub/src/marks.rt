@@ -3,7 +3,7 @@
 ghost use Rattle.std.specs.Prelude.{◌≡◌, ◌≢◌, ℕ, ◌+◌, ◌-◌, ◌<◌, ◌≤◌, ◌^◌, ◌++◌, ◌∷◌, [], List, not, map, length, MatchOption, Some, OnOk, OnErr, slice_get, slice_set};
 ghost use Rattle.std.specs.List.{list_any};
 ghost use Rattle.std.specs.VecDeque.{deque_len, deque_capacity};
-ghost use Rattle.cml_hub.specs.Marks.{is_at, count_of, ready_at, count_outs, is_here, home};
+ghost use Rattle.cml_hub.specs.Marks.{is_at, count_of, ready_at, count_outs, is_here, is_out, home, left_by, those_out};
 
 use cml_value::Tid;
 use std::alloc::{AllocError, Global};
@@ -43,6 +43,7 @@ impl Model for Marks {
 
     ghost view = { λ m. record {
       marks = m.marks.items;
+      queue = m.queue.items;
       room = deque_capacity m.queue - deque_len m.queue;
       more = vec_capacity m.marks - vec_len m.marks;
     } };
@@ -53,6 +54,7 @@ impl Model for Marks {
 // Takes the thread, which stands in the queue, out of it. It is looked for from the front.
 fn unqueue(queue: &mut VecDeque<Tid>, thread: Tid)
     requires { count_of thread.0 queue.old.items ≡ 1 }
+    ensures left { queue.new.items ≡ left_by thread.0 queue.old.items }
     ensures others { (t : ℕ) → count_of t queue.new.items + is_at t thread.0 ≡ count_of t queue.old.items }
     ensures capacity { deque_capacity queue.new ≡ deque_capacity queue.old }
     ensures shorter { deque_len queue.new + 1 ≡ deque_len queue.old }
@@ -72,6 +74,7 @@ fn queue_outs(queue: &mut VecDeque<Tid>, marks: &mut Vec<Mark>)
     requires queued { (t : ℕ) → count_of t queue.old.items ≡ ready_at marks.old.items t }
     requires room { deque_len queue.old + count_outs marks.old.items ≤ deque_capacity queue.old }
     ensures marks { marks.new.items ≡ map home marks.old.items }
+    ensures order { queue.new.items ≡ queue.old.items ++ those_out 0 (map is_out marks.old.items) }
     ensures queued { (t : ℕ) → count_of t queue.new.items ≡ ready_at marks.new.items t }
 {
     for i in 0..marks.len() {
@@ -88,7 +91,8 @@ fn queue_outs(queue: &mut VecDeque<Tid>, marks: &mut Vec<Mark>)
 impl Marks {
     // No thread.
     pub(crate) fn new(alloc: Global) -> Marks
-        ensures { result.marks ≡ [] }
+        ensures marks { result.marks ≡ [] }
+        ensures queue { result.queue ≡ [] }
     {
         Marks {
             queue: VecDeque::new(alloc),
@@ -100,6 +104,7 @@ impl Marks {
     // Room for one thread more, and for two more in the queue.
     pub(crate) fn reserve(&mut self) -> Result<(), AllocError>
         ensures marks { self.new.marks ≡ self.old.marks }
+        ensures queue { self.new.queue ≡ self.old.queue }
         ensures room { OnOk result (2 ≤ self.new.room) }
         ensures more { OnOk result (1 ≤ self.new.more) }
     {
@@ -116,7 +121,8 @@ impl Marks {
 
     // The thread that is ready and comes next.
     pub(crate) fn front(&self) -> Option<Tid>
-        ensures { MatchOption result ((t : ℕ) → slice_get self.now.marks t ≢ Some Mark.Ready) (λ t. slice_get self.now.marks t.0 ≡ Some Mark.Ready) }
+        ensures ready { MatchOption result ((t : ℕ) → slice_get self.now.marks t ≢ Some Mark.Ready) (λ t. slice_get self.now.marks t.0 ≡ Some Mark.Ready) }
+        ensures first { result ≡ slice_get self.now.queue 0 }
     {
         if self.queue.is_empty() {
             return None;
@@ -130,6 +136,7 @@ impl Marks {
         requires room { 1 ≤ self.old.room }
         requires more { 1 ≤ self.old.more }
         ensures marks { self.new.marks ≡ self.old.marks ++ Mark.Ready ∷ [] }
+        ensures queue { self.new.queue ≡ self.old.queue ++ thread ∷ [] }
         ensures room { self.old.room ≡ self.new.room + 1 }
     {
         self.marks.push_reserved(Mark::Ready);
@@ -141,6 +148,7 @@ impl Marks {
         requires away { slice_get self.old.marks thread.0 ≡ Some Mark.Away }
         requires room { 1 ≤ self.old.room }
         ensures marks { self.new.marks ≡ slice_set self.old.marks thread.0 Mark.Ready }
+        ensures queue { self.new.queue ≡ self.old.queue ++ thread ∷ [] }
         ensures room { self.old.room ≡ self.new.room + 1 }
     {
         self.marks[thread.0 as usize] = Mark::Ready;
@@ -151,6 +159,7 @@ impl Marks {
     pub(crate) fn take_away(&mut self, thread: Tid)
         requires { thread.0 < length self.old.marks }
         ensures marks { self.new.marks ≡ slice_set self.old.marks thread.0 Mark.Away }
+        ensures queue { self.new.queue ≡ left_by thread.0 self.old.queue }
         ensures room { self.old.room ≤ self.new.room }
         ensures more { self.new.more ≡ self.old.more }
     {
@@ -171,7 +180,8 @@ impl Marks {
     // The thread, which was ready, is out.
     pub(crate) fn hand_out(&mut self, thread: Tid)
         requires { slice_get self.old.marks thread.0 ≡ Some Mark.Ready }
-        ensures { self.new.marks ≡ slice_set self.old.marks thread.0 Mark.Out }
+        ensures marks { self.new.marks ≡ slice_set self.old.marks thread.0 Mark.Out }
+        ensures queue { self.new.queue ≡ left_by thread.0 self.old.queue }
     {
         unqueue(&mut self.queue, thread);
         self.marks[thread.0 as usize] = Mark::Out;
@@ -181,7 +191,9 @@ impl Marks {
     // The threads that are out are ready, in the order of their numbers, after the others.
     pub(crate) fn call_back(&mut self) -> Result<(), AllocError>
         ensures ok { OnOk result (self.new.marks ≡ map home self.old.marks) }
+        ensures order { OnOk result (self.new.queue ≡ self.old.queue ++ those_out 0 (map is_out self.old.marks)) }
         ensures err { OnErr result (self.new.marks ≡ self.old.marks) }
+        ensures err_queue { OnErr result (self.new.queue ≡ self.old.queue) }
     {
         if self.outs == 0 {
             return Ok(());

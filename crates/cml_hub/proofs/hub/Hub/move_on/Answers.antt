@@ -1,9 +1,11 @@
-use Rattle.std.proofs.Common.{◌≡◌, true, false, not, refl, sym, ap, ◌∙◌}
+use Rattle.std.proofs.Common.{◌≡◌, true, false, not, refl, sym, ap, subst, ◌∙◌}
 use Rattle.cml_schedule.specs.declared.item.Item.TheVariants.{Clock}
 use Rattle.cml_hub.specs.Runs.{any_runs, terminal}
 use Rattle.cml_hub.specs.Kept.{IsNoTurn, TellsSwaps}
 use Rattle.cml_hub.proofs.Marking.{placed_any}
 use Rattle.cml_hub.proofs.Onward.{none_runs, some_runs, swap_allowed, tick_allowed, terminal_is}
+use Rattle.cml_hub.specs.Playing.{spent, taking}
+use Rattle.cml_hub.proofs.Played.{taking_swap, taking_row, row_moves, tick_moves}
 use Rattle.cml_hub.proofs.hub.Hub.move_on.Goals.{then-swaps, else-swaps}
 use Rattle.cml_hub.proofs.hub.Hub.move_on.Goals as goal
 
@@ -15,8 +17,8 @@ pub meet-requires-clause-allowed : goal.meet-requires-clause-allowed
 meet-requires-clause-allowed g c =
     elim c.if-swaps.branch [
       | then-swaps w ↦ rw (← c.self.view_is)
-          (swap_allowed c.self.inside.course.world c.if-swaps.item c.in-Some.row (rw (w.item-is) refl) c.in-Some.ensures (sym c.swaps.ensures ∙ w.if-swaps.true))
-      | else-swaps w ↦ rw (← c.self.view_is, w.item-is) c.in-Some.ensures
+          (swap_allowed c.self.inside.course.world c.if-swaps.item c.in-Some.row (rw (w.item-is) refl) c.in-Some.ensures.row (sym c.swaps.ensures ∙ w.if-swaps.true))
+      | else-swaps w ↦ rw (← c.self.view_is, w.item-is) c.in-Some.ensures.row
     ]
 
 pub meet-requires-clause-due : goal.meet-requires-clause-due
@@ -38,7 +40,7 @@ returns-then-not-is_idle-clause-ok g c =
     let s = c.self.inside in
     let runs = c.is_idle.ensures ∙ ap not (placed_any s.course.world.threads s.marks.marks c.self.invariant.placed) in
     let busy : c.is_idle.result ≡ false = cc in
-    rw (← c.self.view_is) (c.in_default.ensures, some_runs c.is_idle.result (any_runs s.course.world) runs busy, refl)
+    rw (← c.self.view_is) (c.in_default.ensures.row, some_runs c.is_idle.result (any_runs s.course.world) runs busy, refl)
 
 pub tick-requires-clause-allowed : goal.tick-requires-clause-allowed
 tick-requires-clause-allowed g c =
@@ -46,7 +48,7 @@ tick-requires-clause-allowed g c =
     let runs = c.is_idle.ensures ∙ ap not (placed_any s.course.world.threads s.marks.marks c.self.invariant.placed) in
     let quiet : c.is_idle.result ≡ true = cc in
     let idle = none_runs c.is_idle.result (any_runs s.course.world) runs quiet in
-    rw (← c.self.view_is) (tick_allowed s.course.world c.in-Some-next_alarm.tick c.in_default.ensures idle (sym c.next_alarm.ensures ∙ c.in-Some-next_alarm.is))
+    rw (← c.self.view_is) (tick_allowed s.course.world c.in-Some-next_alarm.tick c.in_default.ensures.row idle (sym c.next_alarm.ensures ∙ c.in-Some-next_alarm.is))
 
 pub tick-requires-clause-due : goal.tick-requires-clause-due
 tick-requires-clause-due g c =
@@ -58,10 +60,30 @@ unreachable-requires g c =
     let runs = c.is_idle.ensures ∙ ap not (placed_any s.course.world.threads s.marks.marks c.self.invariant.placed) in
     let quiet : c.is_idle.result ≡ true = cc in
     let idle = none_runs c.is_idle.result (any_runs s.course.world) runs quiet in
-    let over = terminal_is s.course.world c.in_default.ensures idle (sym c.next_alarm.ensures ∙ c.in-None.is) in
+    let over = terminal_is s.course.world c.in_default.ensures.row idle (sym c.next_alarm.ensures ∙ c.in-None.is) in
     let going : terminal s.course.world ≡ false = rw (← c.self.view_is) at c.requires.going in
     cc
 
 pub returns-clause-ok : goal.returns-clause-ok
 returns-clause-ok g c =
     (Clock c.in-Some-next_alarm.tick, tt, tt, c.in_ok-tick-in-Some-next_alarm.ensures.moves, c.tick.ensures.out)
+
+pub returns-in-Some-clause-plays : goal.returns-in-Some-clause-plays
+returns-in-Some-clause-plays g c =
+    let old = c.args.self.now in
+    let s = c.self.inside in
+    let is : c.if-swaps.item ≡ taking s.course.world c.in-Some.row =
+    elim c.if-swaps.branch [
+      | then-swaps w ↦ taking_swap s.course.world c.in-Some.row c.if-swaps.item (sym c.swaps.ensures ∙ w.if-swaps.true) w.item-is
+      | else-swaps w ↦ taking_row s.course.world c.in-Some.row c.if-swaps.item (sym c.swaps.ensures ∙ w.if-swaps.false) w.item-is
+    ] in
+    row_moves (record { picks = g.C.Chooser.picks; next = g.C.Chooser.next }) old c.meet.new.self c.args.chooser.now c.pick.new.chooser c.in-Some.row c.if-swaps.item
+    (rw (← c.self.view_is) (sym c.in-Some.is ∙ c.pick.ensures.picked)) (rw (← c.self.view_is) is) c.in_ok-meet.ensures.moves c.in_ok-meet.ensures.queue
+    (subst (λ o. c.pick.new.chooser ≡ spent (record { picks = g.C.Chooser.picks; next = g.C.Chooser.next }) c.args.chooser.now o) c.in-Some.is c.pick.ensures.spent)
+
+pub returns-clause-plays : goal.returns-clause-plays
+returns-clause-plays g c =
+    let old = c.args.self.now in
+    tick_moves (record { picks = g.C.Chooser.picks; next = g.C.Chooser.next }) old c.tick.new.self c.args.chooser.now c.pick.new.chooser c.in-Some-next_alarm.tick
+    (rw (← c.self.view_is) (sym c.in_default.is ∙ c.pick.ensures.picked)) (rw (← c.self.view_is) (sym c.in-Some-next_alarm.is ∙ c.next_alarm.ensures)) c.in_ok-tick-in-Some-next_alarm.ensures.moves c.tick.ensures.queue
+    (subst (λ o. c.pick.new.chooser ≡ spent (record { picks = g.C.Chooser.picks; next = g.C.Chooser.next }) c.args.chooser.now o) c.in_default.is c.pick.ensures.spent)

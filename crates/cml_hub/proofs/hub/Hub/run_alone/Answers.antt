@@ -1,5 +1,7 @@
 use Rattle.std.proofs.Common.{inl, inr, sym}
-use Rattle.cml_hub.proofs.Going.{alone_continues, continues_self, continues_called, continues_more, continues_reported, still_continues, none_out_reported, none_out_same}
+use Rattle.cml_hub.specs.Courses.{run_of}
+use Rattle.cml_hub.proofs.Going.{alone_continues, continues_self, continues_called, continues_more, continues_reported, still_continues, none_out_reported, none_out_same, below}
+use Rattle.cml_hub.proofs.Played.{way_called, way_reported, way_more, way_on, way_out}
 use Rattle.cml_hub.proofs.Onward.{on_err}
 use Rattle.cml_hub.proofs.hub.Hub.run_alone.Goals as goal
 
@@ -21,6 +23,7 @@ turns-init g c =
       more = continues_more h a b (continues_called h a k) (continues_reported a b r);
       none_out = none_out_reported a b k.none_out r;
       due = r.none_due;
+      way = way_reported (record { picks = g.C.Chooser.picks; next = g.C.Chooser.next }) h a b c.args.chooser.now c.args.chooser.now (way_called (record { picks = g.C.Chooser.picks; next = g.C.Chooser.next }) h a c.args.chooser.now k) r;
     }
 
 pub turns-preserved : goal.turns-preserved
@@ -35,6 +38,9 @@ turns-preserved g c =
       more = continues_more h b d (alone_continues h a b c.turns.invariant.more (record { leads = c.turns-test.ensures.leads; going = sym c.turns-test.ensures.over }) k) (continues_reported b d r);
       none_out = none_out_reported b d k.none_out r;
       due = r.none_due;
+      way = way_reported (record { picks = g.C.Chooser.picks; next = g.C.Chooser.next }) h b d c.args.chooser.now c.go_alone.new.chooser
+          (way_more (record { picks = g.C.Chooser.picks; next = g.C.Chooser.next }) h a b c.args.chooser.now c.turns.chooser c.go_alone.new.chooser k.item c.turns.invariant.way c.turns.invariant.more
+          (sym c.turns-test.ensures.over) (below a.budget (run_of a.course) (sym c.turns-test.ensures.over)) c.in_ok-go_alone.ensures.plays k.moves) r;
     }
 
 pub returns-in_err-report-2-clause-more : goal.returns-in_err-report-2-clause-more
@@ -60,3 +66,33 @@ pub returns-in_err-report-2-clause-err : goal.returns-in_err-report-2-clause-err
 returns-in_err-report-2-clause-err g c =
     on_err c.from_residual-in_err-report-2.result
     (inl (none_out_same c.go_alone.new.self c.report-in-turns.new.self c.in_ok-go_alone.ensures.ok.none_out c.in_err-report-2.ensures.err))
+
+pub returns-clause-plays : goal.returns-clause-plays
+returns-clause-plays g c =
+    way_out (record { picks = g.C.Chooser.picks; next = g.C.Chooser.next }) c.args.self.now c.turns.self c.args.chooser.now c.turns.chooser c.turns.invariant.way c.turns.invariant.more
+    (sym c.turns-test.ensures.over)
+
+pub returns-in_err-call_back-clause-so_far : goal.returns-in_err-call_back-clause-so_far
+returns-in_err-call_back-clause-so_far g c = on_err c.from_residual.result (inr c.in_err-call_back.ensures.err)
+
+pub returns-in_err-report-clause-so_far : goal.returns-in_err-report-clause-so_far
+returns-in_err-report-clause-so_far g c =
+    let h = c.args.self.now in
+    let way = way_called (record { picks = g.C.Chooser.picks; next = g.C.Chooser.next }) h c.call_back.new.self c.args.chooser.now c.in_ok-call_back.ensures.ok in
+    on_err c.from_residual-in_err-report.result (inl (way_on (record { picks = g.C.Chooser.picks; next = g.C.Chooser.next }) h c.call_back.new.self c.report.new.self c.args.chooser.now c.args.chooser.now way c.in_err-report.ensures.err))
+
+pub returns-in_err-go_alone-clause-so_far : goal.returns-in_err-go_alone-clause-so_far
+returns-in_err-go_alone-clause-so_far g c =
+    on_err c.from_residual-in_err-go_alone.result
+    (inl (way_on (record { picks = g.C.Chooser.picks; next = g.C.Chooser.next }) c.args.self.now c.turns.self c.go_alone.new.self c.args.chooser.now c.turns.chooser c.turns.invariant.way c.in_err-go_alone.ensures.err))
+
+pub returns-in_err-report-2-clause-so_far : goal.returns-in_err-report-2-clause-so_far
+returns-in_err-report-2-clause-so_far g c =
+    let h = c.args.self.now in
+    let a = c.turns.self in
+    let b = c.go_alone.new.self in
+    let k = c.in_ok-go_alone.ensures.ok in
+    let way = way_more (record { picks = g.C.Chooser.picks; next = g.C.Chooser.next }) h a b c.args.chooser.now c.turns.chooser c.go_alone.new.chooser k.item c.turns.invariant.way c.turns.invariant.more
+    (sym c.turns-test.ensures.over) (below a.budget (run_of a.course) (sym c.turns-test.ensures.over)) c.in_ok-go_alone.ensures.plays k.moves in
+    on_err c.from_residual-in_err-report-2.result
+    (inl (way_on (record { picks = g.C.Chooser.picks; next = g.C.Chooser.next }) h b c.report-in-turns.new.self c.args.chooser.now c.go_alone.new.chooser way c.in_err-report-2.ensures.err))

@@ -1,6 +1,7 @@
 use Rattle.std.proofs.Common.{◌<◌, ◌-◌, ◌∙◌, add-zero, sym, arith, refl, length}
 use Rattle.cml_hub.specs.declared.marks.Mark.TheVariants.{Ready, Out, Away}
-use Rattle.cml_hub.proofs.MarkLemmas.{queued_once, marks_left, marks_back, got_is, out_counted}
+use Rattle.cml_hub.proofs.MarkLemmas.{queued_once, marks_left, marks_back, got_is, out_counted, not_queued}
+use Rattle.cml_hub.proofs.Queueing.{left_none}
 use Rattle.cml_hub.proofs.marks.Marks.take_away.Goals as goal
 
 pub unqueue-requires : goal.unqueue-requires
@@ -33,3 +34,17 @@ invariant_of-self-in-Out c =
     let at = got_is s.marks.items c.args.thread.0 c.index.result.now Out lt (sym c.in-Out.is ∙ c.index.ensures) in
     let some = out_counted s.marks.items c.args.thread.0 at in
     marks_back s.queue.items s.marks.items s.outs (s.outs - 1) c.args.thread.0 Out c.self.invariant at refl (omega (arith, c.self.invariant.counted))
+
+pub returns-in-Out-clause-queue : goal.returns-in-Out-clause-queue
+returns-in-Out-clause-queue c =
+    let s = c.self.inside in
+    let lt : c.args.thread.0 < length s.marks.items = rw (← c.self.view_is) at c.requires in
+    let at = got_is s.marks.items c.args.thread.0 c.index.result.now Out lt (sym c.in-Out.is ∙ c.index.ensures) in
+    rw (← c.self.view_is) (sym (left_none c.args.thread.0 s.queue.items (not_queued s.queue.items s.marks.items s.outs c.args.thread.0 Out c.self.invariant at refl)))
+
+pub returns-in-Away-clause-queue : goal.returns-in-Away-clause-queue
+returns-in-Away-clause-queue c =
+    let s = c.self.inside in
+    let lt : c.args.thread.0 < length s.marks.items = rw (← c.self.view_is) at c.requires in
+    let at = got_is s.marks.items c.args.thread.0 c.index.result.now Away lt (sym c.in-Away.is ∙ c.index.ensures) in
+    rw (← c.self.view_is) (sym (left_none c.args.thread.0 s.queue.items (not_queued s.queue.items s.marks.items s.outs c.args.thread.0 Away c.self.invariant at refl)))
