@@ -1,6 +1,5 @@
 -- What a command did, by what it told of the hub that it had.
-use Rattle.std.proofs.Common.{◌≡◌, ◌∙◌, ◌⊎◌, ℕ, List, [], ◌++◌, true, Option, Some, None, ap, inl, inr, refl, subst, sym}
-use Rattle.std.specs.String.{string_bytes}
+use Rattle.std.proofs.Common.{◌≡◌, ◌∙◌, ◌⊎◌, ℕ, Bool, List, [], ◌++◌, true, Option, Some, None, ap, inl, inr, refl, subst, sym}
 use Rattle.cml_check.specs.Sizes.{size_of}
 use Rattle.cml_check.specs.Syntax.{PlainItem}
 use Rattle.cml_hub.specs.Courses.{run_of}
@@ -38,12 +37,12 @@ run_is p watch items h program watched items_are run =
 
 -- ---- scripts
 
-pub not_scripted : (content : Content) (name : List ℕ) (why : Refusal) (errors : Counted) (status : ℕ) →
-    IsNotOpened content why → RefusalRan name why 2 errors status → NoScriptRan content name errors status
-not_scripted content name Unread errors status may (inl told) = inr (inl (may, told.0, told.1))
-not_scripted content name Unread errors status may (inr memory) = inr (inr memory)
-not_scripted content name (Wrong told) errors status wrong said = inl (wrong.0, wrong.1, string_bytes told, wrong.2, said.0, said.1)
-not_scripted content name Memory errors status any memory = inr (inr memory)
+pub not_scripted : (explains : Bool) (content : Content) (name : List ℕ) (why : Refusal) (errors : Counted) (status : ℕ) →
+    IsNotOpened explains name content why → RefusalRan name why 2 errors status → NoScriptRan explains content name errors status
+not_scripted explains content name Unread errors status may (inl told) = inr (inl (may, told.0, told.1))
+not_scripted explains content name Unread errors status may (inr memory) = inr (inr memory)
+not_scripted explains content name (Wrong told) errors status wrong said = inl (wrong.0, wrong.1, told.items, wrong.2, said.0, said.1)
+not_scripted explains content name Memory errors status any memory = inr (inr memory)
 
 -- ---- replay
 
@@ -52,7 +51,7 @@ pub not_scheduled : (p : List (PlainItem ℕ)) (watch : Option ℕ) (content : C
 not_scheduled p watch content name Unread output errors status may (inl told) idle = inr (inl (may, told.0, told.1), idle)
 not_scheduled p watch content name Unread output errors status may (inr memory) idle = inr (inr memory, idle)
 not_scheduled p watch content name (Wrong told) output errors status wrong said idle =
-    inl (wrong.0, wrong.1, inr (string_bytes told, wrong.2, said.0, said.1, idle))
+    inl (wrong.0, wrong.1, inr (told.items, wrong.2, said.0, said.1, idle))
 not_scheduled p watch content name Memory output errors status any memory idle = inr (inr memory, idle)
 
 pub scheduled : (p : List (PlainItem ℕ)) (watch : Option ℕ) (name : List ℕ) (content : Content) (h : Kept) (output errors : Counted) (status : ℕ) →
@@ -274,10 +273,10 @@ program_behind old mid new p options output errors status same (items, reports, 
     (items, reports, r, run, exchanges, inr (inr (live.0, live.1, λ n. live.2 n ∙ same n)))
 
 -- the program that was opened was run, or memory ran out before it began
-pub run_ran : (old mid new : List ℕ → Content) (p : List (PlainItem ℕ)) (options : RunOptions) (output errors : Counted) (status : ℕ) →
+pub run_ran : (old mid new : List ℕ → Content) (p : List (PlainItem ℕ)) (options : RunOptions) (explains : Bool) (output errors : Counted) (status : ℕ) →
     IsUnchanged old mid → IsOpened (old options.file.now) p → BegunRan p options output errors (record { before = mid; after = new }) status →
-    RunRan options output errors (record { before = old; after = new }) status
-run_ran old mid new p options output errors status same opened (inl ran) =
+    RunRan options explains output errors (record { before = old; after = new }) status
+run_ran old mid new p options explains output errors status same opened (inl ran) =
     inl (p, opened, program_behind old mid new p options output errors status same ran)
-run_ran old mid new p options output errors status same opened (inr memory) =
+run_ran old mid new p options explains output errors status same opened (inr memory) =
     inr (inr (inr memory.0), memory.1, λ n. memory.2 n ∙ same n)

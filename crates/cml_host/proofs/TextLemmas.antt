@@ -1,29 +1,31 @@
 -- A text of which the first bytes were handed over, one more than may be.
-use Rattle.std.proofs.Common.{◌≡◌, ◌∙◌, ◌⊎◌, ◌+◌, ◌<◌, ◌≤◌, ℕ, List, take, length, Some, Result, Ok, Err, IfOk, inl, inr, refl, sym, ap, subst, arith, lt-ltb}
+use Rattle.std.proofs.Common.{◌≡◌, ◌∙◌, ◌⊎◌, ◌+◌, ◌<◌, ◌≤◌, ℕ, Bool, List, take, length, Some, Result, Ok, Err, IfOk, inl, inr, refl, ap, subst, arith, lt-ltb}
 use Rattle.std.specs.declared.alloc.AllocError.{AllocError}
 use Rattle.std.proofs.lemmas.Bool.{cases_lt}
 use Rattle.std.proofs.lemmas.List.{take_all, length-take-le}
 use Rattle.cml_text.specs.declared.fault.FaultKind.TheVariants.{Long}
 use Rattle.cml_text.specs.declared.fault.TextFault.{TextFault}
 use Rattle.cml_text.specs.declared.fault.TextFault.TheVariants.{At, Memory}
+use Rattle.cml_text.specs.Faults.{PlainFault}
 use Rattle.cml_text.specs.Forms.{PlainSexpr}
 use Rattle.cml_text.specs.Sizes.{text_limit}
 use Rattle.cml_text.specs.Steps.{IsFault}
 use Rattle.cml_text.specs.Texts.{Spells, fault_of}
-use Rattle.cml_host.specs.Checked.{IsChecked}
+use Rattle.cml_host.specs.Checked.{IsChecked, IsShaped}
 use Rattle.cml_host.specs.Formatted.{IsPrinted}
-use Rattle.cml_host.specs.Said.{IsFaulty, FileRan, SaidRan, Told}
+use Rattle.cml_host.specs.Said.{IsFaulty, FileRan, SaidRan, Told, text_told}
 use Rattle.cml_host.specs.Stores.{Content, unknown, nothing, bytes, IsLoaded}
 use Rattle.cml_host.specs.declared.said.Said.{Said}
 use Rattle.cml_host.specs.declared.said.Said.TheVariants.{Written, Refused}
 use Rattle.cml_stream.specs.Streams.{Counted}
 
 -- a fault that was read is told
-pub faulty : (text : List ℕ) (fault : TextFault) (said : Said) → IsFault fault (fault_of text) → Told fault said → IsFaulty text said
-faulty text (At kind at) (Written all) found told = absurd told
-faulty text (At kind at) (Refused all) found told = (record { kind = kind; at = at }, found, told)
-faulty text Memory (Written all) found told = absurd told
-faulty text Memory (Refused all) found told = absurd told
+pub faulty : (explains : Bool) (name text : List ℕ) (fault : TextFault) (said : Said) → IsFault fault (fault_of text) → Told explains name text fault said
+    → IsFaulty explains name text said
+faulty explains name text (At kind at) (Written all) found told = absurd told
+faulty explains name text (At kind at) (Refused all) found told = (record { kind = kind; at = at }, found, told)
+faulty explains name text Memory (Written all) found told = absurd told
+faulty explains name text Memory (Refused all) found told = absurd told
 
 -- all of it was handed over, or it is too long, and so is what was handed over
 pub all_or_long : (n : ℕ) (all : List ℕ) → (take (n + 1) all ≡ all) ⊎ ((n < length all) × (n < length (take (n + 1) all)))
@@ -35,38 +37,78 @@ all_or_long n all = go (cases_lt n (length all))
         inr (long, omega arith)
     go (inr short) = inl (take_all (n + 1) all (omega arith))
 
-pub long_fault : (text : List ℕ) → text_limit < length text → fault_of text ≡ Some (record { kind = Long; at = text_limit })
+-- the fault of a text that is too long
+abbrev pub too_long : PlainFault
+too_long = record { kind = Long; at = text_limit }
+
+long_fault : (text : List ℕ) → text_limit < length text → fault_of text ≡ Some too_long
 unfolding fault_of
 long_fault text long = rw (lt-ltb _ _ long) refl
 
-pub whole_fault : (all found : List ℕ) (said : Said) → found ≡ take (text_limit + 1) all → IsFaulty found said → IsFaulty all said
-whole_fault all found (Written text) is told = absurd told
-whole_fault all found (Refused text) is told = go (all_or_long text_limit all)
+-- what is told of it is told of its first bytes
+long_told : (explains : Bool) (name all : List ℕ) → text_limit < length all
+    → text_told explains name (take (text_limit + 1) all) too_long ≡ text_told explains name all too_long
+long_told explains name all long = refl
+
+-- the fault of what was handed over is that of the whole, and so is what is told of it
+pub whole_fault_told : (explains : Bool) (name all found told : List ℕ) → found ≡ take (text_limit + 1) all →
+    (fault : PlainFault) → fault_of found ≡ Some fault → told ≡ text_told explains name found fault →
+    (f : PlainFault) × (fault_of all ≡ Some f) × (told ≡ text_told explains name all f)
+whole_fault_told explains name all found told is fault has says = go (all_or_long text_limit all)
   where
-    go : (take (text_limit + 1) all ≡ all) ⊎ ((text_limit < length all) × (text_limit < length (take (text_limit + 1) all))) → IsFaulty all (Refused text)
-    go (inl same) = (told.0, ap fault_of (sym (is ∙ same)) ∙ told.1, told.2)
-    go (inr long) = (told.0, long_fault all long.0 ∙ sym (long_fault _ long.1) ∙ ap fault_of (sym is) ∙ told.1, told.2)
+    go : (take (text_limit + 1) all ≡ all) ⊎ ((text_limit < length all) × (text_limit < length (take (text_limit + 1) all))) →
+        (f : PlainFault) × (fault_of all ≡ Some f) × (told ≡ text_told explains name all f)
+    go (inl same) = subst (λ (t : List ℕ). (f : PlainFault) × (fault_of t ≡ Some f) × (told ≡ text_told explains name t f)) (is ∙ same) (fault, has, says)
+    go (inr long) =
+        let is_long : fault_of found ≡ Some too_long = ap fault_of is ∙ long_fault _ long.1 in
+        let it : fault ≡ too_long = cc in
+        (
+          too_long,
+          long_fault all long.0,
+          says ∙ (ap (text_told explains name found) it ∙ (ap (λ t. text_told explains name t too_long) is ∙ long_told explains name all long.0)),
+        )
+
+whole_fault : (explains : Bool) (name all found : List ℕ) (said : Said) → found ≡ take (text_limit + 1) all → IsFaulty explains name found said
+    → IsFaulty explains name all said
+whole_fault explains name all found (Written text) is told = absurd told
+whole_fault explains name all found (Refused text) is told = whole_fault_told explains name all found text.items is told.0 told.1 told.2
+
+-- what was handed over of a longer text spells nothing
+pub not_spelled : (all found : List ℕ) (forms : List PlainSexpr) → found ≡ take (text_limit + 1) all → text_limit < length (take (text_limit + 1) all)
+    → Spells found forms → ⊥
+not_spelled all found forms is long spells =
+    let short : length (take (text_limit + 1) all) ≤ text_limit = subst (λ (t : List ℕ). length t ≤ text_limit) is spells.short in
+    absurd (omega arith)
 
 pub whole_spelled : (all found : List ℕ) (forms : List PlainSexpr) → found ≡ take (text_limit + 1) all → Spells found forms → Spells all forms
 whole_spelled all found forms is spells = go (all_or_long text_limit all)
   where
     go : (take (text_limit + 1) all ≡ all) ⊎ ((text_limit < length all) × (text_limit < length (take (text_limit + 1) all))) → Spells all forms
     go (inl same) = subst (λ t. Spells t forms) (is ∙ same) spells
-    go (inr long) =
-        let short : length (take (text_limit + 1) all) ≤ text_limit = subst (λ (t : List ℕ). length t ≤ text_limit) is spells.short in
-        absurd (omega arith)
+    go (inr long) = absurd (not_spelled all found forms is long.1 spells)
+
+-- what is said of forms that were handed over is said of the whole, which spells them
+spelled_whole : (Says : List ℕ → List PlainSexpr → Type 0) (all found : List ℕ) (forms : List PlainSexpr) → found ≡ take (text_limit + 1) all
+    → Spells found forms → Says found forms → Spells all forms × Says all forms
+spelled_whole Says all found forms is spells says = go (all_or_long text_limit all)
+  where
+    go : (take (text_limit + 1) all ≡ all) ⊎ ((text_limit < length all) × (text_limit < length (take (text_limit + 1) all))) → Spells all forms × Says all forms
+    go (inl same) = subst (λ (t : List ℕ). Spells t forms × Says t forms) (is ∙ same) (spells, says)
+    go (inr long) = absurd (not_spelled all found forms is long.1 spells)
 
 -- what is said of what was handed over is said of the whole
 abbrev pub IsOfWhole : (List ℕ → Said → Type 0) → Type 0
 IsOfWhole Says = (all found : List ℕ) (said : Said) → found ≡ take (text_limit + 1) all → Says found said → Says all said
 
-pub checked_whole : IsOfWhole IsChecked
-checked_whole all found said is (inl spelled) = inl (spelled.0, whole_spelled all found spelled.0 is spelled.1, spelled.2)
-checked_whole all found said is (inr told) = inr (whole_fault all found said is told)
+pub checked_whole : (explains : Bool) (name : List ℕ) → IsOfWhole (IsChecked explains name)
+checked_whole explains name all found said is (inl spelled) =
+    let whole = spelled_whole (λ text forms. IsShaped explains name text forms said) all found spelled.0 is spelled.1 spelled.2 in
+    inl (spelled.0, whole.0, whole.1)
+checked_whole explains name all found said is (inr told) = inr (whole_fault explains name all found said is told)
 
-pub printed_whole : IsOfWhole IsPrinted
-printed_whole all found said is (inl spelled) = inl (spelled.0, whole_spelled all found spelled.0 is spelled.1, spelled.2)
-printed_whole all found said is (inr told) = inr (whole_fault all found said is told)
+pub printed_whole : (explains : Bool) (name : List ℕ) → IsOfWhole (IsPrinted explains name)
+printed_whole explains name all found said is (inl spelled) = inl (spelled.0, whole_spelled all found spelled.0 is spelled.1, spelled.2)
+printed_whole explains name all found said is (inr told) = inr (whole_fault explains name all found said is told)
 
 pub file_ran : (Says : List ℕ → Said → Type 0) → IsOfWhole Says → (name : List ℕ) (content : Content) (found : List ℕ)
     (r : Result Said AllocError) (output errors : Counted) (status : ℕ) →

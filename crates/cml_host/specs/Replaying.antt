@@ -1,7 +1,6 @@
 -- The command `replay`: what it does with a script and a schedule.
-use Rattle.std.specs.Prelude.{◌≡◌, ◌⊎◌, ℕ, ◌<◌, ◌≤◌, List, ◌++◌, length, codes, Option, Ok, Err}
+use Rattle.std.specs.Prelude.{◌≡◌, ◌⊎◌, ℕ, Bool, ◌<◌, ◌≤◌, List, ◌++◌, length, codes, Option, Ok, Err}
 use Rattle.std.specs.Fmt.{decimal}
-use Rattle.std.specs.String.{string_bytes}
 use Rattle.cml_check.specs.Syntax.{PlainItem}
 use Rattle.cml_hub.specs.Courses.{run_of}
 use Rattle.cml_hub.specs.Kept.{Kept, IsFirstBad, IsReplayed, FitsSize}
@@ -58,12 +57,13 @@ ScheduleRan p watch name content output errors status =
     ⊎ (RefusedRan content name errors status × IsIdle output)
 
 -- `replay`: the script that lies under its name was run by the schedule that lies under its own, or that schedule was refused; or the
--- script was not run (no script lies there, it was not read, or memory ran out), and nothing was written to the output.
-abbrev pub ReplayRan : ReplayOptions → (List ℕ → Content) → Counted → Counted → ℕ → Type 0
-ReplayRan options held output errors status =
+-- script was not run (no script lies there, which may be explained, it was not read, or memory ran out), and nothing was written to the
+-- output.
+abbrev pub ReplayRan : ReplayOptions → Bool → (List ℕ → Content) → Counted → Counted → ℕ → Type 0
+ReplayRan options explains held output errors status =
     ((p : List (PlainItem ℕ)) × IsOpened (held options.script.now) p
     × ScheduleRan p options.watch options.schedule.now (held options.schedule.now) output errors status)
-    ⊎ (NoScriptRan (held options.script.now) options.script.now errors status × IsIdle output)
+    ⊎ (NoScriptRan explains (held options.script.now) options.script.now errors status × IsIdle output)
 
 -- ---- what private functions say
 
@@ -86,23 +86,23 @@ IsHubOf p watch content hub =
 -- why the program does not follow the plan
 abbrev pub IsNoHub : List (PlainItem ℕ) → PlainPlan → Refusal → Type 0
 IsNoHub p plan Unread = ⊥
-IsNoHub p plan (Wrong told) = IsNotFollowed p plan (string_bytes told)
+IsNoHub p plan (Wrong told) = IsNotFollowed p plan told.items
 IsNoHub p plan Memory = Unit {0}
 
 -- why the text is no plan
 abbrev pub IsNotRead : List ℕ → Refusal → Type 0
 IsNotRead text Unread = ⊥
-IsNotRead text (Wrong told) = IsNoSchedule text (string_bytes told)
+IsNotRead text (Wrong told) = IsNoSchedule text told.items
 IsNotRead text Memory = Unit {0}
 
 -- why no plan was made of what lies there
 abbrev pub IsNoPlan : Content → Refusal → Type 0
 IsNoPlan content Unread = MayBeRefused content
-IsNoPlan content (Wrong told) = (text : List ℕ) × IsText content text × IsNoSchedule text (string_bytes told)
+IsNoPlan content (Wrong told) = (text : List ℕ) × IsText content text × IsNoSchedule text told.items
 IsNoPlan content Memory = Unit {0}
 
 -- why no program followed what lies there
 abbrev pub IsNotRun : List (PlainItem ℕ) → Content → Refusal → Type 0
 IsNotRun p content Unread = MayBeRefused content
-IsNotRun p content (Wrong told) = (text : List ℕ) × IsText content text × IsWrong p text (string_bytes told)
+IsNotRun p content (Wrong told) = (text : List ℕ) × IsText content text × IsWrong p text told.items
 IsNotRun p content Memory = Unit {0}

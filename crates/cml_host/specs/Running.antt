@@ -1,5 +1,5 @@
 -- The command `run`: what it does with a script.
-use Rattle.std.specs.Prelude.{◌≡◌, ◌≢◌, ◌⊎◌, ℕ, ◌<◌, List, [], ◌++◌, true, codes, Option, Some, None, option_map}
+use Rattle.std.specs.Prelude.{◌≡◌, ◌≢◌, ◌⊎◌, ℕ, ◌<◌, Bool, List, [], ◌++◌, true, codes, Option, Some, None, option_map}
 use Rattle.std.specs.String.{string_bytes}
 use Rattle.cml_check.specs.Sizes.{size_of}
 use Rattle.cml_check.specs.Syntax.{PlainItem}
@@ -69,12 +69,12 @@ ProgramRan p options output errors store status =
     ⊎ (IsCutOff reports r.output output errors status × IsUnchanged store.before store.after)
     ⊎ (ReportsAreLive options × IsForeign reports output errors status × IsUnchanged store.before store.after))
 
--- `run`: the script that lies under the name was run; or it was not (no script lies there, it was not read, or memory ran out), and nothing
--- was written to the output or saved.
-abbrev pub RunRan : RunOptions → Counted → Counted → Shelf → ℕ → Type 0
-RunRan options output errors store status =
+-- `run`: the script that lies under the name was run; or it was not (no script lies there, which may be explained, it was not read, or
+-- memory ran out), and nothing was written to the output or saved.
+abbrev pub RunRan : RunOptions → Bool → Counted → Counted → Shelf → ℕ → Type 0
+RunRan options explains output errors store status =
     ((p : List (PlainItem ℕ)) × IsOpened (store.before options.file.now) p × ProgramRan p options output errors store status)
-    ⊎ (NoScriptRan (store.before options.file.now) options.file.now errors status
+    ⊎ (NoScriptRan explains (store.before options.file.now) options.file.now errors status
     × IsIdle output × IsUnchanged store.before store.after)
 
 -- ---- what private functions say

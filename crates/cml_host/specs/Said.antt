@@ -1,13 +1,16 @@
 -- What the commands that read a file say of its text, and how they end.
-use Rattle.std.specs.Prelude.{◌≡◌, ◌⊎◌, ℕ, List, ◌++◌, Some, Result, Ok, Err, codes}
+use Rattle.std.specs.Prelude.{◌≡◌, ◌⊎◌, ℕ, Bool, if◌then◌else◌, List, ◌++◌, Some, Result, Ok, Err, codes}
 use Rattle.std.specs.String.{string_bytes}
 use Rattle.std.specs.declared.alloc.AllocError.{AllocError}
 use Rattle.cml_text.specs.Faults as text
 use Rattle.cml_text.specs.Texts.{fault_of}
 use Rattle.cml_text.specs.declared.fault.TextFault.{TextFault}
 use Rattle.cml_text.specs.declared.fault.TextFault.TheVariants as text_fault
+use Rattle.cml_text.specs.Forms.{PlainSexpr}
 use Rattle.cml_check.specs.Faults as script
 use Rattle.cml_check.specs.declared.fault.CheckFault.TheVariants as check_fault
+use Rattle.cml_explain.specs.Texts.{text_explained}
+use Rattle.cml_explain.specs.Scripts.{script_explained}
 use Rattle.cml_host.specs.Stores.{Content, unknown, nothing, bytes, MayBeRefused}
 use Rattle.cml_host.specs.Written.{TextRan}
 use Rattle.cml_host.specs.declared.said.Said.{Said}
@@ -27,16 +30,24 @@ text_line fault = line (text.fault_line (text_fault.At fault.kind fault.at))
 abbrev pub script_line : script.PlainCheckFault → List ℕ
 script_line fault = line (script.check_fault_line (check_fault.At fault.kind fault.at))
 
+-- what is told of a fault of the text under this name: its line, and then, where it is explained, what is wrong in words
+abbrev pub text_told : Bool → List ℕ → List ℕ → text.PlainFault → List ℕ
+text_told explains name given fault = if explains then text_line fault ++ text_explained name given fault else text_line fault
+
+-- the same of a fault of a script, whose forms the text spells
+abbrev pub script_told : Bool → List ℕ → List ℕ → List PlainSexpr → script.PlainCheckFault → List ℕ
+script_told explains name given forms fault = if explains then script_line fault ++ script_explained name given forms fault else script_line fault
+
 -- the text has a fault, which is told
-abbrev pub IsFaulty : List ℕ → Said → Type 0
-IsFaulty given (Written all) = ⊥
-IsFaulty given (Refused all) =
-    (fault : text.PlainFault) × (fault_of given ≡ Some fault) × (string_bytes all ≡ text_line fault)
+abbrev pub IsFaulty : Bool → List ℕ → List ℕ → Said → Type 0
+IsFaulty explains name given (Written all) = ⊥
+IsFaulty explains name given (Refused all) =
+    (fault : text.PlainFault) × (fault_of given ≡ Some fault) × (all.items ≡ text_told explains name given fault)
 
 -- What was said: it was written to the output; or the text was refused.
 abbrev pub IsSaid : Said → Counted → Counted → ℕ → Type 0
 IsSaid (Written all) output errors status = TextRan (string_bytes all) output errors status
-IsSaid (Refused all) output errors status = Says errors (string_bytes all) × (status ≡ 2) × IsIdle output
+IsSaid (Refused all) output errors status = Says errors all.items × (status ≡ 2) × IsIdle output
 
 -- memory ran out
 abbrev pub MemoryRan : Counted → ℕ → Type 0
@@ -65,9 +76,9 @@ FileRan Says name content output errors status =
     ⊎ (RefusedRan content name errors status × IsIdle output)
 
 -- what is said of a text with this fault, which is not that memory ran out
-abbrev pub Told : TextFault → Said → Type 0
-Told (text_fault.At kind at) (Refused all) = string_bytes all ≡ line (text.fault_line (text_fault.At kind at))
-Told fault said = ⊥
+abbrev pub Told : Bool → List ℕ → List ℕ → TextFault → Said → Type 0
+Told explains name given (text_fault.At kind at) (Refused all) = all.items ≡ text_told explains name given (record { kind = kind; at = at })
+Told explains name given fault said = ⊥
 
 -- why a command stops where the store did not hand over a file
 abbrev pub refusal_of : StoreFault → Refusal
@@ -78,5 +89,5 @@ refusal_of store_fault.Memory = refusal.Memory
 abbrev pub RefusalRan : List ℕ → Refusal → ℕ → Counted → ℕ → Type 0
 RefusalRan name refusal.Unread wrong errors status =
     (Says errors (line (codes "cannot read " ++ name)) × (status ≡ 1)) ⊎ MemoryRan errors status
-RefusalRan name (refusal.Wrong told) wrong errors status = Says errors (string_bytes told) × (status ≡ wrong)
+RefusalRan name (refusal.Wrong told) wrong errors status = Says errors told.items × (status ≡ wrong)
 RefusalRan name refusal.Memory wrong errors status = MemoryRan errors status

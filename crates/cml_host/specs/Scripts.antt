@@ -1,6 +1,5 @@
 -- Scripts, as `run` and `replay` read them: the program that a text is, or why it is none.
-use Rattle.std.specs.Prelude.{◌≡◌, ◌⊎◌, ℕ, List, Some, Ok, Err}
-use Rattle.std.specs.String.{string_bytes}
+use Rattle.std.specs.Prelude.{◌≡◌, ◌⊎◌, ℕ, Bool, List, Some, Ok, Err}
 use Rattle.cml_text.specs.Faults.{PlainFault}
 use Rattle.cml_text.specs.Forms.{PlainSexpr}
 use Rattle.cml_text.specs.Texts.{Spells, fault_of}
@@ -10,7 +9,7 @@ use Rattle.cml_check.specs.Syntax.{PlainItem}
 use Rattle.cml_step.specs.Calls.{text_of}
 use Rattle.cml_stream.specs.Streams.{Counted, Says}
 use Rattle.cml_host.specs.Stores.{Content, MayBeRefused}
-use Rattle.cml_host.specs.Said.{IsText, RefusedRan, text_line, script_line}
+use Rattle.cml_host.specs.Said.{IsText, RefusedRan, text_told, script_told}
 use Rattle.cml_host.specs.declared.said.Refusal.{Refusal}
 use Rattle.cml_host.specs.declared.said.Refusal.TheVariants.{Unread, Wrong, Memory}
 
@@ -22,17 +21,17 @@ IsScript text p = (forms : List PlainSexpr) × Spells text forms × (shape forms
 abbrev pub IsOpened : Content → List (PlainItem ℕ) → Type 0
 IsOpened content p = (text : List ℕ) × IsText content text × IsScript text p
 
--- The text is no script, and this line says why: it spells no forms, for the fault that it has; or its forms are no program.
-abbrev pub IsNoScript : List ℕ → List ℕ → Type 0
-IsNoScript text told =
-    ((fault : PlainFault) × (fault_of text ≡ Some fault) × (told ≡ text_line fault))
+-- The text under this name is no script, and this says why: it spells no forms, for the fault that it has; or its forms are no program.
+abbrev pub IsNoScript : Bool → List ℕ → List ℕ → List ℕ → Type 0
+IsNoScript explains name text told =
+    ((fault : PlainFault) × (fault_of text ≡ Some fault) × (told ≡ text_told explains name text fault))
     ⊎ ((forms : List PlainSexpr) × Spells text forms
-    × (fault : PlainCheckFault) × (shape forms ≡ Err fault) × (told ≡ script_line fault))
+    × (fault : PlainCheckFault) × (shape forms ≡ Err fault) × (told ≡ script_told explains name text forms fault))
 
 -- The script that lies there was not run: its text is none, and the errors tell why; or it was not read; or memory ran out.
-abbrev pub NoScriptRan : Content → List ℕ → Counted → ℕ → Type 0
-NoScriptRan content name errors status =
-    ((text : List ℕ) × IsText content text × (told : List ℕ) × IsNoScript text told × Says errors told × (status ≡ 2))
+abbrev pub NoScriptRan : Bool → Content → List ℕ → Counted → ℕ → Type 0
+NoScriptRan explains content name errors status =
+    ((text : List ℕ) × IsText content text × (told : List ℕ) × IsNoScript explains name text told × Says errors told × (status ≡ 2))
     ⊎ RefusedRan content name errors status
 
 -- ---- what private functions say
@@ -42,19 +41,20 @@ abbrev pub IsProgramOf : List PlainSexpr → List (PlainItem ℕ) → Type 0
 IsProgramOf forms p = shape forms ≡ Ok (text_of p)
 
 -- why the forms are no program
-abbrev pub IsNoProgram : List PlainSexpr → Refusal → Type 0
-IsNoProgram forms Unread = ⊥
-IsNoProgram forms (Wrong told) = (fault : PlainCheckFault) × (shape forms ≡ Err fault) × (string_bytes told ≡ script_line fault)
-IsNoProgram forms Memory = Unit {0}
+abbrev pub IsNoProgram : Bool → List ℕ → List ℕ → List PlainSexpr → Refusal → Type 0
+IsNoProgram explains name text forms Unread = ⊥
+IsNoProgram explains name text forms (Wrong told) =
+    (fault : PlainCheckFault) × (shape forms ≡ Err fault) × (told.items ≡ script_told explains name text forms fault)
+IsNoProgram explains name text forms Memory = Unit {0}
 
 -- why no program was made of a text
-abbrev pub IsNotMade : List ℕ → Refusal → Type 0
-IsNotMade text Unread = ⊥
-IsNotMade text (Wrong told) = IsNoScript text (string_bytes told)
-IsNotMade text Memory = Unit {0}
+abbrev pub IsNotMade : Bool → List ℕ → List ℕ → Refusal → Type 0
+IsNotMade explains name text Unread = ⊥
+IsNotMade explains name text (Wrong told) = IsNoScript explains name text told.items
+IsNotMade explains name text Memory = Unit {0}
 
 -- why no program was made of what lies there
-abbrev pub IsNotOpened : Content → Refusal → Type 0
-IsNotOpened content Unread = MayBeRefused content
-IsNotOpened content (Wrong told) = (text : List ℕ) × IsText content text × IsNoScript text (string_bytes told)
-IsNotOpened content Memory = Unit {0}
+abbrev pub IsNotOpened : Bool → List ℕ → Content → Refusal → Type 0
+IsNotOpened explains name content Unread = MayBeRefused content
+IsNotOpened explains name content (Wrong told) = (text : List ℕ) × IsText content text × IsNoScript explains name text told.items
+IsNotOpened explains name content Memory = Unit {0}

@@ -1,10 +1,10 @@
 -- What the program does about its arguments, and with which status it ends.
-use Rattle.std.specs.Prelude.{◌≡◌, ◌⊎◌, ℕ, List, codes}
+use Rattle.std.specs.Prelude.{◌≡◌, ◌⊎◌, ℕ, Bool, false, List, codes}
 use Rattle.std.specs.String.{string_bytes}
 use Rattle.cml_words.specs.declared.Task.TheVariants.{Trace, Check, Fmt, Run, Replay}
 use Rattle.cml_words.specs.declared.Answer.{Answer}
 use Rattle.cml_words.specs.declared.Answer.TheVariants as answer
-use Rattle.cml_words.specs.Words.{IsAnswer}
+use Rattle.cml_words.specs.Words.{IsAnswer, explains}
 use Rattle.cml_trace.specs.Replies.{line}
 use Rattle.cml_stream.specs.Counts.{Calls}
 use Rattle.cml_stream.specs.Streams.{Counted, Stream, IsIdle, Says}
@@ -17,11 +17,13 @@ use Rattle.cml_host.specs.Replaying.{ReplayRan}
 use Rattle.cml_host.specs.Traced.{TraceRan}
 use Rattle.cml_host.specs.Written.{TextRan}
 
--- What stands around a run of the program, before and after: its input, its output, what it writes its errors to, and its store.
+-- What stands around a run of the program, before and after: its input, its output, what it writes its errors to, whether that is a
+-- terminal, and its store.
 pub record Surroundings : Type 0 where
   pub input : Counted
   pub output : Counted
   pub errors : Counted
+  pub terminal : Bool
   pub store : Shelf
 
 -- nothing was saved in the store
@@ -33,16 +35,18 @@ SavesNothing around = IsUnchanged around.store.before around.store.after
 abbrev pub AnswerRan : Answer → Surroundings → ℕ → Type 0
 AnswerRan (answer.Task Trace) around status =
     TraceRan around.input around.output around.errors status × SavesNothing around
-AnswerRan (answer.Task (Check name)) around status =
-    FileRan IsChecked name.now (around.store.before name.now) around.output around.errors status
+AnswerRan (answer.Task (Check options)) around status =
+    FileRan (IsChecked (explains options.explain around.terminal) options.file.now) options.file.now (around.store.before options.file.now)
+    around.output around.errors status
     × IsIdle around.input × SavesNothing around
-AnswerRan (answer.Task (Fmt name)) around status =
-    FileRan IsPrinted name.now (around.store.before name.now) around.output around.errors status
+AnswerRan (answer.Task (Fmt options)) around status =
+    FileRan (IsPrinted (explains options.explain around.terminal) options.file.now) options.file.now (around.store.before options.file.now)
+    around.output around.errors status
     × IsIdle around.input × SavesNothing around
 AnswerRan (answer.Task (Run options)) around status =
-    RunRan options around.output around.errors around.store status × IsIdle around.input
+    RunRan options (explains options.explain around.terminal) around.output around.errors around.store status × IsIdle around.input
 AnswerRan (answer.Task (Replay options)) around status =
-    ReplayRan options around.store.before around.output around.errors status
+    ReplayRan options (explains options.explain around.terminal) around.store.before around.output around.errors status
     × IsIdle around.input × SavesNothing around
 AnswerRan (answer.Help text) around status =
     TextRan (string_bytes text) around.output around.errors status × IsIdle around.input × SavesNothing around
@@ -60,7 +64,7 @@ abbrev pub Ran : List (List ℕ) → Surroundings → ℕ → Type 0
 Ran words around status =
     ((what : Answer) × IsAnswer words what × AnswerRan what around status) ⊎ IsOutOfMemory around status
 
--- The same of streams whose calls nobody counts: there are counts with which it holds.
+-- The same of streams whose calls nobody counts, and of errors that go to no terminal: there are counts with which it holds.
 abbrev pub RanOver : List (List ℕ) → Stream → Stream → Stream → Shelf → ℕ → Type 0
 RanOver words input output errors store status =
     (reads : Calls) × (writes : Calls) × (complaints : Calls)
@@ -69,6 +73,7 @@ RanOver words input output errors store status =
       input = record { bytes = input; counts = reads };
       output = record { bytes = output; counts = writes };
       errors = record { bytes = errors; counts = complaints };
+      terminal = false;
       store = store;
     })
     status

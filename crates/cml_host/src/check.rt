@@ -7,6 +7,7 @@ ghost use Rattle.cml_host.specs.Stores.{IsUnchanged};
 ghost use Rattle.cml_stream.specs.Streams.{counted_stream};
 
 use crate::said::{Said, TEXT_LIMIT, finish, refuse_file, refuse_text};
+use crate::source::{Source, tell_script};
 use crate::store::Store;
 use cml_check::{CheckFault, check};
 use cml_stream::Counting;
@@ -14,10 +15,11 @@ use cml_text::{Sexpr, read};
 use std::alloc::{AllocError, Global};
 use std::io::Write;
 
-/// Checks the script that lies under the name.
+/// Checks the script that lies under the name, and explains what is wrong with it, where that is asked for.
 pub fn check_file<O: Write, E: Write, S: Store>(
     alloc: Global,
     name: &str,
+    explains: bool,
     out: &mut Counting<'_, O>,
     err: &mut Counting<'_, E>,
     store: &mut S,
@@ -25,30 +27,37 @@ pub fn check_file<O: Write, E: Write, S: Store>(
     requires fresh { (out.old.calls ≡ 0) × (out.old.failed ≡ 0) × (err.old.calls ≡ 0) × (err.old.failed ≡ 0) }
     ensures ran { let output = counted_stream (O.contents out.old.stream.now) (O.contents out.new.stream.now) out.new.calls out.new.failed in
         let errors = counted_stream (E.contents err.old.stream.now) (E.contents err.new.stream.now) err.new.calls err.new.failed in
-        FileRan IsChecked name.now (S.holds store.old name.now) output errors result }
+        FileRan (IsChecked explains name.now) name.now (S.holds store.old name.now) output errors result }
     ensures same { IsUnchanged (S.holds store.old) (S.holds store.new) }
     ensures same_out { out.new.stream.ghost_name ≡ out.old.stream.ghost_name }
     ensures same_err { err.new.stream.ghost_name ≡ err.old.stream.ghost_name }
 {
     match store.load(alloc, name, TEXT_LIMIT) {
-        Ok(text) => finish(check_text(alloc, text.as_slice()), out, err),
+        Ok(text) => {
+            let source = Source {
+                name,
+                text: text.as_slice(),
+                explains,
+            };
+            finish(check_text(alloc, &source), out, err)
+        }
         Err(fault) => refuse_file(alloc, name, fault, err),
     }
 }
 
 // What `check` says of the text.
-fn check_text(alloc: Global, text: &[u8]) -> Result<Said, AllocError>
-    ensures { IfOk result (IsChecked text.now) }
+fn check_text(alloc: Global, source: &Source<'_>) -> Result<Said, AllocError>
+    ensures { IfOk result (IsChecked source.now.explains source.now.name.now source.now.text.now) }
 {
-    match read(alloc, text) {
-        Ok(forms) => check_forms(alloc, forms.as_slice()),
-        Err(fault) => refuse_text(alloc, fault),
+    match read(alloc, source.text) {
+        Ok(forms) => check_forms(alloc, source, forms.as_slice()),
+        Err(fault) => refuse_text(alloc, source, fault),
     }
 }
 
 // What `check` says of the forms of a script.
-fn check_forms(alloc: Global, forms: &[Sexpr]) -> Result<Said, AllocError>
-    ensures { IfOk result (IsShaped forms.now) }
+fn check_forms(alloc: Global, source: &Source<'_>, forms: &[Sexpr]) -> Result<Said, AllocError>
+    ensures { IfOk result (IsShaped source.now.explains source.now.name.now source.now.text.now forms.now) }
 {
     match check(alloc, forms) {
         Ok(program) => {
@@ -57,8 +66,7 @@ fn check_forms(alloc: Global, forms: &[Sexpr]) -> Result<Said, AllocError>
         }
         Err(CheckFault::Memory) => Err(AllocError),
         Err(CheckFault::At { kind, at }) => {
-            let fault = CheckFault::At { kind, at };
-            Ok(Said::Refused(format!(in alloc; "{fault}\n")?))
+            Ok(Said::Refused(tell_script(alloc, source, forms, kind, at)?))
         }
     }
 }

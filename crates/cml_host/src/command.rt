@@ -24,7 +24,8 @@ use std::io::{Read, Write};
 use std::sync::Wait;
 use std::thread::Threads;
 
-/// Runs the command that the arguments name, the first of which is the program's name, and returns the status of the process.
+/// Runs the command that the arguments name, the first of which is the program's name, and returns the status of the process. The errors
+/// are taken to go to no terminal.
 ///
 /// It reads the input or files of the store, writes what the command says to the output, and reports and what went wrong to the errors.
 /// The status is 0 where all was done; 1 where the arguments, the input, a file or the output are at fault, a write of reports failed, or
@@ -55,14 +56,15 @@ where
     let mut out = Counting::new(out);
     let mut err = Counting::new(err);
     run_command_counted(
-        rt, alloc, &Open, words, &mut input, &mut out, &mut err, store,
+        rt, alloc, &Open, words, &mut input, &mut out, &mut err, false, store,
     )
 }
 
 /// Runs the command as [`run_command`] does, over streams whose calls are counted, and of which none was called yet. A fault of the input
 /// is told only where a read failed, or 2,097,152 reads came to no end; a fault of the output only where a write failed or took nothing;
 /// and what is told is written to the errors whole, except where a write of it failed. More workers than one go through the gate with each
-/// slice of a script's thread.
+/// slice of a script's thread. Where the errors go to a terminal, what is wrong with a text or a script is explained, unless the arguments
+/// say otherwise.
 pub fn run_command_counted<R, G, I, O, E, S>(
     rt: &R,
     alloc: Global,
@@ -71,6 +73,7 @@ pub fn run_command_counted<R, G, I, O, E, S>(
     input: &mut Counting<'_, I>,
     out: &mut Counting<'_, O>,
     err: &mut Counting<'_, E>,
+    terminal: bool,
     store: &mut S,
 ) -> u8
 where
@@ -87,6 +90,7 @@ where
       input = counted_stream (I.remaining input.old.stream.now) (I.remaining input.new.stream.now) input.new.calls input.new.failed;
       output = counted_stream (O.contents out.old.stream.now) (O.contents out.new.stream.now) out.new.calls out.new.failed;
       errors = counted_stream (E.contents err.old.stream.now) (E.contents err.new.stream.now) err.new.calls err.new.failed;
+      terminal = terminal;
       store = record { before = S.holds store.old; after = S.holds store.new };
     } in
         Ran (map string_bytes words.now) around result }
@@ -97,12 +101,22 @@ where
 {
     match read_words(alloc, words) {
         Ok(Answer::Task(Task::Trace)) => trace(alloc, input, out, err),
-        Ok(Answer::Task(Task::Check(name))) => check_file(alloc, name, out, err, store),
-        Ok(Answer::Task(Task::Fmt(name))) => print_file(alloc, name, out, err, store),
-        Ok(Answer::Task(Task::Run(options))) => run_file(
-            rt, alloc, gate, &options, out, err, store,
-        ),
-        Ok(Answer::Task(Task::Replay(options))) => replay_file(alloc, &options, out, err, store),
+        Ok(Answer::Task(Task::Check(options))) => {
+            let explains = options.explain.is_on(terminal);
+            check_file(alloc, options.file, explains, out, err, store)
+        }
+        Ok(Answer::Task(Task::Fmt(options))) => {
+            let explains = options.explain.is_on(terminal);
+            print_file(alloc, options.file, explains, out, err, store)
+        }
+        Ok(Answer::Task(Task::Run(options))) => {
+            let explains = options.explain.is_on(terminal);
+            run_file(rt, alloc, gate, &options, explains, out, err, store)
+        }
+        Ok(Answer::Task(Task::Replay(options))) => {
+            let explains = options.explain.is_on(terminal);
+            replay_file(alloc, &options, explains, out, err, store)
+        }
         Ok(Answer::Help(text)) => send_text(text.as_bytes(), out, err),
         Ok(Answer::Fault(text)) => {
             say(err, text.as_bytes());

@@ -7,16 +7,18 @@ ghost use Rattle.cml_host.specs.Stores.{IsUnchanged};
 ghost use Rattle.cml_stream.specs.Streams.{counted_stream};
 
 use crate::said::{Said, TEXT_LIMIT, finish, refuse_file, refuse_text};
+use crate::source::Source;
 use crate::store::Store;
 use cml_stream::Counting;
 use cml_text::{print, read};
 use std::alloc::{AllocError, Global};
 use std::io::Write;
 
-/// Prints the forms of the text that lies under the name.
+/// Prints the forms of the text that lies under the name, and explains what is wrong with it, where that is asked for.
 pub fn print_file<O: Write, E: Write, S: Store>(
     alloc: Global,
     name: &str,
+    explains: bool,
     out: &mut Counting<'_, O>,
     err: &mut Counting<'_, E>,
     store: &mut S,
@@ -24,23 +26,30 @@ pub fn print_file<O: Write, E: Write, S: Store>(
     requires fresh { (out.old.calls ≡ 0) × (out.old.failed ≡ 0) × (err.old.calls ≡ 0) × (err.old.failed ≡ 0) }
     ensures ran { let output = counted_stream (O.contents out.old.stream.now) (O.contents out.new.stream.now) out.new.calls out.new.failed in
         let errors = counted_stream (E.contents err.old.stream.now) (E.contents err.new.stream.now) err.new.calls err.new.failed in
-        FileRan IsPrinted name.now (S.holds store.old name.now) output errors result }
+        FileRan (IsPrinted explains name.now) name.now (S.holds store.old name.now) output errors result }
     ensures same { IsUnchanged (S.holds store.old) (S.holds store.new) }
     ensures same_out { out.new.stream.ghost_name ≡ out.old.stream.ghost_name }
     ensures same_err { err.new.stream.ghost_name ≡ err.old.stream.ghost_name }
 {
     match store.load(alloc, name, TEXT_LIMIT) {
-        Ok(text) => finish(print_text(alloc, text.as_slice()), out, err),
+        Ok(text) => {
+            let source = Source {
+                name,
+                text: text.as_slice(),
+                explains,
+            };
+            finish(print_text(alloc, &source), out, err)
+        }
         Err(fault) => refuse_file(alloc, name, fault, err),
     }
 }
 
 // What `fmt` says of the text.
-fn print_text(alloc: Global, text: &[u8]) -> Result<Said, AllocError>
-    ensures { IfOk result (IsPrinted text.now) }
+fn print_text(alloc: Global, source: &Source<'_>) -> Result<Said, AllocError>
+    ensures { IfOk result (IsPrinted source.now.explains source.now.name.now source.now.text.now) }
 {
-    match read(alloc, text) {
+    match read(alloc, source.text) {
         Ok(forms) => Ok(Said::Written(print(alloc, forms.as_slice())?)),
-        Err(fault) => refuse_text(alloc, fault),
+        Err(fault) => refuse_text(alloc, source, fault),
     }
 }

@@ -11,6 +11,7 @@ mod reports;
 mod run;
 mod said;
 mod script;
+mod source;
 mod store;
 mod tell;
 mod trace;

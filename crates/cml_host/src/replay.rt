@@ -20,10 +20,12 @@ use std::io::Write;
 /// The most bytes of a schedule.
 const SCHEDULE_LIMIT: usize = 67_108_864;
 
-/// Runs the script that lies under its name again, by the schedule that lies under its own.
+/// Runs the script that lies under its name again, by the schedule that lies under its own; and explains what is wrong with the script,
+/// where that is asked for.
 pub fn replay_file<O: Write, E: Write, S: Store>(
     alloc: Global,
     options: &ReplayOptions<'_>,
+    explains: bool,
     out: &mut Counting<'_, O>,
     err: &mut Counting<'_, E>,
     store: &mut S,
@@ -32,12 +34,12 @@ pub fn replay_file<O: Write, E: Write, S: Store>(
     requires fresh { (out.old.calls ≡ 0) × (out.old.failed ≡ 0) × (err.old.calls ≡ 0) × (err.old.failed ≡ 0) }
     ensures ran { let output = counted_stream (O.contents out.old.stream.now) (O.contents out.new.stream.now) out.new.calls out.new.failed in
         let errors = counted_stream (E.contents err.old.stream.now) (E.contents err.new.stream.now) err.new.calls err.new.failed in
-        ReplayRan options.now (S.holds store.old) output errors result }
+        ReplayRan options.now explains (S.holds store.old) output errors result }
     ensures same { IsUnchanged (S.holds store.old) (S.holds store.new) }
     ensures same_out { out.new.stream.ghost_name ≡ out.old.stream.ghost_name }
     ensures same_err { err.new.stream.ghost_name ≡ err.old.stream.ghost_name }
 {
-    match open_script(alloc, options.script, store) {
+    match open_script(alloc, options.script, explains, store) {
         Ok(program) => replay_program(alloc, program, options, out, err, store),
         Err(why) => refuse(alloc, options.script, why, 2, err),
     }
@@ -128,10 +130,10 @@ fn read_plan(alloc: Global, text: &[u8]) -> Result<Plan, Refusal>
     match read_schedule(alloc, text) {
         Ok(plan) => Ok(plan),
         Err(ScheduleFault::Line(number)) => {
-            Err(Refusal::Wrong(format!(in alloc; "schedule line {number}\n")?))
+            Err(Refusal::Wrong(format!(in alloc; "schedule line {number}\n")?.into_bytes()))
         }
         Err(ScheduleFault::TooLong) => {
-            Err(Refusal::Wrong(format!(in alloc; "schedule too long\n")?))
+            Err(Refusal::Wrong(format!(in alloc; "schedule too long\n")?.into_bytes()))
         }
         Err(ScheduleFault::Memory) => Err(Refusal::Memory),
     }
@@ -147,13 +149,13 @@ fn follow(alloc: Global, program: Prog, plan: &Plan, watch: Option<u64>) -> Resu
 {
     if !matches_program(plan, &program) {
         drop(program);
-        return Err(Refusal::Wrong(format!(in alloc; "schedule program\n")?));
+        return Err(Refusal::Wrong(format!(in alloc; "schedule program\n")?.into_bytes()));
     }
     match Hub::replay(alloc, program, plan.budget, watch, plan.items.as_slice()) {
         Ok(hub) => Ok(hub),
         Err(ReplayFault::BadItem(number, program)) => {
             drop(program);
-            Err(Refusal::Wrong(format!(in alloc; "schedule item {number}\n")?))
+            Err(Refusal::Wrong(format!(in alloc; "schedule item {number}\n")?.into_bytes()))
         }
         Err(ReplayFault::Memory(program)) => {
             drop(program);

@@ -30,12 +30,13 @@ struct Record {
     refused: String,
 }
 
-/// Runs the script that lies under the name.
+/// Runs the script that lies under the name, and explains what is wrong with it, where that is asked for.
 pub fn run_file<R, G, O, E, S>(
     rt: &R,
     alloc: Global,
     gate: &G,
     options: &RunOptions<'_>,
+    explains: bool,
     out: &mut Counting<'_, O>,
     err: &mut Counting<'_, E>,
     store: &mut S,
@@ -51,11 +52,11 @@ where
     ensures ran { let output = counted_stream (O.contents out.old.stream.now) (O.contents out.new.stream.now) out.new.calls out.new.failed in
         let errors = counted_stream (E.contents err.old.stream.now) (E.contents err.new.stream.now) err.new.calls err.new.failed in
         let shelf : Shelf = record { before = S.holds store.old; after = S.holds store.new } in
-        RunRan options.now output errors shelf result }
+        RunRan options.now explains output errors shelf result }
     ensures same_out { out.new.stream.ghost_name ≡ out.old.stream.ghost_name }
     ensures same_err { err.new.stream.ghost_name ≡ err.old.stream.ghost_name }
 {
-    match open_script(alloc, options.file, store) {
+    match open_script(alloc, options.file, explains, store) {
         Ok(program) => run_program(rt, alloc, gate, program, options, out, err, store),
         Err(why) => refuse(alloc, options.file, why, 2, err),
     }

@@ -7,6 +7,7 @@ ghost use Rattle.cml_host.specs.declared.store.StoreFault.TheVariants.{Refused};
 ghost use Rattle.cml_stream.specs.Streams.{counted_stream};
 
 use crate::output::{say, send_text};
+use crate::source::{Source, tell_text};
 use crate::store::StoreFault;
 use cml_stream::Counting;
 use cml_text::TextFault;
@@ -23,7 +24,7 @@ pub enum Said {
     /// This is for the output.
     Written(String),
     /// The text is refused, and this is for the errors.
-    Refused(String),
+    Refused(Vec<u8>),
 }
 
 /// Why a command goes no further with a file.
@@ -32,9 +33,9 @@ pub enum Refusal {
     /// It can't be read.
     #[error("the file can't be read")]
     Unread,
-    /// Its text is refused, as this line says.
-    #[error("{0}")]
-    Wrong(String),
+    /// Its text is refused, and this is for the errors.
+    #[error("the text is refused")]
+    Wrong(Vec<u8>),
     /// Out of memory.
     #[error("out of memory")]
     Memory,
@@ -66,13 +67,17 @@ impl From<StoreFault> for Refusal {
 }
 
 /// What is said of a text with this fault.
-pub fn refuse_text(alloc: Global, fault: TextFault) -> Result<Said, AllocError>
-    ensures { IfOk result (Told fault) }
+pub fn refuse_text(
+    alloc: Global,
+    source: &Source<'_>,
+    fault: TextFault,
+) -> Result<Said, AllocError>
+    ensures { IfOk result (Told source.now.explains source.now.name.now source.now.text.now fault) }
 {
-    if matches!(fault, TextFault::Memory) {
-        return Err(AllocError);
+    match fault {
+        TextFault::At { kind, at } => Ok(Said::Refused(tell_text(alloc, source, kind, at)?)),
+        TextFault::Memory => Err(AllocError),
     }
-    Ok(Said::Refused(format!(in alloc; "{fault}\n")?))
 }
 
 /// Writes what was said, or that memory ran out.
@@ -90,8 +95,8 @@ pub fn finish<O: Write, E: Write>(
 {
     match said {
         Ok(Said::Written(text)) => send_text(text.as_bytes(), out, err),
-        Ok(Said::Refused(line)) => {
-            say(err, line.as_bytes());
+        Ok(Said::Refused(told)) => {
+            say(err, told.as_slice());
             2
         }
         Err(AllocError) => {
@@ -139,8 +144,8 @@ pub fn refuse<E: Write>(
 {
     match why {
         Refusal::Unread => refuse_file(alloc, name, StoreFault::Refused, err),
-        Refusal::Wrong(line) => {
-            say(err, line.as_bytes());
+        Refusal::Wrong(told) => {
+            say(err, told.as_slice());
             status
         }
         Refusal::Memory => {

@@ -5,6 +5,7 @@ ghost use Rattle.cml_host.specs.Scripts.{IsScript, IsOpened, IsProgramOf, IsNoPr
 ghost use Rattle.cml_host.specs.Stores.{IsUnchanged};
 
 use crate::said::{Refusal, TEXT_LIMIT};
+use crate::source::{Source, tell_script, tell_text};
 use crate::store::Store;
 use cml_check::{CheckFault, Prog, check};
 use cml_text::{Sexpr, TextFault, read};
@@ -13,44 +14,52 @@ use std::alloc::Global;
 /// The program of the script that lies under the name.
 ///
 /// # Errors
-/// Why there is none.
-pub fn open_script<S: Store>(alloc: Global, name: &str, store: &mut S) -> Result<Prog, Refusal>
+/// Why there is none, explained where that is asked for.
+pub fn open_script<S: Store>(
+    alloc: Global,
+    name: &str,
+    explains: bool,
+    store: &mut S,
+) -> Result<Prog, Refusal>
     ensures ok { IfOk result (IsOpened (S.holds store.old name.now)) }
-    ensures err { IfErr result (IsNotOpened (S.holds store.old name.now)) }
+    ensures err { IfErr result (IsNotOpened explains name.now (S.holds store.old name.now)) }
     ensures same { IsUnchanged (S.holds store.old) (S.holds store.new) }
 {
     let text = store.load(alloc, name, TEXT_LIMIT)?;
-    read_script(alloc, text.as_slice())
+    let source = Source {
+        name,
+        text: text.as_slice(),
+        explains,
+    };
+    read_script(alloc, &source)
 }
 
 /// The program that the text is.
 ///
 /// # Errors
 /// The first fault of the text, or of its forms; or out of memory.
-pub fn read_script(alloc: Global, text: &[u8]) -> Result<Prog, Refusal>
-    ensures ok { IfOk result (IsScript text.now) }
-    ensures err { IfErr result (IsNotMade text.now) }
+pub fn read_script(alloc: Global, source: &Source<'_>) -> Result<Prog, Refusal>
+    ensures ok { IfOk result (IsScript source.now.text.now) }
+    ensures err { IfErr result (IsNotMade source.now.explains source.now.name.now source.now.text.now) }
 {
-    match read(alloc, text) {
-        Ok(forms) => check_forms(alloc, forms.as_slice()),
+    match read(alloc, source.text) {
+        Ok(forms) => check_forms(alloc, source, forms.as_slice()),
         Err(TextFault::At { kind, at }) => {
-            let fault = TextFault::At { kind, at };
-            Err(Refusal::Wrong(format!(in alloc; "{fault}\n")?))
+            Err(Refusal::Wrong(tell_text(alloc, source, kind, at)?))
         }
         Err(TextFault::Memory) => Err(Refusal::Memory),
     }
 }
 
 // The program that the forms are.
-fn check_forms(alloc: Global, forms: &[Sexpr]) -> Result<Prog, Refusal>
+fn check_forms(alloc: Global, source: &Source<'_>, forms: &[Sexpr]) -> Result<Prog, Refusal>
     ensures ok { IfOk result (IsProgramOf forms.now) }
-    ensures err { IfErr result (IsNoProgram forms.now) }
+    ensures err { IfErr result (IsNoProgram source.now.explains source.now.name.now source.now.text.now forms.now) }
 {
     match check(alloc, forms) {
         Ok(program) => Ok(program),
         Err(CheckFault::At { kind, at }) => {
-            let fault = CheckFault::At { kind, at };
-            Err(Refusal::Wrong(format!(in alloc; "{fault}\n")?))
+            Err(Refusal::Wrong(tell_script(alloc, source, forms, kind, at)?))
         }
         Err(CheckFault::Memory) => Err(Refusal::Memory),
     }

@@ -82,6 +82,7 @@ fn run_through(
         &mut Counting::new(&mut input),
         &mut Counting::new(&mut out),
         &mut Counting::new(&mut err),
+        false,
         &mut store,
     );
     assert!(rt; status == 0 && out.as_slice() == b"end quiet pending 0\n".as_slice());

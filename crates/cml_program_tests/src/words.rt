@@ -24,7 +24,7 @@ Options:
 
 // The help of `run`.
 const RUN_HELP: &str =
-    "Runs a script\n\nUsage: cml run [OPTIONS] <FILE>\n\nArguments:\n  <FILE>  \n\nOptions:\n      --workers <N>    How many workers run its threads, 1 to 64 [default: 1]\n      --steps <B>      How many steps it may take, 1 to 1000000000 [default: 1000000]\n      --seed <S>       Draws the choices from this number\n      --watch <K>      Reports after every K items of the schedule, 1 to 1000000000\n      --record <FILE>  Saves the schedule of the run\n  -h, --help           Print help\n";
+    "Runs a script\n\nUsage: cml run [OPTIONS] <FILE>\n\nArguments:\n  <FILE>  \n\nOptions:\n      --workers <N>    How many workers run its threads, 1 to 64 [default: 1]\n      --steps <B>      How many steps it may take, 1 to 1000000000 [default: 1000000]\n      --seed <S>       Draws the choices from this number\n      --watch <K>      Reports after every K items of the schedule, 1 to 1000000000\n      --record <FILE>  Saves the schedule of the run\n      --explain        Explains what is wrong, and where [default: on a terminal]\n      --plain          Explains nothing, on a terminal too\n  -h, --help           Print help\n";
 
 // Arguments, what is written to the output and to the errors, and the status.
 struct Asked {
@@ -55,9 +55,38 @@ Options:
     },
     Asked {
         words: "check --help",
-        output: "Checks a script\n\nUsage: cml check <FILE>\n\nArguments:\n  <FILE>  \n\nOptions:\n  -h, --help  Print help\n",
+        output: "Checks a script\n\nUsage: cml check [OPTIONS] <FILE>\n\nArguments:\n  <FILE>  \n\nOptions:\n      --explain  Explains what is wrong, and where [default: on a terminal]\n      --plain    Explains nothing, on a terminal too\n  -h, --help     Print help\n",
         errors: "",
         status: 0,
+    },
+    Asked {
+        words: "fmt --help",
+        output: "Prints the forms of a text, each on a line\n\nUsage: cml fmt [OPTIONS] <FILE>\n\nArguments:\n  <FILE>  \n\nOptions:\n      --explain  Explains what is wrong, and where [default: on a terminal]\n      --plain    Explains nothing, on a terminal too\n  -h, --help     Print help\n",
+        errors: "",
+        status: 0,
+    },
+    Asked {
+        words: "check --explain x.cml",
+        output: "",
+        errors: "cannot read x.cml\n",
+        status: 1,
+    },
+    Asked {
+        words: "check x.cml --explain --explain",
+        output: "",
+        errors: "error: the argument '--explain' cannot be used multiple times\n\nUsage: cml check [OPTIONS] <FILE>\n\nFor more information, try '--help'.\n",
+        status: 1,
+    },
+    Asked {
+        words: "trace --explain",
+        output: "",
+        errors: "error: unexpected argument '--explain' found
+
+Usage: cml trace
+
+For more information, try '--help'.
+",
+        status: 1,
     },
     Asked {
         words: "fmt",
@@ -96,7 +125,7 @@ For more information, try '--help'.
     },
     Asked {
         words: "replay --help",
-        output: "Runs a script by a schedule that was saved\n\nUsage: cml replay [OPTIONS] <FILE> <SCHEDULE>\n\nArguments:\n  <FILE>      \n  <SCHEDULE>  \n\nOptions:\n      --watch <K>  Reports after every K items of the schedule, 1 to 1000000000\n  -h, --help       Print help\n",
+        output: "Runs a script by a schedule that was saved\n\nUsage: cml replay [OPTIONS] <FILE> <SCHEDULE>\n\nArguments:\n  <FILE>      \n  <SCHEDULE>  \n\nOptions:\n      --watch <K>  Reports after every K items of the schedule, 1 to 1000000000\n      --explain    Explains what is wrong, and where [default: on a terminal]\n      --plain      Explains nothing, on a terminal too\n  -h, --help       Print help\n",
         errors: "",
         status: 0,
     },

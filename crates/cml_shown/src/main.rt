@@ -13,6 +13,7 @@ fn main(rt: HostRuntime) -> io::Result<ExitCode> {
         &mut Counting::new(&mut input),
         &mut Counting::new(&mut output),
         &mut Counting::new(&mut errors),
+        false,
     )?;
     Ok(ExitCode::from(status))
 }

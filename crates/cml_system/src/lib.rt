@@ -26,7 +26,8 @@ fn words(rt: &(impl AllocGlobal + Env)) -> io::Result<Vec<String>> {
 }
 
 /// Runs the command that the arguments of the command line name, over the files of the system, and returns the status of the process. None
-/// of the streams was called yet. Where there is no memory for the arguments, the status is 5, and `memory` is written to the errors.
+/// of the streams was called yet. Where there is no memory for the arguments, the status is 5, and `memory` is written to the errors. The
+/// caller says whether the errors go to a terminal.
 ///
 /// # Errors
 /// Arguments that are not text. No stream is called then.
@@ -35,6 +36,7 @@ pub fn run_on_system<R, I, O, E>(
     input: &mut Counting<'_, I>,
     out: &mut Counting<'_, O>,
     err: &mut Counting<'_, E>,
+    terminal: bool,
 ) -> io::Result<u8>
 where
     R: AllocGlobal + Env + Files + Threads + Wait + Sync,
@@ -48,6 +50,7 @@ where
       input = counted_stream (I.remaining input.old.stream.now) (I.remaining input.new.stream.now) input.new.calls input.new.failed;
       output = counted_stream (O.contents out.old.stream.now) (O.contents out.new.stream.now) out.new.calls out.new.failed;
       errors = counted_stream (E.contents err.old.stream.now) (E.contents err.new.stream.now) err.new.calls err.new.failed;
+      terminal = terminal;
       store = files;
     } in
         IfOk result (RanOnSystem around) }
@@ -55,6 +58,7 @@ where
       input = counted_stream (I.remaining input.old.stream.now) (I.remaining input.new.stream.now) input.new.calls input.new.failed;
       output = counted_stream (O.contents out.old.stream.now) (O.contents out.new.stream.now) out.new.calls out.new.failed;
       errors = counted_stream (E.contents err.old.stream.now) (E.contents err.new.stream.now) err.new.calls err.new.failed;
+      terminal = terminal;
       store = files;
     } in
         OnErr result (NothingCalled around) }
@@ -70,6 +74,7 @@ where
             input,
             out,
             err,
+            terminal,
             &mut Disk::new(rt),
         )),
         Err(error) if error.kind() == ErrorKind::OutOfMemory => {

@@ -1,11 +1,11 @@
 -- Where nothing is wrong with the arguments, they name a command, with all that it must be given.
 use Rattle.std.proofs.Common.{◌≡◌, ◌∙◌, ◌&&◌, ◌||◌, ap, ap₂, Bool, cond, not, codes, true, false, refl, sym, List, [], ◌∷◌, map, filter, Option, Some, None, is_some, option_map, true≢false}
-use Rattle.std.specs.Prelude.{nat_lt, slice_get}
+use Rattle.std.specs.Prelude.{slice_get}
 use Rattle.std.specs.Option.{option_map_or}
 use Rattle.std.specs.List.{find, list_all, list_any}
 use Rattle.std.specs.Str.{bytes_eq}
 use Rattle.std.proofs.lemmas.Slice.Eq.{bytes_eq-Decides}
-use Rattle.clap.specs.Facts.{explicit_source, unwrap_or_range}
+use Rattle.clap.specs.Facts.{explicit_source}
 use Rattle.clap.specs.Faults.{defaults_fault, entered_fault, level_fault, settle_fault, walk_fault}
 use Rattle.clap.specs.Kinds.{check_kinds}
 use Rattle.clap.specs.Simple.{argument_words, built, entered, label_of, names_of, rows_at}
@@ -19,7 +19,7 @@ use Rattle.clap.proofs.OnLiterals.{clap_on_literals}
 use Rattle.clap.proofs.SimpleLemmas.{is_nil}
 use Rattle.clap.proofs.WalkLemmas.{both, find-map}
 use Rattle.cml_words.specs.Words.{commands, is_as_written, is_complete, has_first_value, is_served}
-use Rattle.cml_words.proofs.Filled.{Each, HasValue, IsFit, IsPlainRule, defaults_stay, found_each, is_set, neither, settled_fit}
+use Rattle.cml_words.proofs.Filled.{Each, HasValue, IsFit, IsPlainRule, defaults_fit, fills_in, found_each, is_set, neither, settled_fit}
 use Rattle.cml_words.proofs.Served.{as_written}
 use Rattle.cml_words.proofs.Steps.{NotHelp, walk_fit, walk_not_help}
 
@@ -29,7 +29,7 @@ use Rattle.cml_words.proofs.Steps.{NotHelp, walk_fit, walk_not_help}
 abbrev pub is_plain_rule : Rule → Bool
 is_plain_rule a =
     (is_set (action_of a) || is_request (action_of a))
-    && ((is_request (action_of a) || nat_lt 0 (unwrap_or_range a.range).start_inclusive) && (is_as_written (reading_by a) && is_empty a.defaults))
+    && ((is_request (action_of a) || fills_in a) && (is_as_written (reading_by a) && list_all (value_passes a) a.defaults))
 
 -- no other name leads to the command, and its arguments are plain, unless it is the call for help
 abbrev pub is_plain_shape : Shape → Bool
@@ -108,7 +108,7 @@ each_rule c (a ∷ rest) plain own =
     let last = both _ _ fills.1 in
     let first : arg_by_id c a.id ≡ Some a = cc in
     let others : map (λ a. arg_by_id c a.id) rest ≡ map (λ a. Some a) rest = cc in
-    (record { own = first; sets = sets.0; fills = fills.0; reading = as_written _ last.0; defaults = is_nil _ last.1 }, each_rule c rest parts.1 others)
+    (record { own = first; sets = sets.0; fills = fills.0; reading = as_written _ last.0; defaults = last.1 }, each_rule c rest parts.1 others)
 
 each_shape : (subs : List Shape) → list_all is_plain_shape subs ≡ true → map found_by_names subs ≡ map arguments subs → Each IsPlainShape subs
 each_shape [] plain own = tt
@@ -185,7 +185,7 @@ leaf_served s words plain none =
     let ends = neither (settle_fault s.rules s.args_override_self end) _ steps.1 in
     let checks = neither (defaults_fault (settled s.rules end).rows s.rules) _ ends.1 in
     let walked = settled_fit s.rules s.args_override_self plain end ends.0 (walk_fit s [] (walk_from nothing_held) words plain steps.0 tt) in
-    let fit : Each (IsFit s.rules) (finished s.rules end) = rw (defaults_stay s.rules s.rules (settled s.rules end).rows plain) walked in
+    let fit : Each (IsFit s.rules) (finished s.rules end) = defaults_fit s.rules s.rules (settled s.rules end).rows plain walked in
     all_served s.rules s.rules (finished s.rules end) fit plain (asks_anyway s.subcommand_negates_reqs _ (no_check _ _ _ checks.1).1)
 
 -- ---- the command that is entered

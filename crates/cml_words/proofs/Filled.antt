@@ -1,5 +1,5 @@
 -- Where no use of an argument is at fault, each row of the matches has a value, its values pass, and they are read as they are written.
-use Rattle.std.proofs.Common.{◌≡◌, ◌∙◌, ◌&&◌, ◌||◌, ◌==◌, ap, ap₂, Bool, cond, true, false, refl, sym, subst, List, [], ◌∷◌, ◌++◌, length, Option, Some, None, true≢false}
+use Rattle.std.proofs.Common.{◌≡◌, ◌∙◌, ◌&&◌, ◌||◌, ◌==◌, ap, ap₂, Bool, cond, not, true, false, refl, sym, subst, List, [], ◌∷◌, ◌++◌, length, Option, Some, None, true≢false}
 use Rattle.std.specs.Prelude.{nat_lt, ⊤}
 use Rattle.std.specs.Option.{option_map_or}
 use Rattle.std.specs.List.{find, fold, list_all}
@@ -8,12 +8,12 @@ use Rattle.std.proofs.lemmas.List.Folds.{list_all-append}
 use Rattle.std.proofs.lemmas.Slice.Eq.{bytes_eq-Decides}
 use Rattle.clap.specs.Words.{Kinds}
 use Rattle.clap.specs.Facts.{parser_of_value, unwrap_or_range}
-use Rattle.clap.specs.Faults.{action_fault, react_fault, settle_fault, use_fault}
+use Rattle.clap.specs.Faults.{action_fault, react_fault, set_fault, settle_fault, use_fault}
 use Rattle.clap.specs.Kinds.{or_else, range_kinds, values_kinds}
 use Rattle.clap.specs.Takes.{value_passes}
 use Rattle.clap.specs.Values.{is_request, refused_kind}
 use Rattle.clap.specs.ValueTests.{accepts}
-use Rattle.clap.specs.Walk.{Held, Row, Rule, Text, action_of, arg_by_id, at_row, default_rows, has_row, more_values, most_values, reacted, reading_by, settled, settled_rows, used, used_as, used_by_id, values_or_missing, with_default, with_values, without}
+use Rattle.clap.specs.Walk.{Held, Row, Rule, Text, action_of, arg_by_id, at_row, default_rows, has_row, is_empty, more_values, most_values, reacted, reading_by, settled, settled_rows, used, used_as, used_by_id, values_or_missing, with_default, with_values, without}
 use Rattle.clap.specs.declared.builder.action.ArgAction.{ArgAction}
 use Rattle.clap.specs.declared.builder.action.ArgAction.TheVariants as action
 use Rattle.clap.specs.declared.builder.value_parser.Reading.{Reading}
@@ -21,7 +21,7 @@ use Rattle.clap.specs.declared.builder.value_parser.Reading.TheVariants.{AsWritt
 use Rattle.clap.specs.declared.builder.value_parser.ValueParser.{ValueParser}
 use Rattle.clap.specs.declared.error.kind.ErrorKind.TheVariants.{InvalidValue}
 use Rattle.clap.specs.declared.parser.matches.ValueSource.{ValueSource}
-use Rattle.clap.specs.declared.parser.matches.ValueSource.TheVariants.{CommandLine}
+use Rattle.clap.specs.declared.parser.matches.ValueSource.TheVariants.{CommandLine, DefaultValue}
 
 -- where neither of two steps fails, the first does not, and the second does not
 pub neither : (a b : Kinds) → or_else a b ≡ [] → (a ≡ []) × (b ≡ [])
@@ -46,17 +46,24 @@ found_each P test (y ∷ ys) x all found = go (test y) found (found_each P test 
 
 -- ---- rules
 
+-- a use sets the argument, in place of what it had
 abbrev pub is_set : ArgAction → Bool
 is_set action.Set = true
+is_set action.SetTrue = true
 is_set _ = false
 
--- an argument that its id finds, and without a default: each use ends the parse, or sets it to a value that is read as it is written
+-- a use has a value, or another that stands for none
+abbrev pub fills_in : Rule → Bool
+fills_in a = nat_lt 0 (unwrap_or_range a.range).start_inclusive || not (is_empty a.missing)
+
+-- an argument that its id finds, with a default that passes, if any: each use ends the parse, or sets it to a value that is read as it is
+-- written
 pub record IsPlainRule (c : List Rule) (a : Rule) : Type 0 where
   pub own : arg_by_id c a.id ≡ Some a
   pub sets : (is_set (action_of a) || is_request (action_of a)) ≡ true
-  pub fills : (is_request (action_of a) || nat_lt 0 (unwrap_or_range a.range).start_inclusive) ≡ true
+  pub fills : (is_request (action_of a) || fills_in a) ≡ true
   pub reading : reading_by a ≡ AsWritten
-  pub defaults : a.defaults ≡ []
+  pub defaults : list_all (value_passes a) a.defaults ≡ true
 
 -- ---- rows
 
@@ -113,24 +120,32 @@ values_pass ignore_case p (v ∷ vs) none =
     one true none = refl
     one false none = cc
 
-gives_value : (a : Rule) (values : List Text) → (is_request (action_of a) || nat_lt 0 (unwrap_or_range a.range).start_inclusive) ≡ true
+gives_value : (a : Rule) (values : List Text) → (is_request (action_of a) || fills_in a) ≡ true
     → range_kinds (unwrap_or_range a.range).start_inclusive (most_values a) (length values) ≡ [] → is_request (action_of a) ≡ false → HasValue (values_or_missing a values)
 gives_value a (v ∷ vs) fills enough plain = tt
-gives_value a [] fills enough plain = go (nat_lt 0 (unwrap_or_range a.range).start_inclusive) _ enough (rw plain at fills)
+gives_value a [] fills enough plain = go (nat_lt 0 (unwrap_or_range a.range).start_inclusive) a.missing _ enough (rw plain at fills)
   where
-    go : (b : Bool) (rest : Kinds) → cond (b && (0 == 0)) (InvalidValue ∷ []) rest ≡ [] → b ≡ true → HasValue a.missing
-    go true rest bad some = cc
-    go false rest fine some = absurd (true≢false (sym some))
+    go : (b : Bool) (missing : List Text) (rest : Kinds) → cond (b && (0 == 0)) (InvalidValue ∷ []) rest ≡ [] → (b || not (is_empty missing)) ≡ true → HasValue missing
+    go true missing rest bad some = cc
+    go false [] rest fine some = absurd (true≢false (sym some))
+    go false (v ∷ vs) rest fine some = tt
+
+-- values that pass the parser of an argument pass by its id
+by_own_id : (c : List Rule) (a : Rule) (values : List Text) → arg_by_id c a.id ≡ Some a → list_all (value_passes a) values ≡ true → list_all (passes c a.id) values ≡ true
+by_own_id c a values own pass = subst (λ (o : Option Rule). list_all (λ v. option_map_or (λ b. value_passes b v) o true) values ≡ true) (sym own) pass
 
 module _ (c : List Rule) where
+  set_fit : (again : Bool) (a : Rule) (values : List Text) (rows : List Row) → reading_by a ≡ AsWritten → arg_by_id c a.id ≡ Some a → HasValue values
+      → set_fault again a values rows ≡ [] → Each (IsFit c) rows → Each (IsFit c) (with_values a.id (reading_by a) CommandLine values (without a.id rows))
+  set_fit again a values rows plain own some none fit =
+      let pass : list_all (value_passes a) values ≡ true = values_pass a.ignore_case (parser_of_value a.parser) values (neither _ _ none).1 in
+      with_values_fit c a.id (reading_by a) CommandLine values (without a.id rows) some plain (by_own_id c a values own pass) (without_fit c a.id rows fit)
+
   used_as_fit : (x : ArgAction) (again : Bool) (a : Rule) (values : List Text) (rows : List Row) → (is_set x || is_request x) ≡ true → reading_by a ≡ AsWritten
       → arg_by_id c a.id ≡ Some a → (is_request x ≡ false → HasValue values) → action_fault x again a values rows ≡ [] → Each (IsFit c) rows
       → Each (IsFit c) (used_as x a.id (reading_by a) values rows)
-  used_as_fit action.Set again a values rows sets plain own some none fit =
-      let pass : list_all (value_passes a) values ≡ true = values_pass a.ignore_case (parser_of_value a.parser) values (neither _ _ none).1 in
-      let mine : list_all (passes c a.id) values ≡ true = subst (λ (o : Option Rule). list_all (λ v. option_map_or (λ b. value_passes b v) o true) values ≡ true) (sym own) pass in
-      with_values_fit c a.id (reading_by a) CommandLine values (without a.id rows) (some refl) plain mine (without_fit c a.id rows fit)
-  used_as_fit action.SetTrue again a values rows sets plain own some none fit = absurd (true≢false (sym sets))
+  used_as_fit action.Set again a values rows sets plain own some none fit = set_fit again a values rows plain own (some refl) none fit
+  used_as_fit action.SetTrue again a values rows sets plain own some none fit = set_fit again a values rows plain own (some refl) none fit
   used_as_fit action.SetFalse again a values rows sets plain own some none fit = absurd (true≢false (sym sets))
   used_as_fit action.Append again a values rows sets plain own some none fit = absurd (true≢false (sym sets))
   used_as_fit action.Count again a values rows sets plain own some none fit = absurd (true≢false (sym sets))
@@ -166,14 +181,19 @@ module _ (c : List Rule) (again : Bool) (plain : Each (IsPlainRule c) c) where
 
 -- ---- defaults
 
-default_stays : (rows : List Row) (a : Rule) → a.defaults ≡ [] → with_default rows a ≡ rows
-default_stays rows a none = go (has_row a.id rows)
-  where
-    go : (b : Bool) → cond b rows (default_rows a.id (reading_by a) a.defaults rows) ≡ rows
-    go true = refl
-    go false = ap (λ values. default_rows a.id (reading_by a) values rows) none
+module _ (c : List Rule) where
+  default_fit : (rows : List Row) (a : Rule) → IsPlainRule c a → Each (IsFit c) rows → Each (IsFit c) (with_default rows a)
+  default_fit rows a plain fit = go (has_row a.id rows)
+    where
+      filled : (values : List Text) → list_all (value_passes a) values ≡ true → Each (IsFit c) (default_rows a.id (reading_by a) values rows)
+      filled [] pass = fit
+      filled (v ∷ vs) pass = with_values_fit c a.id (reading_by a) DefaultValue (v ∷ vs) rows tt plain.reading (by_own_id c a (v ∷ vs) plain.own pass) fit
 
--- plain arguments have no defaults, so the rows stay
-pub defaults_stay : (c rules : List Rule) (rows : List Row) → Each (IsPlainRule c) rules → fold with_default rows rules ≡ rows
-defaults_stay c [] rows plain = refl
-defaults_stay c (a ∷ rest) rows plain = ap (λ rs. fold with_default rs rest) (default_stays rows a plain.0.defaults) ∙ defaults_stay c rest rows plain.1
+      go : (b : Bool) → Each (IsFit c) (cond b rows (default_rows a.id (reading_by a) a.defaults rows))
+      go true = fit
+      go false = filled a.defaults plain.defaults
+
+  -- with their defaults the rows still fit
+  pub defaults_fit : (rules : List Rule) (rows : List Row) → Each (IsPlainRule c) rules → Each (IsFit c) rows → Each (IsFit c) (fold with_default rows rules)
+  defaults_fit [] rows plain fit = fit
+  defaults_fit (a ∷ rest) rows plain fit = defaults_fit rest (with_default rows a) plain.1 (default_fit rows a plain.0 fit)

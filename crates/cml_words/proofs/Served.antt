@@ -1,10 +1,11 @@
 -- What an argument that was served gives.
-use Rattle.std.proofs.Common.{◌≡◌, ◌&&◌, ◌≤◌, ap, ℕ, Bool, cond, true, false, refl, sym, subst, arith, List, [], ◌∷◌, Option, Some, None, IfSome, is_some, option_map, true≢false}
+use Rattle.std.proofs.Common.{◌≡◌, ◌&&◌, ◌≤◌, ◌||◌, ◌++◌, ap, ℕ, Bool, codes, cond, true, false, refl, sym, subst, arith, List, [], ◌∷◌, Option, Some, None, IfSome, is_some, option_map, true≢false}
 use Rattle.std.specs.Prelude.{Ok, Err, Result, option_and_then, slice_get, unwrap_or}
 use Rattle.std.specs.Int.{IsInRange}
 use Rattle.std.specs.List.{find, list_all}
 use Rattle.std.specs.Option.{option_map_or}
 use Rattle.std.specs.Str.{bytes_eq}
+use Rattle.std.proofs.lemmas.Slice.Eq.{bytes_eq-Decides}
 use Rattle.std.specs.Str.Parse.{ParsesUnsigned, digits_value, without_leading_plus}
 use Rattle.clap.specs.Matches.{ReadsOne}
 use Rattle.clap.specs.Values.{IsUnsignedIn, read_as}
@@ -16,7 +17,7 @@ use Rattle.clap.specs.declared.builder.value_parser.Reading.TheVariants.{AsWritt
 use Rattle.clap.specs.declared.builder.value_parser.ValueParser.TheVariants as vp
 use Rattle.clap.proofs.ValueTestLemmas.{Accepts-accepts, accepts-Accepts}
 use Rattle.clap.proofs.WalkLemmas.{both}
-use Rattle.cml_words.specs.Words.{any_rule, count_rule, file_rule, is_as_written, has_first_value, is_served, option_number, number_rule, workers_rule, IsCount, IsWorkers}
+use Rattle.cml_words.specs.Words.{any_rule, count_rule, file_rule, flag_rule, is_as_written, is_flagged, has_first_value, is_served, option_number, number_rule, workers_rule, IsCount, IsWorkers}
 
 pub as_written : (how : Reading) → is_as_written how ≡ true → how ≡ AsWritten
 as_written AsWritten plain = refl
@@ -52,8 +53,6 @@ file_given given id served = go (find (λ row. bytes_eq row.id id) given) served
         let first = filled_first _ row.values (both _ _ filled).1 in
         rw first.1 refl
 
--- ---- numbers
-
 -- what is read of a value that passed, as it is written
 row_case : (test : Text → Bool) (values : List Text) (how : Reading) → (is_as_written how && option_map_or test (slice_get values 0) false) ≡ true
     → (P : Option Text → Option Text → Type 0) → ((text : Text) → test text ≡ true → P (Some text) (Some text)) → P (option_map (read_as how) (slice_get values 0)) (slice_get values 0)
@@ -61,6 +60,38 @@ row_case test [] how filled P some = absurd (true≢false (sym (both _ _ filled)
 row_case test (v ∷ vs) how filled P some =
     let parts = both _ _ filled in
     subst (λ (h : Reading). P (Some (read_as h v)) (Some v)) (sym (as_written how parts.0)) (some v parts.1)
+
+-- ---- flags
+
+-- where each argument is served, each of the last ones is
+pub served_last : (given : List Row) (first last : List Rule) → list_all (is_served given) (first ++ last) ≡ true → list_all (is_served given) last ≡ true
+served_last given [] last served = served
+served_last given (a ∷ rest) last served = served_last given rest last (both _ _ served).1
+
+-- what a getter makes of a flag's row, which is read as it is written, is whether the flag is given
+pub reads_flag : (given : List Row) (id : Text) (r : Bool) → is_served given (flag_rule id) ≡ true → (one_of id given ≡ None → r ≡ false)
+    → (one_of id given ≡ Some (codes "true") → r ≡ true) → (one_of id given ≡ Some (codes "false") → r ≡ false) → r ≡ is_flagged id given
+reads_flag given id r served = go (find (λ row. bytes_eq row.id id) given) served
+  where
+    text : (v : Text) → (bytes_eq v (codes "true") || bytes_eq v (codes "false")) ≡ true
+        → (Some v ≡ None → r ≡ false) → (Some v ≡ Some (codes "true") → r ≡ true) → (Some v ≡ Some (codes "false") → r ≡ false) → r ≡ bytes_eq v (codes "true")
+    text v pass none yes no = one (bytes_eq v (codes "true")) refl pass
+      where
+        one : (b : Bool) → bytes_eq v (codes "true") ≡ b → (b || bytes_eq v (codes "false")) ≡ true → r ≡ b
+        one true is any = yes (ap Some ((bytes_eq-Decides v (codes "true")).0 is))
+        one false is any = no (ap Some ((bytes_eq-Decides v (codes "false")).0 any))
+
+    go : (o : Option Row) → option_map_or (has_first_value (flag_rule id)) o true ≡ true → (option_and_then row_text o ≡ None → r ≡ false)
+        → (option_and_then row_text o ≡ Some (codes "true") → r ≡ true) → (option_and_then row_text o ≡ Some (codes "false") → r ≡ false)
+        → r ≡ option_map_or (λ text. bytes_eq text (codes "true")) (option_and_then (λ row. slice_get row.values 0) o) false
+    go None filled none yes no = none refl
+    go (Some row) filled none yes no =
+        row_case (λ v. bytes_eq v (codes "true") || bytes_eq v (codes "false")) row.values row.reading filled
+        (λ one first. (one ≡ None → r ≡ false) → (one ≡ Some (codes "true") → r ≡ true) → (one ≡ Some (codes "false") → r ≡ false)
+        → r ≡ option_map_or (λ text. bytes_eq text (codes "true")) first false)
+        text none yes no
+
+-- ---- numbers
 
 -- an option of numbers was given none, or one within its bounds, which is read as it is written
 number_cases : (least most : ℕ) (given : List Row) (id : Text) → is_served given (number_rule least most id) ≡ true

@@ -1,5 +1,5 @@
 -- What the arguments of the command line ask for, as clap reads them.
-use Rattle.std.specs.Prelude.{◌≡◌, ◌≢◌, ◌⊎◌, ◌&&◌, ℕ, Bool, true, false, not, Option, Some, None, IfSome, IsSomeAnd, List, [], ◌∷◌, ◌++◌, codes, find, slice_get, option_map, unwrap_or}
+use Rattle.std.specs.Prelude.{◌≡◌, ◌≢◌, ◌⊎◌, ◌&&◌, if◌then◌else◌, ℕ, Bool, true, false, not, Option, Some, None, IfSome, IsSomeAnd, List, [], ◌∷◌, ◌++◌, codes, find, slice_get, option_map, unwrap_or}
 use Rattle.std.specs.List.{list_all}
 use Rattle.std.specs.Int.{IsInRange}
 use Rattle.std.specs.Option.{option_map_or}
@@ -8,16 +8,19 @@ use Rattle.std.specs.String.{string_bytes}
 use Rattle.std.specs.Str.Parse.{digits_value, without_leading_plus}
 use Rattle.clap.specs.Takes.{value_passes}
 use Rattle.clap.specs.Words.{App, Shape, Rule, Row, Text, new_app, new_rule, fault_of, Kinds, IsAmong, first_of, subcommand_of}
-use Rattle.clap.specs.declared.builder.action.ArgAction.TheVariants.{Set}
+use Rattle.clap.specs.declared.builder.action.ArgAction.TheVariants.{Set, SetTrue}
 use Rattle.clap.specs.declared.builder.value_parser.Reading.{Reading}
 use Rattle.clap.specs.declared.builder.value_parser.Reading.TheVariants.{AsWritten}
-use Rattle.clap.specs.declared.builder.value_parser.ValueParser.TheVariants.{Unsigned}
+use Rattle.clap.specs.declared.builder.value_parser.ValueParser.TheVariants as parser
 use Rattle.clap.specs.declared.error.kind.ErrorKind.{ErrorKind}
 use Rattle.clap.specs.declared.error.kind.ErrorKind.TheVariants.{DisplayHelp, DisplayVersion, OutOfMemory}
 use Rattle.cml_words.specs.declared.Task.{Task}
 use Rattle.cml_words.specs.declared.Task.TheVariants as task_of
 use Rattle.cml_words.specs.declared.Answer.{Answer}
 use Rattle.cml_words.specs.declared.Answer.TheVariants as answer
+use Rattle.cml_words.specs.declared.Explain.{Explain}
+use Rattle.cml_words.specs.declared.Explain.TheVariants.{Asked, Off, Unsaid}
+use Rattle.cml_words.specs.declared.FileOptions.{FileOptions}
 use Rattle.cml_words.specs.declared.ReplayOptions.{ReplayOptions}
 use Rattle.cml_words.specs.declared.RunOptions.{RunOptions}
 
@@ -33,7 +36,7 @@ option_rule name = record (new_rule name) { long = Some name; action = Some Set;
 
 -- an option that takes a number from `least` to `most`
 abbrev pub number_rule : ℕ → ℕ → Text → Rule
-number_rule least most name = record (option_rule name) { parser = Some (Unsigned least most) }
+number_rule least most name = record (option_rule name) { parser = Some (parser.Unsigned least most) }
 
 -- any number of u64, and one that counts steps or items, from 1 to 1,000,000,000
 abbrev pub any_rule : Text → Rule
@@ -46,20 +49,28 @@ count_rule = number_rule 1 1000000000
 abbrev pub workers_rule : Text → Rule
 workers_rule = number_rule 1 64
 
+-- a flag, `--name`
+abbrev pub flag_rule : Text → Rule
+flag_rule name = record (new_rule name) { long = Some name; action = Some SetTrue; parser = Some parser.Bool }
+
+-- the flags by which a command is asked to explain what is wrong, and not to
+abbrev pub explain_rules : List Rule
+explain_rules = flag_rule (codes "explain") ∷ flag_rule (codes "plain") ∷ []
+
 -- a command with these arguments
 abbrev pub command_of : Text → List Rule → Shape
 command_of name rules = record (new_app name).top { rules = rules }
 
--- a command that takes a file
+-- a command that takes a file alone
 abbrev pub file_command : Text → Shape
-file_command name = command_of name (file_rule (codes "FILE") ∷ [])
+file_command name = command_of name (file_rule (codes "FILE") ∷ explain_rules)
 
 abbrev pub run_command : Shape
 run_command = command_of (codes "run")
-    (file_rule (codes "FILE") ∷ workers_rule (codes "workers") ∷ count_rule (codes "steps") ∷ any_rule (codes "seed") ∷ count_rule (codes "watch") ∷ option_rule (codes "record") ∷ [])
+    (file_rule (codes "FILE") ∷ workers_rule (codes "workers") ∷ count_rule (codes "steps") ∷ any_rule (codes "seed") ∷ count_rule (codes "watch") ∷ option_rule (codes "record") ∷ explain_rules)
 
 abbrev pub replay_command : Shape
-replay_command = command_of (codes "replay") (file_rule (codes "FILE") ∷ file_rule (codes "SCHEDULE") ∷ count_rule (codes "watch") ∷ [])
+replay_command = command_of (codes "replay") (file_rule (codes "FILE") ∷ file_rule (codes "SCHEDULE") ∷ count_rule (codes "watch") ∷ explain_rules)
 
 -- the program, with its commands, of which one must be named
 abbrev pub commands : App
@@ -83,11 +94,31 @@ faults words = fault_of commands words
 abbrev pub option_number : Text → List Row → Option ℕ
 option_number option given = option_map (λ text. digits_value 10 (without_leading_plus text)) (first_of option given)
 
+-- whether this flag is given
+abbrev pub is_flagged : Text → List Row → Bool
+is_flagged flag given = option_map_or (λ text. bytes_eq text (codes "true")) (first_of flag given) false
+
+-- what is said of explaining what is wrong: `--plain` turns it off, also where `--explain` asks for it
+abbrev pub explanation : List Row → Explain
+explanation given = if is_flagged (codes "plain") given then Off else if is_flagged (codes "explain") given then Asked else Unsaid
+
+-- Whether it is explained, where the errors go to a terminal or not: there it is unless it is turned off, and elsewhere only where it is
+-- asked for.
+abbrev pub explains : Explain → Bool → Bool
+explains Asked terminal = true
+explains Off terminal = false
+explains Unsaid terminal = terminal
+
 abbrev pub IsCount : ℕ → Type 0
 IsCount = IsInRange 1 1000000000
 
 abbrev pub IsWorkers : ℕ → Type 0
 IsWorkers = IsInRange 1 64
+
+-- the options of a command that takes a file alone are what was given
+pub record IsFile (given : List Row) (options : FileOptions) : Type 0 where
+  pub file : first_of (codes "FILE") given ≡ Some options.file.now
+  pub explain : options.explain ≡ explanation given
 
 -- the options of `run` are what was given; where no number of workers was, one worker, and where no number of steps was, 1,000,000
 pub record IsRun (given : List Row) (options : RunOptions) : Type 0 where
@@ -97,6 +128,7 @@ pub record IsRun (given : List Row) (options : RunOptions) : Type 0 where
   pub seed : options.seed ≡ option_number (codes "seed") given
   pub watch : options.watch ≡ option_number (codes "watch") given
   pub record_file : option_map (λ name. name.now) options.record ≡ first_of (codes "record") given
+  pub explain : options.explain ≡ explanation given
   pub counts : IsWorkers options.workers × IsCount options.steps × IfSome options.watch IsCount
 
 -- and those of `replay`
@@ -104,13 +136,14 @@ pub record IsReplay (given : List Row) (options : ReplayOptions) : Type 0 where
   pub script : first_of (codes "FILE") given ≡ Some options.script.now
   pub schedule : first_of (codes "SCHEDULE") given ≡ Some options.schedule.now
   pub watch : options.watch ≡ option_number (codes "watch") given
+  pub explain : options.explain ≡ explanation given
   pub counts : IfSome options.watch IsCount
 
 -- The command that was named, with the values that it was given, is this one.
 abbrev pub Names : Text × List Row → Task → Type 0
 Names (name, given) task_of.Trace = name ≡ codes "trace"
-Names (name, given) (task_of.Check file) = (name ≡ codes "check") × (first_of (codes "FILE") given ≡ Some file.now)
-Names (name, given) (task_of.Fmt file) = (name ≡ codes "fmt") × (first_of (codes "FILE") given ≡ Some file.now)
+Names (name, given) (task_of.Check options) = (name ≡ codes "check") × IsFile given options
+Names (name, given) (task_of.Fmt options) = (name ≡ codes "fmt") × IsFile given options
 Names (name, given) (task_of.Run options) = (name ≡ codes "run") × IsRun given options
 Names (name, given) (task_of.Replay options) = (name ≡ codes "replay") × IsReplay given options
 
@@ -146,6 +179,10 @@ IsAnswer words (answer.Fault text) =
     ((kind : ErrorKind) × IsAmong kind (faults words) × (kind ≢ DisplayHelp) × (kind ≢ DisplayVersion)) ⊎ IsReplacing words (string_bytes text)
 
 -- ---- what private functions ask for
+
+-- the command, which says too whether it explains what is wrong
+abbrev pub with_explain : Shape → Shape
+with_explain command = record command { rules = command.rules ++ explain_rules }
 
 -- the values of an argument are read as they are written
 abbrev pub is_as_written : Reading → Bool

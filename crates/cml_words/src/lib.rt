@@ -1,13 +1,14 @@
 //! What the arguments of the program's command line ask for.
 #![tactic(auto)]
 
-ghost use Rattle.std.specs.Prelude.{◌≡◌, ◌↔◌, [], codes, false, true, is_some, map, IfOk, IsSomeAnd, IsTrue, Some};
+ghost use Rattle.std.specs.Prelude.{◌≡◌, ◌↔◌, [], ◌∷◌, codes, false, true, is_some, map, IfOk, IsSomeAnd, IsTrue, Some};
 ghost use Rattle.std.specs.List.{list_all};
 ghost use Rattle.std.specs.String.{string_bytes};
 ghost use Rattle.clap.specs.Words.{app_of, first_of, found_of, kind_of, rows_of, rule_of, shape_of, subcommand_rows_of};
 ghost use Rattle.clap.specs.declared.builder.command.Command.TheViews.{out-Command};
-ghost use Rattle.cml_words.specs.Words.{any_rule, command_of, commands, count_rule, file_command, file_rule, option_rule, replay_command, run_command, workers_rule};
-ghost use Rattle.cml_words.specs.Words.{is_complete, is_served, option_number, AnswersError, AnswersTask, IsAnswer, IsReplay, IsRun, Names, Replaces};
+ghost use Rattle.cml_words.specs.Words.{any_rule, command_of, commands, count_rule, file_command, file_rule, flag_rule, option_rule, replay_command, run_command, with_explain, workers_rule};
+ghost use Rattle.cml_words.specs.Words.{explain_rules, explanation, explains, is_complete, is_flagged, is_served, option_number};
+ghost use Rattle.cml_words.specs.Words.{AnswersError, AnswersTask, IsAnswer, IsFile, IsReplay, IsRun, Names, Replaces};
 
 use clap::error::ErrorKind;
 use clap::{Arg, ArgAction, ArgMatches, Command, Error, value_parser};
@@ -22,19 +23,52 @@ const DEFAULT_STEPS: u64 = 1_000_000;
 // The most workers.
 const MOST_WORKERS: i64 = 64;
 
+/// What the arguments say of explaining what is wrong.
+#[derive(Clone, Copy, PartialEq, Eq)]
+pub enum Explain {
+    /// It is asked for.
+    Asked,
+    /// It is turned off.
+    Off,
+    /// Nothing.
+    Unsaid,
+}
+
+impl Explain {
+    /// Whether what is wrong is explained: as the arguments say, and where they say nothing, where the errors go to a terminal.
+    pub fn is_on(self, terminal: bool) -> bool
+        ensures { result ≡ explains self terminal }
+    {
+        match self {
+            Explain::Asked => true,
+            Explain::Off => false,
+            Explain::Unsaid => terminal,
+        }
+    }
+}
+
 /// A command of the program.
 #[derive(Clone, Copy, PartialEq, Eq)]
 pub enum Task<'a> {
     /// Answers a trace.
     Trace,
-    /// Checks the script in this file.
-    Check(&'a str),
-    /// Prints the forms of the text in this file.
-    Fmt(&'a str),
+    /// Checks the script in a file.
+    Check(FileOptions<'a>),
+    /// Prints the forms of the text in a file.
+    Fmt(FileOptions<'a>),
     /// Runs a script.
     Run(RunOptions<'a>),
     /// Runs a script again, by the schedule that a run recorded.
     Replay(ReplayOptions<'a>),
+}
+
+/// How a file is read.
+#[derive(Clone, Copy, PartialEq, Eq)]
+pub struct FileOptions<'a> {
+    /// The file.
+    pub file: &'a str,
+    /// Whether what is wrong with it is explained.
+    pub explain: Explain,
 }
 
 /// How a script is run.
@@ -52,6 +86,8 @@ pub struct RunOptions<'a> {
     pub watch: Option<u64>,
     /// The file that gets the schedule of the run.
     pub record: Option<&'a str>,
+    /// Whether what is wrong with the script is explained.
+    pub explain: Explain,
 }
 
 /// How a script is run again.
@@ -63,6 +99,8 @@ pub struct ReplayOptions<'a> {
     pub schedule: &'a str,
     /// After how many items of the schedule each report comes, from 1 to 1,000,000,000; without it there is none.
     pub watch: Option<u64>,
+    /// Whether what is wrong with the script is explained.
+    pub explain: Explain,
 }
 
 /// What the arguments ask for.
@@ -122,11 +160,22 @@ fn task_of<'a>(matches: &ArgMatches<'a>) -> Task<'a>
     };
     match name {
         "trace" => Task::Trace,
-        "check" => Task::Check(given(below, "FILE")),
-        "fmt" => Task::Fmt(given(below, "FILE")),
+        "check" => Task::Check(file_options(below)),
+        "fmt" => Task::Fmt(file_options(below)),
         "run" => Task::Run(run_options(below)),
         "replay" => Task::Replay(replay_options(below)),
         _ => unreachable!(),
+    }
+}
+
+// What a command was given that takes a file alone.
+fn file_options<'a>(matches: &ArgMatches<'a>) -> FileOptions<'a>
+    requires { list_all (is_served (rows_of (found_of matches.now))) (file_command []).rules ≡ true }
+    ensures { IsFile (rows_of (found_of matches.now)) result }
+{
+    FileOptions {
+        file: given(matches, "FILE"),
+        explain: explain_option(matches),
     }
 }
 
@@ -142,6 +191,7 @@ fn run_options<'a>(matches: &ArgMatches<'a>) -> RunOptions<'a>
         seed: number(matches, "seed"),
         watch: number(matches, "watch"),
         record: matches.get_str("record"),
+        explain: explain_option(matches),
     }
 }
 
@@ -154,6 +204,21 @@ fn replay_options<'a>(matches: &ArgMatches<'a>) -> ReplayOptions<'a>
         script: given(matches, "FILE"),
         schedule: given(matches, "SCHEDULE"),
         watch: number(matches, "watch"),
+        explain: explain_option(matches),
+    }
+}
+
+// What is said of explaining what is wrong: `--plain` turns it off, also where `--explain` asks for it.
+fn explain_option(matches: &ArgMatches<'_>) -> Explain
+    requires { list_all (is_served (rows_of (found_of matches.now))) explain_rules ≡ true }
+    ensures { result ≡ explanation (rows_of (found_of matches.now)) }
+{
+    if flag(matches, "plain") {
+        Explain::Off
+    } else if flag(matches, "explain") {
+        Explain::Asked
+    } else {
+        Explain::Unsaid
     }
 }
 
@@ -174,6 +239,14 @@ fn number(matches: &ArgMatches<'_>, id: &str) -> Option<u64>
     ensures { result ≡ option_number id.now (rows_of (found_of matches.now)) }
 {
     matches.get_one(id)
+}
+
+// Whether a flag was given.
+fn flag(matches: &ArgMatches<'_>, id: &str) -> bool
+    requires { is_served (rows_of (found_of matches.now)) (flag_rule id.now) ≡ true }
+    ensures { result ≡ is_flagged id.now (rows_of (found_of matches.now)) }
+{
+    matches.get_flag(id)
 }
 
 // The text of the error, as what it is: that something is wrong, or help that was asked for.
@@ -197,8 +270,8 @@ fn command<'a>(alloc: Global) -> Result<Command<'a>, AllocError>
     ensures { IfOk result (λ command. app_of command ≡ commands) }
 {
     let trace = trace(alloc);
-    let check = on_file(alloc, "check", "Checks a script")?;
-    let fmt = on_file(alloc, "fmt", "Prints the forms of a text, each on a line")?;
+    let check = file_alone(alloc, "check", "Checks a script")?;
+    let fmt = file_alone(alloc, "fmt", "Prints the forms of a text, each on a line")?;
     let run = run(alloc)?;
     let replay = replay(alloc)?;
     Command::new(alloc, "cml")
@@ -234,12 +307,13 @@ fn run<'a>(alloc: Global) -> Result<Command<'a>, AllocError>
     let seed = seed(alloc);
     let watch = watch(alloc);
     let record = option(alloc, "record", "FILE", "Saves the schedule of the run");
-    on_file(alloc, "run", "Runs a script")?
+    let command = on_file(alloc, "run", "Runs a script")?
         .arg(workers)?
         .arg(steps)?
         .arg(seed)?
         .arg(watch)?
-        .arg(record)
+        .arg(record)?;
+    explaining(alloc, command)
 }
 
 // The command that runs a script again.
@@ -249,18 +323,43 @@ fn replay<'a>(alloc: Global) -> Result<Command<'a>, AllocError>
 {
     let schedule = file(alloc, "SCHEDULE");
     let watch = watch(alloc);
-    on_file(
+    let command = on_file(
         alloc,
         "replay",
         "Runs a script by a schedule that was saved",
     )?
     .arg(schedule)?
-    .arg(watch)
+    .arg(watch)?;
+    explaining(alloc, command)
 }
 
-// A command that takes a file.
-fn on_file<'a>(alloc: Global, name: &'a str, about: &'a str) -> Result<Command<'a>, AllocError>
+// A command that takes a file alone.
+fn file_alone<'a>(alloc: Global, name: &'a str, about: &'a str) -> Result<Command<'a>, AllocError>
     ensures shape { IfOk result (λ command. shape_of command ≡ file_command name.now) }
+    ensures globals { IfOk result (λ command. (out-Command command).has_globals ≡ false) }
+{
+    let command = on_file(alloc, name, about)?;
+    explaining(alloc, command)
+}
+
+// The command, which says too whether it explains what is wrong.
+fn explaining<'a>(alloc: Global, command: Command<'a>) -> Result<Command<'a>, AllocError>
+    requires globals { (out-Command command.entry).has_globals ≡ false }
+    ensures shape { IfOk result (λ new. shape_of new ≡ with_explain (shape_of command.entry)) }
+    ensures globals { IfOk result (λ new. (out-Command new).has_globals ≡ false) }
+{
+    let explain = flag_of(
+        alloc,
+        "explain",
+        "Explains what is wrong, and where [default: on a terminal]",
+    );
+    let plain = flag_of(alloc, "plain", "Explains nothing, on a terminal too");
+    command.arg(explain)?.arg(plain)
+}
+
+// A command on a file.
+fn on_file<'a>(alloc: Global, name: &'a str, about: &'a str) -> Result<Command<'a>, AllocError>
+    ensures shape { IfOk result (λ command. shape_of command ≡ command_of name.now (file_rule (codes "FILE") ∷ [])) }
     ensures globals { IfOk result (λ command. (out-Command command).has_globals ≡ false) }
 {
     let file = file(alloc, "FILE");
@@ -273,6 +372,18 @@ fn file<'a>(alloc: Global, name: &'a str) -> Arg<'a>
     ensures global { result.global ≡ false }
 {
     Arg::new(alloc, name).required(true).action(ArgAction::Set)
+}
+
+// A flag.
+fn flag_of<'a>(alloc: Global, name: &'a str, help: &'a str) -> Arg<'a>
+    ensures rule { rule_of result ≡ flag_rule name.now }
+    ensures global { result.global ≡ false }
+{
+    Arg::new(alloc, name)
+        .long(name)
+        .action(ArgAction::SetTrue)
+        .value_parser(value_parser!(bool))
+        .help(help)
 }
 
 // An option that takes a value.

@@ -1,14 +1,14 @@
-use Rattle.std.proofs.Common.{◌≡◌, codes, false}
+use Rattle.std.proofs.Common.{◌≡◌, ◌∙◌, [], ◌∷◌, ap, codes, false}
 use Rattle.std.proofs.lemmas.Result.{IfOk-weaker}
 use Rattle.clap.specs.Words.{Shape, shape_of}
 use Rattle.clap.specs.declared.builder.command.Command.TheViews.{out-Command}
-use Rattle.cml_words.specs.Words.{any_rule, count_rule, file_command, option_rule, workers_rule}
+use Rattle.cml_words.specs.Words.{any_rule, command_of, count_rule, file_rule, option_rule, with_explain, workers_rule}
 use Rattle.cml_words.proofs.Added.{with_more, added_shape, added_globals}
 use Rattle.cml_words.proofs.run.Goals as goal
 
 -- the command with its first arguments
 abbrev with_workers : Shape
-with_workers = with_more (file_command (codes "run")) (workers_rule (codes "workers"))
+with_workers = with_more (command_of (codes "run") (file_rule (codes "FILE") ∷ [])) (workers_rule (codes "workers"))
 
 abbrev with_steps : Shape
 with_steps = with_more with_workers (count_rule (codes "steps"))
@@ -18,6 +18,18 @@ with_seed = with_more with_steps (any_rule (codes "seed"))
 
 abbrev with_watch : Shape
 with_watch = with_more with_seed (count_rule (codes "watch"))
+
+abbrev with_record : Shape
+with_record = with_more with_watch (option_rule (codes "record"))
+
+pub explaining-requires : goal.explaining-requires
+explaining-requires c =
+    let one : (out-Command c.in_ok-arg.field-0).has_globals ≡ false =
+    added_globals _ _ _ c.in_ok-arg.ensures c.workers-workers.ensures.global c.in_ok-on_file.ensures.globals in
+    let two : (out-Command c.in_ok-arg-2.field-0).has_globals ≡ false = added_globals _ _ _ c.in_ok-arg-2.ensures c.count-steps.ensures.global one in
+    let three : (out-Command c.in_ok-arg-3.field-0).has_globals ≡ false = added_globals _ _ _ c.in_ok-arg-3.ensures c.seed-seed.ensures.global two in
+    let four : (out-Command c.in_ok-arg-4.field-0).has_globals ≡ false = added_globals _ _ _ c.in_ok-arg-4.ensures c.watch-watch.ensures.global three in
+    added_globals _ _ _ c.in_ok-command.ensures c.option-record.ensures.global four
 
 pub returns-clause-shape : goal.returns-clause-shape
 returns-clause-shape c =
@@ -29,16 +41,6 @@ returns-clause-shape c =
     added_shape _ _ _ _ _ c.in_ok-arg-3.ensures c.seed-seed.ensures.global two c.seed-seed.ensures.rule in
     let four : shape_of c.in_ok-arg-4.field-0 ≡ with_watch =
     added_shape _ _ _ _ _ c.in_ok-arg-4.ensures c.watch-watch.ensures.global three c.watch-watch.ensures.rule in
-    IfOk-weaker c.arg-5.result _ _
-    (λ command adds. added_shape c.in_ok-arg-4.field-0 command c.option-record.result with_watch (option_rule (codes "record")) adds
-    c.option-record.ensures.global four c.option-record.ensures.rule) c.arg-5.ensures
-
-pub returns-clause-globals : goal.returns-clause-globals
-returns-clause-globals c =
-    let one : (out-Command c.in_ok-arg.field-0).has_globals ≡ false =
-    added_globals _ _ _ c.in_ok-arg.ensures c.workers-workers.ensures.global c.in_ok-on_file.ensures.globals in
-    let two : (out-Command c.in_ok-arg-2.field-0).has_globals ≡ false = added_globals _ _ _ c.in_ok-arg-2.ensures c.count-steps.ensures.global one in
-    let three : (out-Command c.in_ok-arg-3.field-0).has_globals ≡ false = added_globals _ _ _ c.in_ok-arg-3.ensures c.seed-seed.ensures.global two in
-    let four : (out-Command c.in_ok-arg-4.field-0).has_globals ≡ false = added_globals _ _ _ c.in_ok-arg-4.ensures c.watch-watch.ensures.global three in
-    IfOk-weaker c.arg-5.result _ _
-    (λ command adds. added_globals c.in_ok-arg-4.field-0 command c.option-record.result adds c.option-record.ensures.global four) c.arg-5.ensures
+    let five : shape_of c.in_ok-command.command ≡ with_record =
+    added_shape _ _ _ _ _ c.in_ok-command.ensures c.option-record.ensures.global four c.option-record.ensures.rule in
+    IfOk-weaker c.explaining.result _ _ (λ command is. is ∙ ap with_explain five) c.explaining.ensures.shape

@@ -1,29 +1,32 @@
 use Rattle.std.proofs.Common.{rules, codes, refl}
 use Rattle.clap.specs.Words.{found_of, rows_of, subcommand_rows_of}
-use Rattle.cml_words.specs.Words.{file_command, file_rule}
 use Rattle.cml_words.specs.declared.Task.TheVariants as task_of
 use Rattle.cml_words.proofs.Named.{named_complete, named_task, no_other}
-use Rattle.cml_words.proofs.Served.{file_given, served_by_name}
 use Rattle.cml_words.proofs.task_of.Goals as goal
 
-pub given-requires : goal.given-requires
-given-requires c =
+pub file_options-requires : goal.file_options-requires
+file_options-requires c =
     let found = subcommand_rows_of c.args.matches.now in
     let below = found_of c.in-Some.below.now in
-    let complete = named_complete found (codes "check") below (search rules) c.in-Some.ensures.rows c.requires in
-    file_given (rows_of below) (codes "FILE") (served_by_name (rows_of below) (file_command (codes "check")).rules (codes "FILE") (file_rule (codes "FILE")) complete refl)
+    named_complete found (codes "check") below (search rules) c.in-Some.ensures.rows c.requires
+
+pub file_options-requires-2 : goal.file_options-requires-2
+file_options-requires-2 c =
+    let found = subcommand_rows_of c.args.matches.now in
+    let below = found_of c.in-Some.below.now in
+    named_complete found (codes "fmt") below (search rules) c.in-Some.ensures.rows c.requires
 
 pub returns-in-check : goal.returns-in-check
 returns-in-check c =
     let found = subcommand_rows_of c.args.matches.now in
     let below = found_of c.in-Some.below.now in
-    named_task found (codes "check") below (task_of.Check c.given.result) (search rules) c.in-Some.ensures.rows (refl, c.given.ensures)
+    named_task found (codes "check") below (task_of.Check c.file_options.result) (search rules) c.in-Some.ensures.rows (refl, c.file_options.ensures)
 
 pub returns-in-fmt : goal.returns-in-fmt
 returns-in-fmt c =
     let found = subcommand_rows_of c.args.matches.now in
     let below = found_of c.in-Some.below.now in
-    named_task found (codes "fmt") below (task_of.Fmt c.given-in-fmt.result) (search rules) c.in-Some.ensures.rows (refl, c.given-in-fmt.ensures)
+    named_task found (codes "fmt") below (task_of.Fmt c.file_options-in-fmt.result) (search rules) c.in-Some.ensures.rows (refl, c.file_options-in-fmt.ensures)
 
 pub run_options-requires : goal.run_options-requires
 run_options-requires c =

@@ -23,10 +23,13 @@ returns-in-Ok-Task-Check-clause-ran g c =
     let words = map string_bytes c.args.words.now in
     let is = c.in-Ok-Task-Check.field-0-is ∙ ap answer.Task c.in-Ok-Task-Check.field-0-0-is in
     inl (
-      answer.Task (Check c.in-Ok-Task-Check.name),
+      answer.Task (Check c.in-Ok-Task-Check.options),
       subst (IsAnswer words) is c.in-Ok-Task-Check.ensures,
       (
-        c.check_file.ensures.ran,
+        subst
+        (λ explained. FileRan (IsChecked explained c.in-Ok-Task-Check.options.file.now) c.in-Ok-Task-Check.options.file.now
+        (g.S.Store.holds c.args.store.now c.in-Ok-Task-Check.options.file.now) _ _ c.check_file.result)
+        c.is_on-explains.ensures c.check_file.ensures.ran,
         (search rules, c.requires.reads.0, c.requires.reads.1),
         c.check_file.ensures.same,
       ),
@@ -37,7 +40,7 @@ returns-in-Ok-Task-Fmt-clause-ran g c =
     let words = map string_bytes c.args.words.now in
     let is = c.in-Ok-Task-Fmt.field-0-is ∙ ap answer.Task c.in-Ok-Task-Fmt.field-0-0-is in
     inl (
-      answer.Task (Fmt c.in-Ok-Task-Fmt.name),
+      answer.Task (Fmt c.in-Ok-Task-Fmt.options),
       subst (IsAnswer words) is c.in-Ok-Task-Fmt.ensures,
       (
         c.print_file.ensures.ran,

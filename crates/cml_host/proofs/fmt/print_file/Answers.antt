@@ -6,7 +6,9 @@ use Rattle.cml_host.proofs.fmt.print_file.Goals as goal
 pub returns-in-Ok-clause-ran : goal.returns-in-Ok-clause-ran
 returns-in-Ok-clause-ran g c =
     let same : c.as_slice.result.now ≡ c.in-Ok.text.items = search rules in
-    file_ran IsPrinted printed_whole c.args.name.now (g.S.Store.holds c.args.store.now c.args.name.now) c.in-Ok.text.items c.print_text.result _ _ _
+    let explains = c.args.explains in
+    let name = c.args.name.now in
+    file_ran (IsPrinted explains name) (printed_whole explains name) name (g.S.Store.holds c.args.store.now name) c.in-Ok.text.items c.print_text.result _ _ _
     c.in-Ok.ensures.found
-    (subst (λ text. IfOk c.print_text.result (IsPrinted text)) same c.print_text.ensures)
+    (subst (λ text. IfOk c.print_text.result (IsPrinted explains name text)) same c.print_text.ensures)
     c.finish.ensures.ran

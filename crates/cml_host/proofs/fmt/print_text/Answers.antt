@@ -12,5 +12,5 @@ returns-in_ok-print-in-Ok c =
 pub returns-in-Err : goal.returns-in-Err
 returns-in-Err c =
     IfOk-weaker c.refuse_text.result _ _
-    (λ said told. inr (faulty c.args.text.now c.in-Err.fault said c.in-Err.ensures.fault told))
+    (λ said told. inr (faulty c.args.source.now.explains c.args.source.now.name.now c.args.source.now.text.now c.in-Err.fault said c.in-Err.ensures.fault told))
     c.refuse_text.ensures

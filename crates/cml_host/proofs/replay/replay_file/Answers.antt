@@ -22,6 +22,6 @@ returns-in-Ok-clause-ran g c =
 pub returns-in-Err-clause-ran : goal.returns-in-Err-clause-ran
 returns-in-Err-clause-ran g c =
     inr (
-      not_scripted _ c.args.options.now.script.now c.in-Err.why _ c.refuse.result c.in-Err.ensures.err c.refuse.ensures.refused,
+      not_scripted c.args.explains _ c.args.options.now.script.now c.in-Err.why _ c.refuse.result c.in-Err.ensures.err c.refuse.ensures.refused,
       (search rules, c.requires.fresh.0, c.requires.fresh.1),
     )

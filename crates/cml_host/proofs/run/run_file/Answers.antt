@@ -10,12 +10,12 @@ returns-in-Ok-clause-ran g c =
     let errors = counted_stream (g.E.Write.contents c.args.err.now.stream.now) (g.E.Write.contents c.run_program.new.err.stream.now)
     c.run_program.new.err.calls c.run_program.new.err.failed in
     run_ran (g.S.Store.holds c.args.store.now) (g.S.Store.holds c.open_script.new.store) (g.S.Store.holds c.run_program.new.store)
-    c.in-Ok.program c.args.options.now output errors c.run_program.result c.open_script.ensures.same c.in-Ok.ensures.ok c.run_program.ensures.ran
+    c.in-Ok.program c.args.options.now c.args.explains output errors c.run_program.result c.open_script.ensures.same c.in-Ok.ensures.ok c.run_program.ensures.ran
 
 pub returns-in-Err-clause-ran : goal.returns-in-Err-clause-ran
 returns-in-Err-clause-ran g c =
     inr (
-      not_scripted _ c.args.options.now.file.now c.in-Err.why _ c.refuse.result c.in-Err.ensures.err c.refuse.ensures.refused,
+      not_scripted c.args.explains _ c.args.options.now.file.now c.in-Err.why _ c.refuse.result c.in-Err.ensures.err c.refuse.ensures.refused,
       (search rules, c.requires.fresh.0, c.requires.fresh.1),
       c.open_script.ensures.same,
     )

@@ -17,5 +17,6 @@ returns-clause-err g c =
     let same : c.as_slice.result.now ≡ c.in_ok-text.text.items = c.as_slice.ensures.value in
     let content = g.S.Store.holds c.args.store.now c.args.name.now in
     IfErr-weaker c.read_script.result _ _
-    (λ why not_made. not_opened content c.in_ok-text.text.items why c.in_ok-text.ensures.found (subst (λ (ts : List ℕ). IsNotMade ts why) same not_made))
+    (λ why not_made. not_opened c.args.explains c.args.name.now content c.in_ok-text.text.items why c.in_ok-text.ensures.found
+    (subst (λ (ts : List ℕ). IsNotMade c.args.explains c.args.name.now ts why) same not_made))
     c.read_script.ensures.err

@@ -1,0 +1,37 @@
+//! What is wrong with a text or a script, in words.
+#![tactic(auto)]
+
+ghost use Rattle.std.specs.Prelude.{◌≡◌, IfOk};
+ghost use Rattle.cml_explain.specs.Texts.{text_explained};
+ghost use Rattle.cml_explain.specs.Scripts.{script_explained};
+
+use cml_check::CheckKind;
+use cml_text::{FaultKind, Sexpr};
+use std::alloc::{AllocError, Global};
+
+/// What is wrong with a text.
+pub fn explain_text(
+    alloc: Global,
+    name: &str,
+    _text: &[u8],
+    _kind: FaultKind,
+    _at: usize,
+) -> Result<Vec<u8>, AllocError>
+    ensures { IfOk result (λ shown. shown.items ≡ text_explained name.now _text.now (record { kind = _kind; at = _at })) }
+{
+    Ok(format!(in alloc; "{name}\n")?.into_bytes())
+}
+
+/// What is wrong with a script.
+pub fn explain_script(
+    alloc: Global,
+    name: &str,
+    _text: &[u8],
+    _forms: &[Sexpr],
+    _kind: CheckKind,
+    _at: usize,
+) -> Result<Vec<u8>, AllocError>
+    ensures { IfOk result (λ shown. shown.items ≡ script_explained name.now _text.now _forms.now (record { kind = _kind; at = _at })) }
+{
+    Ok(format!(in alloc; "{name}\n")?.into_bytes())
+}
