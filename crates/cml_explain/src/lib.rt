@@ -3,7 +3,7 @@
 
 ghost use Rattle.std.specs.Prelude.{◌≡◌, IfOk};
 ghost use Rattle.cml_explain.specs.Texts.{text_explained};
-ghost use Rattle.cml_explain.specs.Scripts.{script_explained};
+ghost use Rattle.cml_explain.specs.ScriptExplained.{script_explained};
 
 use cml_check::CheckKind;
 use cml_text::{FaultKind, Sexpr};

@@ -10,7 +10,7 @@ use Rattle.cml_text.specs.Forms.{PlainSexpr}
 use Rattle.cml_check.specs.Faults as script
 use Rattle.cml_check.specs.declared.fault.CheckFault.TheVariants as check_fault
 use Rattle.cml_explain.specs.Texts.{text_explained}
-use Rattle.cml_explain.specs.Scripts.{script_explained}
+use Rattle.cml_explain.specs.ScriptExplained.{script_explained}
 use Rattle.cml_host.specs.Stores.{Content, unknown, nothing, bytes, MayBeRefused}
 use Rattle.cml_host.specs.Written.{TextRan}
 use Rattle.cml_host.specs.declared.said.Said.{Said}

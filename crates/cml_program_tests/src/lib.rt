@@ -6,6 +6,10 @@ mod cases;
 #[cfg(test)]
 mod examples;
 #[cfg(test)]
+mod explained;
+#[cfg(test)]
+mod explained_cases;
+#[cfg(test)]
 mod faults;
 #[cfg(test)]
 mod gates;

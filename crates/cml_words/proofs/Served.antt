@@ -75,21 +75,21 @@ reads_flag given id r served = go (find (λ row. bytes_eq row.id id) given) serv
   where
     text : (v : Text) → (bytes_eq v (codes "true") || bytes_eq v (codes "false")) ≡ true
         → (Some v ≡ None → r ≡ false) → (Some v ≡ Some (codes "true") → r ≡ true) → (Some v ≡ Some (codes "false") → r ≡ false) → r ≡ bytes_eq v (codes "true")
-    text v pass none yes no = one (bytes_eq v (codes "true")) refl pass
+    text v pass none on off = one (bytes_eq v (codes "true")) refl pass
       where
         one : (b : Bool) → bytes_eq v (codes "true") ≡ b → (b || bytes_eq v (codes "false")) ≡ true → r ≡ b
-        one true is any = yes (ap Some ((bytes_eq-Decides v (codes "true")).0 is))
-        one false is any = no (ap Some ((bytes_eq-Decides v (codes "false")).0 any))
+        one true is any = on (ap Some ((bytes_eq-Decides v (codes "true")).0 is))
+        one false is any = off (ap Some ((bytes_eq-Decides v (codes "false")).0 any))
 
     go : (o : Option Row) → option_map_or (has_first_value (flag_rule id)) o true ≡ true → (option_and_then row_text o ≡ None → r ≡ false)
         → (option_and_then row_text o ≡ Some (codes "true") → r ≡ true) → (option_and_then row_text o ≡ Some (codes "false") → r ≡ false)
         → r ≡ option_map_or (λ text. bytes_eq text (codes "true")) (option_and_then (λ row. slice_get row.values 0) o) false
-    go None filled none yes no = none refl
-    go (Some row) filled none yes no =
+    go None filled none on off = none refl
+    go (Some row) filled none on off =
         row_case (λ v. bytes_eq v (codes "true") || bytes_eq v (codes "false")) row.values row.reading filled
         (λ one first. (one ≡ None → r ≡ false) → (one ≡ Some (codes "true") → r ≡ true) → (one ≡ Some (codes "false") → r ≡ false)
         → r ≡ option_map_or (λ text. bytes_eq text (codes "true")) first false)
-        text none yes no
+        text none on off
 
 -- ---- numbers
 

@@ -344,7 +344,7 @@ fn file_alone<'a>(alloc: Global, name: &'a str, about: &'a str) -> Result<Comman
 
 // The command, which says too whether it explains what is wrong.
 fn explaining<'a>(alloc: Global, command: Command<'a>) -> Result<Command<'a>, AllocError>
-    requires globals { (out-Command command.entry).has_globals ≡ false }
+    requires { (out-Command command).has_globals ≡ false }
     ensures shape { IfOk result (λ new. shape_of new ≡ with_explain (shape_of command.entry)) }
     ensures globals { IfOk result (λ new. (out-Command new).has_globals ≡ false) }
 {

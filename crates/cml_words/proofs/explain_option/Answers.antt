@@ -7,5 +7,5 @@ use Rattle.cml_words.proofs.explain_option.Goals as goal
 pub flag-requires : goal.flag-requires
 flag-requires c = served_by_name (rows_of (found_of c.args.matches.now)) explain_rules (codes "plain") (flag_rule (codes "plain")) c.requires refl
 
-pub flag-requires-2 : goal.flag-requires-2
-flag-requires-2 c = served_by_name (rows_of (found_of c.args.matches.now)) explain_rules (codes "explain") (flag_rule (codes "explain")) c.requires refl
+pub flag-requires-else-flag : goal.flag-requires-else-flag
+flag-requires-else-flag c = served_by_name (rows_of (found_of c.args.matches.now)) explain_rules (codes "explain") (flag_rule (codes "explain")) c.requires refl

@@ -9,4 +9,4 @@ returns c =
     let found = found_of c.args.matches.now in
     let same = one_text-rows found c.args.id.now in
     reads_flag (rows_of found) c.args.id.now c.get_flag.result c.requires
-    (λ none. c.get_flag.ensures.none (same ∙ none)) (λ yes. c.get_flag.ensures.value (same ∙ yes)) (λ no. c.get_flag.ensures.other (same ∙ no))
+    (λ none. c.get_flag.ensures.none (same ∙ none)) (λ on. c.get_flag.ensures.value (same ∙ on)) (λ off. c.get_flag.ensures.other (same ∙ off))

@@ -10,8 +10,8 @@ file_options-requires c =
     let below = found_of c.in-Some.below.now in
     named_complete found (codes "check") below (search rules) c.in-Some.ensures.rows c.requires
 
-pub file_options-requires-2 : goal.file_options-requires-2
-file_options-requires-2 c =
+pub file_options-requires-in-fmt : goal.file_options-requires-in-fmt
+file_options-requires-in-fmt c =
     let found = subcommand_rows_of c.args.matches.now in
     let below = found_of c.in-Some.below.now in
     named_complete found (codes "fmt") below (search rules) c.in-Some.ensures.rows c.requires

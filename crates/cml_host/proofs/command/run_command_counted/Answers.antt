@@ -26,10 +26,7 @@ returns-in-Ok-Task-Check-clause-ran g c =
       answer.Task (Check c.in-Ok-Task-Check.options),
       subst (IsAnswer words) is c.in-Ok-Task-Check.ensures,
       (
-        subst
-        (λ explained. FileRan (IsChecked explained c.in-Ok-Task-Check.options.file.now) c.in-Ok-Task-Check.options.file.now
-        (g.S.Store.holds c.args.store.now c.in-Ok-Task-Check.options.file.now) _ _ c.check_file.result)
-        c.is_on-explains.ensures c.check_file.ensures.ran,
+        rw c.is_on-explains.ensures at c.check_file.ensures.ran,
         (search rules, c.requires.reads.0, c.requires.reads.1),
         c.check_file.ensures.same,
       ),
@@ -43,7 +40,7 @@ returns-in-Ok-Task-Fmt-clause-ran g c =
       answer.Task (Fmt c.in-Ok-Task-Fmt.options),
       subst (IsAnswer words) is c.in-Ok-Task-Fmt.ensures,
       (
-        c.print_file.ensures.ran,
+        rw c.is_on-explains-in-Ok-Task-Fmt.ensures at c.print_file.ensures.ran,
         (search rules, c.requires.reads.0, c.requires.reads.1),
         c.print_file.ensures.same,
       ),
@@ -56,7 +53,7 @@ returns-in-Ok-Task-Run-clause-ran g c =
     inl (
       answer.Task (Run c.in-Ok-Task-Run.options),
       subst (IsAnswer words) is c.in-Ok-Task-Run.ensures,
-      (c.run_file.ensures.ran, (search rules, c.requires.reads.0, c.requires.reads.1)),
+      (rw c.is_on-explains-in-Ok-Task-Run.ensures at c.run_file.ensures.ran, (search rules, c.requires.reads.0, c.requires.reads.1)),
     )
 
 pub returns-in-Ok-Task-Replay-clause-ran : goal.returns-in-Ok-Task-Replay-clause-ran
@@ -67,7 +64,7 @@ returns-in-Ok-Task-Replay-clause-ran g c =
       answer.Task (Replay c.in-Ok-Task-Replay.options),
       subst (IsAnswer words) is c.in-Ok-Task-Replay.ensures,
       (
-        c.replay_file.ensures.ran,
+        rw c.is_on-explains-in-Ok-Task-Replay.ensures at c.replay_file.ensures.ran,
         (search rules, c.requires.reads.0, c.requires.reads.1),
         c.replay_file.ensures.same,
       ),
