@@ -1,8 +1,8 @@
 -- A text of which the first bytes were handed over, one more than may be.
-use Rattle.std.proofs.Common.{◌≡◌, ◌∙◌, ◌⊎◌, ◌+◌, ◌<◌, ◌≤◌, ℕ, Bool, List, take, length, Some, Result, Ok, Err, IfOk, inl, inr, refl, ap, subst, arith, lt-ltb}
+use Rattle.std.proofs.Common.{◌≡◌, ◌∙◌, ◌⊎◌, ◌+◌, ◌<◌, ◌≤◌, ℕ, Bool, false, true, List, take, length, Some, Result, Ok, Err, IfOk, inl, inr, refl, ap, subst, arith, lt-ltb}
 use Rattle.std.specs.declared.alloc.AllocError.{AllocError}
 use Rattle.std.proofs.lemmas.Bool.{cases_lt}
-use Rattle.std.proofs.lemmas.List.{take_all, length-take-le}
+use Rattle.std.proofs.lemmas.List.{take_all, take-take, length-take-le}
 use Rattle.cml_text.specs.declared.fault.FaultKind.TheVariants.{Long}
 use Rattle.cml_text.specs.declared.fault.TextFault.{TextFault}
 use Rattle.cml_text.specs.declared.fault.TextFault.TheVariants.{At, Memory}
@@ -48,7 +48,11 @@ long_fault text long = rw (lt-ltb _ _ long) refl
 -- what is told of it is told of its first bytes
 long_told : (explains : Bool) (name all : List ℕ) → text_limit < length all
     → text_told explains name (take (text_limit + 1) all) too_long ≡ text_told explains name all too_long
-long_told explains name all long = refl
+long_told false name all long = refl
+long_told true name all long =
+    let part : length (take (text_limit + 1) all) ≡ text_limit + 1 = length-take-le (text_limit + 1) all (omega arith) in
+    let longer : text_limit < length (take (text_limit + 1) all) = omega arith in
+    rw (lt-ltb _ _ longer, lt-ltb _ _ long, take-take text_limit (text_limit + 1) all (omega arith)) refl
 
 -- the fault of what was handed over is that of the whole, and so is what is told of it
 pub whole_fault_told : (explains : Bool) (name all found told : List ℕ) → found ≡ take (text_limit + 1) all →
