@@ -50,8 +50,27 @@ fn tested(operator: Binary, x: i64, y: i64) -> Option<bool>
     }
 }
 
-// The number that a part of an expression is: most are variables and numbers.
-#[cycle(quick)]
+// The number that an expression is, however deep it is.
+#[inline(never)]
+fn deep_int(slots: &[Value], e: &Expr) -> Option<i64>
+    ensures { IfSome result (λ z. evaluate (slot_value slots.now) e.now ≡ Ok (int z)) }
+{
+    match &e.kind {
+        ExprKind::Number(z) => Some(*z),
+        ExprKind::Variable(at) => number_in(slots, *at),
+        ExprKind::Binary(operator, d, e) => match operator {
+            Binary::Plus | Binary::Minus | Binary::Times => {
+                let x = deep_int(slots, d)?;
+                let y = deep_int(slots, e)?;
+                counted(*operator, x, y)
+            }
+            _ => None,
+        },
+        _ => None,
+    }
+}
+
+// The number that a part of an expression is. Most parts are variables and numbers, so these are looked for here.
 #[inline(always)]
 fn part_int(slots: &[Value], e: &Expr) -> Option<i64>
     ensures { IfSome result (λ z. evaluate (slot_value slots.now) e.now ≡ Ok (int z)) }
@@ -63,17 +82,7 @@ fn part_int(slots: &[Value], e: &Expr) -> Option<i64>
     }
 }
 
-// The same of a part that is an operation itself.
-#[cycle(quick)]
-#[inline(never)]
-fn deep_int(slots: &[Value], e: &Expr) -> Option<i64>
-    ensures { IfSome result (λ z. evaluate (slot_value slots.now) e.now ≡ Ok (int z)) }
-{
-    quick_int(slots, e)
-}
-
 /// The number that an expression is, where it can be found so and has no fault.
-#[cycle(quick)]
 pub(crate) fn quick_int(slots: &[Value], e: &Expr) -> Option<i64>
     ensures { IfSome result (λ z. evaluate (slot_value slots.now) e.now ≡ Ok (int z)) }
 {
