@@ -35,7 +35,7 @@ use Rattle.cml_step.specs.Agrees.{functions_agree}
 use Rattle.cml_step.specs.Machines.{PlainHeld, plain_held, held_entry, held_on, HeldFits, HeldFitsBeneath, name_count}
 use Rattle.cml_step.specs.declared.entry.Entry.{Entry}
 use Rattle.cml_step.specs.Shared.{topped, called}
-use Rattle.cml_step.specs.Stacks.{CallFits, WrapsFit, term_of, EachBeneath, StackFits, IsStep, IsDelivered, StandsAfter}
+use Rattle.cml_step.specs.Stacks.{CallFits, WrapsFit, term_of, EachBeneath, StackFits, IsStep, IsDelivered, EntryStands}
 use Rattle.cml_step.specs.Asks.{PlainAsk}
 use Rattle.cml_step.specs.declared.ask.Ask.{Ask}
 use Rattle.cml_step.specs.declared.fault.Stop.{Stop}
@@ -223,7 +223,7 @@ pub stands_beneath : (p : List (PlainItem ℕ)) (es hs : List PlainHeld) (h : Pl
 stands_beneath p es hs h e b f = subst (EachBeneath p) (sym e) (beneath_pushed p hs h b f)
 
 -- a call stands as well beneath another entry as on top, and so do wraps
-pub call_stands : (p : List (PlainItem ℕ)) (a : Action) (c : Call) → CallFits p c → StandsAfter p a (plain_held (entry.Call c))
+pub call_stands : (p : List (PlainItem ℕ)) (a : Action) (c : Call) → CallFits p c → EntryStands p a (plain_held (entry.Call c))
 call_stands p did.Goes c h = h
 call_stands p (did.Calls g args) c h = h
 call_stands p (did.Forces e) c h = h
@@ -231,7 +231,7 @@ call_stands p (did.Returns v) c h = tt
 call_stands p (did.Asks a) c h = h
 call_stands p did.Ends c h = tt
 
-pub wraps_stand : (p : List (PlainItem ℕ)) (a : Action) (w : Wraps) → WrapsFit p w → StandsAfter p a (plain_held (entry.Wraps w))
+pub wraps_stand : (p : List (PlainItem ℕ)) (a : Action) (w : Wraps) → WrapsFit p w → EntryStands p a (plain_held (entry.Wraps w))
 wraps_stand p did.Goes w h = h
 wraps_stand p (did.Calls g args) w h = h
 wraps_stand p (did.Forces e) w h = h

@@ -61,18 +61,18 @@ IsDelivered (Err stop.Memory) new below step = Unit {0}
 
 -- The entry that has made its step is in order where it stands: beneath another one if it put one on the stack, on top if it goes on or asks. One
 -- that returns, or ends the thread, goes.
-abbrev pub StandsAfter : List (PlainItem ℕ) → Action → PlainHeld → Type 0
-StandsAfter p did.Goes h = HeldFits p h
-StandsAfter p (did.Calls g args) h = HeldFitsBeneath p h
-StandsAfter p (did.Forces e) h = HeldFitsBeneath p h
-StandsAfter p (did.Returns v) h = Unit {0}
-StandsAfter p (did.Asks a) h = HeldFits p h
-StandsAfter p did.Ends h = Unit {0}
+abbrev pub EntryStands : List (PlainItem ℕ) → Action → PlainHeld → Type 0
+EntryStands p did.Goes h = HeldFits p h
+EntryStands p (did.Calls g args) h = HeldFitsBeneath p h
+EntryStands p (did.Forces e) h = HeldFitsBeneath p h
+EntryStands p (did.Returns v) h = Unit {0}
+EntryStands p (did.Asks a) h = HeldFits p h
+EntryStands p did.Ends h = Unit {0}
 
 -- such an entry is on top of this stack, and those below it are in order there
-pub record Stands (p : List (PlainItem ℕ)) (a : Action) (es : List PlainHeld) : Type 0 where
+pub record TopStands (p : List (PlainItem ℕ)) (a : Action) (es : List PlainHeld) : Type 0 where
   pub rest : List PlainHeld
   pub top : PlainHeld
   pub is : es ≡ rest ++ top ∷ []
   pub beneath : EachBeneath p rest
-  pub stands : StandsAfter p a top
+  pub stands : EntryStands p a top

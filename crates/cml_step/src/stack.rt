@@ -13,7 +13,7 @@ ghost use Rattle.cml_step.specs.Steps as steps;
 ghost use Rattle.cml_step.specs.Steps.{PlainStep};
 ghost use Rattle.cml_step.specs.Calls.{text_of, entry_of, MovesTo, ActionAgrees};
 ghost use Rattle.cml_step.specs.Machines.{PlainHeld, force as plain_force, plain_held, held_entry};
-ghost use Rattle.cml_step.specs.Stacks.{entry_view, term_of, EntryFits, BeneathFits, EachBeneath, StackFits, IsStep, StepFits, CallFits, WrapsFit, IsDelivered, StandsAfter, Stands};
+ghost use Rattle.cml_step.specs.Stacks.{entry_view, term_of, EntryFits, BeneathFits, EachBeneath, StackFits, IsStep, StepFits, CallFits, WrapsFit, IsDelivered, EntryTopStands, TopStands};
 
 use crate::ask::Ask;
 use crate::call::{Action, Call, Wait, call_step, fill};
@@ -183,7 +183,7 @@ fn push_force(alloc: Global, program: &Prog, event: Event, stack: &mut Stack) ->
 #[inline(never)]
 fn leave(alloc: Global, program: &Prog, value: Value, stack: &mut Stack) -> Result<Ask, Stop>
     requires agrees { value_agrees (arities program.now) value ≡ true }
-    requires stands { Stands program.now (Action.Returns value) stack.old }
+    requires stands { TopStands program.now (Action.Returns value) stack.old }
     ensures meant { (hs : List PlainHeld) (h : PlainHeld) → stack.old ≡ hs ++ h ∷ [] →
         IsStep program.now result (steps.delivered value (term_of program.now hs)) stack.new }
     ensures fits { StepFits program.now result stack.new }
@@ -194,7 +194,7 @@ fn leave(alloc: Global, program: &Prog, value: Value, stack: &mut Stack) -> Resu
 
 // What comes of what the entry on top did.
 fn after(alloc: Global, program: &Prog, did: Action, stack: &mut Stack) -> Result<Ask, Stop>
-    requires stands { Stands program.now did stack.old }
+    requires stands { TopStands program.now did stack.old }
     requires did { ActionAgrees (arities program.now) (Ok did) }
     ensures meant { (hs : List PlainHeld) (h : PlainHeld) (step : PlainStep) →
         stack.old ≡ hs ++ h ∷ []
@@ -259,7 +259,7 @@ fn step_of_force(
     ensures moves { (self : ℕ) (below : Term) → length below + 1 ≡ entries →
         MovesTo program.now result (force forcing.now asked.new) below
         (steps.next (text_of program.now) self (force forcing.now asked.old ∷ below)) }
-    ensures stands { IfOk result (λ did. StandsAfter program.now did
+    ensures stands { IfOk result (λ did. EntryStands program.now did
         (plain_force forcing.now asked.new)) }
     ensures did { ActionAgrees (arities program.now) result }
 {
@@ -325,7 +325,7 @@ fn step_of_entry(
         MovesTo program.now result (entry_view program.now entry.new) below
         (steps.next (text_of program.now) thread.0
         (entry_view program.now entry.old ∷ below)) }
-    ensures stands { IfOk result (λ did. StandsAfter program.now did (plain_held entry.new)) }
+    ensures stands { IfOk result (λ did. EntryStands program.now did (plain_held entry.new)) }
     ensures did { ActionAgrees (arities program.now) result }
 {
     match entry {

@@ -6,7 +6,7 @@ use Rattle.cml_step.specs.Asks as ask
 use Rattle.cml_step.specs.AskViews.{plain_ask}
 use Rattle.cml_step.specs.Calls.{text_of, MovesTo, ActionAgrees}
 use Rattle.cml_step.specs.Machines.{held_entry}
-use Rattle.cml_step.specs.Stacks.{StandsAfter, term_of}
+use Rattle.cml_step.specs.Stacks.{EntryStands, term_of}
 use Rattle.cml_step.specs.Terms.{call_of, force}
 use Rattle.cml_step.proofs.StackLemmas.{stands_fits, stands_beneath, stands_on, stands_under}
 use Rattle.cml_step.proofs.stack.after.Goals as goal
@@ -15,13 +15,13 @@ pub push_force-requires-clause-beneath : goal.push_force-requires-clause-beneath
 push_force-requires-clause-beneath c =
     let p = c.args.program.now in
     let s = c.requires.stands in
-    stands_beneath p c.args.stack.now s.rest s.top s.is s.beneath (subst (λ (d : Action). StandsAfter p d s.top) c.in-Forces.is s.stands)
+    stands_beneath p c.args.stack.now s.rest s.top s.is s.beneath (subst (λ (d : Action). EntryStands p d s.top) c.in-Forces.is s.stands)
 
 pub push_call-requires-clause-beneath : goal.push_call-requires-clause-beneath
 push_call-requires-clause-beneath c =
     let p = c.args.program.now in
     let s = c.requires.stands in
-    stands_beneath p c.args.stack.now s.rest s.top s.is s.beneath (subst (λ (d : Action). StandsAfter p d s.top) c.in-Calls.is s.stands)
+    stands_beneath p c.args.stack.now s.rest s.top s.is s.beneath (subst (λ (d : Action). EntryStands p d s.top) c.in-Calls.is s.stands)
 
 pub returns-in-Goes-clause-meant : goal.returns-in-Goes-clause-meant
 returns-in-Goes-clause-meant c = λ hs h step e m.
@@ -32,7 +32,7 @@ pub returns-in-Goes-clause-fits : goal.returns-in-Goes-clause-fits
 returns-in-Goes-clause-fits c =
     let p = c.args.program.now in
     let s = c.requires.stands in
-    (stands_fits p c.args.stack.now s.rest s.top s.is s.beneath (subst (λ (d : Action). StandsAfter p d s.top) c.in-Goes.is s.stands), refl)
+    (stands_fits p c.args.stack.now s.rest s.top s.is s.beneath (subst (λ (d : Action). EntryStands p d s.top) c.in-Goes.is s.stands), refl)
 
 pub returns-in-Asks-clause-meant : goal.returns-in-Asks-clause-meant
 returns-in-Asks-clause-meant c = λ hs h step e m.
@@ -43,7 +43,7 @@ pub returns-in-Asks-clause-fits : goal.returns-in-Asks-clause-fits
 returns-in-Asks-clause-fits c =
     let p = c.args.program.now in
     let s = c.requires.stands in (
-      stands_fits p c.args.stack.now s.rest s.top s.is s.beneath (subst (λ (d : Action). StandsAfter p d s.top) c.in-Asks.is s.stands),
+      stands_fits p c.args.stack.now s.rest s.top s.is s.beneath (subst (λ (d : Action). EntryStands p d s.top) c.in-Asks.is s.stands),
       subst (λ (d : Action). ActionAgrees (arities p) (Ok d)) c.in-Asks.is c.requires.did,
     )
 
