@@ -11,7 +11,7 @@ use Rattle.cml_step.specs.AskViews.{plain_ask}
 use Rattle.cml_step.specs.Calls.{text_of}
 use Rattle.cml_step.specs.Machines.{PlainHeld, PlainMachine, machine_term, Fits}
 use Rattle.cml_step.specs.Rans.{IsSlice}
-use Rattle.cml_step.specs.Slices.{PlainSlice, max_steps, sliced}
+use Rattle.cml_step.specs.Slices.{max_steps, sliced}
 use Rattle.cml_step.specs.Stacks.{StackFits, term_of}
 use Rattle.cml_step.proofs.AwaitLemmas.{sliced_waits}
 use Rattle.cml_step.proofs.ShortLemmas.{sliced_short, short_few}

@@ -3,7 +3,7 @@
 ghost use Rattle.std.specs.Prelude.{◌≡◌, ℕ, List, [], ◌∷◌, true, IfOk, IfErr, OnErr, ◌↔◌, IsTrue};
 ghost use Rattle.cml_check.specs.Syntax.{PlainItem};
 ghost use Rattle.cml_check.specs.InOrder.{InOrder, arities};
-ghost use Rattle.cml_step.specs.Agrees.{answer_agrees, function_agrees, value_agrees};
+ghost use Rattle.cml_step.specs.Agrees.{answer_agrees, function_agrees};
 ghost use Rattle.cml_step.specs.Answers as answers;
 ghost use Rattle.cml_step.specs.Answers.{top_await, after_answer as plain_answered};
 ghost use Rattle.cml_step.specs.AnswerViews.{plain_answer, Awaits, IsNack};

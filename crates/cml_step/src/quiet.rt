@@ -1,6 +1,6 @@
 //! Steps that only set variables and choose places.
 
-ghost use Rattle.std.specs.Prelude.{◌≡◌, ◌≤◌, ℕ, ◌∷◌, length, true, false, IfOk};
+ghost use Rattle.std.specs.Prelude.{◌≡◌, ◌≤◌, ℕ, ◌∷◌, length, true, false};
 ghost use Rattle.cml_check.specs.InOrder.{FunctionFits, arities};
 ghost use Rattle.cml_check.specs.Layout.{left};
 ghost use Rattle.cml_check.specs.Follows.{Follows, instr_fits};

@@ -1,7 +1,6 @@
-use Rattle.std.proofs.Common.{ap, sym, ◌∙◌, subst, refl, ◌++◌, ◌∷◌, []}
+use Rattle.std.proofs.Common.{ap, sym, ◌∙◌, subst, refl}
 use Rattle.cml_step.specs.declared.entry.Entry.TheVariants as entry
 use Rattle.cml_step.specs.declared.entry.Wraps.{Wraps}
-use Rattle.cml_step.specs.Answers as await
 use Rattle.cml_step.specs.Answers.{top_await, after_answer}
 use Rattle.cml_step.specs.Asks.{a_commit}
 use Rattle.cml_step.specs.Calls.{text_of}
