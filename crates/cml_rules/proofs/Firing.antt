@@ -10,7 +10,7 @@ use Rattle.cml_book.specs.Keeping.{NacksLive, lives}
 use Rattle.cml_book.proofs.NackLemmas.{nacks-resume, with_each-other, with_each-named, lives-live, lives-le}
 use Rattle.cml_rules.specs.Rules.{Sequel, branches, Offers, Waits, Synchronizes, alone, together}
 use Rattle.cml_rules.specs.Laws.{Step}
-use Rattle.cml_rules.specs.Firing.{parties, FiresBy, NacksSettle}
+use Rattle.cml_rules.specs.Firing.{those_in, FiresBy, NacksSettle}
 use Rattle.cml_rules.proofs.Derivations.{below}
 use Rattle.cml_rules.proofs.Losing.{branches_are}
 use Rattle.cml_rules.proofs.Committing.{alone_nacks}
@@ -87,7 +87,7 @@ any_first P x xs h = (0, x, omega arith, refl, h)
 any_second : {X : Type 0} (P : X → Type 0) (x y : X) (xs : List X) → P y → Any P (x ∷ y ∷ xs)
 any_second P x y xs h = (1, y, omega arith, refl, h)
 
-step_fires : {w w' : PlainWorld} {c : Committed} → NacksLive w → (d : Synchronizes w w' c) (k : ℕ) → slice_get w'.nacks k ≡ Some fired → (slice_get w.nacks k ≡ Some fired) ⊎ Any (FiresBy w k) (parties d)
+step_fires : {w w' : PlainWorld} {c : Committed} → NacksLive w → (d : Synchronizes w w' c) (k : ℕ) → slice_get w'.nacks k ≡ Some fired → (slice_get w.nacks k ≡ Some fired) ⊎ Any (FiresBy w k) (those_in d)
 step_fires {w = w} n (alone t g b s v w' p d h) k e =
     ⊎_elim
     (λ named. inr (any_first (FiresBy w k) _ [] (fires_by w n t k g b s d p named)))

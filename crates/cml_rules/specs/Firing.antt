@@ -48,9 +48,9 @@ pub record Party : Type 0 where
   pub offer : Derivation group
 
 -- those who go on in a step
-abbrev pub parties : {w next : PlainWorld} {gives : Committed} → Synchronizes w next gives → List Party
-parties (alone t g b s v w' p d h) = record { thread = t; group = g; offer = record { base = b; sequel = s; derivation = d } } ∷ []
-parties (together t u g h a b r s x y p q d e m) =
+abbrev pub those_in : {w next : PlainWorld} {gives : Committed} → Synchronizes w next gives → List Party
+those_in (alone t g b s v w' p d h) = record { thread = t; group = g; offer = record { base = b; sequel = s; derivation = d } } ∷ []
+those_in (together t u g h a b r s x y p q d e m) =
     record { thread = t; group = g; offer = record { base = a; sequel = r; derivation = d } }
     ∷ record { thread = u; group = h; offer = record { base = b; sequel = s; derivation = e } }
     ∷ []
@@ -64,6 +64,6 @@ pub record FiresBy (w : PlainWorld) (k : ℕ) (p : Party) : Type 0 where
 
 -- A nack has fired after a step only if it had fired before, or fires by a party of the step; and what has fired, or is held, stays so.
 pub record NacksSettle (w : PlainWorld) (s : Step w) : Type 0 where
-  pub fires : (k : ℕ) → slice_get s.next.nacks k ≡ Some fired → (slice_get w.nacks k ≡ Some fired) ⊎ Any (FiresBy w k) (parties s.derivation)
+  pub fires : (k : ℕ) → slice_get s.next.nacks k ≡ Some fired → (slice_get w.nacks k ≡ Some fired) ⊎ Any (FiresBy w k) (those_in s.derivation)
   pub stays_fired : (k : ℕ) → slice_get w.nacks k ≡ Some fired → slice_get s.next.nacks k ≡ Some fired
   pub stays_held : (k : ℕ) → slice_get w.nacks k ≡ Some held → slice_get s.next.nacks k ≡ Some held
