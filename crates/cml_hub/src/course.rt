@@ -21,7 +21,7 @@ use crate::done::Gone;
 use crate::perform::{Threads, prepare};
 use crate::pick::pick_row;
 use crate::settle::{resume_all, settle};
-use crate::turn::take_turn;
+use crate::turn::{Taken, take_turn};
 use cml_book::{Book, Fault};
 use cml_check::Prog;
 use cml_index::OfferIndex;
@@ -253,11 +253,16 @@ impl Course {
             &mut self.machines[thread.0 as usize],
             &mut self.spare,
         )?;
-        let gone = taken.prepared.done.gone();
-        tell(&mut self.output, taken.prepared.line.as_str());
-        settle(&mut self.machines, thread, taken.prepared.done);
+        let Taken {
+            ask: _ask,
+            steps,
+            prepared,
+        } = taken;
+        let gone = prepared.done.gone();
+        tell(&mut self.output, prepared.line.as_str());
+        settle(&mut self.machines, thread, prepared.done);
         self.items.push_reserved(Item::Turn(thread));
-        self.used += u128::from(taken.steps);
+        self.used += u128::from(steps);
         Ok(gone)
     }
 

@@ -4,8 +4,8 @@ use Rattle.cml_hub.proofs.MarkLemmas.{got_is}
 use Rattle.cml_hub.proofs.Settled.{none_begins, one_begins, settled_at}
 use Rattle.cml_hub.proofs.settle.settle.Goals as goal
 
-pub settle_machine-requires : goal.settle_machine-requires
-settle_machine-requires c =
+pub settle_machine-child-requires : goal.settle_machine-child-requires
+settle_machine-child-requires c =
     let ms = c.args.machines.now.items in
     let t = c.args.thread.0 in
     c.requires.settles c.index_mut.result.now (got_is ms t c.index_mut.result.now c.index_mut.result.now c.requires.there c.index_mut.ensures.value)

@@ -70,7 +70,7 @@ index_mut-requires c =
     let own = ours_own k ran c.self.invariant ours in
     let e : c.thread-thread.result.0 ≡ ran.start.thread = c.thread-thread.ensures ∙ ap (λ m. m.thread) c.start.ensures in
     let lt : c.thread-thread.result.0 < length ms = omega (arith, e, machine_within k ran.start.thread c.self.invariant own.running, ap length c.reserve-2.ensures.items) in
-    lt
+    omega (arith, lt)
 
 pub invariant_of-self-2 : goal.invariant_of-self-2
 invariant_of-self-2 c =
