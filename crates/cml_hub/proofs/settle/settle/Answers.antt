@@ -1,4 +1,4 @@
-use Rattle.std.proofs.Common.{arith, sym, ◌∙◌, ◌<◌, length}
+use Rattle.std.proofs.Common.{◌∙◌}
 use Rattle.std.specs.Prelude.{slice_set}
 use Rattle.cml_hub.proofs.MarkLemmas.{got_is}
 use Rattle.cml_hub.proofs.Settled.{none_begins, one_begins, settled_at}

@@ -1,5 +1,4 @@
 use Rattle.std.proofs.Common.{arith, ap, sym, ◌∙◌, ◌≡◌, ◌+◌, ◌<◌, List, length, [], ◌∷◌, ◌++◌, subst, length-set}
-use Rattle.std.specs.Prelude.{slice_get, slice_set, Some}
 use Rattle.std.specs.String.{string_bytes}
 use Rattle.cml_schedule.specs.Laws.{IsNumber}
 use Rattle.cml_schedule.specs.declared.item.Item.TheVariants.{Turn}

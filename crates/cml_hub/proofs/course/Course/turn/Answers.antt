@@ -1,5 +1,5 @@
-use Rattle.std.proofs.Common.{arith, ap, sym, ◌∙◌, ◌≡◌, ◌+◌, ◌<◌, List, length, [], ◌∷◌, ◌++◌, subst, length-set}
-use Rattle.std.specs.Prelude.{slice_get, slice_set, Some}
+use Rattle.std.proofs.Common.{arith, ap, ◌∙◌, ◌≡◌, ◌+◌, ◌<◌, List, length, [], ◌∷◌, ◌++◌, subst, length-set}
+use Rattle.std.specs.Prelude.{slice_get, Some}
 use Rattle.std.specs.String.{string_bytes}
 use Rattle.cml_scan.specs.World.{running}
 use Rattle.cml_step.specs.AskViews.{plain_ask}
@@ -7,7 +7,7 @@ use Rattle.cml_step.specs.Machines.{PlainMachine}
 use Rattle.cml_schedule.specs.Laws.{IsNumber}
 use Rattle.cml_schedule.specs.declared.item.Item.TheVariants.{Turn}
 use Rattle.cml_hub.specs.Dones.{CanSettle}
-use Rattle.cml_hub.specs.Courses.{PlainCourse, HasMachine}
+use Rattle.cml_hub.specs.Courses.{PlainCourse}
 use Rattle.cml_hub.proofs.Ours.{machine_within, machine_at, machine_keeps, machine_goes}
 use Rattle.cml_hub.proofs.Settled.{set_there, settled_over}
 use Rattle.cml_hub.proofs.Turning.{can_settle, TurnDone, turned_leads_at, turned_is}
