@@ -109,7 +109,7 @@ meet_other : {t u : ℕ} {a b : PlainBase} {x y : PlainValue} → Communicate t 
 meet_other (sends c v h) = refl
 meet_other (swaps s x y h) = refl
 
-after_is : {w w' : PlainWorld} {c : Committed} (d : Synchronizes w w' c) → after w (row_of d) ≡ w'
+pub after_is : {w w' : PlainWorld} {c : Committed} (d : Synchronizes w w' c) → after w (row_of d) ≡ w'
 after_is {w = w} (alone t g b s v w' p d h) =
     let q : Waits w' t g = ap (λ ts. slice_get ts t) (alone_threads h) ∙ p in
     ap (λ x. released (taken w x) t (ends_at d)) (base_is w t d p) ∙ ap (λ x. released x t (ends_at d)) (alone_taken h) ∙ released_is w' t d q
@@ -117,7 +117,7 @@ after_is {w = w} (together t u g h a b r s x y p q d e m) =
     let k : Waits (went_on w t g r) u h = get-set_other w.threads t u running (meet_differ m) ∙ q in
     ap (λ x. released x u (ends_at e)) (released_is w t d p) ∙ released_is (went_on w t g r) u e k
 
-hands_is : {w w' : PlainWorld} {c : Committed} (d : Synchronizes w w' c) → hands w (row_of d) ≡ c
+pub hands_is : {w w' : PlainWorld} {c : Committed} (d : Synchronizes w w' c) → hands w (row_of d) ≡ c
 hands_is {w = w} (alone t g b s v w' p d h) =
     ap (λ r. record { head = r; partner = None }) (resume_is w t d (given w (base_awaited w t (ends_at d))) v p (ap (given w) (base_is w t d p) ∙ alone_given h))
 hands_is {w = w} (together t u g h a b r s x y p q d e m) =

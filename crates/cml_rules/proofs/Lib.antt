@@ -10,3 +10,4 @@ pub mod Firing
 pub mod Following
 pub mod Quiet
 pub mod Running
+pub mod Taking

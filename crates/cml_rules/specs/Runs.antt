@@ -4,7 +4,7 @@ use Rattle.cml_value.specs.Value.{PlainBase, PlainValue}
 use Rattle.cml_scan.specs.World.{PlainWorld}
 use Rattle.cml_scan.specs.declared.meet.Meet.{Meet}
 use Rattle.cml_schedule.specs.declared.item.Item.{Item}
-use Rattle.cml_schedule.specs.declared.item.Item.TheVariants.{Exchange, Clock}
+use Rattle.cml_schedule.specs.declared.item.Item.TheVariants.{Meet as Commit, Exchange, Clock}
 use Rattle.cml_step.specs.Terms.{Program}
 use Rattle.cml_book.specs.declared.command.Committed.{Committed}
 use Rattle.cml_hub.specs.Runs.{Run, stands, all_resumed, terminal}
@@ -40,6 +40,16 @@ pub record TakesStep (p : Program) (before : List Item) (item : Item) (row : Mee
 -- Each commit and each exchange of a schedule that can be followed takes a step of the rules.
 abbrev pub RunsTakeSteps : Type 0
 RunsTakeSteps = (p : Program) (before after : List Item) (item : Item) (row : Meet) (end : Run) → TakesRow item row → stands p (before ++ item ∷ after) ≡ Some end → TakesStep p before item row
+
+-- A run can take each step that the rules allow where it stands, and then stands in the world after the step.
+pub record CanTake (p : Program) (items : List Item) (now : Run) (s : Step now.world) : Type 0 where
+  pub next : Run
+  pub stands_next : stands p (items ++ Commit (row_of s.derivation) ∷ []) ≡ Some next
+  pub world : next.world ≡ s.next
+  pub goes_on : next.terms ≡ all_resumed p now.terms s.gives
+
+abbrev pub StepsCanBeTaken : Type 0
+StepsCanBeTaken = (p : Program) (items : List Item) (now : Run) → stands p items ≡ Some now → (s : Step now.world) → CanTake p items now s
 
 -- The clock moves in a schedule that can be followed only where the rules allow no step.
 abbrev pub TimeWaits : Type 0

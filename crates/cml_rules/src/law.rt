@@ -8,7 +8,7 @@ ghost use Rattle.cml_book.specs.Keeping.{NacksLive};
 ghost use Rattle.cml_rules.specs.Rules.{Sequel, Offers};
 ghost use Rattle.cml_rules.specs.Laws.{Step, OffersAreLeaves, StepsAreRows, StepsAreCommits};
 ghost use Rattle.cml_rules.specs.Firing.{AreTwoThreads, TakesOne, FiresOutside, NacksSettle};
-ghost use Rattle.cml_rules.specs.Runs.{RunsTakeSteps, TimeWaits, TheEndIsStill};
+ghost use Rattle.cml_rules.specs.Runs.{RunsTakeSteps, StepsCanBeTaken, TimeWaits, TheEndIsStill};
 
 /// What the rules let a group offer are its leaves, each once, with the functions and the nacks of the leaf.
 pub fn offers_are_leaves()
@@ -51,6 +51,11 @@ pub fn nacks_fire_once()
 /// is one of two threads that swap.
 pub fn runs_take_steps()
     ensures { RunsTakeSteps }
+{}
+
+/// A run can take each step that the rules allow where it stands, by a commit of the step's row.
+pub fn steps_can_be_taken()
+    ensures { StepsCanBeTaken }
 {}
 
 /// The time moves only where the rules allow no step, and where nothing is left to do they allow none.
