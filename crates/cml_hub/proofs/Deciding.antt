@@ -1,22 +1,20 @@
 -- What the tests of a hub decide, and what is handed out.
 use Rattle.std.proofs.Common.{◌≡◌, ℕ, Bool, true, false, not, ◌&&◌, List, [], refl, arith, Some, None, sym, ap, ◌∙◌, subst}
-use Rattle.std.specs.Prelude.{Option, Result, Ok, Err, OnOk, OnErr, ◌==◌, slice_get, slice_set}
+use Rattle.std.specs.Prelude.{Option, Result, Ok, Err, OnOk, OnErr, ◌==◌}
 use Rattle.std.specs.List.{list_any}
 use Rattle.std.specs.Option.{is_some}
 use Rattle.std.proofs.lemmas.Bool.Decides.{nat_tests}
-use Rattle.cml_scan.specs.World.{PlainWorld, PlainThread, running}
+use Rattle.cml_scan.specs.World.{PlainWorld, PlainThread}
 use Rattle.cml_scan.specs.Scan.{scan}
 use Rattle.cml_scan.specs.declared.meet.Meet.{Meet}
 use Rattle.cml_book.specs.Walks.{runs}
-use Rattle.cml_monitor.specs.Reports.{PlainReport}
 use Rattle.cml_schedule.specs.declared.item.Item.{Item}
 use Rattle.cml_schedule.specs.declared.item.Item.TheVariants.{Clock}
 use Rattle.cml_hub.specs.declared.marks.Mark.{Mark}
-use Rattle.cml_hub.specs.declared.marks.Mark.TheVariants.{Ready, Out}
 use Rattle.cml_hub.specs.Marks.{is_here}
 use Rattle.cml_hub.specs.Runs.{any_runs, is_empty, has_number, is_none, next_alarm, is_allowed, terminal}
-use Rattle.cml_hub.specs.Courses.{PlainCourse, Adds}
-use Rattle.cml_hub.specs.Kept.{Kept, Stands, Placed}
+use Rattle.cml_hub.specs.Courses.{Adds}
+use Rattle.cml_hub.specs.Kept.{Kept, Placed}
 use Rattle.cml_hub.specs.Moves.{AddsItem, Reported}
 use Rattle.cml_hub.proofs.Marking.{placed_any}
 

@@ -2,7 +2,6 @@
 use Rattle.std.proofs.Common.{◌≡◌, ℕ, zero, suc, ◌+◌, ◌<◌, ◌≤◌, Bool, true, false, nat_eq, List, [], ◌∷◌, ◌++◌, length, refl, ap, sym, subst, ◌∙◌, arith, Option, Some, None, length-set, length-append, append_assoc, add-one}
 use Rattle.std.specs.Prelude.{slice_get, slice_set, option_and_then, unwrap_or}
 use Rattle.std.specs.Option.{option_map_or}
-use Rattle.std.proofs.lemmas.List.{append-nil}
 use Rattle.std.proofs.lemmas.Bool.Decides.{nat_tests}
 use Rattle.cml_value.specs.declared.number.Tid.{Tid}
 use Rattle.cml_scan.specs.World.{PlainThread, running, PlainWorld}
@@ -19,10 +18,10 @@ use Rattle.cml_hub.specs.declared.done.Gone.TheVariants as gone_of
 use Rattle.cml_hub.specs.Marks.{left_by, those_out}
 use Rattle.cml_hub.specs.Runs.{Run, opening, stands, advance, next_alarm, over}
 use Rattle.cml_hub.specs.Dones.{ThreadsAfter}
-use Rattle.cml_hub.specs.Courses.{PlainCourse, run_of, Adds}
+use Rattle.cml_hub.specs.Courses.{PlainCourse, run_of}
 use Rattle.cml_hub.specs.Kept.{Kept, Continues, is_out_of}
 use Rattle.cml_hub.specs.Moves.{lines_up, AddsItem, Reported, CalledBack}
-use Rattle.cml_hub.specs.Playing.{Rules, Played, picked, spent, taking, parties, begun_between, ready_after, adds, moved_by, next_by, played, playing, called_back, GoesBy, MovesBy, PlaysOut, PlaysOn, BeginsRun}
+use Rattle.cml_hub.specs.Playing.{Rules, Played, picked, spent, taking, parties, ready_after, adds, moved_by, next_by, played, playing, called_back, GoesBy, MovesBy, PlaysOut, PlaysOn, BeginsRun}
 use Rattle.cml_hub.proofs.Queueing.{left_first}
 
 -- who is ready after a turn, by what became of the thread and by the worlds

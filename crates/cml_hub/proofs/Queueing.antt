@@ -1,5 +1,5 @@
 -- The order of the queue.
-use Rattle.std.proofs.Common.{◌≡◌, ℕ, zero, suc, ◌+◌, ◌<◌, Bool, true, false, nat_eq, List, [], ◌∷◌, ◌++◌, length, map, take, refl, arith, Some, None, sym, ap, subst, ◌∙◌, slice_index_or, append_assoc, add-zero}
+use Rattle.std.proofs.Common.{◌≡◌, ℕ, zero, suc, ◌+◌, ◌<◌, Bool, true, false, nat_eq, List, [], ◌∷◌, ◌++◌, length, map, take, refl, arith, Some, sym, ap, subst, ◌∙◌, slice_index_or, add-zero}
 use Rattle.std.specs.Prelude.{slice_get, Option, OnSome, IsSome}
 use Rattle.std.specs.List.{remove}
 use Rattle.std.proofs.lemmas.Bool.Decides.{nat_tests}
