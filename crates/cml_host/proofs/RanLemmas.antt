@@ -30,8 +30,8 @@ use Rattle.cml_host.specs.Running.{HasEnded, record_name, IsRecorded, RecordBrok
 use Rattle.cml_host.specs.Said.{RefusalRan}
 use Rattle.cml_host.specs.Scripts.{IsOpened, IsNotOpened, NoScriptRan}
 use Rattle.cml_host.specs.Stores.{Content, Shelf, IsReplacedBy, IsSaved, IsUnchanged}
-use Rattle.cml_host.specs.Told.{IsRunOf, AllReported, reports_text, whole_output, end_status, IsTold, IsNotTold, OutputNotTold, IsCutOff, IsLiveCutOff, IsForeign}
-use Rattle.cml_host.proofs.TellLemmas.{says_behind, reports_broke, cut_behind, output_behind, told_behind, live_cut_behind}
+use Rattle.cml_host.specs.Told.{IsRunOf, AllReported, reports_text, whole_output, end_status, IsTold, IsNotTold, OutputNotTold, IsCutOff, IsForeign}
+use Rattle.cml_host.proofs.TellLemmas.{says_behind, reports_broke, cut_behind, output_behind, told_behind}
 
 -- the hub's run is one of this program
 run_is : (p : List (PlainItem ℕ)) (watch : Option ℕ) (items : List Item) (h : Kept) → h.course.program ≡ p → h.watch ≡ watch → h.course.items ≡ items →
@@ -210,18 +210,13 @@ ended_ran p options begun h output errors store status begins leads plays worked
 stop_behind : (options : RunOptions) (h : Kept) (why : Cause) (a b d : Option (List ℕ)) (output : Counted) (calls failed status : ℕ) →
     AreToldBy options h why (stream a b) → StopRan h why output (counted_stream b d calls failed) status →
     IsCutOff h.reports h.course.output output (counted_stream a d calls failed) status
-    ⊎ (ReportsAreLive options × (IsLiveCutOff h.course.output output (counted_stream a d calls failed) status
-    ⊎ IsForeign h.reports output (counted_stream a d calls failed) status))
-stop_behind options h cause.Memory a b d output calls failed status (inl before) stopped =
+    ⊎ (ReportsAreLive options × IsForeign h.reports output (counted_stream a d calls failed) status)
+stop_behind options h cause.Memory a b d output calls failed status before stopped =
     inl (cut_behind a b d h.reports h.course.output output calls failed status before stopped)
-stop_behind options h cause.Memory a b d output calls failed status (inr live) stopped =
-    inr (live.0, inl (live_cut_behind a b d live.1.0 h.course.output output calls failed status live.1.1 stopped))
-stop_behind options h cause.Write a b d output calls failed status (inl part) stopped =
+stop_behind options h cause.Write a b d output calls failed status part stopped =
     inl (inl (reports_broke a b d h.reports output calls failed status part stopped.0 stopped.1 stopped.2))
-stop_behind options h cause.Write a b d output calls failed status (inr live) stopped =
-    inr (live.0, inl (live.1.0, inl (reports_broke a b d live.1.0 output calls failed status live.1.1 stopped.0 stopped.1 stopped.2)))
 stop_behind options h cause.Foreign a b d output calls failed status live stopped =
-    inr (live.0, inr (live.1.0, live.1.1, says_behind a b d calls failed (reports_text live.1.0) _ live.1.2 stopped.0, stopped.1, stopped.2))
+    inr (live.0, (live.1.0, live.1.1, live.1.2, says_behind a b d calls failed (reports_text live.1.0) _ live.1.3 stopped.0, stopped.1, stopped.2))
 
 pub stopped_ran : (p : List (PlainItem ℕ)) (options : RunOptions) (begun : Kept) (stopped : Stopped) (a b d : Option (List ℕ)) (output : Counted)
     (before broke calls failed : ℕ) (store : Shelf) (status : ℕ) → IsAtStart p options.steps options.watch begun →
@@ -241,15 +236,13 @@ stopped_ran p options begun stopped a b d output before broke calls failed store
     )
   where
     go : IsCutOff stopped.hub.reports stopped.hub.course.output output (counted_stream a d calls failed) status
-        ⊎ (ReportsAreLive options × (IsLiveCutOff stopped.hub.course.output output (counted_stream a d calls failed) status
-        ⊎ IsForeign stopped.hub.reports output (counted_stream a d calls failed) status)) →
+        ⊎ (ReportsAreLive options × IsForeign stopped.hub.reports output (counted_stream a d calls failed) status) →
         (HasEnded options.steps options.watch stopped.hub.course.items stopped.hub.reports (run_of stopped.hub.course)
         × EndRan (record_name options) (schedule_text options.steps (size_of p) stopped.hub.course.items) stopped.hub.reports options.steps
         (run_of stopped.hub.course) output (counted_stream a d calls failed) store status
         × (options.workers ≡ 1 → IsChosen p options.steps options.seed stopped.hub.course.items (run_of stopped.hub.course)))
         ⊎ (IsCutOff stopped.hub.reports stopped.hub.course.output output (counted_stream a d calls failed) status × IsUnchanged store.before store.after)
-        ⊎ (ReportsAreLive options × (IsLiveCutOff stopped.hub.course.output output (counted_stream a d calls failed) status
-        ⊎ IsForeign stopped.hub.reports output (counted_stream a d calls failed) status) × IsUnchanged store.before store.after)
+        ⊎ (ReportsAreLive options × IsForeign stopped.hub.reports output (counted_stream a d calls failed) status × IsUnchanged store.before store.after)
     go (inl cut) = inr (inl (cut, same))
     go (inr live) = inr (inr (live.0, live.1, same))
 

@@ -4,6 +4,7 @@ use Rattle.std.proofs.lemmas.List.{take-append-drop}
 use Rattle.cml_stream.specs.Counts.{Calls, counted}
 use Rattle.cml_stream.specs.Streams.{Stream, stream, Takes, TakesStart, Says}
 use Rattle.cml_stream.specs.declared.input_output.WriteFault.{WriteFault}
+use Rattle.cml_work.specs.Seen.{IsSentOut, failed_with}
 use Rattle.cml_host.specs.Told.{SaysStill, IsSentText}
 use Rattle.cml_host.proofs.TellLemmas.{start_behind}
 
@@ -20,13 +21,11 @@ said_of (Ok a) output text calls was failed none whole part fine broken = inl (w
 said_of (Err e) output text calls was failed none whole part fine broken =
     inr (start_taken output text part.0 part.1, broken ∙ ap counted none)
 
--- the same by its result
+-- the writing of a text ended so, where none had failed before
 pub sent_of : (r : Result (Unit {0}) WriteFault) (output : Stream) (text : List ℕ) (calls was failed : ℕ) → was ≡ 0 →
-    OnOk r (Takes output text) → OnErr r ((n : ℕ) × Takes output (take n text)) →
-    OnOk r (failed ≡ was) → OnErr r (failed ≡ counted was) →
-    IsSentText text r (record { bytes = output; counts = record { calls = calls; failed = failed } })
-sent_of (Ok done) output text calls was failed none whole part fine broken = (whole, fine ∙ none)
-sent_of (Err fault) output text calls was failed none whole part fine broken = (start_taken output text part.0 part.1, broken ∙ ap counted none)
+    IsSentOut text r output → failed ≡ failed_with r was → IsSentText text r (record { bytes = output; counts = record { calls = calls; failed = failed } })
+sent_of (Ok done) output text calls was failed none sent is = (sent, is ∙ none)
+sent_of (Err fault) output text calls was failed none sent is = (sent, is ∙ ap counted none)
 
 -- the same after a write that failed
 pub said_still : {A B : Type 0} (r : Result A B) (output : Stream) (text : List ℕ) (calls was failed : ℕ) → was ≡ 1 →

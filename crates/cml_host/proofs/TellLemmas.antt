@@ -1,16 +1,12 @@
 -- What was written of several texts, one after another.
-use Rattle.std.proofs.Common.{◌≡◌, ◌∙◌, ◌⊎◌, ◌+◌, ◌<◌, ℕ, List, [], ◌∷◌, ◌++◌, Option, Result, Ok, Err, take, drop, length, get_or, sym, ap, subst, inl, inr, append_assoc, append-nil}
-use Rattle.std.specs.List.{flat_map}
+use Rattle.std.proofs.Common.{◌≡◌, ◌∙◌, ◌⊎◌, ℕ, List, [], ◌++◌, Option, length, sym, ap, subst, inl, inr, append_assoc, append-nil}
 use Rattle.std.proofs.KnownBytes.{Appends-trans}
-use Rattle.std.proofs.lemmas.Grind.{flat_map-append}
-use Rattle.std.proofs.lemmas.List.{take-append-drop, take_more}
 use Rattle.cml_hub.specs.declared.fault.End.{End}
 use Rattle.cml_hub.specs.Runs.{Run, ending}
 use Rattle.cml_monitor.specs.Reports.{PlainReport}
 use Rattle.cml_scan.specs.World.{pending}
 use Rattle.cml_stream.specs.Streams.{Counted, stream, counted_stream, Takes, TakesStart, Says, IsIdle}
-use Rattle.cml_stream.specs.declared.input_output.WriteFault.{WriteFault}
-use Rattle.cml_host.specs.Told.{reports_text, end_line, whole_output, cannot_write, SaysStill, Breaks, ReportsBroke, MemoryBroke, OutputBroke, OutputNotTold, IsTold, IsNotTold, IsCutOff, IsLiveCutOff, IsSentText}
+use Rattle.cml_host.specs.Told.{reports_text, end_line, whole_output, cannot_write, SaysStill, Breaks, ReportsBroke, MemoryBroke, OutputBroke, OutputNotTold, IsTold, IsNotTold, IsCutOff}
 
 -- a text, and then a prefix of one more
 pub start_behind : (a b c : Option (List ℕ)) (text more : List ℕ) →
@@ -40,48 +36,6 @@ breaks_behind a b c calls failed text told part (inl whole) =
     (part.0, part.1, part.2, inl (Appends-trans a b c part.0 told part.3 whole.0, whole.1))
 breaks_behind a b c calls failed text told part (inr said) =
     (part.0, part.1, part.2, inr (said.0, said.1, said.2, Appends-trans a b c part.0 said.0 part.3 said.3, said.4))
-
--- a text, and then how the writing of another ended
-pub sent_behind : (a b c : Option (List ℕ)) (calls failed : ℕ) (text more : List ℕ) (ended : Result (Unit {0}) WriteFault) →
-    Takes (stream a b) text → IsSentText more ended (counted_stream b c calls failed) → IsSentText (text ++ more) ended (counted_stream a c calls failed)
-sent_behind a b c calls failed text more (Ok done) first then = (Appends-trans a b c text more first then.0, then.1)
-sent_behind a b c calls failed text more (Err fault) first then = (start_behind a b c text more first then.0, then.1)
-
--- where the writing of a text failed, so did that of the text with more after it
-pub sent_more : (a b : Option (List ℕ)) (calls failed : ℕ) (text more : List ℕ) (fault : WriteFault) →
-    IsSentText text (Err fault) (counted_stream a b calls failed) → IsSentText (text ++ more) (Err fault) (counted_stream a b calls failed)
-sent_more a b calls failed text more fault sent = (start_more a b text more sent.0, sent.1)
-
-lines_split : {A : Type 0} (f : A → List ℕ) (xs : List A) (i : ℕ) (d : A) → i < length xs →
-    flat_map f (take (i + 1) xs) ≡ flat_map f (take i xs) ++ f (get_or xs i d)
-lines_split f xs i d there =
-    ap (flat_map f) (take_more xs i d there)
-    ∙ flat_map-append f (take i xs) (get_or xs i d ∷ [])
-    ∙ ap (λ (ts : List ℕ). flat_map f (take i xs) ++ ts) (append-nil (f (get_or xs i d)))
-
--- the lines up to one, and then that one
-pub lines_behind : {A : Type 0} (f : A → List ℕ) (a b c : Option (List ℕ)) (xs : List A) (i : ℕ) (d : A) (text : List ℕ) →
-    i < length xs → text ≡ f (get_or xs i d) →
-    Takes (stream a b) (flat_map f (take i xs)) → Takes (stream b c) text →
-    Takes (stream a c) (flat_map f (take (i + 1) xs))
-lines_behind f a b c xs i d text there same before then =
-    subst (λ (ts : List ℕ). Takes (stream a c) ts) (ap (λ (ts : List ℕ). flat_map f (take i xs) ++ ts) same ∙ sym (lines_split f xs i d there))
-    (Appends-trans a b c _ _ before then)
-
--- the lines up to one, of which a write failed
-pub lines_ended : {A : Type 0} (f : A → List ℕ) (a b c : Option (List ℕ)) (xs : List A) (i : ℕ) (d : A) (text : List ℕ) (fault : WriteFault) (calls failed : ℕ) →
-    i < length xs → text ≡ f (get_or xs i d) →
-    Takes (stream a b) (flat_map f (take i xs)) → IsSentText text (Err fault) (counted_stream b c calls failed) →
-    IsSentText (flat_map f xs) (Err fault) (counted_stream a c calls failed)
-lines_ended f a b c xs i d text fault calls failed there same before sent = (
-  subst (λ (ts : List ℕ). TakesStart (stream a c) ts)
-      (sym (flat_map-append f (take (i + 1) xs) (drop (i + 1) xs)) ∙ ap (flat_map f) (take-append-drop (i + 1) xs))
-      (start_more a c (flat_map f (take (i + 1) xs)) (flat_map f (drop (i + 1) xs))
-      (subst (λ (ts : List ℕ). TakesStart (stream a c) ts)
-      (ap (λ (ts : List ℕ). flat_map f (take i xs) ++ ts) same ∙ sym (lines_split f xs i d there))
-      (start_behind a b c _ _ before sent.0))),
-  sent.1,
-)
 
 -- a line that tells of a write that failed, after reports of which one was written in part
 pub reports_broke : (a b c : Option (List ℕ)) (reports : List PlainReport) (output : Counted) (calls failed status : ℕ) →
@@ -121,18 +75,6 @@ pub told_behind : (a b c : Option (List ℕ)) (reports : List PlainReport) (text
     IsTold reports text output (counted_stream a c calls failed)
 told_behind a b c reports text output calls failed before told =
     (subst (λ (ts : List ℕ). Takes (stream a c) ts) (append-nil (reports_text reports)) (Appends-trans a b c (reports_text reports) [] before told.0), told.1, told.2, told.3)
-
--- ---- reports that were written while the program ran
-
--- a prefix of some reports, and then how it is told that the output could not be
-pub live_cut_behind : (a b c : Option (List ℕ)) (seen : List PlainReport) (text : List ℕ) (output : Counted) (calls failed status : ℕ) →
-    TakesStart (stream a b) (reports_text seen) →
-    MemoryBroke [] text output (counted_stream b c calls failed) status ⊎ OutputBroke [] text output (counted_stream b c calls failed) status →
-    IsLiveCutOff text output (counted_stream a c calls failed) status
-live_cut_behind a b c seen text output calls failed status part (inl broke) =
-    (seen, inr (part.0, part.1, part.2, inl (broke.0, broke.1, says_behind a b c calls failed part.0 _ part.3 broke.2, broke.3)))
-live_cut_behind a b c seen text output calls failed status part (inr broke) =
-    (seen, inr (part.0, part.1, part.2, inr (broke.0, broke.1, says_behind a b c calls failed part.0 _ part.3 broke.2, broke.3)))
 
 -- the output with the end line
 pub whole_is : (out told : List ℕ) (end : End) (waiting budget : ℕ) (r : Run) → out ≡ r.output → told ≡ end_line end waiting →

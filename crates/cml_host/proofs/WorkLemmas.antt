@@ -1,5 +1,5 @@
 -- How a hub was run: by one thread, or by workers.
-use Rattle.std.proofs.Common.{◌≡◌, ◌∙◌, ap, ℕ, List, [], Option, Some, None, Result, Ok, Err, IfOk, OnOk, inl, inr, refl, sym, subst}
+use Rattle.std.proofs.Common.{◌≡◌, ◌∙◌, ap, ℕ, List, [], Option, Some, None, Result, Ok, Err, IfOk, OnOk, refl, sym, subst}
 use Rattle.std.proofs.KnownBytes.{Appends-nil}
 use Rattle.cml_check.specs.Syntax.{PlainItem}
 use Rattle.cml_hub.specs.Kept.{Kept, Continues, IsOver}
@@ -48,7 +48,7 @@ has_played rules chooser last old new (Err e) plays x is = cc
 pub all_told : (options : RunOptions) (old new : Kept) (a b : Option (List ℕ)) (calls failed : ℕ) → Continues old new →
     Takes (stream a b) (reports_text new.reports) → failed ≡ 0 →
     IsStopped options old (record { hub = new; cause = cause.Memory }) (counted_stream a b calls failed)
-all_told options old new a b calls failed more told none = (goes_on old new more, inl told, none)
+all_told options old new a b calls failed more told none = (goes_on old new more, told, none)
 
 -- ---- by workers
 
@@ -87,7 +87,7 @@ pub stopped_silent : (options : RunOptions) (hub : Kept) (stopped : Stopped) (a 
 stopped_silent options hub stopped a calls failed more unreported is none = (
   more,
   subst (λ (why : Cause). AreToldBy options stopped.hub why (stream a a)) (sym is)
-      (inl (subst (λ (rs : List PlainReport). Takes (stream a a) (reports_text rs)) (sym unreported) (Appends-nil a))),
+      (subst (λ (rs : List PlainReport). Takes (stream a a) (reports_text rs)) (sym unreported) (Appends-nil a)),
   subst (λ (why : Cause). failed ≡ failed_by why) (sym is) none,
 )
 
@@ -101,11 +101,11 @@ live_fault : (A : Type 0) (options : RunOptions) (hub : Kept) (f : WorkFault) (a
     IsWorkerCount options.workers → WatchFails hub options.workers f → FaultWrites (stream a b) f → was ≡ 0 → failed ≡ failed_after_all {A = A} (Err f) was →
     GoesOnFrom hub (hub_of f) × AreToldBy options (hub_of f) (cause_of f) (stream a b) × (failed ≡ failed_by (cause_of f))
 live_fault A options hub (fault.Count new) a b was failed live count fails writes none is = absurd (fails.0 count)
-live_fault A options hub (fault.Memory new) a b was failed live count fails writes none is = (fails.1, inr (live, writes), is ∙ none)
-live_fault A options hub (fault.Start new) a b was failed live count fails writes none is = (fails.1.0, inr (live, writes), is ∙ none)
-live_fault A options hub (fault.Write new) a b was failed live count fails writes none is = (fails.1, inr (live, writes), is ∙ ap counted none)
+live_fault A options hub (fault.Memory new) a b was failed live count fails writes none is = (fails.1, writes, is ∙ none)
+live_fault A options hub (fault.Start new) a b was failed live count fails writes none is = (fails.1.0, writes, is ∙ none)
+live_fault A options hub (fault.Write new) a b was failed live count fails writes none is = (fails.1, writes, is ∙ ap counted none)
 live_fault A options hub (fault.Foreign new seen) a b was failed live count fails writes none is =
-    (fails.1.0.goes_on, (live, (seen.items, fails.1.1, writes)), is ∙ none)
+    (fails.1.0.goes_on, (live, (seen.items, fails.1.1, writes.1, writes.0)), is ∙ none)
 
 -- the answer says only of which type it is
 pub stopped_live : (A : Type 0) (answer : Result A WorkFault) (options : RunOptions) (hub : Kept) (f : WorkFault) (stopped : Stopped) (a b : Option (List ℕ)) (was calls failed : ℕ) →

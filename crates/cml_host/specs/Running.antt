@@ -17,7 +17,7 @@ use Rattle.cml_step.specs.Calls.{text_of}
 use Rattle.cml_stream.specs.Streams.{Counted, Stream, IsIdle, Says, Takes, TakesStart}
 use Rattle.cml_text.specs.Lines.{line}
 use Rattle.cml_words.specs.declared.RunOptions.{RunOptions}
-use Rattle.cml_work.specs.Seen.{BreaksOff}
+use Rattle.cml_work.specs.Marks.{BeginsWith}
 use Rattle.cml_work.specs.Works.{GoesOnFrom, IsWorked}
 use Rattle.cml_work.specs.declared.fault.WorkFault.{WorkFault}
 use Rattle.cml_work.specs.declared.fault.WorkFault.TheVariants as fault
@@ -28,7 +28,7 @@ use Rattle.cml_host.specs.declared.workers.Stopped.{Stopped}
 use Rattle.cml_host.specs.Stores.{Shelf, IsSaved, IsUnchanged}
 use Rattle.cml_host.specs.Said.{MemoryRan}
 use Rattle.cml_host.specs.Scripts.{IsOpened, NoScriptRan}
-use Rattle.cml_host.specs.Told.{IsRunOf, AllReported, reports_text, whole_output, end_status, cannot_write, IsTold, SaysStill, OutputBroke, MemoryBroke, IsCutOff, IsLiveCutOff, IsForeign}
+use Rattle.cml_host.specs.Told.{IsRunOf, AllReported, reports_text, whole_output, end_status, cannot_write, IsTold, SaysStill, OutputBroke, MemoryBroke, IsCutOff, IsForeign}
 
 -- the run is over under this budget: nothing is left to do, or the budget is used; and no report is due
 abbrev pub HasEnded : ℕ → Option ℕ → List Item → List PlainReport → Run → Type 0
@@ -74,10 +74,8 @@ IsChosen p budget None items r = (first : First) × IsRunBy p budget by_first fi
 IsChosen p budget (Some seed) items r = IsRunBy p budget by_words (seeded seed) items r
 
 -- The program was run, and each row of two swaps that was taken is an exchange. The run came to its end, and that was told; with one worker
--- it is the run that the seed chooses. Or it was cut
--- off on the way, and nothing was saved. Where reports are written while the program runs, there are two more cases, in which nothing was
--- saved either: it was cut off after reports that are not known to be its own; or the reports that were written are not its own, and the
--- errors tell that.
+-- it is the run that the seed chooses. Or it was cut off on the way, and nothing was saved. Where reports are written while the program runs,
+-- there is one more case, in which nothing was saved either: the reports that were written are not all of its own, and the errors tell that.
 abbrev pub ProgramRan : List (PlainItem ℕ) → RunOptions → Counted → Counted → Shelf → ℕ → Type 0
 ProgramRan p options output errors store status =
     (items : List Item) × (reports : List PlainReport) × (r : Run) × IsRunOf p options.watch items reports r × SwapsAreExchanges p [] items
@@ -85,8 +83,7 @@ ProgramRan p options output errors store status =
     × EndRan (record_name options) (schedule_text options.steps (size_of p) items) reports options.steps r output errors store status
     × (options.workers ≡ 1 → IsChosen p options.steps options.seed items r))
     ⊎ (IsCutOff reports r.output output errors status × IsUnchanged store.before store.after)
-    ⊎ (ReportsAreLive options × (IsLiveCutOff r.output output errors status ⊎ IsForeign reports output errors status)
-    × IsUnchanged store.before store.after))
+    ⊎ (ReportsAreLive options × IsForeign reports output errors status × IsUnchanged store.before store.after))
 
 -- `run`: the script that lies under the name was run; or it was not (no script lies there, it was not read, or memory ran out), and nothing
 -- was written to the output or saved.
@@ -123,14 +120,13 @@ abbrev pub failed_by : Cause → ℕ
 failed_by cause.Write = 1
 failed_by _ = 0
 
--- What was written of the reports, where this is why: all of them, or a prefix of them; or where they are written while the program
--- runs, a prefix of some reports; or the reports of another run.
+-- What was written of the reports, where this is why: all of them; a prefix of them; or where they are written while the program runs,
+-- not all of them.
 abbrev pub AreToldBy : RunOptions → Kept → Cause → Stream → Type 0
-AreToldBy options h cause.Memory errors =
-    Takes errors (reports_text h.reports) ⊎ (ReportsAreLive options × BreaksOff errors)
-AreToldBy options h cause.Write errors = TakesStart errors (reports_text h.reports) ⊎ (ReportsAreLive options × BreaksOff errors)
+AreToldBy options h cause.Memory errors = Takes errors (reports_text h.reports)
+AreToldBy options h cause.Write errors = TakesStart errors (reports_text h.reports)
 AreToldBy options h cause.Foreign errors =
-    ReportsAreLive options × ((seen : List PlainReport) × (seen ≢ h.reports) × Takes errors (reports_text seen))
+    ReportsAreLive options × ((seen : List PlainReport) × (seen ≢ h.reports) × BeginsWith h.reports seen × Takes errors (reports_text seen))
 
 -- the hub has gone on so far, and is not told as one that has run to its end
 abbrev pub IsStopped : RunOptions → Kept → Stopped → Counted → Type 0

@@ -6,25 +6,17 @@ use Rattle.cml_hub.specs.declared.fault.End.{End}
 use Rattle.cml_hub.specs.declared.fault.End.TheVariants.{Quiet, Budget, Partial}
 use Rattle.cml_hub.specs.Runs.{Run, stands, ending}
 use Rattle.cml_hub.specs.Reports.{AreReports, IsDue}
-use Rattle.cml_monitor.specs.Reports.{PlainReport, report_text, wait_line}
-use Rattle.cml_value.specs.declared.number.Tid.{Tid}
+use Rattle.cml_monitor.specs.Reports.{PlainReport, report_text}
 use Rattle.cml_scan.specs.Numbers.{spaced}
 use Rattle.cml_scan.specs.World.{pending}
 use Rattle.cml_schedule.specs.declared.item.Item.{Item}
 use Rattle.cml_step.specs.Calls.{text_of}
 use Rattle.cml_stream.specs.Streams.{Counted, IsIdle, Says, Takes, TakesStart}
 use Rattle.cml_text.specs.Lines.{line}
+use Rattle.cml_work.specs.Marks.{BeginsWith}
 use Rattle.cml_stream.specs.declared.input_output.WriteFault.{WriteFault}
 
 -- ---- what there is to tell
-
--- the first line of a report: after how many items it was made, and how many rows and threads it shows
-abbrev pub report_head : PlainReport → List ℕ
-report_head r = line (codes "report" ++ spaced r.at ++ codes " rows" ++ spaced (length r.rows) ++ codes " waiting" ++ spaced (length r.waiting))
-
--- the line of a thread that waits
-abbrev pub waits_line : Tid → List ℕ
-waits_line t = wait_line t.0
 
 -- the lines of these reports, one report after another
 abbrev pub reports_text : List PlainReport → List ℕ
@@ -112,19 +104,11 @@ IsCutOff reports text output errors status =
     ReportsBroke reports output errors status
     ⊎ (MemoryBroke reports text output errors status ⊎ OutputBroke reports text output errors status)
 
--- Reports that are written while the program runs: memory ran out, or a write of them failed. Of what was written before, it is known that
--- it is the lines of some reports, the last of them perhaps not whole.
-abbrev pub IsLiveCutOff : List ℕ → Counted → Counted → ℕ → Type 0
-IsLiveCutOff text output errors status =
-    (seen : List PlainReport) × (ReportsBroke seen output errors status
-    ⊎ ((part : List ℕ) × (unwritten : List ℕ) × (reports_text seen ≡ part ++ unwritten)
-    × (MemoryBrokeAfter part text output errors status ⊎ OutputBrokeAfter part text output errors status)))
-
--- The reports that were written while the program ran are not those of the run: the errors tell that after them, and the output was not
--- called.
+-- The reports that were written while the program ran are not all of those of the run, which begin with them: the errors tell that after
+-- them, and the output was not called.
 abbrev pub IsForeign : List PlainReport → Counted → Counted → ℕ → Type 0
 IsForeign reports output errors status =
-    (seen : List PlainReport) × (seen ≢ reports) × Says errors (reports_text seen ++ line (codes "foreign hub"))
+    (seen : List PlainReport) × (seen ≢ reports) × BeginsWith reports seen × Says errors (reports_text seen ++ line (codes "foreign hub"))
     × IsIdle output × (status ≡ 1)
 
 -- how a fault ends the telling of a run that has come to its end

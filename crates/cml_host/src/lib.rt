@@ -5,7 +5,6 @@ mod check;
 mod command;
 mod file;
 mod fmt;
-mod lines;
 mod output;
 mod replay;
 mod reports;

@@ -11,6 +11,7 @@ use Rattle.cml_hub.specs.Kept.{Kept, Continues, Extends, IsOver, EachAdded, Swap
 use Rattle.cml_hub.specs.declared.fault.End.{End}
 use Rattle.cml_hub.specs.declared.fault.GiveFault.{GiveFault}
 use Rattle.cml_hub.specs.declared.fault.GiveFault.TheVariants.{Stranger, Memory}
+use Rattle.cml_work.specs.Marks.{BeginsWith}
 use Rattle.cml_work.specs.Works.{PlainOpening, opening_of, Follows, GoesOnFrom, IsWorked}
 
 -- what holds of each of these items and of each that comes after them holds of all
@@ -118,3 +119,12 @@ extends_same h = record {
   };
   no_turn = λ k d below. absurd (omega arith);
 }
+
+-- the reports only grow
+pub reports_continue : (old new : Kept) → Continues old new → BeginsWith new.reports old.reports
+reports_continue old new c = (c.made, c.reports)
+
+pub reports_after_slice : (old : Kept) (ran : PlainRan) (r : Result (Unit {0}) GiveFault) (new : Kept) → TakesSlice old ran r new → BeginsWith new.reports old.reports
+reports_after_slice old ran (Ok done) new t = (t.1.made, t.1.reports)
+reports_after_slice old ran (Err (Stranger back)) new t = ([], ap (λ (h : Kept). h.reports) t.2 ∙ sym (append-nil old.reports))
+reports_after_slice old ran (Err (Memory back)) new t = ([], ap (λ (h : Kept). h.reports) t.2 ∙ sym (append-nil old.reports))

@@ -1,4 +1,5 @@
 -- A hub may cross threads, with its table, its objects and its machines.
+use denote.Builtin.{unit}
 use denote.RattleType.{RattleType}
 use mathlib.Core.List.{[], ◌∷◌}
 use denote.Struct.Tuple.{TupleAt}
@@ -6,11 +7,17 @@ use denote.Model.Local.{Parts, rows}
 use denote.Model.Goals.{send, sync, has_of, part_has}
 use denote.Model.Marks.{both_send, both_sync}
 use denote.Param.Send.{IsSend, IsSync, sendable}
+use denote.Param.SendFields.{declared_sync}
 use Rattle.std.specs.contracts.alloc.Global as Global
 use Rattle.std.specs.contracts.impls.GlobalAllocator.TheImpl.{ghosts as heap}
 use Rattle.std.proofs.Crossing.{crosses}
 use Rattle.std.proofs.MapsCrossing.{crosses as maps}
 use Rattle.std.proofs.MapsCrossingOver.{crosses as sets}
+use Rattle.atomic_table.proofs.shared.Seat.TheSendSync.{the_send as seat_send}
+use Rattle.atomic_table.proofs.shared.Shared.TheSendSync.{the_sync as places_sync}
+use Rattle.atomic_table.proofs.send_lease.SendLease.TheSendSync.{the_sync as lease_sync}
+use Rattle.atomic_table.specs.contracts.owned.Table as Table
+use Rattle.crossbeam_utils.specs.contracts.atomic.seq_cell.Wide as Wide
 use Rattle.indexmap.specs.contracts.map.IndexMap as IndexMap
 use Rattle.indexmap.specs.contracts.columns.Columns as Columns
 use Rattle.indexmap.specs.contracts.index_table.IndexTable as IndexTable
@@ -93,12 +100,23 @@ course_send = search (all_cross, index_send, book_send, machine_send) depth 60 f
 hub_send : IsSend Hub.the_row
 hub_send = search (all_cross, course_send) depth 60 fits 100000
 
+-- the board of the marks
+table_sync : (S V K P : RattleType) (g : _) → IsSend S → IsSync (Table.the_row S V K P Global.the_row g heap)
+table_sync S V K P g s = search (sendable, crosses, places_sync, lease_sync) depth 60 fits 100000
+
+board_sync : (S D Q N : RattleType) (q : _) → IsSend S → IsSync (Wide.the_row S D Q N Global.the_row q heap)
+board_sync S D Q N q s =
+    declared_sync (Wide.the_type S D Q N Global.the_row q heap) (table_sync S D unit Q (record { holds = λ x. q.holds x; first = q.first }) s, tt)
+
 -- what lies under the lock, and the lock
 locked_send : (O C : RattleType) (o : _) (c : _) → IsSend O → IsSend C → IsSend (Locked.the_row O C o c)
-locked_send O C o c s u = search (sendable, crosses, hub_send) depth 60 fits 100000
+locked_send O C o c s u = search (sendable, crosses, hub_send, seat_send) depth 60 fits 100000
 
 pub shared_sync : (O C : RattleType) (o : _) (c : _) → IsSend O → IsSend C → IsSync (Shared.the_row O C o c)
-shared_sync O C o c s u = let l = locked_send O C o c s u in search (sendable, crosses) depth 60 fits 100000
+shared_sync O C o c s u =
+    let l = locked_send O C o c s u in
+    declared_sync (Shared.the_type O C o c)
+    (search (sendable, crosses) depth 60 fits 100000, (search (sendable, crosses) depth 60 fits 100000, (search (sendable, board_sync), tt)))
 
 -- a stream that is counted, and what a closure has captured
 pub counting_send : (ℓ : _) (W : RattleType) → IsSend W → IsSend (Counting.the_row ℓ W)

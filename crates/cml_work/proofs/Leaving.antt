@@ -1,38 +1,88 @@
--- What is returned of a hub that the workers have left.
-use Rattle.std.proofs.Common.{ℕ, ◌≡◌, List, Option, Result, Ok, Err, IfErr, refl, sym, subst, ◌∙◌}
+-- How runs end that do not come to their end.
+use Rattle.std.proofs.Common.{◌≡◌, ℕ, List, Bool, true, false, true≢false, Result, Ok, Err, IfErr, length, refl, sym, ap, subst, ◌∙◌}
 use Rattle.cml_monitor.specs.Reports.{PlainReport}
-use Rattle.cml_stream.specs.Streams.{stream, Takes}
 use Rattle.cml_hub.specs.Kept.{Kept}
+use Rattle.cml_stream.specs.Streams.{Stream, Takes}
+use Rattle.cml_work.specs.Marks.{BeginsWith}
+use Rattle.cml_work.specs.Seen.{texts_of, FaultWrites, failed_at, failed_after_all}
+use Rattle.cml_work.specs.Works.{IsWorkerCount, PlainOpening, opening_of, Follows, GoesOnFrom, IsForeignFault, IsLeft, IsCut, BreaksAfter, WatchBreaks, WatchFails}
 use Rattle.cml_work.specs.declared.fault.WorkFault.{WorkFault}
 use Rattle.cml_work.specs.declared.fault.WorkFault.TheVariants.{Count, Memory, Start, Write, Foreign}
-use Rattle.cml_work.specs.Seen.{texts_of, FaultWrites, failed_after_all}
-use Rattle.cml_work.specs.Works.{PlainOpening, opening_of, Follows, IsLeft, WatchBreaks}
-use Rattle.cml_work.proofs.Going.{went_after, worked_after}
-use Rattle.cml_work.proofs.Writing.{breaks_between}
+use Rattle.cml_work.proofs.Going.{goes_on_same, went, went_after, worked_after, nothing_more}
 
-pub left_breaks : (o : PlainOpening) (hub mid : Kept) (reports : List PlainReport) (fault : WorkFault) → opening_of hub ≡ o → Follows o mid
-    → IsLeft mid reports fault → WatchBreaks hub fault
-left_breaks o hub mid reports (Count new) is follows h = absurd h
-left_breaks o hub mid reports (Memory new) is follows h = went_after o hub mid new is follows h
-left_breaks o hub mid reports (Start new) is follows h = absurd h
-left_breaks o hub mid reports (Write new) is follows h = absurd h
-left_breaks o hub mid reports (Foreign new seen) is follows (worked, are, differ) = (worked_after o hub mid new is follows worked, λ e. differ (sym are ∙ e))
+pub after_breaks : (o : PlainOpening) (hub mid : Kept) (is_still : Bool) (fault : WorkFault) → opening_of hub ≡ o → Follows o mid
+    → (is_still ≡ true → length mid.course.items ≡ length hub.course.items) → BreaksAfter mid is_still fault → WatchBreaks hub fault
+after_breaks o hub mid is_still (Count new) is follows same h = absurd h
+after_breaks o hub mid is_still (Memory new) is follows same h = went_after o hub mid new is follows h
+after_breaks o hub mid is_still (Start new) is follows same h =
+    subst (λ (k : Kept). GoesOnFrom hub k × (k.course.items ≡ hub.course.items)) (sym h.0)
+    (went o hub mid is follows, nothing_more o hub mid is follows (same h.1))
+after_breaks o hub mid is_still (Write new) is follows same h = went_after o hub mid new is follows h
+after_breaks o hub mid is_still (Foreign new seen) is follows same h = (worked_after o hub mid new is follows h.0, h.1)
 
--- the reports that were seen were written
-pub left_writes : (a b : Option (List ℕ)) (mid : Kept) (reports : List PlainReport) (fault : WorkFault) → Takes (stream a b) (texts_of reports)
-    → IsLeft mid reports fault → FaultWrites (stream a b) fault
-left_writes a b mid reports (Count new) took h = absurd h
-left_writes a b mid reports (Memory new) took h = breaks_between a b reports took
-left_writes a b mid reports (Start new) took h = absurd h
-left_writes a b mid reports (Write new) took h = absurd h
-left_writes a b mid reports (Foreign new seen) took h = subst (λ (l : List PlainReport). Takes (stream a b) (texts_of l)) (sym h.1) took
+-- the hub that the fault carries goes on from itself
+pub cut_after : (hub : Kept) (cut is_still : Bool) (fault : WorkFault) → (cut ≡ true → is_still ≡ true) → IsCut hub cut fault → BreaksAfter hub is_still fault
+cut_after hub cut is_still (Count new) still h = absurd h
+cut_after hub cut is_still (Memory new) still h = subst (λ (k : Kept). GoesOnFrom hub k) (sym h.0) (goes_on_same hub)
+cut_after hub cut is_still (Start new) still h = (h.0, still h.1)
+cut_after hub cut is_still (Write new) still h = subst (λ (k : Kept). GoesOnFrom hub k) (sym h) (goes_on_same hub)
+cut_after hub cut is_still (Foreign new seen) still h = absurd h
+
+pub left_after : (hub : Kept) (reports : List PlainReport) (is_still : Bool) (fault : WorkFault) → IsLeft hub reports fault → BreaksAfter hub is_still fault
+left_after hub reports is_still (Count new) h = absurd h
+left_after hub reports is_still (Memory new) h = h
+left_after hub reports is_still (Start new) h = absurd h
+left_after hub reports is_still (Write new) h = h
+left_after hub reports is_still (Foreign new seen) (worked, are, differ) = (worked, λ e. differ (sym are ∙ e))
+
+pub cut_left : (hub mid : Kept) (reports : List PlainReport) (fault : WorkFault) → GoesOnFrom hub mid → IsCut mid false fault → IsLeft hub reports fault
+cut_left hub mid reports (Count new) goes h = absurd h
+cut_left hub mid reports (Memory new) goes h = subst (λ (k : Kept). GoesOnFrom hub k) (sym h.0) goes
+cut_left hub mid reports (Start new) goes h = absurd (true≢false (sym h.1))
+cut_left hub mid reports (Write new) goes h = subst (λ (k : Kept). GoesOnFrom hub k) (sym h) goes
+cut_left hub mid reports (Foreign new seen) goes h = absurd h
+
+-- the reports that were seen were written, with which those of the hub begin
+pub foreign_writes : (output : Stream) (hub : Kept) (reports : List PlainReport) (fault : WorkFault) → BeginsWith hub.reports reports → Takes output (texts_of reports)
+    → IsForeignFault hub reports fault → FaultWrites output fault
+foreign_writes output hub reports (Count new) begins took h = absurd h
+foreign_writes output hub reports (Memory new) begins took h = absurd h
+foreign_writes output hub reports (Start new) begins took h = absurd h
+foreign_writes output hub reports (Write new) begins took h = absurd h
+foreign_writes output hub reports (Foreign new seen) begins took h = (
+  subst (λ (l : List PlainReport). Takes output (texts_of l)) (sym h.1) took,
+  subst (λ (x : List PlainReport × List PlainReport). BeginsWith x.0 x.1) (λ i. (sym (ap (λ (k : Kept). k.reports) h.0) i, sym h.1 i)) begins,
+)
 
 -- no write has failed
-pub left_failed : {A : Type 0} (mid : Kept) (reports : List PlainReport) (r : Result A WorkFault) (failed : ℕ) → IfErr r (λ fault. IsLeft mid reports fault)
-    → failed_after_all r failed ≡ failed
-left_failed mid reports (Ok x) failed h = refl
-left_failed mid reports (Err (Count new)) failed h = absurd h
-left_failed mid reports (Err (Memory new)) failed h = refl
-left_failed mid reports (Err (Start new)) failed h = absurd h
-left_failed mid reports (Err (Write new)) failed h = absurd h
-left_failed mid reports (Err (Foreign new seen)) failed h = refl
+pub foreign_failed : {A : Type 0} (hub : Kept) (reports : List PlainReport) (r : Result A WorkFault) (failed : ℕ)
+    → IfErr r (λ fault. IsForeignFault hub reports fault) → failed ≡ failed_after_all r failed
+foreign_failed hub reports (Ok x) failed h = refl
+foreign_failed hub reports (Err (Count new)) failed h = refl
+foreign_failed hub reports (Err (Memory new)) failed h = refl
+foreign_failed hub reports (Err (Start new)) failed h = refl
+foreign_failed hub reports (Err (Write new)) failed h = absurd h
+foreign_failed hub reports (Err (Foreign new seen)) failed h = refl
+
+pub failed_all : (A : Type 0) (fault : WorkFault) (failed : ℕ) → failed_at fault failed ≡ failed_after_all {A = A} (Err fault) failed
+failed_all A (Count new) failed = refl
+failed_all A (Memory new) failed = refl
+failed_all A (Start new) failed = refl
+failed_all A (Write new) failed = refl
+failed_all A (Foreign new seen) failed = refl
+
+-- a run that broke off fails
+pub breaks_fail : (hub : Kept) (workers : ℕ) (fault : WorkFault) → IsWorkerCount workers → WatchBreaks hub fault → WatchFails hub workers fault
+breaks_fail hub workers (Count new) count h = absurd h
+breaks_fail hub workers (Memory new) count h = (count, h)
+breaks_fail hub workers (Start new) count h = (count, h)
+breaks_fail hub workers (Write new) count h = (count, h)
+breaks_fail hub workers (Foreign new seen) count h = (count, h)
+
+-- the hub that was handed in was not run at all
+pub cut_fails : (hub : Kept) (workers : ℕ) (fault : WorkFault) → IsWorkerCount workers → IsCut hub false fault → WatchFails hub workers fault
+cut_fails hub workers (Count new) count h = absurd h
+cut_fails hub workers (Memory new) count h = (count, subst (λ (k : Kept). GoesOnFrom hub k) (sym h.0) (goes_on_same hub))
+cut_fails hub workers (Start new) count h = absurd (true≢false (sym h.1))
+cut_fails hub workers (Write new) count h = (count, subst (λ (k : Kept). GoesOnFrom hub k) (sym h) (goes_on_same hub))
+cut_fails hub workers (Foreign new seen) count h = absurd h

@@ -4,4 +4,6 @@ mod Going
 mod Handing
 mod HubCrossing
 mod Leaving
+mod MarkSteps
+mod Sending
 mod Writing

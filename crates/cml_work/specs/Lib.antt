@@ -1,5 +1,7 @@
 pub mod Desks
 pub mod Finds
 pub mod Held
+pub mod Lines
+pub mod Marks
 pub mod Seen
 pub mod Works

@@ -1,5 +1,5 @@
 -- How runs of workers end.
-use Rattle.std.specs.Prelude.{ℕ, ◌≡◌, ◌≢◌, ◌≤◌, true, List, ◌++◌, Option, Result, Ok, Err}
+use Rattle.std.specs.Prelude.{ℕ, ◌≡◌, ◌≢◌, ◌≤◌, Bool, true, false, List, ◌++◌, Option, Result, Ok, Err}
 use Rattle.cml_check.specs.Syntax.{PlainItem}
 use Rattle.cml_monitor.specs.Reports.{PlainReport}
 use Rattle.cml_schedule.specs.declared.item.Item.{Item}
@@ -83,9 +83,26 @@ abbrev pub IsForeignFault : Kept → List PlainReport → WorkFault → Type 0
 IsForeignFault hub reports (Foreign new seen) = (new ≡ hub) × (seen.items ≡ reports) × (reports ≢ hub.reports)
 IsForeignFault hub reports _ = ⊥
 
--- Why no hub that has run to its end comes of what the workers left and the reports that were seen: memory ran out, or the reports are
--- not the hub's.
+-- Why no hub that has run to its end comes of what the workers left and the reports that were seen: memory ran out, or a write failed, and
+-- the hub has gone on so far; or the reports are not the hub's.
 abbrev pub IsLeft : Kept → List PlainReport → WorkFault → Type 0
 IsLeft hub reports (Memory new) = GoesOnFrom hub new
+IsLeft hub reports (Write new) = GoesOnFrom hub new
 IsLeft hub reports (Foreign new seen) = IsWorked hub new × (seen.items ≡ reports) × (reports ≢ new.reports)
 IsLeft hub reports _ = ⊥
+
+-- why this hub is not run to its end: memory ran out; nothing has begun; or a write failed
+abbrev pub IsCut : Kept → Bool → WorkFault → Type 0
+IsCut hub is_still (Memory new) = (new ≡ hub) × (is_still ≡ false)
+IsCut hub is_still (Start new) = (new ≡ hub) × (is_still ≡ true)
+IsCut hub is_still (Write new) = new ≡ hub
+IsCut hub is_still _ = ⊥
+
+-- The same of a run with a watcher that the workers have left: memory ran out, or a write failed, and the hub has gone on so far; nothing
+-- has begun; or the hub has gone on to its end, but the reports that were seen are not the hub's.
+abbrev pub BreaksAfter : Kept → Bool → WorkFault → Type 0
+BreaksAfter hub is_still (Count new) = ⊥
+BreaksAfter hub is_still (Memory new) = GoesOnFrom hub new
+BreaksAfter hub is_still (Start new) = (new ≡ hub) × (is_still ≡ true)
+BreaksAfter hub is_still (Write new) = GoesOnFrom hub new
+BreaksAfter hub is_still (Foreign new seen) = IsWorked hub new × (seen.items ≢ new.reports)

@@ -2,9 +2,13 @@
 #![tactic(auto)]
 
 mod desk;
+mod ending;
 mod fault;
+mod lines;
 mod locked;
+mod marks;
 mod opening;
+mod reports;
 mod shared;
 mod started;
 mod watching;
@@ -13,7 +17,9 @@ mod working;
 
 pub use desk::{Desk, Gate};
 pub use fault::{WatchFault, WorkFault};
+pub use marks::{Board, Mark, new_board};
 pub use opening::Opening;
+pub use reports::send_reports;
 pub use shared::Shared;
 pub use watching::watch;
 pub use workers::{run_watched, run_workers};

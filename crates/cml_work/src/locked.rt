@@ -1,31 +1,36 @@
 //! What lies under the lock.
 
-ghost use Rattle.std.specs.Prelude.{◌≡◌, IfOk, true, false};
+ghost use Rattle.std.specs.Prelude.{◌≡◌, [], IfOk, true, false};
 ghost use Rattle.cml_hub.specs.Kept.{TakesSlice};
 ghost use Rattle.cml_work.specs.Finds.{TakesOnce, FindsNothing, HaveOneState, TellsReport};
+ghost use Rattle.cml_work.specs.Marks.{BeginsWith, IsKeeper, WasShown, shown_of};
 ghost use Rattle.cml_work.specs.Works.{Follows, GoesOnFrom, IsJob, opening_of};
 
+use crate::marks::{Board, Mark, learn, show};
 use crate::opening::Opening;
 use cml_check::Prog;
 use cml_hub::{Chooser, GiveFault, Hub, Next};
 use cml_monitor::Report;
 use cml_step::{Machine, Ran};
 use std::alloc::{AllocError, Global};
-use std::marker::{Model, PhantomData};
+use std::marker::{Brand, Model, PhantomData};
+use std::sync::Wait;
 
-// What lies under the lock: a hub that goes on from the opening, who chooses, whether the workers are to stop, and whether they all have
-// ended.
+// What lies under the lock: a hub that goes on from the opening, who chooses, whether the workers are to stop, whether they all have
+// ended, and the mark of the keeper, who knows a beginning of the hub's reports that has all that the watcher was shown.
 #[derive(Drop)]
 pub(crate) struct Locked<O: Opening, C: Chooser + Drop> {
     hub: Hub,
     chooser: C,
     is_stopped: bool,
     is_done: bool,
+    keeper: Mark,
     of: PhantomData<O>,
 }
 
 impl<O: Opening, C: Chooser + Drop> Model for Locked<O, C> {
     ghost use Rattle.cml_work.specs.Held.{Held, locked_code};
+    ghost use Rattle.cml_work.specs.Marks.{BeginsWith, IsKeeper, known_of};
     ghost use Rattle.cml_work.specs.Works.{Follows};
 
     ghost Value = { Held };
@@ -34,7 +39,7 @@ impl<O: Opening, C: Chooser + Drop> Model for Locked<O, C> {
 
     ghost view = { λ l. record { hub = l.hub; is_stopped = l.is_stopped; is_done = l.is_done } };
 
-    ghost invariant = { λ l. Follows O.opening l.hub };
+    ghost invariant = { λ l. Follows O.opening l.hub × IsKeeper O.board (known_of l.keeper) l.keeper × BeginsWith l.hub.reports (known_of l.keeper) };
 }
 
 // What a worker finds under the lock.
@@ -64,6 +69,7 @@ fn take_job<C: Chooser>(alloc: Global, hub: &mut Hub, chooser: &mut C) -> Result
     ensures job { IfOk result (λ found. IsJob hub.old.course.program found) }
     ensures takes { TakesOnce hub.old result hub.new }
     ensures goes_on { GoesOnFrom hub.old hub.new }
+    ensures reports { BeginsWith hub.new.reports hub.old.reports }
 {
     let seen = hub.reports().len();
     let program = hub.program().copy()?;
@@ -85,9 +91,10 @@ fn take_job<C: Chooser>(alloc: Global, hub: &mut Hub, chooser: &mut C) -> Result
 }
 
 impl<O: Opening, C: Chooser + Drop> Locked<O, C> {
-    // The hub with the chooser; the workers run.
-    pub(crate) fn new(hub: Hub, chooser: C) -> Locked<O, C>
-        requires { opening_of hub ≡ O.opening }
+    // The hub with the chooser, and the keeper, who knows of no report yet; the workers run.
+    pub(crate) fn new(hub: Hub, chooser: C, keeper: Mark) -> Locked<O, C>
+        requires hub { opening_of hub ≡ O.opening }
+        requires keeper { IsKeeper O.board [] keeper }
         ensures { result ≡ record { hub = hub; is_stopped = false; is_done = false } }
     {
         Locked {
@@ -95,6 +102,7 @@ impl<O: Opening, C: Chooser + Drop> Locked<O, C> {
             chooser,
             is_stopped: false,
             is_done: false,
+            keeper,
             of: PhantomData,
         }
     }
@@ -110,6 +118,7 @@ impl<O: Opening, C: Chooser + Drop> Locked<O, C> {
             chooser,
             is_stopped,
             is_done: _,
+            keeper: _,
             of: _,
         } = self;
         (hub, chooser, is_stopped)
@@ -163,5 +172,26 @@ impl<O: Opening, C: Chooser + Drop> Locked<O, C> {
         } else {
             Ok(Told::Wait)
         }
+    }
+
+    // A mark for the watcher, who is shown what the keeper knows.
+    pub(crate) fn mark(&mut self, board: &Board) -> Mark
+        requires { board.now.table.shared.table_id ≡ O.board }
+        ensures held { self.new ≡ self.old }
+        ensures mark { WasShown O.board (shown_of result) result }
+    {
+        show(board, &mut self.keeper)
+    }
+
+    // The watcher's mark comes back: the hub's reports begin with what it was shown. It gets one that is shown all reports.
+    pub(crate) fn tell<R: Wait>(&mut self, rt: &R, board: &Board, mark: Mark) -> Mark
+        requires board { board.now.table.shared.table_id ≡ O.board }
+        requires mark { WasShown O.board (shown_of mark) mark }
+        ensures held { self.new ≡ self.old }
+        ensures mark { WasShown O.board self.old.hub.reports result }
+        ensures shown { BeginsWith self.old.hub.reports (shown_of mark) }
+    {
+        learn::<Brand, R>(rt, board, &mut self.keeper, mark, self.hub.reports());
+        show(board, &mut self.keeper)
     }
 }

@@ -1,5 +1,6 @@
 //! What a run of workers begins with.
 
+ghost use Rattle.atomic_table.specs.Seated.{TableId};
 ghost use Rattle.cml_work.specs.Works.{PlainOpening};
 
 use std::marker::Brand;
@@ -9,10 +10,16 @@ use std::marker::Brand;
 pub trait Opening {
     /// What stays.
     ghost opening: { PlainOpening };
+
+    /// The board by which its reports are told.
+    ghost board: { TableId };
 }
 
 impl Opening for Brand {
     ghost use Rattle.std.specs.Prelude.{[], None};
+    ghost use Rattle.cml_work.specs.Marks.{no_board};
 
     ghost opening = { record { program = []; budget = 0; watch = None; items = [] } };
+
+    ghost board = { no_board };
 }

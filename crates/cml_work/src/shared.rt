@@ -1,11 +1,13 @@
 //! The lock around the hub.
 
-ghost use Rattle.std.specs.Prelude.{◌≡◌};
+ghost use Rattle.std.specs.Prelude.{◌≡◌, [], Some, IfOk, IfSome, slice_get};
 ghost use Rattle.cml_hub.specs.Dones.{GoesOn};
+ghost use Rattle.cml_work.specs.Marks.{BeginsWith, IsKeeper, WasShown, shown_of};
 ghost use Rattle.cml_work.specs.Works.{Follows, opening_of};
 
 use crate::desk::Desk;
 use crate::locked::{Found, Locked, Told};
+use crate::marks::{Board, Mark};
 use crate::opening::Opening;
 use cml_check::Prog;
 use cml_hub::{Chooser, GiveFault, Hub};
@@ -19,16 +21,21 @@ use std::sync::{Condvar, Mutex, Wait};
 pub struct Shared<O: Opening, C: Chooser + Drop> {
     locked: Mutex<Locked<O, C>>,
     changed: Condvar,
+    board: Board,
+    ghost ours: { board.table.shared.table_id ≡ O.board },
 }
 
 impl<O: Opening, C: Chooser + Drop> Shared<O, C> {
-    /// The hub, with the chooser among its rows.
-    pub fn new(hub: Hub, chooser: C) -> Shared<O, C>
-        requires { opening_of hub ≡ O.opening }
+    /// The hub, with the chooser among its rows, and a board with its keeper's mark.
+    pub fn new(hub: Hub, chooser: C, board: Board, keeper: Mark) -> Shared<O, C>
+        requires hub { opening_of hub ≡ O.opening }
+        requires board { board.table.shared.table_id ≡ O.board }
+        requires keeper { IsKeeper O.board [] keeper }
     {
         Shared {
-            locked: Mutex::new(Locked::new(hub, chooser)),
+            locked: Mutex::new(Locked::new(hub, chooser, keeper)),
             changed: Condvar::new(),
+            board,
         }
     }
 
@@ -36,8 +43,35 @@ impl<O: Opening, C: Chooser + Drop> Shared<O, C> {
     pub(crate) fn into_parts(self) -> (Hub, C, bool)
         ensures { Follows O.opening result.0 }
     {
-        let Shared { locked, changed: _ } = self;
+        let Shared {
+            locked,
+            changed: _,
+            board: _,
+        } = self;
         locked.into_inner().into_parts()
+    }
+
+    // The same, where the watcher's mark comes back: the hub's reports begin with what it was shown.
+    pub(crate) fn into_parts_with<R: Wait>(self, rt: &R, mark: Mark) -> (Hub, C, bool)
+        requires { WasShown O.board (shown_of mark) mark }
+        ensures follows { Follows O.opening result.0 }
+        ensures shown { BeginsWith result.0.reports (shown_of mark) }
+    {
+        let Shared {
+            locked,
+            changed: _,
+            board,
+        } = self;
+        let mut locked = locked.into_inner();
+        let _all = locked.tell(rt, &board, mark);
+        locked.into_parts()
+    }
+
+    // A mark for the watcher.
+    pub(crate) fn mark<R: Wait>(&self, rt: &R) -> Mark
+        ensures { WasShown O.board (shown_of result) result }
+    {
+        self.locked.lock(rt).mark(&self.board)
     }
 
     // All workers have ended.
@@ -46,18 +80,29 @@ impl<O: Opening, C: Chooser + Drop> Shared<O, C> {
         self.changed.notify_all();
     }
 
-    // A copy of the report of this number, from 0, once it is made; `None` where the workers have ended without it.
+    // A copy of the report of this number, from 0, once it is made; `None` where the workers have ended without it. The watcher's mark comes
+    // back with all that it was shown, and the report among it.
     pub(crate) fn report<R: Wait>(
         &self,
         rt: &R,
-        seen: usize,
-    ) -> Result<Option<Report>, AllocError> {
+        number: usize,
+        mark: Mark,
+    ) -> (Result<Option<Report>, AllocError>, Mark)
+        requires { WasShown O.board (shown_of mark) mark }
+        ensures mark { WasShown O.board (shown_of result.1) result.1 }
+        ensures more { BeginsWith (shown_of result.1) (shown_of mark) }
+        ensures shown { IfOk result.0 (λ told. IfSome told (λ r. slice_get (shown_of result.1) number ≡ Some r)) }
+    {
         let mut locked = self.locked.lock(rt);
         for _ in rt.forever() {
-            match locked.report(seen)? {
-                Told::Report(report) => return Ok(Some(report)),
-                Told::Over => return Ok(None),
-                Told::Wait => locked = self.changed.wait(rt, locked),
+            match locked.report(number) {
+                Ok(Told::Report(report)) => {
+                    let mark = locked.tell(rt, &self.board, mark);
+                    return (Ok(Some(report)), mark);
+                }
+                Ok(Told::Over) => return (Ok(None), mark),
+                Ok(Told::Wait) => locked = self.changed.wait(rt, locked),
+                Err(error) => return (Err(error), mark),
             }
         }
         unreachable!()

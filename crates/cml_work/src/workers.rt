@@ -1,17 +1,20 @@
 //! Runs of a hub with many workers.
 
-ghost use Rattle.std.specs.Prelude.{◌≡◌, ◌↔◌, true, Err, IfOk, IfErr, OnErr, IsTrue};
+ghost use Rattle.std.specs.Prelude.{◌≡◌, ◌↔◌, [], IfOk, IfErr, IsTrue};
 ghost use Rattle.cml_hub.specs.Kept.{NoneOut};
 ghost use Rattle.cml_stream.specs.Streams.{stream, Takes};
-ghost use Rattle.cml_work.specs.Seen.{texts_of, BreaksOff, FaultWrites, failed_after, failed_after_all};
-ghost use Rattle.cml_work.specs.Works.{Works, IsWorkerCount, IsWorked, GoesOnFrom, IsForeignFault, IsLeft, WatchBreaks, WatchFails, opening_of};
+ghost use Rattle.cml_work.specs.Marks.{BeginsWith, IsKeeper, WasShown, shown_of};
+ghost use Rattle.cml_work.specs.Seen.{texts_of, IsWatched, FaultWrites, failed_watching, failed_after_all};
+ghost use Rattle.cml_work.specs.Works.{Works, IsWorkerCount, IsWorked, GoesOnFrom, WatchBreaks, WatchFails, opening_of};
 
 use crate::desk::Gate;
-use crate::fault::{WatchFault, WorkFault};
+use crate::ending::{end_alone, finished, is_still, out_of_memory};
+use crate::fault::WorkFault;
+use crate::marks::{Board, Mark, new_board};
 use crate::opening::Opening;
 use crate::shared::Shared;
 use crate::started::Started;
-use crate::watching::watch;
+use crate::watching::{Watched, watch_marked};
 use crate::working::worker;
 use cml_hub::{Chooser, Hub};
 use cml_monitor::Report;
@@ -64,6 +67,8 @@ fn run_over<O, R, C, G>(
     rt: &R,
     alloc: Global,
     hub: Hub,
+    board: Board,
+    keeper: Mark,
     workers: usize,
     chooser: C,
     gate: &G,
@@ -73,11 +78,13 @@ where
     R: Threads + Wait + Sync,
     C: Chooser + Drop + Send,
     G: Gate + Sync,
-    requires { opening_of hub ≡ O.opening }
+    requires hub { opening_of hub ≡ O.opening }
+    requires board { board.table.shared.table_id ≡ O.board }
+    requires keeper { IsKeeper O.board [] keeper }
     ensures ok { IfOk result (λ new. IsWorked hub new) }
     ensures err { IfErr result (λ new. GoesOnFrom hub new) }
 {
-    let shared: Shared<O, C> = Shared::new(hub, chooser);
+    let shared: Shared<O, C> = Shared::new(hub, chooser, board, keeper);
     let _started = work_together(rt, alloc, &shared, gate, workers);
     let (hub, chooser, is_stopped) = shared.into_parts();
     end_alone(alloc, hub, chooser, is_stopped)
@@ -106,30 +113,12 @@ where
     if !is_count(workers) {
         return Err(WorkFault::Count(hub));
     }
-    match run_over::<Brand, R, C, G>(rt, alloc, hub, workers, chooser, gate) {
+    let Ok((board, keeper)) = new_board(alloc) else {
+        return Err(WorkFault::Memory(hub));
+    };
+    match run_over::<Brand, R, C, G>(rt, alloc, hub, board, keeper, workers, chooser, gate) {
         Ok(hub) => Ok(hub),
         Err(hub) => Err(WorkFault::Memory(hub)),
-    }
-}
-
-// Runs the hub to its end, which it has mostly reached already. Where the workers were stopped, or memory runs out, the hub comes back
-// as far as it has gone on.
-fn end_alone<C: Chooser + Drop>(
-    alloc: Global,
-    mut hub: Hub,
-    mut chooser: C,
-    is_stopped: bool,
-) -> Result<Hub, Hub>
-    ensures ok { IfOk result (λ new. IsWorked hub new) }
-    ensures err { IfErr result (λ new. GoesOnFrom hub new) }
-    ensures stopped { is_stopped ≡ true → result ≡ Err hub }
-{
-    if is_stopped {
-        return Err(hub);
-    }
-    match hub.run_alone(alloc, &mut chooser) {
-        Ok(_) => Ok(hub),
-        Err(_) => Err(hub),
     }
 }
 
@@ -142,31 +131,31 @@ fn watched<R, O, C, G, W>(
     gate: &G,
     workers: usize,
     writer: &mut Counting<'_, W>,
-) -> (Result<Vec<Report>, WatchFault>, Started)
+) -> (Watched, Started)
 where
     R: Threads + Wait + Sync,
     O: Opening + Send + Sync,
     C: Chooser + Drop + Send,
     G: Gate + Sync,
     W: Write + Send,
-    ensures ok { let output = stream (W.contents writer.old.stream.now) (W.contents writer.new.stream.now) in
-        IfOk result.0 (λ seen. Takes output (texts_of seen.items)) }
-    ensures err { let output = stream (W.contents writer.old.stream.now) (W.contents writer.new.stream.now) in
-        OnErr result.0 (BreaksOff output) }
+    ensures watched { let output = stream (W.contents writer.old.stream.now) (W.contents writer.new.stream.now) in
+        IsWatched output result.0.seen.items result.0.fault }
+    ensures mark { WasShown O.board (shown_of result.0.mark) result.0.mark }
+    ensures shown { BeginsWith (shown_of result.0.mark) result.0.seen.items }
     ensures same_reference { writer.new.stream.ghost_name ≡ writer.old.stream.ghost_name }
-    ensures failed { writer.new.failed ≡ failed_after result.0 writer.old.failed }
+    ensures failed { writer.new.failed ≡ failed_watching result.0.fault writer.old.failed }
 {
     let of_workers = alloc;
     join_mut(
         rt,
-        &mut || -> Result<Vec<Report>, WatchFault>
-            ensures ok { let output = stream (W.contents writer.entry.now.stream.now) (W.contents writer.exit.now.stream.now) in
-                IfOk result (λ seen. Takes output (texts_of seen.items)) }
-            ensures err { let output = stream (W.contents writer.entry.now.stream.now) (W.contents writer.exit.now.stream.now) in
-                OnErr result (BreaksOff output) }
+        &mut || -> Watched
+            ensures watched { let output = stream (W.contents writer.entry.now.stream.now) (W.contents writer.exit.now.stream.now) in
+                IsWatched output result.seen.items result.fault }
+            ensures mark { WasShown O.board (shown_of result.mark) result.mark }
+            ensures shown { BeginsWith (shown_of result.mark) result.seen.items }
             ensures same_reference { writer.exit.now.stream.ghost_name ≡ writer.entry.now.stream.ghost_name }
-            ensures failed { writer.exit.now.failed ≡ failed_after result writer.entry.now.failed }
-        { watch(rt, alloc, shared, writer) },
+            ensures failed { writer.exit.now.failed ≡ failed_watching result.fault writer.entry.now.failed }
+        { watch_marked(rt, alloc, shared, writer) },
         &mut || {
             let started = work_together(rt, of_workers, shared, gate, workers);
             shared.close(rt);
@@ -175,59 +164,13 @@ where
     )
 }
 
-// Whether these are the reports of the hub.
-fn are_reports(seen: &[Report], hub: &Hub) -> bool
-    ensures { IsTrue result ↔ (seen.now ≡ hub.now.reports) }
-{
-    let reports = hub.reports();
-    if seen.len() != reports.len() {
-        return false;
-    }
-    for i in 0..seen.len() {
-        if !seen[i].same(&reports[i]) {
-            return false;
-        }
-    }
-    true
-}
-
-// The hub with the reports that were seen, where they are its own.
-fn compared(hub: Hub, seen: Vec<Report>) -> Result<(Hub, Vec<Report>), WorkFault>
-    ensures ok { IfOk result (λ r. (r.0 ≡ hub) × (r.1.items ≡ seen.items) × (seen.items ≡ hub.reports)) }
-    ensures err { IfErr result (λ fault. IsForeignFault hub seen.items fault) }
-{
-    if are_reports(seen.as_slice(), &hub) {
-        Ok((hub, seen))
-    } else {
-        Err(WorkFault::Foreign(hub, seen))
-    }
-}
-
-// The hub that the workers have left, run to its end, with the reports that were seen.
-fn left<C: Chooser + Drop>(
-    alloc: Global,
-    hub: Hub,
-    chooser: C,
-    is_stopped: bool,
-    seen: Vec<Report>,
-) -> Result<(Hub, Vec<Report>), WorkFault>
-    ensures ok { IfOk result (λ r. IsWorked hub r.0 × (r.1.items ≡ seen.items) × (seen.items ≡ r.0.reports)) }
-    ensures err { IfErr result (λ fault. IsLeft hub seen.items fault) }
-{
-    match end_alone(alloc, hub, chooser, is_stopped) {
-        Ok(hub) => compared(hub, seen),
-        Err(hub) => {
-            drop(seen);
-            Err(WorkFault::Memory(hub))
-        }
-    }
-}
-
 // The hub with the reports that were seen, once the workers and the watcher have ended and one thread has run it to its end.
 fn watch_over<O, R, C, G, W>(
     rt: &R,
     alloc: Global,
     hub: Hub,
+    board: Board,
+    keeper: Mark,
     workers: usize,
     chooser: C,
     gate: &G,
@@ -239,7 +182,9 @@ where
     C: Chooser + Drop + Send,
     G: Gate + Sync,
     W: Write + Send,
-    requires { opening_of hub ≡ O.opening }
+    requires hub { opening_of hub ≡ O.opening }
+    requires board { board.table.shared.table_id ≡ O.board }
+    requires keeper { IsKeeper O.board [] keeper }
     ensures works { IfOk result (λ r. IsWorked hub r.0 × (r.1.items ≡ r.0.reports)) }
     ensures fails { IfErr result (λ fault. WatchBreaks hub fault) }
     ensures written { let output = stream (W.contents writer.old.stream.now) (W.contents writer.new.stream.now) in
@@ -250,21 +195,14 @@ where
     ensures failed { writer.new.failed ≡ failed_after_all result writer.old.failed }
 {
     let before = hub.schedule().len();
-    let shared: Shared<O, C> = Shared::new(hub, chooser);
-    let (seen, started) = watched(rt, alloc, &shared, gate, workers, writer);
-    let (hub, chooser, is_stopped) = shared.into_parts();
-    match seen {
-        Err(WatchFault::Write) => Err(WorkFault::Write(hub)),
-        Err(WatchFault::Memory) => Err(WorkFault::Memory(hub)),
-        Ok(seen) => {
-            if started.is_none() && hub.schedule().len() == before {
-                drop(seen);
-                drop(chooser);
-                return Err(WorkFault::Start(hub));
-            }
-            left(alloc, hub, chooser, is_stopped, seen)
-        }
-    }
+    let shared: Shared<O, C> = Shared::new(hub, chooser, board, keeper);
+    let (watched, started) = watched(rt, alloc, &shared, gate, workers, writer);
+    let Watched { seen, fault, mark } = watched;
+    let (hub, chooser, is_stopped) = shared.into_parts_with(rt, mark);
+    let is_still = is_still(&started, &hub, before);
+    finished(
+        alloc, hub, chooser, is_stopped, is_still, seen, fault, writer,
+    )
 }
 
 /// Runs the hub as [`run_workers`] does, and writes each report as soon as it is made. It returns the reports that were written too.
@@ -299,5 +237,10 @@ where
     if !is_count(workers) {
         return Err(WorkFault::Count(hub));
     }
-    watch_over::<Brand, R, C, G, W>(rt, alloc, hub, workers, chooser, gate, writer)
+    let Ok((board, keeper)) = new_board(alloc) else {
+        return Err(out_of_memory(hub, Vec::new(alloc), writer));
+    };
+    watch_over::<Brand, R, C, G, W>(
+        rt, alloc, hub, board, keeper, workers, chooser, gate, writer,
+    )
 }

@@ -3,7 +3,7 @@ use Rattle.cml_monitor.specs.Reports.{report_text}
 use Rattle.cml_work.proofs.Writing.{starts_with}
 use Rattle.cml_work.proofs.watching.show.Goals as goal
 
-pub returns-clause-err : goal.returns-clause-err
-returns-clause-err g c =
+pub returns-clause-shown : goal.returns-clause-shown
+returns-clause-shown g c =
     let sent = c.in-Err.ensures.err in
-    starts_with _ _ (report_text c.args.report.now) c.as_bytes.result.now sent.0 (c.as_bytes.ensures.value ∙ c.in_ok-text.ensures) sent.1
+    starts_with _ (report_text c.args.report.now) c.as_bytes.result.now sent.0 (c.as_bytes.ensures.value ∙ c.in_ok-text.ensures) sent.1

@@ -3,4 +3,4 @@ use Rattle.cml_work.proofs.workers.run_workers.Given as goal
 
 -- the run's own hub is the opening
 abbrev pub ghosts-run_over : goal.ghosts-run_over
-ghosts-run_over g a = record { opening = opening_of a.hub }
+ghosts-run_over g a = record { opening = opening_of a.hub; board = a.board.table.shared.table_id }

@@ -1,5 +1,11 @@
+use Rattle.std.proofs.Common.{[], refl}
 use Rattle.cml_work.proofs.Going.{follows_itself}
+use Rattle.cml_work.proofs.MarkSteps.{keeps_known, knows}
 use Rattle.cml_work.proofs.locked.Locked.new.Goals as goal
 
 pub invariant_of-result : goal.invariant_of-result
-invariant_of-result g c = follows_itself _ _ c.requires
+invariant_of-result g c = (
+  follows_itself _ _ c.requires.hub,
+  keeps_known _ [] c.args.keeper c.requires.keeper,
+  knows _ [] c.args.hub.reports c.args.keeper c.requires.keeper (c.args.hub.reports, refl),
+)

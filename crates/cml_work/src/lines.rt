@@ -2,7 +2,7 @@
 
 ghost use Rattle.std.specs.Prelude.{◌≡◌, ◌+◌, ◌≤◌, ◌++◌};
 ghost use Rattle.arrayvec.specs.ArrayString.{array_string_len};
-ghost use Rattle.cml_host.specs.Told.{report_head};
+ghost use Rattle.cml_work.specs.Lines.{report_head};
 ghost use Rattle.cml_monitor.specs.Reports.{report_row_line, wait_line as wait_text};
 ghost use Rattle.cml_scan.specs.Numbers.{spaced};
 

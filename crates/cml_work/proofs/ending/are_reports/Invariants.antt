@@ -1,5 +1,5 @@
 use Rattle.std.proofs.Common.{◌≡◌, take}
-use Rattle.cml_work.proofs.workers.are_reports.Given as goal
+use Rattle.cml_work.proofs.ending.are_reports.Given as goal
 
 -- those before are the same
 abbrev pub invariant-loop-i : goal.invariant-loop-i
