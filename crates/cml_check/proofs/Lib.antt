@@ -9,3 +9,7 @@ pub mod FunctionLemmas
 pub mod SameLemmas
 pub mod WordLemmas
 pub mod SizeLemmas
+pub mod Laid
+pub mod Walk
+pub mod Fit
+pub mod Instrs

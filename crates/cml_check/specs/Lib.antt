@@ -19,3 +19,6 @@ pub mod Parts
 pub mod ExpressionParts
 pub mod StatementParts
 pub mod Laws
+pub mod Layout
+pub mod InstrViews
+pub mod Follows

@@ -77,10 +77,5 @@ fn function(
     *count = scope.statements;
     let names = scope.names.to_strings(alloc)?;
     let name = String::from_str(alloc, head.name)?;
-    Ok(Function {
-        name,
-        names,
-        arity,
-        body,
-    })
+    Ok(Function::new(alloc, name, names, arity, body)?)
 }

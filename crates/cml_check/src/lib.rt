@@ -2,11 +2,14 @@
 #![tactic(auto)]
 
 mod checker;
+mod copy;
 mod effect;
 mod expression;
 mod fault;
 mod head;
+mod instr;
 pub mod law;
+mod lay;
 mod names;
 mod parts;
 mod program;
@@ -18,6 +21,7 @@ mod word;
 
 pub use checker::check;
 pub use fault::{CheckFault, CheckKind};
+pub use instr::Instr;
 pub use program::{Function, Prog};
 pub use size::Size;
 pub use syntax::{

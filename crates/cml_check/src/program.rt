@@ -1,24 +1,32 @@
 //! Programs that were checked.
 
-ghost use Rattle.std.specs.Prelude.{◌≡◌, ◌<◌, ◌≤◌, IfOk, Some, true, codes, length, map, slice_get, slice_index_or};
+ghost use Rattle.std.specs.Prelude.{◌≡◌, ◌<◌, ◌≤◌, ℕ, List, IfOk, IfSome, MatchOption, Some, true, codes, length, map, slice_get, slice_index_or};
 ghost use Rattle.std.specs.String.{string_bytes};
 ghost use Rattle.cml_check.specs.Heads.{numbered, takes};
 ghost use Rattle.cml_check.specs.InOrder.{InOrder, IsProgram, FunctionFits, arities, names_of};
 ghost use Rattle.cml_check.specs.Sizes.{size_of, IsWithinSize};
+ghost use Rattle.cml_check.specs.Syntax.{no_stmts};
+ghost use Rattle.cml_check.specs.Layout.{left};
+ghost use Rattle.cml_check.specs.Follows.{Follows, instr_fits};
+ghost use Rattle.cml_check.specs.InstrViews.{plain_instr};
 
+use crate::instr::Instr;
+use crate::lay::lay;
 use crate::size::Size;
 use crate::syntax::Block;
 use std::alloc::{AllocError, Global};
 use std::marker::Model;
 use std::sync::Arc;
 
-/// A function: its name, the names of its slots, its parameters first, how many of them are parameters, and its statements.
+/// A function: its name, the names of its slots, its parameters first, how many of them are parameters, and its statements. Its
+/// instructions are those of its statements.
 #[derive(Drop)]
 pub struct Function {
-    pub name: String,
-    pub names: Vec<String>,
-    pub arity: u32,
-    pub body: Block,
+    pub(crate) name: String,
+    pub(crate) names: Vec<String>,
+    pub(crate) arity: u32,
+    pub(crate) body: Block,
+    code: Vec<Instr>,
 }
 
 impl Model for Function {
@@ -37,6 +45,57 @@ impl Model for Function {
       arity = a.arity;
       body = a.body;
     } };
+
+    ghost use Rattle.std.specs.Prelude.{◌≡◌};
+    ghost use Rattle.cml_check.specs.InstrViews.{plain_instr};
+    ghost use Rattle.cml_check.specs.Layout.{code_of};
+
+    ghost invariant = { λ a. map plain_instr a.code.items ≡ code_of a.body };
+}
+
+impl Function {
+    /// The function of these statements.
+    pub(crate) fn new(
+        alloc: Global,
+        name: String,
+        names: Vec<String>,
+        arity: u32,
+        body: Block,
+    ) -> Result<Function, AllocError>
+        ensures { IfOk result (λ f. f ≡ record {
+          name = string_bytes name;
+          names = map string_bytes names.items;
+          arity = arity;
+          body = body;
+        }) }
+    {
+        let code = lay(alloc, &body)?;
+        Ok(Function {
+            name,
+            names,
+            arity,
+            body,
+            code,
+        })
+    }
+
+    /// The instruction at a place: the first of the statements that are left there, with the places after it. There is none where no
+    /// statement is left. The function begins at place 0.
+    #[tactic(auto, using(crate::proofs::Instrs::instr_follows, crate::proofs::Instrs::instr_fit, crate::proofs::Instrs::no_instr))]
+    pub fn instr(&self, at: usize) -> Option<&Instr>
+        ensures follows { let left_at = left self.now.body in
+            MatchOption result (left_at at ≡ no_stmts)
+            (λ i. Follows left_at (plain_instr i.now) (left_at at)) }
+        ensures fits { (arities : List ℕ) → FunctionFits arities self.now →
+            IfSome result (λ i.
+            instr_fits arities (length self.now.names) (plain_instr i.now) ≡ true) }
+    {
+        if at < self.code.len() {
+            Some(&self.code[at])
+        } else {
+            None
+        }
+    }
 }
 
 /// A program in which each function, each slot and each number of values is in order, and which has a `main`. Its copies share it.

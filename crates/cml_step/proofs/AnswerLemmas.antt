@@ -8,7 +8,6 @@ use Rattle.cml_group.specs.Force.{PlainNeed, calls, needs_nack, unforced, replac
 use Rattle.cml_check.specs.Syntax.{PlainItem, no_stmts}
 use Rattle.cml_check.specs.Names.{AreDistinct}
 use Rattle.cml_check.specs.InOrder.{InOrder, arities}
-use Rattle.cml_step.specs.declared.place.Hop.{Hop}
 use Rattle.cml_step.specs.declared.call.Wait.{Wait}
 use Rattle.cml_step.specs.declared.call.Wait.TheVariants as wait
 use Rattle.cml_step.specs.declared.call.Call.{Call}
@@ -21,6 +20,7 @@ use Rattle.cml_step.specs.Answers.{PlainAwait, top_await, awaited_by, answer_for
 use Rattle.cml_step.specs.Asks.{PlainAnswer, a_value, a_nack, a_commit}
 use Rattle.cml_step.specs.Calls.{entry_of, entry_in, entry_for, placed_in, text_of, slots_with, WaitFits}
 use Rattle.cml_step.specs.Machines.{PlainHeld, plain_held, name_count}
+use Rattle.cml_step.specs.Shared.{topped, called}
 use Rattle.cml_step.specs.Stacks.{CallFits, entry_view, term_of, StackFits}
 use Rattle.cml_step.specs.Terms.{Program, runs, drops, gives, call, force, wraps, Term, call_of}
 use Rattle.cml_step.proofs.AwaitLemmas.{begun_runs}
@@ -44,14 +44,14 @@ by_nack (Some (calls f)) h = absurd (cc)
 by_nack (Some (needs_nack f)) h = (f, refl)
 by_nack None h = absurd (cc)
 
-call_waits : (o : Option (PlainItem ℕ)) (path : List Hop) (at : ℕ) (slots : List PlainValue) (w : Wait) (below : Term) (a : PlainAwait) → top_await (placed_in o path at slots w ∷ below) ≡ a →
+call_waits : (o : Option (PlainItem ℕ)) (at : ℕ) (slots : List PlainValue) (w : Wait) (below : Term) (a : PlainAwait) → top_await (placed_in o at slots w ∷ below) ≡ a →
     (a ≡ await.nack → ⊥) × (a ≡ await.commit → ⊥)
-call_waits (Some f) path at slots wait.Runs below a h = ((λ e. cc), (λ e. cc))
-call_waits (Some f) path at slots wait.Drops below a h = ((λ e. cc), (λ e. cc))
-call_waits (Some f) path at slots (wait.Gives s) below a h = ((λ e. cc), (λ e. cc))
-call_waits None path at slots wait.Runs below a h = ((λ e. cc), (λ e. cc))
-call_waits None path at slots wait.Drops below a h = ((λ e. cc), (λ e. cc))
-call_waits None path at slots (wait.Gives s) below a h = ((λ e. cc), (λ e. cc))
+call_waits (Some f) at slots wait.Runs below a h = ((λ e. cc), (λ e. cc))
+call_waits (Some f) at slots wait.Drops below a h = ((λ e. cc), (λ e. cc))
+call_waits (Some f) at slots (wait.Gives s) below a h = ((λ e. cc), (λ e. cc))
+call_waits None at slots wait.Runs below a h = ((λ e. cc), (λ e. cc))
+call_waits None at slots wait.Drops below a h = ((λ e. cc), (λ e. cc))
+call_waits None at slots (wait.Gives s) below a h = ((λ e. cc), (λ e. cc))
 
 value_top : (p : List (PlainItem ℕ)) (e : Entry) (below : Term) → top_await (entry_view p e ∷ below) ≡ await.value → IsCall e
 value_top p (entry.Call c) below h = (c, refl)
@@ -60,7 +60,7 @@ value_top p (entry.Force g false) below h = absurd (cc)
 value_top p (entry.Wraps w) below h = absurd (cc)
 
 commit_top : (p : List (PlainItem ℕ)) (e : Entry) (below : Term) → top_await (entry_view p e ∷ below) ≡ await.commit → IsForce e
-commit_top p (entry.Call c) below h = absurd ((call_waits (slice_get p c.func) c.path.items c.at c.slots.items c.wait below await.commit h).1 refl)
+commit_top p (entry.Call c) below h = absurd ((call_waits (slice_get p c.func) c.at c.slots.items c.wait below await.commit h).1 refl)
 commit_top p (entry.Force g asked) below h = (g, asked, refl)
 commit_top p (entry.Wraps w) below h = absurd (cc)
 
@@ -77,6 +77,16 @@ commit_last p es e h = commit_top p e (term_of p es) (ap top_await (sym (term_pu
 pub nack_last : (p : List (PlainItem ℕ)) (es : List PlainHeld) (g : PlainEvent) (asked : Bool) → top_await (term_of p (es ++ plain_held (entry.Force g asked) ∷ [])) ≡ await.nack → AwaitsNack g
 nack_last p es g asked h = nack_top g asked (term_of p es) (ap top_await (sym (term_pushed p es (plain_held (entry.Force g asked)))) ∙ h)
 
+-- the same where the entries lie in their two places
+commit_nowhere : (p : List (PlainItem ℕ)) (below : List PlainHeld) → below ≡ [] → top_await (term_of p below) ≡ await.commit → ⊥
+commit_nowhere p below e h = let t = ap (λ hs. top_await (term_of p hs)) (sym e) ∙ h in cc
+
+pub commit_in_place : (p : List (PlainItem ℕ)) (below : List PlainHeld) (own : Option Call) (over : Option Entry) → (over ≡ None → own ≡ None → below ≡ []) →
+    top_await (term_of p (topped (called below own) over)) ≡ await.commit → (g : PlainEvent) × (asked : Bool) × (over ≡ Some (entry.Force g asked))
+commit_in_place p below own (Some e) lifted h = let r = commit_last p (called below own) e h in (r.0, r.1, ap Some r.2)
+commit_in_place p below (Some c) None lifted h = let r = commit_last p below (entry.Call c) h in absurd (cc)
+commit_in_place p below None None lifted h = absurd (commit_nowhere p below (lifted refl refl) h)
+
 -- a function of a program in order
 got : (p : List (PlainItem ℕ)) (g : ℕ) (d : PlainItem ℕ) → g < length p → slice_get p g ≡ Some (slice_index_or p g d)
 got [] g d l = absurd (omega arith)
@@ -88,7 +98,7 @@ nowhere = record { name = []; names = []; arity = 0; body = no_stmts }
 
 -- the term of a stack, once the value has come that the call on top waited for
 filled_call : (p : List (PlainItem ℕ)) (f : PlainItem ℕ) (c d : Call) (v : PlainValue) (below : Term) → slice_get p c.func ≡ Some f → AreDistinct f.names → CallFits p c →
-    (d.func ≡ c.func) × (d.at ≡ c.at) × (d.path ≡ c.path) → d.wait ≡ wait.Runs → d.slots.items ≡ slots_with c.wait v c.slots.items →
+    (d.func ≡ c.func) × (d.at ≡ c.at) → d.wait ≡ wait.Runs → d.slots.items ≡ slots_with c.wait v c.slots.items →
     entry_of p d ∷ below ≡ after_answer (text_of p) (a_value v) (entry_of p c ∷ below)
 filled_call p f c d v below o i h e w s =
     let room : WaitFits c.wait (length f.names) (length c.slots.items) = subst (λ x. WaitFits c.wait (name_count x) (length c.slots.items)) o h.waits in
@@ -96,7 +106,7 @@ filled_call p f c d v below o i h e w s =
     ap (λ x. x ∷ below) (q ∙ filled_for f c d v i room e w s) ∙ ap (λ x. after_answer (text_of p) (a_value v) (entry_in x c ∷ below)) (sym o)
 
 pub value_given : (p : List (PlainItem ℕ)) (es : List PlainHeld) (c d : Call) (v : PlainValue) → InOrder p → StackFits p (es ++ plain_held (entry.Call c) ∷ []) →
-    (d.func ≡ c.func) × (d.at ≡ c.at) × (d.path ≡ c.path) → d.wait ≡ wait.Runs → d.slots.items ≡ slots_with c.wait v c.slots.items →
+    (d.func ≡ c.func) × (d.at ≡ c.at) → d.wait ≡ wait.Runs → d.slots.items ≡ slots_with c.wait v c.slots.items →
     term_of p (es ++ plain_held (entry.Call d) ∷ []) ≡ after_answer (text_of p) (a_value v) (term_of p (es ++ plain_held (entry.Call c) ∷ []))
 value_given p es c d v r h e w s =
     let fits : CallFits p c = (fits_popped p es (plain_held (entry.Call c)) h).1 in

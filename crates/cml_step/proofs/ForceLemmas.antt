@@ -103,3 +103,11 @@ guard_agrees fs e f h g = subst (PlaceAgrees fs) g (place_agrees fs e h)
 pub given_is : (f : PlainFunction) (n : ℕ) (vs ws : List PlainValue) (v : PlainValue) → n ≡ func_of f → values vs ≡ args_of f → ws ≡ vs ++ v ∷ [] → with_argument f v ≡ function n (values ws)
 given_is (function g us) n vs ws v e a i =
     ap (function g) (ap (with_last v) (sym a) ∙ sym (values_last v vs) ∙ ap values (sym i)) ∙ ap (λ m. function m (values ws)) (sym e)
+
+-- the same of a function that is called with its captured values alone
+pub captured_is : (f : PlainFunction) (n : ℕ) (vs ws : List PlainValue) → n ≡ func_of f → values vs ≡ args_of f → ws ≡ vs → f ≡ function n (values ws)
+captured_is (function g us) n vs ws e a i = ap (function g) (sym a ∙ ap values (sym i)) ∙ ap (λ m. function m (values ws)) (sym e)
+
+pub guard_called : (fs : List ℕ) (e : PlainEvent) (f : PlainFunction) (n : ℕ) (vs ws : List PlainValue) → event_agrees fs e ≡ true → unforced e ≡ Some (calls f) →
+    n ≡ func_of f → values vs ≡ args_of f → ws ≡ vs → function_agrees fs 0 (function n (values ws)) ≡ true
+guard_called fs e f n vs ws h g m a i = ap (function_agrees fs 0) (sym (captured_is f n vs ws m a i)) ∙ guard_agrees fs e f h g

@@ -2,7 +2,6 @@ pub mod Numbers
 pub mod SameLemmas
 pub mod Prefixes
 pub mod VariableLemmas
-pub mod PlaceLemmas
 pub mod AgreeLemmas
 pub mod CallLemmas
 pub mod ForceLemmas
@@ -14,4 +13,5 @@ pub mod AnswerLemmas
 pub mod ShortLemmas
 pub mod NackLemmas
 pub mod LeafLemmas
+pub mod RanLemmas
 mod Worked

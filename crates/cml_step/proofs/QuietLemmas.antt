@@ -1,23 +1,24 @@
--- Steps that only set variables and choose blocks.
-use Rattle.std.proofs.Common.{◌≡◌, ℕ, List, ◌∷◌, true, false, Ok, Err, Result, subst}
-use Rattle.std.specs.Prelude.{IfOk, IfErr}
+-- Steps that only set variables and choose places.
+use Rattle.std.proofs.Common.{◌≡◌, ℕ, ◌∷◌, true, false, Ok, Err, Result}
 use Rattle.std.specs.Result.{is_ok}
 use Rattle.cml_check.specs.Syntax.{PlainItem}
 use Rattle.cml_step.specs.declared.fault.Stop.{Stop}
+use Rattle.cml_step.specs.declared.fault.Stop.TheVariants as stop
 use Rattle.cml_step.specs.declared.call.Call.{Call}
-use Rattle.cml_step.specs.declared.call.Action.{Action}
-use Rattle.cml_step.specs.declared.call.Action.TheVariants as did
 use Rattle.cml_step.specs.Terms.{Term}
 use Rattle.cml_step.specs.Steps.{PlainStep, goes_on}
-use Rattle.cml_step.specs.Calls.{Moves, entry_for}
+use Rattle.cml_step.specs.Calls.{StepsOn, entry_for}
 
--- a step that came to nothing but going on
-pub went : (p : List (PlainItem ℕ)) (f : PlainItem ℕ) (r : Result Action Stop) (new : Call) (below : Term) (step : PlainStep) → is_ok r ≡ true → IfOk r (λ d. d ≡ did.Goes) → Moves p f r new below step →
+-- a step that was made went on
+pub went : {A : Type 0} → (f : PlainItem ℕ) (r : Result A Stop) (old new : Call) (below : Term) (step : PlainStep) → is_ok r ≡ true → StepsOn f r old new below step →
     step ≡ goes_on (entry_for f new ∷ below)
-went p f (Ok d) new below step is goes moves = subst (λ x. Moves p f (Ok x) new below step) goes moves
-went p f (Err e) new below step is goes moves = cc
+went f (Ok x) old new below step is h = h
+went f (Err (stop.Fault why)) old new below step is h = cc
+went f (Err stop.Memory) old new below step is h = cc
 
--- a step that did not
-pub stayed : (r : Result Action Stop) (X : Type 0) → is_ok r ≡ false → IfErr r (λ e. X) → X
-stayed (Ok d) X is kept = cc
-stayed (Err e) X is kept = kept
+-- with one that was not made the call stands where it stood
+pub stayed : {A : Type 0} → (f : PlainItem ℕ) (r : Result A Stop) (old new : Call) (below : Term) (step : PlainStep) → is_ok r ≡ false → StepsOn f r old new below step →
+    entry_for f new ≡ entry_for f old
+stayed f (Ok x) old new below step is h = cc
+stayed f (Err (stop.Fault why)) old new below step is h = h.1
+stayed f (Err stop.Memory) old new below step is h = h

@@ -15,7 +15,6 @@ use Rattle.cml_check.specs.Syntax.{PlainItem, PlainStmt, let_be, set_to, just_do
 use Rattle.cml_check.specs.Syntax as syntax
 use Rattle.cml_step.specs.declared.fault.Fault.{Fault}
 use Rattle.cml_step.specs.declared.fault.Fault.TheVariants.{Deep, Stack}
-use Rattle.cml_step.specs.declared.place.Hop.{Hop}
 use Rattle.cml_step.specs.declared.call.Wait.{Wait}
 use Rattle.cml_step.specs.declared.call.Wait.TheVariants as wait
 use Rattle.cml_step.specs.Faults.{Found}
@@ -196,23 +195,23 @@ pub answered_short : (p : Program) (a : PlainAnswer) (t : Term) → IsShort t �
 answered_short p a t h w = few_short (after_answer p a t) (answered_runs p a t w) (answered_few p a t h w)
 
 -- what a machine waits for, and how many entries it has, is the same under each program
-wait_awaits : (o : Option (PlainItem ℕ)) (path : List Hop) (at : ℕ) (slots : List PlainValue) (w : Wait) (t : Term) → (u : Option (PlainItem ℕ)) (s : Term) →
-    top_await (placed_in o path at slots w ∷ t) ≡ top_await (placed_in u path at slots w ∷ s)
-wait_awaits (Some f) path at slots wait.Runs t (Some g) s = refl
-wait_awaits (Some f) path at slots wait.Runs t None s = refl
-wait_awaits (Some f) path at slots wait.Drops t (Some g) s = refl
-wait_awaits (Some f) path at slots wait.Drops t None s = refl
-wait_awaits (Some f) path at slots (wait.Gives n) t (Some g) s = refl
-wait_awaits (Some f) path at slots (wait.Gives n) t None s = refl
-wait_awaits None path at slots wait.Runs t (Some g) s = refl
-wait_awaits None path at slots wait.Runs t None s = refl
-wait_awaits None path at slots wait.Drops t (Some g) s = refl
-wait_awaits None path at slots wait.Drops t None s = refl
-wait_awaits None path at slots (wait.Gives n) t (Some g) s = refl
-wait_awaits None path at slots (wait.Gives n) t None s = refl
+wait_awaits : (o : Option (PlainItem ℕ)) (at : ℕ) (slots : List PlainValue) (w : Wait) (t : Term) → (u : Option (PlainItem ℕ)) (s : Term) →
+    top_await (placed_in o at slots w ∷ t) ≡ top_await (placed_in u at slots w ∷ s)
+wait_awaits (Some f) at slots wait.Runs t (Some g) s = refl
+wait_awaits (Some f) at slots wait.Runs t None s = refl
+wait_awaits (Some f) at slots wait.Drops t (Some g) s = refl
+wait_awaits (Some f) at slots wait.Drops t None s = refl
+wait_awaits (Some f) at slots (wait.Gives n) t (Some g) s = refl
+wait_awaits (Some f) at slots (wait.Gives n) t None s = refl
+wait_awaits None at slots wait.Runs t (Some g) s = refl
+wait_awaits None at slots wait.Runs t None s = refl
+wait_awaits None at slots wait.Drops t (Some g) s = refl
+wait_awaits None at slots wait.Drops t None s = refl
+wait_awaits None at slots (wait.Gives n) t (Some g) s = refl
+wait_awaits None at slots (wait.Gives n) t None s = refl
 
 entry_awaits : (p q : List (PlainItem ℕ)) (h : PlainHeld) (t s : Term) → top_await (held_entry p h ∷ t) ≡ top_await (held_entry q h ∷ s)
-entry_awaits p q (held.call f path at slots w) t s = wait_awaits (slice_get p f) path at slots w t (slice_get q f) s
+entry_awaits p q (held.call f at slots w) t s = wait_awaits (slice_get p f) at slots w t (slice_get q f) s
 entry_awaits p q (held.force e true) t s = refl
 entry_awaits p q (held.force e false) t s = refl
 entry_awaits p q (held.wraps fs v) t s = refl

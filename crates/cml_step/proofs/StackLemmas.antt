@@ -1,7 +1,9 @@
 -- A stack and its term.
-use Rattle.std.proofs.Common.{◌≡◌, ℕ, zero, suc, ◌+◌, ◌<◌, true, List, [], ◌∷◌, ◌++◌, length, map, refl, ap, sym, ◌∙◌, subst, arith, get_or, Option, Some, None, slice_get, reverse}
+use Rattle.std.proofs.Common.{◌≡◌, ℕ, zero, suc, ◌+◌, ◌<◌, true, List, [], ◌∷◌, ◌++◌, length, map, refl, ap, sym, ◌∙◌, subst, arith, get_or, Option, Some, None, Result, Ok, Err, false, slice_get, reverse}
 use Rattle.std.proofs.lemmas.List.{reverse-append}
-use Rattle.std.specs.Option.{option_map}
+use Rattle.std.proofs.Common.{length-append}
+use Rattle.std.specs.Option.{option_map, is_some}
+use Rattle.std.specs.Prelude.{IfOk, IsErrAnd}
 use Rattle.std.proofs.lemmas.Bool.{and_parts, and_from}
 use Rattle.cml_value.specs.Value.{PlainValue, PlainFunction, function, func_of, args_of, values}
 use Rattle.cml_check.specs.Syntax.{PlainItem, no_stmts, stmts_map, name_at, written}
@@ -9,26 +11,35 @@ use Rattle.cml_step.specs.declared.call.Wait.{Wait}
 use Rattle.cml_step.specs.declared.call.Wait.TheVariants as wait
 use Rattle.cml_step.specs.declared.call.Call.{Call}
 use Rattle.cml_step.specs.Variables.{bound}
-use Rattle.cml_step.specs.Places.{left_at}
-use Rattle.cml_step.specs.Calls.{entry_in, entry_of, wait_of, text_of}
+use Rattle.cml_check.proofs.Walk.{left_start}
+use Rattle.cml_step.specs.Calls.{statements_at, entry_in, entry_of, wait_of, text_of}
 use Rattle.cml_check.specs.Heads.{takes}
 use Rattle.cml_check.specs.InOrder.{arities}
 use Rattle.cml_step.specs.Agrees.{function_agrees, values_count}
 use Rattle.cml_step.specs.Calls.{WaitFits}
 use Rattle.cml_check.specs.Names.{AreDistinct}
 use Rattle.cml_step.specs.Agrees.{value_agrees, all_agree}
-use Rattle.cml_step.specs.Steps.{filled, delivered, goes_on, next, wraps_step, pushed}
+use Rattle.cml_step.specs.Steps.{PlainStep, filled, delivered, goes_on, asks, next, wraps_step, pushed}
 use Rattle.cml_step.specs.Terms.{runs}
 use Rattle.cml_step.specs.Forced.{with_argument}
-use Rattle.cml_step.specs.Calls.{entry_for, slots_with}
+use Rattle.cml_step.specs.Calls.{entry_for, slots_with, MovesTo}
 use Rattle.cml_step.proofs.CallLemmas.{filled_is, agree_filled, wait_room}
 use Rattle.cml_step.proofs.AgreeLemmas.{all_values}
 use Rattle.cml_step.proofs.ForceLemmas.{list_values}
+use Rattle.cml_step.specs.declared.call.Action.{Action}
+use Rattle.cml_step.specs.declared.call.Action.TheVariants as did
+use Rattle.cml_step.specs.declared.entry.Wraps.{Wraps}
 use Rattle.cml_step.specs.declared.entry.Entry.TheVariants as entry
-use Rattle.cml_step.specs.Terms.{Program, call, wraps, Term, list_of, started, call_of}
+use Rattle.cml_step.specs.Terms.{Program, StackEntry, call, wraps, Term, list_of, started, call_of}
 use Rattle.cml_step.specs.Agrees.{functions_agree}
 use Rattle.cml_step.specs.Machines.{PlainHeld, plain_held, held_entry, held_on, HeldFits, HeldFitsBeneath, name_count}
-use Rattle.cml_step.specs.Stacks.{CallFits, term_of, EachBeneath, StackFits}
+use Rattle.cml_step.specs.declared.entry.Entry.{Entry}
+use Rattle.cml_step.specs.Shared.{topped, called}
+use Rattle.cml_step.specs.Stacks.{CallFits, WrapsFit, term_of, EachBeneath, StackFits, IsStep, IsDelivered, EntryStands}
+use Rattle.cml_step.specs.Asks.{PlainAsk}
+use Rattle.cml_step.specs.declared.ask.Ask.{Ask}
+use Rattle.cml_step.specs.declared.fault.Stop.{Stop}
+use Rattle.cml_step.specs.declared.fault.Stop.TheVariants as stop
 
 term_on_pushed : (p : List (PlainItem ℕ)) (es : List PlainHeld) (e : PlainHeld) (below : Term) → held_on p (es ++ e ∷ []) below ≡ held_entry p e ∷ held_on p es below
 term_on_pushed p [] e below = refl
@@ -67,20 +78,20 @@ text_at [] g o e = ap (option_map written) e
 text_at (x ∷ xs) zero o e = ap (option_map written) e
 text_at (x ∷ xs) (suc g) o e = text_at xs g o e
 
-begun_in : (o : Option (PlainItem ℕ)) (vs : List PlainValue) (c : Call) → c.path.items ≡ [] → c.at ≡ 0 → c.slots.items ≡ vs → c.wait ≡ wait.Runs →
+begun_in : (o : Option (PlainItem ℕ)) (vs : List PlainValue) (c : Call) → c.at ≡ 0 → c.slots.items ≡ vs → c.wait ≡ wait.Runs →
     entry_in o c ≡ started (option_map written o) vs
-begun_in (Some f) vs c h a s w =
-    ap (λ hs. call (stmts_map (name_at f.names) (left_at f.body hs c.at)) (bound f.names c.slots.items) (wait_of f.names c.wait)) h
-    ∙ ap (λ n. call (stmts_map (name_at f.names) (left_at f.body [] n)) (bound f.names c.slots.items) (wait_of f.names c.wait)) a
+begun_in (Some f) vs c a s w =
+    ap (λ n. call (statements_at f n) (bound f.names c.slots.items) (wait_of f.names c.wait)) a
+    ∙ ap (λ ss. call (stmts_map (name_at f.names) ss) (bound f.names c.slots.items) (wait_of f.names c.wait)) (left_start f.body)
     ∙ ap (λ ws. call (stmts_map (name_at f.names) f.body) (bound f.names ws) (wait_of f.names c.wait)) s
     ∙ ap (λ d. call (stmts_map (name_at f.names) f.body) (bound f.names vs) (wait_of f.names d)) w
-begun_in None vs c h a s w = ap (λ d. call no_stmts [] (wait_of [] d)) w
+begun_in None vs c a s w = ap (λ d. call no_stmts [] (wait_of [] d)) w
 
 -- a call of a function at its beginning
-pub begun : (p : List (PlainItem ℕ)) (vs : List PlainValue) (c : Call) → c.path.items ≡ [] → c.at ≡ 0 → c.slots.items ≡ vs → c.wait ≡ wait.Runs →
+pub begun : (p : List (PlainItem ℕ)) (vs : List PlainValue) (c : Call) → c.at ≡ 0 → c.slots.items ≡ vs → c.wait ≡ wait.Runs →
     entry_of p c ≡ call_of (text_of p) (function c.func (values vs))
-begun p vs c h a s w =
-    begun_in (slice_get p c.func) vs c h a s w
+begun p vs c a s w =
+    begun_in (slice_get p c.func) vs c a s w
     ∙ ap (λ ws. started (option_map written (slice_get p c.func)) ws) (sym (list_values vs))
     ∙ ap (λ o. started o (list_of (values vs))) (sym (text_at p c.func (slice_get p c.func) refl))
 
@@ -98,10 +109,10 @@ begun_fits p c h w = record {
 }
 
 -- the same of a call that begins with the values that the function has captured
-pub begun_by : (p : List (PlainItem ℕ)) (f : PlainFunction) (c : Call) → c.func ≡ func_of f → values c.slots.items ≡ args_of f → c.path.items ≡ [] → c.at ≡ 0 → c.wait ≡ wait.Runs →
+pub begun_by : (p : List (PlainItem ℕ)) (f : PlainFunction) (c : Call) → c.func ≡ func_of f → values c.slots.items ≡ args_of f → c.at ≡ 0 → c.wait ≡ wait.Runs →
     entry_of p c ≡ call_of (text_of p) f
-begun_by p (function g us) c e a h t w =
-    begun p c.slots.items c h t refl w ∙ ap (λ ws. call_of (text_of p) (function c.func ws)) a ∙ ap (λ n. call_of (text_of p) (function n us)) e
+begun_by p (function g us) c e a t w =
+    begun p c.slots.items c t refl w ∙ ap (λ ws. call_of (text_of p) (function c.func ws)) a ∙ ap (λ n. call_of (text_of p) (function n us)) e
 
 pub begun_by_fits : (p : List (PlainItem ℕ)) (f : PlainFunction) (c : Call) → c.func ≡ func_of f → values c.slots.items ≡ args_of f → c.wait ≡ wait.Runs →
     function_agrees (arities p) 0 f ≡ true → CallFits p c
@@ -126,25 +137,22 @@ fun_at (x ∷ xs) zero f l e = cc
 fun_at (x ∷ xs) (suc g) f l e = fun_at xs g f (omega arith) e
 
 pub filled_for : (f : PlainItem ℕ) (c d : Call) (v : PlainValue) → AreDistinct f.names → WaitFits c.wait (length f.names) (length c.slots.items) →
-    (d.func ≡ c.func) × (d.at ≡ c.at) × (d.path ≡ c.path) → d.wait ≡ wait.Runs → d.slots.items ≡ slots_with c.wait v c.slots.items →
-    entry_for f d ≡ call (stmts_map (name_at f.names) (left_at f.body c.path.items c.at)) (filled (wait_of f.names c.wait) v (bound f.names c.slots.items)) runs
+    (d.func ≡ c.func) × (d.at ≡ c.at) → d.wait ≡ wait.Runs → d.slots.items ≡ slots_with c.wait v c.slots.items →
+    entry_for f d ≡ call (statements_at f c.at) (filled (wait_of f.names c.wait) v (bound f.names c.slots.items)) runs
 filled_for f c d v i h e w s =
-    ap (λ n. call (stmts_map (name_at f.names) (left_at f.body d.path.items n)) (bound f.names d.slots.items) (wait_of f.names d.wait)) e.1
-    ∙ ap (λ hs. call (stmts_map (name_at f.names) (left_at f.body hs.items c.at)) (bound f.names d.slots.items) (wait_of f.names d.wait)) e.2
-    ∙ ap (λ x. call (stmts_map (name_at f.names) (left_at f.body c.path.items c.at)) (bound f.names d.slots.items) (wait_of f.names x)) w
-    ∙ ap (λ x. call (stmts_map (name_at f.names) (left_at f.body c.path.items c.at)) x runs) (ap (bound f.names) s ∙ sym (filled_is f.names c.slots.items c.wait v i h))
+    ap (λ n. call (statements_at f n) (bound f.names d.slots.items) (wait_of f.names d.wait)) e.1
+    ∙ ap (λ x. call (statements_at f c.at) (bound f.names d.slots.items) (wait_of f.names x)) w
+    ∙ ap (λ x. call (statements_at f c.at) x runs) (ap (bound f.names) s ∙ sym (filled_is f.names c.slots.items c.wait v i h))
 
 -- what delivering to it comes to
-pub delivered_call : (p : List (PlainItem ℕ)) (f : PlainItem ℕ) (c d : Call) (v : PlainValue) (es : List PlainHeld) → CallFits p c → f ≡ get_or p c.func f → AreDistinct f.names →
-    (d.func ≡ c.func) × (d.at ≡ c.at) × (d.path ≡ c.path) → d.wait ≡ wait.Runs → d.slots.items ≡ slots_with c.wait v c.slots.items →
-    delivered v (entry_of p c ∷ term_of p es) ≡ goes_on (term_of p (es ++ plain_held (entry.Call d) ∷ []))
-delivered_call p f c d v es h g i e w s =
+pub delivered_call : (p : List (PlainItem ℕ)) (f : PlainItem ℕ) (c d : Call) (v : PlainValue) (below : Term) → CallFits p c → f ≡ get_or p c.func f → AreDistinct f.names →
+    (d.func ≡ c.func) × (d.at ≡ c.at) → d.wait ≡ wait.Runs → d.slots.items ≡ slots_with c.wait v c.slots.items →
+    delivered v (entry_of p c ∷ below) ≡ goes_on (entry_of p d ∷ below)
+delivered_call p f c d v below h g i e w s =
     let o : slice_get p c.func ≡ Some f = fun_at p c.func f h.there g in
     let room : WaitFits c.wait (length f.names) (length c.slots.items) = subst (λ x. WaitFits c.wait (name_count x) (length c.slots.items)) o h.waits in
     let q : entry_of p d ≡ entry_for f d = ap (λ n. entry_in (slice_get p n) d) e.0 ∙ ap (λ x. entry_in x d) o in
-    ap (λ x. delivered v (entry_in x c ∷ term_of p es)) o
-    ∙ ap (λ x. goes_on (x ∷ term_of p es)) (sym (q ∙ filled_for f c d v i room e w s))
-    ∙ ap goes_on (sym (term_pushed p es (plain_held (entry.Call d))))
+    ap (λ x. delivered v (entry_in x c ∷ below)) o ∙ ap (λ x. goes_on (x ∷ below)) (sym (q ∙ filled_for f c d v i room e w s))
 
 -- an entry put on top, with what it waits for
 pub pushed_is : (p : List (PlainItem ℕ)) (es fs : List PlainHeld) (e : PlainHeld) → fs ≡ es ++ e ∷ [] → term_of p fs ≡ held_entry p e ∷ term_of p es
@@ -176,11 +184,11 @@ waiting_in : (p : Program) (self : ℕ) (o : Option (PlainItem ℕ)) (c : Call) 
     next p self (entry_in o c ∷ below) ≡ goes_on (entry_in o c ∷ below)
 waiting_in p self o c wait.Runs below e h = absurd (h refl)
 waiting_in p self (Some f) c wait.Drops below e h =
-    ap (λ w. next p self (call (stmts_map (name_at f.names) (left_at f.body c.path.items c.at)) (bound f.names c.slots.items) (wait_of f.names w) ∷ below)) e
-    ∙ ap (λ w. goes_on (call (stmts_map (name_at f.names) (left_at f.body c.path.items c.at)) (bound f.names c.slots.items) (wait_of f.names w) ∷ below)) (sym e)
+    ap (λ w. next p self (call (statements_at f c.at) (bound f.names c.slots.items) (wait_of f.names w) ∷ below)) e
+    ∙ ap (λ w. goes_on (call (statements_at f c.at) (bound f.names c.slots.items) (wait_of f.names w) ∷ below)) (sym e)
 waiting_in p self (Some f) c (wait.Gives s) below e h =
-    ap (λ w. next p self (call (stmts_map (name_at f.names) (left_at f.body c.path.items c.at)) (bound f.names c.slots.items) (wait_of f.names w) ∷ below)) e
-    ∙ ap (λ w. goes_on (call (stmts_map (name_at f.names) (left_at f.body c.path.items c.at)) (bound f.names c.slots.items) (wait_of f.names w) ∷ below)) (sym e)
+    ap (λ w. next p self (call (statements_at f c.at) (bound f.names c.slots.items) (wait_of f.names w) ∷ below)) e
+    ∙ ap (λ w. goes_on (call (statements_at f c.at) (bound f.names c.slots.items) (wait_of f.names w) ∷ below)) (sym e)
 waiting_in p self None c wait.Drops below e h =
     ap (λ w. next p self (call no_stmts [] (wait_of [] w) ∷ below)) e ∙ ap (λ w. goes_on (call no_stmts [] (wait_of [] w) ∷ below)) (sym e)
 waiting_in p self None c (wait.Gives s) below e h =
@@ -193,3 +201,100 @@ waiting p self c below h = waiting_in (text_of p) self (slice_get p c.func) c c.
 pub next_wrap : (p : Program) (self : ℕ) (all left : List PlainFunction) (f : PlainFunction) (v : PlainValue) (below : Term) → all ≡ left ++ f ∷ [] →
     wraps_step p (reverse all) v below ≡ pushed (call_of p (with_argument f v)) (wraps (reverse left) v ∷ below)
 next_wrap p self all left f v below h = ap (λ fs. wraps_step p fs v below) (ap reverse h ∙ last_next left f)
+
+-- the top entry, and those below it
+pub top_and_rest : (es fs : List PlainHeld) (e f : PlainHeld) → es ++ e ∷ [] ≡ fs ++ f ∷ [] → (es ≡ fs) × (e ≡ f)
+top_and_rest [] [] e f h = (refl, cc)
+top_and_rest [] (y ∷ []) e f h = absurd (cc)
+top_and_rest [] (y ∷ z ∷ fs) e f h = absurd (cc)
+top_and_rest (x ∷ []) [] e f h = absurd (cc)
+top_and_rest (x ∷ y ∷ es) [] e f h = absurd (cc)
+top_and_rest (x ∷ es) (y ∷ fs) e f h = let t : es ++ e ∷ [] ≡ fs ++ f ∷ [] = cc in let r = top_and_rest es fs e f t in let i : x ≡ y = cc in (ap (λ z. z ∷ es) i ∙ ap (λ zs. y ∷ zs) r.0, r.1)
+
+pub nothing_on_top : (es : List PlainHeld) (e : PlainHeld) → es ++ e ∷ [] ≡ [] → ⊥
+nothing_on_top [] e h = cc
+nothing_on_top (x ∷ es) e h = cc
+
+-- a stack with this entry on top
+pub stands_fits : (p : List (PlainItem ℕ)) (es hs : List PlainHeld) (h : PlainHeld) → es ≡ hs ++ h ∷ [] → EachBeneath p hs → HeldFits p h → StackFits p es
+stands_fits p es hs h e b f = subst (StackFits p) (sym e) (fits_pushed p hs h b f)
+
+pub stands_beneath : (p : List (PlainItem ℕ)) (es hs : List PlainHeld) (h : PlainHeld) → es ≡ hs ++ h ∷ [] → EachBeneath p hs → HeldFitsBeneath p h → EachBeneath p es
+stands_beneath p es hs h e b f = subst (EachBeneath p) (sym e) (beneath_pushed p hs h b f)
+
+-- a call stands as well beneath another entry as on top, and so do wraps
+pub call_stands : (p : List (PlainItem ℕ)) (a : Action) (c : Call) → CallFits p c → EntryStands p a (plain_held (entry.Call c))
+call_stands p did.Goes c h = h
+call_stands p (did.Calls g args) c h = h
+call_stands p (did.Forces e) c h = h
+call_stands p (did.Returns v) c h = tt
+call_stands p (did.Asks a) c h = h
+call_stands p did.Ends c h = tt
+
+pub wraps_stand : (p : List (PlainItem ℕ)) (a : Action) (w : Wraps) → WrapsFit p w → EntryStands p a (plain_held (entry.Wraps w))
+wraps_stand p did.Goes w h = h
+wraps_stand p (did.Calls g args) w h = h
+wraps_stand p (did.Forces e) w h = h
+wraps_stand p (did.Returns v) w h = tt
+wraps_stand p (did.Asks a) w h = h
+wraps_stand p did.Ends w h = tt
+
+-- what is left of the entries in their places where the top one goes
+pub over_dropped : (below : List PlainHeld) (own : Option Call) (over : Option Entry) (hs : List PlainHeld) (h : PlainHeld) → topped (called below own) over ≡ hs ++ h ∷ [] → (over ≡ None → ⊥) → called below own ≡ hs
+over_dropped below own None hs h e n = absurd (n refl)
+over_dropped below own (Some o) hs h e n = (top_and_rest (called below own) hs (plain_held o) h e).0
+
+pub call_dropped : (below : List PlainHeld) (own : Option Call) (hs : List PlainHeld) (h : PlainHeld) → (own ≡ None → below ≡ []) → called below own ≡ hs ++ h ∷ [] → below ≡ hs
+call_dropped below None hs h lifted e = absurd (nothing_on_top hs h (sym e ∙ lifted refl))
+call_dropped below (Some c) hs h lifted e = (top_and_rest below hs (plain_held (entry.Call c)) h e).0
+
+-- what comes of what the entry on top did
+pub stands_on : (p : List (PlainItem ℕ)) (es hs : List PlainHeld) (h : PlainHeld) (a : PlainAsk) (step : PlainStep) → es ≡ hs ++ h ∷ [] → step ≡ asks a (held_entry p h ∷ term_of p hs) → step ≡ asks a (term_of p es)
+stands_on p es hs h a step e m = m ∙ ap (asks a) (sym (pushed_is p hs es h e))
+
+pub stands_under : (p : List (PlainItem ℕ)) (es new hs : List PlainHeld) (h : PlainHeld) (e : StackEntry) (r : Result Ask Stop) (step : PlainStep) → es ≡ hs ++ h ∷ [] →
+    step ≡ pushed e (held_entry p h ∷ term_of p hs) → IsStep p r (pushed e (term_of p es)) new → IsStep p r step new
+stands_under p es new hs h e r step q m i = subst (λ (s : PlainStep). IsStep p r s new) (ap (pushed e) (pushed_is p hs es h q) ∙ sym m) i
+
+pub same_step : (p : List (PlainItem ℕ)) (new : List PlainHeld) (r : Result Ask Stop) (step other : PlainStep) → step ≡ other → IsStep p r other new → IsStep p r step new
+same_step p new r step other m i = subst (λ (s : PlainStep). IsStep p r s new) (sym m) i
+
+-- a step that could not be taken
+pub moved_failed : (p : List (PlainItem ℕ)) (e : Stop) (new : StackEntry) (below : Term) (step : PlainStep) (es : List PlainHeld) → MovesTo p (Err e) new below step → IsStep p (Err e) step es
+moved_failed p (stop.Fault why) new below step es h = h
+moved_failed p stop.Memory new below step es h = tt
+
+pub delivered_failed : (p : List (PlainItem ℕ)) (e : Stop) (new : StackEntry) (below : Term) (step : PlainStep) (es : List PlainHeld) → IsDelivered (Err e) new below step → IsStep p (Err e) step es
+delivered_failed p (stop.Fault why) new below step es h = h
+delivered_failed p stop.Memory new below step es h = tt
+
+-- a value that was delivered to the entry on top
+pub delivered_on : (p : List (PlainItem ℕ)) (old new hs : List PlainHeld) (h g : PlainHeld) (v : PlainValue) → old ≡ hs ++ h ∷ [] → new ≡ hs ++ g ∷ [] →
+    delivered v (held_entry p h ∷ term_of p hs) ≡ goes_on (held_entry p g ∷ term_of p hs) → delivered v (term_of p old) ≡ goes_on (term_of p new)
+delivered_on p old new hs h g v e f s = ap (delivered v) (pushed_is p hs old h e) ∙ s ∙ ap goes_on (sym (pushed_is p hs new g f))
+
+-- how many entries there are below the one on top
+pub count_under : (p : List (PlainItem ℕ)) (old hs : List PlainHeld) (h : PlainHeld) (n : ℕ) → old ≡ hs ++ h ∷ [] → n ≡ length old → length (term_of p hs) + 1 ≡ n
+count_under p old hs h n e l = let m = ap length e in omega (arith, term_length p hs, length-append hs (h ∷ []), m, l)
+
+-- an error that is passed on
+pub same_error : (p : List (PlainItem ℕ)) (r : Result Ask Stop) (e : Stop) (step : PlainStep) (es : List PlainHeld) → IsErrAnd r (λ x. x ≡ e) → IsStep p (Err e) step es → IsStep p r step es
+same_error p (Ok a) e step es h i = absurd h
+same_error p (Err x) e step es h i = subst (λ (y : Stop). IsStep p (Err y) step es) (sym h) i
+
+-- the top one was lifted from below
+pub dropped_lifted : {E : Type 0} (below : List PlainHeld) (own : Option Call) (over : Option Entry) (old new : List PlainHeld) (r : Result (Unit {0}) E) → topped (called below own) over ≡ old →
+    is_some over ≡ true → is_some own ≡ false → IfOk r (λ _. new ≡ below) → IfOk r (λ _. (hs : List PlainHeld) (h : PlainHeld) → old ≡ hs ++ h ∷ [] → new ≡ hs)
+dropped_lifted below own None old new r v s n g = absurd (cc)
+dropped_lifted below (Some c) (Some o) old new r v s n g = absurd (cc)
+dropped_lifted below None (Some o) old new (Err x) v s n g = tt
+dropped_lifted below None (Some o) old new (Ok x) v s n g = λ hs h e. g ∙ (top_and_rest below hs (plain_held o) h (v ∙ e)).0
+
+-- nothing stands over the call
+pub nothing_over : (over : Option Entry) → ((e : Entry) → over ≡ Some e → ⊥) → over ≡ None
+nothing_over None n = refl
+nothing_over (Some e) n = absurd (n e refl)
+
+pub none_over : (over : Option Entry) → is_some over ≡ false → over ≡ None
+none_over None n = refl
+none_over (Some e) n = absurd (cc)

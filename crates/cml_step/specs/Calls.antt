@@ -1,22 +1,22 @@
 -- A call as the machine holds it, and the entry of a term that it stands for.
-use Rattle.std.specs.Prelude.{◌≡◌, ℕ, suc, ◌<◌, true, false, List, [], ◌∷◌, length, map, Result, Ok, Err, IfOk, IfErr, Option, Some, None, slice_get, slice_set}
+use Rattle.std.specs.Prelude.{◌≡◌, ℕ, ◌<◌, Bool, true, false, if◌then◌else◌, List, [], ◌∷◌, length, map, Result, Ok, Err, Option, Some, None, slice_get, slice_set}
 use Rattle.cml_value.specs.Value.{PlainValue, function, values}
 use Rattle.cml_check.specs.Syntax.{PlainItem, PlainStmts, no_stmts, stmts_map, Name, name_at, written}
 use Rattle.cml_check.specs.Names.{AreDistinct}
+use Rattle.cml_check.specs.Layout.{left}
 use Rattle.cml_step.specs.declared.fault.Stop.{Stop}
 use Rattle.cml_step.specs.declared.fault.Stop.TheVariants as stop
 use Rattle.cml_step.specs.declared.ask.Ask.{Ask}
 use Rattle.cml_step.specs.declared.call.Wait.{Wait}
 use Rattle.cml_step.specs.declared.call.Wait.TheVariants as wait
 use Rattle.cml_step.specs.declared.call.Call.{Call}
-use Rattle.cml_step.specs.declared.place.Hop.{Hop}
 use Rattle.cml_step.specs.declared.call.Action.{Action}
 use Rattle.cml_step.specs.declared.call.Action.TheVariants as did
 use Rattle.cml_step.specs.Agrees.{value_agrees, all_agree, event_agrees, function_agrees, ask_agrees}
 use Rattle.cml_step.specs.Variables.{Variables, bound}
-use Rattle.cml_step.specs.Places.{left_at}
 use Rattle.cml_step.specs.Terms.{Program, PlainWait, runs, drops, gives, StackEntry, call, force, Term, call_of}
 use Rattle.cml_step.specs.AskViews.{plain_ask}
+use Rattle.cml_step.specs.Faults.{Found}
 use Rattle.cml_step.specs.Steps.{PlainStep, goes_on, asks, ends, fails, pushed, delivered}
 
 abbrev pub wait_of : List Name → Wait → PlainWait
@@ -24,19 +24,23 @@ wait_of names wait.Runs = runs
 wait_of names wait.Drops = drops
 wait_of names (wait.Gives slot) = gives (name_at names slot)
 
--- the entry that a call of f stands for: where it is at this place, with these values in its slots
-abbrev pub call_at : PlainItem ℕ → List Hop → ℕ → List PlainValue → Wait → StackEntry
-call_at f path at slots w = call (stmts_map (name_at f.names) (left_at f.body path at)) (bound f.names slots) (wait_of f.names w)
+-- the statements that are left at a place of f, as they are written
+abbrev pub statements_at : PlainItem ℕ → ℕ → PlainStmts Name
+statements_at f at = stmts_map (name_at f.names) (left f.body at)
 
-abbrev pub placed_in : Option (PlainItem ℕ) → List Hop → ℕ → List PlainValue → Wait → StackEntry
-placed_in (Some f) path at slots w = call_at f path at slots w
-placed_in None path at slots w = call no_stmts [] (wait_of [] w)
+-- the entry that a call of f stands for: where it is at this place, with these values in its slots
+abbrev pub call_at : PlainItem ℕ → ℕ → List PlainValue → Wait → StackEntry
+call_at f at slots w = call (statements_at f at) (bound f.names slots) (wait_of f.names w)
+
+abbrev pub placed_in : Option (PlainItem ℕ) → ℕ → List PlainValue → Wait → StackEntry
+placed_in (Some f) at slots w = call_at f at slots w
+placed_in None at slots w = call no_stmts [] (wait_of [] w)
 
 abbrev pub entry_for : PlainItem ℕ → Call → StackEntry
-entry_for f c = call_at f c.path.items c.at c.slots.items c.wait
+entry_for f c = call_at f c.at c.slots.items c.wait
 
 abbrev pub entry_in : Option (PlainItem ℕ) → Call → StackEntry
-entry_in o c = placed_in o c.path.items c.at c.slots.items c.wait
+entry_in o c = placed_in o c.at c.slots.items c.wait
 
 abbrev pub entry_of : List (PlainItem ℕ) → Call → StackEntry
 entry_of p c = entry_in (slice_get p c.func) c
@@ -82,20 +86,20 @@ Moves p f r new below step = MovesTo p r (entry_for f new) below step
 abbrev pub variables_of : PlainItem ℕ → Call → Variables
 variables_of f c = bound f.names c.slots.items
 
--- the statements after the one at its place
-abbrev pub statements_left : PlainItem ℕ → Call → PlainStmts Name
-statements_left f c = stmts_map (name_at f.names) (left_at f.body c.path.items (suc c.at))
+-- a step that goes on at one of two places of f: at the first where the test holds, else at the second
+abbrev pub chosen : PlainItem ℕ → Found Bool → ℕ → ℕ → Variables → Term → PlainStep
+chosen f (Ok holds) first second variables below = goes_on (call (statements_at f (if holds then first else second)) variables runs ∷ below)
+chosen f (Err why) first second variables below = fails why
 
 -- The call of f agrees with the program, and each variable of f has a name of its own.
 pub record IsSound (fs : List ℕ) (f : PlainItem ℕ) (c : Call) : Type 0 where
   pub distinct : AreDistinct f.names
   pub agree : all_agree fs c.slots.items ≡ true
 
--- The call of f is sound and runs, and there is a place after its own.
+-- The call of f is sound and runs.
 pub record IsReady (fs : List ℕ) (f : PlainItem ℕ) (c : Call) : Type 0 where
   pub sound : IsSound fs f c
   pub runs : c.wait ≡ wait.Runs
-  pub bounded : c.at < 18446744073709551615
 
 -- After a step the call is one of the same function, agrees with the program, and waits for nothing that has no place; so does what it did.
 pub record Stays (fs : List ℕ) (f : PlainItem ℕ) (r : Result Action Stop) (old new : Call) : Type 0 where
@@ -104,11 +108,12 @@ pub record Stays (fs : List ℕ) (f : PlainItem ℕ) (r : Result Action Stop) (o
   pub agrees : ActionAgrees fs r
   pub same : new.func ≡ old.func
 
--- The step of a call that runs goes on, and the call runs; where it could not be made, the call stands where it stood.
-pub record StepsOn (f : PlainItem ℕ) (r : Result Action Stop) (old new : Call) : Type 0 where
-  pub on : IfOk r (λ d. d ≡ did.Goes)
-  pub kept : IfErr r (λ _. entry_for f new ≡ entry_for f old)
-  pub runs : new.wait ≡ wait.Runs
+-- A step that was made went on, to the entry that the call of f stands for then; one that was not made is at fault, or memory ran out, and
+-- the call stands where it stood.
+abbrev pub StepsOn : {A : Type 0} → PlainItem ℕ → Result A Stop → Call → Call → Term → PlainStep → Type 0
+StepsOn f (Ok x) old new below step = step ≡ goes_on (entry_for f new ∷ below)
+StepsOn f (Err (stop.Fault why)) old new below step = (step ≡ fails why) × (entry_for f new ≡ entry_for f old)
+StepsOn f (Err stop.Memory) old new below step = entry_for f new ≡ entry_for f old
 
 -- The call runs still: it is one of the same function, and agrees with the program.
 pub record RunsOn (fs : List ℕ) (old new : Call) : Type 0 where

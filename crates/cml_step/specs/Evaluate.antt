@@ -1,9 +1,10 @@
 -- The value of an expression. Its parts are evaluated from the left, and all of them before what is made of them.
-use Rattle.std.specs.Prelude.{List, [], ◌∷◌, Ok}
+use Rattle.std.specs.Prelude.{Bool, List, [], ◌∷◌, Ok}
 use Rattle.cml_check.specs.Syntax.{PlainExpr, constant, number, text, variable, unary, binary, choose, wrap, guard, with_nack, PlainExprs, no_exprs, exprs_and}
 use Rattle.cml_value.specs.Value.{PlainValue, int, function, values}
 use Rattle.cml_value.specs.Value as value
 use Rattle.cml_step.specs.Faults.{Found, ◌>>=◌}
+use Rattle.cml_step.specs.Kinds.{as_truth}
 use Rattle.cml_step.specs.Operators.{constant_value, unary_value, binary_value, choose_value, wrap_value, guard_value, nack_value}
 
 abbrev mutual
@@ -40,3 +41,12 @@ abbrev mutual
     v ← evaluate of e
     vs ← evaluate_all of es
     Ok (v ∷ vs)
+
+-- whether a test holds: its value is a truth value
+abbrev pub truth_found : Found PlainValue → Found Bool
+truth_found found = do
+  v ← found
+  as_truth v
+
+abbrev pub holds : {V : Type 0} → (V → PlainValue) → PlainExpr V → Found Bool
+holds of e = truth_found (evaluate of e)

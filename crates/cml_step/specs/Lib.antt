@@ -10,7 +10,6 @@ pub mod Forced
 pub mod Steps
 pub mod Slices
 pub mod Answers
-pub mod Places
 pub mod AskViews
 pub mod Agrees
 pub mod Calls

@@ -1,35 +1,11 @@
 -- A code of each machine: a tree of numbers from which it can be read back. The toolchain asks for one; no rule uses it.
-use Rattle.std.specs.Prelude.{◌≡◌, ℕ, List, [], ◌∷◌, get_or, refl}
+use Rattle.std.specs.Prelude.{◌≡◌, ℕ, List, refl}
 use Rattle.std.specs.Coded.{Coded, code_by, coded×, coded_ℕ, coded_bool, coded_list}
-use Rattle.std.proofs.Common.{ap}
 use base.Stored.{Gv, gnil, gnum, gcons}
 use Rattle.cml_value.specs.Codes.{value_code, function_code, event_code}
-use Rattle.cml_step.specs.declared.place.Arm.{Arm}
-use Rattle.cml_step.specs.declared.place.Arm.TheVariants as arm
-use Rattle.cml_step.specs.declared.place.Hop.{Hop}
 use Rattle.cml_step.specs.declared.call.Wait.{Wait}
 use Rattle.cml_step.specs.declared.call.Wait.TheVariants as wait
 use Rattle.cml_step.specs.Machines.{PlainHeld, call, force, wraps, PlainMachine}
-
-abbrev pub arm_number : Arm → ℕ
-arm_number arm.Then = 0
-arm_number arm.Else = 1
-arm_number arm.Body = 2
-
-abbrev pub arm_by : ℕ → Arm
-arm_by n = get_or (arm.Then ∷ arm.Else ∷ arm.Body ∷ []) n arm.Then
-
-pub arm_back : (a : Arm) → arm_by (arm_number a) ≡ a
-arm_back arm.Then = refl
-arm_back arm.Else = refl
-arm_back arm.Body = refl
-
-pub hop_back : (h : Hop) → record { at = h.at; arm = arm_by (arm_number h.arm); back = h.back } ≡ h
-hop_back h = ap (λ a. record { at = h.at; arm = a; back = h.back }) (arm_back h.arm)
-
-abbrev pub hop_code : Coded Hop
-hop_code =
-    code_by (ℕ × (ℕ × ℕ)) (coded× coded_ℕ (coded× coded_ℕ coded_ℕ)) (λ h. (h.at, (arm_number h.arm, h.back))) (λ n. record { at = n.0; arm = arm_by n.1.0; back = n.1.1 }) hop_back
 
 abbrev pub wait_gv : Wait → Gv
 wait_gv wait.Runs = gcons (gnum 0) gnil
@@ -46,14 +22,12 @@ abbrev pub wait_code : Coded Wait
 wait_code = record { code = wait_gv; inj = wait_gv_inj }
 
 abbrev pub held_gv : PlainHeld → Gv
-held_gv (call f path at slots w) =
-    gcons (gnum 0) (gcons (gnum f) (gcons ((coded_list hop_code).code path) (gcons (gnum at) (gcons ((coded_list value_code).code slots) (wait_gv w)))))
+held_gv (call f at slots w) = gcons (gnum 0) (gcons (gnum f) (gcons (gnum at) (gcons ((coded_list value_code).code slots) (wait_gv w))))
 held_gv (force e asked) = gcons (gnum 1) (gcons (event_code.code e) (coded_bool.code asked))
 held_gv (wraps fs v) = gcons (gnum 2) (gcons ((coded_list function_code).code fs) (value_code.code v))
 
 pub held_gv_inj : (x y : PlainHeld) → held_gv x ≡ held_gv y → x ≡ y
-held_gv_inj (call f path at slots w) (call g way at' vs u) p =
-    let a = (coded_list hop_code).inj path way (cc) in let b = (coded_list value_code).inj slots vs (cc) in let c = wait_gv_inj w u (cc) in cc
+held_gv_inj (call f at slots w) (call g at' vs u) p = let b = (coded_list value_code).inj slots vs (cc) in let c = wait_gv_inj w u (cc) in cc
 held_gv_inj (force e a) (force g b) p = let i = event_code.inj e g (cc) in let j = coded_bool.inj a b (cc) in cc
 held_gv_inj (wraps fs v) (wraps gs w) p = let i = (coded_list function_code).inj fs gs (cc) in let j = value_code.inj v w (cc) in cc
 held_gv_inj _ _ p = cc

@@ -4,7 +4,6 @@ use Rattle.cml_value.specs.Value.{PlainValue, PlainFunction, PlainEvent}
 use Rattle.cml_group.specs.Force.{AwaitsEvent}
 use Rattle.cml_check.specs.Syntax.{PlainItem}
 use Rattle.cml_check.specs.InOrder.{InOrder, arities}
-use Rattle.cml_step.specs.declared.place.Hop.{Hop}
 use Rattle.cml_step.specs.declared.call.Wait.{Wait}
 use Rattle.cml_step.specs.declared.entry.Entry.{Entry}
 use Rattle.cml_step.specs.declared.entry.Entry.TheVariants as entry
@@ -18,7 +17,7 @@ use Rattle.cml_step.specs.Terms as term
 -- that is being forced the event, and whether it has asked; of wraps in progress the functions that are left, the next one last, and the
 -- value that has come so far.
 pub data PlainHeld : Type 0 where
-  call : ℕ → List Hop → ℕ → List PlainValue → Wait → PlainHeld
+  call : ℕ → ℕ → List PlainValue → Wait → PlainHeld
   force : PlainEvent → Bool → PlainHeld
   wraps : List PlainFunction → PlainValue → PlainHeld
 
@@ -28,13 +27,13 @@ pub record PlainMachine : Type 0 where
   pub stack : List PlainHeld
 
 abbrev pub plain_held : Entry → PlainHeld
-plain_held (entry.Call c) = call c.func c.path.items c.at c.slots.items c.wait
+plain_held (entry.Call c) = call c.func c.at c.slots.items c.wait
 plain_held (entry.Force g asked) = force g asked
 plain_held (entry.Wraps w) = wraps w.left.items w.value
 
 -- the entry that it stands for under a program
 abbrev pub held_entry : List (PlainItem ℕ) → PlainHeld → StackEntry
-held_entry p (call f path at slots w) = placed_in (slice_get p f) path at slots w
+held_entry p (call f at slots w) = placed_in (slice_get p f) at slots w
 held_entry p (force e asked) = term.force e asked
 held_entry p (wraps fs v) = term.wraps (reverse fs) v
 
@@ -63,7 +62,7 @@ pub record AreWrapsOf (p : List (PlainItem ℕ)) (fs : List PlainFunction) (v : 
   pub value : value_agrees (arities p) v ≡ true
 
 abbrev pub HeldFits : List (PlainItem ℕ) → PlainHeld → Type 0
-HeldFits p (call f path at slots w) = IsCallOf p f slots w
+HeldFits p (call f at slots w) = IsCallOf p f slots w
 HeldFits p (force e asked) = event_agrees (arities p) e ≡ true
 HeldFits p (wraps fs v) = AreWrapsOf p fs v
 

@@ -11,6 +11,7 @@ use Rattle.cml_check.specs.declared.syntax.ActOnTwo.{ActOnTwo}
 use Rattle.cml_check.specs.declared.syntax.ActOnTwo.TheVariants as two_of
 use Rattle.cml_check.specs.Syntax.{PlainEffect, act, act_on_one, act_on_two, PlainSource, value, effect, Name}
 use Rattle.cml_check.specs.Syntax.{PlainStmt, let_be, set_to, just_do, if_so, while_so, return_with, PlainStmts, no_stmts, stmts_and}
+use Rattle.cml_check.specs.Layout.{and_then}
 use Rattle.cml_check.specs.Syntax as syntax
 use Rattle.cml_step.specs.declared.fault.Fault.{Fault}
 use Rattle.cml_step.specs.declared.fault.Fault.TheVariants.{Deep, Stack}
@@ -18,7 +19,7 @@ use Rattle.cml_step.specs.Faults.{Found}
 use Rattle.cml_step.specs.Kinds.{as_truth, as_event, as_ivar, as_mvar, as_mailbox, as_mchan, as_port}
 use Rattle.cml_step.specs.Variables.{Variables, value_of, assigned}
 use Rattle.cml_step.specs.Evaluate.{evaluate, evaluate_all}
-use Rattle.cml_step.specs.Terms.{Program, PlainWait, runs, drops, gives, StackEntry, call, force, wraps, Term, max_entries, and_then, call_of}
+use Rattle.cml_step.specs.Terms.{Program, PlainWait, runs, drops, gives, StackEntry, call, force, wraps, Term, max_entries, call_of}
 use Rattle.cml_step.specs.Asks as ask
 use Rattle.cml_step.specs.Asks.{PlainAsk}
 use Rattle.cml_step.specs.Forced.{group_of, with_argument}

@@ -1,7 +1,7 @@
 -- What a thread of a script has still to do.
 use Rattle.std.specs.Prelude.{ℕ, Bool, List, [], ◌∷◌, Option, Some, None, slice_get}
 use Rattle.cml_value.specs.Value.{PlainValue, PlainValues, no_values, values_and, PlainFunction, function, PlainEvent}
-use Rattle.cml_check.specs.Syntax.{PlainItem, PlainStmts, no_stmts, stmts_and, Name}
+use Rattle.cml_check.specs.Syntax.{PlainItem, PlainStmts, no_stmts, Name}
 use Rattle.cml_step.specs.Variables.{Variables, bound}
 
 -- a program as it is written: its functions in order
@@ -29,11 +29,6 @@ Term = List StackEntry
 -- the most entries of a stack (Concurrent ML has no such limit)
 abbrev pub max_entries : ℕ
 max_entries = 1024
-
--- one list of statements, and then another
-abbrev pub and_then : {V : Type 0} → PlainStmts V → PlainStmts V → PlainStmts V
-and_then no_stmts left = left
-and_then (stmts_and s ss) left = stmts_and s (and_then ss left)
 
 abbrev pub list_of : PlainValues → List PlainValue
 list_of no_values = []

@@ -1,31 +1,32 @@
 //! A call on the stack of a thread, and what it does in a step.
 
-ghost use Rattle.std.specs.Prelude.{◌≡◌, ℕ, suc, ◌<◌, ◌≤◌, List, ◌∷◌, length, true, Some, Ok, IfOk, IfErr, slice_set};
-ghost use Rattle.cml_value.specs.Value.{thread as plain_thread};
-ghost use Rattle.cml_check.specs.Syntax.{Name, if_so, while_so, act_on_one, act_on_two, call as plain_call, spawn as plain_spawn, name_at, expr_map, exprs_map, effect_map, source_map, stmt_map, stmts_map, value as plain_source_value};
+ghost use Rattle.std.specs.Prelude.{◌≡◌, ℕ, ◌<◌, List, ◌∷◌, length, true, Ok, IfOk, IfErr, IfSome};
+ghost use Rattle.cml_value.specs.Value.{int, thread as plain_thread};
+ghost use Rattle.cml_check.specs.Syntax.{Name, act_on_one, act_on_two, call as plain_call, spawn as plain_spawn, name_at, expr_map, exprs_map, effect_map, source_map, value as plain_source_value};
 ghost use Rattle.cml_check.specs.StmtViews.{plain_effect, plain_source};
 ghost use Rattle.cml_check.specs.Names.{AreDistinct};
-ghost use Rattle.cml_check.specs.InOrder.{FunctionFits, arities, expr_fits, exprs_fit, exprs_count, effect_fits, source_fits, stmt_fits};
+ghost use Rattle.cml_check.specs.InOrder.{FunctionFits, arities, expr_fits, exprs_fit, exprs_count, effect_fits, source_fits};
+ghost use Rattle.cml_check.specs.Layout.{left};
+ghost use Rattle.cml_check.specs.Follows.{Follows, instr_fits};
+ghost use Rattle.cml_check.specs.InstrViews.{plain_instr};
 ghost use Rattle.cml_step.specs.Faults.{ComesTo};
 ghost use Rattle.cml_step.specs.Agrees.{value_agrees, all_agree, ask_agrees};
 ghost use Rattle.cml_step.specs.Variables.{bound, value_of};
 ghost use Rattle.cml_step.specs.Evaluate as meaning;
-ghost use Rattle.cml_step.specs.Places.{stmt_at, block_at, left_at};
 ghost use Rattle.cml_check.specs.Heads.{takes};
 ghost use Rattle.cml_step.specs.AskViews.{plain_ask};
 ghost use Rattle.cml_step.specs.Terms.{Term, drops, gives, call as plain_entry};
 ghost use Rattle.cml_check.specs.Syntax.{PlainItem};
-ghost use Rattle.cml_step.specs.Calls.{entry_for, text_of, variables_of, statements_left, slots_with, WaitFits, IsSound, IsReady, Stays, StepsOn, Moves, ActionAgrees, MovesToAsk};
+ghost use Rattle.cml_step.specs.Calls.{entry_for, text_of, variables_of, statements_at, chosen, slots_with, WaitFits, IsSound, IsReady, Stays, StepsOn, RunsOn, Moves, ActionAgrees, MovesToAsk};
 ghost use Rattle.cml_step.specs.Steps as steps;
+ghost use Rattle.cml_step.specs.Steps.{PlainStep};
 
 use crate::ask::Ask;
 use crate::evaluate::{evaluate, evaluate_all};
 use crate::fault::Stop;
 use crate::kind::{event_of, ivar_of, mailbox_of, mchan_of, mvar_of, port_of, truth_of};
-use crate::place::{Arm, Hop, next_statement};
-use cml_check::{
-    Act, ActOnOne, ActOnTwo, Block, Effect, Expr, Exprs, Function, Prog, Source, Stmt, StmtKind,
-};
+use crate::number::{quick_int, quick_truth};
+use cml_check::{Act, ActOnOne, ActOnTwo, Effect, Expr, Exprs, Function, Instr, Prog, Source};
 use cml_value::{Event, FnRef, Tid, Value, ValueKind};
 use std::alloc::Global;
 
@@ -37,11 +38,10 @@ pub(crate) enum Wait {
     Gives(usize),
 }
 
-/// A call: the function, the place in its body, the values of its slots, and what it waits for.
+/// A call: the function, its place there, which is the number of an instruction, the values of its slots, and what it waits for.
 #[derive(Drop)]
 pub(crate) struct Call {
     pub func: u32,
-    pub path: Vec<Hop>,
     pub at: usize,
     pub slots: Vec<Value>,
     pub wait: Wait,
@@ -83,6 +83,60 @@ fn value_in(
     evaluate(alloc, slots, e)
 }
 
+// The number that an expression in a call is, where it can be found so.
+#[inline(always)]
+#[tactic(auto, using(crate::proofs::VariableLemmas::evaluate_named))]
+fn number_in(program: &Prog, f: &Function, slots: &[Value], e: &Expr) -> Option<i64>
+    requires fits { expr_fits (arities program.now) (length f.now.names) e.now ≡ true }
+    requires distinct { AreDistinct f.now.names }
+    ensures { let of = value_of (bound f.now.names slots.now) in
+        IfSome result (λ z.
+        meaning.evaluate of (expr_map (name_at f.now.names) e.now) ≡ Ok (int z)) }
+{
+    quick_int(slots, e)
+}
+
+// Whether a test holds in a call, found from its value.
+#[inline(never)]
+#[tactic(auto, using(crate::proofs::CallLemmas::tested, crate::proofs::CallLemmas::not_tested))]
+fn truth_in_full(
+    alloc: Global,
+    program: &Prog,
+    f: &Function,
+    slots: &[Value],
+    e: &Expr,
+) -> Result<bool, Stop>
+    requires fits { expr_fits (arities program.now) (length f.now.names) e.now ≡ true }
+    requires distinct { AreDistinct f.now.names }
+    requires agree { all_agree (arities program.now) slots.now ≡ true }
+    ensures { let of = value_of (bound f.now.names slots.now) in
+        ComesTo (λ b. b) result (meaning.holds of (expr_map (name_at f.now.names) e.now)) }
+{
+    let value = value_in(alloc, program, f, slots, e)?;
+    truth_of(&value)
+}
+
+// Whether a test holds in a call.
+#[tactic(auto, using(crate::proofs::CallLemmas::tested, crate::proofs::VariableLemmas::evaluate_named))]
+fn truth_in(
+    alloc: Global,
+    program: &Prog,
+    f: &Function,
+    slots: &[Value],
+    e: &Expr,
+) -> Result<bool, Stop>
+    requires fits { expr_fits (arities program.now) (length f.now.names) e.now ≡ true }
+    requires distinct { AreDistinct f.now.names }
+    requires agree { all_agree (arities program.now) slots.now ≡ true }
+    ensures { let of = value_of (bound f.now.names slots.now) in
+        ComesTo (λ b. b) result (meaning.holds of (expr_map (name_at f.now.names) e.now)) }
+{
+    match quick_truth(slots, e) {
+        Some(b) => Ok(b),
+        None => truth_in_full(alloc, program, f, slots, e),
+    }
+}
+
 // The values of expressions in a call.
 #[tactic(auto, using(crate::proofs::VariableLemmas::all_named))]
 fn values_in(
@@ -120,7 +174,38 @@ fn pad(slots: &mut Vec<Value>, slot: usize) -> Result<(), Stop>
     Ok(())
 }
 
-// The statement sets a variable to the value of an expression.
+// The instruction sets a variable to the value of an expression, whatever it is, and goes on at `next`.
+#[inline(never)]
+#[tactic(auto, using(crate::proofs::VariableLemmas::bound_set, crate::proofs::CallLemmas::agree_set))]
+fn assign_in_full(
+    alloc: Global,
+    program: &Prog,
+    f: &Function,
+    slot: usize,
+    e: &Expr,
+    next: usize,
+    call: &mut Call,
+) -> Result<(), Stop>
+    requires slot { slot < length f.now.names }
+    requires fits { expr_fits (arities program.now) (length f.now.names) e.now ≡ true }
+    requires ready { IsReady (arities program.now) f.now call.old }
+    ensures steps { (self : ℕ) (below : Term) →
+        let x = name_at f.now.names slot in
+        let source = plain_source_value (expr_map (name_at f.now.names) e.now) in
+        let after = statements_at f.now next in
+        let variables = variables_of f.now call.old in
+        StepsOn f.now result call.old call.new below
+        (steps.source_step (text_of program.now) self x source after variables below) }
+    ensures kept { RunsOn (arities program.now) call.old call.new }
+{
+    let value = value_in(alloc, program, f, call.slots.as_slice(), e)?;
+    pad(&mut call.slots, slot)?;
+    call.slots[slot] = value;
+    call.at = next;
+    Ok(())
+}
+
+/// The instruction sets a variable to the value of an expression, and goes on at `next`.
 #[tactic(auto, using(crate::proofs::VariableLemmas::bound_set, crate::proofs::CallLemmas::agree_set))]
 pub(crate) fn assign(
     alloc: Global,
@@ -128,100 +213,68 @@ pub(crate) fn assign(
     f: &Function,
     slot: usize,
     e: &Expr,
+    next: usize,
     call: &mut Call,
-) -> Result<Action, Stop>
+) -> Result<(), Stop>
     requires slot { slot < length f.now.names }
     requires fits { expr_fits (arities program.now) (length f.now.names) e.now ≡ true }
     requires ready { IsReady (arities program.now) f.now call.old }
-    ensures moves { (self : ℕ) (below : Term) →
+    ensures steps { (self : ℕ) (below : Term) →
         let x = name_at f.now.names slot in
         let source = plain_source_value (expr_map (name_at f.now.names) e.now) in
-        let left = statements_left f.now call.old in
+        let after = statements_at f.now next in
         let variables = variables_of f.now call.old in
-        Moves program.now f.now result call.new below
-        (steps.source_step (text_of program.now) self x source left variables below) }
-    ensures stays { Stays (arities program.now) f.now result call.old call.new }
-    ensures goes { StepsOn f.now result call.old call.new }
+        StepsOn f.now result call.old call.new below
+        (steps.source_step (text_of program.now) self x source after variables below) }
+    ensures kept { RunsOn (arities program.now) call.old call.new }
 {
-    let value = value_in(alloc, program, f, call.slots.as_slice(), e)?;
-    pad(&mut call.slots, slot)?;
-    call.slots[slot] = value;
-    call.at += 1;
-    Ok(Action::Goes)
-}
-
-// The statement goes on in one of two blocks.
-#[tactic(auto, using(crate::proofs::PlaceLemmas::left_then, crate::proofs::PlaceLemmas::left_else))]
-pub(crate) fn branch(
-    alloc: Global,
-    program: &Prog,
-    f: &Function,
-    e: &Expr,
-    one: &Block,
-    other: &Block,
-    call: &mut Call,
-) -> Result<Action, Stop>
-    requires here { stmt_at (block_at f.now.body call.old.path.items) call.old.at
-        ≡ Some (if_so e.now one.now other.now) }
-    requires fits { expr_fits (arities program.now) (length f.now.names) e.now ≡ true }
-    requires ready { IsReady (arities program.now) f.now call.old }
-    ensures moves { (self : ℕ) (below : Term) →
-        let stmt = stmt_map (name_at f.now.names) (if_so e.now one.now other.now) in
-        let left = statements_left f.now call.old in
-        let variables = variables_of f.now call.old in
-        Moves program.now f.now result call.new below
-        (steps.statement_step (text_of program.now) self stmt left variables below) }
-    ensures stays { Stays (arities program.now) f.now result call.old call.new }
-    ensures goes { StepsOn f.now result call.old call.new }
-{
-    let value = value_in(alloc, program, f, call.slots.as_slice(), e)?;
-    let holds = truth_of(&value)?;
-    drop(value);
-    let (at, back) = (call.at, call.at + 1);
-    let arm = if holds { Arm::Then } else { Arm::Else };
-    call.path.push(Hop { at, arm, back })?;
-    call.at = 0;
-    Ok(Action::Goes)
-}
-
-// The statement does its block and then itself again, or is done.
-#[tactic(auto, using(crate::proofs::PlaceLemmas::left_body))]
-pub(crate) fn repeat(
-    alloc: Global,
-    program: &Prog,
-    f: &Function,
-    e: &Expr,
-    body: &Block,
-    call: &mut Call,
-) -> Result<Action, Stop>
-    requires here { stmt_at (block_at f.now.body call.old.path.items) call.old.at
-        ≡ Some (while_so e.now body.now) }
-    requires fits { expr_fits (arities program.now) (length f.now.names) e.now ≡ true }
-    requires ready { IsReady (arities program.now) f.now call.old }
-    ensures moves { (self : ℕ) (below : Term) →
-        let stmt = stmt_map (name_at f.now.names) (while_so e.now body.now) in
-        let left = statements_left f.now call.old in
-        let variables = variables_of f.now call.old in
-        Moves program.now f.now result call.new below
-        (steps.statement_step (text_of program.now) self stmt left variables below) }
-    ensures stays { Stays (arities program.now) f.now result call.old call.new }
-    ensures goes { StepsOn f.now result call.old call.new }
-{
-    let value = value_in(alloc, program, f, call.slots.as_slice(), e)?;
-    let holds = truth_of(&value)?;
-    drop(value);
-    let at = call.at;
-    if holds {
-        call.path.push(Hop {
-            at,
-            arm: Arm::Body,
-            back: at,
-        })?;
-        call.at = 0;
-    } else {
-        call.at += 1;
+    if let Some(z) = number_in(program, f, call.slots.as_slice(), e) {
+        if slot < call.slots.len() {
+            call.slots[slot] = Value::new(ValueKind::Int(z));
+            call.at = next;
+            return Ok(());
+        }
     }
-    Ok(Action::Goes)
+    assign_in_full(alloc, program, f, slot, e, next, call)
+}
+
+/// The instruction goes on at the first of two places where its test holds, else at the second.
+pub(crate) fn choose(
+    alloc: Global,
+    program: &Prog,
+    f: &Function,
+    test: &Expr,
+    first: usize,
+    second: usize,
+    call: &mut Call,
+) -> Result<(), Stop>
+    requires fits { expr_fits (arities program.now) (length f.now.names) test.now ≡ true }
+    requires ready { IsReady (arities program.now) f.now call.old }
+    ensures steps { (below : Term) →
+        let variables = variables_of f.now call.old in
+        let found = meaning.holds (value_of variables)
+        (expr_map (name_at f.now.names) test.now) in
+        StepsOn f.now result call.old call.new below
+        (chosen f.now found first second variables below) }
+    ensures kept { RunsOn (arities program.now) call.old call.new }
+{
+    let holds = truth_in(alloc, program, f, call.slots.as_slice(), test)?;
+    call.at = if holds { first } else { second };
+    Ok(())
+}
+
+// The step of a call that went on, as what the call did.
+fn went_on(stepped: Result<(), Stop>) -> Result<Action, Stop>
+    ensures moves { (p : List (PlainItem ℕ)) (f : PlainItem ℕ) (old new : Call) (below : Term)
+        (step : PlainStep) → StepsOn f stepped old new below step
+        → Moves p f result new below step }
+    ensures did { (fs : List ℕ) → ActionAgrees fs result }
+{
+    match stepped {
+        Ok(()) => Ok(Action::Goes),
+        Err(Stop::Fault(why)) => Err(Stop::Fault(why)),
+        Err(Stop::Memory) => Err(Stop::Memory),
+    }
 }
 
 /// The value comes that the call waits for.
@@ -231,8 +284,7 @@ pub(crate) fn fill(call: &mut Call, value: Value)
     ensures slots { call.new.slots.items
         ≡ slots_with call.old.wait value call.old.slots.items }
     ensures runs { call.new.wait ≡ Wait.Runs }
-    ensures place { (call.new.func ≡ call.old.func) × (call.new.at ≡ call.old.at)
-        × (call.new.path ≡ call.old.path) }
+    ensures place { (call.new.func ≡ call.old.func) × (call.new.at ≡ call.old.at) }
 {
     match call.wait {
         Wait::Gives(slot) => call.slots[slot] = value,
@@ -447,7 +499,7 @@ fn perform(
     }
 }
 
-// A `let` of an effect: the call waits for its answer.
+// A `let` of an effect: the call waits for its answer, and goes on at `next`.
 fn let_effect(
     alloc: Global,
     thread: Tid,
@@ -455,6 +507,7 @@ fn let_effect(
     f: &Function,
     slot: usize,
     effect: &Effect,
+    next: usize,
     call: &mut Call,
 ) -> Result<Action, Stop>
     requires slot { slot < length f.now.names }
@@ -463,49 +516,48 @@ fn let_effect(
     requires ready { IsReady (arities program.now) f.now call.old }
     ensures moves { (below : Term) →
         let effect = effect_map (name_at f.now.names) (plain_effect effect.now) in
-        let left = statements_left f.now call.old in
         let variables = variables_of f.now call.old in
-        let waiting = plain_entry left variables (gives (name_at f.now.names slot)) in
+        let waits = gives (name_at f.now.names slot) in
+        let waiting = plain_entry (statements_at f.now next) variables waits in
         Moves program.now f.now result call.new below
         (steps.effect_step (text_of program.now) thread.0 variables effect
         (waiting ∷ below)) }
     ensures stays { Stays (arities program.now) f.now result call.old call.new }
 {
     pad(&mut call.slots, slot)?;
-    call.at += 1;
+    call.at = next;
     call.wait = Wait::Gives(slot);
     perform(alloc, thread, program, f, effect, call)
 }
 
-// An effect whose answer is dropped.
+// An effect whose answer is dropped, and which goes on at `next`.
 fn drop_effect(
     alloc: Global,
     thread: Tid,
     program: &Prog,
     f: &Function,
     effect: &Effect,
+    next: usize,
     call: &mut Call,
 ) -> Result<Action, Stop>
     requires fits { effect_fits (arities program.now) (length f.now.names)
         (plain_effect effect.now) ≡ true }
     requires sound { IsSound (arities program.now) f.now call.old }
-    requires bounded { call.old.at < usize.MAX }
     ensures moves { (below : Term) →
         let effect = effect_map (name_at f.now.names) (plain_effect effect.now) in
-        let left = statements_left f.now call.old in
         let variables = variables_of f.now call.old in
-        let waiting = plain_entry left variables drops in
+        let waiting = plain_entry (statements_at f.now next) variables drops in
         Moves program.now f.now result call.new below
         (steps.effect_step (text_of program.now) thread.0 variables effect
         (waiting ∷ below)) }
     ensures stays { Stays (arities program.now) f.now result call.old call.new }
 {
-    call.at += 1;
+    call.at = next;
     call.wait = Wait::Drops;
     perform(alloc, thread, program, f, effect, call)
 }
 
-// A `let`.
+// A `let`, which goes on at `next`.
 fn let_step(
     alloc: Global,
     thread: Tid,
@@ -513,6 +565,7 @@ fn let_step(
     f: &Function,
     slot: usize,
     source: &Source,
+    next: usize,
     call: &mut Call,
 ) -> Result<Action, Stop>
     requires slot { slot < length f.now.names }
@@ -522,46 +575,50 @@ fn let_step(
     ensures moves { (below : Term) →
         let x = name_at f.now.names slot in
         let what = source_map (name_at f.now.names) (plain_source source.now) in
-        let left = statements_left f.now call.old in
+        let after = statements_at f.now next in
         let variables = variables_of f.now call.old in
         Moves program.now f.now result call.new below
-        (steps.source_step (text_of program.now) thread.0 x what left variables below) }
+        (steps.source_step (text_of program.now) thread.0 x what after variables below) }
     ensures stays { Stays (arities program.now) f.now result call.old call.new }
 {
     match source {
-        Source::Value(e) => assign(alloc, program, f, slot, e, call),
-        Source::Effect(effect) => let_effect(alloc, thread, program, f, slot, effect, call),
+        Source::Value(e) => went_on(assign(alloc, program, f, slot, e, next, call)),
+        Source::Effect(effect) => {
+            let_effect(alloc, thread, program, f, slot, effect, next, call)
+        }
     }
 }
 
-/// What the statement at the call's place does.
-pub(crate) fn statement_step(
+/// What the instruction at the call's place does.
+fn instr_step(
     alloc: Global,
     thread: Tid,
     program: &Prog,
     f: &Function,
-    stmt: &Stmt,
+    instr: &Instr,
     call: &mut Call,
 ) -> Result<Action, Stop>
-    requires here { stmt_at (block_at f.now.body call.old.path.items) call.old.at
-        ≡ Some stmt.now }
-    requires fits { stmt_fits (arities program.now) (length f.now.names) stmt.now ≡ true }
+    requires here { let left_at = left f.now.body in
+        Follows left_at (plain_instr instr.now) (left_at call.old.at) }
+    requires fits { let slots = length f.now.names in
+        instr_fits (arities program.now) slots (plain_instr instr.now) ≡ true }
     requires ready { IsReady (arities program.now) f.now call.old }
     ensures moves { (below : Term) →
-        let s = stmt_map (name_at f.now.names) stmt.now in
-        let left = statements_left f.now call.old in
+        let here = statements_at f.now call.old.at in
         let variables = variables_of f.now call.old in
         Moves program.now f.now result call.new below
-        (steps.statement_step (text_of program.now) thread.0 s left variables below) }
+        (steps.call_step (text_of program.now) thread.0 here variables below) }
     ensures stays { Stays (arities program.now) f.now result call.old call.new }
 {
-    match &stmt.kind {
-        StmtKind::Let(slot, source) => let_step(alloc, thread, program, f, *slot, source, call),
-        StmtKind::Set(slot, e) => assign(alloc, program, f, *slot, e, call),
-        StmtKind::Do(effect) => drop_effect(alloc, thread, program, f, effect, call),
-        StmtKind::If(e, a, b) => branch(alloc, program, f, e, a, b, call),
-        StmtKind::While(e, a) => repeat(alloc, program, f, e, a, call),
-        StmtKind::Return(e) => {
+    match instr {
+        Instr::Let(slot, source, next) => {
+            let_step(alloc, thread, program, f, *slot, source, *next, call)
+        }
+        Instr::Set(slot, e, next) => { went_on(assign(alloc, program, f, *slot, e, *next, call)) }
+        Instr::Do(effect, next) => drop_effect(alloc, thread, program, f, effect, *next, call),
+        Instr::If(e, yes, no) => went_on(choose(alloc, program, f, e, *yes, *no, call)),
+        Instr::While(e, body, next) => { went_on(choose(alloc, program, f, e, *body, *next, call)) }
+        Instr::Return(e) => {
             let value = value_in(alloc, program, f, call.slots.as_slice(), e)?;
             Ok(Action::Returns(value))
         }
@@ -569,7 +626,6 @@ pub(crate) fn statement_step(
 }
 
 /// One step of a call that runs.
-#[tactic(auto, using(crate::proofs::PlaceLemmas::left_end, crate::proofs::PlaceLemmas::found_fits))]
 pub(crate) fn call_step(
     alloc: Global,
     thread: Tid,
@@ -586,10 +642,8 @@ pub(crate) fn call_step(
         (steps.next (text_of program.now) thread.0 (before ∷ below)) }
     ensures stays { Stays (arities program.now) f.now result call.old call.new }
 {
-    let (at, found) = next_statement(&f.body, &mut call.path, call.at);
-    call.at = at;
-    match found {
-        Some(stmt) => statement_step(alloc, thread, program, f, stmt, call),
+    match f.instr(call.at) {
+        Some(instr) => instr_step(alloc, thread, program, f, instr, call),
         None => Ok(Action::Returns(Value::new(ValueKind::Unit))),
     }
 }

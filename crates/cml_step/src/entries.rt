@@ -1,11 +1,13 @@
-//! The entries of a thread's stack, of which copies share all but the top one.
+//! The entries of a thread's stack, of which copies share all but those that lie in the stack itself.
 
-ghost use Rattle.std.specs.Prelude.{◌≡◌, ◌↔◌, ◌++◌, ◌<◌, ◌∷◌, List, [], length, IfOk, IsTrue, MatchOption, option_copied};
+ghost use Rattle.std.specs.Prelude.{◌≡◌, ◌↔◌, ◌++◌, ◌+◌, ◌<◌, ◌≤◌, ◌∷◌, List, [], None, length, IfOk, OnErr, IsTrue, MatchOption, option_copied};
 ghost use Rattle.cml_step.specs.Machines.{PlainHeld, plain_held};
-ghost use Rattle.cml_step.specs.Shared.{TakesOff, frame_entries, left_of, topped, entries_left};
+ghost use Rattle.cml_step.specs.Shared.{TakesOff, frame_entries, left_of, topped, called, plain_seen, entries_left, HoldsNoValue};
 
 use crate::call::Call;
-use crate::entry::{Entry, copy_entry, may_be_same, same_entry};
+use crate::entry::{
+    Entry, Seen, as_seen, copy_call, copy_entry, may_be_same, renew_call, same_entry,
+};
 use std::alloc::{AllocError, Global};
 use std::marker::Model;
 use std::mem::replace;
@@ -48,7 +50,7 @@ pub(crate) struct Frames {
 }
 
 impl Model for Frames {
-    ghost use Rattle.std.specs.Prelude.{List, ◌≡◌, ◌<◌, length};
+    ghost use Rattle.std.specs.Prelude.{List, ◌≡◌, ◌<◌, ◌+◌, length};
     ghost use Rattle.std.specs.Coded.{coded_list};
     ghost use Rattle.cml_step.specs.Machines.{PlainHeld};
     ghost use Rattle.cml_step.specs.MachineCodes.{held_code};
@@ -62,7 +64,7 @@ impl Model for Frames {
 
     ghost view = { λ a. frame_entries a.first };
 
-    ghost invariant = { λ a. (a.count ≡ length (frame_entries a.first)) × (a.count < MAX) };
+    ghost invariant = { λ a. (a.count ≡ length (frame_entries a.first)) × (a.count + 1 < MAX) };
 }
 
 // Another owner of the frame.
@@ -130,7 +132,7 @@ impl Frames {
     /// How many entries there are.
     pub fn len(&self) -> usize
         ensures len { result ≡ length self.now }
-        ensures bounded { result < usize.MAX }
+        ensures bounded { result + 1 < usize.MAX }
     {
         self.count
     }
@@ -151,7 +153,7 @@ impl Frames {
         ensures { IfOk result (λ all. all ≡ self ++ plain_held entry ∷ []) }
     {
         let Frames { first, count } = self;
-        if count >= usize::MAX - 1 {
+        if count >= usize::MAX - 2 {
             drop(entry);
             drop(first);
             return Err(AllocError);
@@ -184,15 +186,17 @@ impl Frames {
     }
 }
 
-/// The entries of a stack that takes steps: the top one stands in a place of its own, or that place is empty.
+/// The entries of a stack that takes steps. What is on top lies in the stack itself: a call, and over it what it waits for, if there is
+/// such an entry. Where both places are empty nothing is on the stack.
 #[derive(Drop)]
 pub(crate) struct Stack {
-    top: Option<Entry>,
-    below: Frames,
+    pub(crate) over: Option<Entry>,
+    pub(crate) call: Option<Call>,
+    pub(crate) below: Frames,
 }
 
 impl Model for Stack {
-    ghost use Rattle.std.specs.Prelude.{List, ◌++◌};
+    ghost use Rattle.std.specs.Prelude.{List, ◌≡◌, None, []};
     ghost use Rattle.std.specs.Coded.{coded_list};
     ghost use Rattle.cml_step.specs.Machines.{PlainHeld};
     ghost use Rattle.cml_step.specs.MachineCodes.{held_code};
@@ -201,27 +205,220 @@ impl Model for Stack {
 
     ghost coded = { coded_list held_code };
 
-    ghost use Rattle.cml_step.specs.Shared.{topped};
+    ghost use Rattle.cml_step.specs.Shared.{topped, called};
 
-    ghost view = { λ a. topped a.below a.top };
+    ghost view = { λ a. topped (called a.below a.call) a.over };
+
+    // So an answer that puts nothing on the stack takes no memory.
+    ghost invariant = { λ a. a.over ≡ None → a.call ≡ None → a.below ≡ [] };
+}
+
+// The entry becomes the same as the other, if there is one.
+fn copy_over_into(
+    alloc: Global,
+    mine: &mut Option<Entry>,
+    other: &Option<Entry>,
+) -> Result<(), AllocError>
+    ensures same { IfOk result (λ _. (hs : List PlainHeld) →
+        topped hs mine.new ≡ topped hs other.now) }
+    ensures there { IfOk result (λ _. mine.new ≡ None → other.now ≡ None) }
+{
+    match other {
+        None => {
+            *mine = None;
+            Ok(())
+        }
+        Some(entry) => {
+            *mine = Some(copy_entry(alloc, entry)?);
+            Ok(())
+        }
+    }
+}
+
+// The call becomes the same as the other, if there is one, in the lists that it has.
+fn copy_call_into(
+    alloc: Global,
+    mine: &mut Option<Call>,
+    other: &Option<Call>,
+) -> Result<(), AllocError>
+    ensures same { IfOk result (λ _. (hs : List PlainHeld) →
+        called hs mine.new ≡ called hs other.now) }
+    ensures there { IfOk result (λ _. mine.new ≡ None → other.now ≡ None) }
+{
+    match other {
+        None => {
+            *mine = None;
+            Ok(())
+        }
+        Some(call) => match mine {
+            Some(own) => renew_call(own, call),
+            None => {
+                *mine = Some(copy_call(alloc, call)?);
+                Ok(())
+            }
+        },
+    }
+}
+
+// The entries with this one on top, if there is one.
+fn with_over(alloc: Global, over: Option<Entry>, below: Frames) -> Result<Frames, AllocError>
+    ensures { IfOk result (λ all. all ≡ topped below over) }
+{
+    match over {
+        None => Ok(below),
+        Some(entry) => below.with(alloc, entry),
+    }
+}
+
+// The entries with this call on top, if there is one.
+fn with_call(alloc: Global, call: Option<Call>, below: Frames) -> Result<Frames, AllocError>
+    ensures { IfOk result (λ all. all ≡ called below call) }
+{
+    match call {
+        None => Ok(below),
+        Some(call) => below.with(alloc, Entry::Call(call)),
+    }
+}
+
+/// Another owner of the entries, with another owner of the call, if there is one, on top.
+#[inline(never)]
+pub(crate) fn under(
+    alloc: Global,
+    call: &Option<Call>,
+    below: &Frames,
+) -> Result<Frames, AllocError>
+    ensures { IfOk result (λ all. all ≡ called below.now call.now) }
+{
+    let below = below.copy()?;
+    match call {
+        None => Ok(below),
+        Some(call) => {
+            let copy = copy_call(alloc, call)?;
+            below.with(alloc, Entry::Call(copy))
+        }
+    }
+}
+
+// The entries with both on top.
+fn sunk(
+    alloc: Global,
+    over: Option<Entry>,
+    call: Option<Call>,
+    below: Frames,
+) -> Result<Frames, AllocError>
+    ensures { IfOk result (λ all. all ≡ topped (called below call) over) }
+{
+    match with_call(alloc, call, below) {
+        Ok(all) => with_over(alloc, over, all),
+        Err(error) => {
+            drop(over);
+            Err(error)
+        }
+    }
+}
+
+// Puts what lies in the two places among the entries below.
+#[inline(never)]
+fn sink(
+    alloc: Global,
+    over: &mut Option<Entry>,
+    call: &mut Option<Call>,
+    below: &mut Frames,
+) -> Result<(), AllocError>
+    ensures all { IfOk result (λ _. below.new ≡ topped (called below.old call.old) over.old) }
+    ensures empty { (over.new ≡ None) × (call.new ≡ None) }
+    ensures err { OnErr result (below.new ≡ []) }
+{
+    let stands = over.take();
+    let waits = call.take();
+    let all = replace(below, Frames::new());
+    *below = sunk(alloc, stands, waits, all)?;
+    Ok(())
+}
+
+// Brings the top one of the entries up to one of the two places, which are empty.
+#[inline(never)]
+fn lift(
+    alloc: Global,
+    over: &mut Option<Entry>,
+    call: &mut Option<Call>,
+    below: &mut Frames,
+) -> Result<(), AllocError>
+    requires { (over.old ≡ None) × (call.old ≡ None) }
+    ensures same { IfOk result (λ _. topped (called below.new call.new) over.new ≡ below.old) }
+    ensures lifted { over.new ≡ None → call.new ≡ None → below.new ≡ [] }
+{
+    let all = replace(below, Frames::new());
+    let (entry, rest) = all.parts(alloc)?;
+    match entry {
+        None => {
+            drop(rest);
+            Ok(())
+        }
+        Some(Entry::Call(top)) => {
+            *call = Some(top);
+            *below = rest;
+            Ok(())
+        }
+        Some(other) => {
+            *over = Some(other);
+            *below = rest;
+            Ok(())
+        }
+    }
+}
+
+// How many entries the place over the call has.
+fn over_count(over: &Option<Entry>) -> usize
+    ensures count { (hs : List PlainHeld) → length (topped hs over.now) ≡ length hs + result }
+    ensures most { result ≤ 1 }
+{
+    match over {
+        None => 0,
+        Some(_) => 1,
+    }
+}
+
+// The same of the call's.
+fn call_count(call: &Option<Call>) -> usize
+    ensures count { (hs : List PlainHeld) → length (called hs call.now) ≡ length hs + result }
+    ensures most { result ≤ 1 }
+{
+    match call {
+        None => 0,
+        Some(_) => 1,
+    }
+}
+
+// The call, if there is one, holds no value from now on.
+fn empty(call: &mut Option<Call>)
+    ensures { HoldsNoValue (called [] call.new) }
+{
+    if let Some(call) = call {
+        call.slots.clear();
+    }
 }
 
 impl Stack {
-    /// These entries, the top one in its place.
-    pub fn of(top: Option<Entry>, below: Frames) -> Stack
-        ensures { result ≡ topped below top }
+    /// Nothing.
+    pub fn new() -> Stack
+        ensures { result ≡ [] }
     {
-        Stack { top, below }
+        Stack {
+            over: None,
+            call: None,
+            below: Frames::new(),
+        }
     }
 
-    /// The top entry and those below it, if there is one.
-    pub fn parts(self, alloc: Global) -> Result<(Option<Entry>, Frames), AllocError>
-        ensures { IfOk result (λ r. TakesOff r.0 self r.1) }
+    /// The call alone, on these entries.
+    pub fn calling(call: Call, below: Frames) -> Stack
+        ensures { result ≡ below ++ plain_held (Entry.Call call) ∷ [] }
     {
-        let Stack { top, below } = self;
-        match top {
-            Some(entry) => Ok((Some(entry), below)),
-            None => below.parts(alloc),
+        Stack {
+            over: None,
+            call: Some(call),
+            below,
         }
     }
 
@@ -229,44 +426,46 @@ impl Stack {
     pub fn len(&self) -> usize
         ensures { result ≡ length self.now }
     {
-        match &self.top {
-            None => self.below.len(),
-            Some(_) => self.below.len() + 1,
-        }
-    }
-
-    /// Whether a call is on top, and stands in its place.
-    pub fn has_call(&self) -> bool
-        ensures { IsTrue result → (hs : List PlainHeld) × (c : Call)
-            × (self.now ≡ hs ++ plain_held (Entry.Call c) ∷ []) }
-    {
-        match &self.top {
-            Some(entry) => is_call(entry),
-            None => false,
-        }
+        self.below.len() + call_count(&self.call) + over_count(&self.over)
     }
 
     /// Takes all entries off.
     pub fn clear(&mut self)
         ensures { self.new ≡ [] }
     {
-        self.top = None;
+        self.over = None;
+        self.call = None;
         self.below = Frames::new();
     }
 
-    /// Puts the entry on top.
-    pub fn push(&mut self, alloc: Global, entry: Entry) -> Result<(), AllocError>
+    /// Puts a call on top.
+    pub fn push_call(&mut self, alloc: Global, call: Call) -> Result<(), AllocError>
+        ensures items { IfOk result (λ _.
+            self.new ≡ self.old ++ plain_held (Entry.Call call) ∷ []) }
+    {
+        match sink(alloc, &mut self.over, &mut self.call, &mut self.below) {
+            Ok(()) => {
+                self.call = Some(call);
+                Ok(())
+            }
+            Err(error) => {
+                drop(call);
+                Err(error)
+            }
+        }
+    }
+
+    // Puts another entry on top.
+    fn push_over(&mut self, alloc: Global, entry: Entry) -> Result<(), AllocError>
         ensures items { IfOk result (λ _. self.new ≡ self.old ++ plain_held entry ∷ []) }
     {
-        if self.top.is_none() {
-            self.top = Some(entry);
+        if self.over.is_none() {
+            self.over = Some(entry);
             return Ok(());
         }
-        let below = replace(&mut self.below, Frames::new());
-        match with_top(alloc, self.top.take(), below) {
-            Ok(below) => {
-                self.below = below;
-                self.top = Some(entry);
+        match sink(alloc, &mut self.over, &mut self.call, &mut self.below) {
+            Ok(()) => {
+                self.over = Some(entry);
                 Ok(())
             }
             Err(error) => {
@@ -276,41 +475,69 @@ impl Stack {
         }
     }
 
-    /// Takes the top entry off, if there is one.
-    pub fn pop(&mut self, alloc: Global) -> Result<Option<Entry>, AllocError>
-        ensures { IfOk result (λ o. TakesOff o self.old self.new) }
+    /// Puts the entry on top.
+    pub fn push(&mut self, alloc: Global, entry: Entry) -> Result<(), AllocError>
+        ensures items { IfOk result (λ _. self.new ≡ self.old ++ plain_held entry ∷ []) }
     {
-        if self.top.is_some() {
-            return Ok(self.top.take());
+        match entry {
+            Entry::Call(call) => self.push_call(alloc, call),
+            other => self.push_over(alloc, other),
         }
-        let below = replace(&mut self.below, Frames::new());
-        let (entry, rest) = below.parts(alloc)?;
-        self.below = rest;
-        Ok(entry)
     }
-}
 
-// Whether the entry is a call.
-fn is_call(entry: &Entry) -> bool
-    ensures { IsTrue result → (c : Call) × (entry.now ≡ Entry.Call c) }
-{
-    matches!(entry, Entry::Call(_))
-}
+    /// Takes the top entry off and lets it go.
+    pub fn drop_top(&mut self, alloc: Global) -> Result<(), AllocError>
+        ensures { IfOk result (λ _. (hs : List PlainHeld) (h : PlainHeld) →
+            self.old ≡ hs ++ h ∷ [] → self.new ≡ hs) }
+    {
+        if self.over.is_some() {
+            self.over = None;
+            if self.call.is_some() {
+                return Ok(());
+            }
+            return lift(alloc, &mut self.over, &mut self.call, &mut self.below);
+        }
+        self.call = None;
+        lift(alloc, &mut self.over, &mut self.call, &mut self.below)
+    }
 
-// The entries with this one on top, if there is one.
-fn with_top(alloc: Global, top: Option<Entry>, below: Frames) -> Result<Frames, AllocError>
-    ensures { IfOk result (λ all. all ≡ topped below top) }
-{
-    match top {
-        None => Ok(below),
-        Some(entry) => below.with(alloc, entry),
+    /// The same entries, whose values have one more owner each.
+    pub fn copy(&self, alloc: Global) -> Result<Stack, AllocError>
+        ensures { IfOk result (λ copy. copy ≡ self.now) }
+    {
+        let mut copy = Stack::new();
+        match copy.copy_from(alloc, self) {
+            Ok(()) => Ok(copy),
+            Err(error) => Err(error),
+        }
+    }
+
+    /// Becomes the same as the other, in the lists that its call has.
+    pub fn copy_from(&mut self, alloc: Global, other: &Stack) -> Result<(), AllocError>
+        ensures { IfOk result (λ _. self.new ≡ other.now) }
+    {
+        self.below = Frames::new();
+        copy_over_into(alloc, &mut self.over, &other.over)?;
+        copy_call_into(alloc, &mut self.call, &other.call)?;
+        self.below = other.below.copy()?;
+        Ok(())
+    }
+
+    /// Lets go what it shares with others. It keeps the lists of its call.
+    pub fn rest(&mut self)
+        ensures { HoldsNoValue self.new }
+    {
+        self.over = None;
+        self.below = Frames::new();
+        empty(&mut self.call);
     }
 }
 
 /// What is left of a walk through entries, from the top.
 #[derive(Clone, Copy)]
 pub(crate) struct Walk<'a> {
-    top: Option<&'a Entry>,
+    over: Option<&'a Entry>,
+    call: Option<&'a Call>,
     below: Option<&'a Frame>,
 }
 
@@ -326,26 +553,30 @@ fn frame_of(first: &Option<Arc<Frame>>) -> Option<&Frame>
 
 impl<'a> Walk<'a> {
     /// The walk through these entries.
-    pub fn through(top: &'a Option<Entry>, below: &'a Frames) -> Walk<'a>
-        ensures { left_of result ≡ topped below.now top.now }
+    pub fn through(stack: &'a Stack) -> Walk<'a>
+        ensures { left_of result ≡ stack.now }
     {
         Walk {
-            top: top.as_ref(),
-            below: frame_of(&below.first),
+            over: stack.over.as_ref(),
+            call: stack.call.as_ref(),
+            below: frame_of(&stack.below.first),
         }
     }
 
     // The next entry down.
-    fn step(&mut self) -> Option<&'a Entry>
+    fn step(&mut self) -> Option<Seen<'a>>
         ensures { MatchOption result ((left_of self.old ≡ []) × (left_of self.new ≡ []))
-            (λ e. left_of self.old ≡ left_of self.new ++ plain_held e.now ∷ []) }
+            (λ e. left_of self.old ≡ left_of self.new ++ plain_seen e ∷ []) }
     {
-        if let Some(entry) = self.top.take() {
-            return Some(entry);
+        if let Some(entry) = self.over.take() {
+            return Some(as_seen(entry));
+        }
+        if let Some(call) = self.call.take() {
+            return Some(Seen::Call(call));
         }
         let frame = self.below.take()?;
         self.below = frame_of(&frame.below);
-        Some(&frame.entry)
+        Some(as_seen(&frame.entry))
     }
 }
 

@@ -7,10 +7,10 @@ ghost use Rattle.cml_step.specs.Agrees.{function_agrees};
 ghost use Rattle.cml_step.specs.Terms.{call_of};
 ghost use Rattle.cml_step.specs.Calls.{text_of, entry_of};
 ghost use Rattle.cml_step.specs.Machines.{plain_held};
+ghost use Rattle.cml_step.specs.Shared.{plain_seen};
 ghost use Rattle.cml_step.specs.Stacks.{CallFits};
 
 use crate::call::{Call, Wait};
-use crate::place::Hop;
 use cml_group::Forcing;
 use cml_value::{FnRef, Value};
 use std::alloc::{AllocError, Global};
@@ -52,17 +52,6 @@ fn functions(alloc: Global, functions: &[FnRef]) -> Result<Vec<FnRef>, AllocErro
     Ok(copies)
 }
 
-// A copy of a way down through the blocks.
-fn copy_path(alloc: Global, path: &[Hop]) -> Result<Vec<Hop>, AllocError>
-    ensures { IfOk result (λ hops. hops.items ≡ path.now) }
-{
-    let mut hops = Vec::new(alloc);
-    for hop in path {
-        hops.push(*hop)?;
-    }
-    Ok(hops)
-}
-
 /// A call of the function at its first statement.
 pub(crate) fn begin(alloc: Global, function: &FnRef) -> Result<Call, AllocError>
     ensures term { IfOk result (λ call. (p : List (PlainItem ℕ)) →
@@ -73,11 +62,44 @@ pub(crate) fn begin(alloc: Global, function: &FnRef) -> Result<Call, AllocError>
 {
     Ok(Call {
         func: function.func(),
-        path: Vec::new(alloc),
         at: 0,
         slots: copies(alloc, function.args())?,
         wait: Wait::Runs,
     })
+}
+
+/// The same call, whose values have one more owner each.
+pub(crate) fn copy_call(alloc: Global, call: &Call) -> Result<Call, AllocError>
+    ensures { IfOk result (λ copy. plain_held (Entry.Call copy) ≡ plain_held (Entry.Call call.now)) }
+{
+    Ok(Call {
+        func: call.func,
+        at: call.at,
+        slots: copies(alloc, call.slots.as_slice())?,
+        wait: call.wait,
+    })
+}
+
+// Puts other owners of these values into the list.
+fn renew_slots(slots: &mut Vec<Value>, values: &[Value]) -> Result<(), AllocError>
+    ensures { IfOk result (λ _. slots.new.items ≡ values.now) }
+{
+    slots.clear();
+    for value in values {
+        slots.push(value.copy()?)?;
+    }
+    Ok(())
+}
+
+/// The call becomes the same as the other, in the lists that it has.
+pub(crate) fn renew_call(own: &mut Call, call: &Call) -> Result<(), AllocError>
+    ensures { IfOk result (λ _. plain_held (Entry.Call own.new)
+        ≡ plain_held (Entry.Call call.now)) }
+{
+    own.func = call.func;
+    own.at = call.at;
+    own.wait = call.wait;
+    renew_slots(&mut own.slots, call.slots.as_slice())
 }
 
 /// The same entry, whose values have one more owner each.
@@ -85,13 +107,7 @@ pub(crate) fn copy_entry(alloc: Global, entry: &Entry) -> Result<Entry, AllocErr
     ensures { IfOk result (λ copy. plain_held copy ≡ plain_held entry.now) }
 {
     match entry {
-        Entry::Call(call) => Ok(Entry::Call(Call {
-            func: call.func,
-            path: copy_path(alloc, call.path.as_slice())?,
-            at: call.at,
-            slots: copies(alloc, call.slots.as_slice())?,
-            wait: call.wait,
-        })),
+        Entry::Call(call) => Ok(Entry::Call(copy_call(alloc, call)?)),
         Entry::Force(forcing, asked) => Ok(Entry::Force(forcing.copy(alloc)?, *asked)),
         Entry::Wraps(wraps) => Ok(Entry::Wraps(Wraps {
             left: functions(alloc, wraps.left.as_slice())?,
@@ -100,31 +116,12 @@ pub(crate) fn copy_entry(alloc: Global, entry: &Entry) -> Result<Entry, AllocErr
     }
 }
 
-// Whether the two are the same way down through the blocks.
-fn same_path(hops: &[Hop], others: &[Hop]) -> bool
-    ensures { IsTrue result ↔ (hops.now ≡ others.now) }
-{
-    if hops.len() != others.len() {
-        return false;
-    }
-    for i in 0..hops.len() {
-        if hops[i] != others[i] {
-            return false;
-        }
-    }
-    true
-}
-
 // Whether two calls are of the same function, at the same place in it.
 fn same_place(call: &Call, other: &Call) -> bool
     ensures { IsTrue result ↔ (call.now.func ≡ other.now.func)
-        × (call.now.at ≡ other.now.at) × (call.now.wait ≡ other.now.wait)
-        × (call.now.path.items ≡ other.now.path.items) }
+        × (call.now.at ≡ other.now.at) × (call.now.wait ≡ other.now.wait) }
 {
-    call.func == other.func
-        && call.at == other.at
-        && call.wait == other.wait
-        && same_path(call.path.as_slice(), other.path.as_slice())
+    call.func == other.func && call.at == other.at && call.wait == other.wait
 }
 
 // Whether the two are the same values, one after another.
@@ -157,29 +154,48 @@ fn same_functions(functions: &[FnRef], others: &[FnRef]) -> bool
     true
 }
 
+/// An entry of a stack, where it stands.
+#[derive(Clone, Copy)]
+pub(crate) enum Seen<'a> {
+    Call(&'a Call),
+    Force(&'a Forcing, bool),
+    Wraps(&'a Wraps),
+}
+
+/// The entry where it stands.
+pub(crate) fn as_seen(entry: &Entry) -> Seen<'_>
+    ensures { plain_seen result ≡ plain_held entry.now }
+{
+    match entry {
+        Entry::Call(call) => Seen::Call(call),
+        Entry::Force(forcing, asked) => Seen::Force(forcing, *asked),
+        Entry::Wraps(wraps) => Seen::Wraps(wraps),
+    }
+}
+
 /// Whether the two may be the same: no value is looked at.
-pub(crate) fn may_be_same(entry: &Entry, other: &Entry) -> bool
-    ensures { plain_held entry.now ≡ plain_held other.now → IsTrue result }
+pub(crate) fn may_be_same(entry: Seen<'_>, other: Seen<'_>) -> bool
+    ensures { plain_seen entry.entry ≡ plain_seen other.entry → IsTrue result }
 {
     match (entry, other) {
-        (Entry::Call(call), Entry::Call(second)) => same_place(call, second),
-        (Entry::Force(_, asked), Entry::Force(_, second)) => *asked == *second,
-        (Entry::Wraps(_), Entry::Wraps(_)) => true,
+        (Seen::Call(call), Seen::Call(second)) => same_place(call, second),
+        (Seen::Force(_, asked), Seen::Force(_, second)) => asked == second,
+        (Seen::Wraps(_), Seen::Wraps(_)) => true,
         _ => false,
     }
 }
 
 /// Whether the two are the same entry.
-pub(crate) fn same_entry(entry: &Entry, other: &Entry) -> bool
-    ensures { IsTrue result ↔ (plain_held entry.now ≡ plain_held other.now) }
+pub(crate) fn same_entry(entry: Seen<'_>, other: Seen<'_>) -> bool
+    ensures { IsTrue result ↔ (plain_seen entry.entry ≡ plain_seen other.entry) }
 {
     match (entry, other) {
-        (Entry::Call(call), Entry::Call(second)) => same_place(call, second)
+        (Seen::Call(call), Seen::Call(second)) => same_place(call, second)
             && same_values(call.slots.as_slice(), second.slots.as_slice()),
-        (Entry::Force(forcing, asked), Entry::Force(second, had_asked)) => {
-            *asked == *had_asked && forcing.same(second)
+        (Seen::Force(forcing, asked), Seen::Force(second, had_asked)) => {
+            asked == had_asked && forcing.same(second)
         }
-        (Entry::Wraps(wraps), Entry::Wraps(second)) => {
+        (Seen::Wraps(wraps), Seen::Wraps(second)) => {
             wraps.value.same(&second.value)
                 && same_functions(wraps.left.as_slice(), second.left.as_slice())
         }

@@ -1,40 +1,40 @@
 //! A thread of a script.
 
-ghost use Rattle.std.specs.Prelude.{◌≡◌, ℕ, List, [], ◌∷◌, true, Some, None, IfOk, IfErr, OnErr, ◌↔◌, IsTrue};
+ghost use Rattle.std.specs.Prelude.{◌≡◌, ℕ, List, [], ◌∷◌, true, IfOk, IfErr, OnErr, ◌↔◌, IsTrue};
 ghost use Rattle.cml_check.specs.Syntax.{PlainItem};
 ghost use Rattle.cml_check.specs.InOrder.{InOrder, arities};
-ghost use Rattle.cml_step.specs.Agrees.{ask_agrees, answer_agrees, function_agrees, value_agrees};
+ghost use Rattle.cml_step.specs.Agrees.{answer_agrees, function_agrees};
 ghost use Rattle.cml_step.specs.Answers as answers;
 ghost use Rattle.cml_step.specs.Answers.{top_await, after_answer as plain_answered};
 ghost use Rattle.cml_step.specs.AnswerViews.{plain_answer, Awaits, IsNack};
 ghost use Rattle.cml_step.specs.AskViews.{plain_ask};
 ghost use Rattle.cml_step.specs.Asks.{a_value, a_nack, a_commit};
 ghost use Rattle.cml_step.specs.Calls.{text_of};
-ghost use Rattle.cml_step.specs.Machines.{PlainHeld, machine_term, Fits};
+ghost use Rattle.cml_step.specs.Machines.{machine_term, Fits};
 ghost use Rattle.cml_step.specs.Nacks.{nack_given, IsNackRoom};
-ghost use Rattle.cml_step.specs.Shared.{left_of, topped};
-ghost use Rattle.cml_step.specs.Slices.{sliced};
+ghost use Rattle.cml_step.specs.Rans.{IsSlice};
+ghost use Rattle.cml_step.specs.Shared.{HoldsNoValue};
 ghost use Rattle.cml_step.specs.Stacks.{StackFits, term_of};
 ghost use Rattle.cml_step.specs.Terms.{call_of};
 
 use crate::answer::Answer;
 use crate::ask::Ask;
 use crate::call::fill;
-use crate::entries::{Frames, Stack, Walk, same_entries};
-use crate::entry::{Entry, Wraps, begin, copy_entry};
+use crate::entries::{Frames, Stack, Walk, same_entries, under};
+use crate::entry::{Entry, Wraps, begin};
 use crate::nack::{NackRoom, nacked};
 use crate::steps::{MAX_STEPS, run};
 use cml_check::Prog;
 use cml_value::{FnRef, NackId, Tid, Value};
 use std::alloc::{AllocError, AllocFailed, Global};
 use std::marker::Model;
+use std::mem::swap;
 
 /// A thread of a script: its number and its stack. What the stack means, a checked program says.
 #[derive(Drop)]
 pub struct Machine {
     thread: Tid,
-    top: Option<Entry>,
-    below: Frames,
+    stack: Stack,
 }
 
 impl Model for Machine {
@@ -45,69 +45,43 @@ impl Model for Machine {
 
     ghost coded = { machine_code };
 
-    ghost use Rattle.std.specs.Prelude.{◌≡◌, None, []};
-    ghost use Rattle.cml_step.specs.Shared.{topped};
-
-    ghost view = { λ a. record { thread = a.thread.0; stack = topped a.below a.top } };
-
-    // So an answer that puts nothing on the stack takes no memory.
-    ghost invariant = { λ a. a.top ≡ None → a.below ≡ [] };
+    ghost view = { λ a. record { thread = a.thread.0; stack = a.stack } };
 }
 
-// The same entry, if there is one, whose values have one more owner each.
-fn copy_top(alloc: Global, top: &Option<Entry>) -> Result<Option<Entry>, AllocError>
-    ensures same { IfOk result (λ copy. (hs : List PlainHeld) → topped hs copy ≡ topped hs top.now) }
-    ensures there { IfOk result (λ copy. copy ≡ None → top.now ≡ None) }
+// The value goes to the call on top, which waits for it.
+fn give_value(stack: &mut Stack, value: Value)
+    requires { (p : List (PlainItem ℕ)) × StackFits p stack.old
+        × (top_await (term_of p stack.old) ≡ answers.value) }
+    ensures term { (p : List (PlainItem ℕ)) → InOrder p → StackFits p stack.old
+        → term_of p stack.new
+        ≡ plain_answered (text_of p) (a_value value) (term_of p stack.old) }
+    ensures fits { (p : List (PlainItem ℕ)) → StackFits p stack.old
+        → answer_agrees (arities p) (a_value value) ≡ true → StackFits p stack.new }
 {
-    match top {
-        None => Ok(None),
-        Some(entry) => Ok(Some(copy_entry(alloc, entry)?)),
-    }
-}
-
-// What the entry on top becomes once the value has come that it waits for: a call, which goes on.
-fn given_value(top: Entry, value: Value) -> Entry
-    requires { (p : List (PlainItem ℕ)) × (hs : List PlainHeld)
-        × StackFits p (topped hs (Some top))
-        × (top_await (term_of p (topped hs (Some top))) ≡ answers.value) }
-    ensures term { (p : List (PlainItem ℕ)) (hs : List PlainHeld) → InOrder p
-        → StackFits p (topped hs (Some top))
-        → term_of p (topped hs (Some result))
-        ≡ plain_answered (text_of p) (a_value value) (term_of p (topped hs (Some top))) }
-    ensures fits { (p : List (PlainItem ℕ)) (hs : List PlainHeld) →
-        StackFits p (topped hs (Some top)) → answer_agrees (arities p) (a_value value) ≡ true
-        → StackFits p (topped hs (Some result)) }
-{
-    match top {
-        Entry::Call(waiting) => {
-            let mut call = waiting;
-            fill(&mut call, value);
-            Entry::Call(call)
-        }
+    match &mut stack.over {
+        Some(Entry::Call(call)) => fill(call, value),
         // A value is awaited, so a call is on top.
-        other => {
-            drop(value);
-            other
-        }
+        Some(Entry::Force(_, _)) => drop(value),
+        Some(Entry::Wraps(_)) => drop(value),
+        None => match &mut stack.call {
+            Some(call) => fill(call, value),
+            None => drop(value),
+        },
     }
 }
 
-// What the event on top becomes once it was committed: the wraps that the value goes through.
-fn given_commit(top: Entry, value: Value, wraps: Vec<FnRef>) -> Entry
-    requires { (p : List (PlainItem ℕ)) × (hs : List PlainHeld)
-        × (top_await (term_of p (topped hs (Some top))) ≡ answers.commit) }
-    ensures term { (p : List (PlainItem ℕ)) (hs : List PlainHeld) →
-        term_of p (topped hs (Some result))
-        ≡ plain_answered (text_of p) (a_commit value wraps.items) (term_of p (topped hs (Some top))) }
-    ensures fits { (p : List (PlainItem ℕ)) (hs : List PlainHeld) →
-        StackFits p (topped hs (Some top))
+// The wraps that the value goes through stand in the place of the event, which was committed.
+fn give_commit(stack: &mut Stack, value: Value, wraps: Vec<FnRef>)
+    requires { (p : List (PlainItem ℕ)) × (top_await (term_of p stack.old) ≡ answers.commit) }
+    ensures term { (p : List (PlainItem ℕ)) → term_of p stack.new
+        ≡ plain_answered (text_of p) (a_commit value wraps.items) (term_of p stack.old) }
+    ensures fits { (p : List (PlainItem ℕ)) → StackFits p stack.old
         → answer_agrees (arities p) (a_commit value wraps.items) ≡ true
-        → StackFits p (topped hs (Some result)) }
+        → StackFits p stack.new }
 {
-    drop(top);
     let mut left = wraps;
     left.reverse();
-    Entry::Wraps(Wraps { left, value })
+    stack.over = Some(Entry::Wraps(Wraps { left, value }));
 }
 
 impl Machine {
@@ -136,8 +110,7 @@ impl Machine {
                 drop(function);
                 Ok(Machine {
                     thread,
-                    top: Some(Entry::Call(call)),
-                    below: Frames::new(),
+                    stack: Stack::calling(call, Frames::new()),
                 })
             }
             Err(_) => Err(AllocFailed { value: function }),
@@ -151,8 +124,7 @@ impl Machine {
         let _alloc = alloc;
         Machine {
             thread,
-            top: None,
-            below: Frames::new(),
+            stack: Stack::new(),
         }
     }
 
@@ -163,71 +135,95 @@ impl Machine {
         self.thread
     }
 
-    /// The same thread at the same place. It takes a count for each value that a variable of the top entry has, whatever stands below it.
+    /// The same thread at the same place. It takes a count for each value of the call on top and of what stands over it, whatever stands below.
     ///
     /// # Errors
     /// Out of memory.
     pub fn copy(&self, alloc: Global) -> Result<Machine, AllocError>
         ensures { IfOk result (λ m. m ≡ self.now) }
     {
-        let below = self.below.copy()?;
-        let top = copy_top(alloc, &self.top)?;
         Ok(Machine {
             thread: self.thread,
-            top,
-            below,
+            stack: self.stack.copy(alloc)?,
         })
+    }
+
+    // Becomes the same as the other, in the lists that it has.
+    fn copy_from(&mut self, alloc: Global, other: &Machine) -> Result<(), AllocError>
+        ensures { IfOk result (λ _. self.new ≡ other.now) }
+    {
+        self.thread = other.thread;
+        self.stack.copy_from(alloc, &other.stack)
+    }
+
+    /// Lets go the values that a machine holds which is used no more but as a spare of others ([`run_here`](Machine::run_here)). It takes no
+    /// memory.
+    pub fn rest(&mut self)
+        ensures values { HoldsNoValue self.new.stack }
+        ensures thread { self.new.thread ≡ self.old.thread }
+    {
+        self.stack.rest();
+    }
+
+    /// The thread ends. It takes no memory.
+    pub fn stop(&mut self)
+        ensures { self.new ≡ record { thread = self.old.thread; stack = [] } }
+    {
+        self.stack.clear();
     }
 
     /// Whether the two are the same thread at the same place. Functions and places are compared before values.
     pub fn same(&self, other: &Machine) -> bool
         ensures { IsTrue result ↔ (self.now ≡ other.now) }
     {
-        self.thread == other.thread && same_entries(self.entries(), other.entries())
+        self.thread == other.thread
+            && same_entries(Walk::through(&self.stack), Walk::through(&other.stack))
     }
 
-    // The entries, from the top.
-    fn entries(&self) -> Walk<'_>
-        ensures { left_of result ≡ self.now.stack }
+    // A slice of steps: what is asked in the end, and how many they were.
+    pub(crate) fn run(&mut self, alloc: Global, program: &Prog) -> Result<(Ask, u32), AllocError>
+        requires fits { Fits program.now self.old }
+        requires awaits { top_await (machine_term program.now self.old) ≡ answers.nothing }
+        ensures { IfOk result (λ r. IsSlice (record {
+          program = program.now;
+          start = self.old;
+          end = self.new;
+          ask = plain_ask r.0;
+          steps = r.1;
+        })) }
     {
-        Walk::through(&self.top, &self.below)
+        run(alloc, self.thread, program, &mut self.stack, MAX_STEPS)
     }
 
-    // The thread of this number with these entries.
-    fn with(alloc: Global, thread: Tid, stack: Stack) -> Result<Machine, AllocError>
-        ensures { IfOk result (λ m. m ≡ record { thread = thread.0; stack = stack }) }
-    {
-        let (top, below) = stack.parts(alloc)?;
-        Ok(Machine { thread, top, below })
-    }
-
-    // A slice of steps: the machine after it, what is asked in the end, and how many they were.
-    pub(crate) fn run(
-        self,
+    /// Runs a slice of the thread where it stands: its steps up to the first that asks, ends or is at fault, and at most
+    /// [`MAX_STEPS`](crate::MAX_STEPS). Returns what the thread asks in the end, and how many steps there were. The spare becomes what the
+    /// machine was before; what it was itself does not matter, and its lists are used again.
+    ///
+    /// # Errors
+    /// Out of memory; the machine is as it was.
+    pub fn run_here(
+        &mut self,
         alloc: Global,
         program: &Prog,
-    ) -> Result<(Machine, Ask, u32), AllocError>
-        requires fits { Fits program.now self }
-        requires awaits { top_await (machine_term program.now self) ≡ answers.nothing }
-        ensures meant { IfOk result (λ r.
-            sliced (text_of program.now) self.thread (machine_term program.now self)
-            ≡ record {
-              ask = plain_ask r.1;
-              end = machine_term program.now r.0;
-              steps = r.2;
-            }) }
-        ensures fits { IfOk result (λ r. Fits program.now r.0) }
-        ensures agrees { IfOk result (λ r.
-            ask_agrees (arities program.now) (plain_ask r.1) ≡ true) }
-        ensures thread { IfOk result (λ r. r.0.thread ≡ self.thread) }
+        spare: &mut Machine,
+    ) -> Result<(Ask, u32), AllocError>
+        requires fits { Fits program.now self.old }
+        requires awaits { top_await (machine_term program.now self.old) ≡ answers.nothing }
+        ensures meant { IfOk result (λ r. IsSlice (record {
+          program = program.now;
+          start = self.old;
+          end = self.new;
+          ask = plain_ask r.0;
+          steps = r.1;
+        })) }
+        ensures spare { IfOk result (λ _. spare.new ≡ self.old) }
+        ensures err { OnErr result (self.new ≡ self.old) }
     {
-        let Machine { thread, top, below } = self;
-        let mut stack = Stack::of(top, below);
-        let (ask, steps) = run(alloc, thread, program, &mut stack, MAX_STEPS)?;
-        match Machine::with(alloc, thread, stack) {
-            Ok(end) => Ok((end, ask, steps)),
+        spare.copy_from(alloc, self)?;
+        match self.run(alloc, program) {
+            Ok(did) => Ok(did),
             Err(error) => {
-                drop(ask);
+                swap(self, spare);
                 Err(error)
             }
         }
@@ -243,16 +239,63 @@ impl Machine {
         ensures nack { IfOk result (λ r. r.nack ≡ nack) }
     {
         // A nack is awaited, so an event is on top.
-        let Some(top) = &self.top else {
+        let stack = &self.stack;
+        let Some(top) = &stack.over else {
             return Err(AllocError);
         };
         let Entry::Force(forcing, _) = top else {
             return Err(AllocError);
         };
         let (event, call) = nacked(alloc, forcing, nack)?;
-        let others = self.below.copy()?;
+        let others = under(alloc, &stack.call, &stack.below)?;
         let below = others.with(alloc, Entry::Force(event, false))?;
         Ok(NackRoom { nack, call, below })
+    }
+
+    /// The thread is answered by the nack that there is room for. It takes no memory.
+    pub fn take_nack(&mut self, room: NackRoom)
+        requires { IsNackRoom self.old room }
+        ensures machine { self.new ≡ nack_given room self.old }
+        ensures meant { (p : List (PlainItem ℕ)) → Fits p self.old → machine_term p self.new
+            ≡ plain_answered (text_of p) (a_nack room.nack.0) (machine_term p self.old) }
+        ensures fits { (p : List (PlainItem ℕ)) → Fits p self.old → Fits p self.new }
+        ensures awaits { (p : List (PlainItem ℕ)) → Fits p self.old →
+            top_await (machine_term p self.old) ≡ answers.nack
+            → top_await (machine_term p self.new) ≡ answers.nothing }
+        ensures thread { self.new.thread ≡ self.old.thread }
+    {
+        self.stack = Stack::calling(room.call, room.below);
+    }
+
+    /// The value comes that the thread waits for. It takes no memory.
+    pub fn take_value(&mut self, value: Value)
+        requires { Awaits self.old (a_value value) }
+        ensures meant { (p : List (PlainItem ℕ)) → Fits p self.old → machine_term p self.new
+            ≡ plain_answered (text_of p) (a_value value) (machine_term p self.old) }
+        ensures fits { (p : List (PlainItem ℕ)) → Fits p self.old →
+            answer_agrees (arities p) (a_value value) ≡ true → Fits p self.new }
+        ensures awaits { (p : List (PlainItem ℕ)) → Fits p self.old →
+            top_await (machine_term p self.old) ≡ answers.value
+            → top_await (machine_term p self.new) ≡ answers.nothing }
+        ensures thread { self.new.thread ≡ self.old.thread }
+    {
+        give_value(&mut self.stack, value);
+    }
+
+    /// The event of the thread was committed: the value of its leaf comes, and the functions of the wraps that it goes through, the innermost
+    /// first. It takes no memory.
+    pub fn take_commit(&mut self, value: Value, wraps: Vec<FnRef>)
+        requires { Awaits self.old (a_commit value wraps.items) }
+        ensures meant { (p : List (PlainItem ℕ)) → Fits p self.old → machine_term p self.new
+            ≡ plain_answered (text_of p) (a_commit value wraps.items) (machine_term p self.old) }
+        ensures fits { (p : List (PlainItem ℕ)) → Fits p self.old →
+            answer_agrees (arities p) (a_commit value wraps.items) ≡ true → Fits p self.new }
+        ensures awaits { (p : List (PlainItem ℕ)) → Fits p self.old →
+            top_await (machine_term p self.old) ≡ answers.commit
+            → top_await (machine_term p self.new) ≡ answers.nothing }
+        ensures thread { self.new.thread ≡ self.old.thread }
+    {
+        give_commit(&mut self.stack, value, wraps);
     }
 
     /// The thread once it is answered by the nack that there is room for. It takes no memory.
@@ -267,54 +310,9 @@ impl Machine {
             → top_await (machine_term p result) ≡ answers.nothing }
         ensures thread { result.thread ≡ self.thread }
     {
-        Machine {
-            thread: self.thread,
-            top: Some(Entry::Call(room.call)),
-            below: room.below,
-        }
-    }
-
-    // The thread once the value has come that it waits for.
-    fn with_value(self, value: Value) -> Machine
-        requires { Awaits self (a_value value) }
-        ensures meant { (p : List (PlainItem ℕ)) → Fits p self → machine_term p result
-            ≡ plain_answered (text_of p) (a_value value) (machine_term p self) }
-        ensures fits { (p : List (PlainItem ℕ)) → Fits p self →
-            answer_agrees (arities p) (a_value value) ≡ true → Fits p result }
-        ensures thread { result.thread ≡ self.thread }
-    {
-        let Machine { thread, top, below } = self;
-        let top = match top {
-            Some(entry) => Some(given_value(entry, value)),
-            // A value is awaited, so the thread has not ended.
-            None => {
-                drop(value);
-                None
-            }
-        };
-        Machine { thread, top, below }
-    }
-
-    // The thread once its event was committed.
-    fn with_commit(self, value: Value, wraps: Vec<FnRef>) -> Machine
-        requires { Awaits self (a_commit value wraps.items) }
-        ensures meant { (p : List (PlainItem ℕ)) → Fits p self → machine_term p result
-            ≡ plain_answered (text_of p) (a_commit value wraps.items) (machine_term p self) }
-        ensures fits { (p : List (PlainItem ℕ)) → Fits p self →
-            answer_agrees (arities p) (a_commit value wraps.items) ≡ true → Fits p result }
-        ensures thread { result.thread ≡ self.thread }
-    {
-        let Machine { thread, top, below } = self;
-        let top = match top {
-            Some(entry) => Some(given_commit(entry, value, wraps)),
-            // A commit is awaited, so the thread has not ended.
-            None => {
-                drop(value);
-                drop(wraps);
-                None
-            }
-        };
-        Machine { thread, top, below }
+        let mut machine = self;
+        machine.take_nack(room);
+        machine
     }
 
     /// The thread once it is answered. Only the answer to a withNack, whose function is called then, takes memory.
@@ -335,12 +333,22 @@ impl Machine {
         ensures err { IfErr result (λ back. back.value ≡ self) }
         ensures memory { OnErr result (IsNack (plain_answer answer)) }
     {
+        let mut machine = self;
         match answer {
-            Answer::Value(value) => Ok(self.with_value(value)),
-            Answer::Commit(value, wraps) => Ok(self.with_commit(value, wraps)),
-            Answer::Nack(nack) => match self.reserve_nack(alloc, nack) {
-                Ok(room) => Ok(self.answered_nack(room)),
-                Err(_) => Err(AllocFailed { value: self }),
+            Answer::Value(value) => {
+                machine.take_value(value);
+                Ok(machine)
+            }
+            Answer::Commit(value, wraps) => {
+                machine.take_commit(value, wraps);
+                Ok(machine)
+            }
+            Answer::Nack(nack) => match machine.reserve_nack(alloc, nack) {
+                Ok(room) => {
+                    machine.take_nack(room);
+                    Ok(machine)
+                }
+                Err(_) => Err(AllocFailed { value: machine }),
             },
         }
     }

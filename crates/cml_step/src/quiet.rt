@@ -1,66 +1,50 @@
-//! Steps that only set variables and choose blocks. The call on top does them where it is; for any other it is taken off the stack.
+//! Steps that only set variables and choose places.
 
-ghost use Rattle.std.specs.Prelude.{◌≡◌, ◌≤◌, ◌<◌, ℕ, suc, ◌∷◌, length, true, false, Some, IfOk};
-ghost use Rattle.std.specs.Result.{is_ok};
-ghost use Rattle.cml_check.specs.Syntax.{name_at, stmt_map, stmts_map};
-ghost use Rattle.cml_check.specs.Names.{AreDistinct};
-ghost use Rattle.cml_check.specs.InOrder.{FunctionFits, arities, stmt_fits};
+ghost use Rattle.std.specs.Prelude.{◌≡◌, ◌≤◌, ℕ, ◌∷◌, length, true, false};
+ghost use Rattle.cml_check.specs.InOrder.{FunctionFits, arities};
+ghost use Rattle.cml_check.specs.Layout.{left};
+ghost use Rattle.cml_check.specs.Follows.{Follows, instr_fits};
+ghost use Rattle.cml_check.specs.InstrViews.{plain_instr};
 ghost use Rattle.cml_step.specs.Agrees.{all_agree};
-ghost use Rattle.cml_step.specs.Variables.{bound};
-ghost use Rattle.cml_step.specs.Places.{stmt_at, block_at, left_at};
 ghost use Rattle.cml_step.specs.Terms.{Term};
-ghost use Rattle.cml_step.specs.Calls.{entry_for, entry_of, text_of, variables_of, statements_left, IsReady, RunsOn};
+ghost use Rattle.cml_step.specs.Calls.{entry_for, entry_of, text_of, variables_of, statements_at, IsReady, RunsOn};
 ghost use Rattle.cml_step.specs.Steps as steps;
 ghost use Rattle.cml_step.specs.Steps.{goes_on};
 ghost use Rattle.cml_step.specs.Slices.{GoesIn};
-ghost use Rattle.cml_step.specs.Stacks.{term_of, CallFits, EachBeneath, StackFits};
+ghost use Rattle.cml_step.specs.Stacks.{CallFits};
 
-use crate::call::{Action, Call, Wait, assign, branch, repeat};
-use crate::entries::Stack;
-use crate::entry::Entry;
-use crate::fault::Stop;
-use crate::place::next_statement;
-use cml_check::{Function, Prog, Source, Stmt, StmtKind};
-use std::alloc::{AllocError, Global};
+use crate::call::{Call, Wait, assign, choose};
+use cml_check::{Function, Instr, Prog, Source};
+use std::alloc::Global;
 
-// Whether a step was made, and went on.
-fn has_gone(did: Result<Action, Stop>) -> bool
-    ensures { result ≡ is_ok did }
-{
-    let gone = did.is_ok();
-    drop(did);
-    gone
-}
-
-// Whether the statement only sets a variable or chooses a block, and was done. Else nothing has changed.
-fn quiet(alloc: Global, program: &Prog, f: &Function, stmt: &Stmt, call: &mut Call) -> bool
-    requires here { stmt_at (block_at f.now.body call.old.path.items) call.old.at
-        ≡ Some stmt.now }
-    requires fits { stmt_fits (arities program.now) (length f.now.names) stmt.now ≡ true }
+// Whether the instruction only sets a variable or chooses a place, and was done. Else nothing has changed.
+fn quiet(alloc: Global, program: &Prog, f: &Function, instr: &Instr, call: &mut Call) -> bool
+    requires here { let left_at = left f.now.body in
+        Follows left_at (plain_instr instr.now) (left_at call.old.at) }
+    requires fits { let slots = length f.now.names in
+        instr_fits (arities program.now) slots (plain_instr instr.now) ≡ true }
     requires ready { IsReady (arities program.now) f.now call.old }
     ensures goes { result ≡ true → (self : ℕ) (below : Term) →
-        let s = stmt_map (name_at f.now.names) stmt.now in
-        let left = statements_left f.now call.old in
+        let here = statements_at f.now call.old.at in
         let variables = variables_of f.now call.old in
-        steps.statement_step (text_of program.now) self s left variables below
+        steps.call_step (text_of program.now) self here variables below
         ≡ goes_on (entry_for f.now call.new ∷ below) }
     ensures stays { result ≡ false → entry_for f.now call.new ≡ entry_for f.now call.old }
     ensures kept { RunsOn (arities program.now) call.old call.new }
 {
-    match &stmt.kind {
-        StmtKind::Let(slot, source) => match source {
-            Source::Value(e) => has_gone(assign(alloc, program, f, *slot, e, call)),
+    match instr {
+        Instr::Let(slot, source, next) => match source {
+            Source::Value(e) => assign(alloc, program, f, *slot, e, *next, call).is_ok(),
             Source::Effect(_) => false,
         },
-        StmtKind::Set(slot, e) => has_gone(assign(alloc, program, f, *slot, e, call)),
-        StmtKind::If(e, a, b) => has_gone(branch(alloc, program, f, e, a, b, call)),
-        StmtKind::While(e, a) => has_gone(repeat(alloc, program, f, e, a, call)),
+        Instr::Set(slot, e, next) => assign(alloc, program, f, *slot, e, *next, call).is_ok(),
+        Instr::If(e, yes, no) => choose(alloc, program, f, e, *yes, *no, call).is_ok(),
+        Instr::While(e, body, next) => choose(alloc, program, f, e, *body, *next, call).is_ok(),
         _ => false,
     }
 }
 
-// The same of the statement at the call's place, if there is one.
-#[tactic(auto, using(crate::proofs::PlaceLemmas::found_fits))]
+// The same of the instruction at the call's place, if there is one.
 fn quiet_step(alloc: Global, program: &Prog, f: &Function, call: &mut Call) -> bool
     requires fits { FunctionFits (arities program.now) f.now }
     requires agree { all_agree (arities program.now) call.old.slots.items ≡ true }
@@ -72,82 +56,30 @@ fn quiet_step(alloc: Global, program: &Prog, f: &Function, call: &mut Call) -> b
     ensures stays { result ≡ false → entry_for f.now call.new ≡ entry_for f.now call.old }
     ensures kept { RunsOn (arities program.now) call.old call.new }
 {
-    let (at, found) = next_statement(&f.body, &mut call.path, call.at);
-    call.at = at;
-    match found {
-        Some(stmt) => quiet(alloc, program, f, stmt, call),
+    match f.instr(call.at) {
+        Some(instr) => quiet(alloc, program, f, instr, call),
         None => false,
     }
 }
 
-// Takes the first steps of the call that do only this, at most this many. Returns how many they were.
-fn quiet_run(alloc: Global, program: &Prog, call: &mut Call, most: u32) -> u32
+/// Takes the first steps of the call that do only this, at most this many. Returns how many they were.
+pub(crate) fn quiet_run(alloc: Global, program: &Prog, call: &mut Call, most: u32) -> u32
     requires fits { CallFits program.now call.old }
     ensures fits { CallFits program.now call.new }
     ensures within { result ≤ most }
     ensures goes { (self : ℕ) (below : Term) → GoesIn (text_of program.now) self result
         (entry_of program.now call.old ∷ below) (entry_of program.now call.new ∷ below) }
 {
+    if call.wait != Wait::Runs {
+        return 0;
+    }
     let f = program.function(call.func);
     let mut done = 0u32;
     while done < most {
-        if call.wait != Wait::Runs {
-            return done;
-        }
         if !quiet_step(alloc, program, f, call) {
             return done;
         }
         done += 1;
     }
     done
-}
-
-// The same of the call on top, which is put back on the stack.
-#[tactic(auto, using(crate::proofs::StackLemmas::term_pushed, crate::proofs::StackLemmas::fits_pushed))]
-fn quiet_call(
-    alloc: Global,
-    program: &Prog,
-    call: Call,
-    below: &mut Stack,
-    most: u32,
-) -> Result<u32, AllocError>
-    requires fits { CallFits program.now call }
-    requires beneath { EachBeneath program.now below.old }
-    ensures fits { IfOk result (λ _. StackFits program.now below.new) }
-    ensures within { IfOk result (λ n. n ≤ most) }
-    ensures goes { IfOk result (λ n. (self : ℕ) → GoesIn (text_of program.now) self n
-        (entry_of program.now call ∷ term_of program.now below.old)
-        (term_of program.now below.new)) }
-{
-    let mut call = call;
-    let done = quiet_run(alloc, program, &mut call, most);
-    below.push(alloc, Entry::Call(call))?;
-    Ok(done)
-}
-
-/// Takes the first steps of a stack that only set variables and choose blocks, at most this many. Returns how many they were.
-#[tactic(auto, using(crate::proofs::StackLemmas::term_pushed, crate::proofs::StackLemmas::fits_popped))]
-pub(crate) fn quiet_steps(
-    alloc: Global,
-    program: &Prog,
-    stack: &mut Stack,
-    most: u32,
-) -> Result<u32, AllocError>
-    requires { StackFits program.now stack.old }
-    ensures fits { IfOk result (λ _. StackFits program.now stack.new) }
-    ensures within { IfOk result (λ n. n ≤ most) }
-    ensures goes { IfOk result (λ n. (self : ℕ) → GoesIn (text_of program.now) self n
-        (term_of program.now stack.old) (term_of program.now stack.new)) }
-{
-    if !stack.has_call() {
-        return Ok(0);
-    }
-    match stack.pop(alloc)? {
-        Some(Entry::Call(call)) => quiet_call(alloc, program, call, stack, most),
-        Some(other) => {
-            stack.push(alloc, other)?;
-            Ok(0)
-        }
-        None => Ok(0),
-    }
 }

@@ -39,6 +39,7 @@ pub fn run_slice(alloc: Global, program: &Prog, machine: &Machine) -> Result<Sli
       steps = s.steps;
     })) }
 {
-    let (end, ask, steps) = machine.copy(alloc)?.run(alloc, program)?;
+    let mut end = machine.copy(alloc)?;
+    let (ask, steps) = end.run(alloc, program)?;
     Ok(Slice { end, ask, steps })
 }

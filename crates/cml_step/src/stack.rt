@@ -1,18 +1,18 @@
 //! Steps of a stack.
 
-ghost use Rattle.std.specs.Prelude.{◌≡◌, ℕ, List, ◌∷◌, Bool, true, false, Some, None, Ok, IfOk, IfErr};
-ghost use Rattle.cml_value.specs.Value.{PlainValue, function, values};
+ghost use Rattle.std.specs.Prelude.{◌≡◌, ℕ, ◌+◌, List, [], ◌∷◌, ◌++◌, length, true, false, Some, None, Ok, IfOk, IfErr};
+ghost use Rattle.cml_value.specs.Value.{function, values};
 ghost use Rattle.cml_check.specs.Syntax.{PlainItem};
 ghost use Rattle.cml_check.specs.InOrder.{arities};
-ghost use Rattle.cml_step.specs.Agrees.{value_agrees, all_agree, function_agrees, event_agrees, ask_agrees};
-ghost use Rattle.cml_step.specs.Terms.{call_of, force};
-ghost use Rattle.cml_group.specs.Force.{AwaitsEvent, unforced, calls, event_of as plain_event_of};
-ghost use Rattle.cml_step.specs.AskViews.{plain_ask};
-ghost use Rattle.cml_step.specs.Forced.{group_of, with_argument};
+ghost use Rattle.cml_step.specs.Agrees.{value_agrees, function_agrees, event_agrees};
+ghost use Rattle.cml_step.specs.Terms.{Term, call_of, force};
+ghost use Rattle.cml_group.specs.Force.{AwaitsEvent, unforced, event_of as plain_event_of};
+ghost use Rattle.cml_step.specs.Forced.{group_of};
 ghost use Rattle.cml_step.specs.Steps as steps;
 ghost use Rattle.cml_step.specs.Steps.{PlainStep};
 ghost use Rattle.cml_step.specs.Calls.{text_of, entry_of, MovesTo, ActionAgrees};
-ghost use Rattle.cml_step.specs.Stacks.{entry_view, term_of, EntryFits, EachBeneath, StackFits, IsStep, StepFits, CallFits, WrapsFit};
+ghost use Rattle.cml_step.specs.Machines.{PlainHeld, force as plain_force, plain_held, held_entry};
+ghost use Rattle.cml_step.specs.Stacks.{entry_view, term_of, EntryFits, BeneathFits, EachBeneath, StackFits, IsStep, StepFits, CallFits, WrapsFit, IsDelivered, EntryStands, TopStands};
 
 use crate::ask::Ask;
 use crate::call::{Action, Call, Wait, call_step, fill};
@@ -22,8 +22,9 @@ use crate::fault::{Fault, Stop};
 use crate::kind::event_of;
 use cml_check::Prog;
 use cml_group::{ForceFault, Forcing, Next};
-use cml_value::{Event, FnRef, Group, Tid, Value};
+use cml_value::{Event, Group, Tid, Value, ValueKind};
 use std::alloc::Global;
+use std::mem::replace;
 
 // The most entries of a stack.
 const MAX_ENTRIES: usize = 1024;
@@ -44,7 +45,8 @@ fn push(alloc: Global, entry: Entry, below: &mut Stack) -> Result<Ask, Stop>
 }
 
 // A call of the function with these values, on top.
-#[tactic(auto, using(crate::proofs::StackLemmas::begun, crate::proofs::StackLemmas::begun_fits))]
+#[inline(never)]
+#[tactic(auto, using(crate::proofs::StackLemmas::begun, crate::proofs::StackLemmas::begun_fits, crate::proofs::StackLemmas::term_pushed, crate::proofs::StackLemmas::term_length, crate::proofs::StackLemmas::fits_pushed))]
 fn push_call(
     alloc: Global,
     program: &Prog,
@@ -63,7 +65,6 @@ fn push_call(
 {
     let call = Call {
         func,
-        path: Vec::new(alloc),
         at: 0,
         slots: args,
         wait: Wait::Runs,
@@ -71,68 +72,30 @@ fn push_call(
     push(alloc, Entry::Call(call), below)
 }
 
-// The same of a function with captured values, and those that it is given besides.
-fn push_function(alloc: Global, program: &Prog, f: &FnRef, below: &mut Stack) -> Result<Ask, Stop>
-    requires agrees { function_agrees (arities program.now) 0 f.now ≡ true }
-    requires beneath { EachBeneath program.now below.old }
-    ensures meant { let entry = call_of (text_of program.now) f.now in
-        IsStep program.now result
-        (steps.pushed entry (term_of program.now below.old)) below.new }
-    ensures fits { StepFits program.now result below.new }
-{
-    let args = copies(alloc, f.args())?;
-    push_call(alloc, program, f.func(), args, below)
-}
-
-// The value goes to a call that waits for it.
-#[tactic(auto, using(crate::proofs::StackLemmas::fits_pushed, crate::proofs::StackLemmas::filled_fits, crate::proofs::StackLemmas::filled_room))]
-fn deliver_to_call(
-    alloc: Global,
-    program: &Prog,
-    call: Call,
-    value: Value,
-    below: &mut Stack,
-) -> Result<Ask, Stop>
-    requires fits { CallFits program.now call }
-    requires agrees { value_agrees (arities program.now) value ≡ true }
-    requires beneath { EachBeneath program.now below.old }
-    ensures meant { IsStep program.now result
-        (steps.delivered value
-        (entry_of program.now call ∷ term_of program.now below.old)) below.new }
-    ensures fits { StepFits program.now result below.new }
-{
-    let _f = program.function(call.func);
-    let mut call = call;
-    fill(&mut call, value);
-    below.push(alloc, Entry::Call(call))?;
-    Ok(Ask::Nothing)
-}
-
 // The event that a guard's function returned takes its place.
-#[tactic(auto, using(crate::proofs::ForceLemmas::replaced_agrees, crate::proofs::AgreeLemmas::event_of_agrees, crate::proofs::StackLemmas::term_pushed, crate::proofs::StackLemmas::fits_pushed))]
+#[inline(never)]
+#[tactic(auto, using(crate::proofs::ForceLemmas::replaced_agrees, crate::proofs::AgreeLemmas::event_of_agrees))]
 fn deliver_to_force(
     alloc: Global,
     program: &Prog,
-    forcing: Forcing,
+    forcing: &mut Forcing,
+    asked: &mut bool,
     value: Value,
-    below: &mut Stack,
-) -> Result<Ask, Stop>
-    requires fits { event_agrees (arities program.now) forcing ≡ true }
-    requires awaits { AwaitsEvent forcing }
+) -> Result<(), Stop>
+    requires fits { event_agrees (arities program.now) forcing.old ≡ true }
+    requires awaits { AwaitsEvent forcing.old }
     requires agrees { value_agrees (arities program.now) value ≡ true }
-    requires beneath { EachBeneath program.now below.old }
-    ensures meant { (asked : Bool) → IsStep program.now result
-        (steps.delivered value
-        (force forcing asked ∷ term_of program.now below.old)) below.new }
-    ensures fits { StepFits program.now result below.new }
+    ensures meant { (below : Term) → IsDelivered result
+        (force forcing.new asked.new) below
+        (steps.delivered value (force forcing.old asked.old ∷ below)) }
+    ensures fits { IfOk result (λ _. event_agrees (arities program.now) forcing.new ≡ true) }
 {
     let answer = event_of(&value)?;
     drop(value);
-    let mut forcing = forcing;
     match forcing.answer_event(alloc, answer) {
         Ok(()) => {
-            below.push(alloc, Entry::Force(forcing, false))?;
-            Ok(Ask::Nothing)
+            *asked = false;
+            Ok(())
         }
         Err(ForceFault::Deep(back)) => {
             drop(back);
@@ -145,174 +108,128 @@ fn deliver_to_force(
     }
 }
 
-// The value is the one that has come so far to wraps in progress.
-#[tactic(auto, using(crate::proofs::StackLemmas::term_pushed, crate::proofs::StackLemmas::fits_pushed))]
-fn deliver_to_wraps(
-    alloc: Global,
-    program: &Prog,
-    wraps: Wraps,
-    value: Value,
-    below: &mut Stack,
-) -> Result<Ask, Stop>
-    requires fits { WrapsFit program.now wraps }
+// The value goes to a call that waits for it.
+#[tactic(auto, using(crate::proofs::StackLemmas::filled_fits, crate::proofs::StackLemmas::filled_room))]
+fn deliver_to_call(program: &Prog, call: &mut Call, value: Value)
+    requires fits { CallFits program.now call.old }
     requires agrees { value_agrees (arities program.now) value ≡ true }
-    requires beneath { EachBeneath program.now below.old }
-    ensures meant { IsStep program.now result
-        (steps.delivered value
-        (entry_view program.now (Entry.Wraps wraps) ∷ term_of program.now below.old)) below.new }
-    ensures fits { StepFits program.now result below.new }
+    ensures meant { (below : Term) →
+        steps.delivered value (entry_of program.now call.old ∷ below)
+        ≡ steps.goes_on (entry_of program.now call.new ∷ below) }
+    ensures fits { CallFits program.now call.new }
 {
-    let left = wraps.left;
-    below.push(alloc, Entry::Wraps(Wraps { left, value }))?;
-    Ok(Ask::Nothing)
+    let _f = program.function(call.func);
+    fill(call, value);
 }
 
-// The value is delivered to what waits beneath.
-#[tactic(auto, using(crate::proofs::StackLemmas::term_pushed, crate::proofs::StackLemmas::beneath_popped))]
-fn deliver(alloc: Global, program: &Prog, value: Value, below: &mut Stack) -> Result<Ask, Stop>
+// The value is delivered to an entry that waits for it.
+#[inline(never)]
+fn deliver_to(alloc: Global, program: &Prog, entry: &mut Entry, value: Value) -> Result<(), Stop>
+    requires fits { BeneathFits program.now entry.old }
     requires agrees { value_agrees (arities program.now) value ≡ true }
-    requires beneath { EachBeneath program.now below.old }
-    ensures meant { IsStep program.now result
-        (steps.delivered value (term_of program.now below.old)) below.new }
-    ensures fits { StepFits program.now result below.new }
+    ensures meant { (below : Term) → IsDelivered result
+        (entry_view program.now entry.new) below
+        (steps.delivered value (entry_view program.now entry.old ∷ below)) }
+    ensures fits { IfOk result (λ _. EntryFits program.now entry.new) }
 {
-    match below.pop(alloc)? {
-        None => {
-            drop(value);
-            Ok(Ask::End)
+    match entry {
+        Entry::Call(call) => {
+            deliver_to_call(program, call, value);
+            Ok(())
         }
-        Some(Entry::Call(call)) => deliver_to_call(alloc, program, call, value, below),
-        Some(Entry::Force(forcing, _)) => {
-            deliver_to_force(alloc, program, forcing, value, below)
+        Entry::Force(forcing, asked) => deliver_to_force(alloc, program, forcing, asked, value),
+        Entry::Wraps(wraps) => {
+            wraps.value = value;
+            Ok(())
         }
-        Some(Entry::Wraps(wraps)) => deliver_to_wraps(alloc, program, wraps, value, below),
     }
 }
 
-// The call goes back on top.
-#[tactic(auto, using(crate::proofs::StackLemmas::term_pushed, crate::proofs::StackLemmas::fits_pushed, crate::proofs::StackLemmas::beneath_pushed))]
-fn keep(alloc: Global, program: &Prog, call: Call, below: &mut Stack) -> Result<(), Stop>
-    requires fits { CallFits program.now call }
-    requires beneath { EachBeneath program.now below.old }
-    ensures term { IfOk result (λ _. term_of program.now below.new
-        ≡ entry_of program.now call ∷ term_of program.now below.old) }
-    ensures beneath { IfOk result (λ _. EachBeneath program.now below.new) }
-    ensures stack { IfOk result (λ _. StackFits program.now below.new) }
-    ensures memory { IfErr result (λ e. e ≡ Stop.Memory) }
+// The value is delivered to what waits on top.
+fn deliver(alloc: Global, program: &Prog, value: Value, stack: &mut Stack) -> Result<Ask, Stop>
+    requires agrees { value_agrees (arities program.now) value ≡ true }
+    requires beneath { EachBeneath program.now stack.old }
+    ensures meant { IsStep program.now result
+        (steps.delivered value (term_of program.now stack.old)) stack.new }
+    ensures fits { StepFits program.now result stack.new }
 {
-    below.push(alloc, Entry::Call(call))?;
-    Ok(())
+    if let Some(entry) = &mut stack.over {
+        deliver_to(alloc, program, entry, value)?;
+        return Ok(Ask::Nothing);
+    }
+    if let Some(call) = &mut stack.call {
+        deliver_to_call(program, call, value);
+        return Ok(Ask::Nothing);
+    }
+    drop(value);
+    Ok(Ask::End)
 }
 
-// What comes of what a call did.
+// The event is to be forced, on top.
+#[inline(never)]
+fn push_force(alloc: Global, program: &Prog, event: Event, stack: &mut Stack) -> Result<Ask, Stop>
+    requires agrees { event_agrees (arities program.now) event ≡ true }
+    requires beneath { EachBeneath program.now stack.old }
+    ensures meant { IsStep program.now result
+        (steps.pushed (force event false) (term_of program.now stack.old)) stack.new }
+    ensures fits { StepFits program.now result stack.new }
+{
+    let forcing = Forcing::start(alloc, event)?;
+    push(alloc, Entry::Force(forcing, false), stack)
+}
 
-fn after_call(
-    alloc: Global,
-    program: &Prog,
-    did: Action,
-    call: Call,
-    below: &mut Stack,
-) -> Result<Ask, Stop>
-    requires fits { CallFits program.now call }
+// The entry on top goes, and the value is delivered to what waits beneath.
+#[inline(never)]
+fn leave(alloc: Global, program: &Prog, value: Value, stack: &mut Stack) -> Result<Ask, Stop>
+    requires agrees { value_agrees (arities program.now) value ≡ true }
+    requires stands { TopStands program.now (Action.Returns value) stack.old }
+    ensures meant { (hs : List PlainHeld) (h : PlainHeld) → stack.old ≡ hs ++ h ∷ [] →
+        IsStep program.now result (steps.delivered value (term_of program.now hs)) stack.new }
+    ensures fits { StepFits program.now result stack.new }
+{
+    stack.drop_top(alloc)?;
+    deliver(alloc, program, value, stack)
+}
+
+// What comes of what the entry on top did.
+fn after(alloc: Global, program: &Prog, did: Action, stack: &mut Stack) -> Result<Ask, Stop>
+    requires stands { TopStands program.now did stack.old }
     requires did { ActionAgrees (arities program.now) (Ok did) }
-    requires beneath { EachBeneath program.now below.old }
-    ensures meant { (step : PlainStep) → MovesTo program.now (Ok did)
-        (entry_of program.now call) (term_of program.now below.old) step
-        → IsStep program.now result step below.new }
-    ensures fits { StepFits program.now result below.new }
+    ensures meant { (hs : List PlainHeld) (h : PlainHeld) (step : PlainStep) →
+        stack.old ≡ hs ++ h ∷ []
+        → MovesTo program.now (Ok did) (held_entry program.now h) (term_of program.now hs) step
+        → IsStep program.now result step stack.new }
+    ensures fits { StepFits program.now result stack.new }
 {
     match did {
-        Action::Goes => {
-            keep(alloc, program, call, below)?;
-            Ok(Ask::Nothing)
-        }
-        Action::Calls(func, args) => {
-            keep(alloc, program, call, below)?;
-            push_call(alloc, program, func, args, below)
-        }
-        Action::Forces(event) => {
-            keep(alloc, program, call, below)?;
-            let forcing = Forcing::start(alloc, event)?;
-            push(alloc, Entry::Force(forcing, false), below)
-        }
-        Action::Returns(value) => {
-            drop(call);
-            deliver(alloc, program, value, below)
-        }
-        Action::Asks(ask) => {
-            keep(alloc, program, call, below)?;
-            Ok(ask)
-        }
+        Action::Goes => Ok(Ask::Nothing),
+        Action::Asks(ask) => Ok(ask),
+        Action::Forces(event) => push_force(alloc, program, event, stack),
+        Action::Calls(func, args) => push_call(alloc, program, func, args, stack),
+        Action::Returns(value) => leave(alloc, program, value, stack),
         Action::Ends => {
-            drop(call);
-            below.clear();
+            stack.clear();
             Ok(Ask::End)
         }
     }
 }
 
-// A step of a call that runs.
-fn step_call(
-    alloc: Global,
-    thread: Tid,
-    program: &Prog,
-    call: Call,
-    below: &mut Stack,
-) -> Result<Ask, Stop>
-    requires fits { CallFits program.now call }
-    requires runs { call.wait ≡ Wait.Runs }
-    requires beneath { EachBeneath program.now below.old }
-    ensures meant { let before = entry_of program.now call in
-        IsStep program.now result
+// What a call does in its step, if it runs.
+#[tactic(auto, using(crate::proofs::StackLemmas::waiting))]
+fn step_of_call(alloc: Global, thread: Tid, program: &Prog, call: &mut Call) -> Result<Action, Stop>
+    requires fits { CallFits program.now call.old }
+    ensures moves { (below : Term) →
+        MovesTo program.now result (entry_of program.now call.new) below
         (steps.next (text_of program.now) thread.0
-        (before ∷ term_of program.now below.old)) below.new }
-    ensures fits { StepFits program.now result below.new }
+        (entry_of program.now call.old ∷ below)) }
+    ensures fits { CallFits program.now call.new }
+    ensures did { ActionAgrees (arities program.now) result }
 {
+    if call.wait != Wait::Runs {
+        return Ok(Action::Goes);
+    }
     let f = program.function(call.func);
-    let mut call = call;
-    let did = call_step(alloc, thread, program, f, &mut call)?;
-    after_call(alloc, program, did, call, below)
-}
-
-// The function of a guard is called, and the event waits for what it returns.
-#[tactic(auto, using(crate::proofs::StackLemmas::term_pushed, crate::proofs::StackLemmas::beneath_pushed, crate::proofs::ForceLemmas::guard_agrees))]
-fn call_guard(
-    alloc: Global,
-    program: &Prog,
-    forcing: Forcing,
-    f: FnRef,
-    below: &mut Stack,
-) -> Result<Ask, Stop>
-    requires fits { event_agrees (arities program.now) forcing ≡ true }
-    requires calls { unforced forcing ≡ Some (calls f) }
-    requires beneath { EachBeneath program.now below.old }
-    ensures meant { IsStep program.now result
-        (steps.next (text_of program.now) 0
-        (force forcing false ∷ term_of program.now below.old)) below.new }
-    ensures fits { StepFits program.now result below.new }
-{
-    below.push(alloc, Entry::Force(forcing, false))?;
-    push_function(alloc, program, &f, below)
-}
-
-// The event asks, and waits for the answer.
-#[tactic(auto, using(crate::proofs::StackLemmas::term_pushed, crate::proofs::StackLemmas::fits_pushed))]
-fn ask_for(
-    alloc: Global,
-    program: &Prog,
-    forcing: Forcing,
-    ask: Ask,
-    below: &mut Stack,
-) -> Result<Ask, Stop>
-    requires fits { event_agrees (arities program.now) forcing ≡ true }
-    requires agrees { ask_agrees (arities program.now) (plain_ask ask) ≡ true }
-    requires beneath { EachBeneath program.now below.old }
-    ensures meant { IsStep program.now result (steps.asks (plain_ask ask)
-        (force forcing true ∷ term_of program.now below.old)) below.new }
-    ensures fits { StepFits program.now result below.new }
-{
-    below.push(alloc, Entry::Force(forcing, true))?;
-    Ok(ask)
+    call_step(alloc, thread, program, f, call)
 }
 
 // The group that the event was forced to, of which the event is kept.
@@ -327,117 +244,97 @@ fn group_ready(alloc: Global, forcing: &Forcing) -> Result<Group, Stop>
     Ok(copy.finish())
 }
 
-// A step of an event that is being forced.
-#[tactic(auto, using(crate::proofs::StackLemmas::term_length))]
-fn step_force(
+// What an event that is being forced does in its step, where this many entries are on the stack.
+#[inline(never)]
+#[tactic(auto, using(crate::proofs::ForceLemmas::guard_agrees))]
+fn step_of_force(
     alloc: Global,
     program: &Prog,
-    forcing: Forcing,
-    below: &mut Stack,
-) -> Result<Ask, Stop>
-    requires fits { event_agrees (arities program.now) forcing ≡ true }
-    requires beneath { EachBeneath program.now below.old }
-    ensures meant { IsStep program.now result
-        (steps.next (text_of program.now) 0
-        (force forcing false ∷ term_of program.now below.old)) below.new }
-    ensures fits { StepFits program.now result below.new }
+    forcing: &Forcing,
+    asked: &mut bool,
+    entries: usize,
+) -> Result<Action, Stop>
+    requires fits { event_agrees (arities program.now) forcing.now ≡ true }
+    ensures moves { (self : ℕ) (below : Term) → length below + 1 ≡ entries →
+        MovesTo program.now result (force forcing.now asked.new) below
+        (steps.next (text_of program.now) self (force forcing.now asked.old ∷ below)) }
+    ensures stands { IfOk result (λ did. EntryStands program.now did
+        (plain_force forcing.now asked.new)) }
+    ensures did { ActionAgrees (arities program.now) result }
 {
+    if *asked {
+        return Ok(Action::Goes);
+    }
     match forcing.next()? {
-        Next::Call(f) => call_guard(alloc, program, forcing, f, below),
+        Next::Call(f) => {
+            let args = copies(alloc, f.args())?;
+            Ok(Action::Calls(f.func(), args))
+        }
         Next::NeedNack => {
-            if below.len() >= MAX_ENTRIES - 1 {
+            if entries >= MAX_ENTRIES {
                 return Err(Stop::Fault(Fault::Stack));
             }
-            ask_for(alloc, program, forcing, Ask::Nack, below)
+            *asked = true;
+            Ok(Action::Asks(Ask::Nack))
         }
         Next::Ready => {
-            let group = group_ready(alloc, &forcing)?;
-            ask_for(alloc, program, forcing, Ask::Sync(group), below)
+            let group = group_ready(alloc, forcing)?;
+            *asked = true;
+            Ok(Action::Asks(Ask::Sync(group)))
         }
     }
 }
 
-// The next function of wraps in progress, with the value that has come so far as its last argument.
-fn last_call(
-    alloc: Global,
-    program: &Prog,
-    f: &FnRef,
-    value: Value,
-    below: &mut Stack,
-) -> Result<Ask, Stop>
-    requires takes { function_agrees (arities program.now) 1 f.now ≡ true }
-    requires agrees { value_agrees (arities program.now) value ≡ true }
-    requires beneath { EachBeneath program.now below.old }
-    ensures meant { let entry = call_of (text_of program.now) (with_argument f.now value) in
-        IsStep program.now result
-        (steps.pushed entry (term_of program.now below.old)) below.new }
-    ensures fits { StepFits program.now result below.new }
+// What wraps in progress do in their step: the next function is called, with the value that has come so far as its last argument.
+#[inline(never)]
+#[tactic(auto, using(crate::proofs::StackLemmas::last_next, crate::proofs::StackLemmas::wraps_popped))]
+fn step_of_wraps(alloc: Global, program: &Prog, wraps: &mut Wraps) -> Result<Action, Stop>
+    requires fits { WrapsFit program.now wraps.old }
+    ensures moves { (self : ℕ) (below : Term) →
+        MovesTo program.now result (entry_view program.now (Entry.Wraps wraps.new)) below
+        (steps.next (text_of program.now) self
+        (entry_view program.now (Entry.Wraps wraps.old) ∷ below)) }
+    ensures stands { IfOk result (λ _. WrapsFit program.now wraps.new) }
+    ensures did { ActionAgrees (arities program.now) result }
 {
-    let mut args = copies(alloc, f.args())?;
-    args.push(value)?;
-    push_call(alloc, program, f.func(), args, below)
-}
-
-// A step of wraps in progress.
-#[tactic(auto, using(crate::proofs::StackLemmas::last_next, crate::proofs::StackLemmas::wraps_popped, crate::proofs::StackLemmas::term_pushed, crate::proofs::StackLemmas::beneath_pushed))]
-fn step_wraps(alloc: Global, program: &Prog, wraps: Wraps, below: &mut Stack) -> Result<Ask, Stop>
-    requires fits { WrapsFit program.now wraps }
-    requires beneath { EachBeneath program.now below.old }
-    ensures meant { IsStep program.now result
-        (steps.next (text_of program.now) 0
-        (entry_view program.now (Entry.Wraps wraps)
-        ∷ term_of program.now below.old)) below.new }
-    ensures fits { StepFits program.now result below.new }
-{
-    let mut left = wraps.left;
-    let value = wraps.value;
-    match left.pop() {
+    match wraps.left.pop() {
         None => {
-            drop(left);
-            deliver(alloc, program, value, below)
+            let value = replace(&mut wraps.value, Value::new(ValueKind::Unit));
+            Ok(Action::Returns(value))
         }
         Some(f) => {
-            let so_far = value.copy()?;
-            below.push(
-                alloc,
-                Entry::Wraps(Wraps {
-                    left,
-                    value: so_far,
-                }),
-            )?;
-            last_call(alloc, program, &f, value, below)
+            let mut args = copies(alloc, f.args())?;
+            args.push(wraps.value.copy()?)?;
+            Ok(Action::Calls(f.func(), args))
         }
     }
 }
 
-// A step of a call, which it takes only if it runs.
-#[tactic(auto, using(crate::proofs::StackLemmas::waiting))]
-fn step_if_runs(
+// What an entry does in its step, where this many entries are on the stack.
+#[inline(never)]
+fn step_of_entry(
     alloc: Global,
     thread: Tid,
     program: &Prog,
-    call: Call,
-    below: &mut Stack,
-) -> Result<Ask, Stop>
-    requires fits { CallFits program.now call }
-    requires beneath { EachBeneath program.now below.old }
-    ensures meant { let before = entry_of program.now call in
-        IsStep program.now result
+    entry: &mut Entry,
+    entries: usize,
+) -> Result<Action, Stop>
+    requires fits { EntryFits program.now entry.old }
+    ensures moves { (below : Term) → length below + 1 ≡ entries →
+        MovesTo program.now result (entry_view program.now entry.new) below
         (steps.next (text_of program.now) thread.0
-        (before ∷ term_of program.now below.old)) below.new }
-    ensures fits { StepFits program.now result below.new }
+        (entry_view program.now entry.old ∷ below)) }
+    ensures stands { IfOk result (λ did. EntryStands program.now did (plain_held entry.new)) }
+    ensures did { ActionAgrees (arities program.now) result }
 {
-    match call.wait {
-        Wait::Runs => step_call(alloc, thread, program, call, below),
-        Wait::Drops | Wait::Gives(_) => {
-            keep(alloc, program, call, below)?;
-            Ok(Ask::Nothing)
-        }
+    match entry {
+        Entry::Call(call) => step_of_call(alloc, thread, program, call),
+        Entry::Force(forcing, asked) => step_of_force(alloc, program, forcing, asked, entries),
+        Entry::Wraps(wraps) => step_of_wraps(alloc, program, wraps),
     }
 }
 
-/// One step of a thread.
-#[tactic(auto, using(crate::proofs::StackLemmas::term_pushed, crate::proofs::StackLemmas::fits_popped))]
+/// One step of a thread. The entry on top takes it where it stands.
 pub(crate) fn step(
     alloc: Global,
     thread: Tid,
@@ -450,14 +347,18 @@ pub(crate) fn step(
         stack.new }
     ensures fits { StepFits program.now result stack.new }
 {
-    match stack.pop(alloc)? {
-        None => Ok(Ask::End),
-        Some(Entry::Call(call)) => step_if_runs(alloc, thread, program, call, stack),
-        Some(Entry::Force(forcing, false)) => step_force(alloc, program, forcing, stack),
-        Some(Entry::Force(forcing, true)) => {
-            stack.push(alloc, Entry::Force(forcing, true))?;
-            Ok(Ask::Nothing)
+    let entries = stack.len();
+    match &mut stack.over {
+        Some(entry) => {
+            let did = step_of_entry(alloc, thread, program, entry, entries)?;
+            after(alloc, program, did, stack)
         }
-        Some(Entry::Wraps(wraps)) => step_wraps(alloc, program, wraps, stack),
+        None => match &mut stack.call {
+            Some(call) => {
+                let did = step_of_call(alloc, thread, program, call)?;
+                after(alloc, program, did, stack)
+            }
+            None => Ok(Ask::End),
+        },
     }
 }

@@ -1,18 +1,18 @@
 //! Slices of a thread's steps.
 
-ghost use Rattle.std.specs.Prelude.{◌≡◌, [], true, IfOk};
+ghost use Rattle.std.specs.Prelude.{◌≡◌, ◌≤◌, ℕ, [], true, IfOk};
 ghost use Rattle.cml_check.specs.InOrder.{arities};
 ghost use Rattle.cml_step.specs.AskViews.{plain_ask};
 ghost use Rattle.cml_step.specs.Agrees.{ask_agrees};
 ghost use Rattle.cml_step.specs.Steps.{next, asks};
-ghost use Rattle.cml_step.specs.Slices.{sliced_from};
+ghost use Rattle.cml_step.specs.Slices.{sliced_from, GoesIn};
 ghost use Rattle.cml_step.specs.Calls.{text_of};
 ghost use Rattle.cml_step.specs.Stacks.{term_of, StackFits};
 
 use crate::ask::Ask;
 use crate::entries::Stack;
 use crate::fault::{Fault, Stop};
-use crate::quiet::quiet_steps;
+use crate::quiet::quiet_run;
 use crate::stack::step;
 use cml_check::Prog;
 use cml_value::Tid;
@@ -51,6 +51,24 @@ fn failed(fault: Fault, stack: &mut Stack) -> Ask
     Ask::Fault(fault)
 }
 
+// Takes the first steps of a stack that only set variables and choose blocks, at most this many, where the call on top stands. Returns how
+// many they were.
+fn quiet_steps(alloc: Global, program: &Prog, stack: &mut Stack, most: u32) -> u32
+    requires { StackFits program.now stack.old }
+    ensures fits { StackFits program.now stack.new }
+    ensures within { result ≤ most }
+    ensures goes { (self : ℕ) → GoesIn (text_of program.now) self result
+        (term_of program.now stack.old) (term_of program.now stack.new) }
+{
+    if stack.over.is_some() {
+        return 0;
+    }
+    if let Some(call) = &mut stack.call {
+        return quiet_run(alloc, program, call, most);
+    }
+    0
+}
+
 /// Takes at most this many steps of the thread, up to the first that asks, ends or is at fault. Returns what it asks, and how many
 /// steps there were.
 #[tactic(auto, using(crate::proofs::SliceLemmas::slice_on, crate::proofs::SliceLemmas::slice_asks, crate::proofs::SliceLemmas::slice_over))]
@@ -75,7 +93,7 @@ pub(crate) fn run(
 {
     let mut done = 0u32;
     while done < most {
-        done += quiet_steps(alloc, program, stack, most - done)?;
+        done += quiet_steps(alloc, program, stack, most - done);
         if done == most {
             return Ok((Ask::Nothing, done));
         }

@@ -8,7 +8,7 @@ use Rattle.cml_hub.specs.declared.fault.Next.{Next}
 use Rattle.cml_hub.specs.declared.fault.Next.TheVariants as next
 use Rattle.cml_work.specs.declared.locked.Found.{Found}
 use Rattle.cml_work.specs.declared.locked.Found.TheVariants as found
-use Rattle.cml_work.specs.Works.{PlainOpening, Follows, IsJob}
+use Rattle.cml_work.specs.Works.{PlainOpening, OpenedBy, IsJob}
 
 -- the machine that is handed out is one of a thread of the program that was copied before
 pub job_found : (old new : Kept) (p : List (PlainItem ℕ)) (n : Next) (m : PlainMachine)
@@ -18,7 +18,7 @@ job_found old new p n m is same extends handed =
     (same, subst (λ (q : List (PlainItem ℕ)). GoesOn q m) (extends.continues.program ∙ sym same) hands.1)
 
 -- a job of the hub's program is one of the opening's
-pub job_follows : (o : PlainOpening) (old : Kept) (f : Found) → Follows o old → IsJob old.course.program f → IsJob o.program f
+pub job_follows : (o : PlainOpening) (old : Kept) (f : Found) → OpenedBy o old → IsJob old.course.program f → IsJob o.program f
 job_follows o old (found.Job p m) follows job = (job.0 ∙ follows.program, job.1)
 job_follows o old (found.Wait more) follows job = job
 job_follows o old found.Over follows job = job

@@ -12,7 +12,7 @@ use Rattle.cml_hub.specs.declared.fault.End.{End}
 use Rattle.cml_hub.specs.declared.fault.GiveFault.{GiveFault}
 use Rattle.cml_hub.specs.declared.fault.GiveFault.TheVariants.{Stranger, Memory}
 use Rattle.cml_work.specs.Marks.{BeginsWith}
-use Rattle.cml_work.specs.Works.{PlainOpening, opening_of, Follows, GoesOnFrom, IsWorked}
+use Rattle.cml_work.specs.Works.{PlainOpening, opening_of, OpenedBy, GoesOnFrom, IsWorked}
 
 -- what holds of each of these items and of each that comes after them holds of all
 each_more : (p : List (PlainItem ℕ)) (Holds : Run → Item → Type 0) (items more rest : List Item) → EachAdded p Holds items more
@@ -30,11 +30,11 @@ if_there (Some x) = tt
 pub goes_on_same : (h : Kept) → GoesOnFrom h h
 goes_on_same h = record { program = refl; budget = refl; watch = refl; more = []; items = sym (append-nil _); exchanges = tt }
 
-pub follows_itself : (o : PlainOpening) (h : Kept) → opening_of h ≡ o → Follows o h
-follows_itself o h is = subst (λ (p : PlainOpening). Follows p h) is (goes_on_same h)
+pub follows_itself : (o : PlainOpening) (h : Kept) → opening_of h ≡ o → OpenedBy o h
+follows_itself o h is = subst (λ (p : PlainOpening). OpenedBy p h) is (goes_on_same h)
 
 -- what goes on from a hub that follows an opening follows it too
-pub follows_on : (o : PlainOpening) (mid new : Kept) → Follows o mid → GoesOnFrom mid new → Follows o new
+pub follows_on : (o : PlainOpening) (mid new : Kept) → OpenedBy o mid → GoesOnFrom mid new → OpenedBy o new
 follows_on o mid new p q = record {
   program = q.program ∙ p.program;
   budget = q.budget ∙ p.budget;
@@ -50,7 +50,7 @@ pub goes_on_continues : (old new : Kept) → Continues old new → GoesOnFrom ol
 goes_on_continues old new c = record { program = c.program; budget = c.budget; watch = c.watch; more = c.more; items = c.items; exchanges = c.exchanges }
 
 -- a hub that has taken a turn goes on
-pub follows_given : (o : PlainOpening) (old : Kept) (t : Tid) (new : Kept) → Follows o old → Given old t new → Follows o new
+pub follows_given : (o : PlainOpening) (old : Kept) (t : Tid) (new : Kept) → OpenedBy o old → Given old t new → OpenedBy o new
 follows_given o old t new p g =
     follows_on o old new p record {
       program = g.adds.program;
@@ -62,19 +62,19 @@ follows_given o old t new p g =
     }
 
 -- whatever came of a slice, the hub goes on
-pub follows_slice : (o : PlainOpening) (old : Kept) (ran : PlainRan) (r : Result (Unit {0}) GiveFault) (new : Kept) → Follows o old → TakesSlice old ran r new
-    → Follows o new
+pub follows_slice : (o : PlainOpening) (old : Kept) (ran : PlainRan) (r : Result (Unit {0}) GiveFault) (new : Kept) → OpenedBy o old → TakesSlice old ran r new
+    → OpenedBy o new
 follows_slice o old ran (Ok done) new p t = follows_given o old _ new p t.1
-follows_slice o old ran (Err (Stranger back)) new p t = subst (λ (h : Kept). Follows o h) (sym t.2) p
-follows_slice o old ran (Err (Memory back)) new p t = subst (λ (h : Kept). Follows o h) (sym t.2) p
+follows_slice o old ran (Err (Stranger back)) new p t = subst (λ (h : Kept). OpenedBy o h) (sym t.2) p
+follows_slice o old ran (Err (Memory back)) new p t = subst (λ (h : Kept). OpenedBy o h) (sym t.2) p
 
-pub went_after : (o : PlainOpening) (hub mid new : Kept) → opening_of hub ≡ o → Follows o mid → GoesOnFrom mid new → GoesOnFrom hub new
-went_after o hub mid new is p q = subst (λ (x : PlainOpening). Follows x new) (sym is) (follows_on o mid new p q)
+pub went_after : (o : PlainOpening) (hub mid new : Kept) → opening_of hub ≡ o → OpenedBy o mid → GoesOnFrom mid new → GoesOnFrom hub new
+went_after o hub mid new is p q = subst (λ (x : PlainOpening). OpenedBy x new) (sym is) (follows_on o mid new p q)
 
-pub went : (o : PlainOpening) (hub new : Kept) → opening_of hub ≡ o → Follows o new → GoesOnFrom hub new
-went o hub new is p = subst (λ (x : PlainOpening). Follows x new) (sym is) p
+pub went : (o : PlainOpening) (hub new : Kept) → opening_of hub ≡ o → OpenedBy o new → GoesOnFrom hub new
+went o hub new is p = subst (λ (x : PlainOpening). OpenedBy x new) (sym is) p
 
-pub worked_after : (o : PlainOpening) (hub mid new : Kept) → opening_of hub ≡ o → Follows o mid → IsWorked mid new → IsWorked hub new
+pub worked_after : (o : PlainOpening) (hub mid new : Kept) → opening_of hub ≡ o → OpenedBy o mid → IsWorked mid new → IsWorked hub new
 worked_after o hub mid new is p w = record {
   goes_on = went_after o hub mid new is p w.goes_on;
   over_is = w.over_is;
@@ -83,7 +83,7 @@ worked_after o hub mid new is p w = record {
 }
 
 -- a schedule that is no longer than that with which the run began is that one
-pub nothing_more : (o : PlainOpening) (hub new : Kept) → opening_of hub ≡ o → Follows o new
+pub nothing_more : (o : PlainOpening) (hub new : Kept) → opening_of hub ≡ o → OpenedBy o new
     → length new.course.items ≡ length hub.course.items → new.course.items ≡ hub.course.items
 nothing_more o hub new is p e = same hub.course.items new.course.items (went o hub new is p).more (went o hub new is p).items e
   where

@@ -5,12 +5,12 @@ use Rattle.cml_hub.specs.Kept.{Kept}
 use Rattle.cml_stream.specs.Streams.{Stream, Takes}
 use Rattle.cml_work.specs.Marks.{BeginsWith}
 use Rattle.cml_work.specs.Seen.{texts_of, FaultWrites, failed_at, failed_after_all}
-use Rattle.cml_work.specs.Works.{IsWorkerCount, PlainOpening, opening_of, Follows, GoesOnFrom, IsForeignFault, IsLeft, IsCut, BreaksAfter, WatchBreaks, WatchFails}
+use Rattle.cml_work.specs.Works.{IsWorkerCount, PlainOpening, opening_of, OpenedBy, GoesOnFrom, IsForeignFault, IsLeft, IsCut, BreaksAfter, WatchBreaks, WatchFails}
 use Rattle.cml_work.specs.declared.fault.WorkFault.{WorkFault}
 use Rattle.cml_work.specs.declared.fault.WorkFault.TheVariants.{Count, Memory, Start, Write, Foreign}
 use Rattle.cml_work.proofs.Going.{goes_on_same, went, went_after, worked_after, nothing_more}
 
-pub after_breaks : (o : PlainOpening) (hub mid : Kept) (is_still : Bool) (fault : WorkFault) → opening_of hub ≡ o → Follows o mid
+pub after_breaks : (o : PlainOpening) (hub mid : Kept) (is_still : Bool) (fault : WorkFault) → opening_of hub ≡ o → OpenedBy o mid
     → (is_still ≡ true → length mid.course.items ≡ length hub.course.items) → BreaksAfter mid is_still fault → WatchBreaks hub fault
 after_breaks o hub mid is_still (Count new) is follows same h = absurd h
 after_breaks o hub mid is_still (Memory new) is follows same h = went_after o hub mid new is follows h

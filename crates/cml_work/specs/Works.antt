@@ -28,7 +28,7 @@ opening_of h = record { program = h.course.program; budget = h.budget; watch = h
 
 -- The hub is of this program, budget and watch, and its schedule begins with this one. After that a row of two swaps was taken as an
 -- exchange, and by no other item.
-pub record Follows (opening : PlainOpening) (h : Kept) : Type 0 where
+pub record OpenedBy (opening : PlainOpening) (h : Kept) : Type 0 where
   pub program : h.course.program ≡ opening.program
   pub budget : h.budget ≡ opening.budget
   pub watch : h.watch ≡ opening.watch
@@ -39,7 +39,7 @@ pub record Follows (opening : PlainOpening) (h : Kept) : Type 0 where
 -- The hub goes on from the other. (That its schedule leads to where it stands, and that its reports are those of its schedule, holds of
 -- every hub.)
 abbrev pub GoesOnFrom : Kept → Kept → Type 0
-GoesOnFrom old new = Follows (opening_of old) new
+GoesOnFrom old new = OpenedBy (opening_of old) new
 
 -- it goes on from the other, and has run to its end: nothing is left to do, or the budget is used
 pub record IsWorked (old new : Kept) : Type 0 where

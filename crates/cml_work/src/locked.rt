@@ -4,7 +4,7 @@ ghost use Rattle.std.specs.Prelude.{◌≡◌, [], IfOk, true, false};
 ghost use Rattle.cml_hub.specs.Kept.{TakesSlice};
 ghost use Rattle.cml_work.specs.Finds.{TakesOnce, FindsNothing, HaveOneState, TellsReport};
 ghost use Rattle.cml_work.specs.Marks.{BeginsWith, IsKeeper, WasShown, shown_of};
-ghost use Rattle.cml_work.specs.Works.{Follows, GoesOnFrom, IsJob, opening_of};
+ghost use Rattle.cml_work.specs.Works.{OpenedBy, GoesOnFrom, IsJob, opening_of};
 
 use crate::marks::{Board, Mark, learn, show};
 use crate::opening::Opening;
@@ -31,7 +31,7 @@ pub(crate) struct Locked<O: Opening, C: Chooser + Drop> {
 impl<O: Opening, C: Chooser + Drop> Model for Locked<O, C> {
     ghost use Rattle.cml_work.specs.Held.{Held, locked_code};
     ghost use Rattle.cml_work.specs.Marks.{BeginsWith, IsKeeper, known_of};
-    ghost use Rattle.cml_work.specs.Works.{Follows};
+    ghost use Rattle.cml_work.specs.Works.{OpenedBy};
 
     ghost Value = { Held };
 
@@ -39,7 +39,7 @@ impl<O: Opening, C: Chooser + Drop> Model for Locked<O, C> {
 
     ghost view = { λ l. record { hub = l.hub; is_stopped = l.is_stopped; is_done = l.is_done } };
 
-    ghost invariant = { λ l. Follows O.opening l.hub × IsKeeper O.board (known_of l.keeper) l.keeper × BeginsWith l.hub.reports (known_of l.keeper) };
+    ghost invariant = { λ l. OpenedBy O.opening l.hub × IsKeeper O.board (known_of l.keeper) l.keeper × BeginsWith l.hub.reports (known_of l.keeper) };
 }
 
 // What a worker finds under the lock.
@@ -109,7 +109,7 @@ impl<O: Opening, C: Chooser + Drop> Locked<O, C> {
 
     // The hub, the chooser, and whether the workers were stopped.
     pub(crate) fn into_parts(self) -> (Hub, C, bool)
-        ensures follows { Follows O.opening result.0 }
+        ensures follows { OpenedBy O.opening result.0 }
         ensures hub { result.0 ≡ self.hub }
         ensures stopped { result.2 ≡ self.is_stopped }
     {

@@ -3,7 +3,7 @@
 ghost use Rattle.std.specs.Prelude.{◌≡◌, [], Some, IfOk, IfSome, slice_get};
 ghost use Rattle.cml_hub.specs.Dones.{GoesOn};
 ghost use Rattle.cml_work.specs.Marks.{BeginsWith, IsKeeper, WasShown, shown_of};
-ghost use Rattle.cml_work.specs.Works.{Follows, opening_of};
+ghost use Rattle.cml_work.specs.Works.{OpenedBy, opening_of};
 
 use crate::desk::Desk;
 use crate::locked::{Found, Locked, Told};
@@ -41,7 +41,7 @@ impl<O: Opening, C: Chooser + Drop> Shared<O, C> {
 
     // The hub, the chooser, and whether the workers were stopped.
     pub(crate) fn into_parts(self) -> (Hub, C, bool)
-        ensures { Follows O.opening result.0 }
+        ensures { OpenedBy O.opening result.0 }
     {
         let Shared {
             locked,
@@ -54,7 +54,7 @@ impl<O: Opening, C: Chooser + Drop> Shared<O, C> {
     // The same, where the watcher's mark comes back: the hub's reports begin with what it was shown.
     pub(crate) fn into_parts_with<R: Wait>(self, rt: &R, mark: Mark) -> (Hub, C, bool)
         requires { WasShown O.board (shown_of mark) mark }
-        ensures follows { Follows O.opening result.0 }
+        ensures follows { OpenedBy O.opening result.0 }
         ensures shown { BeginsWith result.0.reports (shown_of mark) }
     {
         let Shared {

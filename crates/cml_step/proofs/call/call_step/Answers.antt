@@ -1,13 +1,20 @@
-use Rattle.std.proofs.Common.{ap, sym, option_copied, ◌∙◌, subst}
-use Rattle.cml_step.specs.Calls.{Moves, text_of}
-use Rattle.cml_step.proofs.CallLemmas.{stepped}
+use Rattle.std.proofs.Common.{sym, subst, ap, ◌∙◌}
+use Rattle.cml_step.specs.Steps.{delivered}
+use Rattle.cml_step.specs.Calls.{Moves, text_of, variables_of}
+use Rattle.cml_step.proofs.CallLemmas.{steps_there, at_end}
 use Rattle.cml_step.proofs.call.call_step.Goals as goal
 
 pub returns-in-Some-clause-moves : goal.returns-in-Some-clause-moves
-returns-in-Some-clause-moves c =
-    λ below.
-    subst (Moves c.args.program.now c.args.f.now c.statement_step.result c.statement_step.new.call below)
-    (sym
-    (stepped (text_of c.args.program.now) c.args.thread.0 c.args.f.now c.f.inside.body c.args.call.now c.next_statement-at.new.path.items c.next_statement-at.result.0 c.in-Some.stmt.now below (ap (λ f. f.body) c.f.view_is) c.requires.runs
-    c.next_statement-at.ensures.same (sym (ap option_copied c.in-Some.is) ∙ c.next_statement-at.ensures.is)))
-    (c.statement_step.ensures.moves below)
+returns-in-Some-clause-moves c = λ below.
+    let p = c.args.program.now in
+    let f = c.args.f.now in
+    subst (Moves p f c.instr_step.result c.instr_step.new.call below) (sym (steps_there (text_of p) c.args.thread.0 f c.args.call.now below c.requires.runs))
+    (c.instr_step.ensures.moves below)
+
+pub returns-in-None-clause-moves : goal.returns-in-None-clause-moves
+returns-in-None-clause-moves c = λ below.
+    let p = c.args.program.now in
+    let f = c.args.f.now in
+    steps_there (text_of p) c.args.thread.0 f c.args.call.now below c.requires.runs
+    ∙ at_end (text_of p) c.args.thread.0 f (variables_of f c.args.call.now) below c.args.call.now.at c.in-None.ensures.follows
+    ∙ ap (λ v. delivered v below) (sym c.new.ensures)

@@ -1,31 +1,63 @@
-use Rattle.std.proofs.Common.{sym, ◌∙◌}
+use Rattle.std.proofs.Common.{◌≡◌, subst, sym, ◌∙◌, []}
+use Rattle.cml_check.specs.Syntax.{let_be, set_to, value, stmts_and}
+use Rattle.cml_check.specs.StmtViews.{plain_source}
+use Rattle.cml_check.specs.Layout.{left}
+use Rattle.cml_check.specs.Follows.{Follows}
+use Rattle.cml_check.specs.InstrViews.{plain_instr}
+use Rattle.cml_step.specs.Calls.{text_of, variables_of}
+use Rattle.cml_step.proofs.CallLemmas.{steps_at, chosen_at, looped_at}
 use Rattle.cml_step.proofs.QuietLemmas.{went, stayed}
 use Rattle.cml_step.proofs.quiet.quiet.Goals as goal
 
 pub returns-in-Value-clause-goes : goal.returns-in-Value-clause-goes
 returns-in-Value-clause-goes c = λ on self below.
-    rw (← c.stmt.view_is, c.in-Let.is, c.in-Value.is) (went c.args.program.now c.args.f.now c.assign.result c.assign.new.call below _ (sym c.has_gone.ensures ∙ on) c.assign.ensures.goes.on (c.assign.ensures.moves self below))
+    let f = c.args.f.now in
+    went f c.assign.result c.args.call.now c.assign.new.call below _ (sym c.is_ok.ensures.value ∙ on)
+    (steps_at (text_of c.args.program.now) self f (variables_of f c.args.call.now) below c.assign.result c.args.call.now c.assign.new.call c.args.call.now.at
+    (let_be c.in-Let.slot (value c.in-Value.e)) (left f.body c.in-Let.next)
+    (subst (λ s. left f.body c.args.call.now.at ≡ stmts_and (let_be c.in-Let.slot (plain_source s)) (left f.body c.in-Let.next)) c.in-Value.is
+    (subst (λ i. Follows (left f.body) (plain_instr i) (left f.body c.args.call.now.at)) c.in-Let.is c.requires.here))
+    (c.assign.ensures.steps self below))
 
 pub returns-in-Value-clause-stays : goal.returns-in-Value-clause-stays
-returns-in-Value-clause-stays c = λ off. stayed c.assign.result _ (sym c.has_gone.ensures ∙ off) c.assign.ensures.goes.kept
+returns-in-Value-clause-stays c = λ off.
+    stayed c.args.f.now c.assign.result c.args.call.now c.assign.new.call [] _ (sym c.is_ok.ensures.value ∙ off) (c.assign.ensures.steps 0 [])
 
 pub returns-in-Set-clause-goes : goal.returns-in-Set-clause-goes
 returns-in-Set-clause-goes c = λ on self below.
-    rw (← c.stmt.view_is, c.in-Set.is) (went c.args.program.now c.args.f.now c.assign-in-Set.result c.assign-in-Set.new.call below _ (sym c.has_gone-in-Set.ensures ∙ on) c.assign-in-Set.ensures.goes.on (c.assign-in-Set.ensures.moves self below))
+    let f = c.args.f.now in
+    went f c.assign-in-Set.result c.args.call.now c.assign-in-Set.new.call below _ (sym c.is_ok-in-Set.ensures.value ∙ on)
+    (steps_at (text_of c.args.program.now) self f (variables_of f c.args.call.now) below c.assign-in-Set.result c.args.call.now c.assign-in-Set.new.call c.args.call.now.at
+    (set_to c.in-Set.slot c.in-Set.e) (left f.body c.in-Set.next)
+    (subst (λ i. Follows (left f.body) (plain_instr i) (left f.body c.args.call.now.at)) c.in-Set.is c.requires.here)
+    (c.assign-in-Set.ensures.steps self below))
 
 pub returns-in-Set-clause-stays : goal.returns-in-Set-clause-stays
-returns-in-Set-clause-stays c = λ off. stayed c.assign-in-Set.result _ (sym c.has_gone-in-Set.ensures ∙ off) c.assign-in-Set.ensures.goes.kept
+returns-in-Set-clause-stays c = λ off.
+    stayed c.args.f.now c.assign-in-Set.result c.args.call.now c.assign-in-Set.new.call [] _ (sym c.is_ok-in-Set.ensures.value ∙ off) (c.assign-in-Set.ensures.steps 0 [])
 
 pub returns-in-If-clause-goes : goal.returns-in-If-clause-goes
 returns-in-If-clause-goes c = λ on self below.
-    rw (← c.stmt.view_is, c.in-If.is) (went c.args.program.now c.args.f.now c.branch-alloc.result c.branch-alloc.new.call below _ (sym c.has_gone-in-If.ensures ∙ on) c.branch-alloc.ensures.goes.on (c.branch-alloc.ensures.moves self below))
+    let f = c.args.f.now in
+    went f c.choose.result c.args.call.now c.choose.new.call below _ (sym c.is_ok-in-If.ensures.value ∙ on)
+    (chosen_at (text_of c.args.program.now) self f (variables_of f c.args.call.now) below c.choose.result c.args.call.now c.choose.new.call c.args.call.now.at
+    c.in-If.e c.in-If.yes c.in-If.no
+    (subst (λ i. Follows (left f.body) (plain_instr i) (left f.body c.args.call.now.at)) c.in-If.is c.requires.here)
+    (c.choose.ensures.steps below))
 
 pub returns-in-If-clause-stays : goal.returns-in-If-clause-stays
-returns-in-If-clause-stays c = λ off. stayed c.branch-alloc.result _ (sym c.has_gone-in-If.ensures ∙ off) c.branch-alloc.ensures.goes.kept
+returns-in-If-clause-stays c = λ off.
+    stayed c.args.f.now c.choose.result c.args.call.now c.choose.new.call [] _ (sym c.is_ok-in-If.ensures.value ∙ off) (c.choose.ensures.steps [])
 
 pub returns-in-While-clause-goes : goal.returns-in-While-clause-goes
 returns-in-While-clause-goes c = λ on self below.
-    rw (← c.stmt.view_is, c.in-While.is) (went c.args.program.now c.args.f.now c.repeat.result c.repeat.new.call below _ (sym c.has_gone-in-While.ensures ∙ on) c.repeat.ensures.goes.on (c.repeat.ensures.moves self below))
+    let f = c.args.f.now in
+    went f c.choose-in-While.result c.args.call.now c.choose-in-While.new.call below _ (sym c.is_ok-in-While.ensures.value ∙ on)
+    (looped_at (text_of c.args.program.now) self f (variables_of f c.args.call.now) below c.choose-in-While.result c.args.call.now c.choose-in-While.new.call c.args.call.now.at
+    c.in-While.e c.in-While.body c.in-While.next
+    (subst (λ i. Follows (left f.body) (plain_instr i) (left f.body c.args.call.now.at)) c.in-While.is c.requires.here)
+    (c.choose-in-While.ensures.steps below))
 
 pub returns-in-While-clause-stays : goal.returns-in-While-clause-stays
-returns-in-While-clause-stays c = λ off. stayed c.repeat.result _ (sym c.has_gone-in-While.ensures ∙ off) c.repeat.ensures.goes.kept
+returns-in-While-clause-stays c = λ off.
+    stayed c.args.f.now c.choose-in-While.result c.args.call.now c.choose-in-While.new.call [] _ (sym c.is_ok-in-While.ensures.value ∙ off) (c.choose-in-While.ensures.steps [])

@@ -17,6 +17,7 @@ loop-done-preserved c =
     record {
       within = omega (arith, c.loop-done-test.true);
       func = func;
+      runs = c.quiet_step.ensures.kept.runs;
       fits = moved_fits p f c.args.call.now c.quiet_step.new.call c.requires.fits.there c.function-f.ensures.found func c.quiet_step.ensures.kept.agree
           (subst (λ w. WaitFits w (length f.names) (length c.quiet_step.new.call.slots.items)) (sym c.quiet_step.ensures.kept.runs) tt);
       goes = λ self below. goes_more (text_of p) self c.loop-done.done (entry_of p c.args.call.now ∷ below) (entry_of p c.loop-done.call ∷ below) (entry_of p c.quiet_step.new.call ∷ below)

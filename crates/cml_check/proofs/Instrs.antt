@@ -1,0 +1,34 @@
+-- The instruction at a place of a function.
+use Rattle.std.proofs.Common.{◌≡◌, ℕ, ◌<◌, ◌≤◌, true, List, length, get_or, map, sym, ap, ◌∙◌, subst, arith}
+use Rattle.std.proofs.lemmas.List.{length-map, get_or-map}
+use Rattle.cml_check.specs.Syntax.{PlainStmts, no_stmts}
+use Rattle.cml_check.specs.Sizes.{stmts_count}
+use Rattle.cml_check.specs.InOrder.{stmts_fit}
+use Rattle.cml_check.specs.Layout.{code_of, left}
+use Rattle.cml_check.specs.Follows.{Follows, instr_fits}
+use Rattle.cml_check.specs.InstrViews.{plain_instr}
+use Rattle.cml_check.specs.declared.instr.Instr.{Instr}
+use Rattle.cml_check.proofs.Walk.{length_code, follows, left_past}
+use Rattle.cml_check.proofs.Fit.{fit_at}
+
+many : (items : List Instr) (b : PlainStmts ℕ) → map plain_instr items ≡ code_of b → length items ≡ stmts_count b
+many items b e = sym (length-map items plain_instr) ∙ ap length e ∙ length_code b
+
+found : (items : List Instr) (b : PlainStmts ℕ) (at : ℕ) (i : Instr) → map plain_instr items ≡ code_of b → at < length items → i ≡ get_or items at i →
+    get_or (code_of b) at (plain_instr i) ≡ plain_instr i
+found items b at i e lt is = ap (λ l. get_or l at (plain_instr i)) (sym e) ∙ get_or-map plain_instr items at i (plain_instr i) lt ∙ ap plain_instr (sym is)
+
+pub instr_follows : (items : List Instr) (b : PlainStmts ℕ) (at : ℕ) (i : Instr) → map plain_instr items ≡ code_of b → at < length items → i ≡ get_or items at i →
+    Follows (left b) (plain_instr i) (left b at)
+instr_follows items b at i e lt is =
+    let n = many items b e in
+    subst (λ j. Follows (left b) j (left b at)) (found items b at i e lt is) (follows b at (plain_instr i) (omega arith))
+
+pub instr_fit : (fs : List ℕ) (n : ℕ) (items : List Instr) (b : PlainStmts ℕ) (at : ℕ) (i : Instr) → map plain_instr items ≡ code_of b → at < length items → i ≡ get_or items at i →
+    stmts_fit fs n b ≡ true → instr_fits fs n (plain_instr i) ≡ true
+instr_fit fs n items b at i e lt is h =
+    let m = many items b e in
+    subst (λ j. instr_fits fs n j ≡ true) (found items b at i e lt is) (fit_at fs n b at (plain_instr i) h (omega arith))
+
+pub no_instr : (items : List Instr) (b : PlainStmts ℕ) (at : ℕ) → map plain_instr items ≡ code_of b → length items ≤ at → left b at ≡ no_stmts
+no_instr items b at e le = let n = many items b e in left_past b at (omega arith)

@@ -1,0 +1,13 @@
+pub mod Derivations
+pub mod Losing
+pub mod Happening
+pub mod Unique
+pub mod Offering
+pub mod Stepping
+pub mod Committing
+pub mod Choosing
+pub mod Firing
+pub mod Following
+pub mod Quiet
+pub mod Running
+pub mod Taking

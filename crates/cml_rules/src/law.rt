@@ -1,0 +1,65 @@
+//! Laws of the rules, each a function that does nothing and whose contract is the law.
+
+ghost use Rattle.std.specs.Prelude.{List};
+ghost use Rattle.cml_value.specs.Value.{PlainBase};
+ghost use Rattle.cml_value.specs.Group.{PlainGroup, choose, groups};
+ghost use Rattle.cml_scan.specs.World.{PlainWorld};
+ghost use Rattle.cml_book.specs.Keeping.{NacksLive};
+ghost use Rattle.cml_rules.specs.Rules.{Sequel, Offers};
+ghost use Rattle.cml_rules.specs.Laws.{Step, OffersAreLeaves, StepsAreRows, StepsAreCommits};
+ghost use Rattle.cml_rules.specs.Firing.{AreTwoThreads, TakesOne, FiresOutside, NacksSettle};
+ghost use Rattle.cml_rules.specs.Runs.{RunsTakeSteps, StepsCanBeTaken, TimeWaits, TheEndIsStill};
+
+/// What the rules let a group offer are its leaves, each once, with the functions and the nacks of the leaf.
+pub fn offers_are_leaves()
+    ensures { (g : PlainGroup) → OffersAreLeaves g }
+{}
+
+/// What the rules let threads do in a world are the rows of its scan: each derivation is of one row, and each row has one.
+pub fn steps_are_rows()
+    ensures { (w : PlainWorld) → StepsAreRows w }
+{}
+
+/// What the rules let threads do in a world are its accepted commits, with the world after each, the values, the wraps and the fired nacks.
+pub fn steps_are_commits()
+    ensures { (w : PlainWorld) → StepsAreCommits w }
+{}
+
+/// The groups of one thread never communicate with each other.
+pub fn no_thread_meets_itself()
+    ensures { (w : PlainWorld) → AreTwoThreads w }
+{}
+
+/// One member of a choice is taken, and no other; the nacks of all branches in the others fire.
+pub fn a_choice_takes_one_member()
+    ensures { (members : List PlainGroup) (b : PlainBase) (s : Sequel) →
+        Offers (choose (groups members)) b s → TakesOne members b s }
+{}
+
+/// The nack of a branch fires exactly where what is taken of its group lies outside the branch.
+pub fn nacks_fire_outside()
+    ensures { (g : PlainGroup) → FiresOutside g }
+{}
+
+/// In a world where the nacks of pending groups are live, as in each world of a book, a nack fires only by a thread of the step that has
+/// synchronized outside the nack's branch, and once; and what has fired, or is held, stays so.
+pub fn nacks_fire_once()
+    ensures { (w : PlainWorld) → NacksLive w → (s : Step w) → NacksSettle w s }
+{}
+
+/// Each commit and each exchange of a schedule that can be followed is a step of the rules, with what its parties go on with; an exchange
+/// is one of two threads that swap.
+pub fn runs_take_steps()
+    ensures { RunsTakeSteps }
+{}
+
+/// A run can take each step that the rules allow where it stands, by a commit of the step's row.
+pub fn steps_can_be_taken()
+    ensures { StepsCanBeTaken }
+{}
+
+/// The time moves only where the rules allow no step, and where nothing is left to do they allow none.
+pub fn time_waits_for_steps()
+    ensures time { TimeWaits }
+    ensures end { TheEndIsStill }
+{}

@@ -1,6 +1,0 @@
-use Rattle.std.proofs.Common.{◌≡◌, ◌↔◌, drop, length}
-use Rattle.cml_step.proofs.entry.same_path.Given as goal
-
--- what the loop has seen is the same, so the rest decides
-abbrev pub invariant-loop-i : goal.invariant-loop-i
-invariant-loop-i l = (length l.hops ≡ length l.others) × ((l.hops ≡ l.others) ↔ (drop l.i l.hops ≡ drop l.i l.others))
