@@ -4,7 +4,7 @@ use Rattle.std.specs.String.{string_bytes}
 use Rattle.cml_check.specs.Sizes.{size_of}
 use Rattle.cml_check.specs.Syntax.{PlainItem}
 use Rattle.cml_hub.specs.Choices.{seeded}
-use Rattle.cml_hub.specs.Chosen.{by_first, by_words}
+use Rattle.cml_host.specs.Chosen.{by_first, by_words}
 use Rattle.cml_hub.specs.Courses.{run_of}
 use Rattle.cml_hub.specs.Kept.{Kept, SwapsAreExchanges}
 use Rattle.cml_hub.specs.Playing.{Rules, run_by, PlaysOut}

@@ -14,5 +14,4 @@ pub mod Kept
 pub mod Laws
 pub mod KeptCodes
 pub mod Playing
-pub mod Chosen
 pub mod Moves
