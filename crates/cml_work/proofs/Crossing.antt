@@ -117,9 +117,9 @@ pub block_sync : IsSync Block.the_row
 block_sync = both_sync statement.frame statement.step statement.sizes statement_sends statement_syncs statements.member-Block
 
 pub program_send : IsSend Prog.the_row
-program_send = search (sendable, crosses, block_send, block_sync) depth 60 fits 100000
+program_send = search (sendable, crosses, expressions_cross, block_send, block_sync) depth 60 fits 100000
 
 pub program_sync : IsSync Prog.the_row
-program_sync = search (sendable, crosses, block_send, block_sync) depth 60 fits 100000
+program_sync = search (sendable, crosses, expressions_cross, block_send, block_sync) depth 60 fits 100000
 
 pub ruleset all_cross = (sendable, crosses, values_cross, group_send, group_sync, program_send, program_sync)
