@@ -1,5 +1,5 @@
 -- The budget of a schedule that is read is from 1 to 1,000,000,000.
-use Rattle.std.proofs.Common.{◌≡◌, if◌then◌else◌, ℕ, ◌+◌, ◌≤◌, Bool, true, false, ◌&&◌, nat_le, List, [], ◌∷◌, Option, Some, None, Ok, option_map, refl, sym, subst, arith, inl, inr}
+use Rattle.std.proofs.Common.{◌≡◌, if◌then◌else◌, ℕ, ◌+◌, Bool, true, false, ◌&&◌, nat_le, List, [], ◌∷◌, Option, Some, None, Ok, option_map, refl, subst, arith, inl, inr}
 use Rattle.std.proofs.lemmas.Bool.Decides.{nat_tests}
 use Rattle.cml_check.specs.declared.size.Size.{Size}
 use Rattle.cml_hub.specs.Kept.{IsBudget}
@@ -8,7 +8,7 @@ use Rattle.cml_schedule.specs.declared.line.State.{State}
 use Rattle.cml_schedule.specs.declared.line.State.TheVariants.{Opening, Reading, Closed}
 use Rattle.cml_schedule.specs.declared.word.Word.{Word}
 use Rattle.cml_schedule.specs.declared.word.Word.TheVariants as word
-use Rattle.cml_schedule.specs.Lines.{if_both, within, is_expected, budget_from, size_from, schedule_by, head_from, opened, is_there, with_item, item_from, after_head, after_forms, after_line}
+use Rattle.cml_schedule.specs.Lines.{if_both, within, is_expected, budget_from, size_from, schedule_by, head_from, is_there, with_item, item_from, after_forms, after_line}
 use Rattle.cml_schedule.specs.Plans.{PlainPlan}
 use Rattle.cml_schedule.specs.Reading.{LeadsTo, at_end}
 use Rattle.cml_schedule.specs.Words.{line_word}

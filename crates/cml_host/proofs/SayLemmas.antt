@@ -1,7 +1,7 @@
 -- What was written of a text, and whether a write failed.
-use Rattle.std.proofs.Common.{◌≡◌, ◌∙◌, ℕ, List, [], Result, Ok, Err, OnOk, OnErr, take, drop, ◌++◌, Option, sym, ap, inl, inr, append-nil}
+use Rattle.std.proofs.Common.{◌≡◌, ◌∙◌, ℕ, List, [], Result, Ok, Err, OnOk, OnErr, take, drop, ◌++◌, Option, sym, ap, inl, inr}
 use Rattle.std.proofs.lemmas.List.{take-append-drop}
-use Rattle.cml_stream.specs.Counts.{Calls, counted}
+use Rattle.cml_stream.specs.Counts.{counted}
 use Rattle.cml_stream.specs.Streams.{Stream, stream, Takes, TakesStart, Says}
 use Rattle.cml_stream.specs.declared.input_output.WriteFault.{WriteFault}
 use Rattle.cml_work.specs.Seen.{IsSentOut, failed_with}

@@ -1,9 +1,9 @@
 -- What is said of the first bytes of a file is said of the whole.
-use Rattle.std.proofs.Common.{◌≡◌, ◌∙◌, ◌⊎◌, ◌+◌, ◌<◌, ◌≤◌, ℕ, List, take, length, Some, Err, inl, inr, refl, sym, ap, subst, arith}
+use Rattle.std.proofs.Common.{◌≡◌, ◌∙◌, ◌⊎◌, ◌+◌, ◌<◌, ◌≤◌, ℕ, List, take, length, inl, inr, refl, sym, ap, subst, arith}
 use Rattle.std.specs.String.{string_bytes}
 use Rattle.cml_check.specs.Syntax.{PlainItem}
 use Rattle.cml_schedule.specs.Plans.{PlainPlan}
-use Rattle.cml_schedule.specs.Reading.{ScheduleReadsAs, schedule_limit}
+use Rattle.cml_schedule.specs.Reading.{schedule_limit}
 use Rattle.cml_text.specs.Sizes.{text_limit}
 use Rattle.cml_text.specs.Texts.{fault_of}
 use Rattle.cml_host.specs.Replaying.{IsSchedule, IsNoSchedule, IsPlanOf, IsNotRead, IsNoPlan}

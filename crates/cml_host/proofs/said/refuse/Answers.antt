@@ -1,4 +1,4 @@
-use Rattle.std.proofs.Common.{rules, ◌≡◌, ◌⊎◌, ℕ, List, inl, inr}
+use Rattle.std.proofs.Common.{ℕ, List, inl, inr}
 use Rattle.cml_stream.specs.Streams.{Counted, counted_stream}
 use Rattle.cml_host.specs.Said.{RefusedRan, RefusalRan}
 use Rattle.cml_host.specs.Stores.{nothing}

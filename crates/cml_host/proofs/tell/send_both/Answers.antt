@@ -1,6 +1,6 @@
 use Rattle.std.proofs.Common.{rules, ◌≡◌, ◌∙◌, ◌++◌, List, ℕ, OnErr, ap, subst}
 use Rattle.cml_stream.specs.Counts.{counted}
-use Rattle.cml_stream.specs.Streams.{stream, Takes, TakesStart}
+use Rattle.cml_stream.specs.Streams.{stream, TakesStart}
 use Rattle.cml_host.proofs.SayLemmas.{start_taken, both_taken, on_err}
 use Rattle.cml_host.proofs.TellLemmas.{start_more}
 use Rattle.cml_host.proofs.tell.send_both.Goals as goal
