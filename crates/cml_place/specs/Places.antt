@@ -2,7 +2,7 @@
 --
 -- A place is given by a byte number: it stands before that byte, or after the last one. A number past the end is the place after the
 -- last byte.
-use Rattle.std.specs.Prelude.{ℕ, zero, suc, ◌+◌, ◌-◌, Bool, not, ◌||◌, ◌==◌, nat_lt, if◌then◌else◌, List, [], ◌∷◌, ◌++◌, length, take, drop, slice_index, count_by, codes}
+use Rattle.std.specs.Prelude.{ℕ, ◌+◌, ◌-◌, Bool, not, ◌||◌, ◌==◌, nat_lt, if◌then◌else◌, List, ◌++◌, length, take, drop, slice_index, count_by, codes}
 use Rattle.std.specs.List.{prefix_len, suffix_len}
 use Rattle.std.specs.Fmt.{decimal}
 
@@ -36,16 +36,17 @@ line_before text at = last_line (take at text)
 abbrev pub column_at : List ℕ → ℕ → ℕ
 column_at text at = characters (line_before text at) + 1
 
--- how many bytes stand before the first line feed, without a carriage return at the end of the line
-abbrev pub without_return : List ℕ → ℕ → ℕ
-without_return bytes count = if slice_index bytes (count - 1) == 13 then count - 1 else count
-
+-- the first bytes that have no line feed between them
 abbrev pub first_line : List ℕ → List ℕ
-first_line bytes = take (without_return bytes (prefix_len is_inside_line bytes)) bytes
+first_line bytes = take (prefix_len is_inside_line bytes) bytes
+
+-- a line without a carriage return at its end
+abbrev pub without_return : List ℕ → List ℕ
+without_return line = if slice_index line (length line - 1) == 13 then take (length line - 1) line else line
 
 -- the bytes of its line that stand from a place on
 abbrev pub line_behind : List ℕ → ℕ → List ℕ
-line_behind text at = first_line (drop at text)
+line_behind text at = without_return (first_line (drop at text))
 
 -- how a place is written: line and column
 abbrev pub shown_place : List ℕ → ℕ → List ℕ

@@ -1,5 +1,5 @@
 -- How a diagnosis is shown.
-use Rattle.std.specs.Prelude.{ℕ, zero, suc, ◌-◌, Bool, not, ◌&&◌, ◌||◌, ◌==◌, nat_lt, if◌then◌else◌, Option, Some, None, List, [], ◌∷◌, ◌++◌, take, drop, codes}
+use Rattle.std.specs.Prelude.{ℕ, suc, ◌-◌, Bool, not, ◌&&◌, ◌||◌, ◌==◌, nat_lt, if◌then◌else◌, Option, Some, None, List, [], ◌∷◌, ◌++◌, take, drop, codes}
 use Rattle.std.specs.List.{flat_map}
 use Rattle.std.specs.Fmt.{decimal}
 use Rattle.cml_place.specs.Places.{begins_character, characters, line_at, line_before, line_behind, shown_place}
@@ -14,10 +14,10 @@ abbrev pub is_wide_control : ℕ → ℕ → Bool
 is_wide_control b c = (b == 194) && nat_lt 127 c && nat_lt c 160
 
 -- bytes of a text as they are shown: a question mark for each control character, and all else as it is
-unfoldable pub shown_text : List ℕ → List ℕ
-shown_text [] = []
-shown_text (b ∷ []) = (if is_control b then 63 else b) ∷ []
-shown_text (b ∷ c ∷ bytes) = if is_wide_control b c then 63 ∷ shown_text bytes else (if is_control b then 63 else b) ∷ shown_text (c ∷ bytes)
+unfoldable pub shown_bytes : List ℕ → List ℕ
+shown_bytes [] = []
+shown_bytes (b ∷ []) = (if is_control b then 63 else b) ∷ []
+shown_bytes (b ∷ c ∷ bytes) = if is_wide_control b c then 63 ∷ shown_bytes bytes else (if is_control b then 63 else b) ∷ shown_bytes (c ∷ bytes)
 
 -- How many bytes the first n characters take: all up to the byte that begins one more.
 unfoldable pub bytes_of_first : ℕ → List ℕ → ℕ
@@ -31,17 +31,21 @@ first_characters n bytes = take (bytes_of_first n bytes) bytes
 abbrev pub last_characters : ℕ → List ℕ → List ℕ
 last_characters n bytes = drop (bytes_of_first (characters bytes - n) bytes) bytes
 
--- stands for characters that are left out, where there are more than n
+-- what stands for characters that are left out
+abbrev pub dots_if : Bool → List ℕ
+dots_if are_more = if are_more then codes ".." else []
+
+-- that, where there are more than n
 abbrev pub dots_for_more : ℕ → List ℕ → List ℕ
-dots_for_more n bytes = if nat_lt n (characters bytes) then codes ".." else []
+dots_for_more n bytes = dots_if (nat_lt n (characters bytes))
 
 -- the first n characters as they are shown
 abbrev pub shown_first : ℕ → List ℕ → List ℕ
-shown_first n bytes = shown_text (first_characters n bytes) ++ dots_for_more n bytes
+shown_first n bytes = shown_bytes (first_characters n bytes) ++ dots_for_more n bytes
 
 -- the last n
 abbrev pub shown_last : ℕ → List ℕ → List ℕ
-shown_last n bytes = dots_for_more n bytes ++ shown_text (last_characters n bytes)
+shown_last n bytes = dots_for_more n bytes ++ shown_bytes (last_characters n bytes)
 
 -- how many characters of a line are shown before a place, and from it on
 abbrev pub before_limit : ℕ
@@ -63,31 +67,34 @@ abbrev pub carets_under : List ℕ → List ℕ
 carets_under bytes = if characters bytes == 0 then 94 ∷ [] else flat_map caret_under bytes
 
 -- a space under each digit of a number
+abbrev pub space_under : ℕ → List ℕ
+space_under digit = 32 ∷ []
+
 abbrev pub margin_under : List ℕ → List ℕ
-margin_under number = flat_map (λ digit. 32 ∷ []) number
+margin_under number = flat_map space_under number
 
 -- the file, the place and what is said
 abbrev pub shown_head : List ℕ → List ℕ → PlainDiagnosis → List ℕ
 shown_head name text d = name ++ (codes ":" ++ (shown_place text d.at ++ (codes ": " ++ (d.message ++ 10 ∷ []))))
 
--- the line with its number: at most so many characters before the place, and from it on
-abbrev pub shown_line : List ℕ → List ℕ → ℕ → List ℕ
-shown_line number text at =
-    number ++ (codes " | " ++ (shown_last before_limit (line_before text at) ++ (shown_first behind_limit (line_behind text at) ++ 10 ∷ [])))
+-- A line with its number, given by its parts before a place and from it on: of each at most so many characters.
+abbrev pub shown_line : List ℕ → List ℕ → List ℕ → List ℕ
+shown_line number before behind = number ++ (codes " | " ++ (shown_last before_limit before ++ (shown_first behind_limit behind ++ 10 ∷ [])))
 
 -- what stands under the part of a line before a place
 abbrev pub blanks_before : List ℕ → List ℕ
 blanks_before bytes = flat_map blank_under (dots_for_more before_limit bytes ++ last_characters before_limit bytes)
 
--- the mark under the line: from the place up to a byte, as far as the line is shown
-abbrev pub shown_mark : List ℕ → List ℕ → ℕ → ℕ → List ℕ
-shown_mark number text at end =
-    margin_under number
-    ++ (codes " | " ++ (blanks_before (line_before text at) ++ (carets_under (take (end - at) (first_characters behind_limit (line_behind text at))) ++ 10 ∷ [])))
+-- The mark under that line: under this many bytes from the place on, as far as they are shown.
+abbrev pub shown_mark : List ℕ → List ℕ → List ℕ → ℕ → List ℕ
+shown_mark number before behind count =
+    margin_under number ++ (codes " | " ++ (blanks_before before ++ (carets_under (take count (first_characters behind_limit behind)) ++ 10 ∷ [])))
 
+-- the line of a place, marked up to a byte; or nothing
 abbrev pub shown_marked : List ℕ → List ℕ → ℕ → Option ℕ → List ℕ
 shown_marked number text at None = []
-shown_marked number text at (Some end) = shown_line number text at ++ shown_mark number text at end
+shown_marked number text at (Some end) =
+    shown_line number (line_before text at) (line_behind text at) ++ shown_mark number (line_before text at) (line_behind text at) (end - at)
 
 -- where that stands of which a note speaks
 abbrev pub shown_note_place : List ℕ → Option ℕ → List ℕ

@@ -10,7 +10,7 @@ use std::alloc::AllocError;
 /// # Errors
 /// Out of memory.
 pub fn push_shown(out: &mut Vec<u8>, bytes: &[u8]) -> Result<(), AllocError>
-    ensures { OnOk result (out.new.items ≡ out.old.items ++ spec.shown_text bytes.now) }
+    ensures { OnOk result (out.new.items ≡ out.old.items ++ spec.shown_bytes bytes.now) }
 {
     let mut rest = bytes;
     while !rest.is_empty() {
@@ -23,7 +23,7 @@ pub fn push_shown(out: &mut Vec<u8>, bytes: &[u8]) -> Result<(), AllocError>
 fn push_character<'a>(out: &mut Vec<u8>, bytes: &'a [u8]) -> Result<&'a [u8], AllocError>
     requires { 0 < length bytes.now }
     ensures shown { IfOk result
-        (λ rest. out.new.items ++ spec.shown_text rest.now ≡ out.old.items ++ spec.shown_text bytes.now) }
+        (λ rest. out.new.items ++ spec.shown_bytes rest.now ≡ out.old.items ++ spec.shown_bytes bytes.now) }
     ensures shorter { IfOk result (λ rest. length rest.now < length bytes.now) }
 {
     let first = bytes[0];
@@ -70,7 +70,7 @@ pub(crate) fn push_last(out: &mut Vec<u8>, bytes: &[u8], limit: usize) -> Result
 
 // Appends two dots, or nothing.
 fn push_dots(out: &mut Vec<u8>, are_more: bool) -> Result<(), AllocError>
-    ensures { OnOk result (out.new.items ≡ out.old.items ++ (if are_more then codes ".." else [])) }
+    ensures { OnOk result (out.new.items ≡ out.old.items ++ spec.dots_if are_more) }
 {
     if are_more {
         out.extend_from_slice(b"..")?;
@@ -79,7 +79,7 @@ fn push_dots(out: &mut Vec<u8>, are_more: bool) -> Result<(), AllocError>
 }
 
 /// The first characters, at most so many.
-pub(crate) fn first_characters(bytes: &[u8], limit: usize) -> &[u8]
+pub fn first_characters(bytes: &[u8], limit: usize) -> &[u8]
     ensures { result.now ≡ spec.first_characters limit bytes.now }
 {
     &bytes[..bytes_of_first(bytes, limit)]

@@ -6,7 +6,7 @@ mod diagnosis;
 mod place;
 mod shown;
 
-pub use cut::{push_first, push_shown};
+pub use cut::{first_characters, push_first, push_shown};
 pub use diagnosis::{Diagnosis, Note};
-pub use place::{column_at, line_at};
+pub use place::{column_at, line_at, split_place};
 pub use shown::render;

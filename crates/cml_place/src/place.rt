@@ -1,12 +1,13 @@
 //! Lines and columns.
-ghost use Rattle.std.specs.Prelude.{◌≡◌, ◌<◌, ◌≤◌, ◌+◌, length, take, drop, count_by};
+ghost use Rattle.std.specs.Prelude.{◌≡◌, ◌<◌, ◌+◌, ◌^◌, length, take, drop, count_by};
 ghost use Rattle.std.specs.List.{prefix_len, suffix_len};
 ghost use Rattle.cml_place.specs.Places as spec;
 
 /// The bytes of a text before a place, and those from it on.
-pub(crate) fn split_place(text: &[u8], at: usize) -> (&[u8], &[u8])
+pub fn split_place(text: &[u8], at: usize) -> (&[u8], &[u8])
     ensures before { result.0.now ≡ take at text.now }
     ensures behind { result.1.now ≡ drop at text.now }
+    ensures fits { at + length result.1.now < 2 ^ 64 }
 {
     if at <= text.len() {
         text.split_at(at)
@@ -82,10 +83,23 @@ pub(crate) fn line_behind(text: &[u8], at: usize) -> &[u8]
     ensures { result.now ≡ spec.line_behind text.now at }
 {
     let (_, behind) = split_place(text, at);
-    let count = first_line_len(behind);
-    if count > 0 && behind[count - 1] == b'\r' {
-        &behind[..count - 1]
-    } else {
-        &behind[..count]
+    without_return(first_line(behind))
+}
+
+// The bytes before the first line feed.
+fn first_line(bytes: &[u8]) -> &[u8]
+    ensures { result.now ≡ spec.first_line bytes.now }
+{
+    let (line, _) = split_place(bytes, first_line_len(bytes));
+    line
+}
+
+// The line without a carriage return at its end.
+fn without_return(line: &[u8]) -> &[u8]
+    ensures { result.now ≡ spec.without_return line.now }
+{
+    if !line.is_empty() && line[line.len() - 1] == b'\r' {
+        return &line[..line.len() - 1];
     }
+    line
 }

@@ -1,17 +1,22 @@
 //! How a diagnosis is shown.
 ghost use Rattle.std.specs.Prelude.{◌≡◌, ◌<◌, ◌≤◌, ◌+◌, ◌++◌, IfOk, OnOk, take, map};
 ghost use Rattle.std.specs.List.{flat_map};
+ghost use Rattle.std.specs.String.{string_bytes};
+ghost use Rattle.std.specs.Fmt.{decimal};
 ghost use Rattle.cml_place.specs.Diagnoses.{plain_note, plain_diagnosis};
 ghost use Rattle.cml_place.specs.Places as places;
 ghost use Rattle.cml_place.specs.Shown as spec;
 
-use crate::diagnosis::{Diagnosis, Note};
 use crate::cut::{first_characters, last_characters, push_first, push_last};
-use crate::place::{begins_character, characters, column_at, line_at, line_before, line_behind, split_place};
+use crate::diagnosis::{Diagnosis, Note};
+use crate::place::{
+    begins_character, characters, column_at, line_at, line_before, line_behind, split_place,
+};
 use std::alloc::{AllocError, Global};
 
 // How many characters of a line are shown before a place, and from it on.
 const BEFORE_LIMIT: usize = 60;
+
 const BEHIND_LIMIT: usize = 100;
 
 /// The text of a diagnosis of a text, which has this name.
@@ -27,15 +32,20 @@ pub fn render(
     ensures { IfOk result
         (λ shown. shown.items ≡ spec.shown_diagnosis name.now text.now (plain_diagnosis diagnosis.now)) }
 {
-    let line = line_at(text, diagnosis.at).to_string(alloc)?;
+    let number = line_number(alloc, text, diagnosis.at)?;
+    let digits = number.as_bytes();
     let mut out = Vec::new(alloc);
     push_head(alloc, &mut out, name, text, diagnosis)?;
-    if let Some(end) = diagnosis.marked_to {
-        push_line(&mut out, line.as_str(), text, diagnosis.at)?;
-        push_mark(&mut out, line.as_str(), text, diagnosis.at, end)?;
-    }
-    push_notes(alloc, &mut out, line.as_str(), text, diagnosis.notes.as_slice())?;
+    push_marked(&mut out, digits, text, diagnosis.at, diagnosis.marked_to)?;
+    push_notes(alloc, &mut out, digits, text, diagnosis.notes.as_slice())?;
     Ok(out)
+}
+
+// The digits of the line of a place.
+fn line_number(alloc: Global, text: &[u8], at: usize) -> Result<String, AllocError>
+    ensures { IfOk result (λ number. string_bytes number ≡ decimal (places.line_at text.now at)) }
+{
+    format!(in alloc; "{}", line_at(text, at))
 }
 
 // Appends the first line.
@@ -65,39 +75,69 @@ fn push_place(alloc: Global, out: &mut Vec<u8>, text: &[u8], at: usize) -> Resul
     out.extend_from_slice(place.as_bytes())
 }
 
-// Appends the line of a place, with its number.
-fn push_line(out: &mut Vec<u8>, line: &str, text: &[u8], at: usize) -> Result<(), AllocError>
-    ensures { OnOk result (out.new.items ≡ out.old.items ++ spec.shown_line line.now text.now at) }
-{
-    out.extend_from_slice(line.as_bytes())?;
-    out.extend_from_slice(b" | ")?;
-    push_last(out, line_before(text, at), BEFORE_LIMIT)?;
-    push_first(out, line_behind(text, at), BEHIND_LIMIT)?;
-    out.extend_from_slice(b"\n")
-}
-
-// Appends the mark under the line, from a place up to a byte.
-fn push_mark(
+// Appends the line of a place, marked up to a byte; or nothing.
+fn push_marked(
     out: &mut Vec<u8>,
-    line: &str,
+    number: &[u8],
     text: &[u8],
     at: usize,
-    end: usize,
+    marked_to: Option<usize>,
 ) -> Result<(), AllocError>
-    ensures { OnOk result (out.new.items ≡ out.old.items ++ spec.shown_mark line.now text.now at end) }
+    ensures { OnOk result
+        (out.new.items ≡ out.old.items ++ spec.shown_marked number.now text.now at marked_to) }
 {
-    push_margin(out, line)?;
+    let Some(end) = marked_to else {
+        return Ok(());
+    };
+    let before = line_before(text, at);
+    let behind = line_behind(text, at);
+    push_line(out, number, before, behind)?;
+    push_mark(out, number, before, behind, end.saturating_sub(at))?;
+    Ok(())
+}
+
+// Appends a line with its number, by its parts before a place and from it on.
+fn push_line(
+    out: &mut Vec<u8>,
+    number: &[u8],
+    before: &[u8],
+    behind: &[u8],
+) -> Result<(), AllocError>
+    ensures { OnOk result
+        (out.new.items ≡ out.old.items ++ spec.shown_line number.now before.now behind.now) }
+{
+    out.extend_from_slice(number)?;
     out.extend_from_slice(b" | ")?;
-    push_blanks(out, line_before(text, at))?;
-    push_carets(out, marked(line_behind(text, at), end.saturating_sub(at)))?;
-    out.extend_from_slice(b"\n")
+    push_last(out, before, BEFORE_LIMIT)?;
+    push_first(out, behind, BEHIND_LIMIT)?;
+    out.extend_from_slice(b"\n")?;
+    Ok(())
+}
+
+// Appends the mark under that line.
+fn push_mark(
+    out: &mut Vec<u8>,
+    number: &[u8],
+    before: &[u8],
+    behind: &[u8],
+    count: usize,
+) -> Result<(), AllocError>
+    ensures { OnOk result
+        (out.new.items ≡ out.old.items ++ spec.shown_mark number.now before.now behind.now count) }
+{
+    push_margin(out, number)?;
+    out.extend_from_slice(b" | ")?;
+    push_blanks(out, before)?;
+    push_carets(out, marked(behind, count))?;
+    out.extend_from_slice(b"\n")?;
+    Ok(())
 }
 
 // Appends a space for each digit of the number of a line.
-fn push_margin(out: &mut Vec<u8>, line: &str) -> Result<(), AllocError>
-    ensures { OnOk result (out.new.items ≡ out.old.items ++ spec.margin_under line.now) }
+fn push_margin(out: &mut Vec<u8>, number: &[u8]) -> Result<(), AllocError>
+    ensures { OnOk result (out.new.items ≡ out.old.items ++ spec.margin_under number.now) }
 {
-    for _digit in line.as_bytes() {
+    for _digit in number {
         out.push(b' ')?;
     }
     Ok(())
@@ -107,11 +147,19 @@ fn push_margin(out: &mut Vec<u8>, line: &str) -> Result<(), AllocError>
 fn push_blanks(out: &mut Vec<u8>, bytes: &[u8]) -> Result<(), AllocError>
     ensures { OnOk result (out.new.items ≡ out.old.items ++ spec.blanks_before bytes.now) }
 {
-    let count = characters(bytes);
-    if count > BEFORE_LIMIT {
+    push_dot_blanks(out, characters(bytes) > BEFORE_LIMIT)?;
+    push_blanks_under(out, last_characters(bytes, BEFORE_LIMIT))
+}
+
+// Appends what stands under two dots, or nothing.
+fn push_dot_blanks(out: &mut Vec<u8>, are_more: bool) -> Result<(), AllocError>
+    ensures { OnOk result
+        (out.new.items ≡ out.old.items ++ flat_map spec.blank_under (spec.dots_if are_more)) }
+{
+    if are_more {
         out.extend_from_slice(b"  ")?;
     }
-    push_blanks_under(out, last_characters(bytes, BEFORE_LIMIT))
+    Ok(())
 }
 
 // Appends a tab for each tab, and a space for each other character.
@@ -162,15 +210,15 @@ fn push_carets_under(out: &mut Vec<u8>, bytes: &[u8]) -> Result<(), AllocError>
 fn push_notes(
     alloc: Global,
     out: &mut Vec<u8>,
-    line: &str,
+    number: &[u8],
     text: &[u8],
     notes: &[Note],
 ) -> Result<(), AllocError>
     ensures { OnOk result
-        (out.new.items ≡ out.old.items ++ flat_map (spec.shown_note line.now text.now) (map plain_note notes.now)) }
+        (out.new.items ≡ out.old.items ++ flat_map (spec.shown_note number.now text.now) (map plain_note notes.now)) }
 {
     for note in notes {
-        push_note(alloc, out, line, text, note)?;
+        push_note(alloc, out, number, text, note)?;
     }
     Ok(())
 }
@@ -179,13 +227,13 @@ fn push_notes(
 fn push_note(
     alloc: Global,
     out: &mut Vec<u8>,
-    line: &str,
+    number: &[u8],
     text: &[u8],
     note: &Note,
 ) -> Result<(), AllocError>
-    ensures { OnOk result (out.new.items ≡ out.old.items ++ spec.shown_note line.now text.now (plain_note note.now)) }
+    ensures { OnOk result (out.new.items ≡ out.old.items ++ spec.shown_note number.now text.now (plain_note note.now)) }
 {
-    push_margin(out, line)?;
+    push_margin(out, number)?;
     out.extend_from_slice(b" = ")?;
     out.extend_from_slice(note.words.as_slice())?;
     if let Some(at) = note.at {
