@@ -11,6 +11,8 @@ pub mod choosing;
 #[cfg(test)]
 mod drawing;
 #[cfg(test)]
+mod explains;
+#[cfg(test)]
 mod forcings;
 #[cfg(test)]
 mod groups;
