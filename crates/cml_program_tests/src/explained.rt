@@ -4,7 +4,7 @@ use crate::explained_cases::{BROKEN, Broken};
 use crate::memory_store::MemoryStore;
 use crate::run::{Left, words};
 use crate::script_run::filled;
-use cml_host::{Open, run_command_counted};
+use cml_host::{Open, Store, run_command_counted};
 use cml_stream::Counting;
 use std::alloc::{AllocError, Global};
 use std::process::Abort;
@@ -14,6 +14,12 @@ use std::thread::Threads;
 
 // A schedule that no script is asked for.
 const SCHEDULE: &str = "schedule 1 9\nend\n";
+
+// What is told of a text that is too long, where it is explained.
+const TOO_LONG: &str = "text 7 long at 1048576
+a.cml:1:1048577: the text is too long
+  = a text has at most 1048576 bytes
+";
 
 // Arguments, whether the errors go to a terminal, and whether what is wrong is explained.
 const ASKED: &[(&str, bool, bool)] = &[
@@ -133,6 +139,28 @@ fn nothing_else_is_explained(rt: HostRuntime) -> Result<(), Fail> {
         assert!(rt; left.status == status, "status of {line}");
         drop(left);
         drop(store);
+    }
+    Ok(())
+}
+
+// A text that is too long is explained by its first bytes, however long it is.
+#[test]
+fn texts_that_are_too_long_are_explained(rt: HostRuntime) -> Result<(), Fail> {
+    for more in [1, 2, 4096] {
+        let mut text = Vec::new(rt.alloc());
+        for _ in 0..1_048_576 + more {
+            text.push(b' ')?;
+        }
+        let mut store = MemoryStore::new(rt.alloc());
+        assert!(rt; store.save("a.cml", text.as_slice()).is_ok(), "save {more}");
+        for line in ["check a.cml --explain", "fmt a.cml --explain", "run a.cml --explain"] {
+            let left = left_on(&rt, rt.alloc(), line, false, &mut store)?;
+            assert!(rt; left.errors.as_slice() == TOO_LONG.as_bytes(), "{line}, {more}");
+            assert!(rt; left.status == 2 && left.output.is_empty(), "{line}, {more}");
+            drop(left);
+        }
+        drop(store);
+        drop(text);
     }
     Ok(())
 }
