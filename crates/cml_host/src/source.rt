@@ -64,7 +64,7 @@ pub fn tell_script(
 
 // The line, and then the words.
 fn followed(line: String, words: &[u8]) -> Result<Vec<u8>, AllocError>
-    ensures { IfOk result (λ all. all.items ≡ string_bytes line.entry ++ words.now) }
+    ensures { IfOk result (λ all. all.items ≡ string_bytes line ++ words.now) }
 {
     let mut all = line.into_bytes();
     all.extend_from_slice(words)?;
