@@ -33,7 +33,7 @@ const EXPLAINED: [(&[u8], &str); 17] = [
         "a.cml:1:9: `1st` is neither a number nor a name\n1 | \t(set x 1st)\n  | \t       ^^^\n",
     ),
     (
-        "имя 1я".as_bytes(),
+        b"\xd0\xb8\xd0\xbc\xd1\x8f 1\xd1\x8f",
         "a.cml:1:5: `1я` is neither a number nor a name\n1 | имя 1я\n  |     ^^\n",
     ),
     (

@@ -1,5 +1,6 @@
 -- What stands where pieces were appended one after another.
-use Rattle.std.proofs.Common.{◌≡◌, ℕ, ◌-◌, List, [], ◌∷◌, ◌++◌, Option, Some, append_assoc, sym, ap, ◌∙◌}
+use Rattle.std.proofs.Common.{◌≡◌, ℕ, ◌+◌, ◌-◌, ◌<◌, List, [], ◌∷◌, ◌++◌, length, get_or, drop, append_assoc, sym, ap, ◌∙◌}
+use Rattle.std.proofs.lemmas.List.{at_drop_more}
 use Rattle.std.specs.List.{flat_map}
 use Rattle.std.specs.Fmt.{decimal}
 use Rattle.cml_place.specs.Places.{line_at}
@@ -32,3 +33,9 @@ shown_by_parts name text d n o p q r x y e f g =
     let f' : q ≡ p ++ shown_marked (decimal (line_at text d.at)) text d.at d.marked_to = f ∙ ap (λ w. p ++ shown_marked w text d.at d.marked_to) x in
     let g' : r ≡ q ++ flat_map (shown_note (decimal (line_at text d.at)) text) d.notes = g ∙ ap (λ w. q ++ flat_map (shown_note w text) d.notes) x in
     from_none o _ r y (three o _ _ _ p q r e f' g')
+
+-- one element more of those that are gone through
+pub one_more : (f : ℕ → List ℕ) (xs o p r : List ℕ) (i : ℕ) → i < length xs → p ≡ o ++ f (get_or xs i 0) → o ++ flat_map f (drop i xs) ≡ r → p ++ flat_map f (drop (i + 1) xs) ≡ r
+one_more f xs o p r i h e k =
+    let moved : (o ++ f (get_or xs i 0)) ++ flat_map f (drop (i + 1) xs) ≡ r = append_assoc o (f (get_or xs i 0)) (flat_map f (drop (i + 1) xs)) ∙ (ap (λ w. o ++ w) (sym (at_drop_more (flat_map f) xs i 0 h)) ∙ k) in
+    rw e moved
