@@ -8,4 +8,4 @@ use Rattle.cml_index.proofs.counts.count_beside.Goals as goal
 
 pub returns-in-None-clause-count : goal.returns-in-None-clause-count
 returns-in-None-clause-count c =
-    sym (none_among Others (lane_at c.args.core.now.lanes.by_slot c.args.slot) c.args.heads.now.places (ap length (sym (ap (λ o. option_map_or (λ (l : PlainLane). l.places) o []) c.in-None.ensures.value))))
+    sym (none_among Others (lane_at c.args.core.now.lanes c.args.slot) c.args.heads.now.places (ap length (sym (c.in-None.ensures))))

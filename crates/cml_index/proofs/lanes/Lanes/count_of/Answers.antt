@@ -1,0 +1,11 @@
+use Rattle.std.proofs.Common.{◌≡◌, ◌≤◌, ◌<◌, ◌+◌, ◌*◌, ◌^◌, ◌++◌, ◌∷◌, [], ℕ, Bool, true, false, cond, length, map, take, drop, ap, sym, subst, refl, ◌∙◌, append_assoc, arith}
+use Rattle.cml_index.specs.declared.slot.Slot.{Slot}
+use Rattle.cml_index.specs.Slots.{slot_in, slot_leaves, has_slot, is_slot, lane_at, late_at, going_at, room_at}
+use Rattle.cml_index.specs.Stands as stands
+use Rattle.cml_index.specs.Stands.{stand_at}
+use Rattle.cml_index.proofs.Walks.{same_slot_is}
+use Rattle.cml_index.proofs.lanes.Lanes.count_of.Goals as goal
+
+pub returns-in-Some-clause-here : goal.returns-in-Some-clause-here
+returns-in-Some-clause-here c k e =
+    subst (λ j. stands.IsCounted (stand_at c.args.self.now j) (stand_at c.count_at.new.self j)) (sym (same_slot_is k c.in-Some.slot (sym (ap (is_slot k) c.in-Some.is) ∙ e))) c.count_at.ensures.here
