@@ -1,4 +1,4 @@
--- The objects on which two threads may meet, when runs come or go.
+-- The objects on which two threads may meet, when leaves come or go.
 use Rattle.std.proofs.Common.{◌≡◌, ℕ, Bool, true, false, ◌&&◌, ◌||◌, nat_lt, List, [], ◌∷◌, Option, ◌++◌, length, ◌+◌, ◌≤◌, refl, ap, sym, ◌∙◌, arith}
 use Rattle.std.specs.List.{filter}
 use Rattle.std.proofs.lemmas.List.{length-append}
@@ -14,7 +14,7 @@ use Rattle.cml_index.specs.Live.{may_meet, have_side}
 use Rattle.cml_index.specs.Slots.{is_slot, has_slot}
 use Rattle.cml_index.specs.declared.slot.Slot.{Slot}
 
--- an object is kept right when one more of the runs is done, where it was not there without need
+-- an object is kept right when one more of the leaves is done, where it was not there without need
 pub cut_more : (here later left old new on : Bool) → left ≡ here || later → later ≡ false → (here ≡ true → new ≡ old && on) → (here ≡ false → new ≡ old) → (left ≡ false → old ≡ on) → (on ≡ true → old ≡ true) → new ≡ on
 cut_more true later left old new on e f one two was over = one refl ∙ at old on over
   where

@@ -201,10 +201,10 @@ nacks_left p test (e ∷ es) each = at (test e) (nacks_left p test es (back (nac
     at true h = Every-append p (nacks_of (scopes e.group)) (nacks_in (filter test es)) (front (nacks_of (scopes e.group)) (nacks_in es) each) h
     at false h = h
 
--- the looks of one group's move: two for each leaf, and a search for each run
-pub move_cost : (t0 t1 t2 leaves runs left digits : ℕ) → t1 ≤ t0 + 2 * leaves → t2 ≤ t1 + runs * digits → runs ≤ leaves → t2 + left * (digits + 2) ≤ t0 + (leaves + left) * (digits + 2)
-move_cost t0 t1 t2 leaves runs left digits a b few =
-    let more : runs * digits ≤ leaves * digits = mul-le runs digits leaves digits few (omega arith) in
+-- the looks of one group's move: two for each leaf, and at most one search for each
+pub move_cost : (t0 t1 t2 leaves waits left digits : ℕ) → t1 ≤ t0 + 2 * leaves → t2 ≤ t1 + waits * digits → waits ≤ leaves → t2 + left * (digits + 2) ≤ t0 + (leaves + left) * (digits + 2)
+move_cost t0 t1 t2 leaves waits left digits a b few =
+    let more : waits * digits ≤ leaves * digits = mul-le waits digits leaves digits few (omega arith) in
     omega arith
 
 -- the entry that comes

@@ -15,7 +15,7 @@ use Rattle.cml_index.specs.declared.slot.Spot.TheVariants.{Listed, Tick}
 use Rattle.cml_index.specs.declared.stand.Stand.{Stand}
 use Rattle.cml_index.specs.declared.lanes.Lanes.{Lanes}
 use Rattle.cml_index.specs.Slot.{same_slot}
-use Rattle.cml_index.specs.Stands.{spot_of, stand_at, row_of, row_at}
+use Rattle.cml_index.specs.Stands.{spot_of, stand_at, lanes_in, side_row}
 
 -- the slot that is kept under a tick is that of its alarm
 pub tick_slot : (k : Slot) (t : ℕ) → spot_of k ≡ Tick t → k ≡ Waiters (of.Alarm t)
@@ -32,12 +32,12 @@ turned : (a b : ℕ) → nat_eq a b ≡ false → nat_eq b a ≡ false
 turned a b e = grind (arith, nat_tests)
 
 -- what changes under one tick changes at no other slot
-module _ (x y : Lanes) (rows : (row : _) → row_of y row ≡ row_of x row) (tick : ℕ) (other : (t : ℕ) → nat_eq tick t ≡ false → get nat_eq y.ticks t ≡ get nat_eq x.ticks t) where
+module _ (x y : Lanes) (rows : (row : _) → lanes_in y row ≡ lanes_in x row) (tick : ℕ) (other : (t : ℕ) → nat_eq tick t ≡ false → get nat_eq y.ticks t ≡ get nat_eq x.ticks t) where
   listed : (row : _) (n : ℕ) → Rattle.cml_index.specs.Stands.stand_in y (Listed row n) ≡ Rattle.cml_index.specs.Stands.stand_in x (Listed row n)
   listed row n = ap (λ v. Rattle.std.specs.Prelude.slice_get v.items n) (rows row)
 
   pub tick_else : (slot : Slot) → spot_of slot ≡ Tick tick → (k : Slot) → same_slot k slot ≡ false → stand_at y k ≡ stand_at x k
-  tick_else slot is (Side h n) off = listed (row_at n.kind h) n.number
+  tick_else slot is (Side h n) off = listed (side_row n.kind h) n.number
   tick_else slot is (Waiters (of.Alarm t)) off =
       other t (turned t tick (sym (light_eq (of.Alarm t) (of.Alarm tick)) ∙ subst (λ s. same_slot (Waiters (of.Alarm t)) s ≡ false) (tick_slot slot tick is) off))
   tick_else slot is (Waiters (of.IVar i)) off = listed IVars i.0

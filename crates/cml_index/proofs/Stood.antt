@@ -4,7 +4,7 @@ use Rattle.cml_value.specs.declared.number.Tid.{Tid}
 use Rattle.cml_scan.specs.declared.meet.Place.{Place}
 use Rattle.cml_index.specs.declared.stand.Stand.{Stand}
 use Rattle.cml_scan.specs.Order.{Ascends}
-use Rattle.cml_index.specs.Stands.{HasCome, HasForgone, HasGone, IsCounted, CanCome, joined, left, places_in, late_in, going_in, room_in}
+use Rattle.cml_index.specs.Stands.{HasCome, HasForgone, HasGone, CountsOneMore, CanCome, joined, after_going, places_in, late_in, going_in, room_in}
 
 pub come_twice : (tid : Tid) (a b c : Option Stand) → HasCome tid a b → HasCome tid b c → HasCome tid a c
 come_twice tid a b c x y = record {
@@ -23,7 +23,7 @@ forgo_twice a b c x y = record {
 
 pub go_twice : (tid : Tid) (a b c : Option Stand) → HasGone tid a b → HasGone tid b c → HasGone tid a c
 go_twice tid a b c x y = record {
-  places = y.places ∙ ap (λ n. left tid n (places_in b)) x.going ∙ x.places;
+  places = y.places ∙ ap (λ n. after_going tid n (places_in b)) x.going ∙ x.places;
   late = y.late ∙ x.late;
   going = y.going;
   room = omega (arith, x.room, y.room);
@@ -47,7 +47,7 @@ pub record IsCountedTo (old new : Option Stand) (n left_ all : ℕ) : Type 0 whe
   pub none : is_some old ≡ false → going_in new ≡ 0
   pub going : is_some old ≡ true → going_in new + left_ ≡ all
 
-pub counted_more : (a b c : Option Stand) (n m l all : ℕ) → m ≡ suc l → IsCountedTo a b n m all → IsCounted b c → IsCountedTo a c (n + 1) l all
+pub counted_more : (a b c : Option Stand) (n m l all : ℕ) → m ≡ suc l → IsCountedTo a b n m all → CountsOneMore b c → IsCountedTo a c (n + 1) l all
 counted_more a b c n m l all is x y = record {
   made = y.made ∙ x.made;
   places = y.places ∙ x.places;

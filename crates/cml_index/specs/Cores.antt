@@ -19,8 +19,8 @@ abbrev pub IsIndexed : Core → Type 0
 IsIndexed c = posts.AreIndexed c.entries.items c.lanes c.live c.flags.entries c.leaves c.lit
 
 -- no leaf is to come
-abbrev pub IsIdle : Core → Type 0
-IsIdle c = (k : Slot) → late_at c.lanes k ≡ []
+abbrev pub IsAtRest : Core → Type 0
+IsAtRest c = (k : Slot) → late_at c.lanes k ≡ []
 
 -- what an index with this core was told
 abbrev pub seen : Core → PlainIndex

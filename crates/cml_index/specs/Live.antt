@@ -35,16 +35,16 @@ abbrev pub kind_numbers : Live → Pairing → PlainNumbers
 kind_numbers live Channel = live.channels
 kind_numbers live Swap = live.swaps
 
-abbrev pub numbers_of : Live → PairedId → PlainNumbers
-numbers_of live n = kind_numbers live n.kind
+abbrev pub kept_numbers : Live → PairedId → PlainNumbers
+kept_numbers live n = kind_numbers live n.kind
 
 -- the object is kept as live
 abbrev pub is_in : Live → PairedId → Bool
-is_in live n = has (numbers_of live n) n.number
+is_in live n = has (kept_numbers live n) n.number
 
 -- the object has a place, so that it can be put in without memory
 abbrev pub HasPlace : Live → PairedId → Type 0
-HasPlace live n = n.number < (numbers_of live n).size
+HasPlace live n = n.number < (kept_numbers live n).size
 
 -- the objects that are kept
 abbrev pub objects : Live → List PairedId

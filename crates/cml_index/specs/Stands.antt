@@ -32,8 +32,8 @@ joined tid [] ps = ps
 joined tid (l ∷ ls) ps = with_run tid (l ∷ ls) ps
 
 -- the lane without the thread, if this many of its leaves go
-abbrev pub left : Tid → ℕ → List Place → List Place
-left tid going ps = if nat_lt 0 going then others tid ps else ps
+abbrev pub after_going : Tid → ℕ → List Place → List Place
+after_going tid going ps = if nat_lt 0 going then others tid ps else ps
 
 -- What stands at a place where a stand was made or not: the offers, the leaves that are to come, how many are to go, and the room.
 abbrev pub places_in : Option Stand → List Place
@@ -106,7 +106,7 @@ pub record HasForgone (old new : Option Stand) : Type 0 where
   pub room : room_in new ≡ room_in old
 
 -- one more is to go, if the stand was made
-pub record IsCounted (old new : Option Stand) : Type 0 where
+pub record CountsOneMore (old new : Option Stand) : Type 0 where
   pub places : places_in new ≡ places_in old
   pub late : late_in new ≡ late_in old
   pub made : is_some new ≡ is_some old
@@ -118,17 +118,17 @@ abbrev pub CanGo : Tid → Option Stand → Type 0
 CanGo tid s = 0 < going_in s → going_in s ≡ length (filter (is_own tid) (places_in s))
 
 pub record HasGone (tid : Tid) (old new : Option Stand) : Type 0 where
-  pub places : places_in new ≡ left tid (going_in old) (places_in old)
+  pub places : places_in new ≡ after_going tid (going_in old) (places_in old)
   pub late : late_in new ≡ late_in old
   pub going : going_in new ≡ 0
   pub room : room_in old ≤ room_in new
 
 -- where the lane of a slot is kept
-abbrev pub row_at : Pairing → Bool → Row
-row_at Channel true = Senders
-row_at Channel false = Receivers
-row_at Swap true = Swappers
-row_at Swap false = Swapped
+abbrev pub side_row : Pairing → Bool → Row
+side_row Channel true = Senders
+side_row Channel false = Receivers
+side_row Swap true = Swappers
+side_row Swap false = Swapped
 
 abbrev pub light_spot : Light → Spot
 light_spot (of.IVar i) = Listed IVars i.0
@@ -140,21 +140,21 @@ light_spot (of.Nack k) = Listed Nacks k.0
 light_spot (of.Alarm t) = Tick t
 
 abbrev pub spot_of : Slot → Spot
-spot_of (Side heads object) = Listed (row_at object.kind heads) object.number
+spot_of (Side heads object) = Listed (side_row object.kind heads) object.number
 spot_of (Waiters l) = light_spot l
 
 -- the lanes of one kind
-abbrev pub row_of : Lanes → Row → Vec Stand Global
-row_of x Senders = x.senders
-row_of x Receivers = x.receivers
-row_of x Swappers = x.swappers
-row_of x Swapped = x.swapped
-row_of x IVars = x.ivars
-row_of x MVars = x.mvars
-row_of x Mailboxes = x.mailboxes
-row_of x Ports = x.ports
-row_of x Joins = x.joins
-row_of x Nacks = x.nacks
+abbrev pub lanes_in : Lanes → Row → Vec Stand Global
+lanes_in x Senders = x.senders
+lanes_in x Receivers = x.receivers
+lanes_in x Swappers = x.swappers
+lanes_in x Swapped = x.swapped
+lanes_in x IVars = x.ivars
+lanes_in x MVars = x.mvars
+lanes_in x Mailboxes = x.mailboxes
+lanes_in x Ports = x.ports
+lanes_in x Joins = x.joins
+lanes_in x Nacks = x.nacks
 
 abbrev pub with_row : Lanes → Row → Vec Stand Global → Lanes
 with_row x Senders v = record x { senders = v }
@@ -174,7 +174,7 @@ LendsRow s row r = Lends the_row (vec.the_row stand_row global.the_row ghosts) s
 
 -- what is kept at a spot, if it was made
 abbrev pub stand_in : Lanes → Spot → Option Stand
-stand_in x (Listed row number) = slice_get (row_of x row).items number
+stand_in x (Listed row number) = slice_get (lanes_in x row).items number
 stand_in x (Tick tick) = get (λ a b. a == b) x.ticks tick
 
 abbrev pub stand_at : Lanes → Slot → Option Stand

@@ -6,7 +6,7 @@ ghost use Rattle.cml_scan.specs.declared.object.Light.{Light};
 ghost use Rattle.cml_scan.specs.Order.{Every};
 ghost use Rattle.cml_scan.specs.Table.{without, changed, has_light, CanChange};
 ghost use Rattle.cml_index.specs.Posts as spec;
-ghost use Rattle.cml_index.specs.Cores.{seen, IsIndexed, IsIdle, AreThere, IsSame, IsStill, HasFreed, HasRoom};
+ghost use Rattle.cml_index.specs.Cores.{seen, IsIndexed, IsAtRest, AreThere, IsSame, IsStill, HasFreed, HasRoom};
 ghost use Rattle.cml_index.specs.Slots.{HaveDigits};
 
 use crate::entry::Entry;
@@ -57,12 +57,12 @@ impl Core {
     // nobody stands in it.
     fn forget(&mut self, light: Light)
         requires indexed { IsIndexed self.old }
-        requires idle { IsIdle self.old }
+        requires idle { IsAtRest self.old }
         requires out { spec.told self.old.flags.entries light ≡ false }
         ensures told { (m : Light) →
             spec.told self.new.flags.entries m ≡ spec.told self.old.flags.entries m }
         ensures indexed { IsIndexed self.new }
-        ensures idle { IsIdle self.new }
+        ensures idle { IsAtRest self.new }
         ensures entries { self.new.entries ≡ self.old.entries }
         ensures leaves { self.new.leaves ≡ self.old.leaves }
     {
@@ -75,12 +75,12 @@ impl Core {
     // Forgets the ticks among these lights, which were told to be unlit.
     fn forget_all(&mut self, lights: &[Light])
         requires indexed { IsIndexed self.old }
-        requires idle { IsIdle self.old }
+        requires idle { IsAtRest self.old }
         requires out { Every (λ l. not (spec.told self.old.flags.entries l)) lights.now }
         ensures told { (m : Light) →
             spec.told self.new.flags.entries m ≡ spec.told self.old.flags.entries m }
         ensures indexed { IsIndexed self.new }
-        ensures idle { IsIdle self.new }
+        ensures idle { IsAtRest self.new }
         ensures entries { self.new.entries ≡ self.old.entries }
         ensures leaves { self.new.leaves ≡ self.old.leaves }
     {
@@ -98,10 +98,10 @@ impl Core {
         tally: &mut Tally,
     ) -> Result<(), AllocError>
         requires indexed { IsIndexed self.old }
-        requires idle { IsIdle self.old }
+        requires idle { IsAtRest self.old }
         requires ready { CanChange self.old.entries.items gone.now None lit.now unlit.now }
         ensures indexed { IsIndexed self.new }
-        ensures idle { IsIdle self.new }
+        ensures idle { IsAtRest self.new }
         ensures told { spec.HasTold result (changed self.old.entries.items gone.now None)
             lit.now unlit.now (seen self.old) (seen self.new) tally.old tally.new }
         ensures sure { spec.HavePlaces self.old.flags.entries lit.now → IsOk result }
@@ -126,10 +126,10 @@ impl Core {
         tally: &mut Tally,
     ) -> Result<(), AllocError>
         requires indexed { IsIndexed self.old }
-        requires idle { IsIdle self.old }
+        requires idle { IsAtRest self.old }
         requires ready { CanChange self.old.entries.items gone.now (Some comer) lit.now unlit.now }
         ensures indexed { IsIndexed self.new }
-        ensures idle { IsIdle self.new }
+        ensures idle { IsAtRest self.new }
         ensures told { spec.HasTold result
             (changed self.old.entries.items gone.now (Some comer.entry))
             lit.now unlit.now (seen self.old) (seen self.new) tally.old tally.new }
@@ -152,10 +152,10 @@ impl Core {
     // Makes room for the entry that will come, and for the lights that will be told to be lit. Nothing was told.
     fn make_ready(&mut self, alloc: Global, entry: &Entry, lit: &[Light]) -> Result<(), AllocError>
         requires indexed { IsIndexed self.old }
-        requires idle { IsIdle self.old }
+        requires idle { IsAtRest self.old }
         ensures indexed { IsIndexed self.new }
         ensures same { IsSame self.old self.new }
-        ensures idle { OnErr result (IsIdle self.new) }
+        ensures idle { OnErr result (IsAtRest self.new) }
         ensures room { OnOk result (HasRoom self.new entry.now.group) }
         ensures lights { OnOk result (spec.HavePlaces self.new.flags.entries lit.now) }
     {

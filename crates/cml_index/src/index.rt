@@ -29,7 +29,7 @@ pub struct OfferIndex {
 
 impl Model for OfferIndex {
     ghost use Rattle.cml_index.specs.Posts.{PlainIndex, index_code};
-    ghost use Rattle.cml_index.specs.Cores.{IsIndexed, IsIdle};
+    ghost use Rattle.cml_index.specs.Cores.{IsIndexed, IsAtRest};
 
     ghost Value = { PlainIndex };
 
@@ -37,7 +37,7 @@ impl Model for OfferIndex {
 
     ghost view = { λ x. record { entries = x.core.entries.items; flags = x.core.flags.entries } };
 
-    ghost invariant = { λ x. IsIndexed x.core × IsIdle x.core };
+    ghost invariant = { λ x. IsIndexed x.core × IsAtRest x.core };
 }
 
 impl OfferIndex {

@@ -63,7 +63,7 @@ impl Lanes {
 
     // The lanes of one kind.
     fn row(&self, row: Row) -> &Vec<Stand>
-        ensures { result.now ≡ stands.row_of self.now row }
+        ensures { result.now ≡ stands.lanes_in self.now row }
     {
         match row {
             Row::Senders => &self.senders,
@@ -82,7 +82,7 @@ impl Lanes {
     // The lanes of one kind, to change them.
     fn row_mut(&mut self, row: Row) -> &mut Vec<Stand>
         ensures* writes_back { sem 𝓛 (LendsRow self.entry row result) }
-        ensures value { result.now ≡ stands.row_of self.old row }
+        ensures value { result.now ≡ stands.lanes_in self.old row }
     {
         match row {
             Row::Senders => &mut self.senders,
@@ -205,7 +205,7 @@ impl Lanes {
     // One more leaf is to go from the lane, if it was made.
     fn count_at(&mut self, slot: Slot)
         requires { stands.going_in (stands.stand_at self.old slot) < 18446744073709551615 }
-        ensures here { stands.IsCounted (stands.stand_at self.old slot) (stands.stand_at self.new slot) }
+        ensures here { stands.CountsOneMore (stands.stand_at self.old slot) (stands.stand_at self.new slot) }
         ensures elsewhere { (k : Slot) → same_slot k slot ≡ false →
             stands.stand_at self.new k ≡ stands.stand_at self.old k }
     {
@@ -261,7 +261,7 @@ impl Lanes {
     fn count_of(&mut self, slot: Option<Slot>)
         requires { (k : Slot) → spec.is_slot k slot ≡ true → stands.going_in (stands.stand_at self.old k) < 18446744073709551615 }
         ensures here { (k : Slot) → spec.is_slot k slot ≡ true →
-            stands.IsCounted (stands.stand_at self.old k) (stands.stand_at self.new k) }
+            stands.CountsOneMore (stands.stand_at self.old k) (stands.stand_at self.new k) }
         ensures elsewhere { (k : Slot) → spec.is_slot k slot ≡ false →
             stands.stand_at self.new k ≡ stands.stand_at self.old k }
     {
@@ -296,7 +296,7 @@ impl Lanes {
         }
     }
 
-    // The these leaves are to come, and there is room for them.
+    // Notes these leaves, which are to come, at their lanes, and makes room for them.
     fn note_all(&mut self, alloc: Global, waits: &[Wait]) -> Result<(), AllocError>
         requires small { length waits.now < 4294967296 }
         requires idle { (k : Slot) → spec.late_at self.old k ≡ [] }
@@ -316,7 +316,7 @@ impl Lanes {
         Ok(())
     }
 
-    // The leaves that are to come on these base events come.
+    // These leaves of the thread, which were noted, come to their lanes.
     pub(crate) fn come(&mut self, tid: Tid, waits: &[Wait], tally: &mut Tally)
         requires late { (k : Slot) → spec.late_at self.old k
             ≡ spec.slot_leaves k 0 (map slot_in waits.now) }
@@ -335,7 +335,7 @@ impl Lanes {
         }
     }
 
-    // No leaf of these leaves is to come.
+    // None of these leaves is to come.
     fn forgo(&mut self, waits: &[Wait])
         requires { (k : Slot) → spec.has_slot k (map slot_in waits.now) ≡ false → spec.late_at self.old k ≡ [] }
         ensures same { (k : Slot) → spec.lane_at self.new k ≡ spec.lane_at self.old k }
@@ -368,7 +368,7 @@ impl Lanes {
         }
     }
 
-    // The these leaves are to go, as far as their lanes were made.
+    // Counts these leaves, which are to go, at their lanes, as far as these were made.
     fn count(&mut self, waits: &[Wait])
         requires idle { (k : Slot) → spec.going_at self.old k ≡ 0 }
         ensures same { (k : Slot) → spec.lane_at self.new k ≡ spec.lane_at self.old k }
@@ -384,7 +384,7 @@ impl Lanes {
         }
     }
 
-    // The leaves of the thread on these base events go, which are all its offers.
+    // These leaves of the thread, which are all its offers, go from their lanes.
     pub(crate) fn go(&mut self, tid: Tid, waits: &[Wait], tally: &mut Tally)
         requires idle { (k : Slot) → spec.going_at self.old k ≡ 0 }
         requires all { (k : Slot) → length (spec.slot_leaves k 0 (map slot_in waits.now))

@@ -191,7 +191,7 @@ impl Live {
         Ok(())
     }
 
-    // Brings the live objects up to date once the these leaves have gone from their lanes. It takes no memory.
+    // Brings the live objects up to date once these leaves have gone from their lanes. It takes no memory.
     pub(crate) fn cut_all(&mut self, lanes: &Lanes, waits: &[Wait])
         requires was { (n : PairedId) → spec.have_side n (map slot_in waits.now) ≡ false →
             spec.is_in self.old n ≡ spec.is_live lanes.now n }
@@ -205,7 +205,7 @@ impl Live {
         }
     }
 
-    // Brings the live objects up to date once the these leaves have come to their lanes. Each object of which one is a side
+    // Brings the live objects up to date once these leaves have come to their lanes. Each object of which one is a side
     // has a place. It takes no memory.
     pub(crate) fn add_all(&mut self, lanes: &Lanes, waits: &[Wait])
         requires there { (n : PairedId) → spec.have_side n (map slot_in waits.now) ≡ true →

@@ -3,7 +3,7 @@
 ghost use Rattle.std.specs.Prelude.{◌≡◌, length, map};
 ghost use Rattle.cml_index.specs.Slot as spec;
 ghost use Rattle.cml_index.specs.Posts.{slot_of};
-ghost use Rattle.cml_index.specs.Stands.{row_at, light_spot, spot_of};
+ghost use Rattle.cml_index.specs.Stands.{side_row, light_spot, spot_of};
 ghost use Rattle.cml_index.specs.Slots.{is_slot, slot_leaves, slot_in};
 
 use cml_channel::{PairedId, Pairing, Whom, place};
@@ -28,7 +28,7 @@ impl Hash for Slot {
 
     ghost respects_eq = { told_alike };
 
-    // A side is written as one number, since a map of slots is asked several times in each change. Its kind is left to the comparison.
+    // Of lanes only those of lights stand in a map. A side is written as one number, and its kind is left to the comparison.
     fn hash<H: Hasher>(&self, state: &mut H) {
         match self {
             Slot::Side { heads, object } => {
@@ -96,7 +96,7 @@ pub(crate) enum Spot {
 
 // The row of one side of an object of the kind.
 fn row_of(kind: Pairing, heads: bool) -> Row
-    ensures { result ≡ row_at kind heads }
+    ensures { result ≡ side_row kind heads }
 {
     match kind {
         Pairing::Channel => { if heads { Row::Senders } else { Row::Receivers } }

@@ -94,7 +94,7 @@ impl Stand {
         requires { 0 < self.old.going →
             self.old.going ≡ length (filter (is_own tid) self.old.lane.places) }
         ensures lane { self.new.lane.places
-            ≡ spec.left tid self.old.going self.old.lane.places }
+            ≡ spec.after_going tid self.old.going self.old.lane.places }
         ensures late { self.new.late ≡ self.old.late }
         ensures going { self.new.going ≡ 0 }
         ensures room { self.old.lane.room ≤ self.new.lane.room }
@@ -158,7 +158,7 @@ pub(crate) fn forgo_in(row: &mut Vec<Stand>, number: usize)
 // One more leaf is to go from this stand, if it was made.
 pub(crate) fn count_in(row: &mut Vec<Stand>, number: usize)
     requires { spec.going_in (slice_get row.old.items number) < 18446744073709551615 }
-    ensures here { spec.IsCounted (slice_get row.old.items number) (slice_get row.new.items number) }
+    ensures here { spec.CountsOneMore (slice_get row.old.items number) (slice_get row.new.items number) }
     ensures elsewhere { (i : ℕ) → i ≢ number → slice_get row.new.items i ≡ slice_get row.old.items i }
 {
     if number < row.len() {
@@ -222,7 +222,7 @@ pub(crate) fn forgo_tick(ticks: &mut Ticks, tick: u64)
 // One more leaf is to go from the stand of this tick, if it was made.
 pub(crate) fn count_tick(ticks: &mut Ticks, tick: u64)
     requires { spec.going_in (get (λ a b. a == b) ticks.old tick) < 18446744073709551615 }
-    ensures here { spec.IsCounted (get (λ a b. a == b) ticks.old tick) (get (λ a b. a == b) ticks.new tick) }
+    ensures here { spec.CountsOneMore (get (λ a b. a == b) ticks.old tick) (get (λ a b. a == b) ticks.new tick) }
     ensures elsewhere { (t : ℕ) → (tick == t) ≡ false →
         get (λ a b. a == b) ticks.new t ≡ get (λ a b. a == b) ticks.old t }
 {

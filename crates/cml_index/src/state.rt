@@ -8,7 +8,7 @@ ghost use Rattle.std.specs.Option.{option_copied};
 ghost use Rattle.cml_scan.specs.Order.{base_at as scan_base_at};
 ghost use Rattle.cml_scan.specs.Table.{without, IsThere, same_light};
 ghost use Rattle.cml_index.specs.Posts as spec;
-ghost use Rattle.cml_index.specs.Cores.{IsIndexed, IsIdle, AreThere, IsSame, IsStill, HasCome, HasFreed, HasRoom};
+ghost use Rattle.cml_index.specs.Cores.{IsIndexed, IsAtRest, AreThere, IsSame, IsStill, HasCome, HasFreed, HasRoom};
 ghost use Rattle.cml_index.specs.Live.{have_side, HasPlace};
 ghost use Rattle.cml_channel.specs.declared.pairing.PairedId.{PairedId};
 ghost use Rattle.cml_value.specs.Group.{scopes, nacks_of};
@@ -107,12 +107,12 @@ impl Core {
     // the leaves would be too many to count, none is, and nothing was told.
     pub(crate) fn make_room(&mut self, alloc: Global, entry: &Entry) -> Result<(), AllocError>
         requires indexed { IsIndexed self.old }
-        requires idle { IsIdle self.old }
+        requires idle { IsAtRest self.old }
         ensures indexed { IsIndexed self.new }
         ensures same { IsSame self.old self.new }
         ensures kept { spec.KeepsPlaces self.old.flags.entries self.new.flags.entries }
         ensures room { OnOk result (HasRoom self.new entry.now.group) }
-        ensures idle { OnErr result (IsIdle self.new) }
+        ensures idle { OnErr result (IsAtRest self.new) }
     {
         self.make_places(alloc, entry)?;
         self.lanes.make_room(alloc, entry.waits())
@@ -148,7 +148,7 @@ impl Core {
         requires room { HasRoom self.old entry.group }
         ensures came { HasCome entry self.old self.new }
         ensures indexed { IsIndexed self.new }
-        ensures idle { IsIdle self.new }
+        ensures idle { IsAtRest self.new }
         ensures cost { (digits : ℕ) → HaveDigits self.old.lanes digits →
             tally.new ≤ tally.old + length (bases entry.group) * (digits + 2) }
     {

@@ -29,7 +29,7 @@ loop-wait-preserved c =
     }
 
 -- a lane from which this many leaves go
-gone : (tid : Tid) (going leaves : ℕ) (ps : List Place) → (0 < going → going ≡ leaves) → (0 < length ps → going ≡ leaves) → leaves ≡ length (filter (is_own tid) ps) → stands.left tid going ps ≡ others tid ps
+gone : (tid : Tid) (going leaves : ℕ) (ps : List Place) → (0 < going → going ≡ leaves) → (0 < length ps → going ≡ leaves) → leaves ≡ length (filter (is_own tid) ps) → stands.after_going tid going ps ≡ others tid ps
 gone tid zero leaves [] a b all = refl
 gone tid zero leaves (p ∷ ps) a b all = let none : zero ≡ leaves = b (omega arith) in sym (others_all tid (p ∷ ps) (sym all ∙ sym none))
 gone tid (suc going) leaves ps a b all = ap (λ t. cond t (others tid ps) ps) (some going)
@@ -44,7 +44,7 @@ returns-clause-lanes c k =
     let tid = c.args.tid in
     let lane = lane_at c.args.self.now k in
     decide (has_slot k (take c.loop-wait.wait-index ss))
-    (λ done. (c.loop-wait.invariant.done.0 k done).places ∙ ap (stands.left tid (going_at c.count.new.self k)) (c.count.ensures.same k) ∙ gone tid (going_at c.count.new.self k) (length (slot_leaves k 0 ss)) lane (c.count.ensures.going k) (c.count.ensures.made k) (c.requires.all k))
+    (λ done. (c.loop-wait.invariant.done.0 k done).places ∙ ap (stands.after_going tid (going_at c.count.new.self k)) (c.count.ensures.same k) ∙ gone tid (going_at c.count.new.self k) (length (slot_leaves k 0 ss)) lane (c.count.ensures.going k) (c.count.ensures.made k) (c.requires.all k))
     (λ left. ap stands.places_in (c.loop-wait.invariant.done.1 k left) ∙ c.count.ensures.same k ∙ sym (others_all tid lane (sym (c.requires.all k) ∙ ap length (no_leaves k 0 ss (sym (ap (has_slot k) all) ∙ left)))))
 
 pub returns-clause-going : goal.returns-clause-going
