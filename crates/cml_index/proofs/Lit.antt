@@ -1,6 +1,6 @@
 -- How many leaves can be taken alone, when a light is told.
 use Rattle.std.proofs.Common.{◌≡◌, ℕ, zero, suc, ◌<◌, take, get_or, ◌+◌, Bool, true, false, not, ◌||◌, cond, List, [], ◌∷◌, length, Option, Some, None, refl, ap, sym, subst, ◌∙◌, arith}
-use Rattle.std.specs.List.{filter, list_any}
+use Rattle.std.specs.List.{filter}
 use Rattle.std.specs.Prelude.{OnOk, Result, Ok, Err, option_map}
 use Rattle.std.proofs.lemmas.List.{length-map, take_more}
 use Rattle.std.proofs.lemmas.List.Folds.{list_any-append}
@@ -22,7 +22,6 @@ use Rattle.cml_index.specs.Posts.{slot_of, told, is_named, slot_of_nack, nacks_i
 use Rattle.cml_index.specs.declared.slot.Slot.{Slot}
 use Rattle.cml_index.specs.declared.lanes.Lanes.{Lanes}
 use Rattle.cml_index.specs.declared.live.Live.{Live}
-use Rattle.cml_channel.specs.Lanes.{PlainLane}
 use Rattle.cml_scan.specs.World.{PlainEntry}
 use Rattle.cml_scan.proofs.Ordered.{Every-weaker}
 

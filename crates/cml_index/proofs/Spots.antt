@@ -1,18 +1,13 @@
 -- Where lanes are kept.
-use Rattle.std.proofs.Common.{◌≡◌, ℕ, Bool, true, false, nat_eq, Option, refl, ap, sym, subst, ◌∙◌, arith}
+use Rattle.std.proofs.Common.{◌≡◌, ℕ, false, nat_eq, ap, sym, subst, ◌∙◌, arith}
 use Rattle.std.proofs.lemmas.Bool.Decides.{nat_tests}
 use Rattle.indexmap.specs.IndexMap.{get}
-use Rattle.cml_scan.specs.declared.object.Light.{Light}
 use Rattle.cml_scan.specs.declared.object.Light.TheVariants as of
 use Rattle.cml_scan.proofs.Telling.{light_eq}
-use Rattle.cml_channel.specs.declared.pairing.Pairing.{Pairing}
-use Rattle.cml_channel.specs.declared.pairing.Pairing.TheVariants.{Channel, Swap}
 use Rattle.cml_index.specs.declared.slot.Slot.{Slot}
 use Rattle.cml_index.specs.declared.slot.Slot.TheVariants.{Side, Waiters}
 use Rattle.cml_index.specs.declared.slot.Row.TheVariants.{IVars, MVars, Mailboxes, Ports, Joins, Nacks}
-use Rattle.cml_index.specs.declared.slot.Spot.{Spot}
 use Rattle.cml_index.specs.declared.slot.Spot.TheVariants.{Listed, Tick}
-use Rattle.cml_index.specs.declared.stand.Stand.{Stand}
 use Rattle.cml_index.specs.declared.lanes.Lanes.{Lanes}
 use Rattle.cml_index.specs.Slot.{same_slot}
 use Rattle.cml_index.specs.Stands.{spot_of, stand_at, lanes_in, side_row}

@@ -1,7 +1,6 @@
 -- What is done at a stand, done twice.
-use Rattle.std.proofs.Common.{◌≡◌, ◌≤◌, ℕ, zero, suc, Bool, true, false, nat_lt, List, [], ◌∷◌, length, Option, Some, None, is_some, cond, ◌<◌, ◌+◌, refl, ap, sym, subst, ◌∙◌, arith}
+use Rattle.std.proofs.Common.{◌≡◌, ◌≤◌, ℕ, suc, Bool, true, false, nat_lt, [], length, Option, is_some, cond, ◌+◌, refl, ap, sym, subst, ◌∙◌, arith}
 use Rattle.cml_value.specs.declared.number.Tid.{Tid}
-use Rattle.cml_scan.specs.declared.meet.Place.{Place}
 use Rattle.cml_index.specs.declared.stand.Stand.{Stand}
 use Rattle.cml_scan.specs.Order.{Ascends}
 use Rattle.cml_index.specs.Stands.{HasCome, HasForgone, HasGone, CountsOneMore, CanCome, joined, after_going, places_in, late_in, going_in, room_in}

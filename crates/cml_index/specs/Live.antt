@@ -1,5 +1,5 @@
 -- The objects on which two offers may meet.
-use Rattle.std.specs.Prelude.{ℕ, ◌≡◌, ◌<◌, Bool, true, false, ◌&&◌, ◌||◌, nat_lt, List, ◌++◌, Option, Some, None, length, map}
+use Rattle.std.specs.Prelude.{ℕ, ◌≡◌, ◌<◌, Bool, true, false, ◌&&◌, ◌||◌, nat_lt, List, ◌++◌, Option, length, map}
 use Rattle.std.specs.List.{list_any}
 use Rattle.cml_channel.specs.Pairings.{one_lane}
 use Rattle.cml_channel.specs.declared.pairing.Pairing.{Pairing}
@@ -10,7 +10,7 @@ use Rattle.cml_index.specs.declared.slot.Slot.TheVariants.{Side}
 use Rattle.cml_index.specs.declared.lanes.Lanes.{Lanes}
 use Rattle.cml_index.specs.declared.live.Live.{Live}
 use Rattle.cml_index.specs.Numbers.{PlainNumbers, has}
-use Rattle.cml_index.specs.Slots.{lane_at, has_slot, is_slot}
+use Rattle.cml_index.specs.Slots.{lane_at, is_slot}
 
 -- Whether, of this many offers that can stand first on an object and this many others there, two could meet, threads aside. Where all
 -- sides are alike, two that can stand first are enough.

@@ -1,5 +1,5 @@
 -- What the index keeps: the pending threads with their groups, and what it was told of lights.
-use Rattle.std.specs.Prelude.{ℕ, ◌≡◌, ◌++◌, ◌≤◌, ◌<◌, ◌^◌, Bool, true, false, if◌then◌else◌, List, [], ◌∷◌, Option, Some, None, Result, OnOk, OnErr, map, filter, length, is_some}
+use Rattle.std.specs.Prelude.{ℕ, ◌≡◌, ◌++◌, ◌<◌, ◌^◌, Bool, true, false, if◌then◌else◌, List, [], ◌∷◌, Option, Some, None, Result, OnOk, OnErr, map, filter, length, is_some}
 use Rattle.std.specs.Option.{option_map_or}
 use Rattle.std.specs.Map.{lookup}
 use Rattle.std.specs.Coded.{Coded, code_by, coded×, coded_list, coded_bool}
@@ -25,7 +25,6 @@ use Rattle.cml_scan.specs.declared.object.Light.{Light}
 use Rattle.cml_scan.specs.declared.object.Light.TheVariants.{Nack}
 use Rattle.cml_channel.specs.declared.pairing.Pairing.{Pairing}
 use Rattle.cml_channel.specs.declared.pairing.Pairing.TheVariants.{Channel, Swap}
-use Rattle.cml_channel.specs.declared.pairing.PairedId.{PairedId}
 use Rattle.cml_index.specs.declared.slot.Slot.{Slot}
 use Rattle.cml_index.specs.declared.slot.Slot.TheVariants.{Side, Waiters}
 use Rattle.cml_channel.specs.Pairings.{side_place}

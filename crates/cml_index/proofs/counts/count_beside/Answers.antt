@@ -1,7 +1,5 @@
-use Rattle.std.proofs.Common.{[], length, ap, sym}
-use Rattle.std.specs.Option.{option_map_or}
+use Rattle.std.proofs.Common.{length, ap, sym}
 use Rattle.cml_channel.specs.declared.lane.Whom.TheVariants.{Others}
-use Rattle.cml_channel.specs.Lanes.{PlainLane}
 use Rattle.cml_index.specs.Slots.{lane_at}
 use Rattle.cml_index.proofs.Beside.{none_among}
 use Rattle.cml_index.proofs.counts.count_beside.Goals as goal

@@ -1,7 +1,5 @@
-use Rattle.std.proofs.Common.{◌∙◌, [], ap, sym, subst}
-use Rattle.std.specs.Option.{option_map_or}
+use Rattle.std.proofs.Common.{◌∙◌, sym, subst}
 use Rattle.cml_scan.specs.Order.{Ascends, before}
-use Rattle.cml_channel.specs.Lanes.{PlainLane}
 use Rattle.cml_index.specs.Posts as spec
 use Rattle.cml_index.proofs.Parted.{lane-ascends}
 use Rattle.cml_index.proofs.rows.push_slot.Goals as goal

@@ -1,4 +1,4 @@
-use Rattle.std.proofs.Common.{◌≡◌, ◌+◌, ◌∷◌, length, map, drop, cond, Bool, true, false, ap, sym, ◌∙◌, refl, arith}
+use Rattle.std.proofs.Common.{◌≡◌, ◌+◌, ◌∷◌, length, map, drop, cond, ap, ◌∙◌, arith}
 use Rattle.cml_index.specs.Slots.{slot_in, slot_leaves}
 use Rattle.cml_index.proofs.Walks.{leaves_left_by}
 use Rattle.cml_index.proofs.slot.count_in.Goals as goal

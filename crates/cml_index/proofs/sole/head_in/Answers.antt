@@ -1,11 +1,7 @@
-use Rattle.std.proofs.Common.{◌≡◌, ◌∙◌, true, false, None, [], length, ap, sym, subst, arith}
-use Rattle.std.specs.Option.{option_map_or, option_copied}
-use Rattle.indexmap.specs.IndexMap.{get}
+use Rattle.std.proofs.Common.{◌≡◌, ◌∙◌, true, false, [], length, ap, sym, subst, arith}
 use Rattle.cml_scan.specs.Order.{Ascends, before}
 use Rattle.cml_channel.specs.declared.lane.Whom.TheVariants.{Others}
-use Rattle.cml_channel.specs.Lanes.{PlainLane}
 use Rattle.cml_index.specs.declared.slot.Slot.TheVariants.{Side}
-use Rattle.cml_index.specs.Slot.{same_slot}
 use Rattle.cml_index.specs.Slots.{lane_at}
 use Rattle.cml_index.specs.Heads.{met_among}
 use Rattle.cml_index.specs.Posts.{slot_of}

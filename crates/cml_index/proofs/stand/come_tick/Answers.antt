@@ -1,4 +1,4 @@
-use Rattle.std.proofs.Common.{rules, ◌≡◌, Some, nat_eq, refl, sym, subst}
+use Rattle.std.proofs.Common.{rules, ◌≡◌, Some, nat_eq, subst}
 use Rattle.indexmap.specs.IndexMap.{get}
 use Rattle.cml_index.specs.Stands.{ComesWithin}
 use Rattle.cml_index.proofs.stand.come_tick.Goals as goal

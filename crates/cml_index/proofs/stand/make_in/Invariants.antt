@@ -1,4 +1,4 @@
-use Rattle.std.proofs.Common.{◌≡◌, ◌≤◌, ◌<◌, ◌+◌, ◌-◌, ◌*◌, ◌++◌, ℕ, [], true, false, is_some, slice_get, length, map, take, drop}
+use Rattle.std.proofs.Common.{◌+◌, ◌-◌, ℕ, slice_get, length}
 use Rattle.cml_index.specs.Stands as spec
 use Rattle.cml_index.proofs.stand.make_in.Given as goal
 

@@ -1,4 +1,4 @@
-use Rattle.std.proofs.Common.{sym, ◌∙◌, arith}
+use Rattle.std.proofs.Common.{sym, ◌∙◌}
 use Rattle.std.proofs.lemmas.List.{nil_from_length}
 use Rattle.cml_scan.specs.declared.object.Light.TheVariants as of
 use Rattle.cml_index.specs.declared.slot.Slot.TheVariants.{Waiters}

@@ -1,6 +1,5 @@
-use Rattle.std.proofs.Common.{◌≡◌, ◌≤◌, ◌<◌, ◌+◌, ◌*◌, ◌^◌, ◌++◌, ◌∷◌, [], ℕ, Bool, true, false, cond, length, map, take, drop, ap, sym, subst, refl, ◌∙◌, append_assoc, arith}
-use Rattle.cml_index.specs.declared.slot.Slot.{Slot}
-use Rattle.cml_index.specs.Slots.{slot_in, slot_leaves, has_slot, is_slot, lane_at, late_at, going_at, room_at}
+use Rattle.std.proofs.Common.{◌+◌, map, take}
+use Rattle.cml_index.specs.Slots.{slot_in, has_slot, is_slot}
 use Rattle.cml_index.specs.Stands as stands
 use Rattle.cml_index.specs.Stands.{stand_at}
 use Rattle.cml_index.proofs.Walks.{waits_more, one_more}

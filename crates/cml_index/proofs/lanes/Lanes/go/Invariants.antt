@@ -1,5 +1,4 @@
-use Rattle.std.proofs.Common.{◌≡◌, ◌≤◌, ◌<◌, ◌+◌, ◌-◌, ◌*◌, ◌++◌, ℕ, [], true, false, is_some, slice_get, length, map, take, drop}
-use Rattle.cml_index.specs.declared.slot.Slot.{Slot}
+use Rattle.std.proofs.Common.{◌≤◌, ◌+◌, ◌*◌, ℕ, map, take}
 use Rattle.cml_index.specs.Slots as spec
 use Rattle.cml_index.specs.Slots.{slot_in}
 use Rattle.cml_index.specs.Stands as stands

@@ -1,8 +1,6 @@
-use Rattle.std.proofs.Common.{◌≡◌, ◌≤◌, ◌<◌, ◌+◌, ◌*◌, ◌^◌, ◌++◌, ◌∷◌, [], ℕ, List, Bool, true, false, cond, length, map, take, drop, ap, sym, subst, refl, ◌∙◌, append_assoc, arith}
+use Rattle.std.proofs.Common.{◌≡◌, ◌+◌, ◌++◌, ◌∷◌, [], ℕ, List, cond, length, map, drop, ap, sym, ◌∙◌, append_assoc, arith}
 use Rattle.cml_index.specs.declared.slot.Slot.{Slot}
-use Rattle.cml_index.specs.Slots.{slot_in, slot_leaves, has_slot, is_slot, lane_at, late_at, going_at, room_at}
-use Rattle.cml_index.specs.Stands as stands
-use Rattle.cml_index.specs.Stands.{stand_at}
+use Rattle.cml_index.specs.Slots.{slot_in, slot_leaves, is_slot, late_at}
 use Rattle.cml_index.proofs.Walks.{leaves_left, no_leaves, nil_left, decide}
 use Rattle.cml_index.proofs.lanes.Lanes.note_all.Goals as goal
 

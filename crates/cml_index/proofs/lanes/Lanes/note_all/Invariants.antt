@@ -1,8 +1,7 @@
-use Rattle.std.proofs.Common.{◌≡◌, ◌≤◌, ◌<◌, ◌+◌, ◌-◌, ◌*◌, ◌++◌, ℕ, [], true, false, is_some, slice_get, length, map, take, drop}
+use Rattle.std.proofs.Common.{◌≡◌, ◌≤◌, ◌++◌, length, map, drop}
 use Rattle.cml_index.specs.declared.slot.Slot.{Slot}
 use Rattle.cml_index.specs.Slots as spec
 use Rattle.cml_index.specs.Slots.{slot_in}
-use Rattle.cml_index.specs.Stands as stands
 use Rattle.cml_index.proofs.lanes.Lanes.note_all.Given as goal
 
 -- the leaves so far are to come, and those that are left are the others

@@ -1,4 +1,4 @@
-use Rattle.std.proofs.Common.{◌≡◌, ◌≤◌, ◌<◌, ◌+◌, ◌-◌, ◌*◌, ◌++◌, ℕ, [], true, false, is_some, slice_get, length, map, take, drop}
+use Rattle.std.proofs.Common.{◌≡◌, false, map, drop}
 use Rattle.cml_channel.specs.declared.pairing.PairedId.{PairedId}
 use Rattle.cml_index.specs.Slots.{slot_in}
 use Rattle.cml_index.specs.Live as spec

@@ -1,4 +1,4 @@
-use Rattle.std.proofs.Common.{◌≡◌, ◌+◌, ◌||◌, true, false, map, take, drop, ap, sym, ◌∙◌, refl}
+use Rattle.std.proofs.Common.{◌≡◌, ◌||◌, true, false, map, take, sym, ◌∙◌, refl}
 use Rattle.cml_index.specs.Slots.{slot_in}
 use Rattle.cml_index.specs.Live as spec
 use Rattle.std.proofs.Common.{Bool}

@@ -1,4 +1,4 @@
-use Rattle.std.proofs.Common.{◌≡◌, ◌<◌, ◌≤◌, ◌∙◌, length, get_or, set, ap, sym, subst, refl, arith}
+use Rattle.std.proofs.Common.{◌≡◌, ◌<◌, ◌≤◌, ◌∙◌, length, get_or, ap, sym, refl, arith}
 use Rattle.cml_index.specs.Numbers.{PlainNumbers, has}
 use Rattle.cml_index.proofs.InPlace.{put_number, in_by_place, get_default, moved_is, is_below}
 use Rattle.cml_index.proofs.numbers.Numbers.put.Goals as goal

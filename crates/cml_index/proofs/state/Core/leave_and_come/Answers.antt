@@ -2,7 +2,6 @@ use Rattle.std.proofs.Common.{rules, ◌≡◌, ◌∙◌, not, nat_eq, length, 
 use Rattle.std.specs.List.{All}
 use Rattle.cml_value.specs.Group.{bases, scopes, nacks_of}
 use Rattle.cml_scan.specs.World.{PlainEntry}
-use Rattle.cml_scan.specs.Order.{Every}
 use Rattle.cml_scan.specs.Scan.{is_among}
 use Rattle.cml_scan.specs.Table.{IsThere, without}
 use Rattle.cml_scan.proofs.Ordered.{Every-weaker, Every-filter}
