@@ -1,8 +1,8 @@
-use Rattle.std.proofs.Common.{◌≡◌, ◌∙◌, ap, codes, false, refl}
+use Rattle.std.proofs.Common.{◌≡◌, ◌∙◌, codes, false, refl}
 use Rattle.std.proofs.lemmas.Result.{IfOk-weaker}
-use Rattle.clap.specs.Words.{Shape, shape_of}
+use Rattle.clap.specs.Words.{shape_of}
 use Rattle.clap.specs.declared.builder.command.Command.TheViews.{out-Command}
-use Rattle.cml_words.specs.Words.{flag_rule, with_explain}
+use Rattle.cml_words.specs.Words.{flag_rule}
 use Rattle.cml_words.proofs.Added.{added_globals, added_shape, both_added, with_more}
 use Rattle.cml_words.proofs.explaining.Goals as goal
 
