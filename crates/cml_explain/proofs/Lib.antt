@@ -1,0 +1,5 @@
+pub mod OptionLemmas
+pub mod PieceLemmas
+pub mod StandLemmas
+pub mod LetLemmas
+pub mod NearLemmas
