@@ -25,6 +25,9 @@ find_declared test (d ∷ found) =
     elim (test (plain_declared d)) as (λ b. option_map plain_declared (cond b (Some d) (find (λ d. test (plain_declared d)) found)) ≡ cond b (Some (plain_declared d)) (find test (all_declared found)))
     [ true ↦ refl | false ↦ find_declared test found ]
 
+assoc3 : (a b c : List PlainDeclared) → (a ++ b) ++ c ≡ a ++ (b ++ c)
+assoc3 a b c = simp append_assoc
+
 -- a list: what it declares itself, and what is declared in its forms
 pub lets_listed : (before middle later : List PlainDeclared) (form : PlainSexpr) (forms : List PlainSexpr) (span : Span) →
     form ≡ plain_list (span_of form) (plain_forms forms) → span ≡ span_of form →
@@ -33,7 +36,7 @@ unfolding lets_in
 lets_listed before middle later form forms span is at own inner =
     inner
     ∙ ap (λ m. m ++ lets_among (plain_forms forms)) (own ∙ ap (λ s. before ++ let_declared s forms) at)
-    ∙ append_assoc
+    ∙ assoc3 before (let_declared (span_of form) forms) (lets_among (plain_forms forms))
     ∙ ap (λ fs. before ++ (let_declared (span_of form) fs ++ lets_among (plain_forms forms))) (sym (forms_back forms))
     ∙ ap (λ f. before ++ lets_in f) (sym is)
 

@@ -106,7 +106,10 @@ later _ = []
 abbrev pub given_said : Layout → ℕ → List ℕ
 given_said layout given = decimal (handed layout given) ++ later layout
 
+-- a function that takes these values, and is given others
+abbrev pub arity_words : List ℕ → List ℕ → List ℕ → List ℕ
+arity_words name takes values = codes "`" ++ (name ++ (codes "` takes " ++ (takes ++ (codes " and is given " ++ values))))
+
 -- a function with these parameters that is given another number of values
 abbrev pub arity_message : List ℕ → List PlainSexpr → Layout → ℕ → List ℕ
-arity_message name parameters layout given =
-    codes "`" ++ (name ++ (codes "` takes " ++ (taken parameters ++ (codes " and is given " ++ given_said layout given))))
+arity_message name parameters layout given = arity_words name (taken parameters) (given_said layout given)

@@ -65,7 +65,6 @@ fn push_let<'a>(
 
 // Appends what is declared in a form.
 #[cycle(lets)]
-#[tactic(auto, using(crate::proofs::LetLemmas::lets_listed))]
 fn push_lets<'a>(form: &'a Sexpr, found: &mut Vec<Declared<'a>>) -> Result<(), AllocError>
     ensures { OnOk result
         (all_declared found.new.items ≡ all_declared found.old.items ++ spec.lets_in form.now) }

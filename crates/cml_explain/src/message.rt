@@ -250,6 +250,14 @@ fn given_said(alloc: Global, layout: Layout, given: usize) -> Result<String, All
     format!(in alloc; "{values}{later}")
 }
 
+// What is said of a function that takes these values, and is given others.
+fn arity_words(alloc: Global, name: &str, takes: &str, values: &str) -> Result<String, AllocError>
+    ensures { IfOk result (λ text.
+        string_bytes text ≡ spec.arity_words name.now takes.now values.now) }
+{
+    format!(in alloc; "`{name}` takes {takes} and is given {values}")
+}
+
 /// What is said of a function with these parameters that is given another number of values.
 ///
 /// # Errors
@@ -266,5 +274,6 @@ pub fn arity_message(
 {
     let takes = taken(alloc, parameters)?;
     let values = given_said(alloc, layout, given)?;
-    format!(in alloc; "`{name}` takes {takes} and is given {values}")
+    let text = arity_words(alloc, name, takes.as_str(), values.as_str())?;
+    Ok(text)
 }
