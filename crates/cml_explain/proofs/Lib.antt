@@ -3,3 +3,4 @@ pub mod PieceLemmas
 pub mod StandLemmas
 pub mod LetLemmas
 pub mod NearLemmas
+pub mod TextLemmas
