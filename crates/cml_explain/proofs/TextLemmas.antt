@@ -1,5 +1,5 @@
 -- How a text is gone through for the next function, and what stands where pieces were appended.
-use Rattle.std.proofs.Common.{◌≡◌, ℕ, ◌+◌, ◌<◌, ◌≤◌, Bool, true, false, Option, Some, None, List, [], ◌∷◌, ◌++◌, length, get_or, drop, refl, ap, ◌∙◌, append_assoc, arith}
+use Rattle.std.proofs.Common.{◌≡◌, ℕ, ◌+◌, ◌<◌, ◌≤◌, true, false, Some, None, List, [], ◌∷◌, ◌++◌, length, get_or, drop, refl, ap, ◌∙◌, append_assoc, arith}
 use Rattle.std.specs.Prelude.{Result, Ok, Err, Vec, IfOk}
 use Rattle.std.specs.declared.alloc.Global.{Global}
 use Rattle.std.proofs.lemmas.List.{at_drop_more, at_drop_all}
@@ -38,7 +38,7 @@ three_pieces o' o a b p q d e f = let h : q ≡ (o' ++ a) ++ b = cc in h ∙ app
 
 -- what is shown of the parts that a diagnosis has
 pub shown_of : {E : Type 0} (r : Result (Vec ℕ Global) E) (name part part' : List ℕ) (d d' : PlainDiagnosis) → part ≡ part' → d ≡ d'
-  → IfOk r (λ v. v.items ≡ shown_diagnosis name part d) → IfOk r (λ v. v.items ≡ shown_diagnosis name part' d')
+    → IfOk r (λ v. v.items ≡ shown_diagnosis name part d) → IfOk r (λ v. v.items ≡ shown_diagnosis name part' d')
 shown_of (Ok v) name part part' d d' e f h = h ∙ (ap (λ w. shown_diagnosis name w d) e ∙ ap (λ w. shown_diagnosis name part' w) f)
 shown_of (Err x) name part part' d d' e f h = h
 

@@ -1,5 +1,4 @@
 use Rattle.std.proofs.Common.{arith}
-use Rattle.std.proofs.lemmas.Bool.Decides.{nat_tests}
 use Rattle.std.proofs.lemmas.Grind.{common_steps}
 use Rattle.cml_place.proofs.CutLemmas.{stops_at, begins_at, goes_on_at, none_at}
 use Rattle.cml_place.proofs.cut.bytes_of_first.Goals as goal

@@ -1,6 +1,5 @@
 use Rattle.std.proofs.Common.{arith}
 use Rattle.std.proofs.lemmas.Grind.{common_steps}
-use Rattle.std.proofs.lemmas.List.{append_assoc}
 use Rattle.cml_place.proofs.CutLemmas.{shown_wide, shown_one}
 use Rattle.cml_place.proofs.cut.push_character.Goals as goal
 
