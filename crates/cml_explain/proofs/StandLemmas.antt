@@ -7,7 +7,7 @@ use Rattle.cml_text.specs.declared.sexpr.Span.{Span}
 use Rattle.cml_text.specs.Forms.{PlainSexpr, plain_name, plain_int, plain_text, plain_list, PlainForms, no_forms, forms_and, plain_forms, forms_list, span_of, nesting, nesting_of}
 use Rattle.cml_explain.specs.declared.keyword.Layout.{Layout}
 use Rattle.cml_explain.specs.declared.stand.Role.{Role}
-use Rattle.cml_explain.specs.Pieces.{head_of, layout_of}
+use Rattle.cml_explain.specs.Pieces.{head_among, layout_of}
 use Rattle.cml_explain.specs.Stands.{PlainStand, part_role, stand_in, stand_among}
 use Rattle.cml_explain.proofs.PieceLemmas.{forms_back}
 
@@ -30,13 +30,13 @@ stand_here at role layout given (plain_list span forms) h = rw (same span.start 
 
 pub stand_below : (at : ℕ) (role : Role) (layout : Layout) (given : ℕ) (form : PlainSexpr) (forms : List PlainSexpr) →
     form ≡ plain_list (span_of form) (plain_forms forms) → (span_of form).start ≢ at →
-    stand_in at role layout given form ≡ stand_among at role (layout_of (head_of forms)) (length forms - 1) 0 (plain_forms forms)
+    stand_in at role layout given form ≡ stand_among at role (layout_of (head_among forms)) (length forms - 1) 0 (plain_forms forms)
 unfolding stand_in
 stand_below at role layout given form forms is h =
     ap (stand_in at role layout given) is
     ∙ ap (λ test. cond test (Some (record { role = role; layout = layout; given = given; form = plain_list (span_of form) (plain_forms forms) }))
-    (stand_among at role (layout_of (head_of (forms_list (plain_forms forms)))) (length (forms_list (plain_forms forms)) - 1) 0 (plain_forms forms))) (other (span_of form).start at h)
-    ∙ ap (λ fs. stand_among at role (layout_of (head_of fs)) (length fs - 1) 0 (plain_forms forms)) (forms_back forms)
+    (stand_among at role (layout_of (head_among (forms_list (plain_forms forms)))) (length (forms_list (plain_forms forms)) - 1) 0 (plain_forms forms))) (other (span_of form).start at h)
+    ∙ ap (λ fs. stand_among at role (layout_of (head_among fs)) (length fs - 1) 0 (plain_forms forms)) (forms_back forms)
 
 pub stand_name : (at : ℕ) (role : Role) (layout : Layout) (given : ℕ) (form : PlainSexpr) (name : List ℕ) →
     form ≡ plain_name (span_of form) name → (span_of form).start ≢ at → stand_in at role layout given form ≡ None

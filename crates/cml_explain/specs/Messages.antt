@@ -9,7 +9,7 @@ use Rattle.cml_explain.specs.declared.stand.Role.{Role}
 use Rattle.cml_explain.specs.declared.stand.Role.TheVariants as role
 use Rattle.cml_explain.specs.declared.trouble.Trouble.{Trouble}
 use Rattle.cml_explain.specs.declared.trouble.Trouble.TheVariants.{Wanted, Hollow, Unknown, Reserved, Twice, Outside, Nested, Loose, Bare, Acts, ActsInSet, Commands, Unused, Count, Undeclared, NoFunction, Again, Given, MainTakes, NoMain, ManyFunctions, ManyStatements}
-use Rattle.cml_explain.specs.Keywords.{entry}
+use Rattle.cml_explain.specs.Keywords.{keyword_entry}
 use Rattle.cml_explain.specs.Pieces.{name_spelled}
 
 -- what must stand where a form of this role does
@@ -42,18 +42,18 @@ abbrev pub parts_said : ℕ → List ℕ
 parts_said n = decimal n ++ (codes " part" ++ plural n)
 
 -- a keyword that is given that many parts: the first that is missing, or that there are too many
-abbrev pub counted_by : Keyword → ℕ → Option (List ℕ) → List ℕ
-counted_by keyword given (Some part) = (entry keyword).spelling ++ (codes " takes " ++ ((entry keyword).takes ++ (codes "; " ++ (part ++ codes " is missing"))))
-counted_by keyword given None = (entry keyword).spelling ++ (codes " takes " ++ ((entry keyword).takes ++ (codes ", and is given " ++ parts_said given)))
+abbrev pub count_said_by : Keyword → ℕ → Option (List ℕ) → List ℕ
+count_said_by keyword given (Some part) = (keyword_entry keyword).spelling ++ (codes " takes " ++ ((keyword_entry keyword).takes ++ (codes "; " ++ (part ++ codes " is missing"))))
+count_said_by keyword given None = (keyword_entry keyword).spelling ++ (codes " takes " ++ ((keyword_entry keyword).takes ++ (codes ", and is given " ++ parts_said given)))
 
-abbrev pub counted : Keyword → ℕ → List ℕ
-counted keyword given = counted_by keyword given (slice_get (entry keyword).needs given)
+abbrev pub count_said : Keyword → ℕ → List ℕ
+count_said keyword given = count_said_by keyword given (slice_get (keyword_entry keyword).needs given)
 
 -- what is said of a trouble with this name
 abbrev pub message : Trouble → List ℕ → List ℕ
 message (Wanted role) name = wanted role
 message (Unknown role) name = codes "`" ++ (name ++ no_such role)
-message (Count keyword given) name = counted keyword given
+message (Count keyword given) name = count_said keyword given
 message Hollow name = codes "() is no value; the value that says nothing is unit"
 message Reserved name = codes "`" ++ (name ++ codes "` is a keyword, so it can't be a name")
 message Twice name = codes "the parameter `" ++ (name ++ codes "` stands twice")
@@ -75,28 +75,28 @@ message ManyFunctions name = codes "a script has at most 1024 functions"
 message ManyStatements name = codes "a script has at most 4096 statements"
 
 -- names, with a space before each but the first
-abbrev pub spaced : List PlainSexpr → List ℕ
-spaced [] = []
-spaced (form ∷ forms) = codes " " ++ (name_spelled form ++ spaced forms)
+abbrev pub names_spaced : List PlainSexpr → List ℕ
+names_spaced [] = []
+names_spaced (form ∷ forms) = codes " " ++ (name_spelled form ++ names_spaced forms)
 
 abbrev pub listed : List PlainSexpr → List ℕ
 listed [] = []
-listed (form ∷ forms) = name_spelled form ++ spaced forms
+listed (form ∷ forms) = name_spelled form ++ names_spaced forms
 
 -- how many values a function of these parameters takes
-abbrev pub taken_by : ℕ → List PlainSexpr → List ℕ
-taken_by n forms = decimal n ++ (codes " value" ++ (plural n ++ (codes ", (" ++ (listed forms ++ codes "),"))))
+abbrev pub values_taken_by : ℕ → List PlainSexpr → List ℕ
+values_taken_by n forms = decimal n ++ (codes " value" ++ (plural n ++ (codes ", (" ++ (listed forms ++ codes "),"))))
 
-abbrev pub taken : List PlainSexpr → List ℕ
-taken [] = codes "no values,"
-taken (form ∷ forms) = taken_by (length (form ∷ forms)) (form ∷ forms)
+abbrev pub values_taken : List PlainSexpr → List ℕ
+values_taken [] = codes "no values,"
+values_taken (form ∷ forms) = values_taken_by (length (form ∷ forms)) (form ∷ forms)
 
 -- How many values a function is given where its list has that many parts behind the keyword: the function itself is none, nor the event of a wrap.
 -- What a wrap or a withnack gives it later counts.
-abbrev pub handed : Layout → ℕ → ℕ
-handed layout.Wrap given = given - 2 + 1
-handed layout.WithNack given = given - 1 + 1
-handed _ given = given - 1
+abbrev pub values_given : Layout → ℕ → ℕ
+values_given layout.Wrap given = given - 2 + 1
+values_given layout.WithNack given = given - 1 + 1
+values_given _ given = given - 1
 
 abbrev pub later : Layout → List ℕ
 later layout.Wrap = codes ", the last of them the value of the event"
@@ -104,7 +104,7 @@ later layout.WithNack = codes ", the last of them the nack"
 later _ = []
 
 abbrev pub given_said : Layout → ℕ → List ℕ
-given_said layout given = decimal (handed layout given) ++ later layout
+given_said layout given = decimal (values_given layout given) ++ later layout
 
 -- a function that takes these values, and is given others
 abbrev pub arity_words : List ℕ → List ℕ → List ℕ → List ℕ
@@ -112,4 +112,4 @@ arity_words name takes values = codes "`" ++ (name ++ (codes "` takes " ++ (take
 
 -- a function with these parameters that is given another number of values
 abbrev pub arity_message : List ℕ → List PlainSexpr → Layout → ℕ → List ℕ
-arity_message name parameters layout given = arity_words name (taken parameters) (given_said layout given)
+arity_message name parameters layout given = arity_words name (values_taken parameters) (given_said layout given)

@@ -3,7 +3,7 @@ use Rattle.std.specs.Prelude.{ℕ, Bool, nat_eq, nat_lt, ◌&&◌, ◌||◌, if�
 use Rattle.std.specs.Option.{option_or}
 use Rattle.std.specs.Str.{bytes_eq}
 use Rattle.cml_explain.specs.declared.keyword.Keyword.{Keyword}
-use Rattle.cml_explain.specs.Keywords.{entry, all_keywords}
+use Rattle.cml_explain.specs.Keywords.{keyword_entry, every_keyword}
 
 -- what is left of two names behind the letters with which both begin
 abbrev pub past_common : List ℕ → List ℕ → List ℕ × List ℕ
@@ -34,10 +34,10 @@ is_close name other = nat_lt 2 (length name) && within_two name other
 
 -- the keyword that is nearest to a name
 abbrev pub is_next_keyword : List ℕ → Keyword → Bool
-is_next_keyword name keyword = is_next name (entry keyword).spelling
+is_next_keyword name keyword = is_next name (keyword_entry keyword).spelling
 
 abbrev pub is_close_keyword : List ℕ → Keyword → Bool
-is_close_keyword name keyword = is_close name (entry keyword).spelling
+is_close_keyword name keyword = is_close name (keyword_entry keyword).spelling
 
 abbrev pub keyword_near : List ℕ → Option Keyword
-keyword_near name = option_or (find (is_next_keyword name) all_keywords) (find (is_close_keyword name) all_keywords)
+keyword_near name = option_or (find (is_next_keyword name) every_keyword) (find (is_close_keyword name) every_keyword)

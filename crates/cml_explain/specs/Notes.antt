@@ -7,42 +7,42 @@ use Rattle.cml_place.specs.Diagnoses.{PlainNote}
 use Rattle.cml_explain.specs.declared.keyword.Keyword.{Keyword}
 use Rattle.cml_explain.specs.declared.trouble.Trouble.{Trouble}
 use Rattle.cml_explain.specs.declared.trouble.Trouble.TheVariants.{Unknown, Twice, Count, Undeclared, NoFunction, Again, Given}
-use Rattle.cml_explain.specs.Keywords.{entry}
+use Rattle.cml_explain.specs.Keywords.{keyword_entry}
 use Rattle.cml_explain.specs.Nearest.{keyword_near}
 use Rattle.cml_explain.specs.Pieces.{members, name_spelled, name_said, item_name, item_start, item_parameters, item_named, item_near}
 use Rattle.cml_explain.specs.Stands.{item_over}
 use Rattle.cml_explain.specs.Lets.{PlainDeclared, declared_in, declared_named, nearest_known}
 
 -- what is said of the place of a name
-abbrev pub placed : List ℕ → List ℕ → List ℕ → ℕ → PlainNote
-placed before name behind at = record { words = before ++ (name ++ behind); at = Some at }
+abbrev pub place_note : List ℕ → List ℕ → List ℕ → ℕ → PlainNote
+place_note before name behind at = record { words = before ++ (name ++ behind); at = Some at }
 
 -- a function, and where it is declared
 abbrev pub item_note : PlainSexpr → PlainNote
-item_note item = placed (codes "`") (item_name item) (codes "` is declared") (item_start item)
+item_note item = place_note (codes "`") (item_name item) (codes "` is declared") (item_start item)
 
 -- a function where the first one of its name is meant
 abbrev pub first_note : PlainSexpr → PlainNote
-first_note item = placed (codes "the first `") (item_name item) (codes "` is declared") (item_start item)
+first_note item = place_note (codes "the first `") (item_name item) (codes "` is declared") (item_start item)
 
 -- a function that stands where a variable is wanted, or where a keyword is
 abbrev pub no_variable_note : PlainSexpr → PlainNote
-no_variable_note item = placed (codes "`") (item_name item) (codes "` is a function, declared") (item_start item)
+no_variable_note item = place_note (codes "`") (item_name item) (codes "` is a function, declared") (item_start item)
 
 abbrev pub no_keyword_note : PlainSexpr → PlainNote
-no_keyword_note item = placed (codes "`") (item_name item) (codes "` is a function, for call or spawn, declared") (item_start item)
+no_keyword_note item = place_note (codes "`") (item_name item) (codes "` is a function, for call or spawn, declared") (item_start item)
 
 -- a variable, and where it is declared
 abbrev pub variable_note : PlainDeclared → PlainNote
-variable_note d = placed (codes "`") d.name (codes "` is declared") d.at
+variable_note d = place_note (codes "`") d.name (codes "` is declared") d.at
 
 -- a variable that is not known yet
 abbrev pub unknown_yet_note : PlainDeclared → PlainNote
-unknown_yet_note d = placed (codes "`") d.name (codes "` is known only behind its let,") d.at
+unknown_yet_note d = place_note (codes "`") d.name (codes "` is known only behind its let,") d.at
 
 -- a keyword
 abbrev pub keyword_note : Keyword → PlainNote
-keyword_note keyword = record { words = codes "the nearest is `" ++ ((entry keyword).spelling ++ codes "`"); at = None }
+keyword_note keyword = record { words = codes "the nearest is `" ++ ((keyword_entry keyword).spelling ++ codes "`"); at = None }
 
 -- a form of which there is one too many, or that stands twice
 abbrev pub surplus_note : PlainSexpr → PlainNote
@@ -87,7 +87,7 @@ undeclared_among at name items found = undeclared_by (declared_named name found)
 -- what is added where this trouble is met at this byte, of a name, with a form of a script
 abbrev pub note_by : Trouble → ℕ → List ℕ → PlainSexpr → List PlainSexpr → Option PlainNote
 note_by (Unknown role) at name form items = strange_note (item_named name items) (keyword_near name)
-note_by (Count keyword given) at name form items = surplus_by (entry keyword).most (members form)
+note_by (Count keyword given) at name form items = surplus_by (keyword_entry keyword).most (members form)
 note_by Twice at name form items = twice_by name (item_over at items)
 note_by Undeclared at name form items = undeclared_among at name items (names_over (item_over at items))
 note_by NoFunction at name form items = option_map item_note (item_near name items)

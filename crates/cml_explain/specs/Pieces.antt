@@ -8,7 +8,7 @@ use Rattle.cml_explain.specs.declared.keyword.Layout.{Layout}
 use Rattle.cml_explain.specs.declared.keyword.Layout.TheVariants.{Values}
 use Rattle.cml_explain.specs.declared.piece.Head.{Head}
 use Rattle.cml_explain.specs.declared.piece.Head.TheVariants.{Empty, Nameless, Strange, Known}
-use Rattle.cml_explain.specs.Keywords.{entry, keyword_of}
+use Rattle.cml_explain.specs.Keywords.{keyword_entry, keyword_spelled}
 use Rattle.cml_explain.specs.Nearest.{is_next, is_close}
 
 -- the forms of a list; none where it is no list
@@ -26,17 +26,17 @@ abbrev pub head_named : Option Keyword → Head
 head_named (Some keyword) = Known keyword
 head_named None = Strange
 
-abbrev pub head_from : PlainSexpr → Head
-head_from (plain_name span name) = head_named (keyword_of name)
-head_from _ = Nameless
+abbrev pub head_by_form : PlainSexpr → Head
+head_by_form (plain_name span name) = head_named (keyword_spelled name)
+head_by_form _ = Nameless
 
-abbrev pub head_of : List PlainSexpr → Head
-head_of [] = Empty
-head_of (first ∷ behind) = head_from first
+abbrev pub head_among : List PlainSexpr → Head
+head_among [] = Empty
+head_among (first ∷ behind) = head_by_form first
 
 -- what stands where among them
 abbrev pub layout_of : Head → Layout
-layout_of (Known keyword) = (entry keyword).layout
+layout_of (Known keyword) = (keyword_entry keyword).layout
 layout_of _ = Values
 
 -- the name at the head of these forms

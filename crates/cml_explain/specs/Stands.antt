@@ -5,7 +5,7 @@ use Rattle.cml_explain.specs.declared.keyword.Layout.{Layout}
 use Rattle.cml_explain.specs.declared.keyword.Layout.TheVariants as layout
 use Rattle.cml_explain.specs.declared.stand.Role.{Role}
 use Rattle.cml_explain.specs.declared.stand.Role.TheVariants.{Item, FunctionName, Parameters, Parameter, Statement, Block, Variable, Source, SetValue, Value, Called, Keyword}
-use Rattle.cml_explain.specs.Pieces.{head_of, layout_of}
+use Rattle.cml_explain.specs.Pieces.{head_among, layout_of}
 
 -- A form; what it is; and of the list whose part it is, what stands where there, and how many parts there are behind the first.
 pub record PlainStand : Type 0 where
@@ -41,7 +41,7 @@ unfoldable mutual
   pub stand_in : ℕ → Role → Layout → ℕ → PlainSexpr → Option PlainStand
   stand_in at role layout given (plain_list span forms) =
       if nat_eq span.start at then Some (record { role = role; layout = layout; given = given; form = plain_list span forms })
-      else stand_among at role (layout_of (head_of (forms_list forms))) (length (forms_list forms) - 1) 0 forms
+      else stand_among at role (layout_of (head_among (forms_list forms))) (length (forms_list forms) - 1) 0 forms
   stand_in at role layout given form =
       if nat_eq (span_of form).start at then Some (record { role = role; layout = layout; given = given; form = form }) else None
 

@@ -12,47 +12,47 @@ use Rattle.cml_explain.specs.declared.stand.Role.{Role}
 use Rattle.cml_explain.specs.declared.stand.Role.TheVariants as role
 use Rattle.cml_explain.specs.declared.trouble.Trouble.{Trouble}
 use Rattle.cml_explain.specs.declared.trouble.Trouble.TheVariants.{Wanted, Hollow, Unknown, Reserved, Twice, Outside, Nested, Loose, Bare, Acts, ActsInSet, Commands, Unused, Count, Undeclared, NoFunction, Again, Given, MainTakes, NoMain, ManyFunctions, ManyStatements}
-use Rattle.cml_explain.specs.Keywords.{entry}
-use Rattle.cml_explain.specs.Pieces.{head_of, head_from}
+use Rattle.cml_explain.specs.Keywords.{keyword_entry}
+use Rattle.cml_explain.specs.Pieces.{head_among, head_by_form}
 use Rattle.cml_explain.specs.Stands.{PlainStand}
 
 -- A list that begins with a keyword of this sort, and has that many parts behind it: as an item,
-abbrev pub item_by : Sort → Keyword → ℕ → Trouble
-item_by sort.Item keyword given = Count keyword given
-item_by sort keyword given = Outside
+abbrev pub item_trouble : Sort → Keyword → ℕ → Trouble
+item_trouble sort.Item keyword given = Count keyword given
+item_trouble sort keyword given = Outside
 
 -- as a statement,
-abbrev pub statement_by : Sort → Keyword → ℕ → Trouble
-statement_by sort.Item keyword given = Nested
-statement_by sort.Block keyword given = Loose
-statement_by sort.Constant keyword given = Bare
-statement_by sort.Value keyword given = Unused
-statement_by sort keyword given = Count keyword given
+abbrev pub statement_trouble : Sort → Keyword → ℕ → Trouble
+statement_trouble sort.Item keyword given = Nested
+statement_trouble sort.Block keyword given = Loose
+statement_trouble sort.Constant keyword given = Bare
+statement_trouble sort.Value keyword given = Unused
+statement_trouble sort keyword given = Count keyword given
 
 -- as what `let` gives its variable,
-abbrev pub source_by : Sort → Keyword → ℕ → Trouble
-source_by sort.Item keyword given = Nested
-source_by sort.Block keyword given = Loose
-source_by sort.Constant keyword given = Bare
-source_by sort.Statement keyword given = Commands
-source_by sort keyword given = Count keyword given
+abbrev pub source_trouble : Sort → Keyword → ℕ → Trouble
+source_trouble sort.Item keyword given = Nested
+source_trouble sort.Block keyword given = Loose
+source_trouble sort.Constant keyword given = Bare
+source_trouble sort.Statement keyword given = Commands
+source_trouble sort keyword given = Count keyword given
 
 -- as what `set` gives its variable,
-abbrev pub set_by : Sort → Keyword → ℕ → Trouble
-set_by sort.Effect keyword given = ActsInSet
-set_by sort keyword given = source_by sort keyword given
+abbrev pub set_trouble : Sort → Keyword → ℕ → Trouble
+set_trouble sort.Effect keyword given = ActsInSet
+set_trouble sort keyword given = source_trouble sort keyword given
 
 -- as any other value
-abbrev pub value_by : Sort → Keyword → ℕ → Trouble
-value_by sort.Effect keyword given = Acts
-value_by sort keyword given = source_by sort keyword given
+abbrev pub value_trouble : Sort → Keyword → ℕ → Trouble
+value_trouble sort.Effect keyword given = Acts
+value_trouble sort keyword given = source_trouble sort keyword given
 
 abbrev pub known_trouble : Role → Sort → Keyword → ℕ → Trouble
-known_trouble role.Item sort keyword given = item_by sort keyword given
-known_trouble role.Statement sort keyword given = statement_by sort keyword given
-known_trouble role.Source sort keyword given = source_by sort keyword given
-known_trouble role.SetValue sort keyword given = set_by sort keyword given
-known_trouble role.Value sort keyword given = value_by sort keyword given
+known_trouble role.Item sort keyword given = item_trouble sort keyword given
+known_trouble role.Statement sort keyword given = statement_trouble sort keyword given
+known_trouble role.Source sort keyword given = source_trouble sort keyword given
+known_trouble role.SetValue sort keyword given = set_trouble sort keyword given
+known_trouble role.Value sort keyword given = value_trouble sort keyword given
 known_trouble role sort keyword given = Wanted role
 
 -- a list that begins with a name that is no keyword
@@ -72,7 +72,7 @@ empty_trouble role.Value = Hollow
 empty_trouble role = Wanted role
 
 abbrev pub list_trouble : Role → Head → ℕ → Trouble
-list_trouble role (Known keyword) given = known_trouble role (entry keyword).sort keyword given
+list_trouble role (Known keyword) given = known_trouble role (keyword_entry keyword).sort keyword given
 list_trouble role Strange given = strange_trouble role
 list_trouble role Nameless given = Wanted role
 list_trouble role Empty given = empty_trouble role
@@ -88,8 +88,8 @@ name_trouble role.Parameter Strange = Twice
 name_trouble role head = Reserved
 
 abbrev pub form_trouble : Role → PlainSexpr → Trouble
-form_trouble role (plain_name span name) = name_trouble role (head_from (plain_name span name))
-form_trouble role (plain_list span forms) = list_trouble role (head_of (forms_list forms)) (length (forms_list forms) - 1)
+form_trouble role (plain_name span name) = name_trouble role (head_by_form (plain_name span name))
+form_trouble role (plain_list span forms) = list_trouble role (head_among (forms_list forms)) (length (forms_list forms) - 1)
 form_trouble role form = Wanted role
 
 abbrev pub limit_trouble : Role → Trouble

@@ -2,7 +2,7 @@
 
 ghost use Rattle.std.specs.Prelude.{◌≡◌, find, map};
 ghost use Rattle.std.specs.Str.{bytes_eq};
-ghost use Rattle.cml_explain.specs.Keywords.{entry, all_keywords, keyword_of};
+ghost use Rattle.cml_explain.specs.Keywords.{keyword_entry, every_keyword, keyword_spelled};
 
 /// What a keyword begins.
 #[derive(Clone, Copy, PartialEq, Eq)]
@@ -171,14 +171,14 @@ const ALL: [Keyword; 57] = [
 
 /// The keywords, each once.
 pub fn keywords() -> &'static [Keyword]
-    ensures { result.now ≡ all_keywords }
+    ensures { result.now ≡ every_keyword }
 {
     &ALL
 }
 
 /// The keyword of this spelling, if there is one.
 pub fn keyword_of(name: &str) -> Option<Keyword>
-    ensures { result ≡ keyword_of name.now }
+    ensures { result ≡ keyword_spelled name.now }
 {
     ALL.iter()
         .copied()
@@ -188,7 +188,7 @@ pub fn keyword_of(name: &str) -> Option<Keyword>
 impl Keyword {
     /// How the keyword is spelled.
     pub fn spelling(self) -> &'static str
-        ensures { result.now ≡ (entry self).spelling }
+        ensures { result.now ≡ (keyword_entry self).spelling }
     {
         match self {
             Keyword::Fn => "fn",
@@ -253,7 +253,7 @@ impl Keyword {
 
     /// What the keyword begins.
     pub fn sort(self) -> Sort
-        ensures { result ≡ (entry self).sort }
+        ensures { result ≡ (keyword_entry self).sort }
     {
         match self {
             Keyword::Fn => Sort::Item,
@@ -312,7 +312,7 @@ impl Keyword {
 
     /// What stands where among its parts.
     pub fn layout(self) -> Layout
-        ensures { result ≡ (entry self).layout }
+        ensures { result ≡ (keyword_entry self).layout }
     {
         match self {
             Keyword::Fn => Layout::Item,
@@ -375,7 +375,7 @@ impl Keyword {
 
     /// What it takes, in words.
     pub fn takes(self) -> &'static str
-        ensures { result.now ≡ (entry self).takes }
+        ensures { result.now ≡ (keyword_entry self).takes }
     {
         match self {
             Keyword::Fn => "a name, parameters in parentheses, and statements",
@@ -428,7 +428,7 @@ impl Keyword {
 
     /// The parts that it needs, each as it is called where it is missing.
     pub fn needs(self) -> &'static [&'static str]
-        ensures { map (λ text. text.now) result.now ≡ (entry self).needs }
+        ensures { map (λ text. text.now) result.now ≡ (keyword_entry self).needs }
     {
         match self {
             Keyword::Fn => &["the name", "the list of parameters"],
@@ -491,7 +491,7 @@ impl Keyword {
 
     /// The most parts that it takes, unless it takes any number.
     pub fn most(self) -> Option<usize>
-        ensures { result ≡ (entry self).most }
+        ensures { result ≡ (keyword_entry self).most }
     {
         match self {
             Keyword::Fn

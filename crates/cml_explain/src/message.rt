@@ -70,7 +70,7 @@ fn parts_said(alloc: Global, n: usize) -> Result<String, AllocError>
 
 // A keyword that is given that many parts.
 fn counted(alloc: Global, keyword: Keyword, given: usize) -> Result<String, AllocError>
-    ensures { IfOk result (λ text. string_bytes text ≡ spec.counted keyword given) }
+    ensures { IfOk result (λ text. string_bytes text ≡ spec.count_said keyword given) }
 {
     let spelling = keyword.spelling();
     let takes = keyword.takes();
@@ -165,7 +165,7 @@ pub fn message_of(alloc: Global, trouble: Trouble, name: &str) -> Result<String,
 
 // Appends names, with a space before each.
 fn push_spaced(text: &mut String, forms: &[Sexpr]) -> Result<(), AllocError>
-    ensures { OnOk result (string_bytes text.new ≡ string_bytes text.old ++ spec.spaced forms.now) }
+    ensures { OnOk result (string_bytes text.new ≡ string_bytes text.old ++ spec.names_spaced forms.now) }
 {
     for form in forms {
         text.push_str(" ")?;
@@ -190,7 +190,7 @@ fn listed(alloc: Global, forms: &[Sexpr]) -> Result<String, AllocError>
 
 // How many values a function of these parameters takes.
 fn taken(alloc: Global, parameters: &[Sexpr]) -> Result<String, AllocError>
-    ensures { IfOk result (λ text. string_bytes text ≡ spec.taken parameters.now) }
+    ensures { IfOk result (λ text. string_bytes text ≡ spec.values_taken parameters.now) }
 {
     match parameters {
         [] => String::from_str(alloc, "no values,"),
@@ -205,7 +205,7 @@ fn taken(alloc: Global, parameters: &[Sexpr]) -> Result<String, AllocError>
 
 // How many values a function is given where its list has that many parts behind the keyword.
 fn handed(layout: Layout, given: usize) -> usize
-    ensures { result ≡ spec.handed layout given }
+    ensures { result ≡ spec.values_given layout given }
 {
     match layout {
         Layout::Wrap => given.saturating_sub(2) + 1,

@@ -3,7 +3,7 @@
 ghost use Rattle.std.specs.Prelude.{◌≡◌, drop, find};
 ghost use Rattle.std.specs.Str.{bytes_eq};
 ghost use Rattle.cml_explain.specs.Nearest as spec;
-ghost use Rattle.cml_explain.specs.Keywords.{all_keywords};
+ghost use Rattle.cml_explain.specs.Keywords.{every_keyword};
 
 use crate::keyword::{Keyword, keywords};
 
@@ -76,7 +76,7 @@ pub fn is_close(name: &str, other: &str) -> bool
 
 // The first keyword that differs from a name by one letter.
 fn next_keyword(name: &str) -> Option<Keyword>
-    ensures { result ≡ find (spec.is_next_keyword name.now) all_keywords }
+    ensures { result ≡ find (spec.is_next_keyword name.now) every_keyword }
 {
     keywords()
         .iter()
@@ -86,7 +86,7 @@ fn next_keyword(name: &str) -> Option<Keyword>
 
 // The first keyword that differs from a name by two letters at most.
 fn close_keyword(name: &str) -> Option<Keyword>
-    ensures { result ≡ find (spec.is_close_keyword name.now) all_keywords }
+    ensures { result ≡ find (spec.is_close_keyword name.now) every_keyword }
 {
     keywords()
         .iter()

@@ -31,7 +31,7 @@ fn placed(
     at: usize,
 ) -> Result<Note, AllocError>
     ensures { IfOk result (λ note.
-        plain_note note ≡ spec.placed before.now name.now behind.now at) }
+        plain_note note ≡ spec.place_note before.now name.now behind.now at) }
 {
     let words = format!(in alloc; "{before}{name}{behind}")?.into_bytes();
     Ok(Note {

@@ -47,7 +47,7 @@ pub fn name_spelled(form: &Sexpr) -> &str
 
 /// What a list begins with, by its first form.
 pub fn head_from(form: &Sexpr) -> Head
-    ensures { result ≡ spec.head_from form.now }
+    ensures { result ≡ spec.head_by_form form.now }
 {
     match form.shape() {
         Shape::Name(name) => match keyword_of(name.as_str()) {
@@ -62,7 +62,7 @@ pub fn head_from(form: &Sexpr) -> Head
 
 /// What these forms begin with.
 pub fn head_of(forms: &[Sexpr]) -> Head
-    ensures { result ≡ spec.head_of forms.now }
+    ensures { result ≡ spec.head_among forms.now }
 {
     match forms {
         [] => Head::Empty,

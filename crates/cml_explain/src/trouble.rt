@@ -56,7 +56,7 @@ pub enum Trouble {
 
 // What is wrong with an item that begins with a keyword of this sort, and has that many parts behind it.
 fn item_by(sort: Sort, keyword: Keyword, given: usize) -> Trouble
-    ensures { result ≡ spec.item_by sort keyword given }
+    ensures { result ≡ spec.item_trouble sort keyword given }
 {
     match sort {
         Sort::Item => Trouble::Count(keyword, given),
@@ -68,7 +68,7 @@ fn item_by(sort: Sort, keyword: Keyword, given: usize) -> Trouble
 
 // The same of a statement.
 fn statement_by(sort: Sort, keyword: Keyword, given: usize) -> Trouble
-    ensures { result ≡ spec.statement_by sort keyword given }
+    ensures { result ≡ spec.statement_trouble sort keyword given }
 {
     match sort {
         Sort::Item => Trouble::Nested,
@@ -81,7 +81,7 @@ fn statement_by(sort: Sort, keyword: Keyword, given: usize) -> Trouble
 
 // The same of what `let` gives its variable.
 fn source_by(sort: Sort, keyword: Keyword, given: usize) -> Trouble
-    ensures { result ≡ spec.source_by sort keyword given }
+    ensures { result ≡ spec.source_trouble sort keyword given }
 {
     match sort {
         Sort::Item => Trouble::Nested,
@@ -94,7 +94,7 @@ fn source_by(sort: Sort, keyword: Keyword, given: usize) -> Trouble
 
 // The same of what `set` gives its variable.
 fn set_by(sort: Sort, keyword: Keyword, given: usize) -> Trouble
-    ensures { result ≡ spec.set_by sort keyword given }
+    ensures { result ≡ spec.set_trouble sort keyword given }
 {
     match sort {
         Sort::Effect => Trouble::ActsInSet,
@@ -106,7 +106,7 @@ fn set_by(sort: Sort, keyword: Keyword, given: usize) -> Trouble
 
 // The same of any other value.
 fn value_by(sort: Sort, keyword: Keyword, given: usize) -> Trouble
-    ensures { result ≡ spec.value_by sort keyword given }
+    ensures { result ≡ spec.value_trouble sort keyword given }
 {
     match sort {
         Sort::Effect => Trouble::Acts,
