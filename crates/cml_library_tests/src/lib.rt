@@ -13,6 +13,8 @@ mod drawing;
 #[cfg(test)]
 mod explains;
 #[cfg(test)]
+mod explains_scripts;
+#[cfg(test)]
 mod forcings;
 #[cfg(test)]
 mod groups;
