@@ -3,10 +3,15 @@ use Rattle.std.proofs.Common.{◌≡◌, ◌∙◌, ◌⊎◌, ℕ, List, [], �
 use Rattle.std.specs.String.{string_bytes}
 use Rattle.cml_check.specs.Sizes.{size_of}
 use Rattle.cml_check.specs.Syntax.{PlainItem}
+use Rattle.cml_hub.specs.Choices.{seeded}
+use Rattle.cml_host.specs.Chosen.{by_first, by_words}
 use Rattle.cml_hub.specs.Courses.{run_of}
 use Rattle.cml_hub.specs.Kept.{Kept, IsAtStart, SwapsAreExchanges, TellsSwaps}
 use Rattle.cml_hub.proofs.Going.{each_from}
-use Rattle.cml_hub.specs.Runs.{Run, ending, over}
+use Rattle.cml_hub.specs.Playing.{Rules, Played, played, playing, called_back}
+use Rattle.cml_hub.proofs.Played.{begins_run}
+use Rattle.cml_hub.specs.Runs.{Run, ending, over, stands}
+use Rattle.cml_step.specs.Calls.{text_of}
 use Rattle.cml_monitor.specs.Reports.{PlainReport}
 use Rattle.cml_schedule.specs.declared.item.Item.{Item}
 use Rattle.cml_schedule.specs.Written.{schedule_text}
@@ -21,7 +26,7 @@ use Rattle.cml_host.specs.declared.workers.Cause.{Cause}
 use Rattle.cml_host.specs.declared.workers.Cause.TheVariants as cause
 use Rattle.cml_host.specs.declared.workers.Stopped.{Stopped}
 use Rattle.cml_host.specs.Replaying.{IsHubOf, IsNotRun, ScheduleRan}
-use Rattle.cml_host.specs.Running.{HasEnded, record_name, IsRecorded, RecordBroke, EndRan, ReportsAreLive, ProgramRan, RunRan, BegunRan, AreToldBy, IsStopped, StopRan, EndedRan, IsMade, RecordRan}
+use Rattle.cml_host.specs.Running.{HasEnded, record_name, IsRecorded, RecordBroke, EndRan, ReportsAreLive, IsRunBy, IsChosen, Plays, PlaysChosen, ProgramRan, RunRan, BegunRan, AreToldBy, IsStopped, StopRan, EndedRan, IsMade, RecordRan}
 use Rattle.cml_host.specs.Said.{RefusalRan}
 use Rattle.cml_host.specs.Scripts.{IsOpened, IsNotOpened, NoScriptRan}
 use Rattle.cml_host.specs.Stores.{Content, Shelf, IsReplacedBy, IsSaved, IsUnchanged}
@@ -145,12 +150,30 @@ exchanged p budget watch begun h begins more =
     subst (λ (ts : List Item). SwapsAreExchanges p [] ts) (sym same)
     (each_from p begun.course.program (λ r item. TellsSwaps r.world item) [] begun.course.items more.more begins.program begins.items more.exchanges)
 
+-- the run from its beginning on is the one that the chooser makes
+played_from : {C : Type 0} (rules : Rules C) (chooser : C) (p : List (PlainItem ℕ)) (budget : ℕ) (watch : Option ℕ) (begun h : Kept) →
+    IsAtStart p budget watch begun → stands (text_of begun.course.program) begun.course.items ≡ Some (run_of begun.course) → Plays rules chooser begun h →
+    IsRunBy p budget rules chooser h.course.items (run_of h.course)
+played_from rules chooser p budget watch begun h begins leads plays =
+    let at = begins_run begun chooser p budget watch begins leads in
+    let by = subst (λ (q : List (PlainItem ℕ)). playing h plays.last ≡ played (text_of q) begun.budget rules begun.budget (called_back begun chooser)) begins.program plays.plays in
+    let over = subst (λ (n : ℕ). playing h plays.last ≡ played (text_of p) n rules n (called_back begun chooser)) begins.budget_is by in
+    let out = subst (λ (g : Played _). playing h plays.last ≡ played (text_of p) budget rules budget g) at over in
+    (ap (λ (g : Played _). g.items) out, ap (λ (g : Played _). g.run) out)
+
+chosen_from : (p : List (PlainItem ℕ)) (budget : ℕ) (seed watch : Option ℕ) (begun h : Kept) → IsAtStart p budget watch begun →
+    stands (text_of begun.course.program) begun.course.items ≡ Some (run_of begun.course) → PlaysChosen seed begun h →
+    IsChosen p budget seed h.course.items (run_of h.course)
+chosen_from p budget None watch begun h begins leads plays = (plays.0, played_from by_first plays.0 p budget watch begun h begins leads plays.1)
+chosen_from p budget (Some seed) watch begun h begins leads plays = played_from by_words (seeded seed) p budget watch begun h begins leads plays
+
 pub ended_ran : (p : List (PlainItem ℕ)) (options : RunOptions) (begun h : Kept) (output errors : Counted) (store : Shelf) (status : ℕ) →
-    IsAtStart p options.steps options.watch begun → IsWorked begun h → IsRunOf h.course.program h.watch h.course.items h.reports (run_of h.course) →
+    IsAtStart p options.steps options.watch begun → stands (text_of begun.course.program) begun.course.items ≡ Some (run_of begun.course) →
+    (options.workers ≡ 1 → PlaysChosen options.seed begun h) → IsWorked begun h → IsRunOf h.course.program h.watch h.course.items h.reports (run_of h.course) →
     (EndRan (record_name options) (schedule_text h.budget (size_of h.course.program) h.course.items) h.reports h.budget (run_of h.course) output errors store status
     ⊎ (IsCutOff h.reports h.course.output output errors status × IsUnchanged store.before store.after)) →
     ProgramRan p options output errors store status
-ended_ran p options begun h output errors store status begins worked run (inl ended) =
+ended_ran p options begun h output errors store status begins leads plays worked run (inl ended) =
     let r = run_of h.course in
     let more = worked.goes_on in
     let program : h.course.program ≡ p = more.program ∙ begins.program in
@@ -170,9 +193,10 @@ ended_ran p options begun h output errors store status begins worked run (inl en
           subst (λ (w : Option ℕ). AllReported w h.course.items h.reports) watch worked.none_due,
         ),
         all,
+        λ one. chosen_from p options.steps options.seed options.watch begun h begins leads (plays one),
       ),
     )
-ended_ran p options begun h output errors store status begins worked run (inr cut) =
+ended_ran p options begun h output errors store status begins leads plays worked run (inr cut) =
     let more = worked.goes_on in (
       h.course.items,
       h.reports,
@@ -215,7 +239,8 @@ stopped_ran p options begun stopped a b d output before broke calls failed store
         ⊎ (ReportsAreLive options × IsForeign stopped.hub.reports output (counted_stream a d calls failed) status) →
         (HasEnded options.steps options.watch stopped.hub.course.items stopped.hub.reports (run_of stopped.hub.course)
         × EndRan (record_name options) (schedule_text options.steps (size_of p) stopped.hub.course.items) stopped.hub.reports options.steps
-        (run_of stopped.hub.course) output (counted_stream a d calls failed) store status)
+        (run_of stopped.hub.course) output (counted_stream a d calls failed) store status
+        × (options.workers ≡ 1 → IsChosen p options.steps options.seed stopped.hub.course.items (run_of stopped.hub.course)))
         ⊎ (IsCutOff stopped.hub.reports stopped.hub.course.output output (counted_stream a d calls failed) status × IsUnchanged store.before store.after)
         ⊎ (ReportsAreLive options × IsForeign stopped.hub.reports output (counted_stream a d calls failed) status × IsUnchanged store.before store.after)
     go (inl cut) = inr (inl (cut, same))
@@ -266,6 +291,7 @@ program_behind old mid new p options output errors status same (items, reports, 
   inl (
     ended.0,
     end_behind old mid new (record_name options) (schedule_text options.steps (size_of p) items) reports options.steps r output errors status same ended.1,
+    ended.2,
   ),
 )
 program_behind old mid new p options output errors status same (items, reports, r, run, exchanges, inr (inl cut)) =

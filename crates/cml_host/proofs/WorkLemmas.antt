@@ -3,6 +3,7 @@ use Rattle.std.proofs.Common.{◌≡◌, ◌∙◌, ap, ℕ, List, [], Option, S
 use Rattle.std.proofs.KnownBytes.{Appends-nil}
 use Rattle.cml_check.specs.Syntax.{PlainItem}
 use Rattle.cml_hub.specs.Kept.{Kept, Continues, IsOver}
+use Rattle.cml_hub.specs.Playing.{Rules, PlaysOut}
 use Rattle.cml_hub.specs.Runs.{Run}
 use Rattle.cml_hub.specs.declared.fault.End.{End}
 use Rattle.cml_monitor.specs.Reports.{PlainReport}
@@ -14,7 +15,7 @@ use Rattle.cml_work.specs.Seen.{FaultWrites, failed_after_all}
 use Rattle.cml_work.specs.Works.{IsWorkerCount, GoesOnFrom, IsWorked, Works, WatchFails}
 use Rattle.cml_work.specs.declared.fault.WorkFault.{WorkFault}
 use Rattle.cml_work.specs.declared.fault.WorkFault.TheVariants as fault
-use Rattle.cml_host.specs.Running.{ReportsAreLive, HasRun, AreToldBy, IsStopped, IsCounted, failed_by, hub_of, cause_of}
+use Rattle.cml_host.specs.Running.{ReportsAreLive, HasRun, Plays, AreToldBy, IsStopped, IsCounted, failed_by, hub_of, cause_of}
 use Rattle.cml_host.specs.Told.{IsRunOf, reports_text}
 use Rattle.cml_host.specs.declared.workers.Cause.{Cause}
 use Rattle.cml_host.specs.declared.workers.Cause.TheVariants as cause
@@ -36,6 +37,12 @@ pub has_run : {E : Type 0} (old new : Kept) (ended : Result End E) (a b : Option
     HasRun old new (counted_stream a b calls failed)
 has_run old new (Ok end) a b calls failed more is_over sent x is = (worked old new end more is_over, sent.0, sent.1)
 has_run old new (Err e) a b calls failed more is_over sent x is = cc
+
+-- as the chooser makes the run
+pub has_played : {C E : Type 0} (rules : Rules C) (chooser last : C) (old new : Kept) (ended : Result End E) → OnOk ended (PlaysOut rules old chooser new last) →
+    (x : End) → ended ≡ Ok x → Plays rules chooser old new
+has_played rules chooser last old new (Ok end) plays x is = record { last = last; plays = plays }
+has_played rules chooser last old new (Err e) plays x is = cc
 
 -- they were told, and memory had run out
 pub all_told : (options : RunOptions) (old new : Kept) (a b : Option (List ℕ)) (calls failed : ℕ) → Continues old new →

@@ -6,6 +6,7 @@ pub mod Formatted
 pub mod Traced
 pub mod Scripts
 pub mod Told
+pub mod Chosen
 pub mod Running
 pub mod Replaying
 pub mod Statuses

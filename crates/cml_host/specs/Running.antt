@@ -3,12 +3,17 @@ use Rattle.std.specs.Prelude.{◌≡◌, ◌≢◌, ◌⊎◌, ℕ, ◌<◌, Lis
 use Rattle.std.specs.String.{string_bytes}
 use Rattle.cml_check.specs.Sizes.{size_of}
 use Rattle.cml_check.specs.Syntax.{PlainItem}
+use Rattle.cml_hub.specs.Choices.{seeded}
+use Rattle.cml_host.specs.Chosen.{by_first, by_words}
 use Rattle.cml_hub.specs.Courses.{run_of}
 use Rattle.cml_hub.specs.Kept.{Kept, SwapsAreExchanges}
+use Rattle.cml_hub.specs.Playing.{Rules, run_by, PlaysOut}
 use Rattle.cml_hub.specs.Runs.{Run, ending, over}
+use Rattle.cml_hub.specs.declared.choose.First.{First}
 use Rattle.cml_monitor.specs.Reports.{PlainReport}
 use Rattle.cml_schedule.specs.declared.item.Item.{Item}
 use Rattle.cml_schedule.specs.Written.{schedule_text}
+use Rattle.cml_step.specs.Calls.{text_of}
 use Rattle.cml_stream.specs.Streams.{Counted, Stream, IsIdle, Says, Takes, TakesStart}
 use Rattle.cml_text.specs.Lines.{line}
 use Rattle.cml_words.specs.declared.RunOptions.{RunOptions}
@@ -58,14 +63,25 @@ EndRan name schedule reports budget r output errors store status =
 abbrev pub ReportsAreLive : RunOptions → Type 0
 ReportsAreLive options = (1 < options.workers) × (options.watch ≢ None)
 
--- The program was run, and each row of two swaps that was taken is an exchange. The run came to its end, and that was told; or it was cut
--- off on the way, and nothing was saved. Where reports are written while the program runs, there is one more case, in which nothing was
--- saved either: the reports that were written are not all of its own, and the errors tell that.
+-- the run of the program by this chooser has these items, and leads there
+abbrev pub IsRunBy : {C : Type 0} → List (PlainItem ℕ) → ℕ → Rules C → C → List Item → Run → Type 0
+IsRunBy p budget rules chooser items r =
+    let g = run_by (text_of p) budget rules chooser in (items ≡ g.items) × (r ≡ g.run)
+
+-- It is the run that the seed chooses, by the words of its generator; without a seed the first that can be taken is always chosen.
+abbrev pub IsChosen : List (PlainItem ℕ) → ℕ → Option ℕ → List Item → Run → Type 0
+IsChosen p budget None items r = (first : First) × IsRunBy p budget by_first first items r
+IsChosen p budget (Some seed) items r = IsRunBy p budget by_words (seeded seed) items r
+
+-- The program was run, and each row of two swaps that was taken is an exchange. The run came to its end, and that was told; with one worker
+-- it is the run that the seed chooses. Or it was cut off on the way, and nothing was saved. Where reports are written while the program runs,
+-- there is one more case, in which nothing was saved either: the reports that were written are not all of its own, and the errors tell that.
 abbrev pub ProgramRan : List (PlainItem ℕ) → RunOptions → Counted → Counted → Shelf → ℕ → Type 0
 ProgramRan p options output errors store status =
     (items : List Item) × (reports : List PlainReport) × (r : Run) × IsRunOf p options.watch items reports r × SwapsAreExchanges p [] items
     × ((HasEnded options.steps options.watch items reports r
-    × EndRan (record_name options) (schedule_text options.steps (size_of p) items) reports options.steps r output errors store status)
+    × EndRan (record_name options) (schedule_text options.steps (size_of p) items) reports options.steps r output errors store status
+    × (options.workers ≡ 1 → IsChosen p options.steps options.seed items r))
     ⊎ (IsCutOff reports r.output output errors status × IsUnchanged store.before store.after)
     ⊎ (ReportsAreLive options × IsForeign reports output errors status × IsUnchanged store.before store.after))
 
@@ -88,6 +104,16 @@ BegunRan p options output errors store status =
 -- The hub has run to its end, and its reports were written to the errors.
 abbrev pub HasRun : Kept → Kept → Counted → Type 0
 HasRun hub new errors = IsWorked hub new × Takes errors.bytes (reports_text new.reports) × (errors.counts.failed ≡ 0)
+
+-- the hub has run alone, to its end, as this chooser makes the run
+pub record Plays {C : Type 0} (rules : Rules C) (chooser : C) (hub new : Kept) : Type 0 where
+  pub last : C
+  pub plays : PlaysOut rules hub chooser new last
+
+-- as the seed chooses
+abbrev pub PlaysChosen : Option ℕ → Kept → Kept → Type 0
+PlaysChosen None hub new = (first : First) × Plays by_first first hub new
+PlaysChosen (Some seed) hub new = Plays by_words (seeded seed) hub new
 
 -- how many writes to the errors have failed where this is why
 abbrev pub failed_by : Cause → ℕ

@@ -124,6 +124,7 @@ where
     ensures same_out { out.new.stream.ghost_name ≡ out.old.stream.ghost_name }
     ensures same_err { err.new.stream.ghost_name ≡ err.old.stream.ghost_name }
 {
+    hub_is_a_run(&hub);
     match run_hub(rt, alloc, gate, hub, options, err) {
         Ok(hub) => {
             hub_is_a_run(&hub);

@@ -2,7 +2,7 @@
 
 ghost use Rattle.std.specs.Prelude.{◌≡◌, ◌≢◌, ◌<◌, [], None, IfOk, IfErr};
 ghost use Rattle.cml_hub.specs.Kept.{NoneOut};
-ghost use Rattle.cml_host.specs.Running.{HasRun, IsStopped, IsCounted, hub_of, cause_of};
+ghost use Rattle.cml_host.specs.Running.{HasRun, IsStopped, IsCounted, Plays, PlaysChosen, hub_of, cause_of};
 ghost use Rattle.cml_host.specs.declared.workers.Cause.TheVariants.{Memory};
 ghost use Rattle.cml_stream.specs.Streams.{counted_stream};
 ghost use Rattle.cml_work.specs.Works.{IsWorkerCount, IsWorked, GoesOnFrom};
@@ -87,6 +87,7 @@ where
         IfOk result (λ new. HasRun hub new errors) }
     ensures err { let errors = counted_stream (E.contents err.old.stream.now) (E.contents err.new.stream.now) err.new.calls err.new.failed in
         IfErr result (λ stopped. IsStopped options.now hub stopped errors) }
+    ensures chosen { options.now.workers ≡ 1 → IfOk result (λ new. PlaysChosen options.now.seed hub new) }
     ensures same_err { err.new.stream.ghost_name ≡ err.old.stream.ghost_name }
 {
     match options.seed {
@@ -118,6 +119,7 @@ where
         IfOk result (λ new. HasRun hub new errors) }
     ensures err { let errors = counted_stream (E.contents err.old.stream.now) (E.contents err.new.stream.now) err.new.calls err.new.failed in
         IfErr result (λ stopped. IsStopped options.now hub stopped errors) }
+    ensures plays { options.now.workers ≡ 1 → IfOk result (λ new. Plays (record { picks = C.picks; next = C.next }) chooser hub new) }
     ensures same_err { err.new.stream.ghost_name ≡ err.old.stream.ghost_name }
 {
     if options.workers == 1 {
@@ -142,6 +144,7 @@ fn run_alone<C: Chooser + Drop, E: Write>(
         IfOk result (λ new. HasRun hub new errors) }
     ensures err { let errors = counted_stream (E.contents err.old.stream.now) (E.contents err.new.stream.now) err.new.calls err.new.failed in
         IfErr result (λ stopped. IsStopped options.now hub stopped errors) }
+    ensures plays { IfOk result (λ new. Plays (record { picks = C.picks; next = C.next }) chooser hub new) }
     ensures same_err { err.new.stream.ghost_name ≡ err.old.stream.ghost_name }
 {
     let ended = hub.run_alone(alloc, &mut chooser);

@@ -21,6 +21,7 @@ use crate::done::Gone;
 use crate::perform::{Threads, prepare};
 use crate::pick::pick_row;
 use crate::settle::{resume_all, settle};
+use crate::turn::{Taken, take_turn};
 use cml_book::{Book, Fault};
 use cml_check::Prog;
 use cml_index::OfferIndex;
@@ -28,19 +29,20 @@ use cml_monitor::Report;
 use cml_scan::law::{no_head_where_no_row, scan_lists_what_is_enabled};
 use cml_scan::{Meet, Table};
 use cml_schedule::Item;
-use cml_step::{Machine, Ran, Slice, run_slice};
+use cml_step::{Machine, Ran};
 use cml_value::{FnRef, Tid};
 use std::alloc::{AllocError, AllocFailed, Global};
 use std::marker::Model;
 
 // A program, the schedule so far, and where it has led: the threads and objects, the machine of each thread, the output, and how much of the
-// budget was used.
+// budget was used. The spare is no thread's: each turn uses its lists again.
 #[derive(Drop)]
 pub(crate) struct Course {
     program: Prog,
     items: Vec<Item>,
     threads: Threads,
     machines: Vec<Machine>,
+    spare: Machine,
     output: String,
     used: u128,
 }
@@ -240,22 +242,25 @@ impl Course {
         ensures ok { IfOk result (λ gone. Turns self.old thread gone self.new) }
         ensures err { OnErr result (self.new ≡ self.old) }
     {
-        let slice = run_slice(alloc, &self.program, &self.machines[thread.0 as usize])?;
-        let Slice { end, ask, steps } = slice;
         self.items.reserve(1)?;
         self.machines.reserve(1)?;
-        let prepared = prepare(
+        let taken = take_turn(
             alloc,
             &self.program,
             &mut self.threads,
             &mut self.output,
             thread,
-            &end,
-            &ask,
+            &mut self.machines[thread.0 as usize],
+            &mut self.spare,
         )?;
+        let Taken {
+            ask: _ask,
+            steps,
+            prepared,
+        } = taken;
         let gone = prepared.done.gone();
         tell(&mut self.output, prepared.line.as_str());
-        settle(alloc, &mut self.machines, thread, end, prepared.done);
+        settle(&mut self.machines, thread, prepared.done);
         self.items.push_reserved(Item::Turn(thread));
         self.used += u128::from(steps);
         Ok(gone)
@@ -289,7 +294,8 @@ impl Course {
         let gone = prepared.done.gone();
         tell(&mut self.output, prepared.line.as_str());
         let (end, _ask) = ran.into_end();
-        settle(alloc, &mut self.machines, thread, end, prepared.done);
+        self.machines[thread.0 as usize] = end;
+        settle(&mut self.machines, thread, prepared.done);
         self.items.push_reserved(Item::Turn(thread));
         self.used += u128::from(steps);
         Ok((thread, gone))
@@ -307,7 +313,7 @@ impl Course {
         self.items.reserve(1)?;
         match self.threads.commit(alloc, row) {
             Ok(committed) => {
-                resume_all(alloc, &mut self.machines, committed);
+                resume_all(&mut self.machines, committed);
                 self.items.push_reserved(item);
                 self.used += 1;
                 Ok(())
@@ -367,6 +373,7 @@ impl Course {
                 items: Vec::new(alloc),
                 threads,
                 machines,
+                spare: Machine::ended(alloc, Tid(0)),
                 output: String::new(alloc),
                 used: 0,
             }),

@@ -11,6 +11,7 @@ mod marks;
 mod perform;
 mod pick;
 mod settle;
+mod turn;
 
 pub use choose::{Chooser, First, Script, Seeded};
 pub use cml_schedule::{Item, Plan, ScheduleFault, read_schedule};

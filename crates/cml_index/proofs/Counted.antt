@@ -12,9 +12,9 @@ use Rattle.std.specs.Prelude.{option_map}
 use Rattle.cml_scan.specs.declared.object.Light.{Light}
 use Rattle.cml_scan.specs.Light.{light}
 use Rattle.cml_channel.specs.declared.lane.Whom.TheVariants.{Others, Above}
-use Rattle.indexmap.specs.IndexMap.{IndexMap}
-use Rattle.indexmap.specs.IndexSet.{IndexSet}
-use Rattle.cml_channel.specs.Lanes.{PlainLane, is_own, is_others, is_of}
+use Rattle.cml_index.specs.declared.lanes.Lanes.{Lanes}
+use Rattle.cml_index.specs.declared.live.Live.{Live}
+use Rattle.cml_channel.specs.Lanes.{is_own, is_others, is_of}
 use Rattle.cml_channel.specs.Pairings.{one_lane, same_object, side_place, whom}
 use Rattle.cml_channel.specs.declared.pairing.PairedId.{PairedId}
 use Rattle.cml_channel.specs.declared.pairing.SidePlace.{SidePlace}
@@ -23,7 +23,8 @@ use Rattle.cml_index.specs.Slot.{met_lane, slot_by, met_at, met_by}
 use Rattle.cml_index.proofs.Walks.{same_object-turned}
 use Rattle.cml_index.specs.declared.slot.Slot.{Slot}
 use Rattle.cml_index.specs.declared.slot.Slot.TheVariants.{Side, Waiters}
-use Rattle.cml_index.specs.Live.{may_meet, AreLive}
+use Rattle.cml_index.specs.Live.{may_meet, AreLive, objects}
+use Rattle.cml_index.proofs.Objects.{in_objects}
 use Rattle.cml_index.specs.Slots.{is_slot, lane_at, lane_of, AreLanes}
 use Rattle.cml_index.specs.Posts.{slot_of}
 use Rattle.cml_index.specs.Heads.{met_among, heads_on}
@@ -95,8 +96,8 @@ abbrev pub AreBoth : List PairedId → List PlainOffer → Type 0
 AreBoth keys os = (n : PairedId) → list_any (same_object n) keys ≡ may_meet (one_lane n.kind) (length (lane_of slot_of (Side true n) os)) (length (lane_of slot_of (Side false n) os))
 
 -- the objects that are kept are those on which two offers may meet
-pub both_kept : {S T : Type 0} (lanes : IndexMap Slot PlainLane S) (live : IndexSet PairedId T) (os : List PlainOffer) → AreLive lanes live → AreLanes slot_of lanes os → AreBoth live.keys os
-both_kept lanes live os sides placed = λ n. sides n ∙ ap (λ ps. may_meet (one_lane n.kind) (length ps) (length (lane_at lanes (Side false n)))) (placed (Side true n)) ∙ ap (λ ps. may_meet (one_lane n.kind) (length (lane_of slot_of (Side true n) os)) (length ps)) (placed (Side false n))
+pub both_kept : (lanes : Lanes) (live : Live) (os : List PlainOffer) → AreLive lanes live → AreLanes slot_of lanes os → AreBoth (objects live) os
+both_kept lanes live os sides placed = λ n. sym (in_objects live n) ∙ sides n ∙ ap (λ ps. may_meet (one_lane n.kind) (length ps) (length (lane_at lanes (Side false n)))) (placed (Side true n)) ∙ ap (λ ps. may_meet (one_lane n.kind) (length (lane_of slot_of (Side true n) os)) (length ps)) (placed (Side false n))
 
 any_some : (p : Place → Bool) (ps : List Place) → list_any p ps ≡ true → nat_lt 0 (length ps) ≡ true
 any_some p [] e = cc

@@ -1,21 +1,17 @@
 -- What was told of a light that is not lit is forgotten, and an empty lane with it.
-use Rattle.std.proofs.Common.{◌≡◌, Bool, true, false, not, ◌||◌, cond, List, [], ◌∷◌, length, None, refl, ap, sym, subst, ◌∙◌}
+use Rattle.std.proofs.Common.{◌≡◌, Bool, true, false, not, ◌||◌, cond, List, [], ◌∷◌, None, refl, ap, sym, subst, ◌∙◌}
 use Rattle.std.specs.List.{All}
 use Rattle.std.specs.Map.{lookup}
 use Rattle.std.specs.Option.{option_map_or}
-use Rattle.std.proofs.lemmas.List.{nil_from_length}
 use Rattle.std.proofs.lemmas.List.Elements.{All-head, All-tail}
-use Rattle.indexmap.specs.IndexMap.{IndexMap, get}
 use Rattle.cml_scan.specs.declared.object.Light.{Light}
 use Rattle.cml_scan.specs.Order.{Every}
 use Rattle.cml_scan.specs.Table.{same_light, has_light, lit_after}
 use Rattle.cml_scan.proofs.Telling.{same_light_is, same_light_self}
 use Rattle.cml_scan.proofs.Ordered.{Every-weaker}
-use Rattle.cml_channel.specs.Lanes.{PlainLane}
 use Rattle.cml_index.specs.declared.slot.Slot.{Slot}
 use Rattle.cml_index.specs.declared.slot.Slot.TheVariants.{Waiters}
 use Rattle.cml_index.specs.Slot.{same_slot}
-use Rattle.cml_index.specs.Slots.{lane_at}
 use Rattle.cml_index.specs.Posts.{told}
 use Rattle.cml_index.proofs.Walks.{same_slot_is}
 
@@ -28,17 +24,6 @@ told_without old new l find out m = at (same_slot (Waiters l) (Waiters m)) refl
 
     at : (b : Bool) → same_slot (Waiters l) (Waiters m) ≡ b → told new m ≡ told old m
     at true e = found true e ∙ sym (subst (λ s. option_map_or (λ (x : Bool). x) (lookup (same_slot s) old) false ≡ false) (same_slot_is (Waiters l) (Waiters m) e) out)
-    at false e = found false e
-
--- a lane in which nobody stands is as one that was not made
-pub lane_without : {S T : Type 0} (old : IndexMap Slot PlainLane S) (new : IndexMap Slot PlainLane T) (slot : Slot) → ((k : Slot) → get same_slot new k ≡ cond (same_slot slot k) None (get same_slot old k)) → length (lane_at old slot) ≡ 0 → (k : Slot) → lane_at new k ≡ lane_at old k
-lane_without old new slot find none k = at (same_slot slot k) refl
-  where
-    found : (b : Bool) → same_slot slot k ≡ b → lane_at new k ≡ option_map_or (λ (l : PlainLane). l.places) (cond b None (get same_slot old k)) []
-    found b e = ap (λ r. option_map_or (λ (l : PlainLane). l.places) r []) (find k ∙ ap (λ c. cond c None (get same_slot old k)) e)
-
-    at : (b : Bool) → same_slot slot k ≡ b → lane_at new k ≡ lane_at old k
-    at true e = found true e ∙ sym (subst (λ s. lane_at old s ≡ []) (same_slot_is slot k e) (nil_from_length (lane_at old slot) none))
     at false e = found false e
 
 or_true : (a b : Bool) → b ≡ true → a || b ≡ true

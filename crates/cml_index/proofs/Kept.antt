@@ -1,36 +1,20 @@
--- The objects on which two threads may meet, when runs come or go.
-use Rattle.std.proofs.Common.{◌≡◌, ℕ, Bool, true, false, ◌&&◌, ◌||◌, nat_lt, List, ◌++◌, length, ◌+◌, ◌≤◌, refl, ap, sym, ◌∙◌, arith}
+-- The objects on which two threads may meet, when leaves come or go.
+use Rattle.std.proofs.Common.{◌≡◌, ℕ, Bool, true, false, ◌&&◌, ◌||◌, nat_lt, List, [], ◌∷◌, Option, ◌++◌, length, ◌+◌, ◌≤◌, refl, ap, ◌∙◌, arith}
 use Rattle.std.specs.List.{filter}
 use Rattle.std.proofs.lemmas.List.{length-append}
 use Rattle.cml_value.specs.declared.number.Tid.{Tid}
 use Rattle.cml_scan.specs.declared.meet.Place.{Place}
 use Rattle.cml_scan.specs.Order.{before, Every, Ascends}
 use Rattle.cml_channel.specs.Lanes.{is_others, run, with_run}
-use Rattle.cml_channel.specs.Pairings.{same_object}
 use Rattle.cml_channel.specs.declared.pairing.PairedId.{PairedId}
-use Rattle.cml_index.proofs.Walks.{with_none, same_object-turned}
+use Rattle.cml_index.proofs.Walks.{with_none}
 use Rattle.std.proofs.lemmas.Bool.Decides.{nat_tests}
 use Rattle.cml_index.specs.declared.slot.Slot.TheVariants.{Side}
-use Rattle.cml_index.specs.Live.{may_meet, is_side}
+use Rattle.cml_index.specs.Live.{may_meet, have_side}
+use Rattle.cml_index.specs.Slots.{is_slot, has_slot}
+use Rattle.cml_index.specs.declared.slot.Slot.{Slot}
 
--- a side is one of its object
-pub side_is : (h : Bool) (m n : PairedId) → is_side (Side h m) n ≡ same_object m n
-side_is true m n = at (same_object n m) refl
-  where
-    at : (b : Bool) → same_object n m ≡ b → b || false ≡ same_object m n
-    at true e = sym e ∙ same_object-turned n m
-    at false e = sym e ∙ same_object-turned n m
-side_is false m n = same_object-turned n m
-
--- an object is touched by one of the runs from one on where it is by that one or by a later one
-pub sides_left : (here_t here_f later_t later_f left_t left_f : Bool) → left_t ≡ here_t || later_t → left_f ≡ here_f || later_f → left_t || left_f ≡ (here_t || here_f) || (later_t || later_f)
-sides_left true true lt lf a b e f = rw e refl
-sides_left true false lt lf a b e f = rw e refl
-sides_left false true true lf a b e f = rw e refl
-sides_left false true false lf a b e f = rw (e, f) refl
-sides_left false false lt lf a b e f = rw (e, f) refl
-
--- an object is kept right when one more of the runs is done, where it was not there without need
+-- an object is kept right when one more of the leaves is done, where it was not there without need
 pub cut_more : (here later left old new on : Bool) → left ≡ here || later → later ≡ false → (here ≡ true → new ≡ old && on) → (here ≡ false → new ≡ old) → (left ≡ false → old ≡ on) → (on ≡ true → old ≡ true) → new ≡ on
 cut_more true later left old new on e f one two was over = one refl ∙ at old on over
   where
@@ -59,10 +43,15 @@ pub add_under : (here old new on : Bool) → (here ≡ true → new ≡ old || o
 add_under true old new on one two under is = one refl ∙ rw (under is, is) refl
 add_under false old new on one two under is = two refl ∙ under is
 
--- no run is that of either side
-pub no_side : (a b : Bool) → a || b ≡ false → (a ≡ false) × (b ≡ false)
-no_side true b e = cc
-no_side false b e = (refl, e)
+-- no leaf stands on either side
+pub no_sides : (n : PairedId) (ss : List (Option Slot)) → have_side n ss ≡ false → (has_slot (Side true n) ss ≡ false) × (has_slot (Side false n) ss ≡ false)
+no_sides n [] e = (refl, refl)
+no_sides n (s ∷ ss) e = at (is_slot (Side true n) s) (is_slot (Side false n) s) e (no_sides n ss)
+  where
+    at : (a b : Bool) → (a || b) || have_side n ss ≡ false → (have_side n ss ≡ false → (has_slot (Side true n) ss ≡ false) × (has_slot (Side false n) ss ≡ false)) → (a || has_slot (Side true n) ss ≡ false) × (b || has_slot (Side false n) ss ≡ false)
+    at true b e h = cc
+    at false true e h = cc
+    at false false e h = h e
 
 -- where offers only went, two may meet only where they could
 pub meet_less : (l : Bool) (a b c d : ℕ) → c ≤ a → d ≤ b → may_meet l c d ≡ true → may_meet l a b ≡ true

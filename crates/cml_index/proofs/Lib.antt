@@ -10,9 +10,11 @@ mod Others
 mod Kept
 mod Beside
 mod Counted
-mod Listed
 mod Forgotten
-mod Placed
+mod InPlace
+mod Stood
+mod Spots
+mod Objects
 mod OneObject
 mod Seated
 mod OwnSeat

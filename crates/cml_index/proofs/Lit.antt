@@ -1,6 +1,6 @@
 -- How many leaves can be taken alone, when a light is told.
 use Rattle.std.proofs.Common.{◌≡◌, ℕ, zero, suc, ◌<◌, take, get_or, ◌+◌, Bool, true, false, not, ◌||◌, cond, List, [], ◌∷◌, length, Option, Some, None, refl, ap, sym, subst, ◌∙◌, arith}
-use Rattle.std.specs.List.{filter, list_any}
+use Rattle.std.specs.List.{filter}
 use Rattle.std.specs.Prelude.{OnOk, Result, Ok, Err, option_map}
 use Rattle.std.proofs.lemmas.List.{length-map, take_more}
 use Rattle.std.proofs.lemmas.List.Folds.{list_any-append}
@@ -12,17 +12,16 @@ use Rattle.cml_scan.specs.Table.{same_light, has_light}
 use Rattle.cml_scan.specs.declared.object.Light.{Light}
 use Rattle.cml_scan.proofs.Telling.{same_light_is, same_light_self, light_eq}
 use Rattle.cml_index.specs.Slot.{slot_by}
-use Rattle.cml_index.specs.Live.{may_meet}
+use Rattle.cml_index.specs.Live.{may_meet, is_in}
 use Rattle.cml_index.specs.declared.slot.Slot.TheVariants.{Side, Waiters}
-use Rattle.cml_channel.specs.Pairings.{one_lane, side_place, same_object}
+use Rattle.cml_channel.specs.Pairings.{one_lane, side_place}
 use Rattle.cml_channel.specs.declared.pairing.PairedId.{PairedId}
 use Rattle.cml_channel.specs.declared.pairing.SidePlace.{SidePlace}
-use Rattle.cml_index.specs.Slots.{is_slot, lane_of, lane_at}
+use Rattle.cml_index.specs.Slots.{is_slot, lane_of, lane_at, going_at}
 use Rattle.cml_index.specs.Posts.{slot_of, told, is_named, slot_of_nack, nacks_in, lit_offers, KeepsPlaces, OnlyReserves, AreIndexed}
 use Rattle.cml_index.specs.declared.slot.Slot.{Slot}
-use Rattle.indexmap.specs.IndexMap.{IndexMap}
-use Rattle.indexmap.specs.IndexSet.{IndexSet}
-use Rattle.cml_channel.specs.Lanes.{PlainLane}
+use Rattle.cml_index.specs.declared.lanes.Lanes.{Lanes}
+use Rattle.cml_index.specs.declared.live.Live.{Live}
 use Rattle.cml_scan.specs.World.{PlainEntry}
 use Rattle.cml_scan.proofs.Ordered.{Every-weaker}
 
@@ -143,34 +142,40 @@ retold_same l lit old new changed is was told m = at (same_light l m) refl
     at false h = told m ∙ ap (λ s. cond s lit (old m)) h
 
 -- nothing was told of any light, and no nack's place is lost
-pub still_named : {S T U V : Type 0} (es : List PlainEntry) (lanes : IndexMap Slot PlainLane S) (after : IndexMap Slot PlainLane T) (live : IndexSet PairedId U) (live_after : IndexSet PairedId V) (old new : List (Slot × Bool)) (leaves lit : ℕ)
-    → AreIndexed es lanes live old leaves lit → ((k : Slot) → lane_at after k ≡ lane_at lanes k) → live_after.keys ≡ live.keys → ((m : Light) → told new m ≡ told old m) → ((k : ℕ) → is_named old (slot_of_nack k) ≡ true → is_named new (slot_of_nack k) ≡ true)
+pub still_named : (es : List PlainEntry) (lanes after : Lanes) (live live_after : Live) (old new : List (Slot × Bool)) (leaves lit : ℕ)
+    → AreIndexed es lanes live old leaves lit → ((k : Slot) → lane_at after k ≡ lane_at lanes k) → ((k : Slot) → going_at after k ≡ going_at lanes k) → ((n : PairedId) → is_in live_after n ≡ is_in live n) → ((m : Light) → told new m ≡ told old m) → ((k : ℕ) → is_named old (slot_of_nack k) ≡ true → is_named new (slot_of_nack k) ≡ true)
     → AreIndexed es after live_after new leaves lit
-still_named es lanes after live live_after old new leaves lit x same same_live told_ kept =
+still_named es lanes after live live_after old new leaves lit x same still same_live told_ kept =
     record {
       sorted = x.sorted;
       placed = λ k. same k ∙ x.placed k;
-      sides = λ n. ap (list_any (same_object n)) same_live ∙ x.sides n ∙ ap (λ ps. may_meet (one_lane n.kind) (length ps) (length (lane_at lanes (Side false n)))) (sym (same (Side true n))) ∙ ap (λ ps. may_meet (one_lane n.kind) (length (lane_at after (Side true n))) (length ps)) (sym (same (Side false n)));
+      sides = λ n. same_live n ∙ x.sides n ∙ ap (λ ps. may_meet (one_lane n.kind) (length ps) (length (lane_at lanes (Side false n)))) (sym (same (Side true n))) ∙ ap (λ ps. may_meet (one_lane n.kind) (length (lane_at after (Side true n))) (length ps)) (sym (same (Side false n)));
+      still = λ k. still k ∙ x.still k;
       all = x.all;
       alone = x.alone ∙ sym (ap length (told_same (told old) (told new) told_ (offers_of es)));
       named = Every-weaker (λ k. is_named old (slot_of_nack k)) (λ k. is_named new (slot_of_nack k)) (nacks_in es) kept x.named;
     }
 
--- places among the lights were reserved, and nothing else was done
-pub still_indexed : {S T U V : Type 0} (es : List PlainEntry) (lanes : IndexMap Slot PlainLane S) (after : IndexMap Slot PlainLane T) (live : IndexSet PairedId U) (live_after : IndexSet PairedId V) (old new : List (Slot × Bool)) (leaves lit : ℕ)
-    → AreIndexed es lanes live old leaves lit → ((k : Slot) → lane_at after k ≡ lane_at lanes k) → live_after.keys ≡ live.keys → OnlyReserves old new
+-- places were reserved, and nothing else was done
+pub still_indexed : (es : List PlainEntry) (lanes after : Lanes) (live live_after : Live) (old new : List (Slot × Bool)) (leaves lit : ℕ)
+    → AreIndexed es lanes live old leaves lit → ((k : Slot) → lane_at after k ≡ lane_at lanes k) → ((k : Slot) → going_at after k ≡ going_at lanes k) → ((n : PairedId) → is_in live_after n ≡ is_in live n) → OnlyReserves old new
     → AreIndexed es after live_after new leaves lit
-still_indexed es lanes after live live_after old new leaves lit x same same_live kept =
-    still_named es lanes after live live_after old new leaves lit x same same_live kept.same (λ k. kept.named (slot_of_nack k))
+still_indexed es lanes after live live_after old new leaves lit x same still same_live kept =
+    still_named es lanes after live live_after old new leaves lit x same still same_live kept.same (λ k. kept.named (slot_of_nack k))
+
+-- the same, where lanes and objects stay
+pub reserved_indexed : (es : List PlainEntry) (lanes : Lanes) (live : Live) (old new : List (Slot × Bool)) (leaves lit : ℕ) → AreIndexed es lanes live old leaves lit → OnlyReserves old new → AreIndexed es lanes live new leaves lit
+reserved_indexed es lanes live old new leaves lit x kept = still_indexed es lanes lanes live live old new leaves lit x (λ k. refl) (λ k. refl) (λ n. refl) kept
 
 -- a light was told, and no place is lost
-pub told_indexed : {S T : Type 0} (es : List PlainEntry) (lanes : IndexMap Slot PlainLane S) (live : IndexSet PairedId T) (old new : List (Slot × Bool)) (leaves was lit : ℕ)
+pub told_indexed : (es : List PlainEntry) (lanes : Lanes) (live : Live) (old new : List (Slot × Bool)) (leaves was lit : ℕ)
     → AreIndexed es lanes live old leaves was → lit ≡ length (lit_offers new es) → KeepsPlaces old new → AreIndexed es lanes live new leaves lit
 told_indexed es lanes live old new leaves was lit x alone kept =
     record {
       sorted = x.sorted;
       placed = x.placed;
       sides = x.sides;
+      still = x.still;
       all = x.all;
       alone = alone;
       named = Every-weaker (λ k. is_named old (slot_of_nack k)) (λ k. is_named new (slot_of_nack k)) (nacks_in es) (λ k. kept (slot_of_nack k)) x.named;

@@ -90,26 +90,6 @@ lane-ascends slot k es up =
         pick true k = (later (place o) os up.0, k)
         pick false k = k
 
--- the leaves of one group ascend
-pub leaves_at-ascend : (k : Slot) (leaf : ℕ) (ss : List (Option Slot)) → Ascends nat_lt (slot_leaves k leaf ss)
-leaves_at-ascend k leaf [] = tt
-leaves_at-ascend k leaf (s ∷ ss) = at (is_slot k s) (leaves_at-ascend k (leaf + 1) ss)
-  where
-    above : (m n : ℕ) (ts : List (Option Slot)) → m < n → Every (nat_lt m) (slot_leaves k n ts)
-    above m n [] h = tt
-    above m n (t ∷ ts) h = pick (is_slot k t) (above m (n + 1) ts (omega arith))
-      where
-        lt : (a b : ℕ) → a < b → nat_lt a b ≡ true
-        lt a b h = grind (arith, nat_tests)
-
-        pick : (b : Bool) → Every (nat_lt m) (slot_leaves k (n + 1) ts) → Every (nat_lt m) (cond b (n ∷ slot_leaves k (n + 1) ts) (slot_leaves k (n + 1) ts))
-        pick true r = (lt m n h, r)
-        pick false r = r
-
-    at : (b : Bool) → Ascends nat_lt (slot_leaves k (leaf + 1) ss) → Ascends nat_lt (cond b (leaf ∷ slot_leaves k (leaf + 1) ss) (slot_leaves k (leaf + 1) ss))
-    at true r = (above leaf (leaf + 1) ss (omega arith), r)
-    at false r = r
-
 -- the threads below this one stand first
 
 pub none_below : (t : ℕ) (e : PlainEntry) (es : List PlainEntry) → Every (λ x. nat_lt e.thread x.thread) es → nat_lt e.thread t ≡ false → filter (λ x. nat_lt x.thread t) es ≡ []
@@ -221,10 +201,10 @@ nacks_left p test (e ∷ es) each = at (test e) (nacks_left p test es (back (nac
     at true h = Every-append p (nacks_of (scopes e.group)) (nacks_in (filter test es)) (front (nacks_of (scopes e.group)) (nacks_in es) each) h
     at false h = h
 
--- the looks of one group's move: two for each leaf, and a search for each run
-pub move_cost : (t0 t1 t2 leaves runs left digits : ℕ) → t1 ≤ t0 + 2 * leaves → t2 ≤ t1 + runs * digits → runs ≤ leaves → t2 + left * (digits + 2) ≤ t0 + (leaves + left) * (digits + 2)
-move_cost t0 t1 t2 leaves runs left digits a b few =
-    let more : runs * digits ≤ leaves * digits = mul-le runs digits leaves digits few (omega arith) in
+-- the looks of one group's move: two for each leaf, and at most one search for each
+pub move_cost : (t0 t1 t2 leaves waits left digits : ℕ) → t1 ≤ t0 + 2 * leaves → t2 ≤ t1 + waits * digits → waits ≤ leaves → t2 + left * (digits + 2) ≤ t0 + (leaves + left) * (digits + 2)
+move_cost t0 t1 t2 leaves waits left digits a b few =
+    let more : waits * digits ≤ leaves * digits = mul-le waits digits leaves digits few (omega arith) in
     omega arith
 
 -- the entry that comes

@@ -1,12 +1,11 @@
--- One run after another.
-use Rattle.std.proofs.Common.{◌≡◌, ℕ, zero, suc, Bool, true, false, not, ◌||◌, nat_eq, nat_lt, cond, List, [], ◌∷◌, ◌++◌, drop, length, Some, None, refl, ap, sym, subst, ◌∙◌, append_assoc, arith}
-use Rattle.std.specs.Prelude.{slice_get}
+-- One leaf after another.
+use Rattle.std.proofs.Common.{◌≡◌, ℕ, zero, suc, ◌<◌, ◌≤◌, ◌+◌, Bool, true, false, not, ◌||◌, nat_eq, nat_lt, cond, List, [], ◌∷◌, ◌++◌, map, drop, take, get_or, length, Option, refl, ap, sym, subst, ◌∙◌, arith, add-one}
 use Rattle.std.specs.Bool.{beq}
-use Rattle.std.specs.List.{filter, list_any, IsDistinct, AllByRecursion}
-use Rattle.std.specs.Map.{keys_of, lookup}
-use Rattle.std.proofs.lemmas.Map.Keys.{IsDistinct-head, IsDistinct-tail}
+use Rattle.std.specs.List.{filter, list_any}
 use Rattle.std.proofs.lemmas.Bool.{and_parts}
 use Rattle.std.proofs.lemmas.Bool.Decides.{nat_tests}
+use Rattle.std.proofs.lemmas.List.{length-map}
+use Rattle.std.proofs.lemmas.List.Folds.{list_any_more}
 use Rattle.cml_value.specs.declared.number.Tid.{Tid}
 use Rattle.cml_scan.specs.declared.meet.Place.{Place}
 use Rattle.cml_scan.specs.Order.{before, before_numbers, Every, Ascends}
@@ -17,8 +16,11 @@ use Rattle.cml_channel.specs.declared.pairing.PairedId.{PairedId}
 use Rattle.cml_channel.proofs.Pairs.{same_object_is, same_object_self}
 use Rattle.cml_index.specs.declared.slot.Slot.{Slot}
 use Rattle.cml_index.specs.declared.slot.Slot.TheVariants.{Side, Waiters}
+use Rattle.cml_index.specs.declared.slot.Wait.{Wait}
 use Rattle.cml_index.specs.Slot.{same_slot}
-use Rattle.cml_index.specs.Slots.{has_run}
+use Rattle.std.specs.Prelude.{OnOk, Result, Ok, Err}
+use Rattle.cml_index.specs.Stands.{joined}
+use Rattle.cml_index.specs.Slots.{is_slot, slot_in, slot_leaves, has_slot}
 
 -- one lane, as a test and as a fact
 
@@ -49,42 +51,79 @@ same_object-turned a b = at (same_object a b) (same_object b a) refl refl
     at false true e f = let same : b ≡ a = same_object_is b a f in sym e ∙ subst (λ x. same_object a x ≡ true) (sym same) (same_object_self a)
     at false false e f = refl
 
--- the runs from one on are that one and the later ones
-pub runs_left : {V : Type 0} (es : List (Slot × V)) (i : ℕ) (slot : Slot) (v : V) (k : Slot) → slice_get es i ≡ Some (slot, v) → has_run (drop i es) k ≡ same_slot k slot || has_run (drop (suc i) es) k
-runs_left [] i slot v k e = cc
-runs_left (x ∷ es) zero slot v k e = let same : x.0 ≡ slot = cc in ap (λ n. same_slot k n || has_run es k) same
-runs_left (x ∷ es) (suc i) slot v k e = runs_left es i slot v k e
-
-none_later : (a k : Slot) (ks : List Slot) → same_slot k a ≡ true → AllByRecursion (λ y. same_slot a y ≡ false) ks → list_any (λ y. same_slot k y) ks ≡ false
-none_later a k [] e all = refl
-none_later a k (y ∷ ks) e all = both (same_slot k y) (list_any (λ z. same_slot k z) ks) (apart a k y e all.0) (none_later a k ks e all.1)
+-- the leaves from one on are that one and the later ones
+pub waits_left : (ws : List Wait) (i : ℕ) (s : Option Slot) (d : Wait) → i < length ws → s ≡ slot_in (get_or ws i d) → drop i (map slot_in ws) ≡ s ∷ drop (i + 1) (map slot_in ws)
+waits_left ws i s d lt e = rw add-one (rest ws i lt e)
   where
-    apart : (a k y : Slot) → same_slot k a ≡ true → same_slot a y ≡ false → same_slot k y ≡ false
-    apart a k y e f = subst (λ z. same_slot z y ≡ false) (sym (same_slot_is k a e)) f
+    rest : (ws : List Wait) (i : ℕ) → i < length ws → s ≡ slot_in (get_or ws i d) → drop i (map slot_in ws) ≡ s ∷ drop (suc i) (map slot_in ws)
+    rest [] i lt e = absurd (omega arith)
+    rest (x ∷ ws) zero lt e = ap (λ y. y ∷ map slot_in ws) (sym e)
+    rest (x ∷ ws) (suc i) lt e = rest ws i (omega arith) e
 
-    both : (b c : Bool) → b ≡ false → c ≡ false → b || c ≡ false
-    both b c e f = rw (e, f) refl
-
-pub keys_any : {V : Type 0} (es : List (Slot × V)) (k : Slot) → list_any (λ y. same_slot k y) (keys_of es) ≡ has_run es k
-keys_any [] k = refl
-keys_any (x ∷ es) k = ap (λ b. same_slot k x.0 || b) (keys_any es k)
-
--- no later run is of the same slot
-pub run_once : {V : Type 0} (es : List (Slot × V)) (i : ℕ) (slot : Slot) (v : V) (k : Slot) → IsDistinct same_slot (keys_of es) → slice_get es i ≡ Some (slot, v) → same_slot k slot ≡ true → has_run (drop (suc i) es) k ≡ false
-run_once [] i slot v k once e at = cc
-run_once (x ∷ es) zero slot v k once e at =
-    let same : x.0 ≡ slot = cc in
-    sym (keys_any es k) ∙ none_later x.0 k (keys_of es) (rw same at) (IsDistinct-head same_slot x.0 (keys_of es) once)
-run_once (x ∷ es) (suc i) slot v k once e at = run_once es i slot v k (IsDistinct-tail same_slot x.0 (keys_of es) once) e at
-
--- a slot of which no run is there has no leaves
-pub no_run : {V : Type 0} (es : List (Slot × V)) (k : Slot) → has_run es k ≡ false → lookup (same_slot k) es ≡ None
-no_run [] k e = refl
-no_run (x ∷ es) k e = at (same_slot k x.0) e (no_run es k)
+-- the test of one more leaf
+pub waits_more : (p : Option Slot → Bool) (ws : List Wait) (i : ℕ) (s : Option Slot) (d : Wait) → i < length ws → s ≡ slot_in (get_or ws i d) → list_any p (take (i + 1) (map slot_in ws)) ≡ (list_any p (take i (map slot_in ws)) || p s)
+waits_more p ws i s d lt e =
+    list_any_more p (map slot_in ws) i (slot_in d) (rw length-map lt) ∙ ap (λ x. list_any p (take i (map slot_in ws)) || p x) (at ws i lt ∙ sym e)
   where
-    at : (b : Bool) → b || has_run es k ≡ false → (has_run es k ≡ false → lookup (same_slot k) es ≡ None) → cond b (Some x.1) (lookup (same_slot k) es) ≡ None
+    at : (ws : List Wait) (i : ℕ) → i < length ws → get_or (map slot_in ws) i (slot_in d) ≡ slot_in (get_or ws i d)
+    at [] i lt = absurd (omega arith)
+    at (x ∷ ws) zero lt = refl
+    at (x ∷ ws) (suc i) lt = at ws i (omega arith)
+
+-- all leaves have been gone through
+pub waits_all : (ws : List Wait) (i : ℕ) → length ws ≤ i → take i (map slot_in ws) ≡ map slot_in ws
+waits_all [] zero h = refl
+waits_all [] (suc i) h = refl
+waits_all (x ∷ ws) zero h = absurd (omega arith)
+waits_all (x ∷ ws) (suc i) h = ap (λ ys. slot_in x ∷ ys) (waits_all ws i (omega arith))
+
+-- what holds of one leaf holds of some
+pub waits_any : (p : Option Slot → Bool) (ws : List Wait) (i : ℕ) (s : Option Slot) (d : Wait) → i < length ws → s ≡ slot_in (get_or ws i d) → p s ≡ true → list_any p (map slot_in ws) ≡ true
+waits_any p [] i s d lt e is = absurd (omega arith)
+waits_any p (x ∷ ws) zero s d lt e is = ap (λ b. b || list_any p (map slot_in ws)) (ap p (sym e) ∙ is)
+waits_any p (x ∷ ws) (suc i) s d lt e is = ap (λ b. p (slot_in x) || b) (waits_any p ws i s d (omega arith) e is) ∙ or_true (p (slot_in x))
+  where
+    or_true : (b : Bool) → b || true ≡ true
+    or_true true = refl
+    or_true false = refl
+
+-- the leaves in a slot from one on are that one, if it stands there, and the later ones
+pub leaves_left : (k : Slot) (ws : List Wait) (i : ℕ) (s : Option Slot) (d : Wait) → i < length ws → s ≡ slot_in (get_or ws i d)
+    → slot_leaves k i (drop i (map slot_in ws)) ≡ cond (is_slot k s) (i ∷ slot_leaves k (i + 1) (drop (i + 1) (map slot_in ws))) (slot_leaves k (i + 1) (drop (i + 1) (map slot_in ws)))
+leaves_left k ws i s d lt e = ap (slot_leaves k i) (waits_left ws i s d lt e)
+
+pub leaves_left_by : (k : Slot) (ws : List Wait) (i : ℕ) (b : Bool) (d : Wait) → i < length ws → b ≡ is_slot k (slot_in (get_or ws i d))
+    → slot_leaves k i (drop i (map slot_in ws)) ≡ cond b (i ∷ slot_leaves k (i + 1) (drop (i + 1) (map slot_in ws))) (slot_leaves k (i + 1) (drop (i + 1) (map slot_in ws)))
+leaves_left_by k ws i b d lt e = leaves_left k ws i (slot_in (get_or ws i d)) d lt refl ∙ ap (λ c. cond c (i ∷ slot_leaves k (i + 1) (drop (i + 1) (map slot_in ws))) (slot_leaves k (i + 1) (drop (i + 1) (map slot_in ws)))) (sym e)
+
+-- a slot in which no leaf stands has no leaves
+pub no_leaves : (k : Slot) (leaf : ℕ) (ss : List (Option Slot)) → has_slot k ss ≡ false → slot_leaves k leaf ss ≡ []
+no_leaves k leaf [] e = refl
+no_leaves k leaf (s ∷ ss) e = at (is_slot k s) e (no_leaves k (leaf + 1) ss)
+  where
+    at : (b : Bool) → b || has_slot k ss ≡ false → (has_slot k ss ≡ false → slot_leaves k (leaf + 1) ss ≡ []) → cond b (leaf ∷ slot_leaves k (leaf + 1) ss) (slot_leaves k (leaf + 1) ss) ≡ []
     at true e h = cc
     at false e h = h e
+
+-- the leaves of one group ascend
+pub leaves_at-ascend : (k : Slot) (leaf : ℕ) (ss : List (Option Slot)) → Ascends nat_lt (slot_leaves k leaf ss)
+leaves_at-ascend k leaf [] = tt
+leaves_at-ascend k leaf (s ∷ ss) = at (is_slot k s) (leaves_at-ascend k (leaf + 1) ss)
+  where
+    above : (m n : ℕ) (ts : List (Option Slot)) → m < n → Every (nat_lt m) (slot_leaves k n ts)
+    above m n [] h = tt
+    above m n (t ∷ ts) h = pick (is_slot k t) (above m (n + 1) ts (omega arith))
+      where
+        lt : (a b : ℕ) → a < b → nat_lt a b ≡ true
+        lt a b h = grind (arith, nat_tests)
+
+        pick : (b : Bool) → Every (nat_lt m) (slot_leaves k (n + 1) ts) → Every (nat_lt m) (cond b (n ∷ slot_leaves k (n + 1) ts) (slot_leaves k (n + 1) ts))
+        pick true r = (lt m n h, r)
+        pick false r = r
+
+    at : (b : Bool) → Ascends nat_lt (slot_leaves k (leaf + 1) ss) → Ascends nat_lt (cond b (leaf ∷ slot_leaves k (leaf + 1) ss) (slot_leaves k (leaf + 1) ss))
+    at true r = (above leaf (leaf + 1) ss (omega arith), r)
+    at false r = r
 
 low_others : (tid : Tid) (ps : List Place) → Ascends before ps → Every (is_others tid) ps → filter (λ q. nat_lt q.tid.0 tid.0) ps ++ filter (λ q. nat_lt tid.0 q.tid.0) ps ≡ ps
 low_others tid [] up away = refl
@@ -129,44 +168,42 @@ others_all tid (p ∷ ps) e = at (is_own tid p) e (others_all tid ps)
     at true e h = absurd (omega (arith, e))
     at false e h = ap (λ qs. p ∷ qs) (h e)
 
--- a slot whose run is not left is the one of this run, or of an earlier one
-pub cases_done : {P : Type 0} (here left later : Bool) → left ≡ here || later → later ≡ false → (here ≡ true → P) → (here ≡ false → left ≡ false → P) → P
-cases_done true left later e f yes_ no_ = yes_ refl
-cases_done false left later e f yes_ no_ = no_ refl (e ∙ f)
+-- with the leaves of the thread, or without any, the lane is the one with its run
+pub joined_run : (tid : Tid) (ls : List ℕ) (ps : List Place) → Ascends before ps → Every (is_others tid) ps → joined tid ls ps ≡ with_run tid ls ps
+joined_run tid [] ps up away = sym (with_none tid ps up away)
+joined_run tid (l ∷ ls) ps up away = refl
 
--- a slot whose run is left is none of these
-pub cases_left : {P : Type 0} (here left later : Bool) → left ≡ here || later → later ≡ true → (here ≡ true → later ≡ false) → (here ≡ false → left ≡ true → P) → P
-cases_left true left later e f once no_ = let out : later ≡ false = once refl in cc
-cases_left false left later e f once no_ = no_ refl (e ∙ f)
+pub nil_left : {X : Type 0} (xs ys : List X) → xs ++ ys ≡ [] → xs ≡ []
+nil_left [] ys e = refl
+nil_left (x ∷ xs) ys e = cc
 
--- the run itself was left
-pub self_left : (slot : Slot) (left later : Bool) → left ≡ same_slot slot slot || later → left ≡ true
-self_left slot left later e = e ∙ ap (λ b. b || later) (same_slot_self slot)
+pub decide : {P : Type 0} (b : Bool) → (b ≡ true → P) → (b ≡ false → P) → P
+decide true yes_ no_ = yes_ refl
+decide false yes_ no_ = no_ refl
 
--- the slots whose runs are done are as wanted, the others as they were
-abbrev pub IsMoved : {X : Type 0} → (Slot → Bool) → (Slot → X) → (Slot → X) → (Slot → X) → Type 0
-IsMoved left old wanted new = ((k : Slot) → left k ≡ false → new k ≡ wanted k) × ((k : Slot) → left k ≡ true → new k ≡ old k)
+pub on_ok_both : {A E X Y Z : Type 0} (r : Result A E) → OnOk r X → OnOk r Y → (X → Y → Z) → OnOk r Z
+on_ok_both (Ok a) x y f = f x y
+on_ok_both (Err e) x y f = tt
 
--- one more run is done, and no other slot has changed
-pub moved : {X : Type 0} (slot : Slot) (left later : Slot → Bool) (old wanted before after : Slot → X)
-    → ((k : Slot) → left k ≡ same_slot k slot || later k) → ((k : Slot) → same_slot k slot ≡ true → later k ≡ false)
-    → after slot ≡ wanted slot → ((k : Slot) → same_slot k slot ≡ false → after k ≡ before k)
-    → IsMoved left old wanted before → IsMoved later old wanted after
-moved slot left later old wanted before after one once here elsewhere so_far = (
-  λ k e. cases_done (same_slot k slot) (left k) (later k) (one k) e
-      (λ is. subst (λ n. after n ≡ wanted n) (sym (same_slot_is k slot is)) here)
-      (λ off done. elsewhere k off ∙ so_far.0 k done),
-  λ k e. cases_left (same_slot k slot) (left k) (later k) (one k) e (once k) (λ off rest. elsewhere k off ∙ so_far.1 k rest),
+-- what is done at the slots so far, and what is as it was
+abbrev pub IsDone : {X : Type 0} → (X → X → Type 0) → (Slot → Bool) → (Slot → X) → (Slot → X) → Type 0
+IsDone R done old new = ((k : Slot) → done k ≡ true → R (old k) (new k)) × ((k : Slot) → done k ≡ false → new k ≡ old k)
+
+-- the slot of one more leaf is done, and no other slot has changed; what is done twice is done
+pub one_more : {X : Type 0} (R : X → X → Type 0) → ((a b c : X) → R a b → R b c → R a c) → (old before after : Slot → X) (here_ done more : Slot → Bool) → ((k : Slot) → more k ≡ (done k || here_ k))
+    → ((k : Slot) → here_ k ≡ true → R (before k) (after k)) → ((k : Slot) → here_ k ≡ false → after k ≡ before k) → IsDone R done old before → IsDone R more old after
+one_more {X = X} R twice old before after here_ done more one here elsewhere so_far = (
+  λ k e. yes_ k (done k) (here_ k) refl refl (sym (one k) ∙ e),
+  λ k e. no_ k (done k) (here_ k) refl refl (sym (one k) ∙ e),
 )
-
--- a leaf that was put into its slot stands after those that were there
-pub put_done : (k s : Slot) (leaf : ℕ) (old new : Slot → List ℕ) (later : List ℕ) → new s ≡ old s ++ leaf ∷ [] → ((j : Slot) → same_slot j s ≡ false → new j ≡ old j)
-    → new k ++ later ≡ old k ++ cond (same_slot k s) (leaf ∷ later) later
-put_done k s leaf old new later here elsewhere = at (same_slot k s) refl
   where
-    at : (b : Bool) → same_slot k s ≡ b → new k ++ later ≡ old k ++ cond b (leaf ∷ later) later
-    at true e =
-        let same : k ≡ s = same_slot_is k s e in
-        let put : new k ≡ old k ++ leaf ∷ [] = subst (λ n. new n ≡ old n ++ leaf ∷ []) (sym same) here in
-        ap (λ xs. xs ++ later) put ∙ append_assoc (old k) (leaf ∷ []) later
-    at false e = ap (λ xs. xs ++ later) (elsewhere k e)
+    yes_ : (k : Slot) (d s : Bool) → done k ≡ d → here_ k ≡ s → d || s ≡ true → R (old k) (after k)
+    yes_ k true true e f g = twice (old k) (before k) (after k) (so_far.0 k e) (here k f)
+    yes_ k true false e f g = subst (R (old k)) (sym (elsewhere k f)) (so_far.0 k e)
+    yes_ k false true e f g = subst (λ x. R x (after k)) (so_far.1 k e) (here k f)
+    yes_ k false false e f g = cc
+
+    no_ : (k : Slot) (d s : Bool) → done k ≡ d → here_ k ≡ s → d || s ≡ false → after k ≡ old k
+    no_ k false false e f g = elsewhere k f ∙ so_far.1 k e
+    no_ k true s e f g = cc
+    no_ k false true e f g = cc

@@ -1,5 +1,7 @@
 pub mod Slot
 pub mod SlotLaws
+pub mod Numbers
+pub mod Stands
 pub mod Slots
 pub mod Live
 pub mod Seats

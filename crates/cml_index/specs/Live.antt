@@ -1,14 +1,16 @@
 -- The objects on which two offers may meet.
-use Rattle.std.specs.Prelude.{ℕ, ◌≡◌, Bool, true, false, ◌&&◌, ◌||◌, nat_lt, List, length}
-use Rattle.indexmap.specs.IndexMap.{IndexMap}
-use Rattle.indexmap.specs.IndexSet.{IndexSet, contains}
-use Rattle.cml_channel.specs.Lanes.{PlainLane}
-use Rattle.cml_channel.specs.Pairings.{one_lane, same_object}
+use Rattle.std.specs.Prelude.{ℕ, ◌≡◌, ◌<◌, Bool, true, false, ◌&&◌, ◌||◌, nat_lt, List, ◌++◌, Option, length, map}
+use Rattle.std.specs.List.{list_any}
+use Rattle.cml_channel.specs.Pairings.{one_lane}
+use Rattle.cml_channel.specs.declared.pairing.Pairing.{Pairing}
+use Rattle.cml_channel.specs.declared.pairing.Pairing.TheVariants.{Channel, Swap}
 use Rattle.cml_channel.specs.declared.pairing.PairedId.{PairedId}
 use Rattle.cml_index.specs.declared.slot.Slot.{Slot}
 use Rattle.cml_index.specs.declared.slot.Slot.TheVariants.{Side}
-use Rattle.cml_index.specs.Slot.{same_slot}
-use Rattle.cml_index.specs.Slots.{lane_at, has_run}
+use Rattle.cml_index.specs.declared.lanes.Lanes.{Lanes}
+use Rattle.cml_index.specs.declared.live.Live.{Live}
+use Rattle.cml_index.specs.Numbers.{PlainNumbers, has}
+use Rattle.cml_index.specs.Slots.{lane_at, is_slot}
 
 -- Whether, of this many offers that can stand first on an object and this many others there, two could meet, threads aside. Where all
 -- sides are alike, two that can stand first are enough.
@@ -17,17 +19,43 @@ may_meet true heads others = nat_lt 1 heads
 may_meet false heads others = nat_lt 0 heads && nat_lt 0 others
 
 -- two offers on the object may meet
-abbrev pub is_live : {S : Type 0} → IndexMap Slot PlainLane S → PairedId → Bool
+abbrev pub is_live : Lanes → PairedId → Bool
 is_live lanes n = may_meet (one_lane n.kind) (length (lane_at lanes (Side true n))) (length (lane_at lanes (Side false n)))
 
--- the slot is a side of the object
-abbrev pub is_side : Slot → PairedId → Bool
-is_side k n = same_slot (Side true n) k || same_slot (Side false n) k
+-- the slot, if there is one, is a side of the object
+abbrev pub has_side : PairedId → Option Slot → Bool
+has_side n s = is_slot (Side true n) s || is_slot (Side false n) s
 
--- one of these runs is that of a side of the object
-abbrev pub has_side : {V : Type 0} → List (Slot × V) → PairedId → Bool
-has_side runs n = has_run runs (Side true n) || has_run runs (Side false n)
+-- one of these leaves stands on a side of the object
+abbrev pub have_side : PairedId → List (Option Slot) → Bool
+have_side n ss = list_any (has_side n) ss
+
+-- the numbers that are kept of the objects of the kind
+abbrev pub kind_numbers : Live → Pairing → PlainNumbers
+kind_numbers live Channel = live.channels
+kind_numbers live Swap = live.swaps
+
+abbrev pub kept_numbers : Live → PairedId → PlainNumbers
+kept_numbers live n = kind_numbers live n.kind
+
+-- the object is kept as live
+abbrev pub is_in : Live → PairedId → Bool
+is_in live n = has (kept_numbers live n) n.number
+
+-- the object has a place, so that it can be put in without memory
+abbrev pub HasPlace : Live → PairedId → Type 0
+HasPlace live n = n.number < (kept_numbers live n).size
+
+-- the objects that are kept
+abbrev pub objects : Live → List PairedId
+objects live = map (λ n. record { kind = Channel; number = n }) live.channels.items ++ map (λ n. record { kind = Swap; number = n }) live.swaps.items
+
+-- the same objects are kept, and none lost its place
+pub record IsAsLive (old new : Live) : Type 0 where
+  pub same : objects new ≡ objects old
+  pub places : (n : PairedId) → HasPlace old n → HasPlace new n
+  pub here : (n : PairedId) → is_in new n ≡ is_in old n
 
 -- these are the objects on which two offers may meet
-abbrev pub AreLive : {S T : Type 0} → IndexMap Slot PlainLane S → IndexSet PairedId T → Type 0
-AreLive lanes live = (n : PairedId) → contains same_object live n ≡ is_live lanes n
+abbrev pub AreLive : Lanes → Live → Type 0
+AreLive lanes live = (n : PairedId) → is_in live n ≡ is_live lanes n

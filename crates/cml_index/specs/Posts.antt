@@ -1,11 +1,11 @@
 -- What the index keeps: the pending threads with their groups, and what it was told of lights.
-use Rattle.std.specs.Prelude.{ℕ, ◌≡◌, ◌++◌, ◌≤◌, ◌<◌, ◌^◌, Bool, true, false, if◌then◌else◌, List, [], ◌∷◌, Option, Some, None, Result, OnOk, OnErr, map, filter, length, is_some}
+use Rattle.std.specs.Prelude.{ℕ, ◌≡◌, ◌++◌, ◌<◌, ◌^◌, Bool, true, false, if◌then◌else◌, List, [], ◌∷◌, Option, Some, None, Result, OnOk, OnErr, map, filter, length, is_some}
 use Rattle.std.specs.Option.{option_map_or}
 use Rattle.std.specs.Map.{lookup}
 use Rattle.std.specs.Coded.{Coded, code_by, coded×, coded_list, coded_bool}
 use Rattle.std.specs.Prelude.{refl}
-use Rattle.indexmap.specs.IndexMap.{IndexMap}
-use Rattle.indexmap.specs.IndexSet.{IndexSet}
+use Rattle.cml_index.specs.declared.lanes.Lanes.{Lanes}
+use Rattle.cml_index.specs.declared.live.Live.{Live}
 use Rattle.cml_index.specs.Live.{AreLive}
 use base.Stored.{Gv, gnum, gcons}
 use Rattle.cml_value.specs.Value.{PlainBase}
@@ -25,14 +25,13 @@ use Rattle.cml_scan.specs.declared.object.Light.{Light}
 use Rattle.cml_scan.specs.declared.object.Light.TheVariants.{Nack}
 use Rattle.cml_channel.specs.declared.pairing.Pairing.{Pairing}
 use Rattle.cml_channel.specs.declared.pairing.Pairing.TheVariants.{Channel, Swap}
-use Rattle.cml_channel.specs.declared.pairing.PairedId.{PairedId}
 use Rattle.cml_index.specs.declared.slot.Slot.{Slot}
 use Rattle.cml_index.specs.declared.slot.Slot.TheVariants.{Side, Waiters}
 use Rattle.cml_channel.specs.Pairings.{side_place}
 use Rattle.cml_index.specs.Slot.{same_slot, slot_by}
-use Rattle.cml_index.specs.Slots.{PlainRuns, slot_leaves, run_in, lane_of, AreLanes}
+use Rattle.cml_index.specs.Slots.{slot_in, going_at, lane_of, AreLanes}
+use Rattle.cml_index.specs.declared.slot.Wait.{Wait}
 use Rattle.std.specs.List.{flat_map}
-use Rattle.cml_channel.specs.Lanes.{PlainLane}
 
 -- the lane of a base event: that of its side, where it is a side of an object over which two threads meet, or that of its light
 abbrev pub slot_of : PlainBase → Option Slot
@@ -55,11 +54,11 @@ pub record PlainIndex : Type 0 where
 abbrev pub lit_offers : List (Slot × Bool) → List PlainEntry → List PlainOffer
 lit_offers flags entries = filter (λ o. lit_by (told flags) o.base) (offers_of entries)
 
--- what is kept beside a group: its base events, and its leaves by their lanes
-pub record IsPost (group : PlainGroup) (kept : List PlainBase) (runs : PlainRuns) : Type 0 where
+-- what is kept beside a group: its base events, and what its leaves wait for
+pub record IsPost (group : PlainGroup) (kept : List PlainBase) (waits : List Wait) : Type 0 where
   pub same : kept ≡ bases group
-  pub laid : (k : Slot) → run_in runs k ≡ slot_leaves k 0 (map slot_of (bases group))
-  pub few : length runs.entries ≤ length (bases group)
+  pub slots : map slot_in waits ≡ map slot_of (bases group)
+  pub many : length waits ≡ length (bases group)
   pub small : length (bases group) < 2 ^ 32
 
 -- the nacks of the scopes in these groups
@@ -101,12 +100,13 @@ pub record HasTold {A E : Type 0} (result : Result A E) (pending : List PlainEnt
 abbrev pub slot_of_nack : ℕ → Slot
 slot_of_nack k = Waiters (Nack (record { 0 = k }))
 
--- The threads ascend; each lane has the offers that stand in it; the objects are there on which two offers may meet; all leaves, and those that can be taken alone, are counted; and each
+-- The threads ascend; each lane has the offers that stand in it; the objects are there on which two offers may meet; all leaves, and those that can be taken alone, are counted; no leaf is to go; and each
 -- nack that can fire with a pending group has its place among the lights.
-pub record AreIndexed {S T : Type 0} (entries : List PlainEntry) (lanes : IndexMap Slot PlainLane S) (live : IndexSet PairedId T) (flags : List (Slot × Bool)) (leaves lit : ℕ) : Type 0 where
+pub record AreIndexed (entries : List PlainEntry) (lanes : Lanes) (live : Live) (flags : List (Slot × Bool)) (leaves lit : ℕ) : Type 0 where
   pub sorted : IsSorted entries
   pub placed : AreLanes slot_of lanes (offers_of entries)
   pub sides : AreLive lanes live
+  pub still : (k : Slot) → going_at lanes k ≡ 0
   pub all : leaves ≡ length (offers_of entries)
   pub alone : lit ≡ length (lit_offers flags entries)
   pub named : Every (λ k. is_named flags (slot_of_nack k)) (nacks_in entries)

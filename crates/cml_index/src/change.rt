@@ -1,19 +1,17 @@
 //! A change as a whole.
 
-ghost use Rattle.std.specs.Prelude.{◌≡◌, ◌≤◌, ◌+◌, ◌*◌, ℕ, true, false, not, if◌then◌else◌, Some, None, length, OnOk, IsOk};
+ghost use Rattle.std.specs.Prelude.{◌≡◌, ◌≤◌, ◌+◌, ◌*◌, ℕ, true, false, not, if◌then◌else◌, Some, None, length, OnOk, OnErr, IsOk};
 ghost use Rattle.cml_value.specs.Group.{bases};
 ghost use Rattle.cml_scan.specs.declared.object.Light.{Light};
 ghost use Rattle.cml_scan.specs.Order.{Every};
 ghost use Rattle.cml_scan.specs.Table.{without, changed, has_light, CanChange};
 ghost use Rattle.cml_index.specs.Posts as spec;
-ghost use Rattle.cml_index.specs.Cores.{seen, IsIndexed, AreThere, IsSame, IsStill, HasFreed, HasRoom};
+ghost use Rattle.cml_index.specs.Cores.{seen, IsIndexed, IsAtRest, AreThere, IsSame, IsStill, HasFreed, HasRoom};
 ghost use Rattle.cml_index.specs.Slots.{HaveDigits};
 
 use crate::entry::Entry;
 use crate::flags::forget_light;
 use crate::nacks::reserve_lights;
-use crate::runs::Places;
-use crate::slot::Slot;
 use crate::state::Core;
 use cml_channel::Tally;
 use cml_scan::Light;
@@ -45,7 +43,7 @@ impl Core {
         ensures indexed { IsIndexed self.new }
         ensures left { spec.IsChanged (without gone.now self.old.entries.items)
             lit.now unlit.now (seen self.old) (seen self.new) }
-        ensures cost { (digits : ℕ) → HaveDigits self.old.lanes.by_slot digits →
+        ensures cost { (digits : ℕ) → HaveDigits self.old.lanes digits →
             tally.new + self.new.leaves * (digits + 2) ≤ tally.old
             + self.old.leaves * (digits + 2) + (length lit.now + length unlit.now) }
         ensures freed { HasFreed self.old self.new }
@@ -59,26 +57,30 @@ impl Core {
     // nobody stands in it.
     fn forget(&mut self, light: Light)
         requires indexed { IsIndexed self.old }
+        requires idle { IsAtRest self.old }
         requires out { spec.told self.old.flags.entries light ≡ false }
         ensures told { (m : Light) →
             spec.told self.new.flags.entries m ≡ spec.told self.old.flags.entries m }
         ensures indexed { IsIndexed self.new }
+        ensures idle { IsAtRest self.new }
         ensures entries { self.new.entries ≡ self.old.entries }
         ensures leaves { self.new.leaves ≡ self.old.leaves }
     {
-        if let Light::Alarm(_) = light {
+        if let Light::Alarm(tick) = light {
             forget_light(&mut self.flags, light);
-            self.lanes.forget(Slot::Waiters(light));
+            self.lanes.forget(tick);
         }
     }
 
     // Forgets the ticks among these lights, which were told to be unlit.
     fn forget_all(&mut self, lights: &[Light])
         requires indexed { IsIndexed self.old }
+        requires idle { IsAtRest self.old }
         requires out { Every (λ l. not (spec.told self.old.flags.entries l)) lights.now }
         ensures told { (m : Light) →
             spec.told self.new.flags.entries m ≡ spec.told self.old.flags.entries m }
         ensures indexed { IsIndexed self.new }
+        ensures idle { IsAtRest self.new }
         ensures entries { self.new.entries ≡ self.old.entries }
         ensures leaves { self.new.leaves ≡ self.old.leaves }
     {
@@ -96,12 +98,14 @@ impl Core {
         tally: &mut Tally,
     ) -> Result<(), AllocError>
         requires indexed { IsIndexed self.old }
+        requires idle { IsAtRest self.old }
         requires ready { CanChange self.old.entries.items gone.now None lit.now unlit.now }
         ensures indexed { IsIndexed self.new }
+        ensures idle { IsAtRest self.new }
         ensures told { spec.HasTold result (changed self.old.entries.items gone.now None)
             lit.now unlit.now (seen self.old) (seen self.new) tally.old tally.new }
         ensures sure { spec.HavePlaces self.old.flags.entries lit.now → IsOk result }
-        ensures cost { OnOk result ((digits : ℕ) → HaveDigits self.old.lanes.by_slot digits →
+        ensures cost { OnOk result ((digits : ℕ) → HaveDigits self.old.lanes digits →
             tally.new + self.new.leaves * (digits + 2) ≤ tally.old
             + self.old.leaves * (digits + 2) + (length lit.now + length unlit.now)) }
     {
@@ -122,42 +126,40 @@ impl Core {
         tally: &mut Tally,
     ) -> Result<(), AllocError>
         requires indexed { IsIndexed self.old }
+        requires idle { IsAtRest self.old }
         requires ready { CanChange self.old.entries.items gone.now (Some comer) lit.now unlit.now }
         ensures indexed { IsIndexed self.new }
+        ensures idle { IsAtRest self.new }
         ensures told { spec.HasTold result
             (changed self.old.entries.items gone.now (Some comer.entry))
             lit.now unlit.now (seen self.old) (seen self.new) tally.old tally.new }
-        ensures cost { OnOk result ((digits : ℕ) → HaveDigits self.old.lanes.by_slot digits →
+        ensures cost { OnOk result ((digits : ℕ) → HaveDigits self.old.lanes digits →
             tally.new + self.new.leaves * (digits + 2) ≤ tally.old
             + (self.old.leaves + 2 * length (bases comer.entry.1.now)) * (digits + 2)
             + (length lit.now + length unlit.now)) }
     {
         let entry = Entry::new(alloc, comer.0, comer.1)?;
-        let Ok(places) = self.make_ready(alloc, &entry, lit) else {
+        let Ok(()) = self.make_ready(alloc, &entry, lit) else {
             drop(entry);
             return Err(AllocError);
         };
         self.tell_and_leave(gone, lit, unlit, tally);
-        self.enter(entry.with_places(places), tally);
+        self.enter(entry, tally);
         self.forget_all(unlit);
         Ok(())
     }
 
     // Makes room for the entry that will come, and for the lights that will be told to be lit. Nothing was told.
-    fn make_ready(
-        &mut self,
-        alloc: Global,
-        entry: &Entry,
-        lit: &[Light],
-    ) -> Result<Places, AllocError>
+    fn make_ready(&mut self, alloc: Global, entry: &Entry, lit: &[Light]) -> Result<(), AllocError>
         requires indexed { IsIndexed self.old }
+        requires idle { IsAtRest self.old }
         ensures indexed { IsIndexed self.new }
         ensures same { IsSame self.old self.new }
+        ensures idle { OnErr result (IsAtRest self.new) }
         ensures room { OnOk result (HasRoom self.new entry.now.group) }
         ensures lights { OnOk result (spec.HavePlaces self.new.flags.entries lit.now) }
     {
-        let places = self.make_places(alloc, entry)?;
         reserve_lights(&mut self.flags, lit)?;
-        Ok(places)
+        self.make_room(alloc, entry)
     }
 }

@@ -2,7 +2,6 @@
 
 ghost use Rattle.std.specs.Prelude.{◌≡◌, ◌≤◌, ◌<◌, ◌+◌, ◌*◌, true, false, length, filter, slice_get, Some};
 ghost use Rattle.std.specs.List.{list_any};
-ghost use Rattle.indexmap.specs.IndexSet.{index_set_len};
 ghost use Rattle.cml_scan.specs.declared.meet.Place.{Place};
 ghost use Rattle.cml_scan.specs.Order.{Ascends, before};
 ghost use Rattle.cml_scan.specs.Scan.{offers_of};
@@ -15,7 +14,6 @@ ghost use Rattle.cml_index.specs.Heads.{is_sought, is_beside, met_among, heads_o
 ghost use Rattle.cml_index.specs.Posts as spec;
 ghost use Rattle.cml_index.specs.Cores.{IsIndexed};
 
-use crate::live::Live;
 use crate::slot::Slot;
 use crate::state::Core;
 use cml_channel::{Lane, PairedId, Tally, Whom};
@@ -56,13 +54,13 @@ fn count_among(heads: &Lane, others: &Lane, tally: &mut Tally) -> usize
 
 // How many of the heads have an offer of another thread in the lane of this slot.
 fn count_beside(core: &Core, heads: &Lane, slot: Slot, tally: &mut Tally) -> usize
-    requires { Ascends before (lane_at core.now.lanes.by_slot slot) }
+    requires { Ascends before (lane_at core.now.lanes slot) }
     ensures count { result
-        ≡ length (met_among Others (lane_at core.now.lanes.by_slot slot) heads.now.places) }
+        ≡ length (met_among Others (lane_at core.now.lanes slot) heads.now.places) }
     ensures cost { tally.new ≤ tally.old
-        + 3 * (length heads.now.places + length (lane_at core.now.lanes.by_slot slot)) }
+        + 3 * (length heads.now.places + length (lane_at core.now.lanes slot)) }
 {
-    match core.lanes.by_slot.get(&slot) {
+    match core.lanes.lane(slot) {
         Some(others) => count_among(heads, others, tally),
         None => 0,
     }
@@ -87,14 +85,14 @@ fn count_on(core: &Core, object: PairedId, tally: &mut Tally) -> usize
     requires { IsIndexed core.now }
     ensures count { result ≡ length (heads_on (offers_of core.now.entries.items) object) }
     ensures cost { tally.new ≤ tally.old
-        + 3 * (length (lane_at core.now.lanes.by_slot (Side true object))
-        + length (lane_at core.now.lanes.by_slot (Side false object))) }
+        + 3 * (length (lane_at core.now.lanes (Side true object))
+        + length (lane_at core.now.lanes (Side false object))) }
 {
     let slot = Slot::Side {
         heads: true,
         object,
     };
-    match core.lanes.by_slot.get(&slot) {
+    match core.lanes.lane(slot) {
         Some(heads) => {
             if object.kind.one_lane() {
                 count_below(heads, tally)
@@ -110,18 +108,6 @@ fn count_on(core: &Core, object: PairedId, tally: &mut Tally) -> usize
     }
 }
 
-// The object at this place among the live ones.
-pub(crate) fn object_at(live: &Live, i: usize) -> PairedId
-    requires { i < index_set_len live.now }
-    ensures { slice_get live.now.keys i ≡ Some result }
-{
-    let _len = live.len();
-    match live.get_index(i) {
-        Some(object) => *object,
-        None => unreachable!(),
-    }
-}
-
 // How many leaves have a partner.
 pub(crate) fn count_met(core: &Core, tally: &mut Tally) -> usize
     requires { IsIndexed core.now }
@@ -133,7 +119,7 @@ pub(crate) fn count_met(core: &Core, tally: &mut Tally) -> usize
     let _leaves = core.leaves;
     let mut count = 0;
     for i in 0..core.live.len() {
-        count += count_on(core, object_at(&core.live, i), tally);
+        count += count_on(core, core.live.at(i), tally);
     }
     count
 }

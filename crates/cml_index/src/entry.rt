@@ -2,12 +2,10 @@
 
 ghost use Rattle.std.specs.Prelude.{◌≡◌, ◌≤◌, ◌<◌, ◌^◌, length, map, IfOk};
 ghost use Rattle.cml_value.specs.Group.{bases};
-ghost use Rattle.cml_index.specs.declared.slot.Slot.{Slot};
-ghost use Rattle.cml_index.specs.Posts as spec;
-ghost use Rattle.cml_index.specs.Slots.{run_in, slot_leaves};
+ghost use Rattle.cml_index.specs.Posts.{slot_of};
+ghost use Rattle.cml_index.specs.Slots.{slot_in};
 
-use crate::runs::{Places, Runs, make_runs};
-use crate::slot::Slot;
+use crate::slot::Wait;
 use cml_scan::{Place, leaf_bases};
 use cml_value::{Base, Group, Tid};
 use std::alloc::{AllocError, Global};
@@ -19,8 +17,7 @@ struct Post {
     tid: Tid,
     group: Group,
     bases: Vec<Base>,
-    runs: Runs,
-    places: Places,
+    waits: Vec<Wait>,
 }
 
 // A pending thread, with its group. It is 8 bytes long, since all entries after it are moved when one comes or goes.
@@ -40,7 +37,7 @@ impl Model for Entry {
 
     ghost view = { λ e. record { thread = e.post.value.tid.0; group = e.post.value.group } };
 
-    ghost invariant = { λ e. IsPost e.post.value.group e.post.value.bases.items e.post.value.runs };
+    ghost invariant = { λ e. IsPost e.post.value.group e.post.value.bases.items e.post.value.waits.items };
 }
 
 // How many leaves there are, as the number of a leaf. There is no memory for a list in which the number is too large for one.
@@ -50,6 +47,18 @@ fn number(count: usize) -> Result<u32, AllocError>
     u32::try_from(count).map_err(|_| AllocError)
 }
 
+// What leaves of these base events wait for.
+fn waits_of(alloc: Global, bases: &[Base]) -> Result<Vec<Wait>, AllocError>
+    ensures { IfOk result (λ waits. (map slot_in waits.items ≡ map slot_of bases.now)
+        × (length waits.items ≡ length bases.now)) }
+{
+    let mut waits = Vec::new(alloc);
+    for base in bases {
+        waits.push(Wait::of(base))?;
+    }
+    Ok(waits)
+}
+
 impl Entry {
     // The thread with a copy of the group.
     pub(crate) fn new(alloc: Global, tid: Tid, group: &Group) -> Result<Entry, AllocError>
@@ -57,14 +66,13 @@ impl Entry {
     {
         let bases = leaf_bases(alloc, group)?;
         let _count = number(bases.len())?;
-        let runs = make_runs(alloc, &bases)?;
+        let waits = waits_of(alloc, &bases)?;
         let group = group.copy()?;
         let post = Post {
             tid,
             group,
             bases,
-            runs,
-            places: [0; 4],
+            waits,
         };
         Ok(Entry {
             post: Box::new(alloc, post)?,
@@ -102,27 +110,13 @@ impl Entry {
         &self.post.bases
     }
 
-    // The same entry, with the places where its lanes stand.
-    pub(crate) fn with_places(self, places: Places) -> Entry
-        ensures { result ≡ self }
-    {
-        let Entry { mut post } = self;
-        post.places = places;
-        Entry { post }
-    }
-
-    // Where its lanes stood when they were last sought.
-    pub(crate) fn places(&self) -> &Places {
-        &self.post.places
-    }
-
-    // The leaves by their lanes.
-    pub(crate) fn runs(&self) -> &Runs
-        ensures runs { (k : Slot) → run_in result.now k
-            ≡ slot_leaves k 0 (map spec.slot_of (bases self.now.group)) }
-        ensures few { length result.now.entries ≤ length (bases self.now.group) }
+    // What the leaves wait for, from the left.
+    pub(crate) fn waits(&self) -> &[Wait]
+        ensures slots { map slot_in result.now ≡ map slot_of (bases self.now.group) }
+        ensures many { length result.now ≡ length (bases self.now.group) }
+        ensures small { length result.now < 4294967296 }
     {
         let _bases = &self.post.bases;
-        &self.post.runs
+        &self.post.waits
     }
 }

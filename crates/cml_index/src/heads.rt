@@ -12,7 +12,7 @@ ghost use Rattle.cml_index.specs.Heads.{is_sought, IsSought, EndsThere};
 ghost use Rattle.cml_index.specs.Posts as spec;
 ghost use Rattle.cml_index.specs.Cores.{IsIndexed};
 
-use crate::counts::{count_met, object_at};
+use crate::counts::count_met;
 use crate::entry::Entry;
 use crate::flags::is_lit_by;
 use crate::slot::{Slot, met_by};
@@ -47,7 +47,7 @@ fn has_other(core: &Core, slot: Slot, whom: Whom, tally: &mut Tally) -> bool
         (lane_of spec.slot_of slot (offers_of core.now.entries.items)) }
     ensures cost { tally.new ≤ tally.old + 2 }
 {
-    match core.lanes.by_slot.get(&slot) {
+    match core.lanes.lane(slot) {
         Some(lane) => lane.has_other(whom, tally),
         None => false,
     }
@@ -142,7 +142,7 @@ fn head_met(core: &Core, k: usize, tally: &mut Tally) -> Place
         ≤ tally.old + 3 * length (offers_of core.now.entries.items) }
 {
     if core.live.len() == 1 {
-        head_on(core, object_at(&core.live, 0), k, tally)
+        head_on(core, core.live.at(0), k, tally)
     } else {
         seek(core, HeadKind::Met, k, tally)
     }

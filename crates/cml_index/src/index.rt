@@ -10,12 +10,13 @@ ghost use Rattle.cml_index.specs.Posts as spec;
 use crate::entries::Entries;
 use crate::flags::is_lit_by;
 use crate::lanes::Lanes;
+use crate::live::Live;
 use crate::state::{self, Core};
 use crate::{heads, partners, rows};
 use cml_channel::{Tally, do_meet};
 use cml_scan::{Light, Meet, Place};
 use cml_value::{Group, Tid};
-use indexmap::{IndexMap, IndexSet};
+use indexmap::IndexMap;
 use std::alloc::{AllocError, Global};
 use std::marker::Model;
 
@@ -28,7 +29,7 @@ pub struct OfferIndex {
 
 impl Model for OfferIndex {
     ghost use Rattle.cml_index.specs.Posts.{PlainIndex, index_code};
-    ghost use Rattle.cml_index.specs.Cores.{IsIndexed};
+    ghost use Rattle.cml_index.specs.Cores.{IsIndexed, IsAtRest};
 
     ghost Value = { PlainIndex };
 
@@ -36,7 +37,7 @@ impl Model for OfferIndex {
 
     ghost view = { λ x. record { entries = x.core.entries.items; flags = x.core.flags.entries } };
 
-    ghost invariant = { λ x. IsIndexed x.core };
+    ghost invariant = { λ x. IsIndexed x.core × IsAtRest x.core };
 }
 
 impl OfferIndex {
@@ -44,12 +45,16 @@ impl OfferIndex {
     pub fn new(alloc: Global) -> OfferIndex
         ensures { result ≡ record { entries = []; flags = [] } }
     {
+        let entries = Entries::new(alloc);
+        let lanes = Lanes::new(alloc);
+        let live = Live::new(alloc);
+        let flags = IndexMap::new(alloc);
         OfferIndex {
             core: Core {
-                entries: Entries::new(alloc),
-                lanes: Lanes::new(alloc),
-                live: IndexSet::new(alloc),
-                flags: IndexMap::new(alloc),
+                entries,
+                lanes,
+                live,
+                flags,
                 leaves: 0,
                 lit: 0,
             },

@@ -1,190 +1,405 @@
-//! The lanes in which the offers of pending threads stand.
+//! The lanes in which the offers of pending threads stand, by the numbers of what they stand on.
 
-ghost use Rattle.std.specs.Prelude.{◌≡◌, ◌≤◌, ◌<◌, ◌+◌, ◌*◌, ◌^◌, ℕ, [], true, false, Some, nat_lt, length, filter, slice_get, OnOk};
-ghost use Rattle.indexmap.specs.IndexMap.{index_map_len};
+ghost use Rattle.std.specs.Prelude.{◌≡◌, ◌≤◌, ◌<◌, ◌+◌, ◌*◌, ◌^◌, ℕ, [], ◌∷◌, ◌++◌, true, false, None, is_some, length, map, filter, OnOk, OnErr};
+ghost use Rattle.std.specs.Borrow.{sem};
+ghost use Rattle.std.specs.Option.{option_copied};
 ghost use Rattle.cml_scan.specs.Order.{Every, Ascends, before};
-ghost use Rattle.cml_channel.specs.Lanes.{PlainLane, is_own, is_others, others, with_run};
+ghost use Rattle.cml_channel.specs.Lanes.{is_own, is_others, others, with_run};
 ghost use Rattle.cml_index.specs.declared.slot.Slot.{Slot};
 ghost use Rattle.cml_index.specs.Slot.{same_slot};
 ghost use Rattle.cml_index.specs.Slots as spec;
+ghost use Rattle.cml_index.specs.Stands as stands;
+ghost use Rattle.cml_index.specs.Slots.{slot_in};
 
-use crate::runs::{Places, Runs, hint, run_at};
-use crate::slot::Slot;
+use crate::slot::{Row, Slot, Spot, Wait};
+use crate::stand::{
+    Stand, Ticks, come_in, come_tick, count_in, count_tick, forget_tick, forgo_in, forgo_tick,
+    go_in, go_tick, make_in, make_tick, note_in, note_tick,
+};
 use cml_channel::{Lane, Tally};
+use cml_scan::Light;
 use cml_value::Tid;
 use indexmap::IndexMap;
 use std::alloc::{AllocError, Global};
 
-// The lanes: one for each side of each object over which two threads meet, and one for each light.
+// The lanes: for each kind of object a list of them by the number of the object, two lists where two threads meet over it; and those of
+// the ticks, of which there is no end, in a map. All sides of a swap channel are alike, so nobody stands in its second list.
 #[derive(Drop)]
 pub(crate) struct Lanes {
-    pub(crate) by_slot: IndexMap<Slot, Lane>,
+    pub(crate) senders: Vec<Stand>,
+    pub(crate) receivers: Vec<Stand>,
+    pub(crate) swappers: Vec<Stand>,
+    pub(crate) swapped: Vec<Stand>,
+    pub(crate) ivars: Vec<Stand>,
+    pub(crate) mvars: Vec<Stand>,
+    pub(crate) mailboxes: Vec<Stand>,
+    pub(crate) ports: Vec<Stand>,
+    pub(crate) joins: Vec<Stand>,
+    pub(crate) nacks: Vec<Stand>,
+    pub(crate) ticks: Ticks,
 }
 
 impl Lanes {
+    ghost use Rattle.cml_index.specs.Stands.{LendsRow};
+
     // No lane was made yet.
     pub(crate) fn new(alloc: Global) -> Lanes
-        ensures { result.by_slot.entries ≡ [] }
+        ensures { (k : Slot) → stands.stand_at result k ≡ None }
     {
         Lanes {
-            by_slot: IndexMap::new(alloc),
+            senders: Vec::new(alloc),
+            receivers: Vec::new(alloc),
+            swappers: Vec::new(alloc),
+            swapped: Vec::new(alloc),
+            ivars: Vec::new(alloc),
+            mvars: Vec::new(alloc),
+            mailboxes: Vec::new(alloc),
+            ports: Vec::new(alloc),
+            joins: Vec::new(alloc),
+            nacks: Vec::new(alloc),
+            ticks: IndexMap::new(alloc),
+        }
+    }
+
+    // The lanes of one kind.
+    fn row(&self, row: Row) -> &Vec<Stand>
+        ensures { result.now ≡ stands.lanes_in self.now row }
+    {
+        match row {
+            Row::Senders => &self.senders,
+            Row::Receivers => &self.receivers,
+            Row::Swappers => &self.swappers,
+            Row::Swapped => &self.swapped,
+            Row::IVars => &self.ivars,
+            Row::MVars => &self.mvars,
+            Row::Mailboxes => &self.mailboxes,
+            Row::Ports => &self.ports,
+            Row::Joins => &self.joins,
+            Row::Nacks => &self.nacks,
+        }
+    }
+
+    // The lanes of one kind, to change them.
+    fn row_mut(&mut self, row: Row) -> &mut Vec<Stand>
+        ensures* writes_back { sem 𝓛 (LendsRow self.entry row result) }
+        ensures value { result.now ≡ stands.lanes_in self.old row }
+    {
+        match row {
+            Row::Senders => &mut self.senders,
+            Row::Receivers => &mut self.receivers,
+            Row::Swappers => &mut self.swappers,
+            Row::Swapped => &mut self.swapped,
+            Row::IVars => &mut self.ivars,
+            Row::MVars => &mut self.mvars,
+            Row::Mailboxes => &mut self.mailboxes,
+            Row::Ports => &mut self.ports,
+            Row::Joins => &mut self.joins,
+            Row::Nacks => &mut self.nacks,
+        }
+    }
+
+    // What stands in the slot, if it was made.
+    pub(crate) fn stand(&self, slot: Slot) -> Option<&Stand>
+        ensures { option_copied result ≡ stands.stand_at self.now slot }
+    {
+        match slot.spot() {
+            Spot::Listed { row, number } => self.row(row).get(number as usize),
+            Spot::Tick(tick) => self.ticks.get(&tick),
+        }
+    }
+
+    // The lane of the slot, if it was made.
+    pub(crate) fn lane(&self, slot: Slot) -> Option<&Lane>
+        ensures { stands.of_lane (option_copied result) ≡ spec.lane_at self.now slot }
+    {
+        match self.stand(slot) {
+            Some(stand) => Some(&stand.lane),
+            None => None,
         }
     }
 
     // How many offers stand in the lane.
     pub(crate) fn len(&self, slot: Slot) -> usize
-        ensures { result ≡ length (spec.lane_at self.now.by_slot slot) }
+        ensures { result ≡ length (spec.lane_at self.now slot) }
     {
-        match self.by_slot.get(&slot) {
-            Some(lane) => lane.len(),
+        match self.stand(slot) {
+            Some(stand) => stand.lane.len(),
             None => 0,
         }
     }
 
-    // Whether the lane of the slot stands at this place among the lanes.
-    fn stands_at(&self, place: usize, slot: Slot) -> bool
-        ensures within { result ≡ true → place < index_map_len self.now.by_slot }
-        ensures there { result ≡ true → (key : Slot) (lane : PlainLane) →
-            slice_get self.now.by_slot.entries place ≡ Some (key, lane) → key ≡ slot }
+    // Makes the lane, if it is not there yet.
+    fn make(&mut self, alloc: Global, slot: Slot) -> Result<(), AllocError>
+        ensures same { (k : Slot) → stands.IsAlike (stands.stand_at self.new k) (stands.stand_at self.old k) }
+        ensures there { OnOk result (is_some (stands.stand_at self.new slot) ≡ true) }
     {
-        match self.by_slot.get_index(place) {
-            Some((key, _)) => *key == slot,
-            None => false,
+        match slot.spot() {
+            Spot::Listed { row, number } => make_in(self.row_mut(row), alloc, number as usize),
+            Spot::Tick(tick) => make_tick(&mut self.ticks, alloc, tick),
         }
     }
 
-    // Makes the lane, if it is not there yet, and room in it, and returns its place among the lanes.
-    fn reserve_at(
-        &mut self,
-        alloc: Global,
-        slot: Slot,
-        additional: usize,
-    ) -> Result<usize, AllocError>
-        ensures same { (k : Slot) →
-            spec.lane_at self.new.by_slot k ≡ spec.lane_at self.old.by_slot k }
-        ensures kept { (k : Slot) →
-            spec.room_at self.old.by_slot k ≤ spec.room_at self.new.by_slot k }
-        ensures room { OnOk result (additional ≤ spec.room_at self.new.by_slot slot) }
+    // The leaf is to come to the lane, which was made.
+    fn note(&mut self, slot: Slot, leaf: u32) -> Result<(), AllocError>
+        requires { is_some (stands.stand_at self.old slot) ≡ true }
+        ensures here { stands.IsNoted result leaf (stands.stand_at self.old slot) (stands.stand_at self.new slot) }
+        ensures elsewhere { (k : Slot) → same_slot k slot ≡ false →
+            stands.stand_at self.new k ≡ stands.stand_at self.old k }
     {
-        if let Some(place) = self.by_slot.get_index_of(&slot) {
-            let (_, lane) = self.by_slot.pair_mut(place);
-            lane.reserve(additional)?;
-            return Ok(place);
+        match slot.spot() {
+            Spot::Listed { row, number } => note_in(self.row_mut(row), number as usize, leaf),
+            Spot::Tick(tick) => note_tick(&mut self.ticks, tick, leaf),
         }
-        let mut lane = Lane::new(alloc);
-        lane.reserve(additional)?;
-        let (place, _) = self.by_slot.insert_full(slot, lane)?;
-        Ok(place)
     }
 
-    // Makes room in each lane for its run, and returns where these lanes stand.
-    pub(crate) fn make_room(&mut self, alloc: Global, runs: &Runs) -> Result<Places, AllocError>
-        ensures same { (k : Slot) →
-            spec.lane_at self.new.by_slot k ≡ spec.lane_at self.old.by_slot k }
-        ensures kept { (k : Slot) →
-            spec.room_at self.old.by_slot k ≤ spec.room_at self.new.by_slot k }
+    // The leaf is to come to the lane, if there is one.
+    fn note_of(&mut self, alloc: Global, slot: Option<Slot>, leaf: u32) -> Result<(), AllocError>
+        ensures same { (k : Slot) → spec.lane_at self.new k ≡ spec.lane_at self.old k }
+        ensures going { (k : Slot) → spec.going_at self.new k ≡ spec.going_at self.old k }
+        ensures kept { (k : Slot) → spec.room_at self.old k ≤ spec.room_at self.new k }
+        ensures here { OnOk result ((k : Slot) → spec.is_slot k slot ≡ true →
+            (spec.late_at self.new k ≡ spec.late_at self.old k ++ leaf ∷ [])
+            × (length (spec.late_at self.new k) ≤ spec.room_at self.new k)) }
+        ensures elsewhere { (k : Slot) → spec.is_slot k slot ≡ false →
+            spec.late_at self.new k ≡ spec.late_at self.old k }
+        ensures none { OnErr result ((k : Slot) → spec.late_at self.new k ≡ spec.late_at self.old k) }
+    {
+        match slot {
+            Some(slot) => {
+                self.make(alloc, slot)?;
+                self.note(slot, leaf)
+            }
+            None => Ok(()),
+        }
+    }
+
+    // The leaves that were to come to the lane come.
+    fn come_at(&mut self, slot: Slot, tid: Tid, tally: &mut Tally)
+        requires { stands.CanCome tid (stands.stand_at self.old slot) }
+        ensures here { stands.HasCome tid (stands.stand_at self.old slot) (stands.stand_at self.new slot) }
+        ensures elsewhere { (k : Slot) → same_slot k slot ≡ false →
+            stands.stand_at self.new k ≡ stands.stand_at self.old k }
+        ensures cost { (digits : ℕ) → stands.ComesWithin digits (stands.stand_at self.old slot) →
+            tally.new ≤ tally.old + digits }
+    {
+        match slot.spot() {
+            Spot::Listed { row, number } => {
+                come_in(self.row_mut(row), number as usize, tid, tally)
+            }
+            Spot::Tick(tick) => come_tick(&mut self.ticks, tick, tid, tally),
+        }
+    }
+
+    // No leaf is to come to the lane.
+    fn forgo_at(&mut self, slot: Slot)
+        ensures here { stands.HasForgone (stands.stand_at self.old slot) (stands.stand_at self.new slot) }
+        ensures elsewhere { (k : Slot) → same_slot k slot ≡ false →
+            stands.stand_at self.new k ≡ stands.stand_at self.old k }
+    {
+        match slot.spot() {
+            Spot::Listed { row, number } => forgo_in(self.row_mut(row), number as usize),
+            Spot::Tick(tick) => forgo_tick(&mut self.ticks, tick),
+        }
+    }
+
+    // One more leaf is to go from the lane, if it was made.
+    fn count_at(&mut self, slot: Slot)
+        requires { stands.going_in (stands.stand_at self.old slot) < 18446744073709551615 }
+        ensures here { stands.CountsOneMore (stands.stand_at self.old slot) (stands.stand_at self.new slot) }
+        ensures elsewhere { (k : Slot) → same_slot k slot ≡ false →
+            stands.stand_at self.new k ≡ stands.stand_at self.old k }
+    {
+        match slot.spot() {
+            Spot::Listed { row, number } => count_in(self.row_mut(row), number as usize),
+            Spot::Tick(tick) => count_tick(&mut self.ticks, tick),
+        }
+    }
+
+    // The leaves that were to go from the lane go.
+    fn go_at(&mut self, slot: Slot, tid: Tid, tally: &mut Tally)
+        requires { stands.CanGo tid (stands.stand_at self.old slot) }
+        ensures here { stands.HasGone tid (stands.stand_at self.old slot) (stands.stand_at self.new slot) }
+        ensures elsewhere { (k : Slot) → same_slot k slot ≡ false →
+            stands.stand_at self.new k ≡ stands.stand_at self.old k }
+        ensures cost { (digits : ℕ) → stands.GoesWithin digits (stands.stand_at self.old slot) →
+            tally.new ≤ tally.old + digits }
+    {
+        match slot.spot() {
+            Spot::Listed { row, number } => go_in(self.row_mut(row), number as usize, tid, tally),
+            Spot::Tick(tick) => go_tick(&mut self.ticks, tick, tid, tally),
+        }
+    }
+
+    // The leaves that were to come to the lane, if there is one, come.
+    fn come_of(&mut self, slot: Option<Slot>, tid: Tid, tally: &mut Tally)
+        requires { (k : Slot) → spec.is_slot k slot ≡ true → stands.CanCome tid (stands.stand_at self.old k) }
+        ensures here { (k : Slot) → spec.is_slot k slot ≡ true →
+            stands.HasCome tid (stands.stand_at self.old k) (stands.stand_at self.new k) }
+        ensures elsewhere { (k : Slot) → spec.is_slot k slot ≡ false →
+            stands.stand_at self.new k ≡ stands.stand_at self.old k }
+        ensures cost { (digits : ℕ) → ((k : Slot) → spec.is_slot k slot ≡ true →
+            stands.ComesWithin digits (stands.stand_at self.old k)) → tally.new ≤ tally.old + digits }
+    {
+        if let Some(slot) = slot {
+            self.come_at(slot, tid, tally);
+        }
+    }
+
+    // No leaf is to come to the lane, if there is one.
+    fn forgo_of(&mut self, slot: Option<Slot>)
+        ensures here { (k : Slot) → spec.is_slot k slot ≡ true →
+            stands.HasForgone (stands.stand_at self.old k) (stands.stand_at self.new k) }
+        ensures elsewhere { (k : Slot) → spec.is_slot k slot ≡ false →
+            stands.stand_at self.new k ≡ stands.stand_at self.old k }
+    {
+        if let Some(slot) = slot {
+            self.forgo_at(slot);
+        }
+    }
+
+    // One more leaf is to go from the lane, if there is one.
+    fn count_of(&mut self, slot: Option<Slot>)
+        requires { (k : Slot) → spec.is_slot k slot ≡ true → stands.going_in (stands.stand_at self.old k) < 18446744073709551615 }
+        ensures here { (k : Slot) → spec.is_slot k slot ≡ true →
+            stands.CountsOneMore (stands.stand_at self.old k) (stands.stand_at self.new k) }
+        ensures elsewhere { (k : Slot) → spec.is_slot k slot ≡ false →
+            stands.stand_at self.new k ≡ stands.stand_at self.old k }
+    {
+        if let Some(slot) = slot {
+            self.count_at(slot);
+        }
+    }
+
+    // The leaves that were to go from the lane, if there is one, go.
+    fn go_of(&mut self, slot: Option<Slot>, tid: Tid, tally: &mut Tally)
+        requires { (k : Slot) → spec.is_slot k slot ≡ true → stands.CanGo tid (stands.stand_at self.old k) }
+        ensures here { (k : Slot) → spec.is_slot k slot ≡ true →
+            stands.HasGone tid (stands.stand_at self.old k) (stands.stand_at self.new k) }
+        ensures elsewhere { (k : Slot) → spec.is_slot k slot ≡ false →
+            stands.stand_at self.new k ≡ stands.stand_at self.old k }
+        ensures cost { (digits : ℕ) → ((k : Slot) → spec.is_slot k slot ≡ true →
+            stands.GoesWithin digits (stands.stand_at self.old k)) → tally.new ≤ tally.old + digits }
+    {
+        if let Some(slot) = slot {
+            self.go_at(slot, tid, tally);
+        }
+    }
+
+    // Removes the lane of a tick, if nobody stands in it.
+    pub(crate) fn forget(&mut self, tick: u64)
+        requires idle { (k : Slot) → spec.late_at self.old k ≡ [] }
+        requires still { (k : Slot) → spec.going_at self.old k ≡ 0 }
+        ensures { (k : Slot) → stands.IsLike (stands.stand_at self.new k) (stands.stand_at self.old k) }
+    {
+        if self.len(Slot::Waiters(Light::Alarm(tick))) == 0 {
+            forget_tick(&mut self.ticks, tick);
+        }
+    }
+
+    // Notes these leaves, which are to come, at their lanes, and makes room for them.
+    fn note_all(&mut self, alloc: Global, waits: &[Wait]) -> Result<(), AllocError>
+        requires small { length waits.now < 4294967296 }
+        requires idle { (k : Slot) → spec.late_at self.old k ≡ [] }
+        ensures same { (k : Slot) → spec.lane_at self.new k ≡ spec.lane_at self.old k }
+        ensures going { (k : Slot) → spec.going_at self.new k ≡ spec.going_at self.old k }
+        ensures kept { (k : Slot) → spec.room_at self.old k ≤ spec.room_at self.new k }
+        ensures late { OnOk result ((k : Slot) → spec.late_at self.new k
+            ≡ spec.slot_leaves k 0 (map slot_in waits.now)) }
         ensures room { OnOk result ((k : Slot) →
-            length (spec.run_in runs.now k) ≤ spec.room_at self.new.by_slot k) }
+            length (spec.late_at self.new k) ≤ spec.room_at self.new k) }
+        ensures only { (k : Slot) → spec.has_slot k (map slot_in waits.now) ≡ false →
+            spec.late_at self.new k ≡ [] }
     {
-        let mut places: Places = [0; 4];
-        for i in 0..runs.len() {
-            let (slot, leaves) = run_at(runs, i);
-            let place = self.reserve_at(alloc, slot, leaves.len())?;
-            if i < places.len() {
-                places[i] = place;
+        for (leaf, wait) in waits.iter().enumerate() {
+            self.note_of(alloc, wait.slot(), leaf as u32)?;
+        }
+        Ok(())
+    }
+
+    // These leaves of the thread, which were noted, come to their lanes.
+    pub(crate) fn come(&mut self, tid: Tid, waits: &[Wait], tally: &mut Tally)
+        requires late { (k : Slot) → spec.late_at self.old k
+            ≡ spec.slot_leaves k 0 (map slot_in waits.now) }
+        requires room { (k : Slot) → length (spec.late_at self.old k) ≤ spec.room_at self.old k }
+        requires sorted { (k : Slot) → Ascends before (spec.lane_at self.old k) }
+        requires new { (k : Slot) → Every (is_others tid) (spec.lane_at self.old k) }
+        ensures lanes { (k : Slot) → spec.lane_at self.new k
+            ≡ with_run tid (spec.slot_leaves k 0 (map slot_in waits.now)) (spec.lane_at self.old k) }
+        ensures late { (k : Slot) → spec.late_at self.new k ≡ [] }
+        ensures going { (k : Slot) → spec.going_at self.new k ≡ spec.going_at self.old k }
+        ensures cost { (digits : ℕ) → spec.HaveDigits self.old digits →
+            tally.new ≤ tally.old + length waits.now * digits }
+    {
+        for wait in waits {
+            self.come_of(wait.slot(), tid, tally);
+        }
+    }
+
+    // None of these leaves is to come.
+    fn forgo(&mut self, waits: &[Wait])
+        requires { (k : Slot) → spec.has_slot k (map slot_in waits.now) ≡ false → spec.late_at self.old k ≡ [] }
+        ensures same { (k : Slot) → spec.lane_at self.new k ≡ spec.lane_at self.old k }
+        ensures late { (k : Slot) → spec.late_at self.new k ≡ [] }
+        ensures going { (k : Slot) → spec.going_at self.new k ≡ spec.going_at self.old k }
+    {
+        for wait in waits {
+            self.forgo_of(wait.slot());
+        }
+    }
+
+    // Makes room for these leaves, and notes that they are to come. Out of memory none is.
+    pub(crate) fn make_room(&mut self, alloc: Global, waits: &[Wait]) -> Result<(), AllocError>
+        requires small { length waits.now < 4294967296 }
+        requires idle { (k : Slot) → spec.late_at self.old k ≡ [] }
+        ensures same { (k : Slot) → spec.lane_at self.new k ≡ spec.lane_at self.old k }
+        ensures going { (k : Slot) → spec.going_at self.new k ≡ spec.going_at self.old k }
+        ensures late { OnOk result ((k : Slot) → spec.late_at self.new k
+            ≡ spec.slot_leaves k 0 (map slot_in waits.now)) }
+        ensures room { OnOk result ((k : Slot) →
+            length (spec.late_at self.new k) ≤ spec.room_at self.new k) }
+        ensures none { OnErr result ((k : Slot) → spec.late_at self.new k ≡ []) }
+    {
+        match self.note_all(alloc, waits) {
+            Ok(()) => Ok(()),
+            Err(error) => {
+                self.forgo(waits);
+                Err(error)
             }
         }
-        Ok(places)
     }
 
-    // Removes the lane, if nobody stands in it.
-    pub(crate) fn forget(&mut self, slot: Slot)
-        ensures { (k : Slot) →
-            spec.lane_at self.new.by_slot k ≡ spec.lane_at self.old.by_slot k }
+    // Counts these leaves, which are to go, at their lanes, as far as these were made.
+    fn count(&mut self, waits: &[Wait])
+        requires idle { (k : Slot) → spec.going_at self.old k ≡ 0 }
+        ensures same { (k : Slot) → spec.lane_at self.new k ≡ spec.lane_at self.old k }
+        ensures late { (k : Slot) → spec.late_at self.new k ≡ spec.late_at self.old k }
+        ensures room { (k : Slot) → spec.room_at self.new k ≡ spec.room_at self.old k }
+        ensures going { (k : Slot) → 0 < spec.going_at self.new k →
+            spec.going_at self.new k ≡ length (spec.slot_leaves k 0 (map slot_in waits.now)) }
+        ensures made { (k : Slot) → 0 < length (spec.lane_at self.old k) →
+            spec.going_at self.new k ≡ length (spec.slot_leaves k 0 (map slot_in waits.now)) }
     {
-        if self.len(slot) == 0 {
-            self.by_slot.swap_remove(&slot);
-        }
-    }
-
-    // Adds a run of the thread to its lane, which may stand at this place.
-    fn come_at(&mut self, slot: Slot, place: usize, tid: Tid, leaves: &[u32], tally: &mut Tally)
-        requires room { length leaves.now ≤ spec.room_at self.old.by_slot slot }
-        requires new { Every (is_others tid) (spec.lane_at self.old.by_slot slot) }
-        requires ascend { Ascends nat_lt leaves.now }
-        ensures here { spec.lane_at self.new.by_slot slot
-            ≡ with_run tid leaves.now (spec.lane_at self.old.by_slot slot) }
-        ensures elsewhere { (k : Slot) → same_slot k slot ≡ false →
-            spec.lane_at self.new.by_slot k ≡ spec.lane_at self.old.by_slot k }
-        ensures room { (k : Slot) → same_slot k slot ≡ false →
-            spec.room_at self.new.by_slot k ≡ spec.room_at self.old.by_slot k }
-        ensures cost { (digits : ℕ) → length (spec.lane_at self.old.by_slot slot) < 2 ^ digits →
-            tally.new ≤ tally.old + digits }
-    {
-        if self.stands_at(place, slot) {
-            let (_, lane) = self.by_slot.pair_mut(place);
-            lane.come(tid, leaves, tally);
-            return;
-        }
-        if let Some(found) = self.by_slot.get_mut(&slot) {
-            found.come(tid, leaves, tally);
+        for wait in waits {
+            self.count_of(wait.slot());
         }
     }
 
-    // Removes the run of the thread, of this many leaves, from its lane, which may stand at this place.
-    fn go_at(&mut self, slot: Slot, place: usize, tid: Tid, count: usize, tally: &mut Tally)
-        requires { count ≡ length (filter (is_own tid) (spec.lane_at self.old.by_slot slot)) }
-        ensures here { spec.lane_at self.new.by_slot slot
-            ≡ others tid (spec.lane_at self.old.by_slot slot) }
-        ensures elsewhere { (k : Slot) → same_slot k slot ≡ false →
-            spec.lane_at self.new.by_slot k ≡ spec.lane_at self.old.by_slot k }
-        ensures room { (k : Slot) →
-            spec.room_at self.old.by_slot k ≤ spec.room_at self.new.by_slot k }
-        ensures cost { (digits : ℕ) → length (spec.lane_at self.old.by_slot slot) < 2 ^ digits →
-            tally.new ≤ tally.old + digits }
+    // These leaves of the thread, which are all its offers, go from their lanes.
+    pub(crate) fn go(&mut self, tid: Tid, waits: &[Wait], tally: &mut Tally)
+        requires idle { (k : Slot) → spec.going_at self.old k ≡ 0 }
+        requires all { (k : Slot) → length (spec.slot_leaves k 0 (map slot_in waits.now))
+            ≡ length (filter (is_own tid) (spec.lane_at self.old k)) }
+        ensures lanes { (k : Slot) → spec.lane_at self.new k
+            ≡ others tid (spec.lane_at self.old k) }
+        ensures late { (k : Slot) → spec.late_at self.new k ≡ spec.late_at self.old k }
+        ensures room { (k : Slot) → spec.room_at self.old k ≤ spec.room_at self.new k }
+        ensures going { (k : Slot) → spec.going_at self.new k ≡ 0 }
+        ensures cost { (digits : ℕ) → spec.HaveDigits self.old digits →
+            tally.new ≤ tally.old + length waits.now * digits }
     {
-        if self.stands_at(place, slot) {
-            let (_, lane) = self.by_slot.pair_mut(place);
-            lane.go(tid, count, tally);
-            return;
-        }
-        if let Some(found) = self.by_slot.get_mut(&slot) {
-            found.go(tid, count, tally);
-        }
-    }
-
-    // Adds all runs of the thread, for which there is room.
-    pub(crate) fn come(&mut self, tid: Tid, runs: &Runs, places: &Places, tally: &mut Tally)
-        requires room { (k : Slot) →
-            length (spec.run_in runs.now k) ≤ spec.room_at self.old.by_slot k }
-        requires sorted { (k : Slot) → Ascends before (spec.lane_at self.old.by_slot k) }
-        requires new { (k : Slot) → Every (is_others tid) (spec.lane_at self.old.by_slot k) }
-        requires ascend { (k : Slot) → Ascends nat_lt (spec.run_in runs.now k) }
-        ensures lanes { (k : Slot) → spec.lane_at self.new.by_slot k
-            ≡ with_run tid (spec.run_in runs.now k) (spec.lane_at self.old.by_slot k) }
-        ensures cost { (digits : ℕ) → spec.HaveDigits self.old.by_slot digits →
-            tally.new ≤ tally.old + length runs.now.entries * digits }
-    {
-        for i in 0..runs.len() {
-            let (slot, leaves) = run_at(runs, i);
-            self.come_at(slot, hint(places, i), tid, leaves, tally);
-        }
-    }
-
-    // Removes all runs of the thread, which are all its offers in these lanes.
-    pub(crate) fn go(&mut self, tid: Tid, runs: &Runs, places: &Places, tally: &mut Tally)
-        requires { (k : Slot) → length (spec.run_in runs.now k)
-            ≡ length (filter (is_own tid) (spec.lane_at self.old.by_slot k)) }
-        ensures lanes { (k : Slot) → spec.lane_at self.new.by_slot k
-            ≡ others tid (spec.lane_at self.old.by_slot k) }
-        ensures room { (k : Slot) →
-            spec.room_at self.old.by_slot k ≤ spec.room_at self.new.by_slot k }
-        ensures cost { (digits : ℕ) → spec.HaveDigits self.old.by_slot digits →
-            tally.new ≤ tally.old + length runs.now.entries * digits }
-    {
-        for i in 0..runs.len() {
-            let (slot, leaves) = run_at(runs, i);
-            self.go_at(slot, hint(places, i), tid, leaves.len(), tally);
+        self.count(waits);
+        for wait in waits {
+            self.go_of(wait.slot(), tid, tally);
         }
     }
 }

@@ -11,11 +11,12 @@ mod index;
 mod lanes;
 mod live;
 mod nacks;
+mod numbers;
 mod partners;
 mod rows;
-mod runs;
 mod slot;
 mod sole;
+mod stand;
 mod state;
 mod table;
 

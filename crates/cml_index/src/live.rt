@@ -1,23 +1,29 @@
 //! The objects on which two offers may meet: with offers on both sides, or with two where all sides are alike.
 
-ghost use Rattle.std.specs.Prelude.{◌≡◌, ◌≤◌, ◌<◌, ◌+◌, ◌&&◌, ◌||◌, true, false, length};
-ghost use Rattle.indexmap.specs.IndexSet.{contains, spare};
+ghost use Rattle.std.specs.Prelude.{◌≡◌, ◌≤◌, ◌<◌, ◌&&◌, ◌||◌, [], true, false, length, map, slice_get, Some, OnOk};
+ghost use Rattle.std.specs.List.{IsDistinct};
 ghost use Rattle.cml_channel.specs.Pairings.{same_object};
 ghost use Rattle.cml_channel.specs.declared.pairing.PairedId.{PairedId};
+ghost use Rattle.cml_index.specs.declared.slot.Slot.{Slot};
+ghost use Rattle.cml_index.specs.Slots.{slot_in};
 ghost use Rattle.cml_index.specs.Live as spec;
 
 use crate::lanes::Lanes;
-use crate::runs::{Runs, run_at};
-use crate::slot::Slot;
-use cml_channel::PairedId;
-use indexmap::IndexSet;
+use crate::numbers::Numbers;
+use crate::slot::{Slot, Wait};
+use cml_channel::{PairedId, Pairing};
+use std::alloc::{AllocError, Global};
 
-// These objects.
-pub(crate) type Live = IndexSet<PairedId>;
+// These objects, by their numbers.
+#[derive(Drop)]
+pub(crate) struct Live {
+    pub(crate) channels: Numbers,
+    pub(crate) swaps: Numbers,
+}
 
 // Whether two offers on the object may meet. Where no offer can stand first there, the lane of the others is not sought.
 fn is_live(lanes: &Lanes, object: PairedId) -> bool
-    ensures { result ≡ spec.is_live lanes.now.by_slot object }
+    ensures { result ≡ spec.is_live lanes.now object }
 {
     let heads = lanes.len(Slot::Side {
         heads: true,
@@ -33,94 +39,185 @@ fn is_live(lanes: &Lanes, object: PairedId) -> bool
     0 < heads && 0 < lanes.len(others)
 }
 
-// Takes the object out where it is no longer live.
-fn cut(live: &mut Live, lanes: &Lanes, object: PairedId)
-    ensures here { contains same_object live.new object
-        ≡ (contains same_object live.old object && spec.is_live lanes.now.by_slot object) }
-    ensures elsewhere { (n : PairedId) → same_object object n ≡ false →
-        contains same_object live.new n ≡ contains same_object live.old n }
-    ensures room { spare live.old ≤ spare live.new }
-{
-    if live.is_empty() {
-        return;
-    }
-    if !is_live(lanes, object) {
-        live.swap_remove(&object);
-    }
-}
-
-// Puts the object in, for which there is room, where it is live.
-fn add(live: &mut Live, lanes: &Lanes, object: PairedId)
-    requires { 0 < spare live.old }
-    ensures here { contains same_object live.new object
-        ≡ (contains same_object live.old object || spec.is_live lanes.now.by_slot object) }
-    ensures elsewhere { (n : PairedId) → same_object object n ≡ false →
-        contains same_object live.new n ≡ contains same_object live.old n }
-    ensures room { spare live.old ≤ spare live.new + 1 }
-{
-    if is_live(lanes, object) {
-        match live.insert(object) {
-            Ok(_) => {}
-            Err(_) => unreachable!(),
+impl Live {
+    // There is none.
+    pub(crate) fn new(alloc: Global) -> Live
+        ensures { spec.objects result ≡ [] }
+    {
+        Live {
+            channels: Numbers::new(alloc),
+            swaps: Numbers::new(alloc),
         }
     }
-}
 
-// Takes the object of which the slot is a side out where it is no longer live.
-fn cut_at(live: &mut Live, lanes: &Lanes, slot: Slot)
-    ensures here { (n : PairedId) → spec.is_side slot n ≡ true → contains same_object live.new n
-        ≡ (contains same_object live.old n && spec.is_live lanes.now.by_slot n) }
-    ensures elsewhere { (n : PairedId) → spec.is_side slot n ≡ false →
-        contains same_object live.new n ≡ contains same_object live.old n }
-    ensures room { spare live.old ≤ spare live.new }
-{
-    match slot {
-        Slot::Side { object, .. } => cut(live, lanes, object),
-        Slot::Waiters(_) => {}
+    // How many there are. None is there twice.
+    pub(crate) fn len(&self) -> usize
+        ensures count { result ≡ length (spec.objects self.now) }
+        ensures once { IsDistinct same_object (spec.objects self.now) }
+    {
+        self.channels.len() + self.swaps.len()
     }
-}
 
-// Puts the object of which the slot is a side in, for which there is room, where it is live.
-fn add_at(live: &mut Live, lanes: &Lanes, slot: Slot)
-    requires { 0 < spare live.old }
-    ensures here { (n : PairedId) → spec.is_side slot n ≡ true → contains same_object live.new n
-        ≡ (contains same_object live.old n || spec.is_live lanes.now.by_slot n) }
-    ensures elsewhere { (n : PairedId) → spec.is_side slot n ≡ false →
-        contains same_object live.new n ≡ contains same_object live.old n }
-    ensures room { spare live.old ≤ spare live.new + 1 }
-{
-    match slot {
-        Slot::Side { object, .. } => add(live, lanes, object),
-        Slot::Waiters(_) => {}
+    // The object at this place among them.
+    pub(crate) fn at(&self, i: usize) -> PairedId
+        requires { i < length (spec.objects self.now) }
+        ensures { slice_get (spec.objects self.now) i ≡ Some result }
+    {
+        if i < self.channels.len() {
+            PairedId {
+                kind: Pairing::Channel,
+                number: self.channels.at(i),
+            }
+        } else {
+            PairedId {
+                kind: Pairing::Swap,
+                number: self.swaps.at(i - self.channels.len()),
+            }
+        }
     }
-}
 
-// Brings the live objects up to date once these runs have gone from their lanes. It takes no memory.
-pub(crate) fn cut_all(live: &mut Live, lanes: &Lanes, runs: &Runs)
-    requires was { (n : PairedId) → spec.has_side runs.now.entries n ≡ false →
-        contains same_object live.old n ≡ spec.is_live lanes.now.by_slot n }
-    requires over { (n : PairedId) → spec.is_live lanes.now.by_slot n ≡ true →
-        contains same_object live.old n ≡ true }
-    ensures live { spec.AreLive lanes.now.by_slot live.new }
-    ensures room { spare live.old ≤ spare live.new }
-{
-    for i in 0..runs.len() {
-        let (slot, _leaves) = run_at(runs, i);
-        cut_at(live, lanes, slot);
+    // Gives the object a place, so that it can be put in.
+    fn make(&mut self, object: PairedId) -> Result<(), AllocError>
+        ensures same { spec.IsAsLive self.old self.new }
+        ensures there { OnOk result (spec.HasPlace self.new object) }
+    {
+        match object.kind {
+            Pairing::Channel => self.channels.make(object.number),
+            Pairing::Swap => self.swaps.make(object.number),
+        }
     }
-}
 
-// Brings the live objects up to date once these runs have come to their lanes, for each of which there is room. It takes no memory.
-pub(crate) fn add_all(live: &mut Live, lanes: &Lanes, runs: &Runs)
-    requires room { length runs.now.entries ≤ spare live.old }
-    requires was { (n : PairedId) → spec.has_side runs.now.entries n ≡ false →
-        contains same_object live.old n ≡ spec.is_live lanes.now.by_slot n }
-    requires under { (n : PairedId) → spec.is_live lanes.now.by_slot n ≡ false →
-        contains same_object live.old n ≡ false }
-    ensures { spec.AreLive lanes.now.by_slot live.new }
-{
-    for i in 0..runs.len() {
-        let (slot, _leaves) = run_at(runs, i);
-        add_at(live, lanes, slot);
+    // Takes the object out.
+    fn take_out(&mut self, object: PairedId)
+        ensures here { spec.is_in self.new object ≡ false }
+        ensures elsewhere { (n : PairedId) → same_object object n ≡ false →
+            spec.is_in self.new n ≡ spec.is_in self.old n }
+        ensures places { (n : PairedId) → spec.HasPlace self.old n → spec.HasPlace self.new n }
+    {
+        match object.kind {
+            Pairing::Channel => self.channels.cut(object.number),
+            Pairing::Swap => self.swaps.cut(object.number),
+        }
+    }
+
+    // Puts the object in, which has a place.
+    fn put_in(&mut self, object: PairedId)
+        requires { spec.HasPlace self.old object }
+        ensures here { spec.is_in self.new object ≡ true }
+        ensures elsewhere { (n : PairedId) → same_object object n ≡ false →
+            spec.is_in self.new n ≡ spec.is_in self.old n }
+        ensures places { (n : PairedId) → spec.HasPlace self.old n → spec.HasPlace self.new n }
+    {
+        match object.kind {
+            Pairing::Channel => self.channels.put(object.number),
+            Pairing::Swap => self.swaps.put(object.number),
+        }
+    }
+
+    // Takes the object out where it is no longer live.
+    fn cut(&mut self, lanes: &Lanes, object: PairedId)
+        ensures here { spec.is_in self.new object
+            ≡ (spec.is_in self.old object && spec.is_live lanes.now object) }
+        ensures elsewhere { (n : PairedId) → same_object object n ≡ false →
+            spec.is_in self.new n ≡ spec.is_in self.old n }
+        ensures places { (n : PairedId) → spec.HasPlace self.old n → spec.HasPlace self.new n }
+    {
+        if !is_live(lanes, object) {
+            self.take_out(object);
+        }
+    }
+
+    // Puts the object in, which has a place, where it is live.
+    fn add(&mut self, lanes: &Lanes, object: PairedId)
+        requires { spec.HasPlace self.old object }
+        ensures here { spec.is_in self.new object
+            ≡ (spec.is_in self.old object || spec.is_live lanes.now object) }
+        ensures elsewhere { (n : PairedId) → same_object object n ≡ false →
+            spec.is_in self.new n ≡ spec.is_in self.old n }
+        ensures places { (n : PairedId) → spec.HasPlace self.old n → spec.HasPlace self.new n }
+    {
+        if is_live(lanes, object) {
+            self.put_in(object);
+        }
+    }
+
+    // Takes the object of which the slot is a side out where it is no longer live.
+    fn cut_at(&mut self, lanes: &Lanes, slot: Option<Slot>)
+        ensures here { (n : PairedId) → spec.has_side n slot ≡ true → spec.is_in self.new n
+            ≡ (spec.is_in self.old n && spec.is_live lanes.now n) }
+        ensures elsewhere { (n : PairedId) → spec.has_side n slot ≡ false →
+            spec.is_in self.new n ≡ spec.is_in self.old n }
+        ensures places { (n : PairedId) → spec.HasPlace self.old n → spec.HasPlace self.new n }
+    {
+        if let Some(Slot::Side { object, .. }) = slot {
+            self.cut(lanes, object);
+        }
+    }
+
+    // Puts the object of which the slot is a side in, which has a place, where it is live.
+    fn add_at(&mut self, lanes: &Lanes, slot: Option<Slot>)
+        requires { (n : PairedId) → spec.has_side n slot ≡ true → spec.HasPlace self.old n }
+        ensures here { (n : PairedId) → spec.has_side n slot ≡ true → spec.is_in self.new n
+            ≡ (spec.is_in self.old n || spec.is_live lanes.now n) }
+        ensures elsewhere { (n : PairedId) → spec.has_side n slot ≡ false →
+            spec.is_in self.new n ≡ spec.is_in self.old n }
+        ensures places { (n : PairedId) → spec.HasPlace self.old n → spec.HasPlace self.new n }
+    {
+        if let Some(Slot::Side { object, .. }) = slot {
+            self.add(lanes, object);
+        }
+    }
+
+    // Gives a place to the object of which the slot is a side.
+    fn make_at(&mut self, slot: Option<Slot>) -> Result<(), AllocError>
+        ensures same { spec.IsAsLive self.old self.new }
+        ensures there { OnOk result ((n : PairedId) → spec.has_side n slot ≡ true → spec.HasPlace self.new n) }
+    {
+        match slot {
+            Some(Slot::Side { object, .. }) => self.make(object),
+            _ => Ok(()),
+        }
+    }
+
+    // Gives each object of which one of these leaves is a side a place.
+    pub(crate) fn make_all(&mut self, waits: &[Wait]) -> Result<(), AllocError>
+        ensures same { spec.IsAsLive self.old self.new }
+        ensures there { OnOk result ((n : PairedId) →
+            spec.have_side n (map slot_in waits.now) ≡ true → spec.HasPlace self.new n) }
+    {
+        for wait in waits {
+            self.make_at(wait.slot())?;
+        }
+        Ok(())
+    }
+
+    // Brings the live objects up to date once these leaves have gone from their lanes. It takes no memory.
+    pub(crate) fn cut_all(&mut self, lanes: &Lanes, waits: &[Wait])
+        requires was { (n : PairedId) → spec.have_side n (map slot_in waits.now) ≡ false →
+            spec.is_in self.old n ≡ spec.is_live lanes.now n }
+        requires over { (n : PairedId) → spec.is_live lanes.now n ≡ true →
+            spec.is_in self.old n ≡ true }
+        ensures live { spec.AreLive lanes.now self.new }
+        ensures places { (n : PairedId) → spec.HasPlace self.old n → spec.HasPlace self.new n }
+    {
+        for wait in waits {
+            self.cut_at(lanes, wait.slot());
+        }
+    }
+
+    // Brings the live objects up to date once these leaves have come to their lanes. Each object of which one is a side
+    // has a place. It takes no memory.
+    pub(crate) fn add_all(&mut self, lanes: &Lanes, waits: &[Wait])
+        requires there { (n : PairedId) → spec.have_side n (map slot_in waits.now) ≡ true →
+            spec.HasPlace self.old n }
+        requires was { (n : PairedId) → spec.have_side n (map slot_in waits.now) ≡ false →
+            spec.is_in self.old n ≡ spec.is_live lanes.now n }
+        requires under { (n : PairedId) → spec.is_live lanes.now n ≡ false →
+            spec.is_in self.old n ≡ false }
+        ensures { spec.AreLive lanes.now self.new }
+    {
+        for wait in waits {
+            self.add_at(lanes, wait.slot());
+        }
     }
 }

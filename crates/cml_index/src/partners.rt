@@ -22,7 +22,7 @@ fn others_count(core: &Core, slot: Slot, whom: Whom, tally: &mut Tally) -> usize
     ensures cost { (digits : ℕ) → spec.HasDigits core.now.entries.items digits →
         tally.new ≤ tally.old + 2 * digits }
 {
-    match core.lanes.by_slot.get(&slot) {
+    match core.lanes.lane(slot) {
         Some(lane) => lane.others_count(whom, tally),
         None => 0,
     }
@@ -38,7 +38,7 @@ fn other_at(core: &Core, slot: Slot, whom: Whom, j: usize, tally: &mut Tally) ->
     ensures cost { (digits : ℕ) → spec.HasDigits core.now.entries.items digits →
         tally.new ≤ tally.old + (2 * digits + 1) }
 {
-    match core.lanes.by_slot.get(&slot) {
+    match core.lanes.lane(slot) {
         Some(lane) => lane.other(whom, j, tally),
         None => unreachable!(),
     }

@@ -83,7 +83,7 @@ fn push_slot(
     ensures { IfOk result (λ _. rows.new.items ≡ rows.old.items
         ++ map (pair_of head) (those whom (lane_of spec.slot_of slot (offers_of core.now.entries.items)))) }
 {
-    match core.lanes.by_slot.get(&slot) {
+    match core.lanes.lane(slot) {
         Some(lane) => push_lane(rows, head, lane, whom, tally),
         None => Ok(()),
     }

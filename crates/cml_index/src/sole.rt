@@ -13,8 +13,7 @@ ghost use Rattle.cml_index.specs.Cores.{IsIndexed};
 
 use crate::counts::only_thread;
 use crate::entries::Entries;
-use crate::runs::run_len;
-use crate::slot::Slot;
+use crate::slot::{Slot, count_in};
 use crate::state::Core;
 use cml_channel::{Lane, PairedId, Tally};
 use cml_scan::Place;
@@ -26,7 +25,7 @@ fn own_len(entries: &Entries, slot: Slot, tid: Tid) -> usize
         (lane_of spec.slot_of slot (offers_of entries.now.items))) }
 {
     match entries.get(tid) {
-        Some(entry) => run_len(entry.runs(), slot),
+        Some(entry) => count_in(entry.waits(), slot),
         None => 0,
     }
 }
@@ -88,9 +87,9 @@ fn head_in(core: &Core, object: PairedId, heads: &Lane, k: usize, tally: &mut Ta
     requires there { heads.now.places
         ≡ lane_of spec.slot_of (Side true object) (offers_of core.now.entries.items) }
     requires within { k < length (met_among Others
-        (lane_at core.now.lanes.by_slot (Side false object)) heads.now.places) }
+        (lane_at core.now.lanes (Side false object)) heads.now.places) }
     ensures found { IsFoundEarly
-        (met_among Others (lane_at core.now.lanes.by_slot (Side false object)) heads.now.places) k
+        (met_among Others (lane_at core.now.lanes (Side false object)) heads.now.places) k
         heads.now.places result tally.old tally.new }
 {
     let slot = Slot::Side {
@@ -101,7 +100,7 @@ fn head_in(core: &Core, object: PairedId, heads: &Lane, k: usize, tally: &mut Ta
         heads: false,
         object,
     };
-    match core.lanes.by_slot.get(&other) {
+    match core.lanes.lane(other) {
         Some(others) => head_beside(core, slot, heads, others, k, tally),
         None => unreachable!(),
     }
@@ -123,13 +122,13 @@ pub(crate) fn head_on(core: &Core, object: PairedId, k: usize, tally: &mut Tally
     requires indexed { IsIndexed core.now }
     requires within { k < length (heads_on (offers_of core.now.entries.items) object) }
     ensures found { IsFoundEarly (heads_on (offers_of core.now.entries.items) object) k
-        (lane_at core.now.lanes.by_slot (Side true object)) result tally.old tally.new }
+        (lane_at core.now.lanes (Side true object)) result tally.old tally.new }
 {
     let slot = Slot::Side {
         heads: true,
         object,
     };
-    match core.lanes.by_slot.get(&slot) {
+    match core.lanes.lane(slot) {
         Some(heads) => {
             if object.kind.one_lane() {
                 head_below(heads, k, tally)

@@ -1,6 +1,6 @@
 //! The fields of the index, and the steps of a change.
 
-ghost use Rattle.std.specs.Prelude.{◌≡◌, ◌≢◌, ◌≤◌, ◌+◌, ◌*◌, [], ◌∷◌, ℕ, true, if◌then◌else◌, length, All, slice_get, OnOk};
+ghost use Rattle.std.specs.Prelude.{◌≡◌, ◌≢◌, ◌≤◌, ◌<◌, ◌+◌, ◌*◌, [], ◌∷◌, ℕ, true, if◌then◌else◌, length, map, All, slice_get, OnOk, OnErr};
 ghost use Rattle.cml_value.specs.Group.{bases};
 ghost use Rattle.cml_scan.specs.declared.object.Light.{Light};
 ghost use Rattle.cml_scan.specs.Scan.{offers_of};
@@ -8,7 +8,11 @@ ghost use Rattle.std.specs.Option.{option_copied};
 ghost use Rattle.cml_scan.specs.Order.{base_at as scan_base_at};
 ghost use Rattle.cml_scan.specs.Table.{without, IsThere, same_light};
 ghost use Rattle.cml_index.specs.Posts as spec;
-ghost use Rattle.cml_index.specs.Cores.{IsIndexed, AreThere, IsSame, IsStill, HasCome, HasFreed, HasRoom};
+ghost use Rattle.cml_index.specs.Cores.{IsIndexed, IsAtRest, AreThere, IsSame, IsStill, HasCome, HasFreed, HasRoom};
+ghost use Rattle.cml_index.specs.Live.{have_side, HasPlace};
+ghost use Rattle.cml_channel.specs.declared.pairing.PairedId.{PairedId};
+ghost use Rattle.cml_value.specs.Group.{scopes, nacks_of};
+ghost use Rattle.cml_scan.specs.Order.{Every};
 ghost use Rattle.cml_index.specs.declared.slot.Slot.TheVariants.{Waiters};
 ghost use Rattle.cml_index.specs.Slots.{HaveDigits};
 
@@ -16,9 +20,8 @@ use crate::entries::Entries;
 use crate::entry::Entry;
 use crate::flags::{Flags, count_lit, flip};
 use crate::lanes::Lanes;
-use crate::live::{Live, add_all, cut_all};
+use crate::live::Live;
 use crate::nacks::reserve_nacks;
-use crate::runs::Places;
 use crate::slot::Slot;
 use cml_channel::Tally;
 use cml_scan::{Light, Place};
@@ -45,7 +48,7 @@ impl Core {
         ensures entries { self.new.entries.items ≡ without (tid ∷ []) self.old.entries.items }
         ensures indexed { IsIndexed self.new }
         ensures flags { self.new.flags ≡ self.old.flags }
-        ensures cost { (digits : ℕ) → HaveDigits self.old.lanes.by_slot digits →
+        ensures cost { (digits : ℕ) → HaveDigits self.old.lanes digits →
             tally.new + self.new.leaves * (digits + 2)
             ≤ tally.old + self.old.leaves * (digits + 2) }
         ensures freed { HasFreed self.old self.new }
@@ -54,8 +57,8 @@ impl Core {
         let lit = count_lit(&self.flags, entry.bases(), tally);
         self.lit -= lit;
         self.leaves -= entry.bases().len();
-        self.lanes.go(tid, entry.runs(), entry.places(), tally);
-        cut_all(&mut self.live, &self.lanes, entry.runs());
+        self.lanes.go(tid, entry.waits(), tally);
+        self.live.cut_all(&self.lanes, entry.waits());
         drop(entry);
     }
 
@@ -66,7 +69,7 @@ impl Core {
         ensures entries { self.new.entries.items ≡ without gone.now self.old.entries.items }
         ensures indexed { IsIndexed self.new }
         ensures flags { self.new.flags ≡ self.old.flags }
-        ensures cost { (digits : ℕ) → HaveDigits self.old.lanes.by_slot digits →
+        ensures cost { (digits : ℕ) → HaveDigits self.old.lanes digits →
             tally.new + self.new.leaves * (digits + 2)
             ≤ tally.old + self.old.leaves * (digits + 2) }
         ensures freed { HasFreed self.old self.new }
@@ -76,23 +79,43 @@ impl Core {
         }
     }
 
-    // Makes room for a thread that will come: its lanes, its seat, and a place among the lights for each nack of its scopes. Returns
-    // where its lanes stand. Out of memory, which is returned also where the leaves would be too many to count, nothing was told.
-    pub(crate) fn make_places(&mut self, alloc: Global, entry: &Entry) -> Result<Places, AllocError>
+    // Makes room for a thread that will come: its seat, the places of its objects, and a place among the lights for each nack of its
+    // scopes. Nothing was told.
+    fn make_places(&mut self, alloc: Global, entry: &Entry) -> Result<(), AllocError>
         requires indexed { IsIndexed self.old }
         ensures indexed { IsIndexed self.new }
         ensures same { IsSame self.old self.new }
         ensures kept { spec.KeepsPlaces self.old.flags.entries self.new.flags.entries }
-        ensures room { OnOk result (HasRoom self.new entry.now.group) }
+        ensures lanes { self.new.lanes ≡ self.old.lanes }
+        ensures seat { OnOk result (0 < self.new.entries.room) }
+        ensures places { OnOk result ((n : PairedId) →
+            have_side n (map spec.slot_of (bases entry.now.group)) ≡ true → HasPlace self.new.live n) }
+        ensures small { OnOk result (self.new.leaves + length (bases entry.now.group)
+            ≤ 18446744073709551615) }
+        ensures named { OnOk result (Every (λ k. spec.is_named self.new.flags.entries (spec.slot_of_nack k))
+            (nacks_of (scopes entry.now.group))) }
     {
         if self.leaves.checked_add(entry.bases().len()).is_none() {
             return Err(AllocError);
         }
         self.entries.reserve()?;
-        let places = self.lanes.make_room(alloc, entry.runs())?;
-        self.live.reserve(entry.bases().len())?;
-        reserve_nacks(&mut self.flags, alloc, entry.group())?;
-        Ok(places)
+        self.live.make_all(entry.waits())?;
+        reserve_nacks(&mut self.flags, alloc, entry.group())
+    }
+
+    // Makes room for a thread that will come, and notes which leaves are to come to which lanes. Out of memory, which is returned also where
+    // the leaves would be too many to count, none is, and nothing was told.
+    pub(crate) fn make_room(&mut self, alloc: Global, entry: &Entry) -> Result<(), AllocError>
+        requires indexed { IsIndexed self.old }
+        requires idle { IsAtRest self.old }
+        ensures indexed { IsIndexed self.new }
+        ensures same { IsSame self.old self.new }
+        ensures kept { spec.KeepsPlaces self.old.flags.entries self.new.flags.entries }
+        ensures room { OnOk result (HasRoom self.new entry.now.group) }
+        ensures idle { OnErr result (IsAtRest self.new) }
+    {
+        self.make_places(alloc, entry)?;
+        self.lanes.make_room(alloc, entry.waits())
     }
 
     // Tells of the light: one is examined. One that is told to be lit has its place. It takes no memory.
@@ -125,15 +148,15 @@ impl Core {
         requires room { HasRoom self.old entry.group }
         ensures came { HasCome entry self.old self.new }
         ensures indexed { IsIndexed self.new }
-        ensures cost { (digits : ℕ) → HaveDigits self.old.lanes.by_slot digits →
+        ensures idle { IsAtRest self.new }
+        ensures cost { (digits : ℕ) → HaveDigits self.old.lanes digits →
             tally.new ≤ tally.old + length (bases entry.group) * (digits + 2) }
     {
         let lit = count_lit(&self.flags, entry.bases(), tally);
         self.leaves += entry.bases().len();
         self.lit += lit;
-        self.lanes
-            .come(entry.tid(), entry.runs(), entry.places(), tally);
-        add_all(&mut self.live, &self.lanes, entry.runs());
+        self.lanes.come(entry.tid(), entry.waits(), tally);
+        self.live.add_all(&self.lanes, entry.waits());
         self.entries.put(entry);
     }
 }

@@ -24,7 +24,6 @@ use Rattle.indexmap.specs.contracts.index_table.IndexTable as IndexTable
 use Rattle.cml_index.specs.contracts.index.OfferIndex as OfferIndex
 use Rattle.cml_index.specs.contracts.entries.Entries as Entries
 use Rattle.cml_index.specs.contracts.entry.Entry as Entry
-use Rattle.cml_index.specs.contracts.runs.Runs as Runs
 use Rattle.cml_base.specs.contracts.register.Register as Register
 use Rattle.cml_signal.specs.contracts.clock.Clock as Clock
 use Rattle.cml_book.specs.contracts.state.State as State
@@ -51,11 +50,8 @@ map_send : (K V S H : RattleType) (e : _) (h : _) (b : _) (r : _) â†’ IsSend K â
 map_send K V S H e h b r k v s = let c = columns_send K V k v in let p = places_send in search (sendable, crosses) depth 60 fits 100000
 
 -- the table
-runs_send : IsSend Runs.the_row
-runs_send = search (sendable, crosses, map_send) depth 60 fits 100000
-
 entry_send : IsSend Entry.the_row
-entry_send = search (all_cross, runs_send) depth 60 fits 100000
+entry_send = search all_cross depth 60 fits 100000
 
 entries_send : IsSend Entries.the_row
 entries_send = search (sendable, crosses, entry_send) depth 60 fits 100000

@@ -14,7 +14,7 @@ returns-in-Ok-clause-ran g c =
     let errors = counted_stream a d c.end-status.new.err.calls c.end-status.new.err.failed in
     let store : Shelf = record { before = g.S.Store.holds c.args.store.now; after = g.S.Store.holds c.end-status.new.store } in
     ended_ran c.args.hub.course.program c.args.options.now c.args.hub c.in-Ok.hub output errors store c.end-status.result
-    c.requires.begun c.in-Ok.ensures.ok.0 c.hub_is_a_run.ensures
+    c.requires.begun c.hub_is_a_run.ensures.leads c.in-Ok.ensures.chosen c.in-Ok.ensures.ok.0 c.hub_is_a_run-in-Ok.ensures
     (ended_behind (record_name c.args.options.now) c.in-Ok.hub a b d output c.end-status.new.err.calls c.end-status.new.err.failed store c.end-status.result
     c.in-Ok.ensures.ok.1 c.end-status.ensures.ran)
 

@@ -1,5 +1,4 @@
-use Rattle.std.proofs.Common.{arith, ◌∙◌, length, ◌<◌}
-use Rattle.cml_hub.proofs.Standing.{set_again}
+use Rattle.std.proofs.Common.{arith, refl, length, ◌<◌}
 use Rattle.cml_hub.proofs.MarkLemmas.{got_is}
 use Rattle.cml_hub.proofs.settle.resume.Goals as goal
 
@@ -10,9 +9,9 @@ returns c =
     let lt : t < length ms = omega arith in
     rw (← c.resume.view_is)
     (record {
-      before = c.replace-machine.result;
-      after = c.committed.result;
-      was = got_is ms t c.index_mut.result.now c.replace-machine.result lt (c.replace-machine.ensures.value ∙ c.index_mut.ensures.value);
-      is = set_again ms t _ _;
-      answered = c.committed.ensures;
+      before = c.index_mut.result.now;
+      after = c.take_commit.new.self;
+      was = got_is ms t c.index_mut.result.now c.index_mut.result.now lt c.index_mut.ensures.value;
+      is = refl;
+      answered = record { thread = c.take_commit.ensures.thread; meant = c.take_commit.ensures.meant; fits = c.take_commit.ensures.fits; awaits = c.take_commit.ensures.awaits };
     })

@@ -1,6 +1,27 @@
-use Rattle.cml_hub.proofs.Settled.{settled_alone}
+use Rattle.std.proofs.Common.{◌∙◌}
+use Rattle.std.specs.Prelude.{slice_set}
+use Rattle.cml_hub.proofs.MarkLemmas.{got_is}
+use Rattle.cml_hub.proofs.Settled.{none_begins, one_begins, settled_at}
 use Rattle.cml_hub.proofs.settle.settle.Goals as goal
 
+pub settle_machine-child-requires : goal.settle_machine-child-requires
+settle_machine-child-requires c =
+    let ms = c.args.machines.now.items in
+    let t = c.args.thread.0 in
+    c.requires.settles c.index_mut.result.now (got_is ms t c.index_mut.result.now c.index_mut.result.now c.requires.there c.index_mut.ensures.value)
+
 pub returns-in-None : goal.returns-in-None
-returns-in-None c =
-    settled_alone c.args.machines.now.items c.args.thread.0 c.settled-machine.result.0 c.args.end c.args.done c.settled-machine.result.1 c.settled-machine.ensures.machine c.in-None.is c.settled-machine.ensures.child
+returns-in-None c = λ end is.
+    let ms = c.args.machines.now.items in
+    let t = c.args.thread.0 in
+    settled_at ms t c.index_mut.result.now c.settle_machine-child.new.machine end c.args.done _ (got_is ms t c.index_mut.result.now c.index_mut.result.now c.requires.there c.index_mut.ensures.value) is
+    c.settle_machine-child.ensures.machine
+    (none_begins (slice_set ms t c.settle_machine-child.new.machine) c.args.done c.settle_machine-child.result c.in-None.is c.settle_machine-child.ensures.child)
+
+pub returns-in-Some : goal.returns-in-Some
+returns-in-Some c = λ end is.
+    let ms = c.args.machines.now.items in
+    let t = c.args.thread.0 in
+    settled_at ms t c.index_mut.result.now c.settle_machine-child.new.machine end c.args.done _ (got_is ms t c.index_mut.result.now c.index_mut.result.now c.requires.there c.index_mut.ensures.value) is
+    c.settle_machine-child.ensures.machine
+    (c.push_reserved.ensures.items ∙ one_begins (slice_set ms t c.settle_machine-child.new.machine) c.args.done c.settle_machine-child.result c.in-Some.child c.in-Some.is c.settle_machine-child.ensures.child)

@@ -1,9 +1,7 @@
-use Rattle.std.proofs.Common.{◌≡◌, true, false, cond, [], length, ap, sym, subst, ◌∙◌}
-use Rattle.std.specs.Option.{option_map_or}
+use Rattle.std.proofs.Common.{◌≡◌, true, false, cond, length, ap, sym, subst, ◌∙◌}
 use Rattle.cml_scan.specs.Order.{Ascends, before}
 use Rattle.cml_scan.specs.Scan.{offers_of}
 use Rattle.cml_channel.specs.declared.lane.Whom.TheVariants.{Others, Above}
-use Rattle.cml_channel.specs.Lanes.{PlainLane}
 use Rattle.cml_channel.specs.Pairings.{one_lane}
 use Rattle.cml_index.specs.declared.slot.Slot.TheVariants.{Side}
 use Rattle.cml_index.specs.Slots.{lane_of}
@@ -15,7 +13,7 @@ use Rattle.cml_index.proofs.counts.count_on.Goals as goal
 pub count_below-requires : goal.count_below-requires
 count_below-requires c =
     let slot = Side true c.args.object in
-    let there = ap (λ o. option_map_or (λ (l : PlainLane). l.places) o []) c.in-Some.ensures.value ∙ c.requires.placed slot in
+    let there = c.in-Some.ensures ∙ c.requires.placed slot in
     subst (Ascends before) (sym there) (lane-ascends slot_of slot c.args.core.now.entries.items c.requires.sorted)
 
 pub count_beside-requires : goal.count_beside-requires
@@ -25,7 +23,7 @@ pub returns-else-one_lane-clause-count : goal.returns-else-one_lane-clause-count
 returns-else-one_lane-clause-count c =
     let object = c.args.object in
     let os = offers_of c.args.core.now.entries.items in
-    let there = ap (λ o. option_map_or (λ (l : PlainLane). l.places) o []) c.in-Some.ensures.value ∙ c.requires.placed (Side true object) in
+    let there = c.in-Some.ensures ∙ c.requires.placed (Side true object) in
     let kind : one_lane object.kind ≡ false = sym c.one_lane.ensures ∙ c.if-one_lane.false in
     c.count_beside.ensures.count
     ∙ ap (λ ps. length (met_among Others ps c.in-Some.heads.now.places)) (c.requires.placed (Side false object))

@@ -1,11 +1,7 @@
-use Rattle.std.proofs.Common.{◌≡◌, ◌∙◌, true, false, None, [], length, ap, sym, subst, arith}
-use Rattle.std.specs.Option.{option_map_or, option_copied}
-use Rattle.indexmap.specs.IndexMap.{get}
+use Rattle.std.proofs.Common.{◌≡◌, ◌∙◌, true, false, [], length, ap, sym, subst, arith}
 use Rattle.cml_scan.specs.Order.{Ascends, before}
 use Rattle.cml_channel.specs.declared.lane.Whom.TheVariants.{Others}
-use Rattle.cml_channel.specs.Lanes.{PlainLane}
 use Rattle.cml_index.specs.declared.slot.Slot.TheVariants.{Side}
-use Rattle.cml_index.specs.Slot.{same_slot}
 use Rattle.cml_index.specs.Slots.{lane_at}
 use Rattle.cml_index.specs.Heads.{met_among}
 use Rattle.cml_index.specs.Posts.{slot_of}
@@ -20,22 +16,21 @@ head_beside-requires-clause-heads c = subst (Ascends before) (sym c.requires.the
 pub head_beside-requires-clause-sorted : goal.head_beside-requires-clause-sorted
 head_beside-requires-clause-sorted c =
     let slot = Side false c.args.object in
-    let there = ap (λ o. option_map_or (λ (l : PlainLane). l.places) o []) c.in-Some.ensures.value ∙ c.requires.indexed.placed slot in
+    let there = c.in-Some.ensures ∙ c.requires.indexed.placed slot in
     subst (Ascends before) (sym there) (lane-ascends slot_of slot c.args.core.now.entries.items c.requires.indexed.sorted)
 
 pub head_beside-requires-clause-some : goal.head_beside-requires-clause-some
 head_beside-requires-clause-some c =
-    let lane = lane_at c.args.core.now.lanes.by_slot (Side false c.args.object) in
-    let same : c.in-Some.others.now.places ≡ lane = ap (λ o. option_map_or (λ (l : PlainLane). l.places) o []) c.in-Some.ensures.value in
+    let lane = lane_at c.args.core.now.lanes (Side false c.args.object) in
+    let same : c.in-Some.others.now.places ≡ lane = c.in-Some.ensures in
     let there = some_there lane c.args.heads.now.places c.args.k c.requires.within in
     let long = ap length same in
     omega (arith, there, long)
 
 pub unreachable-requires : goal.unreachable-requires
 unreachable-requires c =
-    let lanes = c.args.core.now.lanes.by_slot in
+    let lanes = c.args.core.now.lanes in
     let slot = Side false c.args.object in
-    let none : get same_slot lanes slot ≡ None = sym c.get.ensures.value ∙ ap option_copied c.in-None.is in
-    let empty : lane_at lanes slot ≡ [] = ap (λ o. option_map_or (λ (l : PlainLane). l.places) o []) none in
+    let empty : lane_at lanes slot ≡ [] = sym c.in-None.ensures in
     let few : length (met_among Others (lane_at lanes slot) c.args.heads.now.places) ≡ 0 = none_among Others (lane_at lanes slot) c.args.heads.now.places (ap length empty) in
     omega (arith, few, c.requires.within)

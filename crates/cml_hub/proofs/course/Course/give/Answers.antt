@@ -1,10 +1,12 @@
-use Rattle.std.proofs.Common.{arith, ap, ◌∙◌, ◌≡◌, ◌+◌, length, [], ◌∷◌, ◌++◌}
+use Rattle.std.proofs.Common.{arith, ap, sym, ◌∙◌, ◌≡◌, ◌+◌, ◌<◌, List, length, [], ◌∷◌, ◌++◌, subst, length-set}
 use Rattle.std.specs.String.{string_bytes}
 use Rattle.cml_schedule.specs.Laws.{IsNumber}
 use Rattle.cml_schedule.specs.declared.item.Item.TheVariants.{Turn}
-use Rattle.cml_hub.specs.Dones.{DoneFits}
+use Rattle.cml_hub.specs.Dones.{DoneFits, CanSettle}
 use Rattle.cml_hub.specs.Courses.{PlainCourse, HasMachine, IsOurs}
 use Rattle.cml_hub.proofs.Ours.{machine_within, ours_own}
+use Rattle.cml_step.specs.Machines.{PlainMachine}
+use Rattle.cml_hub.proofs.Settled.{set_there, settled_over}
 use Rattle.cml_hub.proofs.Turning.{can_settle, TurnDone, turned_leads_at, turned_is_at, slice_here}
 use Rattle.cml_hub.proofs.course.Course.give.Goals as goal
 
@@ -29,14 +31,21 @@ prepare-requires-clause-ready c =
     }
 
 pub settle-requires-clause-settles : goal.settle-requires-clause-settles
-settle-requires-clause-settles c =
+settle-requires-clause-settles c = λ end is.
     let s = c.self.inside in
     let k : PlainCourse = record { program = s.program; items = s.items.items; world = s.threads; machines = s.machines.items; output = string_bytes s.output; used = s.used } in
     let ran = c.args.ran in
     let ours : IsOurs k ran = rw (← c.self.view_is) at c.requires in
+    let ms : List PlainMachine = c.reserve-2.new.self.items in
+    let own = ours_own k ran c.self.invariant ours in
+    let e : c.thread-thread.result.0 ≡ ran.start.thread = c.thread-thread.ensures ∙ ap (λ m. m.thread) c.start.ensures in
+    let lt : c.thread-thread.result.0 < length ms = omega (arith, e, machine_within k ran.start.thread c.self.invariant own.running, ap length c.reserve-2.ensures.items) in
     let slice = slice_here s.program ran ours.0 c.steps-steps.ensures.meant in
     let fits : DoneFits s.program ran.ask ran.end c.in-Ok-prepare.prepared.done = rw (c.end.ensures, c.ask.ensures) at c.in-Ok-prepare.ensures.ok.fits in
-    rw c.into_end-end.ensures.end (can_settle s.program ran.ask ran.end c.in-Ok-prepare.prepared.done slice.fits slice.awaits fits)
+    let at = set_there ms c.thread-thread.result.0 c.into_end-end.result.0 lt in
+    let same : c.into_end-end.result.0 ≡ end = cc in
+    subst (λ m. CanSettle m c.in-Ok-prepare.prepared.done) (sym c.into_end-end.ensures.end ∙ same)
+    (can_settle s.program ran.ask ran.end c.in-Ok-prepare.prepared.done slice.fits slice.awaits fits)
 
 pub settle-requires-clause-there : goal.settle-requires-clause-there
 settle-requires-clause-there c =
@@ -44,9 +53,23 @@ settle-requires-clause-there c =
     let k : PlainCourse = record { program = s.program; items = s.items.items; world = s.threads; machines = s.machines.items; output = string_bytes s.output; used = s.used } in
     let ran = c.args.ran in
     let ours : IsOurs k ran = rw (← c.self.view_is) at c.requires in
-    let e : c.thread-thread.result.0 ≡ ran.start.thread = c.thread-thread.ensures ∙ ap (λ m. m.thread) c.start.ensures in
+    let ms : List PlainMachine = c.reserve-2.new.self.items in
     let own = ours_own k ran c.self.invariant ours in
-    omega (arith, e, machine_within k ran.start.thread c.self.invariant own.running, ap length c.reserve-2.ensures.items)
+    let e : c.thread-thread.result.0 ≡ ran.start.thread = c.thread-thread.ensures ∙ ap (λ m. m.thread) c.start.ensures in
+    let lt : c.thread-thread.result.0 < length ms = omega (arith, e, machine_within k ran.start.thread c.self.invariant own.running, ap length c.reserve-2.ensures.items) in
+    omega (arith, lt, length-set ms c.thread-thread.result.0 c.into_end-end.result.0)
+
+pub index_mut-requires : goal.index_mut-requires
+index_mut-requires c =
+    let s = c.self.inside in
+    let k : PlainCourse = record { program = s.program; items = s.items.items; world = s.threads; machines = s.machines.items; output = string_bytes s.output; used = s.used } in
+    let ran = c.args.ran in
+    let ours : IsOurs k ran = rw (← c.self.view_is) at c.requires in
+    let ms : List PlainMachine = c.reserve-2.new.self.items in
+    let own = ours_own k ran c.self.invariant ours in
+    let e : c.thread-thread.result.0 ≡ ran.start.thread = c.thread-thread.ensures ∙ ap (λ m. m.thread) c.start.ensures in
+    let lt : c.thread-thread.result.0 < length ms = omega (arith, e, machine_within k ran.start.thread c.self.invariant own.running, ap length c.reserve-2.ensures.items) in
+    omega (arith, lt)
 
 pub invariant_of-self-2 : goal.invariant_of-self-2
 invariant_of-self-2 c =
@@ -58,6 +81,8 @@ invariant_of-self-2 c =
     let ours : IsOurs k ran = rw (← c.self.view_is) at c.requires in
     let own : HasMachine k ran.start.thread ran.start = ours_own k ran c.self.invariant ours in
     let e : number.0 ≡ ran.start.thread = c.thread-thread.ensures ∙ ap (λ m. m.thread) c.start.ensures in
+    let ms : List PlainMachine = c.reserve-2.new.self.items in
+    let lt : number.0 < length ms = omega (arith, e, machine_within k ran.start.thread c.self.invariant own.running, ap length c.reserve-2.ensures.items) in
     let n : IsNumber number.0 = omega arith in
     let turn : TurnDone k number ran.start ran.end ran.ask ran.steps prepared.done c.prepare.new.book (string_bytes prepared.line) c.settle.new.machines.items = record {
       runs = rw e own.running;
@@ -66,7 +91,8 @@ invariant_of-self-2 c =
       done = rw c.ask.ensures at c.in-Ok-prepare.ensures.ok.performed;
       fits = rw (c.end.ensures, c.ask.ensures) at c.in-Ok-prepare.ensures.ok.fits;
       tells = rw c.ask.ensures at c.in-Ok-prepare.ensures.ok.line;
-      settled = rw (c.reserve-2.ensures.items, c.into_end-end.ensures.end) at c.settle.ensures;
+      settled = settled_over k.machines number.0 ran.end prepared.done c.settle.new.machines.items
+          (rw (c.reserve-2.ensures.items, c.into_end-end.ensures.end) at (c.settle.ensures c.into_end-end.result.0 (set_there ms number.0 c.into_end-end.result.0 lt)));
     } in
     let items : c.push_reserved.new.self.items ≡ s.items.items ++ Turn number ∷ [] = c.push_reserved.ensures.items ∙ ap (λ xs. xs ++ Turn number ∷ []) c.reserve.ensures.items in
     let output : string_bytes c.tell.new.output ≡ string_bytes s.output ++ string_bytes prepared.line = c.tell.ensures ∙ ap (λ xs. xs ++ c.as_str.result.now) c.prepare.ensures.bytes ∙ ap (λ xs. string_bytes s.output ++ xs) c.as_str.ensures.value in
@@ -84,6 +110,8 @@ returns-clause-ok c =
     let ours : IsOurs k ran = rw (← c.self.view_is) at c.requires in
     let own : HasMachine k ran.start.thread ran.start = ours_own k ran c.self.invariant ours in
     let e : number.0 ≡ ran.start.thread = c.thread-thread.ensures ∙ ap (λ m. m.thread) c.start.ensures in
+    let ms : List PlainMachine = c.reserve-2.new.self.items in
+    let lt : number.0 < length ms = omega (arith, e, machine_within k ran.start.thread c.self.invariant own.running, ap length c.reserve-2.ensures.items) in
     let turn : TurnDone k number ran.start ran.end ran.ask ran.steps prepared.done c.prepare.new.book (string_bytes prepared.line) c.settle.new.machines.items = record {
       runs = rw e own.running;
       at = rw e own.machine;
@@ -91,7 +119,8 @@ returns-clause-ok c =
       done = rw c.ask.ensures at c.in-Ok-prepare.ensures.ok.performed;
       fits = rw (c.end.ensures, c.ask.ensures) at c.in-Ok-prepare.ensures.ok.fits;
       tells = rw c.ask.ensures at c.in-Ok-prepare.ensures.ok.line;
-      settled = rw (c.reserve-2.ensures.items, c.into_end-end.ensures.end) at c.settle.ensures;
+      settled = settled_over k.machines number.0 ran.end prepared.done c.settle.new.machines.items
+          (rw (c.reserve-2.ensures.items, c.into_end-end.ensures.end) at (c.settle.ensures c.into_end-end.result.0 (set_there ms number.0 c.into_end-end.result.0 lt)));
     } in
     let items : c.push_reserved.new.self.items ≡ s.items.items ++ Turn number ∷ [] = c.push_reserved.ensures.items ∙ ap (λ xs. xs ++ Turn number ∷ []) c.reserve.ensures.items in
     let output : string_bytes c.tell.new.output ≡ string_bytes s.output ++ string_bytes prepared.line = c.tell.ensures ∙ ap (λ xs. xs ++ c.as_str.result.now) c.prepare.ensures.bytes ∙ ap (λ xs. string_bytes s.output ++ xs) c.as_str.ensures.value in

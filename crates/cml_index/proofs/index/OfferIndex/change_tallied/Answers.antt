@@ -47,16 +47,16 @@ returns-in-None-clause-sure c = λ none nacks.
     let es = c.self.inside.core.entries.items in
     let all = subst (λ (x : spec.PlainIndex). All (IsNackOf (nacks_among c.args.gone.now x.entries)) c.args.lit.now) (sym c.self.view_is) nacks in
     c.leave_only.ensures.sure (nacks_named (λ k. spec.is_named c.self.inside.core.flags.entries (spec.slot_of_nack k)) (λ l. spec.is_named c.self.inside.core.flags.entries (Waiters l)) (λ k. Rattle.std.proofs.Common.refl) (nacks_among c.args.gone.now es) c.args.lit.now
-    (nacks_left (λ k. spec.is_named c.self.inside.core.flags.entries (spec.slot_of_nack k)) (λ e. is_among c.args.gone.now e.thread) es c.self.invariant.named) all)
+    (nacks_left (λ k. spec.is_named c.self.inside.core.flags.entries (spec.slot_of_nack k)) (λ e. is_among c.args.gone.now e.thread) es c.self.invariant.0.named) all)
 
 pub returns-in-None-clause-cost : goal.returns-in-None-clause-cost
 returns-in-None-clause-cost c = on_ok_both c.leave_only.result c.leave_only.ensures.told.ok c.leave_only.ensures.cost (λ ok cost digits few.
     let es = c.self.inside.core.entries.items in
     let same : c.args.self.now.entries ≡ es = sym (ap (λ (x : spec.PlainIndex). x.entries) c.self.view_is) in
-    let lanes : HaveDigits c.self.inside.core.lanes.by_slot digits = λ k. rw (c.self.invariant.placed k, ← same) (few k) in
+    let lanes : HaveDigits c.self.inside.core.lanes digits = λ k. rw (c.self.invariant.0.placed k, ← same) (few k) in
     let many = gone_many c.args.gone.now es in
     let now : length (offers_of c.leave_only.new.self.entries.items) ≡ length (offers_of (without c.args.gone.now es)) = ap (λ xs. length (offers_of xs)) ok in
-    let whole : c.self.inside.core.leaves ≡ spec.gone_leaves c.args.gone.now es + c.leave_only.new.self.leaves = omega (arith, many, now, c.self.invariant.all, c.leave_only.ensures.indexed.all) in
+    let whole : c.self.inside.core.leaves ≡ spec.gone_leaves c.args.gone.now es + c.leave_only.new.self.leaves = omega (arith, many, now, c.self.invariant.0.all, c.leave_only.ensures.indexed.all) in
     let sum = cost_gone c.args.tally.now c.leave_only.new.tally (spec.gone_leaves c.args.gone.now es) c.leave_only.new.self.leaves _ digits (rw (← whole) (cost digits lanes)) in
     let none : spec.came_leaves c.args.came ≡ 0 = ap spec.came_leaves c.in-None.is in
     rw (same, none) sum)
@@ -65,7 +65,7 @@ pub returns-in-Some-clause-cost : goal.returns-in-Some-clause-cost
 returns-in-Some-clause-cost c = on_ok_both c.leave_and_come.result c.leave_and_come.ensures.told.ok c.leave_and_come.ensures.cost (λ ok cost digits few.
     let es = c.self.inside.core.entries.items in
     let same : c.args.self.now.entries ≡ es = sym (ap (λ (x : spec.PlainIndex). x.entries) c.self.view_is) in
-    let lanes : HaveDigits c.self.inside.core.lanes.by_slot digits = λ k. rw (c.self.invariant.placed k, ← same) (few k) in
+    let lanes : HaveDigits c.self.inside.core.lanes digits = λ k. rw (c.self.invariant.0.placed k, ← same) (few k) in
     let many = gone_many c.args.gone.now es in
     let e : PlainEntry = record { thread = c.in-Some.comer.0.0; group = c.in-Some.comer.1.now } in
     let n = length (bases c.in-Some.comer.1.now) in
@@ -74,9 +74,9 @@ returns-in-Some-clause-cost c = on_ok_both c.leave_and_come.result c.leave_and_c
     let fresh : IsNew c.args.self.now.entries (Some c.in-Some.comer) = subst (IsNew c.args.self.now.entries) c.in-Some.is c.requires.ready.new in
     let fresh_here : All (λ (x : PlainEntry). x.thread ≢ e.thread) es = subst (All (λ (x : PlainEntry). x.thread ≢ e.thread)) same fresh in
     let apart = Every-filter (λ x. not (nat_eq e.thread x.thread)) (λ x. not (is_among c.args.gone.now x.thread)) es (all_apart e.thread es fresh_here) in
-    let came = came_all e (without c.args.gone.now es) (sorted_without c.args.gone.now es c.self.invariant.sorted) apart in
+    let came = came_all e (without c.args.gone.now es) (sorted_without c.args.gone.now es c.self.invariant.0.sorted) apart in
     let after : c.leave_and_come.new.self.leaves ≡ left + n = omega (arith, came, now, c.leave_and_come.ensures.indexed.all) in
-    let whole : c.self.inside.core.leaves ≡ spec.gone_leaves c.args.gone.now es + left = omega (arith, many, c.self.invariant.all) in
+    let whole : c.self.inside.core.leaves ≡ spec.gone_leaves c.args.gone.now es + left = omega (arith, many, c.self.invariant.0.all) in
     let sum = cost_came c.args.tally.now c.leave_and_come.new.tally (spec.gone_leaves c.args.gone.now es) left n _ digits (rw (← whole, ← after) (cost digits lanes)) in
     let some : spec.came_leaves c.args.came ≡ n = ap spec.came_leaves c.in-Some.is in
     rw (same, some) sum)

@@ -1,39 +1,54 @@
-use Rattle.std.proofs.Common.{◌≡◌, ◌<◌, ◌+◌, ◌^◌, Bool, [], length, drop, ap, sym, subst, refl, ◌∙◌, arith}
-use Rattle.std.specs.Option.{option_map_or}
+use Rattle.std.proofs.Common.{◌≡◌, ◌<◌, ◌+◌, ◌^◌, length, map, take, ap, sym, subst, ◌∙◌, arith}
+use Rattle.cml_index.specs.Slots.{slot_in, has_slot, is_slot, lane_at, late_at}
+use Rattle.cml_index.specs.Stands as stands
+use Rattle.cml_index.specs.Stands.{stand_at}
+use Rattle.std.proofs.Common.{nat_lt}
+use Rattle.cml_scan.specs.Order.{Ascends}
 use Rattle.cml_channel.specs.Lanes.{with_run}
-use Rattle.cml_index.specs.declared.slot.Slot.{Slot}
-use Rattle.cml_index.specs.Slot.{same_slot}
-use Rattle.cml_index.specs.Slots as spec
-use Rattle.cml_index.proofs.Walks.{no_run, with_none, cases_left, self_left, moved}
+use Rattle.cml_index.proofs.Walks.{waits_more, waits_all, no_leaves, one_more, joined_run, with_none, leaves_at-ascend, decide}
+use Rattle.cml_index.proofs.Stood.{come_twice, none_comes}
 use Rattle.cml_index.proofs.lanes.Lanes.come.Goals as goal
 
-pub loop-i-init : goal.loop-i-init
-loop-i-init c =
-    record {
-      done = λ k e. let none : spec.run_in c.args.runs.now k ≡ [] = ap (λ r. option_map_or (λ v. v) r []) (no_run c.args.runs.now.entries k e) in rw none (sym (with_none c.args.tid (spec.lane_at c.args.self.now.by_slot k) (c.requires.sorted k) (c.requires.new k)));
-      left = λ k e. refl;
-      room = λ k e. refl;
-      cost = λ digits few. omega arith;
-    }
+pub come_of-requires : goal.come_of-requires
+come_of-requires c k e =
+    let ss = map slot_in c.args.waits.now in
+    decide (has_slot k (take c.loop-wait.wait-index ss))
+    (λ done. none_comes c.args.tid (stand_at c.loop-wait.self k) (c.loop-wait.invariant.done.0 k done).late)
+    (λ left. subst (stands.CanCome c.args.tid) (sym (c.loop-wait.invariant.done.1 k left)) (record {
+      room = c.requires.room k;
+      new = λ _. c.requires.new k;
+      ascend = subst (Ascends nat_lt) (sym (c.requires.late k)) (leaves_at-ascend k 0 ss);
+    }))
 
-pub loop-i-preserved : goal.loop-i-preserved
-loop-i-preserved c =
-    let slot = c.run_at-slot.result.0 in
-    let tid = c.args.tid in
-    let now_left : Slot → Bool = λ k. spec.has_run (drop c.loop-i.i c.args.runs.now.entries) k in
-    let later : Slot → Bool = λ k. spec.has_run (drop (c.loop-i.i + 1) c.args.runs.now.entries) k in
-    let untouched = c.loop-i.invariant.left slot (self_left slot (now_left slot) (later slot) (c.run_at-slot.ensures.left slot)) in
-    let here : spec.lane_at c.come_at.new.self.by_slot slot ≡ with_run tid (spec.run_in c.args.runs.now slot) (spec.lane_at c.args.self.now.by_slot slot) =
-    c.come_at.ensures.here ∙ ap (λ ls. with_run tid ls (spec.lane_at c.loop-i.self.by_slot slot)) (sym c.run_at-slot.ensures.run) ∙ ap (with_run tid (spec.run_in c.args.runs.now slot)) untouched in
-    let lanes = moved slot now_left later (λ k. spec.lane_at c.args.self.now.by_slot k) (λ k. with_run tid (spec.run_in c.args.runs.now k) (spec.lane_at c.args.self.now.by_slot k))
-    (λ k. spec.lane_at c.loop-i.self.by_slot k) (λ k. spec.lane_at c.come_at.new.self.by_slot k) c.run_at-slot.ensures.left c.run_at-slot.ensures.once here c.come_at.ensures.elsewhere
-    (c.loop-i.invariant.done, c.loop-i.invariant.left) in
+pub loop-wait-preserved : goal.loop-wait-preserved
+loop-wait-preserved c =
+    let ss = map slot_in c.args.waits.now in
+    let i = c.loop-wait.wait-index in
     record {
-      done = lanes.0;
-      left = lanes.1;
-      room = λ k e. cases_left (same_slot k slot) (now_left k) (later k) (c.run_at-slot.ensures.left k) e (c.run_at-slot.ensures.once k) (λ off left. c.come_at.ensures.room k off ∙ c.loop-i.invariant.room k left);
+      done = one_more (stands.HasCome c.args.tid) (come_twice c.args.tid) (stand_at c.args.self.now) (stand_at c.loop-wait.self) (stand_at c.come_of.new.self) (λ k. is_slot k c.slot.result) (λ k. has_slot k (take i ss)) (λ k. has_slot k (take (i + 1) ss))
+          (λ k. waits_more (is_slot k) c.args.waits.now i c.slot.result _ c.loop-wait-test.true c.slot.ensures) c.come_of.ensures.here c.come_of.ensures.elsewhere c.loop-wait.invariant.done;
       cost = λ digits few.
-          let before = c.loop-i.invariant.cost digits few in
-          let one = c.come_at.ensures.cost digits (subst (λ ps. length ps < 2 ^ digits) (sym untouched) (few slot)) in
+          let before = c.loop-wait.invariant.cost digits few in
+          let one = c.come_of.ensures.cost digits (λ k e some. decide (has_slot k (take i ss))
+          (λ done. let none : length (late_at c.loop-wait.self k) ≡ 0 = ap length (c.loop-wait.invariant.done.0 k done).late in absurd (omega (arith, none, some)))
+          (λ left. subst (λ s. length (stands.places_in s) < 2 ^ digits) (sym (c.loop-wait.invariant.done.1 k left)) (few k))) in
           omega (arith, before, one);
     }
+
+pub returns-clause-lanes : goal.returns-clause-lanes
+returns-clause-lanes c k =
+    let ss = map slot_in c.args.waits.now in
+    let all : take c.loop-wait.wait-index ss ≡ ss = waits_all c.args.waits.now c.loop-wait.wait-index c.loop-wait-test.false in
+    let tid = c.args.tid in
+    let lane = lane_at c.args.self.now k in
+    decide (has_slot k (take c.loop-wait.wait-index ss))
+    (λ done. (c.loop-wait.invariant.done.0 k done).places ∙ joined_run tid (late_at c.args.self.now k) lane (c.requires.sorted k) (c.requires.new k) ∙ ap (λ ls. with_run tid ls lane) (c.requires.late k))
+    (λ left. ap stands.places_in (c.loop-wait.invariant.done.1 k left) ∙ sym (with_none tid lane (c.requires.sorted k) (c.requires.new k)) ∙ ap (λ ls. with_run tid ls lane) (sym (no_leaves k 0 ss (sym (ap (has_slot k) all) ∙ left))))
+
+pub returns-clause-late : goal.returns-clause-late
+returns-clause-late c k =
+    let ss = map slot_in c.args.waits.now in
+    let all : take c.loop-wait.wait-index ss ≡ ss = waits_all c.args.waits.now c.loop-wait.wait-index c.loop-wait-test.false in
+    decide (has_slot k (take c.loop-wait.wait-index ss))
+    (λ done. (c.loop-wait.invariant.done.0 k done).late)
+    (λ left. ap stands.late_in (c.loop-wait.invariant.done.1 k left) ∙ c.requires.late k ∙ no_leaves k 0 ss (sym (ap (has_slot k) all) ∙ left))

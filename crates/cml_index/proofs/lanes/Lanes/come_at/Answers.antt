@@ -1,34 +1,18 @@
-use Rattle.std.proofs.Common.{◌≤◌, ◌<◌, ◌^◌, ◌∙◌, length, ap, sym, subst}
-use Rattle.cml_scan.specs.Order.{Every}
-use Rattle.cml_channel.specs.Lanes.{is_others, with_run}
-use Rattle.cml_index.proofs.Placed.{found_at, written_here, written_else, places_in, room_in}
+use Rattle.std.proofs.Common.{◌≡◌, nat_eq, ap, sym, subst, ◌∙◌}
+use Rattle.std.specs.Prelude.{slice_get}
+use Rattle.indexmap.specs.IndexMap.{get}
+use Rattle.cml_index.specs.declared.slot.Spot.TheVariants.{Listed, Tick}
+use Rattle.cml_index.specs.Stands.{ComesWithin, spot_of, stand_at, stand_in}
 use Rattle.cml_index.proofs.lanes.Lanes.come_at.Goals as goal
 
-pub come-requires : goal.come-requires
-come-requires c =
-    let key = c.pair_mut-lane.result.0.now in
-    let lane = c.pair_mut-lane.result.1.now in
-    let at = c.pair_mut-lane.ensures.value in
-    let found = found_at c.args.self.now.by_slot c.args.place c.args.slot key lane c.pair_mut-lane.ensures.unique at (c.stands_at.ensures.there c.if-stands_at.true key lane at) in
-    record {
-      room = subst (λ r. length c.args.leaves.now ≤ room_in r) found c.requires.room;
-      new = subst (λ r. Every (is_others c.args.tid) (places_in r)) found c.requires.new;
-      ascend = c.requires.ascend;
-    }
+pub returns-in-Listed-clause-cost : goal.returns-in-Listed-clause-cost
+returns-in-Listed-clause-cost c digits few =
+    let to : Listed c.in-Listed.row c.in-Listed.number ≡ spot_of c.args.slot = sym c.in-Listed.is ∙ c.spot.ensures in
+    let is : slice_get c.row_mut.result.now.items c.in-Listed.number ≡ stand_at c.args.self.now c.args.slot = ap (λ v. slice_get v.items c.in-Listed.number) c.row_mut.ensures.value ∙ ap (stand_in c.args.self.now) to in
+    c.come_in.ensures.cost digits (subst (ComesWithin digits) (sym is) few)
 
-pub returns-then-stands_at : goal.returns-then-stands_at
-returns-then-stands_at c =
-    let lanes = c.args.self.now.by_slot in
-    let key = c.pair_mut-lane.result.0.now in
-    let lane = c.pair_mut-lane.result.1.now in
-    let unique = c.pair_mut-lane.ensures.unique in
-    let at = c.pair_mut-lane.ensures.value in
-    let is = c.stands_at.ensures.there c.if-stands_at.true key lane at in
-    let found = found_at lanes c.args.place c.args.slot key lane unique at is in
-    let else_ = written_else lanes c.args.place c.args.slot key lane c.come.new.self unique at is in
-    record {
-      here = ap places_in (written_here lanes c.args.place c.args.slot key lane c.come.new.self unique at is) ∙ c.come.ensures.places ∙ ap (with_run c.args.tid c.args.leaves.now) (sym (ap places_in found));
-      elsewhere = λ k off. ap places_in (else_ k off);
-      room = λ k off. ap room_in (else_ k off);
-      cost = λ digits few. c.come.ensures.cost digits (subst (λ r. length (places_in r) < 2 ^ digits) found few);
-    }
+pub returns-in-Tick-clause-cost : goal.returns-in-Tick-clause-cost
+returns-in-Tick-clause-cost c digits few =
+    let to : Tick c.in-Tick.tick ≡ spot_of c.args.slot = sym c.in-Tick.is ∙ c.spot.ensures in
+    let is : get nat_eq c.args.self.now.ticks c.in-Tick.tick ≡ stand_at c.args.self.now c.args.slot = ap (stand_in c.args.self.now) to in
+    c.come_tick.ensures.cost digits (subst (ComesWithin digits) (sym is) few)

@@ -1,43 +1,59 @@
-use Rattle.std.proofs.Common.{◌≡◌, ◌<◌, ◌+◌, ◌^◌, Bool, [], length, filter, drop, ap, sym, subst, refl, ◌∙◌, arith}
-use Rattle.std.specs.Option.{option_map_or}
-use Rattle.cml_channel.specs.Lanes.{is_own, others}
-use Rattle.cml_index.specs.declared.slot.Slot.{Slot}
-use Rattle.cml_index.specs.Slots as spec
-use Rattle.cml_index.proofs.Walks.{no_run, others_all, self_left, moved}
+use Rattle.std.proofs.Common.{◌≡◌, ◌<◌, ◌+◌, ◌^◌, ◌∷◌, [], ℕ, true, cond, length, map, take, ap, sym, subst, refl, ◌∙◌, arith}
+use Rattle.cml_index.specs.Slots.{slot_in, slot_leaves, has_slot, is_slot, lane_at, going_at}
+use Rattle.cml_index.specs.Stands as stands
+use Rattle.cml_index.specs.Stands.{stand_at}
+use Rattle.std.proofs.Common.{nat_lt, zero, suc, List}
+use Rattle.std.specs.List.{filter}
+use Rattle.cml_scan.specs.declared.meet.Place.{Place}
+use Rattle.cml_value.specs.declared.number.Tid.{Tid}
+use Rattle.cml_channel.specs.Lanes.{others, is_own}
+use Rattle.cml_index.proofs.Walks.{waits_more, waits_all, no_leaves, one_more, others_all, decide}
+use Rattle.std.proofs.lemmas.Bool.Decides.{nat_tests}
+use Rattle.cml_index.proofs.Stood.{go_twice}
 use Rattle.cml_index.proofs.lanes.Lanes.go.Goals as goal
 
-pub loop-i-init : goal.loop-i-init
-loop-i-init c =
+pub loop-wait-preserved : goal.loop-wait-preserved
+loop-wait-preserved c =
+    let ss = map slot_in c.args.waits.now in
+    let i = c.loop-wait.wait-index in
     record {
-      done = λ k e. let none : spec.run_in c.args.runs.now k ≡ [] = ap (λ r. option_map_or (λ v. v) r []) (no_run c.args.runs.now.entries k e) in
-          sym (others_all c.args.tid (spec.lane_at c.args.self.now.by_slot k) (sym (c.requires k) ∙ ap length none));
-      left = λ k e. refl;
-      room = λ k. omega arith;
-      cost = λ digits few. omega arith;
-    }
-
-pub go_at-requires : goal.go_at-requires
-go_at-requires c =
-    let slot = c.run_at-slot.result.0 in
-    let untouched = c.loop-i.invariant.left slot (self_left slot (spec.has_run (drop c.loop-i.i c.args.runs.now.entries) slot) (spec.has_run (drop (c.loop-i.i + 1) c.args.runs.now.entries) slot) (c.run_at-slot.ensures.left slot)) in
-    ap length (sym c.run_at-slot.ensures.run) ∙ c.requires slot ∙ ap (λ ps. length (filter (is_own c.args.tid) ps)) (sym untouched)
-
-pub loop-i-preserved : goal.loop-i-preserved
-loop-i-preserved c =
-    let slot = c.run_at-slot.result.0 in
-    let tid = c.args.tid in
-    let now_left : Slot → Bool = λ k. spec.has_run (drop c.loop-i.i c.args.runs.now.entries) k in
-    let later : Slot → Bool = λ k. spec.has_run (drop (c.loop-i.i + 1) c.args.runs.now.entries) k in
-    let untouched = c.loop-i.invariant.left slot (self_left slot (now_left slot) (later slot) (c.run_at-slot.ensures.left slot)) in
-    let here : spec.lane_at c.go_at.new.self.by_slot slot ≡ others tid (spec.lane_at c.args.self.now.by_slot slot) = c.go_at.ensures.here ∙ ap (others tid) untouched in
-    let lanes = moved slot now_left later (λ k. spec.lane_at c.args.self.now.by_slot k) (λ k. others tid (spec.lane_at c.args.self.now.by_slot k)) (λ k. spec.lane_at c.loop-i.self.by_slot k)
-    (λ k. spec.lane_at c.go_at.new.self.by_slot k) c.run_at-slot.ensures.left c.run_at-slot.ensures.once here c.go_at.ensures.elsewhere (c.loop-i.invariant.done, c.loop-i.invariant.left) in
-    record {
-      done = lanes.0;
-      left = lanes.1;
-      room = λ k. let a = c.go_at.ensures.room k in let b = c.loop-i.invariant.room k in omega (arith, a, b);
+      done = one_more (stands.HasGone c.args.tid) (go_twice c.args.tid) (stand_at c.count.new.self) (stand_at c.loop-wait.self) (stand_at c.go_of.new.self) (λ k. is_slot k c.slot.result) (λ k. has_slot k (take i ss)) (λ k. has_slot k (take (i + 1) ss))
+          (λ k. waits_more (is_slot k) c.args.waits.now i c.slot.result _ c.loop-wait-test.true c.slot.ensures) c.go_of.ensures.here c.go_of.ensures.elsewhere c.loop-wait.invariant.done;
       cost = λ digits few.
-          let before = c.loop-i.invariant.cost digits few in
-          let one = c.go_at.ensures.cost digits (subst (λ ps. length ps < 2 ^ digits) (sym untouched) (few slot)) in
+          let before = c.loop-wait.invariant.cost digits few in
+          let one = c.go_of.ensures.cost digits (λ k e some. decide (has_slot k (take i ss))
+          (λ done. let none = (c.loop-wait.invariant.done.0 k done).going in absurd (omega (arith, none, some)))
+          (λ left. subst (λ s. length (stands.places_in s) < 2 ^ digits) (sym (c.loop-wait.invariant.done.1 k left)) (few k))) in
           omega (arith, before, one);
     }
+
+-- a lane from which this many leaves go
+gone : (tid : Tid) (going leaves : ℕ) (ps : List Place) → (0 < going → going ≡ leaves) → (0 < length ps → going ≡ leaves) → leaves ≡ length (filter (is_own tid) ps) → stands.after_going tid going ps ≡ others tid ps
+gone tid zero leaves [] a b all = refl
+gone tid zero leaves (p ∷ ps) a b all = let none : zero ≡ leaves = b (omega arith) in sym (others_all tid (p ∷ ps) (sym all ∙ sym none))
+gone tid (suc going) leaves ps a b all = ap (λ t. cond t (others tid ps) ps) (some going)
+  where
+    some : (n : ℕ) → nat_lt 0 (suc n) ≡ true
+    some n = grind (arith, nat_tests)
+
+pub returns-clause-lanes : goal.returns-clause-lanes
+returns-clause-lanes c k =
+    let ss = map slot_in c.args.waits.now in
+    let all : take c.loop-wait.wait-index ss ≡ ss = waits_all c.args.waits.now c.loop-wait.wait-index c.loop-wait-test.false in
+    let tid = c.args.tid in
+    let lane = lane_at c.args.self.now k in
+    decide (has_slot k (take c.loop-wait.wait-index ss))
+    (λ done. (c.loop-wait.invariant.done.0 k done).places ∙ ap (stands.after_going tid (going_at c.count.new.self k)) (c.count.ensures.same k) ∙ gone tid (going_at c.count.new.self k) (length (slot_leaves k 0 ss)) lane (c.count.ensures.going k) (c.count.ensures.made k) (c.requires.all k))
+    (λ left. ap stands.places_in (c.loop-wait.invariant.done.1 k left) ∙ c.count.ensures.same k ∙ sym (others_all tid lane (sym (c.requires.all k) ∙ ap length (no_leaves k 0 ss (sym (ap (has_slot k) all) ∙ left)))))
+
+pub returns-clause-going : goal.returns-clause-going
+returns-clause-going c k =
+    let ss = map slot_in c.args.waits.now in
+    let all : take c.loop-wait.wait-index ss ≡ ss = waits_all c.args.waits.now c.loop-wait.wait-index c.loop-wait-test.false in
+    decide (has_slot k (take c.loop-wait.wait-index ss))
+    (λ done. (c.loop-wait.invariant.done.0 k done).going)
+    (λ left. ap stands.going_in (c.loop-wait.invariant.done.1 k left) ∙ none (going_at c.count.new.self k) (length (slot_leaves k 0 ss)) (c.count.ensures.going k) (ap length (no_leaves k 0 ss (sym (ap (has_slot k) all) ∙ left))))
+  where
+    none : (going leaves : ℕ) → (0 < going → going ≡ leaves) → leaves ≡ 0 → going ≡ 0
+    none zero leaves a e = refl
+    none (suc going) leaves a e = a (omega arith) ∙ e

@@ -1,14 +1,13 @@
-use Rattle.std.proofs.Common.{◌≡◌, ◌≤◌, ◌+◌, ◌*◌, ℕ, drop, true, false}
-use Rattle.cml_channel.specs.Lanes.{others}
-use Rattle.cml_index.specs.declared.slot.Slot.{Slot}
+use Rattle.std.proofs.Common.{◌≤◌, ◌+◌, ◌*◌, ℕ, map, take}
 use Rattle.cml_index.specs.Slots as spec
+use Rattle.cml_index.specs.Slots.{slot_in}
+use Rattle.cml_index.specs.Stands as stands
+use Rattle.cml_index.proofs.Walks.{IsDone}
 use Rattle.cml_index.proofs.lanes.Lanes.go.Given as goal
 
--- the runs so far are gone, and the other lanes are as they were
-abbrev pub invariant-loop-i : goal.invariant-loop-i
-invariant-loop-i l = record {
-  done : (k : Slot) → spec.has_run (drop l.i l.runs.entries) k ≡ false → spec.lane_at l.self.by_slot k ≡ others l.tid (spec.lane_at l.fn.self.by_slot k);
-  left : (k : Slot) → spec.has_run (drop l.i l.runs.entries) k ≡ true → spec.lane_at l.self.by_slot k ≡ spec.lane_at l.fn.self.by_slot k;
-  room : (k : Slot) → spec.room_at l.fn.self.by_slot k ≤ spec.room_at l.self.by_slot k;
-  cost : (digits : ℕ) → spec.HaveDigits l.fn.self.by_slot digits → l.tally ≤ l.fn.tally + l.i * digits;
+-- the leaves have gone from the slots so far
+abbrev pub invariant-loop-wait : goal.invariant-loop-wait
+invariant-loop-wait l = record {
+  done : IsDone (stands.HasGone l.tid) (λ k. spec.has_slot k (take l.wait-index (map slot_in l.waits))) (λ k. stands.stand_at l.initial.self k) (λ k. stands.stand_at l.self k);
+  cost : (digits : ℕ) → spec.HaveDigits l.initial.self digits → l.tally ≤ l.fn.tally + l.wait-index * digits;
 }

@@ -1,4 +1,4 @@
-use Rattle.std.proofs.Common.{rules, ◌≡◌, ℕ, true, false, [], ◌≤◌, ◌+◌, ◌*◌, ◌∙◌, length, nat_eq, nat_lt, not, map, ap, sym, subst, arith}
+use Rattle.std.proofs.Common.{rules, ◌≡◌, ℕ, true, false, ◌≤◌, ◌+◌, ◌*◌, ◌∙◌, length, nat_eq, not, map, ap, sym, subst, arith}
 use Rattle.std.specs.List.{filter}
 use Rattle.cml_value.specs.Group.{bases}
 use Rattle.cml_scan.specs.World.{PlainEntry}
@@ -9,16 +9,15 @@ use Rattle.cml_scan.specs.Order.{IsSorted, Every, Ascends, before}
 use Rattle.cml_scan.proofs.Ordered.{sorted_with}
 use Rattle.cml_channel.specs.Lanes.{is_others, with_run}
 use Rattle.std.specs.Prelude.{List}
-use Rattle.std.specs.Option.{option_map_or}
 use Rattle.cml_index.specs.declared.slot.Slot.{Slot}
 use Rattle.cml_index.specs.declared.slot.Slot.TheVariants.{Side}
-use Rattle.cml_index.specs.Slots.{lane_at, lane_of, slot_leaves, run_in, has_run}
-use Rattle.cml_index.proofs.Walks.{no_run, with_none}
+use Rattle.cml_index.specs.Slots.{slot_in, lane_at, lane_of, slot_leaves, has_slot}
+use Rattle.cml_index.proofs.Walks.{no_leaves, with_none}
 use Rattle.cml_channel.specs.Pairings.{one_lane}
-use Rattle.cml_index.specs.Live.{may_meet}
-use Rattle.cml_index.proofs.Kept.{no_side, meet_more, with_longer}
+use Rattle.cml_index.specs.Live.{may_meet, have_side}
+use Rattle.cml_index.proofs.Kept.{no_sides, meet_more, with_longer}
 use Rattle.cml_index.specs.Posts as spec
-use Rattle.cml_index.proofs.Parted.{all_apart, lane_others, lane-ascends, leaves_at-ascend, came_lane, came_count, came_all, nacks_with, move_cost, filter_fewer}
+use Rattle.cml_index.proofs.Parted.{all_apart, lane_others, lane-ascends, came_lane, came_count, came_all, nacks_with, move_cost, filter_fewer}
 use Rattle.cml_index.proofs.state.Core.enter.Goals as goal
 
 pub overflow_add-self-2 : goal.overflow_add-self-2
@@ -39,38 +38,42 @@ come-requires-clause-new c k =
     let here = subst (λ t. Every (λ (e : PlainEntry). not (nat_eq t e.thread)) c.args.self.now.entries.items) (sym c.tid.ensures) apart in
     subst (Every (is_others c.tid.result)) (sym (c.requires.indexed.placed k)) (lane_others spec.slot_of k c.tid.result c.args.self.now.entries.items here)
 
-pub come-requires-clause-ascend : goal.come-requires-clause-ascend
-come-requires-clause-ascend c k = subst (Ascends nat_lt) (sym (c.runs.ensures.runs k)) (leaves_at-ascend k 0 (map spec.slot_of (bases c.args.entry.group)))
+pub come-requires-clause-late : goal.come-requires-clause-late
+come-requires-clause-late c k = c.requires.room.late k ∙ ap (slot_leaves k 0) (sym c.waits.ensures.slots)
+
+pub add_all-requires-clause-there : goal.add_all-requires-clause-there
+add_all-requires-clause-there c n e = c.requires.room.places n (sym (ap (have_side n) c.waits-2.ensures.slots) ∙ e)
 
 pub add_all-requires-clause-was : goal.add_all-requires-clause-was
 add_all-requires-clause-was c n e =
     let es = c.args.self.now.entries.items in
-    let lanes = c.args.self.now.lanes.by_slot in
-    let after = c.come.new.self.by_slot in
+    let lanes = c.args.self.now.lanes in
+    let after = c.come.new.self in
     let tid = c.tid.result in
     let apart = all_apart c.args.entry.thread es c.requires.new in
     let away = subst (λ t. Every (λ (e : PlainEntry). not (nat_eq t e.thread)) es) (sym c.tid.ensures) apart in
     let up : (k : Slot) → Ascends before (lane_at lanes k) = λ k. subst (Ascends before) (sym (c.requires.indexed.placed k)) (lane-ascends spec.slot_of k es c.requires.indexed.sorted) in
     let new_ : (k : Slot) → Every (is_others tid) (lane_at lanes k) = λ k. subst (Every (is_others tid)) (sym (c.requires.indexed.placed k)) (lane_others spec.slot_of k tid es away) in
-    let same : (k : Slot) → has_run c.runs-2.result.now.entries k ≡ false → lane_at after k ≡ lane_at lanes k = λ k off.
-    let none : run_in c.runs-2.result.now k ≡ [] = ap (λ r. option_map_or (λ (v : List ℕ). v) r []) (no_run c.runs-2.result.now.entries k off) in
-    c.come.ensures.lanes k ∙ ap (λ ls. with_run tid ls (lane_at lanes k)) (c.runs.ensures.runs k ∙ sym (c.runs-2.ensures.runs k) ∙ none) ∙ with_none tid (lane_at lanes k) (up k) (new_ k) in
-    let off = no_side (has_run c.runs-2.result.now.entries (Side true n)) (has_run c.runs-2.result.now.entries (Side false n)) e in
+    let same_slots : map slot_in c.waits.result.now ≡ map slot_in c.waits-2.result.now = c.waits.ensures.slots ∙ sym c.waits-2.ensures.slots in
+    let same : (k : Slot) → has_slot k (map slot_in c.waits-2.result.now) ≡ false → lane_at after k ≡ lane_at lanes k = λ k off.
+    c.come.ensures.lanes k ∙ ap (λ ls. with_run tid ls (lane_at lanes k)) (ap (slot_leaves k 0) same_slots ∙ no_leaves k 0 (map slot_in c.waits-2.result.now) off) ∙ with_none tid (lane_at lanes k) (up k) (new_ k) in
+    let off = no_sides n (map slot_in c.waits-2.result.now) e in
     c.requires.indexed.sides n ∙ ap (λ ps. may_meet (one_lane n.kind) (length ps) (length (lane_at lanes (Side false n)))) (sym (same (Side true n) off.0)) ∙ ap (λ ps. may_meet (one_lane n.kind) (length (lane_at after (Side true n))) (length ps)) (sym (same (Side false n) off.1))
 
 pub add_all-requires-clause-under : goal.add_all-requires-clause-under
 add_all-requires-clause-under c n dark =
     let es = c.args.self.now.entries.items in
-    let lanes = c.args.self.now.lanes.by_slot in
-    let after = c.come.new.self.by_slot in
+    let lanes = c.args.self.now.lanes in
+    let after = c.come.new.self in
     let tid = c.tid.result in
+    let ls : (k : Slot) → List ℕ = λ k. slot_leaves k 0 (map slot_in c.waits.result.now) in
     let apart = all_apart c.args.entry.thread es c.requires.new in
     let away = subst (λ t. Every (λ (e : PlainEntry). not (nat_eq t e.thread)) es) (sym c.tid.ensures) apart in
     let up : (k : Slot) → Ascends before (lane_at lanes k) = λ k. subst (Ascends before) (sym (c.requires.indexed.placed k)) (lane-ascends spec.slot_of k es c.requires.indexed.sorted) in
     let new_ : (k : Slot) → Every (is_others tid) (lane_at lanes k) = λ k. subst (Every (is_others tid)) (sym (c.requires.indexed.placed k)) (lane_others spec.slot_of k tid es away) in
     let more : (k : Slot) → length (lane_at lanes k) ≤ length (lane_at after k) = λ k.
-    let few : length (lane_at lanes k) ≤ length (with_run tid (run_in c.runs.result.now k) (lane_at lanes k)) = with_longer tid (run_in c.runs.result.now k) (lane_at lanes k) (up k) (new_ k) in
-    let same : length (lane_at after k) ≡ length (with_run tid (run_in c.runs.result.now k) (lane_at lanes k)) = ap length (c.come.ensures.lanes k) in
+    let few : length (lane_at lanes k) ≤ length (with_run tid (ls k) (lane_at lanes k)) = with_longer tid (ls k) (lane_at lanes k) (up k) (new_ k) in
+    let same : length (lane_at after k) ≡ length (with_run tid (ls k) (lane_at lanes k)) = ap length (c.come.ensures.lanes k) in
     omega (arith, few, same) in
     c.requires.indexed.sides n ∙ meet_more (one_lane n.kind) (length (lane_at lanes (Side true n))) (length (lane_at lanes (Side false n))) (length (lane_at after (Side true n))) (length (lane_at after (Side false n))) (more (Side true n)) (more (Side false n)) dark
 
@@ -92,10 +95,11 @@ returns-clause-indexed c =
     let now_lit : length (spec.lit_offers c.args.self.now.flags.entries c.put.new.self.items) ≡ length (filter (λ o. lit o.base) (offers_of (with_entry e es))) = ap (λ xs. length (filter (λ o. lit o.base) (offers_of xs))) after in
     record {
       sorted = subst IsSorted (sym after) (sorted_with e es c.requires.indexed.sorted);
-      placed = λ k. c.come.ensures.lanes k ∙ ap (λ ls. with_run c.tid.result ls (lane_at c.args.self.now.lanes.by_slot k)) (c.runs.ensures.runs k)
+      placed = λ k. c.come.ensures.lanes k ∙ ap (λ ls. with_run c.tid.result ls (lane_at c.args.self.now.lanes k)) (ap (slot_leaves k 0) c.waits.ensures.slots)
           ∙ ap (with_run c.tid.result (slot_leaves k 0 (map spec.slot_of (bases e.group)))) (c.requires.indexed.placed k)
           ∙ came_lane spec.slot_of k c.tid.result e es c.tid.ensures ∙ ap (λ xs. lane_of spec.slot_of k (offers_of xs)) (sym after);
       sides = c.add_all.ensures;
+      still = λ k. c.come.ensures.going k ∙ c.requires.indexed.still k;
       all = omega (arith, many, count, now, c.requires.indexed.all);
       alone = omega (arith, many_lit, count_lit, now_lit, c.requires.indexed.alone);
       named = subst (λ xs. Every (λ k. spec.is_named c.args.self.now.flags.entries (spec.slot_of_nack k)) (spec.nacks_in xs)) (sym after) (nacks_with (λ k. spec.is_named c.args.self.now.flags.entries (spec.slot_of_nack k)) e es c.requires.indexed.named c.requires.room.named);
@@ -106,5 +110,5 @@ returns-clause-cost c digits few =
     let count : length c.bases.result.now ≡ length (bases c.args.entry.group) = ap length c.bases.ensures in
     let one : c.count_lit-lit.new.tally ≤ c.args.tally.now + 2 * length (bases c.args.entry.group) = omega (arith, c.count_lit-lit.ensures.cost, count) in
     let two = c.come.ensures.cost digits few in
-    let sum = move_cost c.args.tally.now c.count_lit-lit.new.tally c.come.new.tally (length (bases c.args.entry.group)) _ 0 digits one two c.runs.ensures.few in
+    let sum = move_cost c.args.tally.now c.count_lit-lit.new.tally c.come.new.tally (length (bases c.args.entry.group)) _ 0 digits one two (omega (arith, c.waits.ensures.many)) in
     omega (arith, sum)

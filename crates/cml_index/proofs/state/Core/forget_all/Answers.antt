@@ -16,6 +16,7 @@ loop-light-preserved c =
     record {
       told = λ m. c.forget.ensures.told m ∙ c.loop-light.invariant.told m;
       indexed = c.forget.ensures.indexed;
+      idle = c.forget.ensures.idle;
       entries = c.forget.ensures.entries ∙ c.loop-light.invariant.entries;
       leaves = c.forget.ensures.leaves ∙ c.loop-light.invariant.leaves;
     }

@@ -1,4 +1,4 @@
-use Rattle.std.proofs.Common.{rules, ◌≡◌, ℕ, true, false, ◌≤◌, ◌-◌, ◌+◌, ◌*◌, ◌∙◌, [], ◌∷◌, length, nat_eq, not, ap, sym, subst, arith}
+use Rattle.std.proofs.Common.{rules, ◌≡◌, true, false, ◌≤◌, ◌-◌, ◌+◌, ◌*◌, ◌∙◌, [], ◌∷◌, length, map, nat_eq, not, ap, sym, subst, arith}
 use Rattle.std.specs.List.{filter}
 use Rattle.cml_value.specs.Group.{bases}
 use Rattle.cml_scan.specs.Scan.{offers_of}
@@ -7,15 +7,13 @@ use Rattle.cml_scan.specs.Light.{lit_by}
 use Rattle.cml_scan.specs.Order.{IsSorted, Every}
 use Rattle.cml_scan.proofs.Ordered.{sorted_without}
 use Rattle.cml_channel.specs.Lanes.{is_own, is_others, others}
-use Rattle.std.specs.Prelude.{List}
-use Rattle.std.specs.Option.{option_map_or}
 use Rattle.cml_index.specs.declared.slot.Slot.{Slot}
 use Rattle.cml_index.specs.declared.slot.Slot.TheVariants.{Side}
-use Rattle.cml_index.specs.Slots.{lane_at, lane_of, run_in, has_run}
-use Rattle.cml_index.proofs.Walks.{no_run, others_all}
+use Rattle.cml_index.specs.Slots.{slot_in, lane_at, lane_of, slot_leaves, has_slot}
+use Rattle.cml_index.proofs.Walks.{no_leaves, others_all}
 use Rattle.cml_channel.specs.Pairings.{one_lane}
 use Rattle.cml_index.specs.Live.{may_meet}
-use Rattle.cml_index.proofs.Kept.{no_side, meet_less}
+use Rattle.cml_index.proofs.Kept.{no_sides, meet_less}
 use Rattle.cml_index.specs.Posts as spec
 use Rattle.cml_index.proofs.Parted.{gone_one, left_lane, left_rest, left_count, left_all, nacks_left, move_cost, filter_fewer}
 use Rattle.cml_index.proofs.state.Core.leave.Goals as goal
@@ -38,13 +36,13 @@ overflow_sub-self-2 c =
     let count : length c.bases-2.result.now ≡ length (bases d.group) = ap length c.bases-2.ensures in
     omega (arith, many, count, c.requires.indexed.all)
 
-pub go-requires : goal.go-requires
-go-requires c k =
+pub go-requires-clause-all : goal.go-requires-clause-all
+go-requires-clause-all c k =
     let es = c.args.self.now.entries.items in
     let d = c.take-entry.result in
     let own : filter (λ e. nat_eq c.args.tid.0 e.thread) es ≡ d ∷ [] = c.take-entry.ensures.own in
     let thread : d.thread ≡ c.args.tid.0 = c.take-entry.ensures.thread in
-    ap length (c.runs.ensures.runs k) ∙ left_lane spec.slot_of k c.args.tid es d own thread ∙ ap (λ ps. length (filter (is_own c.args.tid) ps)) (sym (c.requires.indexed.placed k))
+    ap (λ ss. length (slot_leaves k 0 ss)) c.waits.ensures.slots ∙ left_lane spec.slot_of k c.args.tid es d own thread ∙ ap (λ ps. length (filter (is_own c.args.tid) ps)) (sym (c.requires.indexed.placed k))
 
 pub cut_all-requires-clause-was : goal.cut_all-requires-clause-was
 cut_all-requires-clause-was c n e =
@@ -52,19 +50,19 @@ cut_all-requires-clause-was c n e =
     let d = c.take-entry.result in
     let own : filter (λ e. nat_eq c.args.tid.0 e.thread) es ≡ d ∷ [] = c.take-entry.ensures.own in
     let thread : d.thread ≡ c.args.tid.0 = c.take-entry.ensures.thread in
-    let lanes = c.args.self.now.lanes.by_slot in
-    let after = c.go.new.self.by_slot in
-    let same : (k : Slot) → has_run c.runs-2.result.now.entries k ≡ false → lane_at after k ≡ lane_at lanes k = λ k off.
-    let none : run_in c.runs-2.result.now k ≡ [] = ap (λ r. option_map_or (λ (v : List ℕ). v) r []) (no_run c.runs-2.result.now.entries k off) in
-    let zero_ : length (filter (is_own c.args.tid) (lane_at lanes k)) ≡ 0 = ap (λ ps. length (filter (is_own c.args.tid) ps)) (c.requires.indexed.placed k) ∙ sym (left_lane spec.slot_of k c.args.tid es d own thread) ∙ ap length (sym (c.runs-2.ensures.runs k) ∙ none) in
+    let lanes = c.args.self.now.lanes in
+    let after = c.go.new.self in
+    let ss = map slot_in c.waits-2.result.now in
+    let same : (k : Slot) → has_slot k ss ≡ false → lane_at after k ≡ lane_at lanes k = λ k off.
+    let zero_ : length (filter (is_own c.args.tid) (lane_at lanes k)) ≡ 0 = ap (λ ps. length (filter (is_own c.args.tid) ps)) (c.requires.indexed.placed k) ∙ sym (left_lane spec.slot_of k c.args.tid es d own thread) ∙ ap length (ap (slot_leaves k 0) (sym c.waits-2.ensures.slots) ∙ no_leaves k 0 ss off) in
     c.go.ensures.lanes k ∙ others_all c.args.tid (lane_at lanes k) zero_ in
-    let off = no_side (has_run c.runs-2.result.now.entries (Side true n)) (has_run c.runs-2.result.now.entries (Side false n)) e in
+    let off = no_sides n ss e in
     c.requires.indexed.sides n ∙ ap (λ ps. may_meet (one_lane n.kind) (length ps) (length (lane_at lanes (Side false n)))) (sym (same (Side true n) off.0)) ∙ ap (λ ps. may_meet (one_lane n.kind) (length (lane_at after (Side true n))) (length ps)) (sym (same (Side false n) off.1))
 
 pub cut_all-requires-clause-over : goal.cut_all-requires-clause-over
 cut_all-requires-clause-over c n on =
-    let lanes = c.args.self.now.lanes.by_slot in
-    let after = c.go.new.self.by_slot in
+    let lanes = c.args.self.now.lanes in
+    let after = c.go.new.self in
     let fewer : (k : Slot) → length (lane_at after k) ≤ length (lane_at lanes k) = λ k.
     let few : length (others c.args.tid (lane_at lanes k)) ≤ length (lane_at lanes k) = filter_fewer (is_others c.args.tid) (lane_at lanes k) in
     let same : length (lane_at after k) ≡ length (others c.args.tid (lane_at lanes k)) = ap length (c.go.ensures.lanes k) in
@@ -92,6 +90,7 @@ returns-clause-indexed c =
       sorted = subst IsSorted (sym without_) (sorted_without (c.args.tid ∷ []) es c.requires.indexed.sorted);
       placed = λ k. c.go.ensures.lanes k ∙ ap (others c.args.tid) (c.requires.indexed.placed k) ∙ sym (left_rest spec.slot_of k c.args.tid es) ∙ ap (λ xs. lane_of spec.slot_of k (offers_of xs)) (sym rest);
       sides = c.cut_all.ensures.live;
+      still = c.go.ensures.going;
       all = omega (arith, many, count, after, c.requires.indexed.all);
       alone = omega (arith, many_lit, count_lit, after_lit, c.requires.indexed.alone);
       named = subst (λ xs. Every (λ k. spec.is_named c.args.self.now.flags.entries (spec.slot_of_nack k)) (spec.nacks_in xs)) (sym rest) (nacks_left (λ k. spec.is_named c.args.self.now.flags.entries (spec.slot_of_nack k)) (λ e. not (nat_eq c.args.tid.0 e.thread)) es c.requires.indexed.named);
@@ -101,12 +100,13 @@ pub returns-clause-freed : goal.returns-clause-freed
 returns-clause-freed c = record {
   room = search rules;
   shorter = λ k.
-      let fewer : length (others c.args.tid (lane_at c.args.self.now.lanes.by_slot k)) ≤ length (lane_at c.args.self.now.lanes.by_slot k) = filter_fewer (is_others c.args.tid) (lane_at c.args.self.now.lanes.by_slot k) in
-      let same : length (lane_at c.go.new.self.by_slot k) ≡ length (others c.args.tid (lane_at c.args.self.now.lanes.by_slot k)) = ap length (c.go.ensures.lanes k) in
+      let fewer : length (others c.args.tid (lane_at c.args.self.now.lanes k)) ≤ length (lane_at c.args.self.now.lanes k) = filter_fewer (is_others c.args.tid) (lane_at c.args.self.now.lanes k) in
+      let same : length (lane_at c.go.new.self k) ≡ length (others c.args.tid (lane_at c.args.self.now.lanes k)) = ap length (c.go.ensures.lanes k) in
       omega (arith, fewer, same);
   lighter = search rules;
   seat = search rules;
-  seats = search rules;
+  places = c.cut_all.ensures.places;
+  late = c.go.ensures.late;
   named = λ k named. named;
 }
 
@@ -123,5 +123,5 @@ returns-clause-cost c digits few =
     let rest : c.args.self.now.leaves - length c.bases-2.result.now ≡ left = ap (λ n. c.args.self.now.leaves - n) count in
     let one : c.count_lit-lit.new.tally ≤ c.args.tally.now + 2 * length (bases d.group) = omega (arith, c.count_lit-lit.ensures.cost, count1) in
     let two = c.go.ensures.cost digits few in
-    let sum = move_cost c.args.tally.now c.count_lit-lit.new.tally c.go.new.tally (length (bases d.group)) _ left digits one two c.runs.ensures.few in
+    let sum = move_cost c.args.tally.now c.count_lit-lit.new.tally c.go.new.tally (length (bases d.group)) _ left digits one two (omega (arith, c.waits.ensures.many)) in
     rw (rest) (rw (← whole) at sum)

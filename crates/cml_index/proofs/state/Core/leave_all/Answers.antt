@@ -4,7 +4,7 @@ use Rattle.cml_index.proofs.Going.{there_still, without_more, without_none}
 use Rattle.cml_index.proofs.state.Core.leave_all.Goals as goal
 
 pub loop-tid-init : goal.loop-tid-init
-loop-tid-init c = record { entries = without_none c.args.self.now.entries.items; indexed = c.requires.indexed; flags = Rattle.std.proofs.Common.refl; freed = record { room = λ k. omega arith; shorter = λ k. omega arith; lighter = omega arith; seat = omega arith; seats = omega arith; named = λ k named. named }; cost = λ digits few. omega arith }
+loop-tid-init c = record { entries = without_none c.args.self.now.entries.items; indexed = c.requires.indexed; flags = Rattle.std.proofs.Common.refl; freed = record { room = λ k. omega arith; shorter = λ k. omega arith; lighter = omega arith; seat = omega arith; places = λ n h. h; late = λ k. Rattle.std.proofs.Common.refl; named = λ k named. named }; cost = λ digits few. omega arith }
 
 pub leave-requires-clause-there : goal.leave-requires-clause-there
 leave-requires-clause-there c =
@@ -25,7 +25,8 @@ loop-tid-preserved c =
         shorter = λ k. let r = c.loop-tid.invariant.freed.shorter k in let q = c.leave.ensures.freed.shorter k in omega (arith, r, q);
         lighter = omega (arith, c.loop-tid.invariant.freed.lighter, c.leave.ensures.freed.lighter);
         seat = omega (arith, c.loop-tid.invariant.freed.seat, c.leave.ensures.freed.seat);
-        seats = omega (arith, c.loop-tid.invariant.freed.seats, c.leave.ensures.freed.seats);
+        places = λ n h. c.leave.ensures.freed.places n (c.loop-tid.invariant.freed.places n h);
+        late = λ k. c.leave.ensures.freed.late k ∙ c.loop-tid.invariant.freed.late k;
         named = λ k named. c.leave.ensures.freed.named k (c.loop-tid.invariant.freed.named k named);
       };
       cost = λ digits few. let r = c.loop-tid.invariant.cost digits few in let q = c.leave.ensures.cost digits (λ k. let s = c.loop-tid.invariant.freed.shorter k in let f = few k in omega (arith, s, f)) in omega (arith, r, q);

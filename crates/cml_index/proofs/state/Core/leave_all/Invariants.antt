@@ -11,5 +11,5 @@ invariant-loop-tid l = record {
   indexed : IsIndexed l.self;
   flags : l.self.flags ≡ l.fn.self.flags;
   freed : HasFreed l.fn.self l.self;
-  cost : (digits : ℕ) → HaveDigits l.fn.self.lanes.by_slot digits → l.tally + l.self.leaves * (digits + 2) ≤ l.fn.tally + l.fn.self.leaves * (digits + 2);
+  cost : (digits : ℕ) → HaveDigits l.fn.self.lanes digits → l.tally + l.self.leaves * (digits + 2) ≤ l.fn.tally + l.fn.self.leaves * (digits + 2);
 }

@@ -1,20 +1,19 @@
-use Rattle.std.proofs.Common.{rules}
+use Rattle.std.proofs.Common.{refl, subst}
+use Rattle.std.specs.Prelude.{OnOk}
+use Rattle.cml_value.specs.Group.{PlainGroup, scopes, nacks_of}
+use Rattle.cml_scan.specs.Order.{Every}
+use Rattle.cml_index.specs.Posts as spec
 use Rattle.cml_index.proofs.Lit.{still_indexed}
 use Rattle.cml_index.proofs.state.Core.make_places.Goals as goal
 
-pub returns-in_err-reserve_nacks-clause-indexed : goal.returns-in_err-reserve_nacks-clause-indexed
-returns-in_err-reserve_nacks-clause-indexed c =
-    rw (c.reserve.ensures.items) (still_indexed c.args.self.now.entries.items c.args.self.now.lanes.by_slot c.make_room.new.self.by_slot c.args.self.now.live c.reserve-2.new.self c.args.self.now.flags.entries c.reserve_nacks.new.flags.entries c.args.self.now.leaves c.args.self.now.lit c.requires.indexed c.make_room.ensures.same c.reserve-2.ensures.keys c.reserve_nacks.ensures.kept)
+pub returns-in_err-make_all-clause-indexed : goal.returns-in_err-make_all-clause-indexed
+returns-in_err-make_all-clause-indexed c =
+    rw (c.reserve.ensures.items) (still_indexed c.args.self.now.entries.items c.args.self.now.lanes c.args.self.now.lanes c.args.self.now.live c.make_all.new.self c.args.self.now.flags.entries c.args.self.now.flags.entries c.args.self.now.leaves c.args.self.now.lit c.requires.indexed (λ k. refl) (λ k. refl) c.make_all.ensures.same.here (record { same = λ l. refl; named = λ k h. h }))
 
 pub returns-clause-indexed : goal.returns-clause-indexed
 returns-clause-indexed c =
-    rw (c.reserve.ensures.items) (still_indexed c.args.self.now.entries.items c.args.self.now.lanes.by_slot c.make_room.new.self.by_slot c.args.self.now.live c.reserve-2.new.self c.args.self.now.flags.entries c.reserve_nacks.new.flags.entries c.args.self.now.leaves c.args.self.now.lit c.requires.indexed c.make_room.ensures.same c.reserve-2.ensures.keys c.reserve_nacks.ensures.kept)
+    rw (c.reserve.ensures.items) (still_indexed c.args.self.now.entries.items c.args.self.now.lanes c.args.self.now.lanes c.args.self.now.live c.make_all.new.self c.args.self.now.flags.entries c.reserve_nacks.new.flags.entries c.args.self.now.leaves c.args.self.now.lit c.requires.indexed (λ k. refl) (λ k. refl) c.make_all.ensures.same.here c.reserve_nacks.ensures.kept)
 
-pub returns-clause-room : goal.returns-clause-room
-returns-clause-room c = record {
-  seat = search rules;
-  seats = search rules;
-  small = search rules;
-  room = search rules;
-  named = rw (← c.group.ensures) c.in_ok-reserve_nacks.ensures.there;
-}
+pub returns-clause-named : goal.returns-clause-named
+returns-clause-named c =
+    subst (λ (g : PlainGroup). OnOk c.reserve_nacks.result (Every (λ k. spec.is_named c.reserve_nacks.new.flags.entries (spec.slot_of_nack k)) (nacks_of (scopes g)))) c.group.ensures c.reserve_nacks.ensures.there

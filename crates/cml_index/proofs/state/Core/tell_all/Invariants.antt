@@ -12,7 +12,7 @@ invariant-loop-light l = record {
   told : (m : Light) → spec.told l.self.flags.entries m ≡ (if has_light (take l.light-index l.lights) m then l.lit else spec.told l.fn.self.flags.entries m);
   indexed : IsIndexed l.self;
   entries : l.self.entries ≡ l.fn.self.entries;
-  lanes : l.self.lanes.by_slot ≡ l.fn.self.lanes.by_slot;
+  lanes : l.self.lanes ≡ l.fn.self.lanes;
   leaves : l.self.leaves ≡ l.fn.self.leaves;
   live : l.self.live ≡ l.fn.self.live;
   kept : (k : Slot) → spec.is_named l.fn.self.flags.entries k ≡ true → spec.is_named l.self.flags.entries k ≡ true;

@@ -4,6 +4,8 @@ use Rattle.cml_scan.specs.Table.{IsThere}
 use Rattle.cml_scan.proofs.Ordered.{Every-weaker}
 use Rattle.cml_index.specs.declared.slot.Slot.TheVariants.{Waiters}
 use Rattle.cml_index.specs.Posts as spec
+use Rattle.cml_index.specs.Live.{HasPlace}
+use Rattle.cml_index.specs.Slots.{late_at}
 use Rattle.cml_index.proofs.state.Core.tell_and_leave.Goals as goal
 
 pub tell_all-requires-2-clause-there : goal.tell_all-requires-2-clause-there
@@ -21,6 +23,7 @@ returns-clause-freed c = record {
   shorter = search rules;
   lighter = search rules;
   seat = search rules;
-  seats = search rules;
+  places = λ n h. c.leave_all.ensures.freed.places n (subst (λ live. HasPlace live n) (sym (c.tell_all-2.ensures.still.live ∙ c.tell_all.ensures.still.live)) h);
+  late = λ k. c.leave_all.ensures.freed.late k ∙ ap (λ lanes. late_at lanes k) (c.tell_all-2.ensures.still.lanes ∙ c.tell_all.ensures.still.lanes);
   named = λ k named. c.leave_all.ensures.freed.named k (c.tell_all-2.ensures.kept k (c.tell_all.ensures.kept k named));
 }

@@ -1,0 +1,10 @@
+use Rattle.std.proofs.Common.{map, take}
+use Rattle.cml_index.specs.Slots as spec
+use Rattle.cml_index.specs.Slots.{slot_in}
+use Rattle.cml_index.specs.Stands as stands
+use Rattle.cml_index.proofs.Walks.{IsDone}
+use Rattle.cml_index.proofs.lanes.Lanes.forgo.Given as goal
+
+-- no leaf is to come to the slots so far
+abbrev pub invariant-loop-wait : goal.invariant-loop-wait
+invariant-loop-wait l = IsDone stands.HasForgone (λ k. spec.has_slot k (take l.wait-index (map slot_in l.waits))) (λ k. stands.stand_at l.fn.self k) (λ k. stands.stand_at l.self k)

@@ -1,0 +1,266 @@
+//! Where offers stand, and what the change in hand does there.
+
+ghost use Rattle.indexmap.specs.IndexMap.{get};
+ghost use Rattle.std.specs.Prelude.{◌≡◌, ◌≢◌, ◌≤◌, ◌<◌, ◌==◌, ◌+◌, ◌^◌, ℕ, [], ◌∷◌, ◌++◌, true, false, length, filter, nat_lt, slice_get, is_some, OnOk, OnErr};
+ghost use Rattle.cml_scan.specs.Order.{Every, Ascends};
+ghost use Rattle.cml_channel.specs.Lanes.{is_own, is_others};
+ghost use Rattle.cml_index.specs.Stands as spec;
+
+use cml_channel::{Lane, Tally};
+use cml_value::Tid;
+use indexmap::IndexMap;
+use std::alloc::{AllocError, Global};
+
+// The offers of one side of an object, or of those who wait for one light; and of the thread of which it is told now the leaves that
+// are to come there, and how many are to go from there.
+#[derive(Drop)]
+pub(crate) struct Stand {
+    pub(crate) lane: Lane,
+    pub(crate) late: Vec<u32>,
+    pub(crate) going: usize,
+}
+
+// The stands of the ticks.
+pub(crate) type Ticks = IndexMap<u64, Stand>;
+
+impl Stand {
+    // Nobody stands there.
+    pub(crate) fn new(alloc: Global) -> Stand
+        ensures lane { result.lane.places ≡ [] }
+        ensures late { result.late.items ≡ [] }
+        ensures going { result.going ≡ 0 }
+    {
+        Stand {
+            lane: Lane::new(alloc),
+            late: Vec::new(alloc),
+            going: 0,
+        }
+    }
+
+    // The leaf is to come, and there is room for it.
+    pub(crate) fn note(&mut self, leaf: u32) -> Result<(), AllocError>
+        ensures lane { self.new.lane.places ≡ self.old.lane.places }
+        ensures going { self.new.going ≡ self.old.going }
+        ensures kept { self.old.lane.room ≤ self.new.lane.room }
+        ensures late { OnOk result (self.new.late.items ≡ self.old.late.items ++ leaf ∷ []) }
+        ensures room { OnOk result (length self.new.late.items ≤ self.new.lane.room) }
+        ensures none { OnErr result (self.new.late.items ≡ self.old.late.items) }
+    {
+        self.lane.reserve(self.late.len() + 1)?;
+        self.late.push(leaf)?;
+        Ok(())
+    }
+
+    // The leaves that were to come come.
+    pub(crate) fn come(&mut self, tid: Tid, tally: &mut Tally)
+        requires room { length self.old.late.items ≤ self.old.lane.room }
+        requires new { 0 < length self.old.late.items → Every (is_others tid) self.old.lane.places }
+        requires ascend { Ascends nat_lt self.old.late.items }
+        ensures lane { self.new.lane.places
+            ≡ spec.joined tid self.old.late.items self.old.lane.places }
+        ensures late { self.new.late.items ≡ [] }
+        ensures going { self.new.going ≡ self.old.going }
+        ensures cost { (digits : ℕ) →
+            (0 < length self.old.late.items → length self.old.lane.places < 2 ^ digits) →
+            tally.new ≤ tally.old + digits }
+    {
+        if !self.late.is_empty() {
+            self.lane.come(tid, &self.late, tally);
+            self.late.clear();
+        }
+    }
+
+    // No leaf is to come.
+    pub(crate) fn forgo(&mut self)
+        ensures lane { self.new.lane ≡ self.old.lane }
+        ensures late { self.new.late.items ≡ [] }
+        ensures going { self.new.going ≡ self.old.going }
+    {
+        self.late.clear();
+    }
+
+    // One more leaf is to go.
+    pub(crate) fn count(&mut self)
+        requires { self.old.going < 18446744073709551615 }
+        ensures lane { self.new.lane ≡ self.old.lane }
+        ensures late { self.new.late ≡ self.old.late }
+        ensures going { self.new.going ≡ self.old.going + 1 }
+    {
+        self.going += 1;
+    }
+
+    // The leaves that were to go, which are all of the thread, go.
+    pub(crate) fn go(&mut self, tid: Tid, tally: &mut Tally)
+        requires { 0 < self.old.going →
+            self.old.going ≡ length (filter (is_own tid) self.old.lane.places) }
+        ensures lane { self.new.lane.places
+            ≡ spec.after_going tid self.old.going self.old.lane.places }
+        ensures late { self.new.late ≡ self.old.late }
+        ensures going { self.new.going ≡ 0 }
+        ensures room { self.old.lane.room ≤ self.new.lane.room }
+        ensures cost { (digits : ℕ) →
+            (0 < self.old.going → length self.old.lane.places < 2 ^ digits) →
+            tally.new ≤ tally.old + digits }
+    {
+        if self.going > 0 {
+            self.lane.go(tid, self.going, tally);
+            self.going = 0;
+        }
+    }
+}
+
+// Makes the stands up to this one. Those that are made are empty.
+pub(crate) fn make_in(row: &mut Vec<Stand>, alloc: Global, number: usize) -> Result<(), AllocError>
+    ensures same { (i : ℕ) → spec.IsAlike (slice_get row.new.items i) (slice_get row.old.items i) }
+    ensures there { OnOk result (number < length row.new.items) }
+{
+    while row.len() <= number {
+        row.push(Stand::new(alloc))?;
+    }
+    Ok(())
+}
+
+// The leaf is to come to this stand, which was made.
+pub(crate) fn note_in(row: &mut Vec<Stand>, number: usize, leaf: u32) -> Result<(), AllocError>
+    requires { number < length row.old.items }
+    ensures here { spec.IsNoted result leaf (slice_get row.old.items number) (slice_get row.new.items number) }
+    ensures elsewhere { (i : ℕ) → i ≢ number → slice_get row.new.items i ≡ slice_get row.old.items i }
+{
+    let stand = &mut row[number];
+    stand.note(leaf)
+}
+
+// The leaves that were to come to this stand come.
+pub(crate) fn come_in(row: &mut Vec<Stand>, number: usize, tid: Tid, tally: &mut Tally)
+    requires { spec.CanCome tid (slice_get row.old.items number) }
+    ensures here { spec.HasCome tid (slice_get row.old.items number) (slice_get row.new.items number) }
+    ensures elsewhere { (i : ℕ) → i ≢ number → slice_get row.new.items i ≡ slice_get row.old.items i }
+    ensures cost { (digits : ℕ) → spec.ComesWithin digits (slice_get row.old.items number) →
+        tally.new ≤ tally.old + digits }
+{
+    if number < row.len() {
+        let stand = &mut row[number];
+        stand.come(tid, tally);
+    }
+}
+
+// No leaf is to come to this stand.
+pub(crate) fn forgo_in(row: &mut Vec<Stand>, number: usize)
+    ensures here { spec.HasForgone (slice_get row.old.items number) (slice_get row.new.items number) }
+    ensures elsewhere { (i : ℕ) → i ≢ number → slice_get row.new.items i ≡ slice_get row.old.items i }
+{
+    if number < row.len() {
+        let stand = &mut row[number];
+        stand.forgo();
+    }
+}
+
+// One more leaf is to go from this stand, if it was made.
+pub(crate) fn count_in(row: &mut Vec<Stand>, number: usize)
+    requires { spec.going_in (slice_get row.old.items number) < 18446744073709551615 }
+    ensures here { spec.CountsOneMore (slice_get row.old.items number) (slice_get row.new.items number) }
+    ensures elsewhere { (i : ℕ) → i ≢ number → slice_get row.new.items i ≡ slice_get row.old.items i }
+{
+    if number < row.len() {
+        let stand = &mut row[number];
+        stand.count();
+    }
+}
+
+// The leaves that were to go from this stand go.
+pub(crate) fn go_in(row: &mut Vec<Stand>, number: usize, tid: Tid, tally: &mut Tally)
+    requires { spec.CanGo tid (slice_get row.old.items number) }
+    ensures here { spec.HasGone tid (slice_get row.old.items number) (slice_get row.new.items number) }
+    ensures elsewhere { (i : ℕ) → i ≢ number → slice_get row.new.items i ≡ slice_get row.old.items i }
+    ensures cost { (digits : ℕ) → spec.GoesWithin digits (slice_get row.old.items number) →
+        tally.new ≤ tally.old + digits }
+{
+    if number < row.len() {
+        let stand = &mut row[number];
+        stand.go(tid, tally);
+    }
+}
+
+// The leaf is to come to the stand of this tick, which was made.
+pub(crate) fn note_tick(ticks: &mut Ticks, tick: u64, leaf: u32) -> Result<(), AllocError>
+    requires { is_some (get (λ a b. a == b) ticks.old tick) ≡ true }
+    ensures here { spec.IsNoted result leaf (get (λ a b. a == b) ticks.old tick) (get (λ a b. a == b) ticks.new tick) }
+    ensures elsewhere { (t : ℕ) → (tick == t) ≡ false →
+        get (λ a b. a == b) ticks.new t ≡ get (λ a b. a == b) ticks.old t }
+{
+    match ticks.get_mut(&tick) {
+        Some(stand) => stand.note(leaf),
+        None => unreachable!(),
+    }
+}
+
+// The leaves that were to come to the stand of this tick come.
+pub(crate) fn come_tick(ticks: &mut Ticks, tick: u64, tid: Tid, tally: &mut Tally)
+    requires { spec.CanCome tid (get (λ a b. a == b) ticks.old tick) }
+    ensures here { spec.HasCome tid (get (λ a b. a == b) ticks.old tick) (get (λ a b. a == b) ticks.new tick) }
+    ensures elsewhere { (t : ℕ) → (tick == t) ≡ false →
+        get (λ a b. a == b) ticks.new t ≡ get (λ a b. a == b) ticks.old t }
+    ensures cost { (digits : ℕ) → spec.ComesWithin digits (get (λ a b. a == b) ticks.old tick) →
+        tally.new ≤ tally.old + digits }
+{
+    if let Some(stand) = ticks.get_mut(&tick) {
+        stand.come(tid, tally);
+    }
+}
+
+// No leaf is to come to the stand of this tick.
+pub(crate) fn forgo_tick(ticks: &mut Ticks, tick: u64)
+    ensures here { spec.HasForgone (get (λ a b. a == b) ticks.old tick) (get (λ a b. a == b) ticks.new tick) }
+    ensures elsewhere { (t : ℕ) → (tick == t) ≡ false →
+        get (λ a b. a == b) ticks.new t ≡ get (λ a b. a == b) ticks.old t }
+{
+    if let Some(stand) = ticks.get_mut(&tick) {
+        stand.forgo();
+    }
+}
+
+// One more leaf is to go from the stand of this tick, if it was made.
+pub(crate) fn count_tick(ticks: &mut Ticks, tick: u64)
+    requires { spec.going_in (get (λ a b. a == b) ticks.old tick) < 18446744073709551615 }
+    ensures here { spec.CountsOneMore (get (λ a b. a == b) ticks.old tick) (get (λ a b. a == b) ticks.new tick) }
+    ensures elsewhere { (t : ℕ) → (tick == t) ≡ false →
+        get (λ a b. a == b) ticks.new t ≡ get (λ a b. a == b) ticks.old t }
+{
+    if let Some(stand) = ticks.get_mut(&tick) {
+        stand.count();
+    }
+}
+
+// The leaves that were to go from the stand of this tick go.
+pub(crate) fn go_tick(ticks: &mut Ticks, tick: u64, tid: Tid, tally: &mut Tally)
+    requires { spec.CanGo tid (get (λ a b. a == b) ticks.old tick) }
+    ensures here { spec.HasGone tid (get (λ a b. a == b) ticks.old tick) (get (λ a b. a == b) ticks.new tick) }
+    ensures elsewhere { (t : ℕ) → (tick == t) ≡ false →
+        get (λ a b. a == b) ticks.new t ≡ get (λ a b. a == b) ticks.old t }
+    ensures cost { (digits : ℕ) → spec.GoesWithin digits (get (λ a b. a == b) ticks.old tick) →
+        tally.new ≤ tally.old + digits }
+{
+    if let Some(stand) = ticks.get_mut(&tick) {
+        stand.go(tid, tally);
+    }
+}
+
+// Makes the stand of this tick, if it is not there yet. What is made is empty.
+pub(crate) fn make_tick(ticks: &mut Ticks, alloc: Global, tick: u64) -> Result<(), AllocError>
+    ensures same { (t : ℕ) → spec.IsAlike (get (λ a b. a == b) ticks.new t) (get (λ a b. a == b) ticks.old t) }
+    ensures there { OnOk result (is_some (get (λ a b. a == b) ticks.new tick) ≡ true) }
+{
+    if ticks.contains_key(&tick) {
+        return Ok(());
+    }
+    ticks.insert(tick, Stand::new(alloc))?;
+    Ok(())
+}
+
+// Removes the stand of this tick, where nobody stands.
+pub(crate) fn forget_tick(ticks: &mut Ticks, tick: u64)
+    requires { spec.IsEmpty (get (λ a b. a == b) ticks.old tick) }
+    ensures { (t : ℕ) → spec.IsLike (get (λ a b. a == b) ticks.new t) (get (λ a b. a == b) ticks.old t) }
+{
+    ticks.swap_remove(&tick);
+}
