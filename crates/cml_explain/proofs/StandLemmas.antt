@@ -1,10 +1,10 @@
 -- The walk to the form that starts at a byte.
-use Rattle.std.proofs.Common.{◌≡◌, ◌≢◌, ℕ, ℤ, zero, ◌+◌, ◌*◌, ◌-◌, ◌<◌, ◌≤◌, List, [], ◌∷◌, length, get_or, drop, Option, Some, None, refl, sym, ap, ◌∙◌, arith, nat_eq, true, false, suc, add-one, drop-cons, cond}
+use Rattle.std.proofs.Common.{◌≡◌, ◌≢◌, ℕ, ℤ, zero, ◌+◌, ◌-◌, ◌<◌, ◌≤◌, List, [], ◌∷◌, length, get_or, drop, Option, Some, None, sym, ap, ◌∙◌, arith, nat_eq, true, false, suc, add-one, drop-cons, cond}
 use Rattle.std.proofs.Math.ListN.{drop_of_length-le}
 use Rattle.std.proofs.lemmas.Bool.{lt-ltb, le-ltb}
 use Rattle.std.proofs.lemmas.Bool.Decides.{nat_tests}
 use Rattle.cml_text.specs.declared.sexpr.Span.{Span}
-use Rattle.cml_text.specs.Forms.{PlainSexpr, plain_name, plain_int, plain_text, plain_list, PlainForms, no_forms, forms_and, plain_forms, forms_list, span_of, nesting, nesting_of}
+use Rattle.cml_text.specs.Forms.{PlainSexpr, plain_name, plain_int, plain_text, plain_list, forms_and, plain_forms, forms_list, span_of, nesting, nesting_of}
 use Rattle.cml_explain.specs.declared.keyword.Layout.{Layout}
 use Rattle.cml_explain.specs.declared.stand.Role.{Role}
 use Rattle.cml_explain.specs.Pieces.{head_among, layout_of}
