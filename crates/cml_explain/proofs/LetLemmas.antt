@@ -1,13 +1,13 @@
 -- The names that a function declares.
-use Rattle.std.proofs.Common.{◌≡◌, ℕ, ℤ, ◌+◌, ◌<◌, ◌≤◌, Bool, true, false, cond, List, [], ◌∷◌, ◌++◌, map, length, get_or, take, drop, Option, Some, None, refl, sym, ap, ◌∙◌, arith, append_assoc}
+use Rattle.std.proofs.Common.{◌≡◌, ℕ, ℤ, ◌+◌, ◌<◌, ◌≤◌, Bool, true, false, cond, List, [], ◌∷◌, ◌++◌, length, get_or, drop, Some, refl, sym, ap, ◌∙◌, arith, append_assoc}
 use Rattle.std.specs.Prelude.{find}
 use Rattle.std.specs.Option.{option_map}
 use Rattle.std.proofs.Math.ListN.{drop_of_length-le}
 use Rattle.std.proofs.lemmas.List.{append-nil}
 use Rattle.cml_text.specs.declared.sexpr.Span.{Span}
-use Rattle.cml_text.specs.Forms.{PlainSexpr, plain_name, plain_int, plain_text, plain_list, PlainForms, no_forms, forms_and, plain_forms, forms_list, span_of}
+use Rattle.cml_text.specs.Forms.{PlainSexpr, plain_name, plain_int, plain_text, plain_list, forms_and, plain_forms, span_of}
 use Rattle.cml_explain.specs.declared.lets.Declared.{Declared}
-use Rattle.cml_explain.specs.Lets.{PlainDeclared, let_declared, lets_in, lets_among, parameter_declared}
+use Rattle.cml_explain.specs.Lets.{PlainDeclared, let_declared, lets_in, lets_among}
 use Rattle.cml_explain.specs.LetViews.{plain_declared, all_declared}
 use Rattle.cml_explain.proofs.PieceLemmas.{forms_back}
 use Rattle.cml_explain.proofs.StandLemmas.{drop-at}

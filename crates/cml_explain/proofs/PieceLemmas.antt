@@ -1,6 +1,6 @@
 -- The parts of forms.
-use Rattle.std.proofs.Common.{◌≡◌, ℕ, ◌<◌, List, [], ◌∷◌, length, refl, ap, arith}
-use Rattle.cml_text.specs.Forms.{PlainSexpr, PlainForms, plain_forms, forms_list}
+use Rattle.std.proofs.Common.{◌≡◌, ◌<◌, List, [], ◌∷◌, length, refl, ap, arith}
+use Rattle.cml_text.specs.Forms.{PlainSexpr, plain_forms, forms_list}
 use Rattle.cml_explain.specs.Pieces.{second_name, second_start, third_members}
 
 pub forms_back : (forms : List PlainSexpr) → forms_list (plain_forms forms) ≡ forms

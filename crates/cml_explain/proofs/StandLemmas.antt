@@ -1,14 +1,14 @@
 -- The walk to the form that starts at a byte.
-use Rattle.std.proofs.Common.{◌≡◌, ◌≢◌, ℕ, ℤ, zero, ◌+◌, ◌*◌, ◌-◌, ◌<◌, ◌≤◌, List, [], ◌∷◌, length, get_or, drop, Option, Some, None, refl, sym, ap, ◌∙◌, arith, nat_eq, true, false, suc, add-one, drop-cons, cond}
+use Rattle.std.proofs.Common.{◌≡◌, ◌≢◌, ℕ, ℤ, zero, ◌+◌, ◌-◌, ◌<◌, ◌≤◌, List, [], ◌∷◌, length, get_or, drop, Option, Some, None, sym, ap, ◌∙◌, arith, nat_eq, true, false, suc, add-one, drop-cons, cond}
 use Rattle.std.proofs.Math.ListN.{drop_of_length-le}
 use Rattle.std.proofs.lemmas.Bool.{lt-ltb, le-ltb}
 use Rattle.std.proofs.lemmas.Bool.Decides.{nat_tests}
 use Rattle.cml_text.specs.declared.sexpr.Span.{Span}
-use Rattle.cml_text.specs.Forms.{PlainSexpr, plain_name, plain_int, plain_text, plain_list, PlainForms, no_forms, forms_and, plain_forms, forms_list, span_of, nesting, nesting_of}
+use Rattle.cml_text.specs.Forms.{PlainSexpr, plain_name, plain_int, plain_text, plain_list, forms_and, plain_forms, forms_list, span_of, nesting, nesting_of}
 use Rattle.cml_explain.specs.declared.keyword.Layout.{Layout}
 use Rattle.cml_explain.specs.declared.stand.Role.{Role}
 use Rattle.cml_explain.specs.Pieces.{head_among, layout_of}
-use Rattle.cml_explain.specs.Stands.{PlainStand, part_role, stand_in, stand_among}
+use Rattle.cml_explain.specs.Stands.{PlainStand, part_role, standing_in, stand_among}
 use Rattle.cml_explain.proofs.PieceLemmas.{forms_back}
 
 same : (a b : ℕ) → a ≡ b → nat_eq a b ≡ true
@@ -21,8 +21,8 @@ pub drop-at : {A : Type 0} (xs : List A) (i : ℕ) (x : A) → i < length xs →
 drop-at xs i x lt is = rw (add-one) (drop-cons xs i x lt ∙ ap (λ y. y ∷ drop (suc i) xs) (sym is))
 
 pub stand_here : (at : ℕ) (role : Role) (layout : Layout) (given : ℕ) (form : PlainSexpr) → (span_of form).start ≡ at →
-    stand_in at role layout given form ≡ Some (record { role = role; layout = layout; given = given; form = form })
-unfolding stand_in
+    standing_in at role layout given form ≡ Some (record { role = role; layout = layout; given = given; form = form })
+unfolding standing_in
 stand_here at role layout given (plain_name span name) h = rw (same span.start at h)
 stand_here at role layout given (plain_int span z) h = rw (same span.start at h)
 stand_here at role layout given (plain_text span bytes) h = rw (same span.start at h)
@@ -30,33 +30,33 @@ stand_here at role layout given (plain_list span forms) h = rw (same span.start 
 
 pub stand_below : (at : ℕ) (role : Role) (layout : Layout) (given : ℕ) (form : PlainSexpr) (forms : List PlainSexpr) →
     form ≡ plain_list (span_of form) (plain_forms forms) → (span_of form).start ≢ at →
-    stand_in at role layout given form ≡ stand_among at role (layout_of (head_among forms)) (length forms - 1) 0 (plain_forms forms)
-unfolding stand_in
+    standing_in at role layout given form ≡ stand_among at role (layout_of (head_among forms)) (length forms - 1) 0 (plain_forms forms)
+unfolding standing_in
 stand_below at role layout given form forms is h =
-    ap (stand_in at role layout given) is
+    ap (standing_in at role layout given) is
     ∙ ap (λ test. cond test (Some (record { role = role; layout = layout; given = given; form = plain_list (span_of form) (plain_forms forms) }))
     (stand_among at role (layout_of (head_among (forms_list (plain_forms forms)))) (length (forms_list (plain_forms forms)) - 1) 0 (plain_forms forms))) (other (span_of form).start at h)
     ∙ ap (λ fs. stand_among at role (layout_of (head_among fs)) (length fs - 1) 0 (plain_forms forms)) (forms_back forms)
 
 pub stand_name : (at : ℕ) (role : Role) (layout : Layout) (given : ℕ) (form : PlainSexpr) (name : List ℕ) →
-    form ≡ plain_name (span_of form) name → (span_of form).start ≢ at → stand_in at role layout given form ≡ None
-unfolding stand_in
+    form ≡ plain_name (span_of form) name → (span_of form).start ≢ at → standing_in at role layout given form ≡ None
+unfolding standing_in
 stand_name at role layout given form name is h =
-    ap (stand_in at role layout given) is
+    ap (standing_in at role layout given) is
     ∙ ap (λ test. cond test (Some (record { role = role; layout = layout; given = given; form = plain_name (span_of form) name })) None) (other (span_of form).start at h)
 
 pub stand_int : (at : ℕ) (role : Role) (layout : Layout) (given : ℕ) (form : PlainSexpr) (z : ℤ) →
-    form ≡ plain_int (span_of form) z → (span_of form).start ≢ at → stand_in at role layout given form ≡ None
-unfolding stand_in
+    form ≡ plain_int (span_of form) z → (span_of form).start ≢ at → standing_in at role layout given form ≡ None
+unfolding standing_in
 stand_int at role layout given form z is h =
-    ap (stand_in at role layout given) is
+    ap (standing_in at role layout given) is
     ∙ ap (λ test. cond test (Some (record { role = role; layout = layout; given = given; form = plain_int (span_of form) z })) None) (other (span_of form).start at h)
 
 pub stand_text : (at : ℕ) (role : Role) (layout : Layout) (given : ℕ) (form : PlainSexpr) (text : List ℕ) →
-    form ≡ plain_text (span_of form) text → (span_of form).start ≢ at → stand_in at role layout given form ≡ None
-unfolding stand_in
+    form ≡ plain_text (span_of form) text → (span_of form).start ≢ at → standing_in at role layout given form ≡ None
+unfolding standing_in
 stand_text at role layout given form text is h =
-    ap (stand_in at role layout given) is
+    ap (standing_in at role layout given) is
     ∙ ap (λ test. cond test (Some (record { role = role; layout = layout; given = given; form = plain_text (span_of form) text })) None) (other (span_of form).start at h)
 
 -- from one part to the next
@@ -67,7 +67,7 @@ step at role layout given i forms form all lt is inv = ap (λ fs. stand_among at
 
 pub stand-taken : (at : ℕ) (role : Role) (layout : Layout) (given i : ℕ) (forms : List PlainSexpr) (form : PlainSexpr) (all : Option PlainStand) (span : Span) →
     i < length forms → form ≡ get_or forms i form → span ≡ span_of form → at < span.end → stand_among at role layout given i (plain_forms (drop i forms)) ≡ all →
-    stand_in at (part_role role layout i) layout given form ≡ all
+    standing_in at (part_role role layout i) layout given form ≡ all
 unfolding stand_among
 stand-taken at role layout given i forms form all span lt is e before inv =
     let ends : span.end ≡ (span_of form).end = ap (λ s. s.end) e in

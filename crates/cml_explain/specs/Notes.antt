@@ -9,7 +9,7 @@ use Rattle.cml_explain.specs.declared.trouble.Trouble.{Trouble}
 use Rattle.cml_explain.specs.declared.trouble.Trouble.TheVariants.{Unknown, Twice, Count, Undeclared, NoFunction, Again, Given}
 use Rattle.cml_explain.specs.Keywords.{keyword_entry}
 use Rattle.cml_explain.specs.Nearest.{keyword_near}
-use Rattle.cml_explain.specs.Pieces.{members, name_spelled, name_said, item_name, item_start, item_parameters, item_named, item_near}
+use Rattle.cml_explain.specs.Pieces.{members, name_spelled, item_name, item_start, item_parameters, item_named, item_near}
 use Rattle.cml_explain.specs.Stands.{item_over}
 use Rattle.cml_explain.specs.Lets.{PlainDeclared, declared_in, declared_named, nearest_known}
 

@@ -11,7 +11,7 @@ use Rattle.cml_explain.specs.declared.stand.Role.TheVariants as role
 use Rattle.cml_explain.specs.declared.trouble.Trouble.{Trouble}
 use Rattle.cml_explain.specs.declared.trouble.Trouble.TheVariants.{Given, NoMain}
 use Rattle.cml_explain.specs.Pieces.{name_said, item_parameters, item_named, item_near}
-use Rattle.cml_explain.specs.Stands.{PlainStand, stand_at}
+use Rattle.cml_explain.specs.Stands.{PlainStand, standing_at}
 use Rattle.cml_explain.specs.Troubles.{trouble_of}
 use Rattle.cml_explain.specs.Messages.{wanted, message, arity_message}
 use Rattle.cml_explain.specs.Notes.{item_note, note_by}
@@ -49,7 +49,7 @@ main_diagnosis at items = record {
 
 abbrev pub diagnosis_by : CheckKind → ℕ → List PlainSexpr → PlainDiagnosis
 diagnosis_by kind.Main at items = main_diagnosis at items
-diagnosis_by kind at items = form_diagnosis kind at (stand_at at items) items
+diagnosis_by kind at items = form_diagnosis kind at (standing_at at items) items
 
 abbrev pub script_diagnosis : List PlainSexpr → PlainCheckFault → PlainDiagnosis
 script_diagnosis items fault = diagnosis_by fault.kind fault.at items

@@ -38,22 +38,22 @@ part_role role layout k = role_at layout k
 
 unfoldable mutual
   -- the form that starts at this byte, where it is this one or stands inside it
-  pub stand_in : ℕ → Role → Layout → ℕ → PlainSexpr → Option PlainStand
-  stand_in at role layout given (plain_list span forms) =
+  pub standing_in : ℕ → Role → Layout → ℕ → PlainSexpr → Option PlainStand
+  standing_in at role layout given (plain_list span forms) =
       if nat_eq span.start at then Some (record { role = role; layout = layout; given = given; form = plain_list span forms })
       else stand_among at role (layout_of (head_among (forms_list forms))) (length (forms_list forms) - 1) 0 forms
-  stand_in at role layout given form =
+  standing_in at role layout given form =
       if nat_eq (span_of form).start at then Some (record { role = role; layout = layout; given = given; form = form }) else None
 
   -- The same among the parts of a list of this role, from the part of this number on: in the first that ends behind the byte.
   pub stand_among : ℕ → Role → Layout → ℕ → ℕ → PlainForms → Option PlainStand
   stand_among at role layout given k no_forms = None
   stand_among at role layout given k (forms_and form forms) =
-      if nat_lt at (span_of form).end then stand_in at (part_role role layout k) layout given form else stand_among at role layout given (k + 1) forms
+      if nat_lt at (span_of form).end then standing_in at (part_role role layout k) layout given form else stand_among at role layout given (k + 1) forms
 
 -- the form of a script that starts at this byte
-abbrev pub stand_at : ℕ → List PlainSexpr → Option PlainStand
-stand_at at items = stand_among at Item layout.Script 0 0 (plain_forms items)
+abbrev pub standing_at : ℕ → List PlainSexpr → Option PlainStand
+standing_at at items = stand_among at Item layout.Script 0 0 (plain_forms items)
 
 -- the first item that ends behind this byte
 abbrev pub item_over : ℕ → List PlainSexpr → Option PlainSexpr

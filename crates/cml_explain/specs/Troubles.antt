@@ -1,5 +1,5 @@
 -- What is wrong, by the kind of the fault, by what the form is where it stands, and by the form itself.
-use Rattle.std.specs.Prelude.{ℕ, ◌-◌, List, length, Option, Some, None}
+use Rattle.std.specs.Prelude.{ℕ, ◌-◌, length}
 use Rattle.cml_text.specs.Forms.{PlainSexpr, plain_name, plain_list, forms_list}
 use Rattle.cml_check.specs.declared.fault.CheckKind.{CheckKind}
 use Rattle.cml_check.specs.declared.fault.CheckKind.TheVariants as kind

@@ -5,7 +5,7 @@ ghost use Rattle.std.specs.String.{string_bytes};
 ghost use Rattle.std.specs.Option.{option_map, option_to_list};
 ghost use Rattle.cml_place.specs.Diagnoses.{plain_note, plain_diagnosis};
 ghost use Rattle.cml_explain.specs.Pieces.{name_said, item_named};
-ghost use Rattle.cml_explain.specs.Stands.{stand_at};
+ghost use Rattle.cml_explain.specs.Stands.{standing_at};
 ghost use Rattle.cml_explain.specs.StandViews.{plain_stand};
 ghost use Rattle.cml_explain.specs.ScriptExplained as spec;
 
@@ -118,7 +118,7 @@ fn form_diagnosis(
     items: &[Sexpr],
 ) -> Result<Diagnosis, AllocError>
     ensures { IfOk result (λ diagnosis.
-        plain_diagnosis diagnosis ≡ spec.form_diagnosis kind at (stand_at at items.now) items.now) }
+        plain_diagnosis diagnosis ≡ spec.form_diagnosis kind at (standing_at at items.now) items.now) }
 {
     match stand_at(at, items) {
         Some(stand) => stand_diagnosis(alloc, at, trouble_of(kind, stand), stand, items),

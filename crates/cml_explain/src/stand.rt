@@ -100,7 +100,7 @@ fn part_role(role: Role, layout: Layout, k: usize) -> Role
 #[cycle(stand)]
 #[tactic(auto, using(crate::proofs::StandLemmas::stand_here, crate::proofs::StandLemmas::stand_below, crate::proofs::StandLemmas::stand_name, crate::proofs::StandLemmas::stand_int, crate::proofs::StandLemmas::stand_text))]
 fn stand_in(form: &Sexpr, at: usize, role: Role, layout: Layout, given: usize) -> Option<Stand<'_>>
-    ensures { option_map plain_stand result ≡ spec.stand_in at role layout given form.now }
+    ensures { option_map plain_stand result ≡ spec.standing_in at role layout given form.now }
 {
     if form.span().start == at {
         return Some(Stand {
@@ -143,7 +143,7 @@ fn stand_among(
 
 /// The form of a script that starts at this byte.
 pub fn stand_at(at: usize, items: &[Sexpr]) -> Option<Stand<'_>>
-    ensures { option_map plain_stand result ≡ spec.stand_at at items.now }
+    ensures { option_map plain_stand result ≡ spec.standing_at at items.now }
 {
     stand_among(items, at, Role::Item, Layout::Script, 0)
 }

@@ -2,7 +2,7 @@ use Rattle.std.proofs.Common.{◌≤◌, arith}
 use Rattle.cml_text.specs.Forms.{nesting, nesting_of, plain_forms}
 use Rattle.cml_explain.specs.Lets.{lets_among}
 use Rattle.cml_explain.specs.LetViews.{all_declared}
-use Rattle.cml_explain.proofs.StandLemmas.{member-below, list-below}
+use Rattle.cml_explain.proofs.StandLemmas.{member-below}
 use Rattle.cml_explain.proofs.LetLemmas.{lets_listed, lets_name, lets_int, lets_text, lets-next, lets-end}
 use Rattle.cml_explain.proofs.lets.+lets.Goals as goal
 

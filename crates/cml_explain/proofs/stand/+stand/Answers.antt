@@ -1,6 +1,6 @@
 use Rattle.std.proofs.Common.{◌≤◌, ◌∙◌, ap, arith}
 use Rattle.cml_text.specs.Forms.{nesting, nesting_of, plain_forms}
-use Rattle.cml_explain.specs.Stands.{stand_in}
+use Rattle.cml_explain.specs.Stands.{standing_in}
 use Rattle.cml_explain.proofs.StandLemmas.{member-below, stand-taken, stand-skipped, stand-end}
 use Rattle.cml_explain.proofs.stand.+stand.Goals as goal
 
@@ -15,7 +15,7 @@ stand_among-stand_in-requires t c =
 pub stand_among-returns-then-at-span : goal.stand_among-returns-then-at-span
 stand_among-returns-then-at-span t c =
     c.stand_in.ensures
-    ∙ ap (λ role. stand_in c.args.at role c.args.layout c.args.given c.index-forms-k.result) c.part_role.ensures
+    ∙ ap (λ role. standing_in c.args.at role c.args.layout c.args.given c.index-forms-k.result) c.part_role.ensures
     ∙ stand-taken c.args.at c.args.role c.args.layout c.args.given c.loop-k.k c.args.forms.now c.index-forms-k.result _ c.span.result
     c.loop-k-test.true c.index-forms-k.is c.span.ensures c.if-at-span.true c.loop-k.invariant
 
