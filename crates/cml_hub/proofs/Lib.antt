@@ -1,5 +1,6 @@
 pub mod MarkLemmas
 pub mod Queueing
+pub mod Waiting
 pub mod Homing
 pub mod Played
 pub mod RowLemmas

@@ -1,7 +1,7 @@
 //! The hub: it hands out slices of the threads and takes them back, chooses among the communications that are possible, and keeps the
 //! schedule of what happened.
 
-ghost use Rattle.std.specs.Prelude.{◌≡◌, ◌↔◌, ◌++◌, ◌+◌, ◌*◌, ◌≤◌, ◌<◌, [], Some, IfOk, IfErr, IfSome, OnOk, OnErr, IsTrue, Ok, true, false, length, slice_get};
+ghost use Rattle.std.specs.Prelude.{◌≡◌, ◌≢◌, ◌↔◌, ◌++◌, ◌+◌, ◌*◌, ◌≤◌, ◌<◌, [], Some, IfOk, IfErr, IfSome, OnOk, OnErr, IsTrue, Ok, true, false, length, slice_get};
 ghost use Rattle.std.specs.Vec.{vec_len, vec_capacity};
 ghost use Rattle.cml_scan.specs.World.{pending, running};
 ghost use Rattle.cml_check.specs.Sizes.{size_of};
@@ -256,6 +256,20 @@ impl Hub {
         ensures meant { AreReports (text_of self.now.course.program) self.now.course.items self.now.watch self.now.reports }
     {
         self.reports.as_slice()
+    }
+
+    /// Whether a thread is ready, so that its machine can be handed out next.
+    pub fn has_ready(&self) -> bool
+        ensures { IsTrue result ↔ (self.now.queue ≢ []) }
+    {
+        self.marks.front().is_some()
+    }
+
+    /// Whether a slice is out.
+    pub fn has_out(&self) -> bool
+        ensures { IsTrue result ↔ (NoneOut self.now → ⊥) }
+    {
+        self.marks.has_out()
     }
 
     // Whether nothing is left to do.

@@ -119,6 +119,13 @@ impl Marks {
         self.queue.is_empty() && self.outs == 0
     }
 
+    // Whether a slice of a thread is out.
+    pub(crate) fn has_out(&self) -> bool
+        ensures { result ≡ list_any is_out self.now.marks }
+    {
+        self.outs > 0
+    }
+
     // The thread that is ready and comes next.
     pub(crate) fn front(&self) -> Option<Tid>
         ensures ready { MatchOption result ((t : ℕ) → slice_get self.now.marks t ≢ Some Mark.Ready) (λ t. slice_get self.now.marks t.0 ≡ Some Mark.Ready) }
