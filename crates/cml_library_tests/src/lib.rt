@@ -11,6 +11,10 @@ pub mod choosing;
 #[cfg(test)]
 mod drawing;
 #[cfg(test)]
+mod explains;
+#[cfg(test)]
+mod explains_scripts;
+#[cfg(test)]
 mod forcings;
 #[cfg(test)]
 mod groups;

@@ -1,0 +1,7 @@
+use Rattle.std.proofs.Common.{◌≡◌, map, take}
+use Rattle.cml_explain.specs.Lets.{parameter_declared}
+use Rattle.cml_explain.specs.LetViews.{all_declared}
+use Rattle.cml_explain.proofs.lets.parameters.Given as goal
+
+abbrev pub invariant-loop-form : goal.invariant-loop-form
+invariant-loop-form l = all_declared l.found.items ≡ map parameter_declared (take l.form-index l.form-items)

@@ -1,0 +1,279 @@
+//! What is said of each trouble.
+
+ghost use Rattle.std.specs.Prelude.{◌≡◌, ◌++◌, IfOk, OnOk};
+ghost use Rattle.std.specs.String.{string_bytes};
+ghost use Rattle.cml_explain.specs.Messages as spec;
+
+use crate::keyword::{Keyword, Layout};
+use crate::piece::name_spelled;
+use crate::stand::Role;
+use crate::trouble::Trouble;
+use cml_text::Sexpr;
+use std::alloc::{AllocError, Global};
+
+// What must stand where a form of this role does.
+fn wanted(role: Role) -> &'static str
+    ensures { result.now ≡ spec.wanted role }
+{
+    match role {
+        Role::Item => "a function is wanted here: (fn NAME (PARAMETER*) STATEMENT*)",
+        Role::FunctionName => "the name of the function is wanted here",
+        Role::Parameters => "the parameters are wanted here, in parentheses",
+        Role::Parameter => "the name of a parameter is wanted here",
+        Role::Statement => "a statement or an effect is wanted here, in parentheses",
+        Role::Block => "a block is wanted here: (do STATEMENT*)",
+        Role::Variable => "the name of a variable is wanted here",
+        Role::Source => "a value or an effect is wanted here",
+        Role::SetValue => "a value is wanted here",
+        Role::Value => "a value is wanted here",
+        Role::Called => "the name of a function is wanted here",
+        Role::Keyword => "this form does not fit here",
+    }
+}
+
+// What the head of a list of this role is not.
+fn no_such(role: Role) -> &'static str
+    ensures { result.now ≡ spec.no_such role }
+{
+    match role {
+        Role::Item => {
+            "` begins no function: a script has only (fn NAME (PARAMETER*) STATEMENT*)"
+        }
+        Role::Statement => "` is no statement or effect",
+        Role::Source => "` is no event, effect or other expression",
+        Role::FunctionName
+        | Role::Parameters
+        | Role::Parameter
+        | Role::Block
+        | Role::Variable
+        | Role::SetValue
+        | Role::Value
+        | Role::Called
+        | Role::Keyword => "` is no event or other expression",
+    }
+}
+
+// One of a thing, or more.
+fn plural(n: usize) -> &'static str
+    ensures { result.now ≡ spec.plural n }
+{
+    if n == 1 { "" } else { "s" }
+}
+
+// That many parts.
+fn parts_said(alloc: Global, n: usize) -> Result<String, AllocError>
+    ensures { IfOk result (λ text. string_bytes text ≡ spec.parts_said n) }
+{
+    let plural = plural(n);
+    format!(in alloc; "{n} part{plural}")
+}
+
+// A keyword that is given that many parts.
+fn counted(alloc: Global, keyword: Keyword, given: usize) -> Result<String, AllocError>
+    ensures { IfOk result (λ text. string_bytes text ≡ spec.count_said keyword given) }
+{
+    let spelling = keyword.spelling();
+    let takes = keyword.takes();
+    match keyword.needs().get(given).copied() {
+        Some(part) => format!(in alloc; "{spelling} takes {takes}; {part} is missing"),
+        None => {
+            let parts = parts_said(alloc, given)?;
+            format!(in alloc; "{spelling} takes {takes}, and is given {parts}")
+        }
+    }
+}
+
+// What is said around a name.
+fn around(alloc: Global, before: &str, name: &str, behind: &str) -> Result<String, AllocError>
+    ensures { IfOk result (λ text.
+        string_bytes text ≡ before.now ++ (name.now ++ behind.now)) }
+{
+    format!(in alloc; "{before}{name}{behind}")
+}
+
+/// What is said of a trouble with this name.
+///
+/// # Errors
+/// Out of memory.
+pub fn message_of(alloc: Global, trouble: Trouble, name: &str) -> Result<String, AllocError>
+    ensures { IfOk result (λ text. string_bytes text ≡ spec.message trouble name.now) }
+{
+    match trouble {
+        Trouble::Wanted(role) => String::from_str(alloc, wanted(role)),
+        Trouble::Unknown(role) => around(alloc, "`", name, no_such(role)),
+        Trouble::Count(keyword, given) => counted(alloc, keyword, given),
+        Trouble::Hollow => {
+            String::from_str(alloc, "() is no value; the value that says nothing is unit")
+        }
+        Trouble::Reserved => around(alloc, "`", name, "` is a keyword, so it can't be a name"),
+        Trouble::Twice => around(alloc, "the parameter `", name, "` stands twice"),
+        Trouble::Outside => around(
+            alloc,
+            "",
+            name,
+            " can't stand outside a function: (fn NAME (PARAMETER*) STATEMENT*)",
+        ),
+        Trouble::Nested => around(
+            alloc,
+            "",
+            name,
+            " begins a function, which can't stand inside another; is the one before it closed?",
+        ),
+        Trouble::Loose => around(
+            alloc,
+            "",
+            name,
+            " begins a block, which stands only in an if",
+        ),
+        Trouble::Bare => around(alloc, "", name, " stands without parentheses"),
+        Trouble::Acts => around(
+            alloc,
+            "",
+            name,
+            " has an effect, so it can't stand inside another form; give it a name with let first",
+        ),
+        Trouble::ActsInSet => around(
+            alloc,
+            "",
+            name,
+            " has an effect, and set takes a value; give it a name with let first",
+        ),
+        Trouble::Commands => around(
+            alloc,
+            "",
+            name,
+            " is a statement, so it can't stand inside an expression",
+        ),
+        Trouble::Unused => around(
+            alloc,
+            "",
+            name,
+            " gives a value, which is not used here; give it a name with let",
+        ),
+        Trouble::Undeclared => around(alloc, "`", name, "` is not declared"),
+        Trouble::NoFunction => around(alloc, "there is no function `", name, "`"),
+        Trouble::Again => around(alloc, "there is a function `", name, "` already"),
+        Trouble::Given => around(alloc, "`", name, "` takes another number of values"),
+        Trouble::MainTakes => {
+            String::from_str(alloc, "`main` takes no values, so it can't have parameters")
+        }
+        Trouble::NoMain => String::from_str(alloc, "there is no function `main`"),
+        Trouble::ManyFunctions => String::from_str(alloc, "a script has at most 1024 functions"),
+        Trouble::ManyStatements => String::from_str(alloc, "a script has at most 4096 statements"),
+    }
+}
+
+// Appends names, with a space before each.
+fn push_spaced(text: &mut String, forms: &[Sexpr]) -> Result<(), AllocError>
+    ensures { OnOk result (string_bytes text.new ≡ string_bytes text.old ++ spec.names_spaced forms.now) }
+{
+    for form in forms {
+        text.push_str(" ")?;
+        text.push_str(name_spelled(form))?;
+    }
+    Ok(())
+}
+
+// Names, with a space before each but the first.
+fn listed(alloc: Global, forms: &[Sexpr]) -> Result<String, AllocError>
+    ensures { IfOk result (λ text. string_bytes text ≡ spec.listed forms.now) }
+{
+    match forms {
+        [] => Ok(String::new(alloc)),
+        [first, behind @ ..] => {
+            let mut text = String::from_str(alloc, name_spelled(first))?;
+            push_spaced(&mut text, behind)?;
+            Ok(text)
+        }
+    }
+}
+
+// How many values a function of these parameters takes.
+fn taken(alloc: Global, parameters: &[Sexpr]) -> Result<String, AllocError>
+    ensures { IfOk result (λ text. string_bytes text ≡ spec.values_taken parameters.now) }
+{
+    match parameters {
+        [] => String::from_str(alloc, "no values,"),
+        [_, ..] => {
+            let n = parameters.len();
+            let plural = plural(n);
+            let names = listed(alloc, parameters)?;
+            format!(in alloc; "{n} value{plural}, ({names}),")
+        }
+    }
+}
+
+// How many values a function is given where its list has that many parts behind the keyword.
+fn handed(layout: Layout, given: usize) -> usize
+    ensures { result ≡ spec.values_given layout given }
+{
+    match layout {
+        Layout::Wrap => given.saturating_sub(2) + 1,
+        Layout::WithNack => given.saturating_sub(1) + 1,
+        Layout::Script
+        | Layout::Item
+        | Layout::Block
+        | Layout::Let
+        | Layout::Set
+        | Layout::If
+        | Layout::While
+        | Layout::Call
+        | Layout::Values => given.saturating_sub(1),
+    }
+}
+
+// What a function is given later.
+fn later(layout: Layout) -> &'static str
+    ensures { result.now ≡ spec.later layout }
+{
+    match layout {
+        Layout::Wrap => ", the last of them the value of the event",
+        Layout::WithNack => ", the last of them the nack",
+        Layout::Script
+        | Layout::Item
+        | Layout::Block
+        | Layout::Let
+        | Layout::Set
+        | Layout::If
+        | Layout::While
+        | Layout::Call
+        | Layout::Values => "",
+    }
+}
+
+// How many values a function is given, and what it is given later.
+fn given_said(alloc: Global, layout: Layout, given: usize) -> Result<String, AllocError>
+    ensures { IfOk result (λ text. string_bytes text ≡ spec.given_said layout given) }
+{
+    let values = handed(layout, given);
+    let later = later(layout);
+    format!(in alloc; "{values}{later}")
+}
+
+// What is said of a function that takes these values, and is given others.
+fn arity_words(alloc: Global, name: &str, takes: &str, values: &str) -> Result<String, AllocError>
+    ensures { IfOk result (λ text.
+        string_bytes text ≡ spec.arity_words name.now takes.now values.now) }
+{
+    format!(in alloc; "`{name}` takes {takes} and is given {values}")
+}
+
+/// What is said of a function with these parameters that is given another number of values.
+///
+/// # Errors
+/// Out of memory.
+pub fn arity_message(
+    alloc: Global,
+    name: &str,
+    parameters: &[Sexpr],
+    layout: Layout,
+    given: usize,
+) -> Result<String, AllocError>
+    ensures { IfOk result (λ text.
+        string_bytes text ≡ spec.arity_message name.now parameters.now layout given) }
+{
+    let takes = taken(alloc, parameters)?;
+    let values = given_said(alloc, layout, given)?;
+    let text = arity_words(alloc, name, takes.as_str(), values.as_str())?;
+    Ok(text)
+}
