@@ -65,8 +65,7 @@ whole_fault_told explains name all found told is fault has says = go (all_or_lon
     go (inl same) = subst (λ (t : List ℕ). (f : PlainFault) × (fault_of t ≡ Some f) × (told ≡ text_told explains name t f)) (is ∙ same) (fault, has, says)
     go (inr long) =
         let is_long : fault_of found ≡ Some too_long = ap fault_of is ∙ long_fault _ long.1 in
-        let it : fault ≡ too_long = cc in
-        (
+        let it : fault ≡ too_long = cc in (
           too_long,
           long_fault all long.0,
           says ∙ (ap (text_told explains name found) it ∙ (ap (λ t. text_told explains name t too_long) is ∙ long_told explains name all long.0)),

@@ -67,11 +67,7 @@ impl From<StoreFault> for Refusal {
 }
 
 /// What is said of a text with this fault.
-pub fn refuse_text(
-    alloc: Global,
-    source: &Source<'_>,
-    fault: TextFault,
-) -> Result<Said, AllocError>
+pub fn refuse_text(alloc: Global, source: &Source<'_>, fault: TextFault) -> Result<Said, AllocError>
     ensures { IfOk result (Told source.now.explains source.now.name.now source.now.text.now fault) }
 {
     match fault {

@@ -141,10 +141,7 @@ const EXPLAINED: [(&str, &str); 46] = [
         "(fn mian ())",
         "a.cml:1:1: there is no function `main`\n  = `mian` is declared at 1:5\n",
     ),
-    (
-        "",
-        "a.cml:1:1: there is no function `main`\n",
-    ),
+    ("", "a.cml:1:1: there is no function `main`\n"),
     (
         "(fn main (a))",
         "a.cml:1:5: `main` takes no values, so it can't have parameters\n1 | (fn main (a))\n  |     ^^^^\n",

@@ -132,10 +132,20 @@ fn nothing_else_is_explained(rt: HostRuntime) -> Result<(), Fail> {
         ("check b.cml --explain", "", "cannot read b.cml\n", 1),
         ("replay a.cml a.cml --explain", "", "schedule line 1\n", 3),
     ] {
-        let mut store = filled(&rt, rt.alloc(), &[("a.cml", "(fn main ())"), ("S", SCHEDULE)]);
+        let mut store = filled(
+            &rt,
+            rt.alloc(),
+            &[("a.cml", "(fn main ())"), ("S", SCHEDULE)],
+        );
         let left = left_on(&rt, rt.alloc(), line, false, &mut store)?;
-        assert!(rt; left.output.as_slice() == output.as_bytes(), "output of {line}");
-        assert!(rt; left.errors.as_slice() == errors.as_bytes(), "errors of {line}");
+        assert!(rt;
+            left.output.as_slice() == output.as_bytes(),
+            "output of {line}"
+        );
+        assert!(rt;
+            left.errors.as_slice() == errors.as_bytes(),
+            "errors of {line}"
+        );
         assert!(rt; left.status == status, "status of {line}");
         drop(left);
         drop(store);
@@ -152,11 +162,24 @@ fn texts_that_are_too_long_are_explained(rt: HostRuntime) -> Result<(), Fail> {
             text.push(b' ')?;
         }
         let mut store = MemoryStore::new(rt.alloc());
-        assert!(rt; store.save("a.cml", text.as_slice()).is_ok(), "save {length}");
-        for line in ["check a.cml --explain", "fmt a.cml --explain", "run a.cml --explain"] {
+        assert!(rt;
+            store.save("a.cml", text.as_slice()).is_ok(),
+            "save {length}"
+        );
+        for line in [
+            "check a.cml --explain",
+            "fmt a.cml --explain",
+            "run a.cml --explain",
+        ] {
             let left = left_on(&rt, rt.alloc(), line, false, &mut store)?;
-            assert!(rt; left.errors.as_slice() == TOO_LONG.as_bytes(), "{line}, {length}");
-            assert!(rt; left.status == 2 && left.output.is_empty(), "{line}, {length}");
+            assert!(rt;
+                left.errors.as_slice() == TOO_LONG.as_bytes(),
+                "{line}, {length}"
+            );
+            assert!(rt;
+                left.status == 2 && left.output.is_empty(),
+                "{line}, {length}"
+            );
             drop(left);
         }
         drop(store);
