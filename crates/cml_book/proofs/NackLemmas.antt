@@ -1,5 +1,5 @@
 -- Which nacks are live, and which have fired, after a change.
-use Rattle.std.proofs.Common.{◌≡◌, ◌≢◌, ℕ, ◌+◌, ◌≤◌, Bool, true, false, ◌&&◌, ◌||◌, nat_eq, nat_lt, cond, List, [], ◌∷◌, ◌++◌, length, refl, ap, sym, ◌∙◌, arith, zero, suc, Option, Some, length-set, zero-add}
+use Rattle.std.proofs.Common.{◌≡◌, ◌≢◌, ℕ, ◌+◌, ◌≤◌, Bool, true, false, ◌&&◌, ◌||◌, nat_eq, nat_lt, cond, List, [], ◌∷◌, ◌++◌, length, refl, ap, sym, ◌∙◌, arith, zero, suc, Option, Some, None, length-set, zero-add}
 use Rattle.std.specs.Prelude.{slice_set, slice_get}
 use Rattle.std.specs.List.{filter, list_any, list_all}
 use Rattle.std.proofs.lemmas.List.Sums.{sum_by-append, sum_by-cons}
@@ -7,6 +7,8 @@ use Rattle.std.proofs.lemmas.Bool.Decides.{nat_tests}
 use Rattle.cml_value.specs.Group.{PlainGroup, PlainScope, scopes, nacks_of, lies_outside}
 use Rattle.cml_scan.specs.World.{PlainThread, running, pending_on, ended, PlainNack, fresh_of, live, fired, held, PlainWorld, pending_from}
 use Rattle.cml_scan.specs.Light.{has_fired}
+use Rattle.cml_value.specs.declared.number.Tid.{Tid}
+use Rattle.cml_signal.specs.NackCell.{owner_of, is_live_nack, is_fired}
 use Rattle.cml_book.specs.Sync.{times_named, with_each, is_fresh_for, can_enter}
 use Rattle.cml_book.specs.Commit.{settled}
 use Rattle.cml_book.specs.Keeping.{pending_nacks, lives, AreLiveNacks, AreFresh, is_fresh}
@@ -374,3 +376,28 @@ rest_fresh k ks ns n h = record { once = λ j. once j (nat_eq k j) refl; each = 
         let a = times-other k j ks e in
         let differ : k ≢ j = grind (arith, nat_tests) in
         ap is_fresh (get-set_other ns k j n differ) ∙ h.each j (omega arith)
+
+-- what a cell tells of its nack says which state it is in
+pub fresh_told : (n : PlainNack) (t : Tid) → owner_of n ≡ Some t → n ≡ fresh_of t.0
+fresh_told (fresh_of owner) t h = cc
+fresh_told live t h = cc
+fresh_told fired t h = cc
+fresh_told held t h = cc
+
+pub live_told : (n : PlainNack) → is_live_nack n ≡ true → n ≡ live
+live_told (fresh_of owner) h = cc
+live_told live h = refl
+live_told fired h = cc
+live_told held h = cc
+
+pub fired_told : (n : PlainNack) → is_fired n ≡ true → n ≡ fired
+fired_told (fresh_of owner) h = cc
+fired_told live h = cc
+fired_told fired h = refl
+fired_told held h = cc
+
+pub held_told : (n : PlainNack) → owner_of n ≡ None → is_live_nack n ≡ false → is_fired n ≡ false → n ≡ held
+held_told (fresh_of owner) h i j = cc
+held_told live h i j = cc
+held_told fired h i j = cc
+held_told held h i j = refl

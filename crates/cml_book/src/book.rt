@@ -1,7 +1,10 @@
 //! The book.
 
-ghost use Rattle.std.specs.Prelude.{◌≡◌, ◌≢◌, ◌≤◌, ℕ, IfOk, IfSome, IfNone, OnOk, OnErr, IsTrue, Err, true, false, map, length};
+ghost use Rattle.std.specs.Prelude.{◌≡◌, ◌≢◌, ◌≤◌, ℕ, IfOk, IfSome, IfNone, OnOk, OnErr, IsTrue, Err, true, false, map, length, option_map, slice_get};
+ghost use Rattle.std.specs.Option.{option_copied, option_and_then};
 ghost use Rattle.cml_scan.specs.World.{pending};
+ghost use Rattle.cml_scan.specs.Light.{light_of};
+ghost use Rattle.cml_scan.specs.Views.{nack_of};
 ghost use Rattle.cml_scan.specs.Scan.{scan, scan_of, has_row};
 ghost use Rattle.cml_book.specs.Step.{empty_world};
 ghost use Rattle.cml_book.specs.Outcomes.{Does};
@@ -16,18 +19,20 @@ ghost use Rattle.cml_book.specs.Commit.{is_reading};
 ghost use Rattle.cml_book.specs.Swaps as swaps_spec;
 ghost use Rattle.cml_book.specs.Clock as clock_spec;
 ghost use Rattle.cml_book.specs.Clock.{IsAlarm};
+ghost use Rattle.cml_book.specs.Threads.{flat_of};
 ghost use Rattle.cml_book.specs.Walks.{is_running};
 ghost use Rattle.cml_book.specs.Entering.{max_tick};
 
 use crate::command::{Committed, Resume};
+use crate::fullness::{mailbox_len, nack_state, port_len};
 use crate::lights::Arrival;
 use crate::nacks::make_room;
 use crate::refusal::{Fault, Refusal};
 use crate::state::State;
 use crate::walk::MAX_TICK;
 use cml_channel::hands;
-use cml_scan::{Light, Meet, Table};
-use cml_value::{ChanId, Group, NackId, SwapId, Tid};
+use cml_scan::{Light, Lights, Meet, NackState, Table};
+use cml_value::{ChanId, Group, MboxId, NackId, PortId, SwapId, Tid};
 use std::alloc::{AllocError, Global};
 use std::marker::Model;
 
@@ -277,6 +282,45 @@ impl<T: Table> Book<T> {
         ensures { result ≡ is_running self.now thread.0 }
     {
         self.state.is_running(thread)
+    }
+
+    /// The group that the thread waits on, if there is such a thread and it does.
+    pub fn waiting(&self, thread: Tid) -> Option<&Group>
+        ensures { option_copied result ≡ option_and_then flat_of (slice_get self.now.threads thread.0) }
+    {
+        match self.state.waiting(thread) {
+            Some(counted) => Some(counted.group()),
+            None => None,
+        }
+    }
+
+    /// Whether the light is lit: the variable is full, the queue has an item, the thread has ended, the tick has come, the nack has fired.
+    /// One of an object that is not there is not lit.
+    pub fn is_lit(&self, light: Light) -> bool
+        ensures { result ≡ light_of self.now light }
+    {
+        self.state.is_lit(light)
+    }
+
+    /// How many items the mailbox has, if there is such a one.
+    pub fn mailbox_len(&self, mailbox: MboxId) -> Option<usize>
+        ensures { result ≡ option_map length (slice_get self.now.mailboxes mailbox.0) }
+    {
+        mailbox_len(&self.state.mailboxes, mailbox)
+    }
+
+    /// How many unread messages the port has, if there is such a one.
+    pub fn port_len(&self, port: PortId) -> Option<usize>
+        ensures { result ≡ option_map length (slice_get self.now.ports port.0) }
+    {
+        port_len(&self.state.ports, port)
+    }
+
+    /// The state of the nack, if there is such a one.
+    pub fn nack_state(&self, nack: NackId) -> Option<NackState>
+        ensures { option_map nack_of result ≡ slice_get self.now.nacks nack.0 }
+    {
+        nack_state(&self.state.nacks, nack)
     }
 
     /// How many threads are pending. It takes no memory, and looks at each thread once.

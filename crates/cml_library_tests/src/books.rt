@@ -3,8 +3,11 @@
 use crate::making::{MEMORY, group, value};
 use cml_book::{Book, Fault, Refusal, Resume};
 use cml_kept::KeptRows;
-use cml_scan::{Light, Meet, Place, Table};
-use cml_value::{Base, BaseKind, ChanId, Group, GroupKind, MVarId, NackId, SwapId, Tid};
+use cml_scan::{Light, Meet, NackState, Place, Table};
+use cml_value::{
+    Base, BaseKind, ChanId, Group, GroupKind, IVarId, MVarId, MboxId, McastId, NackId, PortId,
+    SwapId, Tid,
+};
 use std::process::Abort;
 
 const EXCHANGE: Meet = Meet::Pair {
@@ -220,4 +223,102 @@ fn a_light_is_lit_and_put_out(rt: HostRuntime) {
     assert!(rt; !table.has(&FIRST));
     drop(table);
     drop(take);
+}
+
+// The thread waits on just the group that the text makes.
+fn waits_on(rt: &(impl Abort + AllocGlobal), book: &Book<KeptRows>, thread: u32, text: &str) {
+    let wanted = group(rt, text);
+    assert!(rt;
+        book.waiting(Tid(thread))
+            .expect(rt, "a group")
+            .same(&wanted),
+        "{text}"
+    );
+    drop(wanted);
+}
+
+#[test]
+fn a_book_tells_who_waits_for_what(rt: HostRuntime) {
+    let mut book = book_of(&rt, 2);
+    assert!(rt; book.waiting(Tid(0)).is_none() && book.is_running(Tid(0)));
+    assert!(rt; wait(&rt, &mut book, 0, "(recv 0)") == Ok(()));
+    assert!(rt; wait(&rt, &mut book, 1, "(choose (send 0 5) (at 7))") == Ok(()));
+    waits_on(&rt, &book, 0, "(recv 0)");
+    waits_on(&rt, &book, 1, "(choose (send 0 5) (at 7))");
+    assert!(rt; !book.is_running(Tid(1)) && !book.is_lit(Light::Joined(Tid(1))));
+    let committed = book.commit(rt.alloc(), EXCHANGE).expect(&rt, MEMORY);
+    drop(committed);
+    assert!(rt; book.waiting(Tid(0)).is_none() && book.waiting(Tid(1)).is_none());
+    assert!(rt; book.end(rt.alloc(), Tid(1)) == Ok(()));
+    assert!(rt; book.is_lit(Light::Joined(Tid(1))) && !book.is_lit(Light::Joined(Tid(0))));
+    assert!(rt; book.waiting(Tid(1)).is_none() && !book.is_running(Tid(1)));
+    assert!(rt; book.waiting(Tid(2)).is_none() && !book.is_lit(Light::Joined(Tid(2))));
+    drop(book);
+}
+
+#[test]
+fn a_book_tells_what_variables_hold(rt: HostRuntime) {
+    let mut book = book_of(&rt, 1);
+    let (ivar, mvar) = (IVarId(0), MVarId(0));
+    assert!(rt; book.make_ivar() == Ok(ivar));
+    let made = book.make_mvar(rt.alloc(), None);
+    assert!(rt; made.expect(&rt, MEMORY) == mvar);
+    assert!(rt; !book.is_lit(Light::IVar(ivar)) && !book.is_lit(Light::MVar(mvar)));
+    let put = book.iput(rt.alloc(), ivar, value(&rt, "3"));
+    assert!(rt; put.is_ok());
+    assert!(rt; book.is_lit(Light::IVar(ivar)) && !book.is_lit(Light::MVar(mvar)));
+    let put = book.mput(rt.alloc(), mvar, value(&rt, "4"));
+    assert!(rt; put.is_ok());
+    assert!(rt; book.is_lit(Light::MVar(mvar)) && !book.is_lit(Light::MVar(MVarId(1))));
+    assert!(rt; wait(&rt, &mut book, 0, "(mtake 0)") == Ok(()));
+    let committed = book.commit(rt.alloc(), FIRST).expect(&rt, MEMORY);
+    goes_on(&rt, committed.head, 0, "4");
+    assert!(rt; !book.is_lit(Light::MVar(mvar)) && book.is_lit(Light::IVar(ivar)));
+    drop(book);
+}
+
+#[test]
+fn a_book_counts_what_is_queued(rt: HostRuntime) {
+    let mut book = book_of(&rt, 1);
+    let mailbox = book.make_mailbox(rt.alloc()).expect(&rt, MEMORY);
+    assert!(rt; book.mailbox_len(mailbox) == Some(0) && !book.is_lit(Light::Mbox(mailbox)));
+    for count in 1..4 {
+        assert!(rt; book.mail(rt.alloc(), mailbox, value(&rt, "7")).is_ok());
+        assert!(rt; book.mailbox_len(mailbox) == Some(count));
+    }
+    assert!(rt; book.is_lit(Light::Mbox(mailbox)));
+    assert!(rt; book.mailbox_len(MboxId(1)).is_none() && book.port_len(PortId(0)).is_none());
+    let channel = book.make_mchan(rt.alloc()).expect(&rt, MEMORY);
+    assert!(rt; channel == McastId(0));
+    let port = book.make_port(rt.alloc(), channel).expect(&rt, MEMORY);
+    assert!(rt; book.port_len(port) == Some(0));
+    for count in 1..3 {
+        assert!(rt; book.multicast(rt.alloc(), channel, value(&rt, "8")).is_ok());
+        assert!(rt; book.port_len(port) == Some(count));
+    }
+    assert!(rt; wait(&rt, &mut book, 0, "(portrecv 0)") == Ok(()));
+    let committed = book.commit(rt.alloc(), FIRST).expect(&rt, MEMORY);
+    goes_on(&rt, committed.head, 0, "8");
+    assert!(rt; book.port_len(port) == Some(1) && book.mailbox_len(mailbox) == Some(3));
+    drop(book);
+}
+
+#[test]
+fn a_book_tells_what_became_of_nacks(rt: HostRuntime) {
+    let mut book = book_of(&rt, 1);
+    for number in 0..2 {
+        assert!(rt; book.nack(Tid(0)) == Ok(NackId(number)));
+    }
+    assert!(rt; book.nack_state(NackId(0)) == Some(NackState::Fresh(Tid(0))));
+    assert!(rt; book.nack_state(NackId(2)).is_none());
+    let text = "(choose (scope 0 (always 1)) (scope 1 (recv 0)))";
+    assert!(rt; wait(&rt, &mut book, 0, text) == Ok(()));
+    assert!(rt; book.nack_state(NackId(0)) == Some(NackState::Live));
+    assert!(rt; book.nack_state(NackId(1)) == Some(NackState::Live));
+    let committed = book.commit(rt.alloc(), FIRST).expect(&rt, MEMORY);
+    drop(committed);
+    assert!(rt; book.nack_state(NackId(0)) == Some(NackState::Held));
+    assert!(rt; book.nack_state(NackId(1)) == Some(NackState::Fired));
+    assert!(rt; !book.is_lit(Light::Nack(NackId(0))) && book.is_lit(Light::Nack(NackId(1))));
+    drop(book);
 }

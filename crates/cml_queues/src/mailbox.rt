@@ -1,6 +1,6 @@
 //! Mailboxes.
 
-ghost use Rattle.std.specs.Prelude.{◌≡◌, []};
+ghost use Rattle.std.specs.Prelude.{◌≡◌, [], length};
 ghost use Rattle.cml_queues.specs.Queues.{is_at_limit};
 
 use crate::queue::Queue;
@@ -33,6 +33,13 @@ impl Mailbox {
         Mailbox {
             queue: Queue::new(alloc),
         }
+    }
+
+    /// How many items there are.
+    pub fn len(&self) -> usize
+        ensures { result ≡ length self.now.items }
+    {
+        self.queue.len()
     }
 
     /// Whether it takes no more items.

@@ -1,6 +1,6 @@
 //! Ports of multicast channels.
 
-ghost use Rattle.std.specs.Prelude.{◌≡◌, [], IfOk};
+ghost use Rattle.std.specs.Prelude.{◌≡◌, [], length, IfOk};
 ghost use Rattle.cml_queues.specs.Queues.{is_at_limit};
 
 use crate::queue::Queue;
@@ -33,6 +33,13 @@ impl Port {
         Port {
             queue: Queue::new(alloc),
         }
+    }
+
+    /// How many unread messages there are.
+    pub fn len(&self) -> usize
+        ensures { result ≡ length self.now.items }
+    {
+        self.queue.len()
     }
 
     /// Whether it takes no more messages.

@@ -1,6 +1,6 @@
 //! Values in the order in which they came.
 
-ghost use Rattle.std.specs.Prelude.{◌≡◌, ◌<◌, ◌≤◌, [], drop, IsTrue, IfOk, OnOk, OnErr};
+ghost use Rattle.std.specs.Prelude.{◌≡◌, ◌<◌, ◌≤◌, [], drop, length, IsTrue, IfOk, OnOk, OnErr};
 ghost use Rattle.cml_base.specs.Feeds.{Feeds, WantsNoMemory};
 ghost use Rattle.cml_queues.specs.Queues.{is_filled, is_at_limit, first_item, queued};
 
@@ -39,6 +39,13 @@ impl Queue {
         Queue {
             items: VecDeque::new(alloc),
         }
+    }
+
+    // How many items there are.
+    pub(crate) fn len(&self) -> usize
+        ensures { result ≡ length self.now.items }
+    {
+        self.items.len()
     }
 
     // Whether there is an item.

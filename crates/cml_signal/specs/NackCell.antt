@@ -1,12 +1,23 @@
 -- What can become of a nack (Reppy's withNack). It is lit once it has fired, and from then on.
 use Rattle.std.specs.Prelude.{◌≡◌, ℕ, ◌==◌, Bool, true, false, Option, Some, None, Result, Ok, Err}
 use Rattle.cml_value.specs.Nack.{PlainNack, fresh_of, live, fired, held}
+use Rattle.cml_value.specs.declared.number.Tid.{Tid}
 use Rattle.cml_signal.specs.declared.nack.Spent.{Spent}
 
 -- fresh, and this thread's
 abbrev pub is_fresh_of : ℕ → PlainNack → Bool
 is_fresh_of thread (fresh_of owner) = thread == owner
 is_fresh_of thread _ = false
+
+-- whose it is, while it is fresh
+abbrev pub owner_of : PlainNack → Option Tid
+owner_of (fresh_of owner) = Some (record { 0 = owner })
+owner_of _ = None
+
+-- a pending group has its branch
+abbrev pub is_live_nack : PlainNack → Bool
+is_live_nack live = true
+is_live_nack _ = false
 
 abbrev pub is_fired : PlainNack → Bool
 is_fired (fresh_of owner) = false

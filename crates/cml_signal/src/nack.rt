@@ -60,6 +60,26 @@ impl NackCell {
         }
     }
 
+    /// Whose it is, while it is fresh.
+    pub fn owner(&self) -> Option<Tid>
+        ensures { result ≡ spec.owner_of self.now }
+    {
+        match self.state {
+            State::Fresh(owner) => Some(owner),
+            State::Live | State::Fired | State::Held => None,
+        }
+    }
+
+    /// Whether a pending group has its branch.
+    pub fn is_live(&self) -> bool
+        ensures { result ≡ spec.is_live_nack self.now }
+    {
+        match self.state {
+            State::Live => true,
+            State::Fresh(_) | State::Fired | State::Held => false,
+        }
+    }
+
     /// Whether it has fired, so that a wait for it is enabled.
     pub fn is_fired(&self) -> bool
         ensures { result ≡ spec.is_fired self.now }

@@ -4,6 +4,7 @@ pub mod Prefixes
 pub mod VariableLemmas
 pub mod AgreeLemmas
 pub mod CallLemmas
+pub mod StandingLemmas
 pub mod ForceLemmas
 pub mod StackLemmas
 pub mod SliceLemmas

@@ -13,6 +13,7 @@ pub mod Answers
 pub mod AskViews
 pub mod Agrees
 pub mod Calls
+pub mod Standing
 pub mod Machines
 pub mod Stacks
 pub mod MachineCodes

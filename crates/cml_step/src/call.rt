@@ -38,13 +38,16 @@ pub(crate) enum Wait {
     Gives(usize),
 }
 
-/// A call: the function, its place there, which is the number of an instruction, the values of its slots, and what it waits for.
+/// A call on the stack of a thread, where it stands: the function, its place there, which is the number of an instruction, the values of
+/// its slots, and what it waits for.
 #[derive(Drop)]
-pub(crate) struct Call {
-    pub func: u32,
-    pub at: usize,
-    pub slots: Vec<Value>,
-    pub wait: Wait,
+pub struct Call {
+    pub(crate) func: u32,
+    pub(crate) at: usize,
+    pub(crate) slots: Vec<Value>,
+    pub(crate) wait: Wait,
+    // the place of the last statement that had it wait
+    pub(crate) asked: usize,
 }
 
 /// What a call does in its step.
@@ -525,6 +528,7 @@ fn let_effect(
     ensures stays { Stays (arities program.now) f.now result call.old call.new }
 {
     pad(&mut call.slots, slot)?;
+    call.asked = call.at;
     call.at = next;
     call.wait = Wait::Gives(slot);
     perform(alloc, thread, program, f, effect, call)
@@ -552,6 +556,7 @@ fn drop_effect(
         (waiting ∷ below)) }
     ensures stays { Stays (arities program.now) f.now result call.old call.new }
 {
+    call.asked = call.at;
     call.at = next;
     call.wait = Wait::Drops;
     perform(alloc, thread, program, f, effect, call)

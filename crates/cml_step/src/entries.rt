@@ -533,9 +533,9 @@ impl Stack {
     }
 }
 
-/// What is left of a walk through entries, from the top.
+/// What is left of a walk through the entries of a stack, from the top.
 #[derive(Clone, Copy)]
-pub(crate) struct Walk<'a> {
+pub struct Walk<'a> {
     over: Option<&'a Entry>,
     call: Option<&'a Call>,
     below: Option<&'a Frame>,
@@ -553,7 +553,7 @@ fn frame_of(first: &Option<Arc<Frame>>) -> Option<&Frame>
 
 impl<'a> Walk<'a> {
     /// The walk through these entries.
-    pub fn through(stack: &'a Stack) -> Walk<'a>
+    pub(crate) fn through(stack: &'a Stack) -> Walk<'a>
         ensures { left_of result ≡ stack.now }
     {
         Walk {
@@ -563,8 +563,8 @@ impl<'a> Walk<'a> {
         }
     }
 
-    // The next entry down.
-    fn step(&mut self) -> Option<Seen<'a>>
+    /// The next entry down, if there is one.
+    pub fn step(&mut self) -> Option<Seen<'a>>
         ensures { MatchOption result ((left_of self.old ≡ []) × (left_of self.new ≡ []))
             (λ e. left_of self.old ≡ left_of self.new ++ plain_seen e ∷ []) }
     {

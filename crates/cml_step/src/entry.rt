@@ -17,9 +17,9 @@ use std::alloc::{AllocError, Global};
 
 /// Wraps in progress: the functions that are left, the next one last, and the value that has come so far.
 #[derive(Drop)]
-pub(crate) struct Wraps {
-    pub left: Vec<FnRef>,
-    pub value: Value,
+pub struct Wraps {
+    pub(crate) left: Vec<FnRef>,
+    pub(crate) value: Value,
 }
 
 /// An entry of a stack: a call; an event that is being forced, and whether it has asked; or wraps in progress.
@@ -65,6 +65,7 @@ pub(crate) fn begin(alloc: Global, function: &FnRef) -> Result<Call, AllocError>
         at: 0,
         slots: copies(alloc, function.args())?,
         wait: Wait::Runs,
+        asked: 0,
     })
 }
 
@@ -77,6 +78,7 @@ pub(crate) fn copy_call(alloc: Global, call: &Call) -> Result<Call, AllocError>
         at: call.at,
         slots: copies(alloc, call.slots.as_slice())?,
         wait: call.wait,
+        asked: call.asked,
     })
 }
 
@@ -99,6 +101,7 @@ pub(crate) fn renew_call(own: &mut Call, call: &Call) -> Result<(), AllocError>
     own.func = call.func;
     own.at = call.at;
     own.wait = call.wait;
+    own.asked = call.asked;
     renew_slots(&mut own.slots, call.slots.as_slice())
 }
 
@@ -154,11 +157,14 @@ fn same_functions(functions: &[FnRef], others: &[FnRef]) -> bool
     true
 }
 
-/// An entry of a stack, where it stands.
+/// An entry of a thread's stack, where it stands.
 #[derive(Clone, Copy)]
-pub(crate) enum Seen<'a> {
+pub enum Seen<'a> {
+    /// A call.
     Call(&'a Call),
+    /// An event that is being forced, and whether it has asked.
     Force(&'a Forcing, bool),
+    /// Wraps in progress.
     Wraps(&'a Wraps),
 }
 

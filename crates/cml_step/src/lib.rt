@@ -4,6 +4,7 @@
 mod answer;
 mod ask;
 mod call;
+mod calls;
 mod entries;
 mod entry;
 mod evaluate;
@@ -22,6 +23,9 @@ mod steps;
 
 pub use answer::Answer;
 pub use ask::Ask;
+pub use call::Call;
+pub use entries::Walk;
+pub use entry::{Seen, Wraps};
 pub use fault::Fault;
 pub use machine::Machine;
 pub use nack::NackRoom;

@@ -13,7 +13,8 @@ ghost use Rattle.cml_step.specs.Calls.{text_of};
 ghost use Rattle.cml_step.specs.Machines.{machine_term, Fits};
 ghost use Rattle.cml_step.specs.Nacks.{nack_given, IsNackRoom};
 ghost use Rattle.cml_step.specs.Rans.{IsSlice};
-ghost use Rattle.cml_step.specs.Shared.{HoldsNoValue};
+ghost use Rattle.cml_step.specs.Shared.{HoldsNoValue, left_of};
+ghost use Rattle.cml_step.specs.Slices.{sliced_from};
 ghost use Rattle.cml_step.specs.Stacks.{StackFits, term_of};
 ghost use Rattle.cml_step.specs.Terms.{call_of};
 
@@ -133,6 +134,32 @@ impl Machine {
         ensures { result.0 ≡ self.now.thread }
     {
         self.thread
+    }
+
+    /// The entries of its stack, from the top: what stands over a call, the call, and those below it. Nothing is on the stack of a thread
+    /// that has ended.
+    pub fn entries(&self) -> Walk<'_>
+        ensures { left_of result ≡ self.now.stack }
+    {
+        Walk::through(&self.stack)
+    }
+
+    /// The same thread some steps on: where it stands after this many, or after the first that asks, ends or is at fault, if that comes
+    /// before.
+    ///
+    /// # Errors
+    /// Out of memory.
+    pub fn stepped(&self, alloc: Global, program: &Prog, steps: u32) -> Result<Machine, AllocError>
+        requires { Fits program.now self.now }
+        ensures meant { let start = machine_term program.now self.now in
+            let slice = sliced_from (text_of program.now) self.now.thread steps 0 start in
+            IfOk result (λ m. machine_term program.now m ≡ slice.end) }
+        ensures thread { IfOk result (λ m. m.thread ≡ self.now.thread) }
+    {
+        let mut machine = self.copy(alloc)?;
+        let thread = machine.thread;
+        let _ran = run(alloc, thread, program, &mut machine.stack, steps)?;
+        Ok(machine)
     }
 
     /// The same thread at the same place. It takes a count for each value of the call on top and of what stands over it, whatever stands below.

@@ -68,6 +68,7 @@ fn push_call(
         at: 0,
         slots: args,
         wait: Wait::Runs,
+        asked: 0,
     };
     push(alloc, Entry::Call(call), below)
 }
