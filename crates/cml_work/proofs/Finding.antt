@@ -19,6 +19,6 @@ job_found old new p n m is same extends handed =
 
 -- a job of the hub's program is one of the opening's
 pub job_follows : (o : PlainOpening) (old : Kept) (f : Found) → OpenedBy o old → IsJob old.course.program f → IsJob o.program f
-job_follows o old (found.Job p m) follows job = (job.0 ∙ follows.program, job.1)
-job_follows o old (found.Wait more) follows job = job
+job_follows o old (found.Job j) follows job = (job.0 ∙ follows.program, job.1)
+job_follows o old found.Wait follows job = job
 job_follows o old found.Over follows job = job
