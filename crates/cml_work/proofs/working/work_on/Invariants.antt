@@ -8,4 +8,4 @@ abbrev pub invariant-loop : goal.invariant-loop
 invariant-loop g l =
     Fits l.job.0 l.job.1
     × (top_await (machine_term l.job.0 l.job.1) ≡ nothing)
-    × g.D.Desk.hands l.fn.desk.now l.job.0 l.job.1
+    × g.D.Desk.hands l.fn.desk l.job.0 l.job.1
