@@ -2,7 +2,7 @@
 use Rattle.std.specs.Prelude.{◌≡◌, ◌⊎◌, ℕ, ◌≤◌, Bool, true, false, length, Some, Result, Ok, Err, slice_get}
 use Rattle.cml_hub.specs.Courses.{run_of}
 use Rattle.cml_hub.specs.Runs.{over}
-use Rattle.cml_hub.specs.Kept.{Kept, Extends, HandsOut, NoneDue, NoneOut}
+use Rattle.cml_hub.specs.Kept.{Kept, Continues, Extends, HandsOut, NoneDue, NoneOut}
 use Rattle.cml_hub.specs.declared.fault.Next.TheVariants as next
 use Rattle.cml_work.specs.Held.{Held}
 use Rattle.cml_work.specs.declared.locked.Found.{Found}
@@ -30,9 +30,17 @@ TakesOnce old (Err e) new = Extends old new × (new.out ≡ old.out)
 abbrev pub RestsBeside : {E : Type 0} → Kept → Result Found E → Kept → Type 0
 RestsBeside old r new = (r ≡ Ok found.Wait) × (new ≡ old) × (NoneOut old → ⊥)
 
--- it is to wait so, or the hub's `take` was called once
+-- turns were run in place where no slice was out, and none is
+abbrev pub RunsHere : Kept → Kept → Type 0
+RunsHere old new = NoneOut old × Continues old new × NoneOut new
+
+abbrev pub RunsHereOrNot : Kept → Kept → Type 0
+RunsHereOrNot old new = (new ≡ old) ⊎ RunsHere old new
+
+-- It is to wait so; or the hub's `take` was called once, and before it turns may have been run in place. (Where memory ran out for these,
+-- it was not called.)
 abbrev pub LooksOnce : {E : Type 0} → Kept → Result Found E → Kept → Type 0
-LooksOnce old r new = RestsBeside old r new ⊎ TakesOnce old r new
+LooksOnce old r new = RestsBeside old r new ⊎ ((mid : Kept) × RunsHereOrNot old mid × TakesOnce mid r new)
 
 -- where the workers are to stop nothing is handed out, and nothing changes
 abbrev pub FindsNothing : {E : Type 0} → Kept → Result Found E → Kept → Type 0

@@ -1,8 +1,8 @@
 //! What lies under the lock.
 
-ghost use Rattle.std.specs.Prelude.{◌≡◌, ◌≢◌, ◌↔◌, ◌<◌, [], IfOk, IsTrue, true, false, length};
+ghost use Rattle.std.specs.Prelude.{◌≡◌, ◌≢◌, ◌↔◌, ◌<◌, [], IfOk, OnErr, IsTrue, true, false, length};
 ghost use Rattle.cml_hub.specs.Kept.{TakesSlice, NoneOut};
-ghost use Rattle.cml_work.specs.Finds.{TakesOnce, LooksOnce, FindsNothing, HaveOneState, TellsReport};
+ghost use Rattle.cml_work.specs.Finds.{RunsHere, RunsHereOrNot, TakesOnce, LooksOnce, FindsNothing, HaveOneState, TellsReport};
 ghost use Rattle.cml_work.specs.Marks.{BeginsWith, IsKeeper, WasShown, shown_of};
 ghost use Rattle.cml_work.specs.Works.{OpenedBy, GoesOnFrom, IsJob, opening_of};
 
@@ -16,6 +16,9 @@ use cml_step::{Machine, Ran};
 use std::alloc::{AllocError, Global};
 use std::marker::{Brand, Model, PhantomData};
 use std::sync::Wait;
+
+// How many steps of the budget turns in place use before the lock is let go.
+const BURST: u32 = 4096;
 
 // What lies under the lock: a hub that goes on from the opening, who chooses, whether the workers are to stop, whether they all have
 // ended, of how many reports the watcher was told, the workers that wait, and the mark of the keeper, who knows a beginning of the hub's
@@ -163,7 +166,38 @@ impl<O: Opening, C: Chooser + Drop> Locked<O, C> {
         !self.is_stopped && !self.waiters.are_wanted() && self.hub.has_out()
     }
 
-    // What a worker finds that asks for a job: nothing where it is to wait, although nobody has looked; else what `find` finds.
+    // Whether slices are short, and none is out, so that turns can be run in place.
+    fn is_alone(&self) -> bool
+        ensures none_out { IsTrue result → NoneOut self.now.hub }
+        ensures stopped { self.now.is_stopped ≡ true → result ≡ false }
+    {
+        !self.is_stopped && !self.waiters.are_wanted() && !self.hub.has_out()
+    }
+
+    // Turns are run in place, until some thousand steps are used.
+    fn run_here(&mut self, alloc: Global) -> Result<(), AllocError>
+        requires { NoneOut self.old.hub }
+        ensures flags { HaveOneState self.old self.new }
+        ensures runs { RunsHere self.old.hub self.new.hub }
+    {
+        self.hub.run_on(alloc, &mut self.chooser, BURST)
+    }
+
+    // The same where slices are short and none is out; else nothing.
+    fn run_short(&mut self, alloc: Global) -> Result<(), AllocError>
+        ensures flags { HaveOneState self.old self.new }
+        ensures well { self.old.is_stopped ≡ true → OnErr result ⊥ }
+        ensures stopped { self.old.is_stopped ≡ true → self.new.hub ≡ self.old.hub }
+        ensures runs { RunsHereOrNot self.old.hub self.new.hub }
+    {
+        if !self.is_alone() {
+            return Ok(());
+        }
+        self.run_here(alloc)
+    }
+
+    // What a worker finds that asks for a job. Where slices are short it is to wait while one is out, although nobody has looked; and where
+    // none is out it runs turns in place first. Then it finds what `find` finds.
     pub(crate) fn look(&mut self, alloc: Global) -> Result<Found, AllocError>
         ensures job { IfOk result (λ found. IsJob O.opening.program found) }
         ensures flags { HaveOneState self.old self.new }
@@ -173,6 +207,7 @@ impl<O: Opening, C: Chooser + Drop> Locked<O, C> {
         if self.is_enough() {
             return Ok(Found::Wait);
         }
+        self.run_short(alloc)?;
         self.find(alloc)
     }
 

@@ -319,8 +319,9 @@ fn two_workers_are_outside_the_lock_at_once(rt: HostRuntime) {
 
 #[test]
 fn two_workers_are_outside_the_lock_at_once_after_short_slices(rt: HostRuntime) {
-    let gate = meeting(rt, [70, 70]);
-    let hub = begun(&rt, LONG_AFTER_SHORT, 100_000, None);
+    // some fifty short slices are handed out, and the others run in place
+    let gate = meeting(rt, [40, 40]);
+    let hub = begun(&rt, LONG_AFTER_SHORT, 200_000, None);
     let answer = run_workers(&rt, rt.alloc(), hub, 2, First, &gate);
     drop(is_over(&rt, answer, End::Budget));
     assert!(rt; gate.met.load(Ordering::SeqCst) == 2);
