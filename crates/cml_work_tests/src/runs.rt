@@ -301,9 +301,9 @@ fn turns_of(schedule: &[Item], thread: Tid) -> u64 {
 
 #[test]
 fn two_workers_are_outside_the_lock_at_once(rt: HostRuntime) {
-    // the second slice of thread 0, which has started thread 1, and the first of that
+    // the second slice of thread 0, which has started thread 1, and the first of that; too few in all for turns in place
     let gate = meeting(rt, [1, 0]);
-    let hub = begun(&rt, SPIN, 100, None);
+    let hub = begun(&rt, SPIN, 60, None);
     let answer = run_workers(&rt, rt.alloc(), hub, 2, First, &gate);
     let hub = is_over(&rt, answer, End::Budget);
     assert!(rt; gate.met.load(Ordering::SeqCst) == 2);
