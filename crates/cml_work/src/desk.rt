@@ -13,7 +13,7 @@ use cml_value::Tid;
 use std::alloc::{AllocError, Global};
 use std::sync::Wait;
 
-/// What is told of each slice before it runs, by the worker that runs it, while it holds no lock.
+/// What is told of each slice that is handed out, before it runs, by the worker that runs it, while it holds no lock.
 pub trait Gate {
     /// Whether it was told that a slice of this thread begins.
     ghost told: { Self → ℕ → Type 0 };

@@ -1,7 +1,7 @@
 //! Which workers wait, and whether more of them than one pay.
 //!
 //! To wake a worker takes a call of the system, and what two workers have under the lock in turn goes to and fro between two processors. Both
-//! together cost about as much as a slice of some hundred steps. So where slices are short one worker runs them all, and the others wait.
+//! together cost about as much as a slice of a hundred steps. So where slices are short one worker runs them all, and the others wait.
 
 ghost use Rattle.std.specs.Prelude.{◌≡◌, ◌↔◌, ◌*◌, ◌≤◌, ◌<◌, IsTrue};
 
@@ -9,7 +9,7 @@ ghost use Rattle.std.specs.Prelude.{◌≡◌, ◌↔◌, ◌*◌, ◌≤◌, �
 const SPAN: u64 = 16;
 
 // How many steps a slice has in the mean where more workers than one pay.
-const LONG: u64 = 64;
+const LONG: u64 = 128;
 
 // How many steps the slices before the first are taken to have had: as many as there may be.
 const FIRST: u64 = 1000;
@@ -58,14 +58,14 @@ impl Waiters {
 
     // Whether slices are so long that more workers than one pay.
     pub(crate) fn are_wanted(&self) -> bool
-        ensures { IsTrue result ↔ (64 * 16 ≤ self.now.steps) }
+        ensures { IsTrue result ↔ (128 * 16 ≤ self.now.steps) }
     {
         LONG * SPAN <= self.steps
     }
 
     // Whether a worker waits that would pay.
     pub(crate) fn has_wanted(&self) -> bool
-        ensures { IsTrue result ↔ (0 < self.now.count) × (64 * 16 ≤ self.now.steps) }
+        ensures { IsTrue result ↔ (0 < self.now.count) × (128 * 16 ≤ self.now.steps) }
     {
         self.count > 0 && self.are_wanted()
     }

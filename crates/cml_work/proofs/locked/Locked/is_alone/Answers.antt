@@ -1,4 +1,4 @@
-use Rattle.std.proofs.Common.{IsTrue, Bool, true, false, refl, sym, subst}
+use Rattle.std.proofs.Common.{IsTrue, Bool, true, false, subst}
 use Rattle.std.specs.Prelude.{not}
 use Rattle.cml_hub.specs.Kept.{Kept, NoneOut}
 use Rattle.cml_work.specs.Held.{Held}
