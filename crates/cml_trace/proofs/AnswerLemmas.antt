@@ -46,28 +46,3 @@ has_answer law n w (first ∷ behind) = has_answer_of n w first behind (λ m v. 
 -- what these commands are answered
 abbrev pub replies_text : List Command → PlainWorld → List ℕ
 replies_text cs w = flat_map reply_text (replies_of cs w)
-
--- the first line asks for a command
-answers_more : (n : ℕ) (w : PlainWorld) (first : List ℕ) (behind : List (List ℕ)) (c : Command) (cs : List Command) (rest : List ℕ) (end : TraceEnd) →
-    AsksFor first (order.Do c) → Answers (n + 1) (step w c).0 behind (replies_text cs (step w c).0 ++ rest) end →
-    Answers n w (first ∷ behind) (replies_text (c ∷ cs) w ++ rest) end
-answers_more n w first behind c cs rest end asks h =
-    inl (order.Do c, replies_text cs (step w c).0 ++ rest, asks, append_assoc (reply_text (step w c).1) (replies_text cs (step w c).0) rest, h)
-
--- The lines of a batch are answered by the replies to its commands, and what follows by what answers that.
-pub answers_batch : (n : ℕ) (w : PlainWorld) (done : List (List ℕ)) (cs : List Command) → AskFor done cs → (behind : List (List ℕ)) (rest : List ℕ) (end : TraceEnd) →
-    Answers (n + length done) (world_after cs w) behind rest end → Answers n w (done ++ behind) (replies_text cs w ++ rest) end
-answers_batch n w [] [] asked behind rest end h =
-    let same : n + 0 ≡ n = omega arith in subst (λ (k : ℕ). Answers k w behind rest end) same h
-answers_batch n w [] (c ∷ cs) asked behind rest end h = absurd (cc)
-answers_batch n w (first ∷ done) cs (inl a) behind rest end h =
-    let same : n + length (first ∷ done) ≡ (n + 1) + length done = omega arith in
-    let next = answers_batch (n + 1) w done cs a.1 behind rest end (subst (λ (k : ℕ). Answers k (world_after cs w) behind rest end) same h) in
-    inl (order.Skip, replies_text cs w ++ rest, a.0, refl, next)
-answers_batch n w (first ∷ done) cs (inr a) behind rest end h =
-    let same : n + length (first ∷ done) ≡ (n + 1) + length done = omega arith in
-    let there : Answers ((n + 1) + length done) (world_after (a.0 ∷ a.1) w) behind rest end =
-    subst (λ (xs : List Command). Answers ((n + 1) + length done) (world_after xs w) behind rest end) a.3 (subst (λ (k : ℕ). Answers k (world_after cs w) behind rest end) same h) in
-    let next = answers_batch (n + 1) (step w a.0).0 done a.1 a.4 behind rest end there in
-    subst (λ (xs : List Command). Answers n w (first ∷ (done ++ behind)) (replies_text xs w ++ rest) end) (sym a.3)
-    (answers_more n w first (done ++ behind) a.0 a.1 rest end a.2 next)
