@@ -1,21 +1,19 @@
 -- How the answers to lines put together the answer to a trace.
-use Rattle.std.proofs.Common.{◌≡◌, ℕ, ◌+◌, ◌⊎◌, List, [], ◌∷◌, ◌++◌, Option, Some, None, length, refl, sym, subst, inl, inr, append_assoc, arith}
+use Rattle.std.proofs.Common.{◌≡◌, ℕ, ◌+◌, ◌⊎◌, List, [], ◌∷◌, ◌++◌, Option, Some, None, refl, inl, inr}
 use Rattle.std.specs.List.{flat_map}
 use Rattle.cml_scan.specs.World.{PlainWorld}
 use Rattle.cml_book.specs.declared.command.Command.{Command}
-use Rattle.cml_book.specs.Step.{step, replies_of, world_after}
+use Rattle.cml_book.specs.Step.{replies_of}
 use Rattle.cml_text.specs.Forms.{PlainSexpr}
 use Rattle.cml_text.specs.Faults.{PlainFault}
 use Rattle.cml_text.specs.Texts.{Spells, fault_of}
 use Rattle.cml_text.specs.Laws.{SpelledOrFaulty}
 use Rattle.cml_trace.specs.declared.order.Order.{Order}
-use Rattle.cml_trace.specs.declared.order.Order.TheVariants as order
 use Rattle.cml_trace.specs.declared.fault.TraceEnd.{TraceEnd}
 use Rattle.cml_trace.specs.declared.fault.TraceEnd.TheVariants.{Done, Bad}
 use Rattle.cml_trace.specs.Orders.{AsksFor, IsBad, order_of}
 use Rattle.cml_trace.specs.Replies.{reply_text}
 use Rattle.cml_trace.specs.Answers.{answer_to, after_order, bad_line, Answers}
-use Rattle.cml_trace.specs.Batches.{AskFor}
 
 -- what a line asks for, or that it is bad
 asked_or_bad : (first : List ℕ) (forms : List PlainSexpr) → Spells first forms → (o : Option Order) → order_of forms ≡ o → ((what : Order) × AsksFor first what) ⊎ IsBad first

@@ -8,7 +8,7 @@ use Rattle.cml_trace.specs.declared.order.Order.TheVariants as order
 use Rattle.cml_trace.specs.declared.fault.TraceEnd.{TraceEnd}
 use Rattle.cml_trace.specs.declared.fault.TraceEnd.TheVariants.{Done, Bad}
 use Rattle.cml_trace.specs.Orders.{AsksFor}
-use Rattle.cml_trace.specs.Replies.{reply_text, rows_text}
+use Rattle.cml_trace.specs.Replies.{rows_text}
 use Rattle.cml_trace.specs.Answers.{answer_to, after_order, Answers, AreDone}
 use Rattle.cml_trace.specs.Batches.{AskFor}
 use Rattle.cml_trace.proofs.AnswerLemmas.{replies_text}

@@ -11,7 +11,6 @@ use Rattle.std.specs.List.{flat_map}
 use Rattle.cml_book.specs.declared.command.Reply.{Reply}
 use Rattle.cml_book.specs.Step.{step, world_after, empty_world, HasStopped}
 use Rattle.cml_text.specs.Laws.{SpelledOrFaulty}
-use Rattle.cml_trace.specs.declared.order.Order.TheVariants as order
 use Rattle.cml_trace.specs.declared.batch.Stop.{Stop}
 use Rattle.cml_trace.specs.declared.batch.Stop.TheVariants as stop
 use Rattle.cml_trace.specs.declared.fault.TraceEnd.{TraceEnd}

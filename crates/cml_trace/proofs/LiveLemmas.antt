@@ -1,7 +1,7 @@
 -- Turns of a live trace, one after another.
-use Rattle.std.proofs.Common.{◌≡◌, ◌⊎◌, ℕ, ◌+◌, ◌≤◌, Result, Ok, Err, OnOk, OnErr, IfOk, IfErr, List, [], ◌∷◌, ◌++◌, Option, Some, None, length, refl, ap, sym, ◌∙◌, subst, inl, inr, ⊎_elim, append_assoc, append-nil, length-append, arith}
+use Rattle.std.proofs.Common.{◌≡◌, ℕ, ◌+◌, ◌≤◌, Result, Ok, Err, OnErr, IfErr, List, [], ◌∷◌, ◌++◌, Option, Some, None, length, refl, ap, sym, ◌∙◌, subst, inl, inr, ⊎_elim, append_assoc, append-nil, length-append, arith}
 use Rattle.std.specs.Result.{IsErrAnd}
-use Rattle.std.specs.Io.KnownBytes.{Appends, Consumes, Keeps}
+use Rattle.std.specs.Io.KnownBytes.{Consumes, Keeps}
 use Rattle.std.proofs.KnownBytes.{Appends-trans, Appends-nil, Appends-kept, Consumes-trans, Consumes-kept, Consumes-nil}
 use Rattle.cml_scan.specs.World.{PlainWorld}
 use Rattle.cml_book.specs.Step.{empty_world}
@@ -11,13 +11,11 @@ use Rattle.cml_trace.specs.declared.fault.TraceEnd.{TraceEnd}
 use Rattle.cml_trace.specs.declared.fault.TraceEnd.TheVariants.{Done, Bad, TooLong}
 use Rattle.cml_trace.specs.declared.fault.TraceFault.{TraceFault}
 use Rattle.cml_trace.specs.declared.fault.TraceFault.TheVariants.{Read, Turns, Write, Memory}
-use Rattle.cml_trace.specs.declared.live.Turn.{Turn}
-use Rattle.cml_trace.specs.declared.live.Turn.TheVariants.{On, End}
 use Rattle.cml_trace.specs.Answers.{answer_to, after_order, trace_lines, Answers, AnswersTrace, AreDone, max_input}
 use Rattle.cml_trace.specs.Laws.{LiveAnswersAsTrace}
 use Rattle.cml_trace.specs.Faults.{IsWriteFailure}
 use Rattle.cml_trace.specs.Lines.{TraceLines, HasNoFeed, lines_from}
-use Rattle.cml_trace.specs.Live.{PlainBegun, GoesOn, AnswersAll, AnswersStart, BeginsAll, Ends, IsTurn, IsCut, IsTurnBroken, HasAnswered, IsHeardOut, IsCutOff, IsStopped}
+use Rattle.cml_trace.specs.Live.{PlainBegun, GoesOn, AnswersStart, Ends, IsCut, IsTurnBroken, HasAnswered, IsHeardOut, IsCutOff, IsStopped}
 use Rattle.cml_trace.specs.Runs.{AreWritten, AreWrittenTo}
 use Rattle.cml_trace.proofs.AnswerLemmas.{has_answer}
 use Rattle.cml_trace.proofs.DoneLemmas.{done_answers, done_leads, done_both, bad_whatever}

@@ -1,5 +1,5 @@
 -- A live trace: its lines are those of a trace, and each is answered as soon as it was read.
-use Rattle.std.specs.Prelude.{◌≡◌, ◌⊎◌, ℕ, ◌+◌, ◌^◌, List, [], ◌∷◌, ◌++◌, length, Bool, IsTrue, Result, Ok, Err}
+use Rattle.std.specs.Prelude.{◌≡◌, ◌⊎◌, ℕ, ◌+◌, ◌^◌, List, [], ◌∷◌, ◌++◌, length, Bool, IsTrue, Result, Err}
 use Rattle.cml_scan.specs.World.{PlainWorld}
 use Rattle.cml_stream.specs.Counts.{Calls}
 use Rattle.cml_stream.specs.Streams.{Stream, Supplies, IsSpent, Takes, TakesStart, IsUntouched}

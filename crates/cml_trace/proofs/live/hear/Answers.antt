@@ -1,4 +1,4 @@
-use Rattle.std.proofs.Common.{rules, ◌≡◌, ◌+◌, ◌++◌, ◌∙◌, [], length, ap, sym, subst, refl, arith, OnErr}
+use Rattle.std.proofs.Common.{rules, ◌≡◌, ◌+◌, ◌++◌, ◌∙◌, length, ap, subst, arith}
 use Rattle.std.proofs.lemmas.List.Elements.{All-append}
 use Rattle.cml_stream.specs.Streams.{stream}
 use Rattle.cml_trace.specs.declared.fault.TraceEnd.{TraceEnd}
