@@ -24,6 +24,7 @@ use Rattle.cml_words.specs.declared.EndOptions.{EndOptions}
 use Rattle.cml_words.specs.declared.FileOptions.{FileOptions}
 use Rattle.cml_words.specs.declared.ReplayOptions.{ReplayOptions}
 use Rattle.cml_words.specs.declared.RunOptions.{RunOptions}
+use Rattle.cml_words.specs.declared.TraceOptions.{TraceOptions}
 
 -- ---- the commands
 
@@ -70,6 +71,9 @@ explain_rules = flag_rule (codes "explain") ∷ flag_rule (codes "plain") ∷ []
 abbrev pub command_of : Text → List Rule → Shape
 command_of name rules = record (new_app name).top { rules = rules }
 
+abbrev pub trace_command : Shape
+trace_command = command_of (codes "trace") (flag_rule (codes "live") ∷ explain_rules)
+
 -- a command that takes a file alone
 abbrev pub file_command : Text → Shape
 file_command name = command_of name (file_rule (codes "FILE") ∷ explain_rules)
@@ -85,7 +89,7 @@ replay_command = command_of (codes "replay") (file_rule (codes "FILE") ∷ file_
 abbrev pub commands : App
 commands = record {
   top = record (new_app (codes "cml")).top { subcommand_required = true; is_leaf = false };
-  subs = command_of (codes "trace") []
+  subs = trace_command
       ∷ file_command (codes "check")
       ∷ file_command (codes "fmt")
       ∷ run_command
@@ -128,6 +132,11 @@ IsCount = IsInRange 1 1000000000
 abbrev pub IsWorkers : ℕ → Type 0
 IsWorkers = IsInRange 1 64
 
+-- the options of `trace` are what was given
+pub record IsTrace (given : List Row) (options : TraceOptions) : Type 0 where
+  pub live : options.live ≡ is_flagged (codes "live") given
+  pub explain : options.explain ≡ explanation given
+
 -- the options of a command that takes a file alone are what was given
 pub record IsFile (given : List Row) (options : FileOptions) : Type 0 where
   pub file : first_of (codes "FILE") given ≡ Some options.file.now
@@ -161,7 +170,7 @@ pub record IsReplay (given : List Row) (options : ReplayOptions) : Type 0 where
 
 -- The command that was named, with the values that it was given, is this one.
 abbrev pub Names : Text × List Row → Task → Type 0
-Names (name, given) task_of.Trace = name ≡ codes "trace"
+Names (name, given) (task_of.Trace options) = (name ≡ codes "trace") × IsTrace given options
 Names (name, given) (task_of.Check options) = (name ≡ codes "check") × IsFile given options
 Names (name, given) (task_of.Fmt options) = (name ≡ codes "fmt") × IsFile given options
 Names (name, given) (task_of.Run options) = (name ≡ codes "run") × IsRun given options

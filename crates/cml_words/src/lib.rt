@@ -6,9 +6,9 @@ ghost use Rattle.std.specs.List.{list_all};
 ghost use Rattle.std.specs.String.{string_bytes};
 ghost use Rattle.clap.specs.Words.{app_of, first_of, found_of, kind_of, rows_of, rule_of, shape_of, subcommand_rows_of};
 ghost use Rattle.clap.specs.declared.builder.command.Command.TheViews.{out-Command};
-ghost use Rattle.cml_words.specs.Words.{any_rule, command_of, commands, count_rule, file_command, file_rule, flag_rule, list_rule, option_rule, replay_command, run_command, with_end, with_explain, workers_rule};
+ghost use Rattle.cml_words.specs.Words.{any_rule, command_of, commands, count_rule, file_command, file_rule, flag_rule, list_rule, option_rule, replay_command, run_command, trace_command, with_end, with_explain, workers_rule};
 ghost use Rattle.cml_words.specs.Words.{end_rules, explain_rules, explanation, explains, is_complete, is_flagged, is_served, option_number, option_texts};
-ghost use Rattle.cml_words.specs.Words.{AnswersError, AnswersTask, IsAnswer, IsEnd, IsFile, IsReplay, IsRun, Names, Replaces};
+ghost use Rattle.cml_words.specs.Words.{AnswersError, AnswersTask, IsAnswer, IsEnd, IsFile, IsReplay, IsRun, IsTrace, Names, Replaces};
 
 use clap::error::ErrorKind;
 use clap::{Arg, ArgAction, ArgMatches, Command, Error, value_parser};
@@ -51,7 +51,7 @@ impl Explain {
 #[derive(Drop)]
 pub enum Task<'a> {
     /// Answers a trace.
-    Trace,
+    Trace(TraceOptions),
     /// Checks the script in a file.
     Check(FileOptions<'a>),
     /// Prints the forms of the text in a file.
@@ -60,6 +60,15 @@ pub enum Task<'a> {
     Run(RunOptions<'a>),
     /// Runs a script again, by the schedule that a run recorded.
     Replay(ReplayOptions<'a>),
+}
+
+/// How a trace is answered.
+#[derive(Clone, Copy, PartialEq, Eq)]
+pub struct TraceOptions {
+    /// Whether each line is answered as soon as it has been read.
+    pub live: bool,
+    /// Whether what is wrong with it is explained.
+    pub explain: Explain,
 }
 
 /// How a file is read.
@@ -175,12 +184,23 @@ fn task_of<'a>(alloc: Global, matches: &ArgMatches<'a>) -> Result<Task<'a>, Allo
         unreachable!()
     };
     match name {
-        "trace" => Ok(Task::Trace),
+        "trace" => Ok(Task::Trace(trace_options(below))),
         "check" => Ok(Task::Check(file_options(below))),
         "fmt" => Ok(Task::Fmt(file_options(below))),
         "run" => Ok(Task::Run(run_options(alloc, below)?)),
         "replay" => Ok(Task::Replay(replay_options(alloc, below)?)),
         _ => unreachable!(),
+    }
+}
+
+// What `trace` was given.
+fn trace_options(matches: &ArgMatches<'_>) -> TraceOptions
+    requires { list_all (is_served (rows_of (found_of matches.now))) trace_command.rules ≡ true }
+    ensures { IsTrace (rows_of (found_of matches.now)) result }
+{
+    TraceOptions {
+        live: flag(matches, "live"),
+        explain: explain_option(matches),
     }
 }
 
@@ -314,7 +334,7 @@ fn answer_to_error<'a>(alloc: Global, error: &Error) -> Result<Answer<'a>, Alloc
 fn command<'a>(alloc: Global) -> Result<Command<'a>, AllocError>
     ensures { IfOk result (λ command. app_of command ≡ commands) }
 {
-    let trace = trace(alloc);
+    let trace = trace(alloc)?;
     let check = file_alone(alloc, "check", "Checks a script")?;
     let fmt = file_alone(alloc, "fmt", "Prints the forms of a text, each on a line")?;
     let run = run(alloc)?;
@@ -330,11 +350,19 @@ fn command<'a>(alloc: Global) -> Result<Command<'a>, AllocError>
 }
 
 // The command that answers a trace.
-fn trace<'a>(alloc: Global) -> Command<'a>
-    ensures shape { shape_of result ≡ command_of (codes "trace") [] }
-    ensures globals { (out-Command result).has_globals ≡ false }
+fn trace<'a>(alloc: Global) -> Result<Command<'a>, AllocError>
+    ensures shape { IfOk result (λ command. shape_of command ≡ trace_command) }
+    ensures globals { IfOk result (λ command. (out-Command command).has_globals ≡ false) }
 {
-    Command::new(alloc, "trace").about("Answers the commands on standard input")
+    let live = flag_of(
+        alloc,
+        "live",
+        "Answers each line as soon as it has been read",
+    );
+    let command = Command::new(alloc, "trace")
+        .about("Answers the commands on standard input")
+        .arg(live)?;
+    explaining(alloc, command)
 }
 
 // The command that runs a script.

@@ -4,6 +4,18 @@ use Rattle.cml_words.specs.declared.Task.TheVariants as task_of
 use Rattle.cml_words.proofs.Named.{named_complete, named_task, no_other}
 use Rattle.cml_words.proofs.task_of.Goals as goal
 
+pub trace_options-requires : goal.trace_options-requires
+trace_options-requires c =
+    let found = subcommand_rows_of c.args.matches.now in
+    let below = found_of c.in-Some.below.now in
+    named_complete found (codes "trace") below (search rules) c.in-Some.ensures.rows c.requires
+
+pub returns-in-trace : goal.returns-in-trace
+returns-in-trace c =
+    let found = subcommand_rows_of c.args.matches.now in
+    let below = found_of c.in-Some.below.now in
+    named_task found (codes "trace") below (task_of.Trace c.trace_options.result) (search rules) c.in-Some.ensures.rows (refl, c.trace_options.ensures)
+
 pub file_options-requires : goal.file_options-requires
 file_options-requires c =
     let found = subcommand_rows_of c.args.matches.now in
