@@ -28,7 +28,7 @@ use Rattle.cml_host.specs.declared.workers.Stopped.{Stopped}
 use Rattle.cml_host.specs.Closed.{PlainAsked, PlainClosing, asked_of, IsClosed, IsClosing, IsHubAt, SaysEnd}
 use Rattle.cml_host.specs.Replaying.{IsHubOf, IsNotRun, OpenedReplayed, ReplayRan, ReplayTold, ScheduleRan}
 use Rattle.cml_host.specs.Running.{HasEnded, record_name, IsRecorded, RecordBroke, EndRan, ReportsAreLive, IsRunBy, IsChosen, Plays, PlaysChosen, ProgramRan, RunRan, BegunRan, OpenedRan, AreToldBy, IsStopped, StopRan, EndedRan, IsEnded, IsNotEnded, IsMade, IsKept, IsNotKept}
-use Rattle.cml_host.specs.Servers.{IsNotNumbered, first_unknown, numbers_of, server_names}
+use Rattle.cml_host.specs.Servers.{IsNotNumbered, first_unknown, server_numbers, server_names}
 use Rattle.cml_host.specs.Said.{RefusalRan}
 use Rattle.cml_host.specs.Scripts.{PlainScript, IsOpened, IsNotOpened, NoScriptRan}
 use Rattle.cml_host.specs.Stores.{Content, Shelf, IsReplacedBy, IsSaved, IsUnchanged}
@@ -131,7 +131,7 @@ scheduled asked p watch name content h output errors status found (run, told) =
 
 -- the script was run by the schedule, with the numbers of its servers
 pub replayed : (explains : Bool) (s : PlainScript) (options : ReplayOptions) (servers : List ℕ) (asked : PlainAsked) (p : List (PlainItem ℕ)) (content : Content)
-    (output errors : Counted) (status : ℕ) → first_unknown s (server_names options.end) ≡ None → servers ≡ numbers_of s (server_names options.end) → p ≡ s.program →
+    (output errors : Counted) (status : ℕ) → first_unknown s (server_names options.end) ≡ None → servers ≡ server_numbers s (server_names options.end) → p ≡ s.program →
     asked ≡ asked_of explains options.script.now s options.end.strict servers →
     ScheduleRan asked p options.watch options.schedule.now content output errors status → OpenedReplayed explains s options content output errors status
 replayed explains s options servers asked p content output errors status known numbered program same ran =
@@ -384,7 +384,7 @@ program_behind old mid new asked p options output errors status same (items, rep
 
 -- the script was run, with the numbers of its servers
 pub opened_ran : (explains : Bool) (s : PlainScript) (options : RunOptions) (servers : List ℕ) (asked : PlainAsked) (p : List (PlainItem ℕ)) (output errors : Counted)
-    (store : Shelf) (status : ℕ) → first_unknown s (server_names options.end) ≡ None → servers ≡ numbers_of s (server_names options.end) → p ≡ s.program →
+    (store : Shelf) (status : ℕ) → first_unknown s (server_names options.end) ≡ None → servers ≡ server_numbers s (server_names options.end) → p ≡ s.program →
     asked ≡ asked_of explains options.file.now s options.end.strict servers → BegunRan asked p options output errors store status →
     OpenedRan explains s options output errors store status
 opened_ran explains s options servers asked p output errors store status known numbered program same (inl ran) =

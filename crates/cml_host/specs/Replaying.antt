@@ -14,7 +14,7 @@ use Rattle.cml_words.specs.declared.ReplayOptions.{ReplayOptions}
 use Rattle.cml_host.specs.Stores.{Content, MayBeRefused}
 use Rattle.cml_host.specs.Said.{IsText, MemoryRan, RefusedRan}
 use Rattle.cml_host.specs.Scripts.{PlainScript, IsOpened, NoScriptRan}
-use Rattle.cml_host.specs.Servers.{NoFunctionRan, first_unknown, numbers_of, server_names}
+use Rattle.cml_host.specs.Servers.{NoFunctionRan, first_unknown, server_numbers, server_names}
 use Rattle.cml_host.specs.Told.{IsRunOf, AllReported, whole_output, IsNotTold}
 use Rattle.cml_host.specs.Closed.{PlainAsked, asked_of, IsClosed}
 use Rattle.cml_host.specs.declared.said.Refusal.{Refusal}
@@ -64,7 +64,7 @@ ScheduleRan asked p watch name content output errors status =
 abbrev pub ScriptReplayed : Bool → PlainScript → ReplayOptions → Content → Counted → Counted → ℕ → Type 0
 ScriptReplayed explains s options content output errors status =
     ((first_unknown s (server_names options.end) ≡ None)
-    × ScheduleRan (asked_of explains options.script.now s options.end.strict (numbers_of s (server_names options.end))) s.program options.watch
+    × ScheduleRan (asked_of explains options.script.now s options.end.strict (server_numbers s (server_names options.end))) s.program options.watch
     options.schedule.now content output errors status)
     ⊎ (NoFunctionRan s (server_names options.end) errors status × IsIdle output)
 

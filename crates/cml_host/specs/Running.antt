@@ -28,7 +28,7 @@ use Rattle.cml_host.specs.declared.workers.Stopped.{Stopped}
 use Rattle.cml_host.specs.Stores.{Shelf, IsSaved, IsUnchanged}
 use Rattle.cml_host.specs.Said.{MemoryRan}
 use Rattle.cml_host.specs.Scripts.{PlainScript, IsOpened, NoScriptRan}
-use Rattle.cml_host.specs.Servers.{NoFunctionRan, first_unknown, numbers_of, server_names}
+use Rattle.cml_host.specs.Servers.{NoFunctionRan, first_unknown, server_numbers, server_names}
 use Rattle.cml_host.specs.Told.{IsRunOf, AllReported, reports_text, whole_output, cannot_write, IsTold, SaysStill, OutputBroke, MemoryBroke, OutputNotTold, IsCutOff, IsForeign}
 use Rattle.cml_host.specs.Closed.{PlainAsked, asked_of, IsClosed}
 
@@ -92,7 +92,7 @@ ProgramRan asked p options output errors store status =
 abbrev pub ScriptRan : Bool → PlainScript → RunOptions → Counted → Counted → Shelf → ℕ → Type 0
 ScriptRan explains s options output errors store status =
     ((first_unknown s (server_names options.end) ≡ None)
-    × ProgramRan (asked_of explains options.file.now s options.end.strict (numbers_of s (server_names options.end))) s.program options
+    × ProgramRan (asked_of explains options.file.now s options.end.strict (server_numbers s (server_names options.end))) s.program options
     output errors store status)
     ⊎ (NoFunctionRan s (server_names options.end) errors status × IsIdle output × IsUnchanged store.before store.after)
 

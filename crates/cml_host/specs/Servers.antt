@@ -1,6 +1,6 @@
 -- The functions of servers, as the arguments name them.
-use Rattle.std.specs.Prelude.{◌≡◌, ℕ, not, List, ◌++◌, map, length, codes, find, Option, Some, is_some}
-use Rattle.std.specs.List.{filter_map, range_with_len}
+use Rattle.std.specs.Prelude.{◌≡◌, ℕ, not, List, [], ◌∷◌, ◌++◌, map, length, codes, find, Option, Some, None, is_some}
+use Rattle.std.specs.List.{flat_map, range_with_len}
 use Rattle.std.specs.Str.{bytes_eq}
 use Rattle.cml_check.specs.Syntax.{Name}
 use Rattle.cml_phrase.specs.Names.{function_name}
@@ -19,9 +19,14 @@ function_numbered s name = find (λ func. bytes_eq (function_name s.forms func) 
 abbrev pub first_unknown : PlainScript → List Name → Option Name
 first_unknown s names = find (λ name. not (is_some (function_numbered s name))) names
 
+-- a number that may be there, as a list
+abbrev pub numbers_in : Option ℕ → List ℕ
+numbers_in None = []
+numbers_in (Some n) = n ∷ []
+
 -- the numbers of the functions of these names
-abbrev pub numbers_of : PlainScript → List Name → List ℕ
-numbers_of s names = filter_map (function_numbered s) names
+abbrev pub server_numbers : PlainScript → List Name → List ℕ
+server_numbers s names = flat_map (λ name. numbers_in (function_numbered s name)) names
 
 -- the names that the arguments give
 abbrev pub server_names : EndOptions → List Name

@@ -70,8 +70,13 @@ fn replay_script<O: Write, E: Write, S: Store>(
 {
     match find_servers(alloc, &script, options.end.servers.as_slice()) {
         Ok(servers) => {
-            let (program, asked) =
-                ask(options.script, script, explains, options.end.strict, servers);
+            let (program, asked) = ask(
+                options.script,
+                script,
+                explains,
+                options.end.strict,
+                servers,
+            );
             replay_program(alloc, program, &asked, options, out, err, store)
         }
         Err(why) => {

@@ -95,8 +95,7 @@ where
 {
     match find_servers(alloc, &script, options.end.servers.as_slice()) {
         Ok(servers) => {
-            let (program, asked) =
-                ask(options.file, script, explains, options.end.strict, servers);
+            let (program, asked) = ask(options.file, script, explains, options.end.strict, servers);
             run_program(rt, alloc, gate, program, &asked, options, out, err, store)
         }
         Err(why) => {

@@ -42,12 +42,14 @@ pub fn open_script<S: Store>(
         text: text.as_slice(),
         explains,
     };
-    let (forms, program) = read_script(alloc, &source)?;
-    Ok(Script {
-        text,
-        forms,
-        program,
-    })
+    match read_script(alloc, &source) {
+        Ok((forms, program)) => Ok(Script {
+            text,
+            forms,
+            program,
+        }),
+        Err(why) => Err(why),
+    }
 }
 
 // The forms that the text spells, and the program that they are.

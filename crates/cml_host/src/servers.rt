@@ -1,9 +1,9 @@
 //! The functions of servers, as the arguments name them.
 
-ghost use Rattle.std.specs.Prelude.{◌≡◌, IfOk, IfErr, None, map, option_map};
+ghost use Rattle.std.specs.Prelude.{◌≡◌, ◌++◌, IfOk, IfErr, None, OnOk, map, option_map};
 ghost use Rattle.cml_host.specs.Scripts.{plain_script};
 ghost use Rattle.cml_host.specs.Servers as spec;
-ghost use Rattle.cml_host.specs.Servers.{IsNotNumbered, unknown_line};
+ghost use Rattle.cml_host.specs.Servers.{IsNotNumbered, numbers_in, unknown_line};
 
 use crate::said::Refusal;
 use crate::script::Script;
@@ -16,7 +16,7 @@ use std::alloc::{AllocError, Global};
 /// The first name that no function of the script has; or out of memory.
 pub fn find_servers(alloc: Global, script: &Script, names: &[&str]) -> Result<Vec<u32>, Refusal>
     ensures known { IfOk result (λ _. spec.first_unknown (plain_script script.now) (map (λ name. name.now) names.now) ≡ None) }
-    ensures found { IfOk result (λ servers. servers.items ≡ spec.numbers_of (plain_script script.now) (map (λ name. name.now) names.now)) }
+    ensures found { IfOk result (λ servers. servers.items ≡ spec.server_numbers (plain_script script.now) (map (λ name. name.now) names.now)) }
     ensures err { IfErr result (IsNotNumbered (plain_script script.now) (map (λ name. name.now) names.now)) }
 {
     match first_unknown(script, names) {
@@ -39,15 +39,23 @@ fn first_unknown<'a>(script: &Script, names: &[&'a str]) -> Option<&'a str>
 
 // The numbers of the functions of these names.
 fn numbers(alloc: Global, script: &Script, names: &[&str]) -> Result<Vec<u32>, AllocError>
-    ensures { IfOk result (λ found. found.items ≡ spec.numbers_of (plain_script script.now) (map (λ name. name.now) names.now)) }
+    ensures { IfOk result (λ found. found.items ≡ spec.server_numbers (plain_script script.now) (map (λ name. name.now) names.now)) }
 {
     let mut found = Vec::new(alloc);
     for name in names {
-        if let Some(func) = function_number(script, name) {
-            found.push(func)?;
-        }
+        push_number(&mut found, script, name)?;
     }
     Ok(found)
+}
+
+// Appends the number of the function of this name, if there is one.
+fn push_number(found: &mut Vec<u32>, script: &Script, name: &str) -> Result<(), AllocError>
+    ensures { OnOk result (found.new.items ≡ found.old.items ++ numbers_in (spec.function_numbered (plain_script script.now) name.now)) }
+{
+    match function_number(script, name) {
+        Some(func) => Ok(found.push(func)?),
+        None => Ok(()),
+    }
 }
 
 // What is said where no function has this name.
@@ -58,6 +66,7 @@ fn told_unknown(alloc: Global, name: &str) -> Result<Vec<u8>, AllocError>
 }
 
 // The number of the function of this name.
+#[tactic(auto, using(crate::proofs::ServerLemmas::found_on))]
 fn function_number(script: &Script, name: &str) -> Option<u32>
     ensures { result ≡ spec.function_numbered (plain_script script.now) name.now }
 {

@@ -13,14 +13,14 @@ returns-in-Ok-tell-clause-told g c =
     let h = c.args.hub.now in (
       c.hub_is_a_run.ensures,
       inl (
-      closed_hub (plain_asked c.args.asked.now) h (plain_closing c.in-Ok-close.closing) h.reports output a b d
-      c.tell.new.err.calls c.tell.new.err.failed c.say_end.new.err.calls c.say_end.new.err.failed c.say_end.result
-      c.in-Ok-close.ensures c.in-Ok-tell.ensures.told c.say_end.ensures.said c.say_end.ensures.status
-      ),
+          closed_hub (plain_asked c.args.asked.now) h (plain_closing c.in-Ok.closing) h.reports output a b d
+          c.tell.new.err.calls c.tell.new.err.failed c.say_end.new.err.calls c.say_end.new.err.failed c.say_end.result
+          c.in-Ok.ensures c.in-Ok-tell.ensures.told c.say_end.ensures.said c.say_end.ensures.status
+          ),
     )
 
-pub returns-in-Err-clause-told : goal.returns-in-Err-clause-told
-returns-in-Err-clause-told g c = (c.hub_is_a_run.ensures, inr c.in-Err.ensures.not_told)
+pub returns-in_default-clause-told : goal.returns-in_default-clause-told
+returns-in_default-clause-told g c = (c.hub_is_a_run.ensures, inr (inr c.cut_run.ensures.told))
 
 pub returns-clause-told : goal.returns-clause-told
-returns-clause-told g c = (c.hub_is_a_run.ensures, inr (inr c.cut_run.ensures.told))
+returns-clause-told g c = (c.hub_is_a_run.ensures, inr c.in-Err.ensures.not_told)

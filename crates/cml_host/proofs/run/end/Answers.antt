@@ -1,4 +1,4 @@
-use Rattle.std.proofs.Common.{rules, Option, List, ℕ, option_map, refl}
+use Rattle.std.proofs.Common.{inr, option_map, refl}
 use Rattle.cml_stream.specs.Streams.{counted_stream}
 use Rattle.cml_host.specs.Closed.{plain_asked, plain_closing}
 use Rattle.cml_host.specs.Stores.{Shelf}
@@ -13,12 +13,15 @@ returns-in-Ok-tell_and_save-clause-ran g c =
     let output = counted_stream (g.O.Write.contents c.args.out.now.stream.now) (g.O.Write.contents c.tell_and_save.new.out.stream.now)
     c.tell_and_save.new.out.calls c.tell_and_save.new.out.failed in
     let store : Shelf = record { before = g.S.Store.holds c.args.store.now; after = g.S.Store.holds c.tell_and_save.new.store } in
-    closed_ran (plain_asked c.args.asked.now) (option_map (λ name. name.now) c.args.save_as) c.args.hub.now (plain_closing c.in-Ok-close.closing) output a b d
+    closed_ran (plain_asked c.args.asked.now) (option_map (λ name. name.now) c.args.save_as) c.args.hub.now (plain_closing c.in-Ok.closing) output a b d
     c.tell_and_save.new.err.calls c.tell_and_save.new.err.failed c.say_end.new.err.calls c.say_end.new.err.failed store c.say_end.result
-    c.in-Ok-close.ensures c.in-Ok-tell_and_save.ensures.ended c.say_end.ensures.said c.say_end.ensures.status
+    c.in-Ok.ensures c.in-Ok-tell_and_save.ensures.ended c.say_end.ensures.said c.say_end.ensures.status
 
-pub returns-in-Err-clause-ran : goal.returns-in-Err-clause-ran
-returns-in-Err-clause-ran g c =
+pub returns-in_default-clause-ran : goal.returns-in_default-clause-ran
+returns-in_default-clause-ran g c = inr (c.cut_output.ensures.told, λ name. refl)
+
+pub returns-clause-ran : goal.returns-clause-ran
+returns-clause-ran g c =
     let output = counted_stream (g.O.Write.contents c.args.out.now.stream.now) (g.O.Write.contents c.tell_and_save.new.out.stream.now)
     c.tell_and_save.new.out.calls c.tell_and_save.new.out.failed in
     let errors = counted_stream (g.E.Write.contents c.args.err.now.stream.now) (g.E.Write.contents c.tell_and_save.new.err.stream.now)

@@ -9,9 +9,9 @@ returns-in-Ok-clause-told g c =
     let b = g.E.Write.contents c.send_reports.new.err.stream.now in
     let d = g.E.Write.contents c.cut_output.new.err.stream.now in
     let output = counted_stream (g.O.Write.contents c.args.out.now.stream.now) (g.O.Write.contents c.cut_output.new.out.stream.now) c.cut_output.new.out.calls c.cut_output.new.out.failed in
-    let same : c.out-2.result.now ≡ c.args.hub.now.course.output = c.out-2.ensures in
+    let same : c.out.result.now ≡ c.args.hub.now.course.output = c.out.ensures in
     rw (← c.reports.ensures.reports, ← same) (
-    cut_behind a b d c.reports.result.now c.out-2.result.now output c.cut_output.new.err.calls c.cut_output.new.err.failed c.cut_output.result
+    cut_behind a b d c.reports.result.now c.out.result.now output c.cut_output.new.err.calls c.cut_output.new.err.failed c.cut_output.result
     c.in-Ok.ensures.sent.0 c.cut_output.ensures.told
     )
 
