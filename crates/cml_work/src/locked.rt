@@ -8,7 +8,7 @@ ghost use Rattle.cml_work.specs.Works.{OpenedBy, GoesOnFrom, IsJob, opening_of};
 
 use crate::marks::{Board, Mark, learn, show};
 use crate::opening::Opening;
-use crate::waiters::Waiters;
+use crate::waiters::{Waiters, turns_after};
 use cml_check::Prog;
 use cml_hub::{Chooser, GiveFault, Hub, Next};
 use cml_monitor::Report;
@@ -180,7 +180,14 @@ impl<O: Opening, C: Chooser + Drop> Locked<O, C> {
         ensures flags { HaveOneState self.old self.new }
         ensures runs { RunsHere self.old.hub self.new.hub }
     {
-        self.hub.run_on(alloc, &mut self.chooser, BURST)
+        let used = self.hub.used();
+        let items = self.hub.schedule().len();
+        let answer = self.hub.run_on(alloc, &mut self.chooser, BURST);
+        self.waiters.measure_turns(
+            self.hub.used().saturating_sub(used),
+            turns_after(self.hub.schedule(), items),
+        );
+        answer
     }
 
     // The same where slices are short and none is out; else nothing.

@@ -90,7 +90,7 @@ impl Gate for Meeting {
     }
 }
 
-fn meeting(rt: HostRuntime, after: [u64; 2]) -> Meeting {
+fn meeting_after(rt: HostRuntime, after: [u64; 2]) -> Meeting {
     Meeting {
         rt,
         after,
@@ -302,7 +302,7 @@ fn turns_of(schedule: &[Item], thread: Tid) -> u64 {
 #[test]
 fn two_workers_are_outside_the_lock_at_once(rt: HostRuntime) {
     // the second slice of thread 0, which has started thread 1, and the first of that; too few in all for turns in place
-    let gate = meeting(rt, [1, 0]);
+    let gate = meeting_after(rt, [1, 0]);
     let hub = begun(&rt, SPIN, 60, None);
     let answer = run_workers(&rt, rt.alloc(), hub, 2, First, &gate);
     let hub = is_over(&rt, answer, End::Budget);
@@ -320,7 +320,7 @@ fn two_workers_are_outside_the_lock_at_once(rt: HostRuntime) {
 #[test]
 fn two_workers_are_outside_the_lock_at_once_after_short_slices(rt: HostRuntime) {
     // some fifty short slices are handed out, and the others run in place
-    let gate = meeting(rt, [40, 40]);
+    let gate = meeting_after(rt, [40, 40]);
     let hub = begun(&rt, LONG_AFTER_SHORT, 200_000, None);
     let answer = run_workers(&rt, rt.alloc(), hub, 2, First, &gate);
     drop(is_over(&rt, answer, End::Budget));
