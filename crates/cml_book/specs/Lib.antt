@@ -22,6 +22,7 @@ pub mod Telling
 pub mod Feeding
 pub mod Homes
 pub mod Leaving
+pub mod Holding
 pub mod Parties
 pub mod Marks
 pub mod Threads

@@ -20,11 +20,13 @@ ghost use Rattle.cml_book.specs.Swaps as swaps_spec;
 ghost use Rattle.cml_book.specs.Clock as clock_spec;
 ghost use Rattle.cml_book.specs.Clock.{IsAlarm};
 ghost use Rattle.cml_book.specs.Threads.{flat_of};
+ghost use Rattle.cml_book.specs.Holding.{value_at};
 ghost use Rattle.cml_book.specs.Walks.{is_running};
 ghost use Rattle.cml_book.specs.Entering.{max_tick};
 
 use crate::command::{Committed, Resume};
 use crate::fullness::{mailbox_len, nack_state, port_len};
+use crate::holding::NextObjects;
 use crate::lights::Arrival;
 use crate::nacks::make_room;
 use crate::refusal::{Fault, Refusal};
@@ -32,7 +34,7 @@ use crate::state::State;
 use crate::walk::MAX_TICK;
 use cml_channel::hands;
 use cml_scan::{Light, Lights, Meet, NackState, Table};
-use cml_value::{ChanId, Group, MboxId, NackId, PortId, SwapId, Tid};
+use cml_value::{ChanId, Group, MboxId, NackId, PortId, SwapId, Tid, Value};
 use std::alloc::{AllocError, Global};
 use std::marker::Model;
 
@@ -277,6 +279,19 @@ impl<T: Table> Book<T> {
         self.state.next_nack()
     }
 
+    /// The numbers that the next objects of each kind will have, if there is room for one.
+    pub fn next_objects(&self) -> NextObjects
+        ensures channel { result.channel.0 ≡ self.now.channels }
+        ensures swap { result.swap.0 ≡ self.now.swaps }
+        ensures ivar { result.ivar.0 ≡ length self.now.ivars }
+        ensures mvar { result.mvar.0 ≡ length self.now.mvars }
+        ensures mailbox { result.mailbox.0 ≡ length self.now.mailboxes }
+        ensures mchan { result.mchan.0 ≡ length self.now.mchans }
+        ensures port { result.port.0 ≡ length self.now.ports }
+    {
+        self.state.next_objects()
+    }
+
     /// Whether there is such a thread, and it runs.
     pub fn is_running(&self, thread: Tid) -> bool
         ensures { result ≡ is_running self.now thread.0 }
@@ -300,6 +315,14 @@ impl<T: Table> Book<T> {
         ensures { result ≡ light_of self.now light }
     {
         self.state.is_lit(light)
+    }
+
+    /// The value that the object of the light gives next: what the variable holds, or the first item of the mailbox or port. A thread, a tick
+    /// and a nack hold none.
+    pub fn value(&self, light: Light) -> Option<&Value>
+        ensures { option_copied result ≡ value_at self.now light }
+    {
+        self.state.value(light)
     }
 
     /// How many items the mailbox has, if there is such a one.

@@ -7,6 +7,7 @@ mod counted;
 mod entering;
 mod feeding;
 mod fullness;
+mod holding;
 pub mod law;
 mod lights;
 mod marks;
@@ -25,4 +26,5 @@ mod walk;
 
 pub use book::{Book, MAX_OBJECTS, MAX_THREADS};
 pub use command::{Command, Committed, Reply, Resume, Stopped};
+pub use holding::NextObjects;
 pub use refusal::{Fault, Refusal, Returned};

@@ -256,6 +256,16 @@ fn a_book_tells_who_waits_for_what(rt: HostRuntime) {
     drop(book);
 }
 
+// The object of the light gives the value that the text makes next.
+fn gives(rt: &(impl Abort + AllocGlobal), book: &Book<KeptRows>, light: Light, text: &str) {
+    let wanted = value(rt, text);
+    assert!(rt;
+        book.value(light).expect(rt, "a value").same(&wanted),
+        "{text}"
+    );
+    drop(wanted);
+}
+
 #[test]
 fn a_book_tells_what_variables_hold(rt: HostRuntime) {
     let mut book = book_of(&rt, 1);
@@ -264,16 +274,20 @@ fn a_book_tells_what_variables_hold(rt: HostRuntime) {
     let made = book.make_mvar(rt.alloc(), None);
     assert!(rt; made.expect(&rt, MEMORY) == mvar);
     assert!(rt; !book.is_lit(Light::IVar(ivar)) && !book.is_lit(Light::MVar(mvar)));
+    assert!(rt; book.value(Light::IVar(ivar)).is_none());
     let put = book.iput(rt.alloc(), ivar, value(&rt, "3"));
     assert!(rt; put.is_ok());
     assert!(rt; book.is_lit(Light::IVar(ivar)) && !book.is_lit(Light::MVar(mvar)));
     let put = book.mput(rt.alloc(), mvar, value(&rt, "4"));
     assert!(rt; put.is_ok());
     assert!(rt; book.is_lit(Light::MVar(mvar)) && !book.is_lit(Light::MVar(MVarId(1))));
+    gives(&rt, &book, Light::IVar(ivar), "3");
+    gives(&rt, &book, Light::MVar(mvar), "4");
     assert!(rt; wait(&rt, &mut book, 0, "(mtake 0)") == Ok(()));
     let committed = book.commit(rt.alloc(), FIRST).expect(&rt, MEMORY);
     goes_on(&rt, committed.head, 0, "4");
     assert!(rt; !book.is_lit(Light::MVar(mvar)) && book.is_lit(Light::IVar(ivar)));
+    assert!(rt; book.value(Light::MVar(mvar)).is_none());
     drop(book);
 }
 
@@ -287,19 +301,22 @@ fn a_book_counts_what_is_queued(rt: HostRuntime) {
         assert!(rt; book.mailbox_len(mailbox) == Some(count));
     }
     assert!(rt; book.is_lit(Light::Mbox(mailbox)));
+    assert!(rt; book.mail(rt.alloc(), mailbox, value(&rt, "9")).is_ok());
+    gives(&rt, &book, Light::Mbox(mailbox), "7");
     assert!(rt; book.mailbox_len(MboxId(1)).is_none() && book.port_len(PortId(0)).is_none());
     let channel = book.make_mchan(rt.alloc()).expect(&rt, MEMORY);
     assert!(rt; channel == McastId(0));
     let port = book.make_port(rt.alloc(), channel).expect(&rt, MEMORY);
-    assert!(rt; book.port_len(port) == Some(0));
+    assert!(rt; book.port_len(port) == Some(0) && book.value(Light::Port(port)).is_none());
     for count in 1..3 {
         assert!(rt; book.multicast(rt.alloc(), channel, value(&rt, "8")).is_ok());
         assert!(rt; book.port_len(port) == Some(count));
     }
+    gives(&rt, &book, Light::Port(port), "8");
     assert!(rt; wait(&rt, &mut book, 0, "(portrecv 0)") == Ok(()));
     let committed = book.commit(rt.alloc(), FIRST).expect(&rt, MEMORY);
     goes_on(&rt, committed.head, 0, "8");
-    assert!(rt; book.port_len(port) == Some(1) && book.mailbox_len(mailbox) == Some(3));
+    assert!(rt; book.port_len(port) == Some(1) && book.mailbox_len(mailbox) == Some(4));
     drop(book);
 }
 
@@ -320,5 +337,25 @@ fn a_book_tells_what_became_of_nacks(rt: HostRuntime) {
     assert!(rt; book.nack_state(NackId(0)) == Some(NackState::Held));
     assert!(rt; book.nack_state(NackId(1)) == Some(NackState::Fired));
     assert!(rt; !book.is_lit(Light::Nack(NackId(0))) && book.is_lit(Light::Nack(NackId(1))));
+    drop(book);
+}
+
+#[test]
+fn a_book_numbers_its_next_objects(rt: HostRuntime) {
+    let mut book = book_of(&rt, 1);
+    let next = book.next_objects();
+    assert!(rt; next.channel == ChanId(1) && next.swap == SwapId(0));
+    assert!(rt; book.make_swap() == Ok(next.swap));
+    assert!(rt; book.make_ivar() == Ok(next.ivar));
+    let made = book.make_mvar(rt.alloc(), None);
+    assert!(rt; made.expect(&rt, MEMORY) == next.mvar);
+    assert!(rt; book.make_mailbox(rt.alloc()) == Ok(next.mailbox));
+    let channel = book.make_mchan(rt.alloc()).expect(&rt, MEMORY);
+    assert!(rt; channel == next.mchan);
+    assert!(rt; book.make_port(rt.alloc(), channel) == Ok(next.port));
+    let next = book.next_objects();
+    assert!(rt; next.channel == ChanId(1) && next.swap == SwapId(1));
+    assert!(rt; next.ivar == IVarId(1) && next.mvar == MVarId(1) && next.mailbox == MboxId(1));
+    assert!(rt; next.mchan == McastId(1) && next.port == PortId(1));
     drop(book);
 }

@@ -1,6 +1,7 @@
 //! Mailboxes.
 
-ghost use Rattle.std.specs.Prelude.{◌≡◌, [], length};
+ghost use Rattle.std.specs.Prelude.{◌≡◌, [], length, slice_get};
+ghost use Rattle.std.specs.Option.{option_copied};
 ghost use Rattle.cml_queues.specs.Queues.{is_at_limit};
 
 use crate::queue::Queue;
@@ -40,6 +41,13 @@ impl Mailbox {
         ensures { result ≡ length self.now.items }
     {
         self.queue.len()
+    }
+
+    /// The first item, which is the next to be taken, if there is one.
+    pub fn first(&self) -> Option<&Value>
+        ensures { option_copied result ≡ slice_get self.now.items 0 }
+    {
+        self.queue.first()
     }
 
     /// Whether it takes no more items.

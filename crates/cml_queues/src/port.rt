@@ -1,6 +1,7 @@
 //! Ports of multicast channels.
 
-ghost use Rattle.std.specs.Prelude.{◌≡◌, [], length, IfOk};
+ghost use Rattle.std.specs.Prelude.{◌≡◌, [], length, slice_get, IfOk};
+ghost use Rattle.std.specs.Option.{option_copied};
 ghost use Rattle.cml_queues.specs.Queues.{is_at_limit};
 
 use crate::queue::Queue;
@@ -40,6 +41,13 @@ impl Port {
         ensures { result ≡ length self.now.items }
     {
         self.queue.len()
+    }
+
+    /// The first unread message, which is the next to be taken, if there is one.
+    pub fn first(&self) -> Option<&Value>
+        ensures { option_copied result ≡ slice_get self.now.items 0 }
+    {
+        self.queue.first()
     }
 
     /// Whether it takes no more messages.

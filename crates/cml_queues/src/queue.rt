@@ -1,6 +1,7 @@
 //! Values in the order in which they came.
 
-ghost use Rattle.std.specs.Prelude.{◌≡◌, ◌<◌, ◌≤◌, [], drop, length, IsTrue, IfOk, OnOk, OnErr};
+ghost use Rattle.std.specs.Prelude.{◌≡◌, ◌<◌, ◌≤◌, [], drop, length, slice_get, IsTrue, IfOk, OnOk, OnErr};
+ghost use Rattle.std.specs.Option.{option_copied};
 ghost use Rattle.cml_base.specs.Feeds.{Feeds, WantsNoMemory};
 ghost use Rattle.cml_queues.specs.Queues.{is_filled, is_at_limit, first_item, queued};
 
@@ -46,6 +47,13 @@ impl Queue {
         ensures { result ≡ length self.now.items }
     {
         self.items.len()
+    }
+
+    // The first item, if there is one.
+    pub(crate) fn first(&self) -> Option<&Value>
+        ensures { option_copied result ≡ slice_get self.now.items 0 }
+    {
+        self.items.front()
     }
 
     // Whether there is an item.

@@ -1,6 +1,7 @@
 //! A variable that is written once.
 
 ghost use Rattle.std.specs.Prelude.{◌≡◌, None};
+ghost use Rattle.std.specs.Option.{option_copied};
 
 use cml_base::{FeedFault, Source};
 use cml_value::Value;
@@ -32,6 +33,16 @@ impl IVar {
         ensures { result ≡ None }
     {
         IVar { held: None }
+    }
+
+    /// The value, if it was written.
+    pub fn value(&self) -> Option<&Value>
+        ensures { option_copied result ≡ self.now }
+    {
+        match &self.held {
+            Some(value) => Some(value),
+            None => None,
+        }
     }
 }
 

@@ -1,6 +1,7 @@
 //! A variable that can be emptied and written again.
 
 ghost use Rattle.std.specs.Prelude.{◌≡◌};
+ghost use Rattle.std.specs.Option.{option_copied};
 
 use cml_base::{FeedFault, Source};
 use cml_value::Value;
@@ -44,6 +45,16 @@ impl MVar {
         ensures { result ≡ held }
     {
         MVar { held }
+    }
+
+    /// The value, if there is one.
+    pub fn value(&self) -> Option<&Value>
+        ensures { option_copied result ≡ self.now }
+    {
+        match &self.held {
+            Some(value) => Some(value),
+            None => None,
+        }
     }
 }
 
