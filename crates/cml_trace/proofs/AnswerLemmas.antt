@@ -1,21 +1,19 @@
 -- How the answers to lines put together the answer to a trace.
-use Rattle.std.proofs.Common.{◌≡◌, ℕ, ◌+◌, ◌⊎◌, List, [], ◌∷◌, ◌++◌, Option, Some, None, length, refl, sym, subst, inl, inr, append_assoc, arith}
+use Rattle.std.proofs.Common.{◌≡◌, ℕ, ◌+◌, ◌⊎◌, List, [], ◌∷◌, ◌++◌, Option, Some, None, refl, inl, inr}
 use Rattle.std.specs.List.{flat_map}
 use Rattle.cml_scan.specs.World.{PlainWorld}
 use Rattle.cml_book.specs.declared.command.Command.{Command}
-use Rattle.cml_book.specs.Step.{step, replies_of, world_after}
+use Rattle.cml_book.specs.Step.{replies_of}
 use Rattle.cml_text.specs.Forms.{PlainSexpr}
 use Rattle.cml_text.specs.Faults.{PlainFault}
 use Rattle.cml_text.specs.Texts.{Spells, fault_of}
 use Rattle.cml_text.specs.Laws.{SpelledOrFaulty}
 use Rattle.cml_trace.specs.declared.order.Order.{Order}
-use Rattle.cml_trace.specs.declared.order.Order.TheVariants as order
 use Rattle.cml_trace.specs.declared.fault.TraceEnd.{TraceEnd}
 use Rattle.cml_trace.specs.declared.fault.TraceEnd.TheVariants.{Done, Bad}
 use Rattle.cml_trace.specs.Orders.{AsksFor, IsBad, order_of}
 use Rattle.cml_trace.specs.Replies.{reply_text}
 use Rattle.cml_trace.specs.Answers.{answer_to, after_order, bad_line, Answers}
-use Rattle.cml_trace.specs.Batches.{AskFor}
 
 -- what a line asks for, or that it is bad
 asked_or_bad : (first : List ℕ) (forms : List PlainSexpr) → Spells first forms → (o : Option Order) → order_of forms ≡ o → ((what : Order) × AsksFor first what) ⊎ IsBad first
@@ -46,28 +44,3 @@ has_answer law n w (first ∷ behind) = has_answer_of n w first behind (λ m v. 
 -- what these commands are answered
 abbrev pub replies_text : List Command → PlainWorld → List ℕ
 replies_text cs w = flat_map reply_text (replies_of cs w)
-
--- the first line asks for a command
-answers_more : (n : ℕ) (w : PlainWorld) (first : List ℕ) (behind : List (List ℕ)) (c : Command) (cs : List Command) (rest : List ℕ) (end : TraceEnd) →
-    AsksFor first (order.Do c) → Answers (n + 1) (step w c).0 behind (replies_text cs (step w c).0 ++ rest) end →
-    Answers n w (first ∷ behind) (replies_text (c ∷ cs) w ++ rest) end
-answers_more n w first behind c cs rest end asks h =
-    inl (order.Do c, replies_text cs (step w c).0 ++ rest, asks, append_assoc (reply_text (step w c).1) (replies_text cs (step w c).0) rest, h)
-
--- The lines of a batch are answered by the replies to its commands, and what follows by what answers that.
-pub answers_batch : (n : ℕ) (w : PlainWorld) (done : List (List ℕ)) (cs : List Command) → AskFor done cs → (behind : List (List ℕ)) (rest : List ℕ) (end : TraceEnd) →
-    Answers (n + length done) (world_after cs w) behind rest end → Answers n w (done ++ behind) (replies_text cs w ++ rest) end
-answers_batch n w [] [] asked behind rest end h =
-    let same : n + 0 ≡ n = omega arith in subst (λ (k : ℕ). Answers k w behind rest end) same h
-answers_batch n w [] (c ∷ cs) asked behind rest end h = absurd (cc)
-answers_batch n w (first ∷ done) cs (inl a) behind rest end h =
-    let same : n + length (first ∷ done) ≡ (n + 1) + length done = omega arith in
-    let next = answers_batch (n + 1) w done cs a.1 behind rest end (subst (λ (k : ℕ). Answers k (world_after cs w) behind rest end) same h) in
-    inl (order.Skip, replies_text cs w ++ rest, a.0, refl, next)
-answers_batch n w (first ∷ done) cs (inr a) behind rest end h =
-    let same : n + length (first ∷ done) ≡ (n + 1) + length done = omega arith in
-    let there : Answers ((n + 1) + length done) (world_after (a.0 ∷ a.1) w) behind rest end =
-    subst (λ (xs : List Command). Answers ((n + 1) + length done) (world_after xs w) behind rest end) a.3 (subst (λ (k : ℕ). Answers k (world_after cs w) behind rest end) same h) in
-    let next = answers_batch (n + 1) (step w a.0).0 done a.1 a.4 behind rest end there in
-    subst (λ (xs : List Command). Answers n w (first ∷ (done ++ behind)) (replies_text xs w ++ rest) end) (sym a.3)
-    (answers_more n w first (done ++ behind) a.0 a.1 rest end a.2 next)

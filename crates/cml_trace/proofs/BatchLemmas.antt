@@ -50,8 +50,9 @@ module _ (old now new : TraceLines) (cs : List Command) (first : List ℕ) (g : 
   pub Gathers-bad : IsBad first → (n : ℕ) → n ≡ now.number → Gathers old new cs (Bad n)
   Gathers-bad bad n is = record { done = g.done; others = now.left; split = g.split; asked = g.asked; stops = (first, new.left, bad, line, is ∙ g.counted) }
 
-pub Gathers-end : (old now new : TraceLines) (cs : List Command) → Gathering old now cs → now.left ≡ [] → Gathers old new cs End
-Gathers-end old now new cs g none = record { done = g.done; others = now.left; split = g.split; asked = g.asked; stops = none }
+pub Gathers-end : (old now new : TraceLines) (cs : List Command) → Gathering old now cs → now.left ≡ [] → new ≡ now → Gathers old new cs End
+Gathers-end old now new cs g none same =
+    record { done = g.done; others = now.left; split = g.split; asked = g.asked; stops = (none, ap (λ (ls : TraceLines). ls.number) same ∙ g.counted) }
 
 pub Gathers-memory : (old now new : TraceLines) (cs : List Command) → Gathering old now cs → Gathers old new cs Memory
 Gathers-memory old now new cs g = record { done = g.done; others = now.left; split = g.split; asked = g.asked; stops = tt }

@@ -2,7 +2,9 @@ mod GivenLemmas
 mod BatchLemmas
 mod PageLemmas
 mod AnswerLemmas
+mod DoneLemmas
 mod EngineLemmas
+mod LiveLemmas
 mod FormLemmas
 mod LineLemmas
 mod OneAnswerLemmas

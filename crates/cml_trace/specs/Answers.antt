@@ -40,6 +40,12 @@ Answers n w (first ∷ behind) text end =
     × Answers (n + 1) (after_order what w) behind rest end)
     ⊎ (IsBad first × (text ≡ bad_line n) × (end ≡ Bad n))
 
+-- These lines are answered by this text from this world on, none of them is bad, and they lead to that world.
+abbrev pub AreDone : PlainWorld → List (List ℕ) → List ℕ → PlainWorld → Type 0
+AreDone w [] text v = (text ≡ []) × (v ≡ w)
+AreDone w (first ∷ behind) text v =
+    (what : Order) × (rest : List ℕ) × AsksFor first what × (text ≡ answer_to what w ++ rest) × AreDone (after_order what w) behind rest v
+
 -- the most bytes of a trace
 abbrev pub max_input : ℕ
 max_input = 1048576

@@ -19,7 +19,7 @@ AskFor (first ∷ behind) cs =
 abbrev pub StopsAt : Stop → TraceLines → TraceLines → Type 0
 StopsAt Rows here left = (first : List ℕ) × AsksFor first order.Rows × (here.left ≡ first ∷ left.left) × (left.number ≡ here.number + 1)
 StopsAt (Bad n) here left = (first : List ℕ) × (behind : List (List ℕ)) × IsBad first × (here.left ≡ first ∷ behind) × (n ≡ here.number)
-StopsAt End here left = here.left ≡ []
+StopsAt End here left = (here.left ≡ []) × (left.number ≡ here.number)
 StopsAt Memory here left = Unit {0}
 
 -- The commands of the first of these lines, up to where it stops.

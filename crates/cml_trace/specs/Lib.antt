@@ -10,4 +10,5 @@ pub mod Batches
 pub mod Pages
 pub mod Runs
 pub mod Faults
+pub mod Live
 pub mod Laws

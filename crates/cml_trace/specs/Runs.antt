@@ -1,38 +1,41 @@
 -- What a run of the engine did: which bytes came, and which text was written.
-use Rattle.std.specs.Prelude.{◌⊎◌, ℕ, ◌<◌, List, length}
+use Rattle.std.specs.Prelude.{◌≡◌, ◌⊎◌, ℕ, ◌<◌, List, length}
 use Rattle.cml_scan.specs.World.{PlainWorld}
 use Rattle.cml_trace.specs.declared.fault.TraceEnd.{TraceEnd}
 use Rattle.cml_trace.specs.declared.fault.TraceFault.{TraceFault}
 use Rattle.cml_trace.specs.declared.fault.TraceFault.TheVariants.{Read, Turns, Write, Memory}
 use Rattle.cml_stream.specs.Streams.{Stream, Supplies, IsSpent, Takes, TakesStart, IsUntouched}
-use Rattle.cml_book.specs.Step.{empty_world}
+use Rattle.cml_trace.specs.declared.fault.TraceEnd.TheVariants.{Done}
 use Rattle.cml_trace.specs.Pages.{Tells, TellsStart}
-use Rattle.cml_trace.specs.Answers.{Answers, max_input, AnswersTrace}
+use Rattle.cml_trace.specs.Lines.{TraceLines}
+use Rattle.cml_trace.specs.Answers.{Answers, AreDone, max_input, AnswersTrace}
 
--- the lines were answered in this world, and the text that answers them was told after what waited
-pub record AreAnswered (w : PlainWorld) (all : List (List ℕ)) (waited waits : List ℕ) (output : Stream) (end : TraceEnd) : Type 0 where
+-- The lines were answered in this world, to that world where none of them is bad, and the text that answers them was told after what waited.
+pub record AreAnswered (all : TraceLines) (w v : PlainWorld) (waited waits : List ℕ) (output : Stream) (end : TraceEnd) : Type 0 where
   pub text : List ℕ
-  pub answered : Answers 1 w all text end
+  pub answered : Answers all.number w all.left text end
+  pub leads : end ≡ Done → AreDone w all.left text v
   pub told : Tells waited waits output text
 
 -- a prefix of the text that answers the lines was told
-pub record AreBegun (w : PlainWorld) (all : List (List ℕ)) (waited waits : List ℕ) (output : Stream) : Type 0 where
+pub record AreBegun (all : TraceLines) (w : PlainWorld) (waited waits : List ℕ) (output : Stream) : Type 0 where
   pub text : List ℕ
   pub end : TraceEnd
-  pub answered : Answers 1 w all text end
+  pub answered : Answers all.number w all.left text end
   pub told : TellsStart waited waits output text
 
--- the lines were answered, from the empty world on, and the text that answers them was written
-pub record AreWritten (all : List (List ℕ)) (output : Stream) (end : TraceEnd) : Type 0 where
+-- The lines were answered in this world, to that world where none of them is bad, and the text that answers them was written.
+pub record AreWritten (all : TraceLines) (w v : PlainWorld) (output : Stream) (end : TraceEnd) : Type 0 where
   pub text : List ℕ
-  pub answered : Answers 1 empty_world all text end
+  pub answered : Answers all.number w all.left text end
+  pub leads : end ≡ Done → AreDone w all.left text v
   pub written : Takes output text
 
 -- a prefix of the text that answers the lines was written
-pub record AreWrittenTo (all : List (List ℕ)) (output : Stream) : Type 0 where
+pub record AreWrittenTo (all : TraceLines) (w : PlainWorld) (output : Stream) : Type 0 where
   pub text : List ℕ
   pub end : TraceEnd
-  pub answered : Answers 1 empty_world all text end
+  pub answered : Answers all.number w all.left text end
   pub written : TakesStart output text
 
 -- the bytes came from the input, and they are all that it had, or more than a trace can have

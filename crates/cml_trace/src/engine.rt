@@ -1,12 +1,14 @@
 //! The engine that answers a trace.
 
-ghost use Rattle.std.specs.Prelude.{◌≡◌, ◌≤◌, [], length, Ok, IfOk, IfErr, OnErr, OnOk};
+ghost use Rattle.std.specs.Prelude.{◌≡◌, ◌≤◌, ◌+◌, [], length, Ok, IfOk, IfErr, OnErr, OnOk};
 ghost use Rattle.std.specs.List.{flat_map};
 ghost use Rattle.cml_scan.specs.Scan.{scan};
-ghost use Rattle.cml_book.specs.Step.{replies_of, world_after};
+ghost use Rattle.cml_scan.specs.World.{PlainWorld};
+ghost use Rattle.cml_book.specs.Step.{replies_of, world_after, empty_world};
 ghost use Rattle.cml_trace.specs.Answers.{trace_lines, max_input};
 ghost use Rattle.cml_stream.specs.Counts.{Calls, most_reads};
 ghost use Rattle.cml_trace.specs.Faults.{HasCause, IsWriteFailure};
+ghost use Rattle.cml_trace.specs.Lines.{TraceLines};
 ghost use Rattle.cml_trace.specs.Pages.{Tells, TellsStart};
 ghost use Rattle.cml_trace.specs.Replies.{reply_text, rows_text};
 ghost use Rattle.cml_stream.specs.Streams.{stream, Takes, TakesStart};
@@ -97,17 +99,39 @@ fn answer<T: Table + Drop, W: Write>(
     requires nothing_told { T.entries table ≡ [] }
     requires short { length input.now ≤ max_input }
     requires fresh { writer.old.failed ≡ 0 }
-    ensures ok { let output = stream (W.contents writer.old.stream.now) (W.contents writer.new.stream.now) in
-        IfOk result (AreWritten (trace_lines input.now) output) }
-    ensures err { let output = stream (W.contents writer.old.stream.now) (W.contents writer.new.stream.now) in
-        OnErr result (AreWrittenTo (trace_lines input.now) output) }
+    ensures ok { let all : TraceLines = record { number = 1; left = trace_lines input.now } in
+        let output = stream (W.contents writer.old.stream.now) (W.contents writer.new.stream.now) in
+        IfOk result (λ end. (v : PlainWorld) × AreWritten all empty_world v output end) }
+    ensures err { let all : TraceLines = record { number = 1; left = trace_lines input.now } in
+        let output = stream (W.contents writer.old.stream.now) (W.contents writer.new.stream.now) in
+        OnErr result (AreWrittenTo all empty_world output) }
     ensures same_reference { writer.new.stream.ghost_name ≡ writer.old.stream.ghost_name }
     ensures failed { IsWriteFailure result writer.new.failed }
 {
     let mut book = Book::new(alloc, table);
-    let mut page = Page::new(alloc);
-    let end = answer_lines(alloc, &mut book, input, &mut page, writer);
+    let result = write_answer(alloc, &mut book, &mut Lines::new(1, input), writer);
     drop(book);
+    result
+}
+
+/// Answers these lines in the world of the book, and writes the text that answers them.
+pub fn write_answer<T: Table, W: Write>(
+    alloc: Global,
+    book: &mut Book<T>,
+    lines: &mut Lines<'_>,
+    writer: &mut Counting<'_, W>,
+) -> Result<TraceEnd, TraceFault>
+    requires { writer.old.failed ≡ 0 }
+    ensures ok { let output = stream (W.contents writer.old.stream.now) (W.contents writer.new.stream.now) in
+        IfOk result (AreWritten lines.old book.old book.new output) }
+    ensures counted { IfOk result (λ end. end ≡ TraceEnd.Done → lines.new.number ≡ lines.old.number + length lines.old.left) }
+    ensures err { let output = stream (W.contents writer.old.stream.now) (W.contents writer.new.stream.now) in
+        OnErr result (AreWrittenTo lines.old book.old output) }
+    ensures same_reference { writer.new.stream.ghost_name ≡ writer.old.stream.ghost_name }
+    ensures failed { IsWriteFailure result writer.new.failed }
+{
+    let mut page = Page::new(alloc);
+    let end = answer_lines(alloc, book, lines, &mut page, writer);
     finish(end, page, writer)
 }
 
@@ -135,27 +159,26 @@ fn finish<W: Write>(
     }
 }
 
-// Answers all lines, of which none was answered before.
+// Answers all lines.
 fn answer_lines<T: Table, W: Write>(
     alloc: Global,
     book: &mut Book<T>,
-    input: &[u8],
+    lines: &mut Lines<'_>,
     page: &mut Page,
     writer: &mut Counting<'_, W>,
 ) -> Result<TraceEnd, TraceFault>
-    requires short { length input.now ≤ max_input }
-    requires fresh { writer.old.failed ≡ 0 }
+    requires { writer.old.failed ≡ 0 }
     ensures ok { let output = stream (W.contents writer.old.stream.now) (W.contents writer.new.stream.now) in
-        IfOk result (AreAnswered book.old (trace_lines input.now) page.old page.new output) }
+        IfOk result (AreAnswered lines.old book.old book.new page.old page.new output) }
+    ensures counted { IfOk result (λ end. end ≡ TraceEnd.Done → lines.new.number ≡ lines.old.number + length lines.old.left) }
     ensures err { let output = stream (W.contents writer.old.stream.now) (W.contents writer.new.stream.now) in
-        OnErr result (AreBegun book.old (trace_lines input.now) page.old page.new output) }
+        OnErr result (AreBegun lines.old book.old page.old page.new output) }
     ensures same_reference { writer.new.stream.ghost_name ≡ writer.old.stream.ghost_name }
     ensures failed { IsWriteFailure result writer.new.failed }
 {
     spelled_or_faulty();
-    let mut lines = Lines::new(input);
     loop {
-        let Batch { commands, stop } = gather(alloc, &mut lines);
+        let Batch { commands, stop } = gather(alloc, lines);
         do_commands(alloc, book, commands, page, writer)?;
         match stop {
             Stop::Rows => do_rows(alloc, book, page, writer)?,

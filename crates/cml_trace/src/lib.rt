@@ -9,9 +9,11 @@ mod group;
 mod keyword;
 pub mod law;
 mod line;
+mod live;
 mod order;
 mod page;
 mod reply;
 
 pub use engine::{run_trace, run_trace_over};
 pub use fault::{TraceEnd, TraceFault};
+pub use live::{Begun, MAX_TURNS, Turn, run_live, take_turn};

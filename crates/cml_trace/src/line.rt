@@ -1,8 +1,8 @@
 //! The lines of a trace, and what each asks for.
 
-ghost use Rattle.std.specs.Prelude.{◌≡◌, ◌∷◌, [], ◌+◌, ◌≤◌, length, MatchOption, IfOk, IfSome, IfNone};
-ghost use Rattle.cml_trace.specs.Answers.{trace_lines, max_input};
-ghost use Rattle.cml_trace.specs.Lines.{lines_behind, room_of};
+ghost use Rattle.std.specs.Prelude.{◌≡◌, ◌∷◌, [], ◌++◌, ◌+◌, ◌-◌, ◌^◌, ◌<◌, ◌≤◌, length, MatchOption, IfOk, IfSome, IfNone};
+ghost use Rattle.cml_trace.specs.Answers.{trace_lines};
+ghost use Rattle.cml_trace.specs.Lines.{HasNoFeed, lines_behind, room_of};
 ghost use Rattle.cml_trace.specs.Orders.{AsksFor, IsBad};
 
 use crate::order::{Order, order_of};
@@ -18,27 +18,33 @@ pub struct Lines<'a> {
 }
 
 impl<'a> Model for Lines<'a> {
-    ghost use Rattle.std.specs.Prelude.{◌+◌, ◌≤◌};
-    ghost use Rattle.cml_trace.specs.Answers.{max_input};
+    ghost use Rattle.std.specs.Prelude.{◌+◌, ◌^◌, ◌<◌};
     ghost use Rattle.cml_trace.specs.Lines.{TraceLines, lines_behind, room_of};
 
     ghost Value = { TraceLines };
 
     ghost view = { λ l. record { number = l.number; left = lines_behind l.rest } };
 
-    ghost invariant = { λ l. l.number + room_of l.rest ≤ max_input + 2 };
+    ghost invariant = { λ l. l.number + room_of l.rest < 2 ^ 64 };
 }
 
 impl<'a> Lines<'a> {
-    /// All lines of the input, from number 1.
-    pub fn new(input: &'a [u8]) -> Lines<'a>
-        requires { length input.now ≤ max_input }
-        ensures { result ≡ record { number = 1; left = trace_lines input.now } }
+    /// All lines of the text, from this number on.
+    pub fn new(number: u64, text: &'a [u8]) -> Lines<'a>
+        requires { number + length text.now < 2 ^ 64 - 1 }
+        ensures { result ≡ record { number = number; left = trace_lines text.now } }
     {
         Lines {
-            number: 1,
-            rest: Some(input),
+            number,
+            rest: Some(text),
         }
+    }
+
+    /// The number of the next line.
+    pub fn number(&self) -> u64
+        ensures { result ≡ self.now.number }
+    {
+        self.number
     }
 
     /// The next line with its number, where one is left.
@@ -79,4 +85,20 @@ fn cut(input: &[u8]) -> (&[u8], Option<&[u8]>)
         }
     }
     (input, None)
+}
+
+/// What stands before the last line feed, and what stands after it; `None` where there is none.
+pub fn cut_last(input: &[u8]) -> Option<(&[u8], &[u8])>
+    ensures cut { IfSome result (λ parts. input.now ≡ parts.0.now ++ 10 ∷ parts.1.now) }
+    ensures last { IfSome result (λ parts. HasNoFeed parts.1.now) }
+    ensures none { IfNone result (HasNoFeed input.now) }
+{
+    let mut last = None;
+    for (at, byte) in input.iter().enumerate() {
+        if *byte == b'\n' {
+            last = Some(at);
+        }
+    }
+    let at = last?;
+    Some((&input[..at], &input[at + 1..]))
 }

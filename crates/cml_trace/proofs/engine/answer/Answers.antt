@@ -1,23 +1,14 @@
-use Rattle.std.proofs.Common.{[], IfOk, OnErr}
+use Rattle.std.proofs.Common.{IfOk}
 use Rattle.cml_book.specs.Step.{empty_world}
-use Rattle.cml_trace.specs.Answers.{trace_lines}
-use Rattle.cml_trace.specs.Runs.{AreAnswered, AreBegun}
+use Rattle.cml_trace.specs.Lines.{lines_from}
+use Rattle.cml_trace.specs.Runs.{AreWritten}
 use Rattle.cml_stream.specs.Streams.{stream}
-use Rattle.cml_trace.proofs.EngineLemmas.{finish_ok, finish_err}
+use Rattle.cml_trace.proofs.EngineLemmas.{some_world}
 use Rattle.cml_trace.proofs.engine.answer.Goals as goal
 
 pub returns-clause-ok : goal.returns-clause-ok
 returns-clause-ok g c =
-    let output = stream (g.W.Write.contents c.args.writer.now.stream.now) (g.W.Write.contents c.answer_lines-end.new.writer.stream.now) in
-    let answered : IfOk c.answer_lines-end.result (AreAnswered empty_world (trace_lines c.args.input.now) [] c.answer_lines-end.new.page output) =
-    rw (c.new-book.ensures, c.new-page.ensures) at c.answer_lines-end.ensures.ok in
-    finish_ok (trace_lines c.args.input.now) c.answer_lines-end.new.page _ _ _ c.answer_lines-end.result c.finish.result answered c.finish.ensures.ok c.finish.ensures.end
-
-pub returns-clause-err : goal.returns-clause-err
-returns-clause-err g c =
-    let output = stream (g.W.Write.contents c.args.writer.now.stream.now) (g.W.Write.contents c.answer_lines-end.new.writer.stream.now) in
-    let answered : IfOk c.answer_lines-end.result (AreAnswered empty_world (trace_lines c.args.input.now) [] c.answer_lines-end.new.page output) =
-    rw (c.new-book.ensures, c.new-page.ensures) at c.answer_lines-end.ensures.ok in
-    let begun : OnErr c.answer_lines-end.result (AreBegun empty_world (trace_lines c.args.input.now) [] c.answer_lines-end.new.page output) =
-    rw (c.new-book.ensures, c.new-page.ensures) at c.answer_lines-end.ensures.err in
-    finish_err (trace_lines c.args.input.now) c.answer_lines-end.new.page _ _ _ c.answer_lines-end.result c.finish.result answered begun c.finish.ensures.err
+    let output = stream (g.W.Write.contents c.args.writer.now.stream.now) (g.W.Write.contents c.write_answer-result.new.writer.stream.now) in
+    let written : IfOk c.write_answer-result.result (AreWritten (lines_from 1 c.args.input.now) empty_world c.write_answer-result.new.book output) =
+    rw (c.new-book.ensures, c.new.ensures) at c.write_answer-result.ensures.ok in
+    some_world c.write_answer-result.result (lines_from 1 c.args.input.now) empty_world c.write_answer-result.new.book output written

@@ -1,4 +1,4 @@
-use Rattle.std.proofs.Common.{◌∙◌}
+use Rattle.std.proofs.Common.{◌∙◌, refl}
 use Rattle.cml_scan.specs.Scan.{scan}
 use Rattle.cml_book.specs.Step.{world_after}
 use Rattle.cml_trace.specs.declared.batch.Stop.TheVariants as stop
@@ -6,8 +6,11 @@ use Rattle.cml_trace.specs.Batches.{Gathers}
 use Rattle.cml_trace.specs.Pages.{Tells, TellsStart}
 use Rattle.cml_trace.specs.Replies.{rows_text}
 use Rattle.cml_stream.specs.Streams.{stream}
-use Rattle.cml_trace.proofs.EngineLemmas.{on_err, Standing-batch, Standing-rows, answered_bad, answered_end, begun_batch, begun_rows, begun_bad, begun_here}
+use Rattle.cml_trace.proofs.EngineLemmas.{on_err, Standing-start, Standing-batch, Standing-rows, answered_bad, answered_end, counted_end, begun_batch, begun_rows, begun_bad, begun_here}
 use Rattle.cml_trace.proofs.engine.answer_lines.Goals as goal
+
+pub loop-book-init : goal.loop-book-init
+loop-book-init g c = (Standing-start c.args.book.now c.args.lines.now c.args.page.now (g.W.Write.contents c.args.writer.now.stream.now), refl, c.requires)
 
 pub returns-in_err-do_commands-clause-err : goal.returns-in_err-do_commands-clause-err
 returns-in_err-do_commands-clause-err g c =
@@ -49,14 +52,21 @@ returns-in-Bad-clause-ok g c =
     let commands = c.gather-commands.result.commands.items in
     let gathered : Gathers c.loop-book.lines c.gather-commands.new.lines commands (stop.Bad c.in-Bad.number) = rw c.in-Bad.is at c.gather-commands.ensures in
     let here = Standing-batch _ _ _ _ _ _ _ _ _ _ _ _ _ c.loop-book.invariant.0 gathered c.in_ok-do_commands.ensures.ok in
-    answered_bad _ _ _ c.gather-commands.new.lines _ _ _ _ _ _ _ c.in-Bad.number here gathered.stops c.in_ok-tell_bad-in-Bad.ensures.ok
+    answered_bad _ _ _ _ c.gather-commands.new.lines _ _ _ _ _ _ _ c.in-Bad.number here gathered.stops c.in_ok-tell_bad-in-Bad.ensures.ok
 
 pub returns-in-End-clause-ok : goal.returns-in-End-clause-ok
 returns-in-End-clause-ok g c =
     let commands = c.gather-commands.result.commands.items in
     let gathered : Gathers c.loop-book.lines c.gather-commands.new.lines commands stop.End = rw c.in-End.is at c.gather-commands.ensures in
     let here = Standing-batch _ _ _ _ _ _ _ _ _ _ _ _ _ c.loop-book.invariant.0 gathered c.in_ok-do_commands.ensures.ok in
-    answered_end _ _ _ c.gather-commands.new.lines _ _ _ _ _ here gathered.stops
+    rw c.in_ok-do_commands.ensures.world (answered_end _ _ _ c.gather-commands.new.lines _ _ _ _ _ here gathered.stops)
+
+pub returns-in-End-clause-counted : goal.returns-in-End-clause-counted
+returns-in-End-clause-counted g c =
+    let commands = c.gather-commands.result.commands.items in
+    let gathered : Gathers c.loop-book.lines c.gather-commands.new.lines commands stop.End = rw c.in-End.is at c.gather-commands.ensures in
+    let here = Standing-batch _ _ _ _ _ _ _ _ _ _ _ _ _ c.loop-book.invariant.0 gathered c.in_ok-do_commands.ensures.ok in
+    λ done. counted_end _ _ _ c.gather-commands.new.lines _ _ _ _ _ here gathered.stops
 
 pub returns-in-Memory-clause-err : goal.returns-in-Memory-clause-err
 returns-in-Memory-clause-err g c =
