@@ -1,7 +1,8 @@
-use Rattle.std.proofs.Common.{inr, option_map, refl}
+use Rattle.std.proofs.Common.{◌⊎◌, List, ℕ, [], inr, option_map, refl, subst}
 use Rattle.cml_stream.specs.Streams.{counted_stream}
 use Rattle.cml_host.specs.Closed.{plain_asked, plain_closing}
 use Rattle.cml_host.specs.Stores.{Shelf}
+use Rattle.cml_host.specs.Told.{MemoryBroke, OutputBroke}
 use Rattle.cml_host.proofs.RanLemmas.{closed_ran, not_ended_ran}
 use Rattle.cml_host.proofs.run.end.Goals as goal
 
@@ -18,7 +19,14 @@ returns-in-Ok-tell_and_save-clause-ran g c =
     c.in-Ok.ensures c.in-Ok-tell_and_save.ensures.ended c.say_end.ensures.said c.say_end.ensures.status
 
 pub returns-in_default-clause-ran : goal.returns-in_default-clause-ran
-returns-in_default-clause-ran g c = inr (c.cut_output.ensures.told, λ name. refl)
+returns-in_default-clause-ran g c =
+    let output = counted_stream (g.O.Write.contents c.args.out.now.stream.now) (g.O.Write.contents c.cut_output.new.out.stream.now) c.cut_output.new.out.calls c.cut_output.new.out.failed in
+    let errors = counted_stream (g.E.Write.contents c.args.err.now.stream.now) (g.E.Write.contents c.cut_output.new.err.stream.now) c.cut_output.new.err.calls c.cut_output.new.err.failed in
+    inr (
+      subst (λ (ts : List ℕ). MemoryBroke [] ts output errors c.cut_output.result ⊎ OutputBroke [] ts output errors c.cut_output.result) c.out.ensures
+          c.cut_output.ensures.told,
+      λ name. refl,
+    )
 
 pub returns-clause-ran : goal.returns-clause-ran
 returns-clause-ran g c =
