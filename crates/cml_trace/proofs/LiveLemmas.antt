@@ -15,7 +15,7 @@ use Rattle.cml_trace.specs.Answers.{answer_to, after_order, trace_lines, Answers
 use Rattle.cml_trace.specs.Laws.{LiveAnswersAsTrace}
 use Rattle.cml_trace.specs.Faults.{IsWriteFailure}
 use Rattle.cml_trace.specs.Lines.{TraceLines, HasNoFeed, lines_from}
-use Rattle.cml_trace.specs.Live.{PlainBegun, GoesOn, AnswersStart, Ends, IsCut, IsTurnBroken, HasAnswered, IsHeardOut, IsCutOff, IsStopped}
+use Rattle.cml_trace.specs.Live.{PlainBegun, TurnGoesOn, AnswersStart, Ends, TurnIsCut, IsTurnBroken, HasAnswered, IsHeardOut, LiveIsCut, LiveIsStopped}
 use Rattle.cml_trace.specs.Runs.{AreWritten, AreWrittenTo}
 use Rattle.cml_trace.proofs.AnswerLemmas.{has_answer}
 use Rattle.cml_trace.proofs.DoneLemmas.{done_answers, done_leads, done_both, bad_whatever}
@@ -71,7 +71,7 @@ pub lines_are : (all : TraceLines) (n m : ℕ) (bs cs : List ℕ) → all ≡ re
 lines_are all n m bs cs e number text = e ∙ ap (λ k. lines_from k bs) number ∙ ap (λ xs. lines_from m xs) text
 
 -- nothing was written yet
-pub cut_nothing : SpelledOrFaulty → (old : PlainBegun) (w : PlainWorld) (input : Stream) (given : List ℕ) (held : Option (List ℕ)) → Supplies input given → IsCut old w input (stream held held)
+pub cut_nothing : SpelledOrFaulty → (old : PlainBegun) (w : PlainWorld) (input : Stream) (given : List ℕ) (held : Option (List ℕ)) → Supplies input given → TurnIsCut old w input (stream held held)
 cut_nothing law old w input given held came = record {
   given = given;
   came = came;
@@ -81,7 +81,7 @@ cut_nothing law old w input given held came = record {
 
 -- a prefix of what answers the lines that ended was written
 pub cut_writing : SpelledOrFaulty → (old : PlainBegun) (w : PlainWorld) (input output : Stream) (given front rest : List ℕ) → Supplies input given → given ≡ front ++ 10 ∷ rest →
-    AreWrittenTo (lines_from old.number (old.bytes ++ front)) w output → IsCut old w input output
+    AreWrittenTo (lines_from old.number (old.bytes ++ front)) w output → TurnIsCut old w input output
 cut_writing law old w input output given front rest came is a = record {
   given = given;
   came = came;
@@ -91,13 +91,13 @@ cut_writing law old w input output given front rest came is a = record {
 
 -- all of it was written
 pub cut_written : SpelledOrFaulty → (old : PlainBegun) (w v : PlainWorld) (input output : Stream) (given front rest : List ℕ) (end : TraceEnd) → Supplies input given → given ≡ front ++ 10 ∷ rest →
-    AreWritten (lines_from old.number (old.bytes ++ front)) w v output end → IsCut old w input output
+    AreWritten (lines_from old.number (old.bytes ++ front)) w v output end → TurnIsCut old w input output
 cut_written law old w v input output given front rest end came is a =
     cut_writing law old w input output given front rest came is (record { text = a.text; end = end; answered = a.answered; written = all_written output a.text a.written })
 
 -- no line ended
 pub on_no_line : (old new : PlainBegun) (w : PlainWorld) (input : Stream) (given : List ℕ) (held : Option (List ℕ)) → Supplies input given → HasNoFeed (old.bytes ++ given) →
-    new ≡ record { number = old.number; bytes = old.bytes ++ given } → GoesOn old new w w input (stream held held)
+    new ≡ record { number = old.number; bytes = old.bytes ++ given } → TurnGoesOn old new w w input (stream held held)
 on_no_line old new w input given held came none is =
     let number : new.number ≡ old.number + 0 = ap (λ (b : PlainBegun). b.number) is ∙ (let same : old.number ≡ old.number + 0 = omega arith in same) in
     record {
@@ -114,7 +114,7 @@ on_no_line old new w input given held came none is =
 -- lines ended, and none of them was bad
 pub on_lines : (old new : PlainBegun) (w v : PlainWorld) (input output : Stream) (given front rest : List ℕ) (number : ℕ) → Supplies input given → given ≡ front ++ 10 ∷ rest → HasNoFeed rest →
     AreWritten (lines_from old.number (old.bytes ++ front)) w v output Done → number ≡ old.number + length (trace_lines (old.bytes ++ front)) →
-    new ≡ record { number = number; bytes = rest } → GoesOn old new w v input output
+    new ≡ record { number = number; bytes = rest } → TurnGoesOn old new w v input output
 on_lines old new w v input output given front rest number came is none a count now = record {
   given = given;
   whole = trace_lines (old.bytes ++ front);
@@ -130,7 +130,7 @@ pub kept_nothing : (a b : Option (List ℕ)) → Keeps a b → Consumes a b []
 kept_nothing a b kept = Consumes-kept a a b [] (Consumes-nil a) kept
 
 -- nothing came
-pub on_nothing : (old : PlainBegun) (w : PlainWorld) (had has held : Option (List ℕ)) → HasNoFeed old.bytes → Keeps had has → GoesOn old old w w (stream had has) (stream held held)
+pub on_nothing : (old : PlainBegun) (w : PlainWorld) (had has held : Option (List ℕ)) → HasNoFeed old.bytes → Keeps had has → TurnGoesOn old old w w (stream had has) (stream held held)
 on_nothing old w had has held none kept =
     let number : old.number ≡ old.number + 0 = omega arith in
     record {
@@ -179,7 +179,7 @@ ends_last old w v input output end came spent a = record {
   written = a.written;
 }
 
-pub cut_last : (old : PlainBegun) (w : PlainWorld) (input output : Stream) → Supplies input [] → IsSpent input → AreWrittenTo (lines_from old.number old.bytes) w output → IsCut old w input output
+pub cut_last : (old : PlainBegun) (w : PlainWorld) (input output : Stream) → Supplies input [] → IsSpent input → AreWrittenTo (lines_from old.number old.bytes) w output → TurnIsCut old w input output
 cut_last old w input output came spent a = record {
   given = [];
   came = came;
@@ -191,7 +191,7 @@ cut_last old w input output came spent a = record {
 }
 
 -- a fault that is none of reading
-pub broken_cut : {A : Type 0} (r : Result A TraceFault) (old : PlainBegun) (w : PlainWorld) (input output : Stream) (failed : ℕ) → IsWriteFailure r failed → OnErr r (IsCut old w input output) →
+pub broken_cut : {A : Type 0} (r : Result A TraceFault) (old : PlainBegun) (w : PlainWorld) (input output : Stream) (failed : ℕ) → IsWriteFailure r failed → OnErr r (TurnIsCut old w input output) →
     IfErr r (IsTurnBroken old w input output)
 broken_cut (Ok a) old w input output failed is cut = tt
 broken_cut (Err Read) old w input output failed is cut = absurd is
@@ -232,7 +232,7 @@ module _ (v : PlainWorld) (begun : PlainBegun) (had left leaves held mid holds :
       (done_leads 1 empty_world s.whole s.text v s.done (trace_lines (begun.bytes ++ bytes)) text end
       (subst (λ (n : ℕ). Answers n v (trace_lines (begun.bytes ++ bytes)) text end) s.number a))
 
-  pub Talking-on : (next : PlainBegun) (u : PlainWorld) → GoesOn begun next v u (stream left leaves) (stream mid holds) → Talking u next (stream had leaves) (stream held holds)
+  pub Talking-on : (next : PlainBegun) (u : PlainWorld) → TurnGoesOn begun next v u (stream left leaves) (stream mid holds) → Talking u next (stream had leaves) (stream held holds)
   Talking-on next u t =
       let first = s.number in
       let longer = length-append s.whole t.whole in
@@ -277,7 +277,7 @@ module _ (v : PlainWorld) (begun : PlainBegun) (had left leaves held mid holds :
     );
   }
 
-  pub Talking-cut : IsCut begun v (stream left leaves) (stream mid holds) → IsCutOff (stream had leaves) (stream held holds)
+  pub Talking-cut : TurnIsCut begun v (stream left leaves) (stream mid holds) → LiveIsCut (stream had leaves) (stream held holds)
   Talking-cut t = record {
     heard = s.heard ++ t.given;
     came = Consumes-trans had left leaves s.heard t.given s.came t.came;
@@ -302,17 +302,17 @@ module _ (v : PlainWorld) (begun : PlainBegun) (had left leaves held mid holds :
     written = Appends-kept held mid holds s.text s.written unwritten;
   }
 
-  Talking-broken : (fault : TraceFault) → IsTurnBroken begun v (stream left leaves) (stream mid holds) fault → IsStopped (stream had leaves) (stream held holds) fault
+  Talking-broken : (fault : TraceFault) → IsTurnBroken begun v (stream left leaves) (stream mid holds) fault → LiveIsStopped (stream had leaves) (stream held holds) fault
   Talking-broken Read t = Talking-stands t.0 t.1
   Talking-broken Turns t = absurd t
   Talking-broken Write t = Talking-cut t
   Talking-broken Memory t = Talking-cut t
 
   pub Talking-fault : (r : Result TraceEnd TraceFault) (fault : TraceFault) → IsErrAnd r (λ e. e ≡ fault) → IsTurnBroken begun v (stream left leaves) (stream mid holds) fault →
-      IfErr r (IsStopped (stream had leaves) (stream held holds))
+      IfErr r (LiveIsStopped (stream had leaves) (stream held holds))
   Talking-fault (Ok a) fault same t = tt
   Talking-fault (Err e) fault same t =
-      subst (λ (f : TraceFault). IsStopped (stream had leaves) (stream held holds) f) (sym same) (Talking-broken fault t)
+      subst (λ (f : TraceFault). LiveIsStopped (stream had leaves) (stream held holds) f) (sym same) (Talking-broken fault t)
 
 -- what was heard out is answered as the trace that was there
 live_answer : (all : List ℕ) (after : Option (List ℕ)) (output : Stream) (end : TraceEnd) → length all ≤ max_input → IsHeardOut (stream (Some all) after) output end →

@@ -23,7 +23,7 @@ pub record PlainBegun : Type 0 where
 
 -- What a turn did in which nothing ended. These bytes came. With what was read before, they are whole lines and the line that is begun
 -- now; the whole lines are answered, and lead from that world to this one.
-pub record GoesOn (old new : PlainBegun) (w v : PlainWorld) (input output : Stream) : Type 0 where
+pub record TurnGoesOn (old new : PlainBegun) (w v : PlainWorld) (input output : Stream) : Type 0 where
   pub given : List ℕ
   pub whole : List (List ℕ)
   pub text : List ℕ
@@ -63,11 +63,11 @@ pub record Ends (old : PlainBegun) (w : PlainWorld) (input output : Stream) (end
 
 -- what a turn did
 abbrev pub IsTurn : PlainBegun → PlainBegun → PlainWorld → PlainWorld → Stream → Stream → Turn → Type 0
-IsTurn old new w v input output On = GoesOn old new w v input output
+IsTurn old new w v input output On = TurnGoesOn old new w v input output
 IsTurn old new w v input output (End end) = Ends old w input output end
 
 -- These bytes came, and with what was read before, a prefix of what answers them was written.
-pub record IsCut (old : PlainBegun) (w : PlainWorld) (input output : Stream) : Type 0 where
+pub record TurnIsCut (old : PlainBegun) (w : PlainWorld) (input output : Stream) : Type 0 where
   pub given : List ℕ
   pub came : Supplies input given
   pub begun : BeginsAll input output old.number w (old.bytes ++ given)
@@ -76,8 +76,8 @@ pub record IsCut (old : PlainBegun) (w : PlainWorld) (input output : Stream) : T
 abbrev pub IsTurnBroken : PlainBegun → PlainWorld → Stream → Stream → TraceFault → Type 0
 IsTurnBroken old w input output Read = IsUntouched input × IsUntouched output
 IsTurnBroken old w input output Turns = ⊥
-IsTurnBroken old w input output Write = IsCut old w input output
-IsTurnBroken old w input output Memory = IsCut old w input output
+IsTurnBroken old w input output Write = TurnIsCut old w input output
+IsTurnBroken old w input output Memory = TurnIsCut old w input output
 
 -- When a turn comes to a fault, by how often a call of its reader and of its writer failed.
 abbrev pub HasTurnCause : {A : Type 0} → Result A TraceFault → ℕ → ℕ → Type 0
@@ -105,18 +105,18 @@ pub record IsHeardOut (input output : Stream) (end : TraceEnd) : Type 0 where
   pub written : Takes output text
 
 -- The bytes came, and the output took a prefix of the text that answers them.
-pub record IsCutOff (input output : Stream) : Type 0 where
+pub record LiveIsCut (input output : Stream) : Type 0 where
   pub heard : List ℕ
   pub came : Supplies input heard
   pub begun : BeginsAll input output 1 empty_world heard
 
 -- What was written where the trace was not answered to its end. Where a read failed, or where as many turns were taken as may be, the
 -- answer to all whole lines that came.
-abbrev pub IsStopped : Stream → Stream → TraceFault → Type 0
-IsStopped input output Read = HasAnswered input output
-IsStopped input output Turns = HasAnswered input output
-IsStopped input output Write = IsCutOff input output
-IsStopped input output Memory = IsCutOff input output
+abbrev pub LiveIsStopped : Stream → Stream → TraceFault → Type 0
+LiveIsStopped input output Read = HasAnswered input output
+LiveIsStopped input output Turns = HasAnswered input output
+LiveIsStopped input output Write = LiveIsCut input output
+LiveIsStopped input output Memory = LiveIsCut input output
 
 -- When a live trace of at most this many turns ends in this way, by the calls of its reader and of its writer.
 abbrev pub HasLiveCause : ℕ → Result TraceEnd TraceFault → Calls → Calls → Type 0

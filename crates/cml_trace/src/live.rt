@@ -6,7 +6,7 @@ ghost use Rattle.cml_stream.specs.Counts.{Calls, counted};
 ghost use Rattle.cml_stream.specs.Streams.{Stream, stream, Supplies};
 ghost use Rattle.cml_trace.specs.Faults.{IsWriteFailure};
 ghost use Rattle.cml_trace.specs.Lines.{HasNoFeed, lines_from};
-ghost use Rattle.cml_trace.specs.Live.{max_turns, IsTurn, IsTurnBroken, IsCut, HasTurnCause, IsHeardOut, IsStopped, HasLiveCause, IsFlushed};
+ghost use Rattle.cml_trace.specs.Live.{max_turns, IsTurn, IsTurnBroken, TurnIsCut, HasTurnCause, IsHeardOut, LiveIsStopped, HasLiveCause, IsFlushed};
 ghost use Rattle.cml_trace.specs.Runs.{AreWritten, AreWrittenTo};
 
 use crate::engine::write_answer;
@@ -124,7 +124,7 @@ pub fn run_live<R: Read, W: Write>(
         IfOk result (IsHeardOut input output) }
     ensures err { let input = stream (R.remaining reader.old.stream.now) (R.remaining reader.new.stream.now) in
         let output = stream (W.contents writer.old.stream.now) (W.contents writer.new.stream.now) in
-        IfErr result (IsStopped input output) }
+        IfErr result (LiveIsStopped input output) }
     ensures cause { let reads : Calls = record { calls = reader.new.calls; failed = reader.new.failed } in
         let writes : Calls = record { calls = writer.new.calls; failed = writer.new.failed } in
         HasLiveCause turns result reads writes }
@@ -156,7 +156,7 @@ fn take_turns<T: Table, R: Read, W: Write>(
         IfOk result (IsHeardOut input output) }
     ensures err { let input = stream (R.remaining reader.old.stream.now) (R.remaining reader.new.stream.now) in
         let output = stream (W.contents writer.old.stream.now) (W.contents writer.new.stream.now) in
-        IfErr result (IsStopped input output) }
+        IfErr result (LiveIsStopped input output) }
     ensures cause { let reads : Calls = record { calls = reader.new.calls; failed = reader.new.failed } in
         let writes : Calls = record { calls = writer.new.calls; failed = writer.new.failed } in
         HasLiveCause turns result reads writes }
@@ -227,7 +227,7 @@ fn hear<T: Table, W: Write>(
     ensures ok { let output = stream (W.contents writer.old.stream.now) (W.contents writer.new.stream.now) in
         (input : Stream) → Supplies input given.now → IfOk result (IsTurn begun.old begun.new book.old book.new input output) }
     ensures err { let output = stream (W.contents writer.old.stream.now) (W.contents writer.new.stream.now) in
-        (input : Stream) → Supplies input given.now → OnErr result (IsCut begun.old book.old input output) }
+        (input : Stream) → Supplies input given.now → OnErr result (TurnIsCut begun.old book.old input output) }
     ensures room { OnOk result (begun.new.number ≤ begun.old.number + length given.now) }
     ensures flushed { IsTrue writer.old.flushed → IsFlushed result writer.new.flushed }
     ensures failed { IsWriteFailure result writer.new.failed }
