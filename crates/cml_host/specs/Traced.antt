@@ -6,7 +6,7 @@ use Rattle.cml_trace.specs.declared.fault.TraceFault.{TraceFault}
 use Rattle.cml_trace.specs.declared.fault.TraceFault.TheVariants.{Read, Turns, Write, Memory}
 use Rattle.cml_trace.specs.Answers.{max_input}
 use Rattle.cml_trace.specs.Faults.{HasCause}
-use Rattle.cml_trace.specs.Live.{max_turns, IsHeardOut, IsStopped, HasLiveCause}
+use Rattle.cml_trace.specs.Live.{max_turns, IsHeardOut, LiveIsStopped, HasLiveCause}
 use Rattle.cml_trace.specs.Replies.{line}
 use Rattle.cml_trace.specs.Runs.{IsAnswered, IsBroken}
 use Rattle.cml_stream.specs.Counts.{most_reads}
@@ -47,7 +47,7 @@ abbrev pub LiveRan : Counted → Counted → Counted → ℕ → Type 0
 LiveRan input output errors status =
     ((end : TraceEnd) × IsHeardOut input.bytes output.bytes end × HasLiveCause max_turns (Ok end) input.counts output.counts
     × (status ≡ status_of end) × IsIdle errors)
-    ⊎ ((fault : TraceFault) × IsStopped input.bytes output.bytes fault × HasLiveCause max_turns (Err fault) input.counts output.counts
+    ⊎ ((fault : TraceFault) × LiveIsStopped input.bytes output.bytes fault × HasLiveCause max_turns (Err fault) input.counts output.counts
     × (status ≡ fault_status fault) × Says errors (trace_fault_line fault))
 
 -- What the command did: the lines are answered as they come, or the whole trace is, of which the reader is asked only so often.

@@ -45,9 +45,10 @@ const WORDS: &[Asked] = &[
         words: "trace --help",
         output: "Answers the commands on standard input
 
-Usage: cml trace
+Usage: cml trace [OPTIONS]
 
 Options:
+      --live  Answers each line as soon as it has been read
   -h, --help  Print help
 ",
         errors: "",
@@ -82,7 +83,7 @@ Options:
         output: "",
         errors: "error: unexpected argument '--explain' found
 
-Usage: cml trace
+Usage: cml trace [OPTIONS]
 
 For more information, try '--help'.
 ",
@@ -291,7 +292,7 @@ For more information, try '--help'.
         output: "",
         errors: "error: unexpected argument '--fast' found
 
-Usage: cml trace
+Usage: cml trace [OPTIONS]
 
 For more information, try '--help'.
 ",

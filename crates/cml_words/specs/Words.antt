@@ -72,7 +72,7 @@ abbrev pub command_of : Text → List Rule → Shape
 command_of name rules = record (new_app name).top { rules = rules }
 
 abbrev pub trace_command : Shape
-trace_command = command_of (codes "trace") (flag_rule (codes "live") ∷ explain_rules)
+trace_command = command_of (codes "trace") (flag_rule (codes "live") ∷ [])
 
 -- a command that takes a file alone
 abbrev pub file_command : Text → Shape
@@ -133,9 +133,8 @@ abbrev pub IsWorkers : ℕ → Type 0
 IsWorkers = IsInRange 1 64
 
 -- the options of `trace` are what was given
-pub record IsTrace (given : List Row) (options : TraceOptions) : Type 0 where
-  pub live : options.live ≡ is_flagged (codes "live") given
-  pub explain : options.explain ≡ explanation given
+abbrev pub IsTrace : List Row → TraceOptions → Type 0
+IsTrace given options = options.live ≡ is_flagged (codes "live") given
 
 -- the options of a command that takes a file alone are what was given
 pub record IsFile (given : List Row) (options : FileOptions) : Type 0 where

@@ -67,8 +67,6 @@ pub enum Task<'a> {
 pub struct TraceOptions {
     /// Whether each line is answered as soon as it has been read.
     pub live: bool,
-    /// Whether what is wrong with it is explained.
-    pub explain: Explain,
 }
 
 /// How a file is read.
@@ -200,7 +198,6 @@ fn trace_options(matches: &ArgMatches<'_>) -> TraceOptions
 {
     TraceOptions {
         live: flag(matches, "live"),
-        explain: explain_option(matches),
     }
 }
 
@@ -359,10 +356,9 @@ fn trace<'a>(alloc: Global) -> Result<Command<'a>, AllocError>
         "live",
         "Answers each line as soon as it has been read",
     );
-    let command = Command::new(alloc, "trace")
+    Command::new(alloc, "trace")
         .about("Answers the commands on standard input")
-        .arg(live)?;
-    explaining(alloc, command)
+        .arg(live)
 }
 
 // The command that runs a script.
