@@ -4,5 +4,6 @@ mod TellLemmas
 mod BudgetLemmas
 mod CountLemmas
 mod ScriptLemmas
+mod ServerLemmas
 mod RanLemmas
 mod WorkLemmas

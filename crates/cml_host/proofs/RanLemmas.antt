@@ -1,5 +1,5 @@
 -- What a command did, by what it told of the hub that it had.
-use Rattle.std.proofs.Common.{◌≡◌, ◌∙◌, ◌⊎◌, ℕ, Bool, List, [], ◌++◌, true, Option, Some, None, ap, inl, inr, refl, subst, sym}
+use Rattle.std.proofs.Common.{◌≡◌, ◌∙◌, ◌⊎◌, ℕ, Bool, List, [], ◌++◌, true, Option, Some, None, Result, Ok, Err, OnOk, IfErr, ap, inl, inr, refl, subst, sym}
 use Rattle.cml_check.specs.Sizes.{size_of}
 use Rattle.cml_check.specs.Syntax.{PlainItem}
 use Rattle.cml_hub.specs.Choices.{seeded}
@@ -9,13 +9,14 @@ use Rattle.cml_hub.specs.Kept.{Kept, IsAtStart, SwapsAreExchanges, TellsSwaps}
 use Rattle.cml_hub.proofs.Going.{each_from}
 use Rattle.cml_hub.specs.Playing.{Rules, Played, played, playing, called_back}
 use Rattle.cml_hub.proofs.Played.{begins_run}
-use Rattle.cml_hub.specs.Runs.{Run, ending, over, stands}
+use Rattle.cml_hub.specs.Runs.{Run, over, stands}
 use Rattle.cml_step.specs.Calls.{text_of}
 use Rattle.cml_monitor.specs.Reports.{PlainReport}
 use Rattle.cml_schedule.specs.declared.item.Item.{Item}
 use Rattle.cml_schedule.specs.Written.{schedule_text}
 use Rattle.cml_stream.specs.Streams.{Counted, stream, counted_stream, Takes, Says, IsIdle}
 use Rattle.std.proofs.KnownBytes.{Appends-trans}
+use Rattle.cml_words.specs.declared.ReplayOptions.{ReplayOptions}
 use Rattle.cml_words.specs.declared.RunOptions.{RunOptions}
 use Rattle.cml_work.specs.Works.{IsWorked, GoesOnFrom}
 use Rattle.cml_host.specs.declared.run.Record.{Record}
@@ -24,13 +25,15 @@ use Rattle.cml_host.specs.declared.said.Refusal.TheVariants.{Unread, Wrong, Memo
 use Rattle.cml_host.specs.declared.workers.Cause.{Cause}
 use Rattle.cml_host.specs.declared.workers.Cause.TheVariants as cause
 use Rattle.cml_host.specs.declared.workers.Stopped.{Stopped}
-use Rattle.cml_host.specs.Replaying.{IsHubOf, IsNotRun, ScheduleRan}
-use Rattle.cml_host.specs.Running.{HasEnded, record_name, IsRecorded, RecordBroke, EndRan, ReportsAreLive, IsRunBy, IsChosen, Plays, PlaysChosen, ProgramRan, RunRan, BegunRan, AreToldBy, IsStopped, StopRan, EndedRan, IsMade, RecordRan}
+use Rattle.cml_host.specs.Closed.{PlainAsked, PlainClosing, asked_of, IsClosed, IsClosing, IsHubAt, SaysEnd}
+use Rattle.cml_host.specs.Replaying.{IsHubOf, IsNotRun, OpenedReplayed, ReplayRan, ReplayTold, ScheduleRan}
+use Rattle.cml_host.specs.Running.{HasEnded, record_name, IsRecorded, RecordBroke, EndRan, ReportsAreLive, IsRunBy, IsChosen, Plays, PlaysChosen, ProgramRan, RunRan, BegunRan, OpenedRan, AreToldBy, IsStopped, StopRan, EndedRan, IsEnded, IsNotEnded, IsMade, IsKept, IsNotKept}
+use Rattle.cml_host.specs.Servers.{IsNotNumbered, first_unknown, server_numbers, server_names}
 use Rattle.cml_host.specs.Said.{RefusalRan}
-use Rattle.cml_host.specs.Scripts.{IsOpened, IsNotOpened, NoScriptRan}
+use Rattle.cml_host.specs.Scripts.{PlainScript, IsOpened, IsNotOpened, NoScriptRan}
 use Rattle.cml_host.specs.Stores.{Content, Shelf, IsReplacedBy, IsSaved, IsUnchanged}
-use Rattle.cml_host.specs.Told.{IsRunOf, AllReported, reports_text, whole_output, end_status, IsTold, IsNotTold, OutputNotTold, IsCutOff, IsForeign}
-use Rattle.cml_host.proofs.TellLemmas.{says_behind, reports_broke, cut_behind, output_behind, told_behind}
+use Rattle.cml_host.specs.Told.{IsRunOf, AllReported, reports_text, whole_output, IsTold, IsNotTold, OutputNotTold, IsCutOff, IsForeign}
+use Rattle.cml_host.proofs.TellLemmas.{says_behind, reports_broke, closed_behind, cut_behind, output_behind, with_behind}
 
 -- the hub's run is one of this program
 run_is : (p : List (PlainItem ℕ)) (watch : Option ℕ) (items : List Item) (h : Kept) → h.course.program ≡ p → h.watch ≡ watch → h.course.items ≡ items →
@@ -49,30 +52,55 @@ not_scripted explains content name Unread errors status may (inr memory) = inr (
 not_scripted explains content name (Wrong told) errors status wrong said = inl (wrong.0, wrong.1, told.items, wrong.2, said.0, said.1)
 not_scripted explains content name Memory errors status any memory = inr (inr memory)
 
+-- ---- the end of a run
+
+-- a hub stands where its own run does
+stands_itself : (h : Kept) → IsHubAt h.course.program h.budget h.course.items (run_of h.course) h
+stands_itself h = record { program = refl; budget_is = refl; items_are = refl; run_is = refl }
+
+-- all was told of it, and then how it ended
+pub closed_hub : (asked : PlainAsked) (h : Kept) (closing : PlainClosing) (reports : List PlainReport) (output : Counted) (a b d : Option (List ℕ)) (before broke after failed status : ℕ) →
+    IsClosing asked h closing → IsTold reports (whole_output h.budget (run_of h.course)) output (counted_stream a b before broke) →
+    SaysEnd closing.words (counted_stream b d after failed) → status ≡ closing.status →
+    IsClosed asked h.course.program h.course.items reports h.budget (run_of h.course) output (counted_stream a d after failed) status
+closed_hub asked h closing reports output a b d before broke after failed status is told said ends = (
+  h,
+  stands_itself h,
+  closing,
+  is,
+  closed_behind a b d closing.words reports (whole_output h.budget (run_of h.course)) output before broke after failed told said,
+  ends,
+)
+
 -- ---- replay
 
-pub not_scheduled : (p : List (PlainItem ℕ)) (watch : Option ℕ) (content : Content) (name : List ℕ) (why : Refusal) (output errors : Counted) (status : ℕ) →
-    IsNotRun p content why → RefusalRan name why 3 errors status → IsIdle output → ScheduleRan p watch name content output errors status
-not_scheduled p watch content name Unread output errors status may (inl told) idle = inr (inl (may, told.0, told.1), idle)
-not_scheduled p watch content name Unread output errors status may (inr memory) idle = inr (inr memory, idle)
-not_scheduled p watch content name (Wrong told) output errors status wrong said idle =
+pub not_scheduled : (asked : PlainAsked) (p : List (PlainItem ℕ)) (watch : Option ℕ) (content : Content) (name : List ℕ) (why : Refusal) (output errors : Counted) (status : ℕ) →
+    IsNotRun p content why → RefusalRan name why 3 errors status → IsIdle output → ScheduleRan asked p watch name content output errors status
+not_scheduled asked p watch content name Unread output errors status may (inl told) idle = inr (inl (may, told.0, told.1), idle)
+not_scheduled asked p watch content name Unread output errors status may (inr memory) idle = inr (inr memory, idle)
+not_scheduled asked p watch content name (Wrong told) output errors status wrong said idle =
     inl (wrong.0, wrong.1, inr (told.items, wrong.2, said.0, said.1, idle))
-not_scheduled p watch content name Memory output errors status any memory idle = inr (inr memory, idle)
+not_scheduled asked p watch content name Memory output errors status any memory idle = inr (inr memory, idle)
 
-pub scheduled : (p : List (PlainItem ℕ)) (watch : Option ℕ) (name : List ℕ) (content : Content) (h : Kept) (output errors : Counted) (status : ℕ) →
-    IsHubOf p watch content h → IsRunOf h.course.program h.watch h.course.items h.reports (run_of h.course) →
-    ((IsTold h.reports (whole_output h.budget (run_of h.course)) output errors × (status ≡ end_status (ending h.budget (run_of h.course))))
-    ⊎ IsNotTold h.reports h.course.output (whole_output h.budget (run_of h.course)) output errors status) →
-    ScheduleRan p watch name content output errors status
-scheduled p watch name content h output errors status found run told =
+-- what was told of a hub was told of the run of a program where it stands
+closed_of : (asked : PlainAsked) (p : List (PlainItem ℕ)) (budget : ℕ) (items : List Item) (h : Kept) (output errors : Counted) (status : ℕ) →
+    h.course.program ≡ p → h.budget ≡ budget → h.course.items ≡ items →
+    IsClosed asked h.course.program h.course.items h.reports h.budget (run_of h.course) output errors status →
+    IsClosed asked p items h.reports budget (run_of h.course) output errors status
+closed_of asked p budget items h output errors status program budget_is items_are closed =
+    subst (λ (b : ℕ). IsClosed asked p items h.reports b (run_of h.course) output errors status) budget_is
+    (subst (λ (ts : List Item). IsClosed asked p ts h.reports h.budget (run_of h.course) output errors status) items_are
+    (subst (λ (q : List (PlainItem ℕ)). IsClosed asked q h.course.items h.reports h.budget (run_of h.course) output errors status) program closed))
+
+pub scheduled : (asked : PlainAsked) (p : List (PlainItem ℕ)) (watch : Option ℕ) (name : List ℕ) (content : Content) (h : Kept) (output errors : Counted) (status : ℕ) →
+    IsHubOf p watch content h → ReplayTold asked h output errors status → ScheduleRan asked p watch name content output errors status
+scheduled asked p watch name content h output errors status found (run, told) =
     let plan = found.0 in
     let made = found.3 in
     let r = run_of h.course in
     let due : AllReported watch plan.items h.reports =
     subst (λ (ts : List Item). AllReported watch ts h.reports) made.items_are
     (subst (λ (w : Option ℕ). AllReported w h.course.items h.reports) made.watch_is made.none_due) in
-    let all = subst (λ (b : ℕ). (IsTold h.reports (whole_output b r) output errors × (status ≡ end_status (ending b r)))
-    ⊎ IsNotTold h.reports h.course.output (whole_output b r) output errors status) made.budget_is told in
     inl (
       found.1.0,
       found.1.1,
@@ -86,38 +114,93 @@ scheduled p watch name content h output errors status found run told =
             r,
             run_is p watch plan.items h made.program made.watch_is made.items_are run,
             due,
-            all,
+            told_of made.program made.budget_is made.items_are told,
           ),
         ),
       ),
     )
+  where
+    told_of : {p : List (PlainItem ℕ)} {budget : ℕ} {items : List Item} → h.course.program ≡ p → h.budget ≡ budget → h.course.items ≡ items →
+        IsClosed asked h.course.program h.course.items h.reports h.budget (run_of h.course) output errors status
+        ⊎ IsNotTold h.reports h.course.output (whole_output h.budget (run_of h.course)) output errors status →
+        IsClosed asked p items h.reports budget (run_of h.course) output errors status
+        ⊎ IsNotTold h.reports h.course.output (whole_output budget (run_of h.course)) output errors status
+    told_of {p} {budget} {items} program budget_is items_are (inl closed) = inl (closed_of asked p budget items h output errors status program budget_is items_are closed)
+    told_of program budget_is items_are (inr broke) =
+        inr (subst (λ (b : ℕ). IsNotTold h.reports h.course.output (whole_output b (run_of h.course)) output errors status) budget_is broke)
+
+-- the script was run by the schedule, with the numbers of its servers
+pub replayed : (explains : Bool) (s : PlainScript) (options : ReplayOptions) (servers : List ℕ) (asked : PlainAsked) (p : List (PlainItem ℕ)) (content : Content)
+    (output errors : Counted) (status : ℕ) → first_unknown s (server_names options.end) ≡ None → servers ≡ server_numbers s (server_names options.end) → p ≡ s.program →
+    asked ≡ asked_of explains options.script.now s options.end.strict servers →
+    ScheduleRan asked p options.watch options.schedule.now content output errors status → OpenedReplayed explains s options content output errors status
+replayed explains s options servers asked p content output errors status known numbered program same ran =
+    inl (inl (
+      known,
+      subst (λ (a : PlainAsked). ScheduleRan a s.program options.watch options.schedule.now content output errors status)
+          (same ∙ ap (asked_of explains options.script.now s options.end.strict) numbered)
+          (subst (λ (q : List (PlainItem ℕ)). ScheduleRan asked q options.watch options.schedule.now content output errors status) program ran),
+    ))
+
+pub not_replayed : (explains : Bool) (s : PlainScript) (options : ReplayOptions) (why : Refusal) (name : List ℕ) (content : Content) (output errors : Counted) (status : ℕ) →
+    IsNotNumbered s (server_names options.end) why → RefusalRan name why 1 errors status → IsIdle output → OpenedReplayed explains s options content output errors status
+not_replayed explains s options Unread name content output errors status never said idle = absurd never
+not_replayed explains s options (Wrong told) name content output errors status wrong said idle =
+    inl (inr ((wrong.0, wrong.1, subst (λ (ts : List ℕ). Says errors ts) wrong.2 said.0, said.1), idle))
+not_replayed explains s options Memory name content output errors status any memory idle = inr (memory, idle)
+
+pub replay_ran : (explains : Bool) (held : List ℕ → Content) (s : PlainScript) (options : ReplayOptions) (output errors : Counted) (status : ℕ) →
+    IsOpened (held options.script.now) s → OpenedReplayed explains s options (held options.schedule.now) output errors status →
+    ReplayRan options explains held output errors status
+replay_ran explains held s options output errors status opened (inl ran) = inl (s, opened, ran)
+replay_ran explains held s options output errors status opened (inr memory) = inr (inr (inr memory.0), memory.1)
 
 -- ---- run
 
-pub not_told_ran : (name : Option (List ℕ)) (h : Kept) (output errors : Counted) (store : Shelf) (status : ℕ) → IsUnchanged store.before store.after →
-    OutputNotTold [] h.course.output (whole_output h.budget (run_of h.course)) output errors status → EndedRan name h [] output errors store status
-not_told_ran name h output errors store status same (inl broke) = inl (inr (inr (broke, same)))
-not_told_ran name h output errors store status same (inr cut) = inr (cut, same)
+-- without a record, the output is all that is told
+pub ended_alone : (r : Result (Unit {0}) ℕ) (h : Kept) (output errors : Counted) (store : Shelf) → IsUnchanged store.before store.after →
+    OnOk r (IsTold [] (whole_output h.budget (run_of h.course)) output errors) → OnOk r (IsEnded None h output errors store)
+ended_alone (Ok done) h output errors store same told = (told, same)
+ended_alone (Err status) h output errors store same told = tt
 
-pub recorded : (name : List ℕ) (h : Kept) (made : Record) (output : Counted) (a b d : Option (List ℕ)) (before broke after failed given : ℕ) (store : Shelf) (status : ℕ) →
+pub not_ended : (r : Result (Unit {0}) ℕ) (name : Option (List ℕ)) (h : Kept) (output errors : Counted) (store : Shelf) → IsUnchanged store.before store.after →
+    IfErr r (OutputNotTold [] h.course.output (whole_output h.budget (run_of h.course)) output errors) → IfErr r (IsNotEnded name h output errors store)
+not_ended (Ok done) name h output errors store same broke = tt
+not_ended (Err status) name h output errors store same broke = inr (broke, same)
+
+-- with one, it was saved after the output was told
+pub ended_kept : (r : Result (Unit {0}) ℕ) (name : List ℕ) (h : Kept) (made : Record) (output : Counted) (a b d : Option (List ℕ)) (before broke after failed : ℕ) (store : Shelf) →
     IsMade h name made → IsTold [] (whole_output h.budget (run_of h.course)) output (counted_stream a b before broke) →
-    given ≡ end_status (ending h.budget (run_of h.course)) →
-    RecordRan name made given (counted_stream b d after failed) store status →
-    EndedRan (Some name) h [] output (counted_stream a d after failed) store status
-recorded name h made output a b d before broke after failed given store status is told ends (inl saved) =
-    inl (inl (
-      (Appends-trans a b d [] [] told.0 saved.2, saved.3, told.2, told.3),
-      subst (λ (ts : List ℕ). IsSaved store.before store.after name ts) is.0 saved.0,
-      saved.1 ∙ ends,
-    ))
-recorded name h made output a b d before broke after failed given store status is told ends (inr refused) =
-    inl (inr (inl (
+    OnOk r (IsKept name made (counted_stream b d after failed) store) → OnOk r (IsEnded (Some name) h output (counted_stream a d after failed) store)
+ended_kept (Ok done) name h made output a b d before broke after failed store is told saved =
+    ((Appends-trans a b d [] [] told.0 saved.1, saved.2, told.2, told.3), subst (λ (ts : List ℕ). IsSaved store.before store.after name ts) is.0 saved.0)
+ended_kept (Err status) name h made output a b d before broke after failed store is told saved = tt
+
+pub not_kept : (r : Result (Unit {0}) ℕ) (name : List ℕ) (h : Kept) (made : Record) (output : Counted) (a b d : Option (List ℕ)) (before broke after failed : ℕ) (store : Shelf) →
+    IsMade h name made → IsTold [] (whole_output h.budget (run_of h.course)) output (counted_stream a b before broke) →
+    IfErr r (IsNotKept made (counted_stream b d after failed) store) → IfErr r (IsNotEnded (Some name) h output (counted_stream a d after failed) store)
+not_kept (Ok done) name h made output a b d before broke after failed store is told refused = tt
+not_kept (Err status) name h made output a b d before broke after failed store is told refused =
+    inl (
       told.2,
       told.3,
       says_behind a b d after failed [] _ told.0 (subst (λ (ts : List ℕ). Says (counted_stream b d after failed) ts) is.1 refused.1),
       refused.2,
       refused.0,
-    )))
+    )
+
+-- and then how it ended was said
+pub closed_ran : (asked : PlainAsked) (name : Option (List ℕ)) (h : Kept) (closing : PlainClosing) (output : Counted) (a b d : Option (List ℕ)) (before broke after failed : ℕ)
+    (store : Shelf) (status : ℕ) → IsClosing asked h closing → IsEnded name h output (counted_stream a b before broke) store →
+    SaysEnd closing.words (counted_stream b d after failed) → status ≡ closing.status → EndedRan asked name h [] output (counted_stream a d after failed) store status
+closed_ran asked name h closing output a b d before broke after failed store status is ended said ends =
+    inl (inl (closed_hub asked h closing [] output a b d before broke after failed status is ended.0 said ends, ended.1))
+
+pub not_ended_ran : (asked : PlainAsked) (name : Option (List ℕ)) (h : Kept) (output errors : Counted) (store : Shelf) (status : ℕ) →
+    IsNotEnded name h output errors store status → EndedRan asked name h [] output errors store status
+not_ended_ran asked name h output errors store status (inl broke) = inl (inr (inl broke))
+not_ended_ran asked name h output errors store status (inr (inl broke, same)) = inl (inr (inr (broke, same)))
+not_ended_ran asked name h output errors store status (inr (inr cut, same)) = inr (cut, same)
 
 record_broke_behind : (name : Option (List ℕ)) (a b d : Option (List ℕ)) (reports : List PlainReport) (text : List ℕ) (output : Counted) (calls failed : ℕ)
     (store : Shelf) (status : ℕ) → Takes (stream a b) (reports_text reports) → RecordBroke name [] text output (counted_stream b d calls failed) store status →
@@ -127,18 +210,20 @@ record_broke_behind (Some name) a b d reports text output calls failed store sta
     (broke.0, broke.1, says_behind a b d calls failed (reports_text reports) _ before broke.2, broke.3, broke.4)
 
 -- what was told of the output, after the reports that were told before
-pub ended_behind : (name : Option (List ℕ)) (h : Kept) (a b d : Option (List ℕ)) (output : Counted) (calls failed : ℕ) (store : Shelf) (status : ℕ) →
-    Takes (stream a b) (reports_text h.reports) → EndedRan name h [] output (counted_stream b d calls failed) store status →
-    EndRan name (schedule_text h.budget (size_of h.course.program) h.course.items) h.reports h.budget (run_of h.course) output
-    (counted_stream a d calls failed) store status
+pub ended_behind : (asked : PlainAsked) (name : Option (List ℕ)) (h : Kept) (a b d : Option (List ℕ)) (output : Counted) (calls failed : ℕ) (store : Shelf) (status : ℕ) →
+    Takes (stream a b) (reports_text h.reports) → EndedRan asked name h [] output (counted_stream b d calls failed) store status →
+    EndRan asked name h.course.program h.course.items h.reports h.budget (run_of h.course) output (counted_stream a d calls failed) store status
     ⊎ (IsCutOff h.reports h.course.output output (counted_stream a d calls failed) status × IsUnchanged store.before store.after)
-ended_behind name h a b d output calls failed store status before (inl (inl told)) =
-    inl (inl (told_behind a b d h.reports (whole_output h.budget (run_of h.course)) output calls failed before told.0, told.1, told.2))
-ended_behind name h a b d output calls failed store status before (inl (inr (inl broke))) =
+ended_behind asked name h a b d output calls failed store status before (inl (inl ((hub, at, closing, is, told, ends), saved))) =
+    inl (inl (
+      (hub, at, closing, is, with_behind a b d closing.words h.reports (whole_output h.budget (run_of h.course)) output calls failed before told, ends),
+      saved,
+    ))
+ended_behind asked name h a b d output calls failed store status before (inl (inr (inl broke))) =
     inl (inr (inl (record_broke_behind name a b d h.reports (whole_output h.budget (run_of h.course)) output calls failed store status before broke)))
-ended_behind name h a b d output calls failed store status before (inl (inr (inr broke))) =
+ended_behind asked name h a b d output calls failed store status before (inl (inr (inr broke))) =
     inl (inr (inr (output_behind a b d h.reports (whole_output h.budget (run_of h.course)) output calls failed status before broke.0, broke.1)))
-ended_behind name h a b d output calls failed store status before (inr cut) =
+ended_behind asked name h a b d output calls failed store status before (inr cut) =
     inr (cut_behind a b d h.reports h.course.output output calls failed status before cut.0, cut.1)
 
 -- each row of two swaps that the run took from its beginning on is an exchange
@@ -166,21 +251,20 @@ chosen_from : (p : List (PlainItem ℕ)) (budget : ℕ) (seed watch : Option ℕ
 chosen_from p budget None watch begun h begins leads plays = (plays.0, played_from by_first plays.0 p budget watch begun h begins leads plays.1)
 chosen_from p budget (Some seed) watch begun h begins leads plays = played_from by_words (seeded seed) p budget watch begun h begins leads plays
 
-pub ended_ran : (p : List (PlainItem ℕ)) (options : RunOptions) (begun h : Kept) (output errors : Counted) (store : Shelf) (status : ℕ) →
+pub ended_ran : (asked : PlainAsked) (p : List (PlainItem ℕ)) (options : RunOptions) (begun h : Kept) (output errors : Counted) (store : Shelf) (status : ℕ) →
     IsAtStart p options.steps options.watch begun → stands (text_of begun.course.program) begun.course.items ≡ Some (run_of begun.course) →
     (options.workers ≡ 1 → PlaysChosen options.seed begun h) → IsWorked begun h → IsRunOf h.course.program h.watch h.course.items h.reports (run_of h.course) →
-    (EndRan (record_name options) (schedule_text h.budget (size_of h.course.program) h.course.items) h.reports h.budget (run_of h.course) output errors store status
+    (EndRan asked (record_name options) h.course.program h.course.items h.reports h.budget (run_of h.course) output errors store status
     ⊎ (IsCutOff h.reports h.course.output output errors status × IsUnchanged store.before store.after)) →
-    ProgramRan p options output errors store status
-ended_ran p options begun h output errors store status begins leads plays worked run (inl ended) =
+    ProgramRan asked p options output errors store status
+ended_ran asked p options begun h output errors store status begins leads plays worked run (inl ended) =
     let r = run_of h.course in
     let more = worked.goes_on in
     let program : h.course.program ≡ p = more.program ∙ begins.program in
     let budget : h.budget ≡ options.steps = more.budget ∙ begins.budget_is in
     let watch : h.watch ≡ options.watch = more.watch ∙ begins.watch_is in
-    let all = subst (λ (b : ℕ). EndRan (record_name options) (schedule_text b (size_of p) h.course.items) h.reports b r output errors store status) budget
-    (subst (λ (q : List (PlainItem ℕ)). EndRan (record_name options) (schedule_text h.budget (size_of q) h.course.items) h.reports h.budget r output errors store status)
-    program ended) in (
+    let all = subst (λ (b : ℕ). EndRan asked (record_name options) p h.course.items h.reports b r output errors store status) budget
+    (subst (λ (q : List (PlainItem ℕ)). EndRan asked (record_name options) q h.course.items h.reports h.budget r output errors store status) program ended) in (
       h.course.items,
       h.reports,
       r,
@@ -195,7 +279,7 @@ ended_ran p options begun h output errors store status begins leads plays worked
         λ one. chosen_from p options.steps options.seed options.watch begun h begins leads (plays one),
       ),
     )
-ended_ran p options begun h output errors store status begins leads plays worked run (inr cut) =
+ended_ran asked p options begun h output errors store status begins leads plays worked run (inr cut) =
     let more = worked.goes_on in (
       h.course.items,
       h.reports,
@@ -217,13 +301,13 @@ stop_behind options h cause.Write a b d output calls failed status part stopped 
 stop_behind options h cause.Foreign a b d output calls failed status live stopped =
     inr (live.0, (live.1.0, live.1.1, live.1.2, says_behind a b d calls failed (reports_text live.1.0) _ live.1.3 stopped.0, stopped.1, stopped.2))
 
-pub stopped_ran : (p : List (PlainItem ℕ)) (options : RunOptions) (begun : Kept) (stopped : Stopped) (a b d : Option (List ℕ)) (output : Counted)
+pub stopped_ran : (asked : PlainAsked) (p : List (PlainItem ℕ)) (options : RunOptions) (begun : Kept) (stopped : Stopped) (a b d : Option (List ℕ)) (output : Counted)
     (before broke calls failed : ℕ) (store : Shelf) (status : ℕ) → IsAtStart p options.steps options.watch begun →
     IsStopped options begun stopped (counted_stream a b before broke) →
     IsRunOf stopped.hub.course.program stopped.hub.watch stopped.hub.course.items stopped.hub.reports (run_of stopped.hub.course) →
     StopRan stopped.hub stopped.cause output (counted_stream b d calls failed) status → IsUnchanged store.before store.after →
-    ProgramRan p options output (counted_stream a d calls failed) store status
-stopped_ran p options begun stopped a b d output before broke calls failed store status begins stops run tells same =
+    ProgramRan asked p options output (counted_stream a d calls failed) store status
+stopped_ran asked p options begun stopped a b d output before broke calls failed store status begins stops run tells same =
     let h = stopped.hub in
     let more = stops.0 in (
       h.course.items,
@@ -237,7 +321,7 @@ stopped_ran p options begun stopped a b d output before broke calls failed store
     go : IsCutOff stopped.hub.reports stopped.hub.course.output output (counted_stream a d calls failed) status
         ⊎ (ReportsAreLive options × IsForeign stopped.hub.reports output (counted_stream a d calls failed) status) →
         (HasEnded options.steps options.watch stopped.hub.course.items stopped.hub.reports (run_of stopped.hub.course)
-        × EndRan (record_name options) (schedule_text options.steps (size_of p) stopped.hub.course.items) stopped.hub.reports options.steps
+        × EndRan asked (record_name options) p stopped.hub.course.items stopped.hub.reports options.steps
         (run_of stopped.hub.course) output (counted_stream a d calls failed) store status
         × (options.workers ≡ 1 → IsChosen p options.steps options.seed stopped.hub.course.items (run_of stopped.hub.course)))
         ⊎ (IsCutOff stopped.hub.reports stopped.hub.course.output output (counted_stream a d calls failed) status × IsUnchanged store.before store.after)
@@ -267,21 +351,21 @@ broke_behind old mid new None reports text output errors status same broke = abs
 broke_behind old mid new (Some name) reports text output errors status same broke =
     (broke.0, broke.1, broke.2, broke.3, λ n. broke.4 n ∙ same n)
 
-end_behind : (old mid new : List ℕ → Content) (name : Option (List ℕ)) (schedule : List ℕ) (reports : List PlainReport) (budget : ℕ) (r : Run)
-    (output errors : Counted) (status : ℕ) → IsUnchanged old mid →
-    EndRan name schedule reports budget r output errors (record { before = mid; after = new }) status →
-    EndRan name schedule reports budget r output errors (record { before = old; after = new }) status
-end_behind old mid new name schedule reports budget r output errors status same (inl told) =
-    inl (told.0, recorded_behind old mid new name schedule same told.1, told.2)
-end_behind old mid new name schedule reports budget r output errors status same (inr (inl broke)) =
+end_behind : (old mid new : List ℕ → Content) (asked : PlainAsked) (name : Option (List ℕ)) (p : List (PlainItem ℕ)) (items : List Item) (reports : List PlainReport)
+    (budget : ℕ) (r : Run) (output errors : Counted) (status : ℕ) → IsUnchanged old mid →
+    EndRan asked name p items reports budget r output errors (record { before = mid; after = new }) status →
+    EndRan asked name p items reports budget r output errors (record { before = old; after = new }) status
+end_behind old mid new asked name p items reports budget r output errors status same (inl told) =
+    inl (told.0, recorded_behind old mid new name (schedule_text budget (size_of p) items) same told.1)
+end_behind old mid new asked name p items reports budget r output errors status same (inr (inl broke)) =
     inr (inl (broke_behind old mid new name reports (whole_output budget r) output errors status same broke))
-end_behind old mid new name schedule reports budget r output errors status same (inr (inr broke)) =
+end_behind old mid new asked name p items reports budget r output errors status same (inr (inr broke)) =
     inr (inr (broke.0, λ n. broke.1 n ∙ same n))
 
-pub program_behind : (old mid new : List ℕ → Content) (p : List (PlainItem ℕ)) (options : RunOptions) (output errors : Counted) (status : ℕ) →
-    IsUnchanged old mid → ProgramRan p options output errors (record { before = mid; after = new }) status →
-    ProgramRan p options output errors (record { before = old; after = new }) status
-program_behind old mid new p options output errors status same (items, reports, r, run, exchanges, inl ended) = (
+program_behind : (old mid new : List ℕ → Content) (asked : PlainAsked) (p : List (PlainItem ℕ)) (options : RunOptions) (output errors : Counted) (status : ℕ) →
+    IsUnchanged old mid → ProgramRan asked p options output errors (record { before = mid; after = new }) status →
+    ProgramRan asked p options output errors (record { before = old; after = new }) status
+program_behind old mid new asked p options output errors status same (items, reports, r, run, exchanges, inl ended) = (
   items,
   reports,
   r,
@@ -289,20 +373,44 @@ program_behind old mid new p options output errors status same (items, reports, 
   exchanges,
   inl (
     ended.0,
-    end_behind old mid new (record_name options) (schedule_text options.steps (size_of p) items) reports options.steps r output errors status same ended.1,
+    end_behind old mid new asked (record_name options) p items reports options.steps r output errors status same ended.1,
     ended.2,
   ),
 )
-program_behind old mid new p options output errors status same (items, reports, r, run, exchanges, inr (inl cut)) =
+program_behind old mid new asked p options output errors status same (items, reports, r, run, exchanges, inr (inl cut)) =
     (items, reports, r, run, exchanges, inr (inl (cut.0, λ n. cut.1 n ∙ same n)))
-program_behind old mid new p options output errors status same (items, reports, r, run, exchanges, inr (inr live)) =
+program_behind old mid new asked p options output errors status same (items, reports, r, run, exchanges, inr (inr live)) =
     (items, reports, r, run, exchanges, inr (inr (live.0, live.1, λ n. live.2 n ∙ same n)))
 
--- the program that was opened was run, or memory ran out before it began
-pub run_ran : (old mid new : List ℕ → Content) (p : List (PlainItem ℕ)) (options : RunOptions) (explains : Bool) (output errors : Counted) (status : ℕ) →
-    IsUnchanged old mid → IsOpened (old options.file.now) p → BegunRan p options output errors (record { before = mid; after = new }) status →
+-- the script was run, with the numbers of its servers
+pub opened_ran : (explains : Bool) (s : PlainScript) (options : RunOptions) (servers : List ℕ) (asked : PlainAsked) (p : List (PlainItem ℕ)) (output errors : Counted)
+    (store : Shelf) (status : ℕ) → first_unknown s (server_names options.end) ≡ None → servers ≡ server_numbers s (server_names options.end) → p ≡ s.program →
+    asked ≡ asked_of explains options.file.now s options.end.strict servers → BegunRan asked p options output errors store status →
+    OpenedRan explains s options output errors store status
+opened_ran explains s options servers asked p output errors store status known numbered program same (inl ran) =
+    inl (inl (
+      known,
+      subst (λ (a : PlainAsked). ProgramRan a s.program options output errors store status)
+          (same ∙ ap (asked_of explains options.file.now s options.end.strict) numbered)
+          (subst (λ (q : List (PlainItem ℕ)). ProgramRan asked q options output errors store status) program ran),
+    ))
+opened_ran explains s options servers asked p output errors store status known numbered program same (inr memory) = inr memory
+
+pub not_numbered_ran : (explains : Bool) (s : PlainScript) (options : RunOptions) (why : Refusal) (name : List ℕ) (output errors : Counted) (store : Shelf) (status : ℕ) →
+    IsNotNumbered s (server_names options.end) why → RefusalRan name why 1 errors status → IsIdle output → IsUnchanged store.before store.after →
+    OpenedRan explains s options output errors store status
+not_numbered_ran explains s options Unread name output errors store status never said idle same = absurd never
+not_numbered_ran explains s options (Wrong told) name output errors store status wrong said idle same =
+    inl (inr ((wrong.0, wrong.1, subst (λ (ts : List ℕ). Says errors ts) wrong.2 said.0, said.1), idle, same))
+not_numbered_ran explains s options Memory name output errors store status any memory idle same = inr (memory, idle, same)
+
+-- the script that was opened was run, or memory ran out before
+pub run_ran : (old mid new : List ℕ → Content) (s : PlainScript) (options : RunOptions) (explains : Bool) (output errors : Counted) (status : ℕ) →
+    IsUnchanged old mid → IsOpened (old options.file.now) s → OpenedRan explains s options output errors (record { before = mid; after = new }) status →
     RunRan options explains output errors (record { before = old; after = new }) status
-run_ran old mid new p options explains output errors status same opened (inl ran) =
-    inl (p, opened, program_behind old mid new p options output errors status same ran)
-run_ran old mid new p options explains output errors status same opened (inr memory) =
+run_ran old mid new s options explains output errors status same opened (inl (inl (known, ran))) =
+    inl (s, opened, inl (known, program_behind old mid new _ s.program options output errors status same ran))
+run_ran old mid new s options explains output errors status same opened (inl (inr (none, idle, kept))) =
+    inl (s, opened, inr (none, idle, λ n. kept n ∙ same n))
+run_ran old mid new s options explains output errors status same opened (inr memory) =
     inr (inr (inr memory.0), memory.1, λ n. memory.2 n ∙ same n)

@@ -1,20 +1,18 @@
 -- What is said of the first bytes of a file is said of the whole.
 use Rattle.std.proofs.Common.{◌≡◌, ◌∙◌, ◌⊎◌, ◌+◌, ◌<◌, ◌≤◌, ℕ, Bool, List, take, length, inl, inr, refl, subst, arith}
-use Rattle.cml_check.specs.Syntax.{PlainItem}
+use Rattle.cml_text.specs.Forms.{PlainSexpr}
+use Rattle.cml_text.specs.Texts.{Spells}
 use Rattle.cml_schedule.specs.Plans.{PlainPlan}
 use Rattle.cml_schedule.specs.Reading.{schedule_limit}
 use Rattle.cml_text.specs.Sizes.{text_limit}
 use Rattle.cml_host.specs.Replaying.{IsSchedule, IsNoSchedule, IsPlanOf, IsNotRead, IsNoPlan}
-use Rattle.cml_host.specs.Scripts.{IsScript, IsNoScript, IsOpened, IsNotMade, IsNotOpened}
+use Rattle.cml_host.specs.Scripts.{PlainScript, IsScript, IsNoScript, IsOpened, IsNotMade, IsNotOpened}
 use Rattle.cml_host.specs.Stores.{Content, unknown, nothing, bytes, IsLoaded}
 use Rattle.cml_host.specs.declared.said.Refusal.{Refusal}
 use Rattle.cml_host.specs.declared.said.Refusal.TheVariants.{Unread, Wrong, Memory}
-use Rattle.cml_host.proofs.TextLemmas.{all_or_long, not_spelled, whole_fault_told, whole_spelled}
+use Rattle.cml_host.proofs.TextLemmas.{all_or_long, not_spelled, whole_fault_told}
 
 -- ---- scripts
-
-whole_script : (all found : List ℕ) (p : List (PlainItem ℕ)) → found ≡ take (text_limit + 1) all → IsScript found p → IsScript all p
-whole_script all found p is script = (script.0, whole_spelled all found script.0 is script.1, script.2)
 
 whole_no_script : (explains : Bool) (name all found told : List ℕ) → found ≡ take (text_limit + 1) all → IsNoScript explains name found told
     → IsNoScript explains name all told
@@ -25,10 +23,18 @@ whole_no_script explains name all found told is (inr shaped) = go (all_or_long t
     go (inl same) = subst (λ t. IsNoScript explains name t told) (is ∙ same) (inr shaped)
     go (inr long) = absurd (not_spelled all found shaped.0 is long.1 shaped.1)
 
-pub opened : (content : Content) (found : List ℕ) (p : List (PlainItem ℕ)) → IsLoaded content text_limit found → IsScript found p → IsOpened content p
-opened unknown found p loaded script = (found, tt, script)
-opened nothing found p loaded script = absurd loaded
-opened (bytes all) found p loaded script = (all, refl, whole_script all found p loaded script)
+-- a text that spells forms was handed over whole
+whole_text : (all found : List ℕ) (forms : List PlainSexpr) → found ≡ take (text_limit + 1) all → Spells found forms → found ≡ all
+whole_text all found forms is spells = go (all_or_long text_limit all)
+  where
+    go : (take (text_limit + 1) all ≡ all) ⊎ ((text_limit < length all) × (text_limit < length (take (text_limit + 1) all))) → found ≡ all
+    go (inl same) = is ∙ same
+    go (inr long) = absurd (not_spelled all found forms is long.1 spells)
+
+pub opened : (content : Content) (s : PlainScript) → IsLoaded content text_limit s.text → IsScript s → IsOpened content s
+opened unknown s loaded script = (tt, script)
+opened nothing s loaded script = absurd loaded
+opened (bytes all) s loaded script = (whole_text all s.text s.forms loaded script.0, script)
 
 pub not_opened : (explains : Bool) (name : List ℕ) (content : Content) (found : List ℕ) (why : Refusal) → IsLoaded content text_limit found
     → IsNotMade explains name found why → IsNotOpened explains name content why

@@ -5,7 +5,9 @@ pub mod Checked
 pub mod Formatted
 pub mod Traced
 pub mod Scripts
+pub mod Servers
 pub mod Told
+pub mod Closed
 pub mod Chosen
 pub mod Running
 pub mod Replaying

@@ -8,7 +8,7 @@ use Rattle.cml_host.specs.Chosen.{by_first, by_words}
 use Rattle.cml_hub.specs.Courses.{run_of}
 use Rattle.cml_hub.specs.Kept.{Kept, SwapsAreExchanges}
 use Rattle.cml_hub.specs.Playing.{Rules, run_by, PlaysOut}
-use Rattle.cml_hub.specs.Runs.{Run, ending, over}
+use Rattle.cml_hub.specs.Runs.{Run, over}
 use Rattle.cml_hub.specs.declared.choose.First.{First}
 use Rattle.cml_monitor.specs.Reports.{PlainReport}
 use Rattle.cml_schedule.specs.declared.item.Item.{Item}
@@ -27,8 +27,10 @@ use Rattle.cml_host.specs.declared.workers.Cause.TheVariants as cause
 use Rattle.cml_host.specs.declared.workers.Stopped.{Stopped}
 use Rattle.cml_host.specs.Stores.{Shelf, IsSaved, IsUnchanged}
 use Rattle.cml_host.specs.Said.{MemoryRan}
-use Rattle.cml_host.specs.Scripts.{IsOpened, NoScriptRan}
-use Rattle.cml_host.specs.Told.{IsRunOf, AllReported, reports_text, whole_output, end_status, cannot_write, IsTold, SaysStill, OutputBroke, MemoryBroke, IsCutOff, IsForeign}
+use Rattle.cml_host.specs.Scripts.{PlainScript, IsOpened, NoScriptRan}
+use Rattle.cml_host.specs.Servers.{NoFunctionRan, first_unknown, server_numbers, server_names}
+use Rattle.cml_host.specs.Told.{IsRunOf, AllReported, reports_text, whole_output, cannot_write, IsTold, SaysStill, OutputBroke, MemoryBroke, OutputNotTold, IsCutOff, IsForeign}
+use Rattle.cml_host.specs.Closed.{PlainAsked, asked_of, IsClosed}
 
 -- the run is over under this budget: nothing is left to do, or the budget is used; and no report is due
 abbrev pub HasEnded : ℕ → Option ℕ → List Item → List PlainReport → Run → Type 0
@@ -51,11 +53,11 @@ RecordBroke (Some name) reports text output errors store status =
     × Says errors (reports_text reports ++ line (codes "cannot write " ++ name)) × (status ≡ 1)
     × IsUnchanged store.before store.after
 
--- A run that is over was told whole, and then its schedule was saved, where that was asked for; or it could not be; or a write of the
--- output failed, and nothing was saved.
-abbrev pub EndRan : Option (List ℕ) → List ℕ → List PlainReport → ℕ → Run → Counted → Counted → Shelf → ℕ → Type 0
-EndRan name schedule reports budget r output errors store status =
-    (IsTold reports (whole_output budget r) output errors × IsRecorded name schedule store × (status ≡ end_status (ending budget r)))
+-- A run that is over was told whole, with how it ended where that was asked for, and its schedule was saved, where that was asked for; or it
+-- could not be; or a write of the output failed, and nothing was saved.
+abbrev pub EndRan : PlainAsked → Option (List ℕ) → List (PlainItem ℕ) → List Item → List PlainReport → ℕ → Run → Counted → Counted → Shelf → ℕ → Type 0
+EndRan asked name p items reports budget r output errors store status =
+    (IsClosed asked p items reports budget r output errors status × IsRecorded name (schedule_text budget (size_of p) items) store)
     ⊎ RecordBroke name reports (whole_output budget r) output errors store status
     ⊎ (OutputBroke reports (whole_output budget r) output errors status × IsUnchanged store.before store.after)
 
@@ -76,30 +78,47 @@ IsChosen p budget (Some seed) items r = IsRunBy p budget by_words (seeded seed) 
 -- The program was run, and each row of two swaps that was taken is an exchange. The run came to its end, and that was told; with one worker
 -- it is the run that the seed chooses. Or it was cut off on the way, and nothing was saved. Where reports are written while the program runs,
 -- there is one more case, in which nothing was saved either: the reports that were written are not all of its own, and the errors tell that.
-abbrev pub ProgramRan : List (PlainItem ℕ) → RunOptions → Counted → Counted → Shelf → ℕ → Type 0
-ProgramRan p options output errors store status =
+abbrev pub ProgramRan : PlainAsked → List (PlainItem ℕ) → RunOptions → Counted → Counted → Shelf → ℕ → Type 0
+ProgramRan asked p options output errors store status =
     (items : List Item) × (reports : List PlainReport) × (r : Run) × IsRunOf p options.watch items reports r × SwapsAreExchanges p [] items
     × ((HasEnded options.steps options.watch items reports r
-    × EndRan (record_name options) (schedule_text options.steps (size_of p) items) reports options.steps r output errors store status
+    × EndRan asked (record_name options) p items reports options.steps r output errors store status
     × (options.workers ≡ 1 → IsChosen p options.steps options.seed items r))
     ⊎ (IsCutOff reports r.output output errors status × IsUnchanged store.before store.after)
     ⊎ (ReportsAreLive options × IsForeign reports output errors status × IsUnchanged store.before store.after))
+
+-- The script was run, where it has the functions that are named as those of servers; or it has not, and nothing was written to the output or
+-- saved.
+abbrev pub ScriptRan : Bool → PlainScript → RunOptions → Counted → Counted → Shelf → ℕ → Type 0
+ScriptRan explains s options output errors store status =
+    ((first_unknown s (server_names options.end) ≡ None)
+    × ProgramRan (asked_of explains options.file.now s options.end.strict (server_numbers s (server_names options.end))) s.program options
+    output errors store status)
+    ⊎ (NoFunctionRan s (server_names options.end) errors status × IsIdle output × IsUnchanged store.before store.after)
 
 -- `run`: the script that lies under the name was run; or it was not (no script lies there, which may be explained, it was not read, or
 -- memory ran out), and nothing was written to the output or saved.
 abbrev pub RunRan : RunOptions → Bool → Counted → Counted → Shelf → ℕ → Type 0
 RunRan options explains output errors store status =
-    ((p : List (PlainItem ℕ)) × IsOpened (store.before options.file.now) p × ProgramRan p options output errors store status)
+    ((s : PlainScript) × IsOpened (store.before options.file.now) s × ScriptRan explains s options output errors store status)
     ⊎ (NoScriptRan explains (store.before options.file.now) options.file.now errors status
     × IsIdle output × IsUnchanged store.before store.after)
 
 -- ---- what private functions say
 
+-- memory ran out before the program began
+abbrev pub NeverBegan : Counted → Counted → Shelf → ℕ → Type 0
+NeverBegan output errors store status = MemoryRan errors status × IsIdle output × IsUnchanged store.before store.after
+
 -- the program was run, or memory ran out before it began
-abbrev pub BegunRan : List (PlainItem ℕ) → RunOptions → Counted → Counted → Shelf → ℕ → Type 0
-BegunRan p options output errors store status =
-    ProgramRan p options output errors store status
-    ⊎ (MemoryRan errors status × IsIdle output × IsUnchanged store.before store.after)
+abbrev pub BegunRan : PlainAsked → List (PlainItem ℕ) → RunOptions → Counted → Counted → Shelf → ℕ → Type 0
+BegunRan asked p options output errors store status =
+    ProgramRan asked p options output errors store status ⊎ NeverBegan output errors store status
+
+-- the same of the script
+abbrev pub OpenedRan : Bool → PlainScript → RunOptions → Counted → Counted → Shelf → ℕ → Type 0
+OpenedRan explains s options output errors store status =
+    ScriptRan explains s options output errors store status ⊎ NeverBegan output errors store status
 
 -- The hub has run to its end, and its reports were written to the errors.
 abbrev pub HasRun : Kept → Kept → Counted → Type 0
@@ -159,11 +178,23 @@ StopRan h cause.Write output errors status = SaysStill errors [] cannot_write ×
 StopRan h cause.Foreign output errors status = Says errors (line (codes "foreign hub")) × IsIdle output × (status ≡ 1)
 
 -- a hub that is over was told after these reports, and its schedule saved, as far as that could be
-abbrev pub EndedRan : Option (List ℕ) → Kept → List PlainReport → Counted → Counted → Shelf → ℕ → Type 0
-EndedRan name h reports output errors store status =
-    EndRan name (schedule_text h.budget (size_of h.course.program) h.course.items) reports h.budget (run_of h.course) output errors store status
+abbrev pub EndedRan : PlainAsked → Option (List ℕ) → Kept → List PlainReport → Counted → Counted → Shelf → ℕ → Type 0
+EndedRan asked name h reports output errors store status =
+    EndRan asked name h.course.program h.course.items reports h.budget (run_of h.course) output errors store status
     ⊎ ((MemoryBroke reports h.course.output output errors status ⊎ OutputBroke reports h.course.output output errors status)
     × IsUnchanged store.before store.after)
+
+-- its output was told, and its schedule saved, where that was asked for
+abbrev pub IsEnded : Option (List ℕ) → Kept → Counted → Counted → Shelf → Type 0
+IsEnded name h output errors store =
+    IsTold [] (whole_output h.budget (run_of h.course)) output errors
+    × IsRecorded name (schedule_text h.budget (size_of h.course.program) h.course.items) store
+
+-- or not: the schedule could not be saved, or the output not be told
+abbrev pub IsNotEnded : Option (List ℕ) → Kept → Counted → Counted → Shelf → ℕ → Type 0
+IsNotEnded name h output errors store status =
+    RecordBroke name [] (whole_output h.budget (run_of h.course)) output errors store status
+    ⊎ (OutputNotTold [] h.course.output (whole_output h.budget (run_of h.course)) output errors status × IsUnchanged store.before store.after)
 
 -- what there is to save of a hub under this name, and what is said where that can't be
 abbrev pub IsMade : Kept → List ℕ → Record → Type 0
@@ -171,8 +202,11 @@ IsMade h name made =
     (made.schedule.items ≡ schedule_text h.budget (size_of h.course.program) h.course.items)
     × (string_bytes made.refused ≡ line (codes "cannot write " ++ name))
 
--- the record was saved, and the status is the one that was given; or it was refused
-abbrev pub RecordRan : List ℕ → Record → ℕ → Counted → Shelf → ℕ → Type 0
-RecordRan name made given errors store status =
-    (IsSaved store.before store.after name made.schedule.items × (status ≡ given) × Takes errors.bytes [] × (errors.counts.failed ≡ 0))
-    ⊎ (IsUnchanged store.before store.after × Says errors (string_bytes made.refused) × (status ≡ 1))
+-- the record was saved
+abbrev pub IsKept : List ℕ → Record → Counted → Shelf → Type 0
+IsKept name made errors store =
+    IsSaved store.before store.after name made.schedule.items × Takes errors.bytes [] × (errors.counts.failed ≡ 0)
+
+-- or it was refused
+abbrev pub IsNotKept : Record → Counted → Shelf → ℕ → Type 0
+IsNotKept made errors store status = IsUnchanged store.before store.after × Says errors (string_bytes made.refused) × (status ≡ 1)

@@ -10,16 +10,23 @@ use Rattle.cml_step.specs.Calls.{text_of}
 use Rattle.cml_stream.specs.Streams.{Counted, Says}
 use Rattle.cml_host.specs.Stores.{Content, MayBeRefused}
 use Rattle.cml_host.specs.Said.{IsText, RefusedRan, text_told, script_told}
+use Rattle.cml_host.specs.declared.script.Script.{Script}
 use Rattle.cml_host.specs.declared.said.Refusal.{Refusal}
 use Rattle.cml_host.specs.declared.said.Refusal.TheVariants.{Unread, Wrong, Memory}
 
--- the text spells the forms of this program
-abbrev pub IsScript : List ℕ → List (PlainItem ℕ) → Type 0
-IsScript text p = (forms : List PlainSexpr) × Spells text forms × (shape forms ≡ Ok (text_of p))
+-- a script: its text, its forms, and its program
+pub record PlainScript : Type 0 where
+  pub text : List ℕ
+  pub forms : List PlainSexpr
+  pub program : List (PlainItem ℕ)
 
--- what lies there is a text that spells the forms of this program
-abbrev pub IsOpened : Content → List (PlainItem ℕ) → Type 0
-IsOpened content p = (text : List ℕ) × IsText content text × IsScript text p
+-- the text spells the forms, and these are those of the program
+abbrev pub IsScript : PlainScript → Type 0
+IsScript s = Spells s.text s.forms × (shape s.forms ≡ Ok (text_of s.program))
+
+-- what lies there is this script
+abbrev pub IsOpened : Content → PlainScript → Type 0
+IsOpened content s = IsText content s.text × IsScript s
 
 -- The text under this name is no script, and this says why: it spells no forms, for the fault that it has; or its forms are no program.
 abbrev pub IsNoScript : Bool → List ℕ → List ℕ → List ℕ → Type 0
@@ -35,6 +42,10 @@ NoScriptRan explains content name errors status =
     ⊎ RefusedRan content name errors status
 
 -- ---- what private functions say
+
+-- a script in memory
+abbrev pub plain_script : Script → PlainScript
+plain_script s = record { text = s.text.items; forms = s.forms.items; program = s.program }
 
 -- the forms are those of this program
 abbrev pub IsProgramOf : List PlainSexpr → List (PlainItem ℕ) → Type 0

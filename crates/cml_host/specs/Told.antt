@@ -1,5 +1,5 @@
 -- What is told of a run of a script: its reports to the errors, its output and its end line to the output.
-use Rattle.std.specs.Prelude.{◌≡◌, ◌≢◌, ◌⊎◌, ℕ, List, ◌++◌, length, codes, Option, Some, Result, Ok, Err}
+use Rattle.std.specs.Prelude.{◌≡◌, ◌≢◌, ◌⊎◌, ℕ, List, ◌++◌, length, codes, Option, Some, None, Result, Ok, Err}
 use Rattle.std.specs.List.{flat_map}
 use Rattle.cml_check.specs.Syntax.{PlainItem}
 use Rattle.cml_hub.specs.declared.fault.End.{End}
@@ -57,6 +57,18 @@ abbrev pub IsTold : List PlainReport → List ℕ → Counted → Counted → Ty
 IsTold reports text output errors =
     Takes errors.bytes (reports_text reports) × (errors.counts.failed ≡ 0)
     × Takes output.bytes text × (output.counts.failed ≡ 0)
+
+-- after this was written to the errors, that was, or where a write of it failed a prefix of it
+abbrev pub SaysAfter : Counted → List ℕ → List ℕ → Type 0
+SaysAfter errors before told =
+    (Takes errors.bytes (before ++ told) × (errors.counts.failed ≡ 0))
+    ⊎ ((said : List ℕ) × (unsaid : List ℕ) × (told ≡ said ++ unsaid) × Takes errors.bytes (before ++ said) × (errors.counts.failed ≡ 1))
+
+-- all of it, and then these words were said to the errors, if there are any
+abbrev pub IsToldWith : Option (List ℕ) → List PlainReport → List ℕ → Counted → Counted → Type 0
+IsToldWith None reports text output errors = IsTold reports text output errors
+IsToldWith (Some words) reports text output errors =
+    SaysAfter errors (reports_text reports) words × Takes output.bytes text × (output.counts.failed ≡ 0)
 
 -- the line that tells of a write that failed
 abbrev pub cannot_write : List ℕ

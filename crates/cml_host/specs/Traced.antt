@@ -1,12 +1,15 @@
 -- The command `trace`: its status, and what it says of a fault.
-use Rattle.std.specs.Prelude.{◌≡◌, ◌⊎◌, ℕ, List, Ok, Err, codes}
+use Rattle.std.specs.Prelude.{◌≡◌, ◌⊎◌, ℕ, ◌≤◌, Bool, true, false, List, Ok, Err, codes}
 use Rattle.cml_trace.specs.declared.fault.TraceEnd.{TraceEnd}
 use Rattle.cml_trace.specs.declared.fault.TraceEnd.TheVariants.{Done, Bad, TooLong}
 use Rattle.cml_trace.specs.declared.fault.TraceFault.{TraceFault}
 use Rattle.cml_trace.specs.declared.fault.TraceFault.TheVariants.{Read, Turns, Write, Memory}
+use Rattle.cml_trace.specs.Answers.{max_input}
 use Rattle.cml_trace.specs.Faults.{HasCause}
+use Rattle.cml_trace.specs.Live.{max_turns, IsHeardOut, LiveIsStopped, HasLiveCause}
 use Rattle.cml_trace.specs.Replies.{line}
 use Rattle.cml_trace.specs.Runs.{IsAnswered, IsBroken}
+use Rattle.cml_stream.specs.Counts.{most_reads}
 use Rattle.cml_stream.specs.Streams.{Counted, IsIdle, Says}
 
 -- 0 where all was done, 2 where the trace has a bad line or is too long
@@ -31,9 +34,24 @@ trace_fault_line Memory = line (codes "memory")
 
 -- The trace on the input was answered, and no call of its streams failed; or not to its end, since a call failed, the input did not end
 -- or memory ran out, and the errors tell of it.
-abbrev pub TraceRan : Counted → Counted → Counted → ℕ → Type 0
-TraceRan input output errors status =
+abbrev pub WholeRan : Counted → Counted → Counted → ℕ → Type 0
+WholeRan input output errors status =
     ((end : TraceEnd) × IsAnswered input.bytes output.bytes end × HasCause (Ok end) input.counts output.counts
     × (status ≡ status_of end) × IsIdle errors)
     ⊎ ((fault : TraceFault) × IsBroken input.bytes output.bytes fault × HasCause (Err fault) input.counts output.counts
     × (status ≡ fault_status fault) × Says errors (trace_fault_line fault))
+
+-- The same of a trace of which each line is answered as soon as it was read: where a read failed, or as many turns were taken as may be,
+-- all whole lines that came are answered.
+abbrev pub LiveRan : Counted → Counted → Counted → ℕ → Type 0
+LiveRan input output errors status =
+    ((end : TraceEnd) × IsHeardOut input.bytes output.bytes end × HasLiveCause max_turns (Ok end) input.counts output.counts
+    × (status ≡ status_of end) × IsIdle errors)
+    ⊎ ((fault : TraceFault) × LiveIsStopped input.bytes output.bytes fault × HasLiveCause max_turns (Err fault) input.counts output.counts
+    × (status ≡ fault_status fault) × Says errors (trace_fault_line fault))
+
+-- What the command did: the lines are answered as they come, or the whole trace is, of which the reader is asked only so often.
+abbrev pub TraceRan : Bool → Counted → Counted → Counted → ℕ → Type 0
+TraceRan true input output errors status = LiveRan input output errors status
+TraceRan false input output errors status =
+    WholeRan input output errors status × (input.counts.calls ≤ most_reads max_input)

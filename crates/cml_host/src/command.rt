@@ -4,9 +4,8 @@ ghost use Rattle.std.specs.Prelude.{◌≡◌, ◌≤◌, map};
 ghost use Rattle.std.specs.String.{string_bytes};
 ghost use Rattle.cml_host.specs.Statuses.{Surroundings, Ran, RanOver};
 ghost use Rattle.cml_host.specs.Stores.{Shelf};
-ghost use Rattle.cml_stream.specs.Counts.{most_reads};
 ghost use Rattle.cml_stream.specs.Streams.{counted_stream, stream};
-ghost use Rattle.cml_trace.specs.Answers.{max_input};
+ghost use Rattle.cml_trace.specs.Live.{max_turns};
 
 use crate::check::check_file;
 use crate::fmt::print_file;
@@ -94,13 +93,13 @@ where
       store = record { before = S.holds store.old; after = S.holds store.new };
     } in
         Ran (map string_bytes words.now) around result }
-    ensures most { input.new.calls ≤ most_reads max_input }
+    ensures most { input.new.calls ≤ max_turns }
     ensures same_in { input.new.stream.ghost_name ≡ input.old.stream.ghost_name }
     ensures same_out { out.new.stream.ghost_name ≡ out.old.stream.ghost_name }
     ensures same_err { err.new.stream.ghost_name ≡ err.old.stream.ghost_name }
 {
     match read_words(alloc, words) {
-        Ok(Answer::Task(Task::Trace)) => trace(alloc, input, out, err),
+        Ok(Answer::Task(Task::Trace(options))) => trace(alloc, options.live, input, out, err),
         Ok(Answer::Task(Task::Check(options))) => {
             let explains = options.explain.is_on(terminal);
             check_file(alloc, options.file, explains, out, err, store)

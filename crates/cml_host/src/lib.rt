@@ -2,6 +2,7 @@
 #![tactic(auto)]
 
 mod check;
+mod close;
 mod command;
 mod file;
 mod fmt;
@@ -11,6 +12,7 @@ mod reports;
 mod run;
 mod said;
 mod script;
+mod servers;
 mod source;
 mod store;
 mod tell;

@@ -2,14 +2,18 @@
 
 ghost use Rattle.std.specs.Prelude.{◌≡◌, IfOk, IfErr};
 ghost use Rattle.cml_hub.specs.Kept.{IsBudget, IsWatch, FitsSize, IsReplayed};
-ghost use Rattle.cml_host.specs.Replaying.{ReplayRan, ReplayTold, ScheduleRan, IsPlanOf, IsSchedule, IsHubOf, IsNoHub, IsNoPlan, IsNotRead, IsNotRun};
+ghost use Rattle.cml_host.specs.Closed.{plain_asked};
+ghost use Rattle.cml_host.specs.Scripts.{plain_script};
+ghost use Rattle.cml_host.specs.Replaying.{ReplayRan, ReplayTold, OpenedReplayed, ScheduleRan, IsPlanOf, IsSchedule, IsHubOf, IsNoHub, IsNoPlan, IsNotRead, IsNotRun};
 ghost use Rattle.cml_host.specs.Stores.{IsUnchanged};
 ghost use Rattle.cml_stream.specs.Streams.{counted_stream};
 
+use crate::close::{Asked, ask, close, say_end};
 use crate::said::{Refusal, refuse};
-use crate::script::open_script;
+use crate::script::{Script, open_script};
+use crate::servers::find_servers;
 use crate::store::Store;
-use crate::tell::{hub_is_a_run, let_go, tell};
+use crate::tell::{cut_run, hub_is_a_run, let_go, tell};
 use cml_check::Prog;
 use cml_hub::{Hub, Plan, ReplayFault, ScheduleFault, matches_program, read_schedule};
 use cml_stream::Counting;
@@ -20,8 +24,8 @@ use std::io::Write;
 /// The most bytes of a schedule.
 const SCHEDULE_LIMIT: usize = 67_108_864;
 
-/// Runs the script that lies under its name again, by the schedule that lies under its own; and explains what is wrong with the script,
-/// where that is asked for.
+/// Runs the script that lies under its name again, by the schedule that lies under its own; and explains what is wrong with the script and how
+/// its run ended, where that is asked for.
 pub fn replay_file<O: Write, E: Write, S: Store>(
     alloc: Global,
     options: &ReplayOptions<'_>,
@@ -40,8 +44,45 @@ pub fn replay_file<O: Write, E: Write, S: Store>(
     ensures same_err { err.new.stream.ghost_name ≡ err.old.stream.ghost_name }
 {
     match open_script(alloc, options.script, explains, store) {
-        Ok(program) => replay_program(alloc, program, options, out, err, store),
+        Ok(script) => replay_script(alloc, script, options, explains, out, err, store),
         Err(why) => refuse(alloc, options.script, why, 2, err),
+    }
+}
+
+// Runs the script by the schedule, where it has the functions that are named as those of servers.
+fn replay_script<O: Write, E: Write, S: Store>(
+    alloc: Global,
+    script: Script,
+    options: &ReplayOptions<'_>,
+    explains: bool,
+    out: &mut Counting<'_, O>,
+    err: &mut Counting<'_, E>,
+    store: &mut S,
+) -> u8
+    requires watch { IsWatch options.now.watch }
+    requires fresh { (out.old.calls ≡ 0) × (out.old.failed ≡ 0) × (err.old.calls ≡ 0) × (err.old.failed ≡ 0) }
+    ensures ran { let output = counted_stream (O.contents out.old.stream.now) (O.contents out.new.stream.now) out.new.calls out.new.failed in
+        let errors = counted_stream (E.contents err.old.stream.now) (E.contents err.new.stream.now) err.new.calls err.new.failed in
+        OpenedReplayed explains (plain_script script) options.now (S.holds store.old options.now.schedule.now) output errors result }
+    ensures same { IsUnchanged (S.holds store.old) (S.holds store.new) }
+    ensures same_out { out.new.stream.ghost_name ≡ out.old.stream.ghost_name }
+    ensures same_err { err.new.stream.ghost_name ≡ err.old.stream.ghost_name }
+{
+    match find_servers(alloc, &script, options.end.servers.as_slice()) {
+        Ok(servers) => {
+            let (program, asked) = ask(
+                options.script,
+                script,
+                explains,
+                options.end.strict,
+                servers,
+            );
+            replay_program(alloc, program, &asked, options, out, err, store)
+        }
+        Err(why) => {
+            drop(script);
+            refuse(alloc, options.script, why, 1, err)
+        }
     }
 }
 
@@ -49,6 +90,7 @@ pub fn replay_file<O: Write, E: Write, S: Store>(
 fn replay_program<O: Write, E: Write, S: Store>(
     alloc: Global,
     program: Prog,
+    asked: &Asked<'_>,
     options: &ReplayOptions<'_>,
     out: &mut Counting<'_, O>,
     err: &mut Counting<'_, E>,
@@ -58,14 +100,14 @@ fn replay_program<O: Write, E: Write, S: Store>(
     requires fresh { (out.old.calls ≡ 0) × (out.old.failed ≡ 0) × (err.old.calls ≡ 0) × (err.old.failed ≡ 0) }
     ensures ran { let output = counted_stream (O.contents out.old.stream.now) (O.contents out.new.stream.now) out.new.calls out.new.failed in
         let errors = counted_stream (E.contents err.old.stream.now) (E.contents err.new.stream.now) err.new.calls err.new.failed in
-        ScheduleRan program options.now.watch options.now.schedule.now (S.holds store.old options.now.schedule.now) output errors result }
+        ScheduleRan (plain_asked asked.now) program options.now.watch options.now.schedule.now (S.holds store.old options.now.schedule.now) output errors result }
     ensures same { IsUnchanged (S.holds store.old) (S.holds store.new) }
     ensures same_out { out.new.stream.ghost_name ≡ out.old.stream.ghost_name }
     ensures same_err { err.new.stream.ghost_name ≡ err.old.stream.ghost_name }
 {
     match replayed(alloc, program, options, store) {
         Ok(hub) => {
-            let status = tell_run(alloc, &hub, out, err);
+            let status = tell_run(alloc, &hub, asked, out, err);
             let_go(hub);
             status
         }
@@ -73,23 +115,27 @@ fn replay_program<O: Write, E: Write, S: Store>(
     }
 }
 
-// Tells where the schedule has led.
+// Tells where the schedule has led, and says how the run ended, where that is asked for. What is said is made before anything is told.
 fn tell_run<O: Write, E: Write>(
     alloc: Global,
     hub: &Hub,
+    asked: &Asked<'_>,
     out: &mut Counting<'_, O>,
     err: &mut Counting<'_, E>,
 ) -> u8
     requires fresh { (out.old.calls ≡ 0) × (out.old.failed ≡ 0) × (err.old.failed ≡ 0) }
     ensures told { let output = counted_stream (O.contents out.old.stream.now) (O.contents out.new.stream.now) out.new.calls out.new.failed in
         let errors = counted_stream (E.contents err.old.stream.now) (E.contents err.new.stream.now) err.new.calls err.new.failed in
-        ReplayTold hub.now output errors result }
+        ReplayTold (plain_asked asked.now) hub.now output errors result }
     ensures same_out { out.new.stream.ghost_name ≡ out.old.stream.ghost_name }
     ensures same_err { err.new.stream.ghost_name ≡ err.old.stream.ghost_name }
 {
     hub_is_a_run(hub);
+    let Ok(closing) = close(alloc, hub, asked) else {
+        return cut_run(hub, out, err);
+    };
     match tell(alloc, hub, out, err) {
-        Ok(status) => status,
+        Ok(()) => say_end(&closing, err),
         Err(status) => status,
     }
 }

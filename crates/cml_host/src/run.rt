@@ -1,15 +1,19 @@
 //! The command `run`: a script runs to its end, and its schedule is saved where that is asked for.
 
-ghost use Rattle.std.specs.Prelude.{◌≡◌, [], IfOk};
+ghost use Rattle.std.specs.Prelude.{◌≡◌, [], IfErr, IfOk, OnOk, option_map};
 ghost use Rattle.cml_hub.specs.Kept.{IsAtStart, IsBudget, IsWatch};
-ghost use Rattle.cml_host.specs.Running.{RunRan, BegunRan, ProgramRan, EndedRan, record_name, IsMade, RecordRan};
+ghost use Rattle.cml_host.specs.Closed.{plain_asked};
+ghost use Rattle.cml_host.specs.Running.{RunRan, OpenedRan, BegunRan, ProgramRan, EndedRan, IsEnded, IsNotEnded, IsMade, IsKept, IsNotKept};
+ghost use Rattle.cml_host.specs.Scripts.{plain_script};
 ghost use Rattle.cml_host.specs.Stores.{Shelf};
 ghost use Rattle.cml_stream.specs.Streams.{counted_stream};
 ghost use Rattle.cml_work.specs.Works.{IsWorkerCount};
 
+use crate::close::{Asked, ask, close, say_end};
 use crate::output::say;
 use crate::said::refuse;
-use crate::script::open_script;
+use crate::script::{Script, open_script};
+use crate::servers::find_servers;
 use crate::store::Store;
 use crate::tell::{cut_output, hub_is_a_run, let_go, stop, tell_output};
 use crate::workers::run_hub;
@@ -30,7 +34,7 @@ struct Record {
     refused: String,
 }
 
-/// Runs the script that lies under the name, and explains what is wrong with it, where that is asked for.
+/// Runs the script that lies under the name, and explains what is wrong with it and how its run ended, where that is asked for.
 pub fn run_file<R, G, O, E, S>(
     rt: &R,
     alloc: Global,
@@ -57,8 +61,47 @@ where
     ensures same_err { err.new.stream.ghost_name ≡ err.old.stream.ghost_name }
 {
     match open_script(alloc, options.file, explains, store) {
-        Ok(program) => run_program(rt, alloc, gate, program, options, out, err, store),
+        Ok(script) => run_script(rt, alloc, gate, script, options, explains, out, err, store),
         Err(why) => refuse(alloc, options.file, why, 2, err),
+    }
+}
+
+// Runs the script, where it has the functions that are named as those of servers.
+fn run_script<R, G, O, E, S>(
+    rt: &R,
+    alloc: Global,
+    gate: &G,
+    script: Script,
+    options: &RunOptions<'_>,
+    explains: bool,
+    out: &mut Counting<'_, O>,
+    err: &mut Counting<'_, E>,
+    store: &mut S,
+) -> u8
+where
+    R: Threads + Wait + Sync,
+    G: Gate + Sync,
+    O: Write,
+    E: Write + Send,
+    S: Store,
+    requires counts { IsWorkerCount options.now.workers × IsBudget options.now.steps × IsWatch options.now.watch }
+    requires fresh { (out.old.calls ≡ 0) × (out.old.failed ≡ 0) × (err.old.calls ≡ 0) × (err.old.failed ≡ 0) }
+    ensures ran { let output = counted_stream (O.contents out.old.stream.now) (O.contents out.new.stream.now) out.new.calls out.new.failed in
+        let errors = counted_stream (E.contents err.old.stream.now) (E.contents err.new.stream.now) err.new.calls err.new.failed in
+        let shelf : Shelf = record { before = S.holds store.old; after = S.holds store.new } in
+        OpenedRan explains (plain_script script) options.now output errors shelf result }
+    ensures same_out { out.new.stream.ghost_name ≡ out.old.stream.ghost_name }
+    ensures same_err { err.new.stream.ghost_name ≡ err.old.stream.ghost_name }
+{
+    match find_servers(alloc, &script, options.end.servers.as_slice()) {
+        Ok(servers) => {
+            let (program, asked) = ask(options.file, script, explains, options.end.strict, servers);
+            run_program(rt, alloc, gate, program, &asked, options, out, err, store)
+        }
+        Err(why) => {
+            drop(script);
+            refuse(alloc, options.file, why, 1, err)
+        }
     }
 }
 
@@ -68,6 +111,7 @@ fn run_program<R, G, O, E, S>(
     alloc: Global,
     gate: &G,
     program: Prog,
+    asked: &Asked<'_>,
     options: &RunOptions<'_>,
     out: &mut Counting<'_, O>,
     err: &mut Counting<'_, E>,
@@ -84,12 +128,12 @@ where
     ensures ran { let output = counted_stream (O.contents out.old.stream.now) (O.contents out.new.stream.now) out.new.calls out.new.failed in
         let errors = counted_stream (E.contents err.old.stream.now) (E.contents err.new.stream.now) err.new.calls err.new.failed in
         let shelf : Shelf = record { before = S.holds store.old; after = S.holds store.new } in
-        BegunRan program options.now output errors shelf result }
+        BegunRan (plain_asked asked.now) program options.now output errors shelf result }
     ensures same_out { out.new.stream.ghost_name ≡ out.old.stream.ghost_name }
     ensures same_err { err.new.stream.ghost_name ≡ err.old.stream.ghost_name }
 {
     match Hub::begin(alloc, program, options.steps, options.watch) {
-        Ok(hub) => run_begun(rt, alloc, gate, hub, options, out, err, store),
+        Ok(hub) => run_begun(rt, alloc, gate, hub, asked, options, out, err, store),
         Err(back) => {
             drop(back.value);
             say(err, b"memory\n");
@@ -104,6 +148,7 @@ fn run_begun<R, G, O, E, S>(
     alloc: Global,
     gate: &G,
     hub: Hub,
+    asked: &Asked<'_>,
     options: &RunOptions<'_>,
     out: &mut Counting<'_, O>,
     err: &mut Counting<'_, E>,
@@ -121,7 +166,7 @@ where
     ensures ran { let output = counted_stream (O.contents out.old.stream.now) (O.contents out.new.stream.now) out.new.calls out.new.failed in
         let errors = counted_stream (E.contents err.old.stream.now) (E.contents err.new.stream.now) err.new.calls err.new.failed in
         let shelf : Shelf = record { before = S.holds store.old; after = S.holds store.new } in
-        ProgramRan hub.course.program options.now output errors shelf result }
+        ProgramRan (plain_asked asked.now) hub.course.program options.now output errors shelf result }
     ensures same_out { out.new.stream.ghost_name ≡ out.old.stream.ghost_name }
     ensures same_err { err.new.stream.ghost_name ≡ err.old.stream.ghost_name }
 {
@@ -129,7 +174,7 @@ where
     match run_hub(rt, alloc, gate, hub, options, err) {
         Ok(hub) => {
             hub_is_a_run(&hub);
-            let status = end(alloc, &hub, options, out, err, store);
+            let status = end(alloc, &hub, asked, options.record, out, err, store);
             let_go(hub);
             status
         }
@@ -142,12 +187,13 @@ where
     }
 }
 
-// Tells the output of a run that is over, whose reports are told, and saves its schedule, where that was asked for. What is saved is made
-// before the output is told.
+// Tells the output of a run that is over, whose reports are told, saves its schedule, and says how it ended, where that was asked for. What is
+// said is made before the output is told.
 fn end<O: Write, E: Write, S: Store>(
     alloc: Global,
     hub: &Hub,
-    options: &RunOptions<'_>,
+    asked: &Asked<'_>,
+    save_as: Option<&str>,
     out: &mut Counting<'_, O>,
     err: &mut Counting<'_, E>,
     store: &mut S,
@@ -156,22 +202,49 @@ fn end<O: Write, E: Write, S: Store>(
     ensures ran { let output = counted_stream (O.contents out.old.stream.now) (O.contents out.new.stream.now) out.new.calls out.new.failed in
         let errors = counted_stream (E.contents err.old.stream.now) (E.contents err.new.stream.now) err.new.calls err.new.failed in
         let shelf : Shelf = record { before = S.holds store.old; after = S.holds store.new } in
-        EndedRan (record_name options.now) hub.now [] output errors shelf result }
+        EndedRan (plain_asked asked.now) (option_map (λ name. name.now) save_as.entry) hub.now [] output errors shelf result }
     ensures same_out { out.new.stream.ghost_name ≡ out.old.stream.ghost_name }
     ensures same_err { err.new.stream.ghost_name ≡ err.old.stream.ghost_name }
 {
-    let Some(name) = options.record else {
-        return match tell_output(alloc, hub, out, err) {
-            Ok(status) => status,
-            Err(status) => status,
-        };
-    };
-    let Ok(record) = make_record(alloc, hub, name) else {
+    let Ok(closing) = close(alloc, hub, asked) else {
         return cut_output(hub.out(), out, err);
     };
-    match tell_output(alloc, hub, out, err) {
-        Ok(status) => save_record(name, &record, status, err, store),
+    match tell_and_save(alloc, hub, save_as, out, err, store) {
+        Ok(()) => say_end(&closing, err),
         Err(status) => status,
+    }
+}
+
+// Tells the output of a run that is over, and saves its schedule, where that was asked for. What is saved is made before the output is told.
+fn tell_and_save<O: Write, E: Write, S: Store>(
+    alloc: Global,
+    hub: &Hub,
+    save_as: Option<&str>,
+    out: &mut Counting<'_, O>,
+    err: &mut Counting<'_, E>,
+    store: &mut S,
+) -> Result<(), u8>
+    requires fresh { (out.old.failed ≡ 0) × (err.old.failed ≡ 0) }
+    ensures ended { let output = counted_stream (O.contents out.old.stream.now) (O.contents out.new.stream.now) out.new.calls out.new.failed in
+        let errors = counted_stream (E.contents err.old.stream.now) (E.contents err.new.stream.now) err.new.calls err.new.failed in
+        let shelf : Shelf = record { before = S.holds store.old; after = S.holds store.new } in
+        OnOk result (IsEnded (option_map (λ name. name.now) save_as.entry) hub.now output errors shelf) }
+    ensures not_ended { let output = counted_stream (O.contents out.old.stream.now) (O.contents out.new.stream.now) out.new.calls out.new.failed in
+        let errors = counted_stream (E.contents err.old.stream.now) (E.contents err.new.stream.now) err.new.calls err.new.failed in
+        let shelf : Shelf = record { before = S.holds store.old; after = S.holds store.new } in
+        IfErr result (IsNotEnded (option_map (λ name. name.now) save_as.entry) hub.now output errors shelf) }
+    ensures same_out { out.new.stream.ghost_name ≡ out.old.stream.ghost_name }
+    ensures same_err { err.new.stream.ghost_name ≡ err.old.stream.ghost_name }
+{
+    let Some(name) = save_as else {
+        return tell_output(alloc, hub, out, err);
+    };
+    let Ok(made) = make_record(alloc, hub, name) else {
+        return Err(cut_output(hub.out(), out, err));
+    };
+    match tell_output(alloc, hub, out, err) {
+        Ok(()) => save_record(name, &made, err, store),
+        Err(status) => Err(status),
     }
 }
 
@@ -184,25 +257,27 @@ fn make_record(alloc: Global, hub: &Hub, name: &str) -> Result<Record, AllocErro
     Ok(Record { schedule, refused })
 }
 
-// Saves the record, and returns the status that is given; or says that it can't be saved.
+// Saves the record, or says that it can't be saved.
 fn save_record<E: Write, S: Store>(
     name: &str,
     made: &Record,
-    status: u8,
     err: &mut Counting<'_, E>,
     store: &mut S,
-) -> u8
+) -> Result<(), u8>
     requires fresh { err.old.failed ≡ 0 }
-    ensures ran { let errors = counted_stream (E.contents err.old.stream.now) (E.contents err.new.stream.now) err.new.calls err.new.failed in
+    ensures kept { let errors = counted_stream (E.contents err.old.stream.now) (E.contents err.new.stream.now) err.new.calls err.new.failed in
         let shelf : Shelf = record { before = S.holds store.old; after = S.holds store.new } in
-        RecordRan name.now made.now status errors shelf result }
+        OnOk result (IsKept name.now made.now errors shelf) }
+    ensures not_kept { let errors = counted_stream (E.contents err.old.stream.now) (E.contents err.new.stream.now) err.new.calls err.new.failed in
+        let shelf : Shelf = record { before = S.holds store.old; after = S.holds store.new } in
+        IfErr result (IsNotKept made.now errors shelf) }
     ensures same_err { err.new.stream.ghost_name ≡ err.old.stream.ghost_name }
 {
     match store.save(name, made.schedule.as_slice()) {
-        Ok(()) => status,
+        Ok(()) => Ok(()),
         Err(_) => {
             say(err, made.refused.as_bytes());
-            1
+            Err(1)
         }
     }
 }

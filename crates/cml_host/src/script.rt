@@ -1,7 +1,7 @@
 //! Scripts: the program that the text of a file is, or why there is none.
 
 ghost use Rattle.std.specs.Prelude.{IfOk, IfErr};
-ghost use Rattle.cml_host.specs.Scripts.{IsScript, IsOpened, IsProgramOf, IsNoProgram, IsNotMade, IsNotOpened};
+ghost use Rattle.cml_host.specs.Scripts.{IsScript, IsOpened, IsProgramOf, IsNoProgram, IsNotMade, IsNotOpened, plain_script};
 ghost use Rattle.cml_host.specs.Stores.{IsUnchanged};
 
 use crate::said::{Refusal, TEXT_LIMIT};
@@ -11,7 +11,18 @@ use cml_check::{CheckFault, Prog, check};
 use cml_text::{Sexpr, TextFault, read};
 use std::alloc::Global;
 
-/// The program of the script that lies under the name.
+/// A script.
+#[derive(Drop)]
+pub struct Script {
+    /// Its text.
+    pub text: Vec<u8>,
+    /// The forms that the text spells.
+    pub forms: Vec<Sexpr>,
+    /// The program that they are.
+    pub program: Prog,
+}
+
+/// The script that lies under the name.
 ///
 /// # Errors
 /// Why there is none, explained where that is asked for.
@@ -20,8 +31,8 @@ pub fn open_script<S: Store>(
     name: &str,
     explains: bool,
     store: &mut S,
-) -> Result<Prog, Refusal>
-    ensures ok { IfOk result (IsOpened (S.holds store.old name.now)) }
+) -> Result<Script, Refusal>
+    ensures ok { IfOk result (λ script. IsOpened (S.holds store.old name.now) (plain_script script)) }
     ensures err { IfErr result (IsNotOpened explains name.now (S.holds store.old name.now)) }
     ensures same { IsUnchanged (S.holds store.old) (S.holds store.new) }
 {
@@ -31,19 +42,26 @@ pub fn open_script<S: Store>(
         text: text.as_slice(),
         explains,
     };
-    read_script(alloc, &source)
+    match read_script(alloc, &source) {
+        Ok((forms, program)) => Ok(Script {
+            text,
+            forms,
+            program,
+        }),
+        Err(why) => Err(why),
+    }
 }
 
-/// The program that the text is.
-///
-/// # Errors
-/// The first fault of the text, or of its forms; or out of memory.
-pub fn read_script(alloc: Global, source: &Source<'_>) -> Result<Prog, Refusal>
-    ensures ok { IfOk result (IsScript source.now.text.now) }
+// The forms that the text spells, and the program that they are.
+fn read_script(alloc: Global, source: &Source<'_>) -> Result<(Vec<Sexpr>, Prog), Refusal>
+    ensures ok { IfOk result (λ made. IsScript (record { text = source.now.text.now; forms = made.0.items; program = made.1 })) }
     ensures err { IfErr result (IsNotMade source.now.explains source.now.name.now source.now.text.now) }
 {
     match read(alloc, source.text) {
-        Ok(forms) => check_forms(alloc, source, forms.as_slice()),
+        Ok(forms) => {
+            let program = check_forms(alloc, source, forms.as_slice())?;
+            Ok((forms, program))
+        }
         Err(TextFault::At { kind, at }) => {
             Err(Refusal::Wrong(tell_text(alloc, source, kind, at)?))
         }

@@ -2,11 +2,10 @@
 
 ghost use Rattle.std.specs.Prelude.{◌≡◌, ◌⊎◌, ◌++◌, [], IfOk, IfErr, OnOk, OnErr};
 ghost use Rattle.std.specs.String.{string_bytes};
-ghost use Rattle.cml_hub.specs.Runs.{ending};
 ghost use Rattle.cml_hub.specs.Courses.{run_of};
 ghost use Rattle.cml_host.specs.Told as spec;
 ghost use Rattle.cml_host.specs.Running.{StopRan, failed_by};
-ghost use Rattle.cml_host.specs.Told.{IsRunOf, IsTold, IsNotTold, OutputNotTold, SaysStill, MemoryBroke, OutputBroke, whole_output, cannot_write};
+ghost use Rattle.cml_host.specs.Told.{IsCutOff, IsRunOf, IsTold, IsNotTold, OutputNotTold, SaysStill, MemoryBroke, OutputBroke, whole_output, cannot_write};
 ghost use Rattle.cml_stream.specs.Streams.{counted_stream, stream, Says, Takes, TakesStart};
 
 use crate::output::say;
@@ -18,8 +17,7 @@ use cml_stream::input_output::{WriteFault, write_out};
 use std::alloc::{AllocError, Global};
 use std::io::Write;
 
-/// Tells all of a run that has come to its end: its reports to the errors, then its output and the end line to the output. It returns the
-/// status of such an end.
+/// Tells all of a run that has come to its end: its reports to the errors, then its output and the end line to the output.
 ///
 /// # Errors
 /// The status, where not all was told, and the errors tell why: a write failed, after which nothing is written; or memory ran out, where
@@ -29,12 +27,11 @@ pub fn tell<O: Write, E: Write>(
     hub: &Hub,
     out: &mut Counting<'_, O>,
     err: &mut Counting<'_, E>,
-) -> Result<u8, u8>
+) -> Result<(), u8>
     requires fresh { (out.old.calls ≡ 0) × (out.old.failed ≡ 0) × (err.old.failed ≡ 0) }
     ensures told { let output = counted_stream (O.contents out.old.stream.now) (O.contents out.new.stream.now) out.new.calls out.new.failed in
         let errors = counted_stream (E.contents err.old.stream.now) (E.contents err.new.stream.now) err.new.calls err.new.failed in
-        IfOk result (λ status. IsTold hub.now.reports (whole_output hub.now.budget (run_of hub.now.course)) output errors
-        × (status ≡ spec.end_status (ending hub.now.budget (run_of hub.now.course)))) }
+        OnOk result (IsTold hub.now.reports (whole_output hub.now.budget (run_of hub.now.course)) output errors) }
     ensures not_told { let output = counted_stream (O.contents out.old.stream.now) (O.contents out.new.stream.now) out.new.calls out.new.failed in
         let errors = counted_stream (E.contents err.old.stream.now) (E.contents err.new.stream.now) err.new.calls err.new.failed in
         IfErr result (IsNotTold hub.now.reports hub.now.course.output (whole_output hub.now.budget (run_of hub.now.course)) output errors) }
@@ -47,7 +44,7 @@ pub fn tell<O: Write, E: Write>(
     }
 }
 
-/// Tells the output and the end line of a run that has come to its end, whose reports are told. It returns the status of such an end.
+/// Tells the output and the end line of a run that has come to its end, whose reports are told.
 ///
 /// # Errors
 /// The status, where not all was told, and the errors tell why: a write failed, after which nothing is written; or memory ran out, where
@@ -57,12 +54,11 @@ pub fn tell_output<O: Write, E: Write>(
     hub: &Hub,
     out: &mut Counting<'_, O>,
     err: &mut Counting<'_, E>,
-) -> Result<u8, u8>
+) -> Result<(), u8>
     requires fresh { (out.old.failed ≡ 0) × (err.old.failed ≡ 0) }
     ensures told { let output = counted_stream (O.contents out.old.stream.now) (O.contents out.new.stream.now) out.new.calls out.new.failed in
         let errors = counted_stream (E.contents err.old.stream.now) (E.contents err.new.stream.now) err.new.calls err.new.failed in
-        IfOk result (λ status. IsTold [] (whole_output hub.now.budget (run_of hub.now.course)) output errors
-        × (status ≡ spec.end_status (ending hub.now.budget (run_of hub.now.course)))) }
+        OnOk result (IsTold [] (whole_output hub.now.budget (run_of hub.now.course)) output errors) }
     ensures not_told { let output = counted_stream (O.contents out.old.stream.now) (O.contents out.new.stream.now) out.new.calls out.new.failed in
         let errors = counted_stream (E.contents err.old.stream.now) (E.contents err.new.stream.now) err.new.calls err.new.failed in
         IfErr result (OutputNotTold [] hub.now.course.output (whole_output hub.now.budget (run_of hub.now.course)) output errors) }
@@ -73,7 +69,7 @@ pub fn tell_output<O: Write, E: Write>(
         return Err(cut_output(hub.out(), out, err));
     };
     match send_both(out, hub.out(), line.as_str()) {
-        Ok(()) => Ok(end_status(hub.end())),
+        Ok(()) => Ok(()),
         Err(_) => Err(refuse_output(err)),
     }
 }
@@ -133,16 +129,6 @@ fn end_name(end: End) -> &'static str
     }
 }
 
-fn end_status(end: End) -> u8
-    ensures { result ≡ spec.end_status end }
-{
-    match end {
-        End::Quiet => 0,
-        End::Budget => 4,
-        End::Partial => 0,
-    }
-}
-
 // Says that a write failed, after a failed write to the errors.
 fn refuse_reports<E: Write>(err: &mut Counting<'_, E>) -> u8
     requires failed { err.old.failed ≡ 1 }
@@ -165,6 +151,25 @@ fn refuse_output<E: Write>(err: &mut Counting<'_, E>) -> u8
 {
     say(err, b"cannot write output\n");
     1
+}
+
+/// Writes the reports and the output of a run, and says that memory ran out.
+pub fn cut_run<O: Write, E: Write>(
+    hub: &Hub,
+    out: &mut Counting<'_, O>,
+    err: &mut Counting<'_, E>,
+) -> u8
+    requires fresh { (out.old.calls ≡ 0) × (out.old.failed ≡ 0) × (err.old.failed ≡ 0) }
+    ensures told { let output = counted_stream (O.contents out.old.stream.now) (O.contents out.new.stream.now) out.new.calls out.new.failed in
+        let errors = counted_stream (E.contents err.old.stream.now) (E.contents err.new.stream.now) err.new.calls err.new.failed in
+        IsCutOff hub.now.reports hub.now.course.output output errors result }
+    ensures same_out { out.new.stream.ghost_name ≡ out.old.stream.ghost_name }
+    ensures same_err { err.new.stream.ghost_name ≡ err.old.stream.ghost_name }
+{
+    match send_reports(hub.reports(), err) {
+        Ok(()) => cut_output(hub.out(), out, err),
+        Err(_) => refuse_reports(err),
+    }
 }
 
 /// Writes the output, and says that memory ran out.

@@ -1,20 +1,47 @@
 //! The command `trace`: the replies to the commands on the input.
 
-ghost use Rattle.std.specs.Prelude.{◌≡◌, ◌≤◌};
+ghost use Rattle.std.specs.Prelude.{◌≡◌, ◌≤◌, true, false};
 ghost use Rattle.cml_host.specs.Traced as spec;
-ghost use Rattle.cml_host.specs.Traced.{TraceRan};
+ghost use Rattle.cml_host.specs.Traced.{TraceRan, LiveRan, WholeRan};
 ghost use Rattle.cml_stream.specs.Counts.{most_reads};
 ghost use Rattle.cml_stream.specs.Streams.{counted_stream};
 ghost use Rattle.cml_trace.specs.Answers.{max_input};
+ghost use Rattle.cml_trace.specs.Live.{max_turns};
 
 use crate::output::say;
 use cml_stream::Counting;
-use cml_trace::{TraceEnd, TraceFault, run_trace};
+use cml_trace::{MAX_TURNS, TraceEnd, TraceFault, run_live, run_trace};
 use std::alloc::Global;
 use std::io::{Read, Write};
 
-/// Answers the trace on the input.
+/// Answers the trace on the input: each line as soon as it was read, or the whole trace.
 pub fn trace<R: Read, O: Write, E: Write>(
+    alloc: Global,
+    live: bool,
+    input: &mut Counting<'_, R>,
+    out: &mut Counting<'_, O>,
+    err: &mut Counting<'_, E>,
+) -> u8
+    requires given { (input.old.calls ≡ 0) × (input.old.failed ≡ 0) }
+    requires written { (out.old.calls ≡ 0) × (out.old.failed ≡ 0) × (err.old.calls ≡ 0) × (err.old.failed ≡ 0) }
+    ensures ran { let given = counted_stream (R.remaining input.old.stream.now) (R.remaining input.new.stream.now) input.new.calls input.new.failed in
+        let output = counted_stream (O.contents out.old.stream.now) (O.contents out.new.stream.now) out.new.calls out.new.failed in
+        let errors = counted_stream (E.contents err.old.stream.now) (E.contents err.new.stream.now) err.new.calls err.new.failed in
+        TraceRan live given output errors result }
+    ensures most { input.new.calls ≤ max_turns }
+    ensures same_in { input.new.stream.ghost_name ≡ input.old.stream.ghost_name }
+    ensures same_out { out.new.stream.ghost_name ≡ out.old.stream.ghost_name }
+    ensures same_err { err.new.stream.ghost_name ≡ err.old.stream.ghost_name }
+{
+    if live {
+        trace_live(alloc, input, out, err)
+    } else {
+        trace_whole(alloc, input, out, err)
+    }
+}
+
+// Answers each line as soon as it was read.
+fn trace_live<R: Read, O: Write, E: Write>(
     alloc: Global,
     input: &mut Counting<'_, R>,
     out: &mut Counting<'_, O>,
@@ -25,7 +52,34 @@ pub fn trace<R: Read, O: Write, E: Write>(
     ensures ran { let given = counted_stream (R.remaining input.old.stream.now) (R.remaining input.new.stream.now) input.new.calls input.new.failed in
         let output = counted_stream (O.contents out.old.stream.now) (O.contents out.new.stream.now) out.new.calls out.new.failed in
         let errors = counted_stream (E.contents err.old.stream.now) (E.contents err.new.stream.now) err.new.calls err.new.failed in
-        TraceRan given output errors result }
+        LiveRan given output errors result }
+    ensures most { input.new.calls ≤ max_turns }
+    ensures same_in { input.new.stream.ghost_name ≡ input.old.stream.ghost_name }
+    ensures same_out { out.new.stream.ghost_name ≡ out.old.stream.ghost_name }
+    ensures same_err { err.new.stream.ghost_name ≡ err.old.stream.ghost_name }
+{
+    match run_live(alloc, MAX_TURNS, input, out) {
+        Ok(end) => status_of(end),
+        Err(fault) => {
+            say(err, fault_line(fault).as_bytes());
+            fault_status(fault)
+        }
+    }
+}
+
+// Answers the whole trace.
+fn trace_whole<R: Read, O: Write, E: Write>(
+    alloc: Global,
+    input: &mut Counting<'_, R>,
+    out: &mut Counting<'_, O>,
+    err: &mut Counting<'_, E>,
+) -> u8
+    requires given { (input.old.calls ≡ 0) × (input.old.failed ≡ 0) }
+    requires written { (out.old.calls ≡ 0) × (out.old.failed ≡ 0) × (err.old.calls ≡ 0) × (err.old.failed ≡ 0) }
+    ensures ran { let given = counted_stream (R.remaining input.old.stream.now) (R.remaining input.new.stream.now) input.new.calls input.new.failed in
+        let output = counted_stream (O.contents out.old.stream.now) (O.contents out.new.stream.now) out.new.calls out.new.failed in
+        let errors = counted_stream (E.contents err.old.stream.now) (E.contents err.new.stream.now) err.new.calls err.new.failed in
+        WholeRan given output errors result }
     ensures most { input.new.calls ≤ most_reads max_input }
     ensures same_in { input.new.stream.ghost_name ≡ input.old.stream.ghost_name }
     ensures same_out { out.new.stream.ghost_name ≡ out.old.stream.ghost_name }

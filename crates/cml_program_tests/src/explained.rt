@@ -128,7 +128,12 @@ fn nothing_else_is_explained(rt: HostRuntime) -> Result<(), Fail> {
         ("check a.cml --explain", "ok functions 1\n", "", 0),
         ("fmt a.cml --explain", "(fn main ())\n", "", 0),
         ("run a.cml --explain", "end quiet pending 0\n", "", 0),
-        ("replay a.cml S --explain", "end partial pending 0\n", "", 0),
+        (
+            "replay a.cml S --explain",
+            "end partial pending 0\n",
+            "1 thread runs, and the schedule has no items\n  thread 0 main runs, 0 turns\n",
+            0,
+        ),
         ("check b.cml --explain", "", "cannot read b.cml\n", 1),
         ("replay a.cml a.cml --explain", "", "schedule line 1\n", 3),
     ] {

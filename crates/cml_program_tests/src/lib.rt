@@ -4,6 +4,8 @@
 #[cfg(test)]
 mod cases;
 #[cfg(test)]
+mod ended;
+#[cfg(test)]
 mod examples;
 #[cfg(test)]
 mod explained;

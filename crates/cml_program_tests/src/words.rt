@@ -24,7 +24,7 @@ Options:
 
 // The help of `run`.
 const RUN_HELP: &str =
-    "Runs a script\n\nUsage: cml run [OPTIONS] <FILE>\n\nArguments:\n  <FILE>  \n\nOptions:\n      --workers <N>    How many workers run its threads, 1 to 64 [default: 1]\n      --steps <B>      How many steps it may take, 1 to 1000000000 [default: 1000000]\n      --seed <S>       Draws the choices from this number\n      --watch <K>      Reports after every K items of the schedule, 1 to 1000000000\n      --record <FILE>  Saves the schedule of the run\n      --explain        Explains what is wrong, and where [default: on a terminal]\n      --plain          Explains nothing, on a terminal too\n  -h, --help           Print help\n";
+    "Runs a script\n\nUsage: cml run [OPTIONS] <FILE>\n\nArguments:\n  <FILE>  \n\nOptions:\n      --workers <N>    How many workers run its threads, 1 to 64 [default: 1]\n      --steps <B>      How many steps it may take, 1 to 1000000000 [default: 1000000]\n      --seed <S>       Draws the choices from this number\n      --watch <K>      Reports after every K items of the schedule, 1 to 1000000000\n      --record <FILE>  Saves the schedule of the run\n      --strict         Ends with status 6 where a thread is left waiting, or ended at a fault\n      --servers <F>    Lets threads that began with function F wait; may be given again\n      --explain        Explains what is wrong, and where [default: on a terminal]\n      --plain          Explains nothing, on a terminal too\n  -h, --help           Print help\n";
 
 // Arguments, what is written to the output and to the errors, and the status.
 struct Asked {
@@ -45,9 +45,10 @@ const WORDS: &[Asked] = &[
         words: "trace --help",
         output: "Answers the commands on standard input
 
-Usage: cml trace
+Usage: cml trace [OPTIONS]
 
 Options:
+      --live  Answers each line as soon as it has been read
   -h, --help  Print help
 ",
         errors: "",
@@ -82,7 +83,7 @@ Options:
         output: "",
         errors: "error: unexpected argument '--explain' found
 
-Usage: cml trace
+Usage: cml trace [OPTIONS]
 
 For more information, try '--help'.
 ",
@@ -125,7 +126,7 @@ For more information, try '--help'.
     },
     Asked {
         words: "replay --help",
-        output: "Runs a script by a schedule that was saved\n\nUsage: cml replay [OPTIONS] <FILE> <SCHEDULE>\n\nArguments:\n  <FILE>      \n  <SCHEDULE>  \n\nOptions:\n      --watch <K>  Reports after every K items of the schedule, 1 to 1000000000\n      --explain    Explains what is wrong, and where [default: on a terminal]\n      --plain      Explains nothing, on a terminal too\n  -h, --help       Print help\n",
+        output: "Runs a script by a schedule that was saved\n\nUsage: cml replay [OPTIONS] <FILE> <SCHEDULE>\n\nArguments:\n  <FILE>      \n  <SCHEDULE>  \n\nOptions:\n      --watch <K>    Reports after every K items of the schedule, 1 to 1000000000\n      --strict       Ends with status 6 where a thread is left waiting, or ended at a fault\n      --servers <F>  Lets threads that began with function F wait; may be given again\n      --explain      Explains what is wrong, and where [default: on a terminal]\n      --plain        Explains nothing, on a terminal too\n  -h, --help         Print help\n",
         errors: "",
         status: 0,
     },
@@ -232,6 +233,24 @@ For more information, try '--help'.
         status: 1,
     },
     Asked {
+        words: "run x.cml --strict --strict",
+        output: "",
+        errors: "error: the argument '--strict' cannot be used multiple times\n\nUsage: cml run [OPTIONS] <FILE>\n\nFor more information, try '--help'.\n",
+        status: 1,
+    },
+    Asked {
+        words: "replay x.cml y --servers",
+        output: "",
+        errors: "error: a value is required for '--servers <F>' but none was supplied\n\nFor more information, try '--help'.\n",
+        status: 1,
+    },
+    Asked {
+        words: "run --servers f x.cml --servers=g --strict",
+        output: "",
+        errors: "cannot read x.cml\n",
+        status: 1,
+    },
+    Asked {
         words: "run x.cml --steps ten",
         output: "",
         errors: "error: invalid value 'ten' for '--steps <B>': invalid digit found in string\n\nFor more information, try '--help'.\n",
@@ -273,7 +292,7 @@ For more information, try '--help'.
         output: "",
         errors: "error: unexpected argument '--fast' found
 
-Usage: cml trace
+Usage: cml trace [OPTIONS]
 
 For more information, try '--help'.
 ",

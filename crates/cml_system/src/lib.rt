@@ -3,10 +3,9 @@
 
 ghost use Rattle.std.specs.Prelude.{◌≡◌, ◌≤◌, IfOk, OnErr};
 ghost use Rattle.cml_host.specs.Statuses.{Surroundings};
-ghost use Rattle.cml_stream.specs.Counts.{most_reads};
 ghost use Rattle.cml_stream.specs.Streams.{counted_stream};
 ghost use Rattle.cml_system.specs.Systems.{RanOnSystem, NothingCalled, files};
-ghost use Rattle.cml_trace.specs.Answers.{max_input};
+ghost use Rattle.cml_trace.specs.Live.{max_turns};
 
 mod disk;
 mod saving;
@@ -62,7 +61,7 @@ where
       store = files;
     } in
         OnErr result (NothingCalled around) }
-    ensures most { input.new.calls ≤ most_reads max_input }
+    ensures most { input.new.calls ≤ max_turns }
 {
     let alloc = rt.alloc();
     match words(rt) {

@@ -46,10 +46,11 @@ found_each P test (y ∷ ys) x all found = go (test y) found (found_each P test 
 
 -- ---- rules
 
--- a use sets the argument, in place of what it had
+-- a use sets the argument, in place of what it had or after it
 abbrev pub is_set : ArgAction → Bool
 is_set action.Set = true
 is_set action.SetTrue = true
+is_set action.Append = true
 is_set _ = false
 
 -- a use has a value, or another that stands for none
@@ -147,7 +148,9 @@ module _ (c : List Rule) where
   used_as_fit action.Set again a values rows sets plain own some none fit = set_fit again a values rows plain own (some refl) none fit
   used_as_fit action.SetTrue again a values rows sets plain own some none fit = set_fit again a values rows plain own (some refl) none fit
   used_as_fit action.SetFalse again a values rows sets plain own some none fit = absurd (true≢false (sym sets))
-  used_as_fit action.Append again a values rows sets plain own some none fit = absurd (true≢false (sym sets))
+  used_as_fit action.Append again a values rows sets plain own some none fit =
+      let pass : list_all (value_passes a) values ≡ true = values_pass a.ignore_case (parser_of_value a.parser) values none in
+      with_values_fit c a.id (reading_by a) CommandLine values rows (some refl) plain (by_own_id c a values own pass) fit
   used_as_fit action.Count again a values rows sets plain own some none fit = absurd (true≢false (sym sets))
   used_as_fit action.Help again a values rows sets plain own some none fit = fit
   used_as_fit action.HelpShort again a values rows sets plain own some none fit = fit

@@ -1,5 +1,5 @@
 -- What an argument that was served gives.
-use Rattle.std.proofs.Common.{◌≡◌, ◌&&◌, ◌≤◌, ◌||◌, ◌++◌, ap, ℕ, Bool, codes, cond, true, false, refl, sym, subst, arith, List, [], ◌∷◌, Option, Some, None, IfSome, is_some, option_map, true≢false}
+use Rattle.std.proofs.Common.{◌≡◌, ◌&&◌, ◌≤◌, ◌||◌, ◌++◌, ap, ap₂, ℕ, Bool, codes, cond, true, false, refl, sym, subst, arith, List, [], ◌∷◌, Option, Some, None, IfSome, is_some, option_map, true≢false}
 use Rattle.std.specs.Prelude.{Ok, Err, Result, option_and_then, slice_get, unwrap_or}
 use Rattle.std.specs.Int.{IsInRange}
 use Rattle.std.specs.List.{find, list_all}
@@ -67,6 +67,13 @@ row_case test (v ∷ vs) how filled P some =
 pub served_last : (given : List Row) (first last : List Rule) → list_all (is_served given) (first ++ last) ≡ true → list_all (is_served given) last ≡ true
 served_last given [] last served = served
 served_last given (a ∷ rest) last served = served_last given rest last (both _ _ served).1
+
+-- and each of the first ones
+pub served_first : (given : List Row) (first last : List Rule) → list_all (is_served given) (first ++ last) ≡ true → list_all (is_served given) first ≡ true
+served_first given [] last served = refl
+served_first given (a ∷ rest) last served =
+    let parts = both (is_served given a) (list_all (is_served given) (rest ++ last)) served in
+    ap₂ (λ x y. x && y) parts.0 (served_first given rest last parts.1)
 
 -- what a getter makes of a flag's row, which is read as it is written, is whether the flag is given
 pub reads_flag : (given : List Row) (id : Text) (r : Bool) → is_served given (flag_rule id) ≡ true → (one_of id given ≡ None → r ≡ false)

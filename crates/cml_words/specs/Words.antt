@@ -1,5 +1,5 @@
 -- What the arguments of the command line ask for, as clap reads them.
-use Rattle.std.specs.Prelude.{◌≡◌, ◌≢◌, ◌⊎◌, ◌&&◌, if◌then◌else◌, ℕ, Bool, true, false, not, Option, Some, None, IfSome, IsSomeAnd, List, [], ◌∷◌, ◌++◌, codes, find, slice_get, option_map, unwrap_or}
+use Rattle.std.specs.Prelude.{◌≡◌, ◌≢◌, ◌⊎◌, ◌&&◌, if◌then◌else◌, ℕ, Bool, true, false, not, Option, Some, None, IfSome, IsSomeAnd, List, [], ◌∷◌, ◌++◌, codes, find, map, slice_get, option_map, unwrap_or}
 use Rattle.std.specs.List.{list_all}
 use Rattle.std.specs.Int.{IsInRange}
 use Rattle.std.specs.Option.{option_map_or}
@@ -7,8 +7,8 @@ use Rattle.std.specs.Str.{bytes_eq}
 use Rattle.std.specs.String.{string_bytes}
 use Rattle.std.specs.Str.Parse.{digits_value, without_leading_plus}
 use Rattle.clap.specs.Takes.{value_passes}
-use Rattle.clap.specs.Words.{App, Shape, Rule, Row, Text, new_app, new_rule, fault_of, Kinds, IsAmong, first_of, subcommand_of}
-use Rattle.clap.specs.declared.builder.action.ArgAction.TheVariants.{Set, SetTrue}
+use Rattle.clap.specs.Words.{App, Shape, Rule, Row, Text, new_app, new_rule, fault_of, Kinds, IsAmong, all_of, first_of, subcommand_of}
+use Rattle.clap.specs.declared.builder.action.ArgAction.TheVariants.{Append, Set, SetTrue}
 use Rattle.clap.specs.declared.builder.value_parser.Reading.{Reading}
 use Rattle.clap.specs.declared.builder.value_parser.Reading.TheVariants.{AsWritten}
 use Rattle.clap.specs.declared.builder.value_parser.ValueParser.TheVariants as parser
@@ -20,9 +20,11 @@ use Rattle.cml_words.specs.declared.Answer.{Answer}
 use Rattle.cml_words.specs.declared.Answer.TheVariants as answer
 use Rattle.cml_words.specs.declared.Explain.{Explain}
 use Rattle.cml_words.specs.declared.Explain.TheVariants.{Asked, Off, Unsaid}
+use Rattle.cml_words.specs.declared.EndOptions.{EndOptions}
 use Rattle.cml_words.specs.declared.FileOptions.{FileOptions}
 use Rattle.cml_words.specs.declared.ReplayOptions.{ReplayOptions}
 use Rattle.cml_words.specs.declared.RunOptions.{RunOptions}
+use Rattle.cml_words.specs.declared.TraceOptions.{TraceOptions}
 
 -- ---- the commands
 
@@ -33,6 +35,10 @@ file_rule name = record (new_rule name) { required = true; action = Some Set }
 -- an option that takes a value, `--name VALUE`
 abbrev pub option_rule : Text → Rule
 option_rule name = record (new_rule name) { long = Some name; action = Some Set; value_names = 1 }
+
+-- an option that may be given again, each time with a value
+abbrev pub list_rule : Text → Rule
+list_rule name = record (option_rule name) { action = Some Append }
 
 -- an option that takes a number from `least` to `most`
 abbrev pub number_rule : ℕ → ℕ → Text → Rule
@@ -53,6 +59,10 @@ workers_rule = number_rule 1 64
 abbrev pub flag_rule : Text → Rule
 flag_rule name = record (new_rule name) { long = Some name; action = Some SetTrue; parser = Some parser.Bool }
 
+-- the options by which a command is told which threads may be left at the end of a run
+abbrev pub end_rules : List Rule
+end_rules = flag_rule (codes "strict") ∷ list_rule (codes "servers") ∷ []
+
 -- the flags by which a command is asked to explain what is wrong, and not to
 abbrev pub explain_rules : List Rule
 explain_rules = flag_rule (codes "explain") ∷ flag_rule (codes "plain") ∷ []
@@ -61,22 +71,25 @@ explain_rules = flag_rule (codes "explain") ∷ flag_rule (codes "plain") ∷ []
 abbrev pub command_of : Text → List Rule → Shape
 command_of name rules = record (new_app name).top { rules = rules }
 
+abbrev pub trace_command : Shape
+trace_command = command_of (codes "trace") (flag_rule (codes "live") ∷ [])
+
 -- a command that takes a file alone
 abbrev pub file_command : Text → Shape
 file_command name = command_of name (file_rule (codes "FILE") ∷ explain_rules)
 
 abbrev pub run_command : Shape
 run_command = command_of (codes "run")
-    (file_rule (codes "FILE") ∷ workers_rule (codes "workers") ∷ count_rule (codes "steps") ∷ any_rule (codes "seed") ∷ count_rule (codes "watch") ∷ option_rule (codes "record") ∷ explain_rules)
+    (file_rule (codes "FILE") ∷ workers_rule (codes "workers") ∷ count_rule (codes "steps") ∷ any_rule (codes "seed") ∷ count_rule (codes "watch") ∷ option_rule (codes "record") ∷ end_rules ++ explain_rules)
 
 abbrev pub replay_command : Shape
-replay_command = command_of (codes "replay") (file_rule (codes "FILE") ∷ file_rule (codes "SCHEDULE") ∷ count_rule (codes "watch") ∷ explain_rules)
+replay_command = command_of (codes "replay") (file_rule (codes "FILE") ∷ file_rule (codes "SCHEDULE") ∷ count_rule (codes "watch") ∷ end_rules ++ explain_rules)
 
 -- the program, with its commands, of which one must be named
 abbrev pub commands : App
 commands = record {
   top = record (new_app (codes "cml")).top { subcommand_required = true; is_leaf = false };
-  subs = command_of (codes "trace") []
+  subs = trace_command
       ∷ file_command (codes "check")
       ∷ file_command (codes "fmt")
       ∷ run_command
@@ -93,6 +106,10 @@ faults words = fault_of commands words
 -- the number that is given to this option, where it is given one
 abbrev pub option_number : Text → List Row → Option ℕ
 option_number option given = option_map (λ text. digits_value 10 (without_leading_plus text)) (first_of option given)
+
+-- all that is given to this option
+abbrev pub option_texts : Text → List Row → List Text
+option_texts option given = unwrap_or (all_of option given) []
 
 -- whether this flag is given
 abbrev pub is_flagged : Text → List Row → Bool
@@ -115,10 +132,19 @@ IsCount = IsInRange 1 1000000000
 abbrev pub IsWorkers : ℕ → Type 0
 IsWorkers = IsInRange 1 64
 
+-- the options of `trace` are what was given
+abbrev pub IsTrace : List Row → TraceOptions → Type 0
+IsTrace given options = options.live ≡ is_flagged (codes "live") given
+
 -- the options of a command that takes a file alone are what was given
 pub record IsFile (given : List Row) (options : FileOptions) : Type 0 where
   pub file : first_of (codes "FILE") given ≡ Some options.file.now
   pub explain : options.explain ≡ explanation given
+
+-- what is said of threads that are left at the end is what was given
+pub record IsEnd (given : List Row) (options : EndOptions) : Type 0 where
+  pub strict : options.strict ≡ is_flagged (codes "strict") given
+  pub servers : map (λ name. name.now) options.servers.items ≡ option_texts (codes "servers") given
 
 -- the options of `run` are what was given; where no number of workers was, one worker, and where no number of steps was, 1,000,000
 pub record IsRun (given : List Row) (options : RunOptions) : Type 0 where
@@ -128,6 +154,7 @@ pub record IsRun (given : List Row) (options : RunOptions) : Type 0 where
   pub seed : options.seed ≡ option_number (codes "seed") given
   pub watch : options.watch ≡ option_number (codes "watch") given
   pub record_file : option_map (λ name. name.now) options.record ≡ first_of (codes "record") given
+  pub end : IsEnd given options.end
   pub explain : options.explain ≡ explanation given
   pub counts : IsWorkers options.workers × IsCount options.steps × IfSome options.watch IsCount
 
@@ -136,12 +163,13 @@ pub record IsReplay (given : List Row) (options : ReplayOptions) : Type 0 where
   pub script : first_of (codes "FILE") given ≡ Some options.script.now
   pub schedule : first_of (codes "SCHEDULE") given ≡ Some options.schedule.now
   pub watch : options.watch ≡ option_number (codes "watch") given
+  pub end : IsEnd given options.end
   pub explain : options.explain ≡ explanation given
   pub counts : IfSome options.watch IsCount
 
 -- The command that was named, with the values that it was given, is this one.
 abbrev pub Names : Text × List Row → Task → Type 0
-Names (name, given) task_of.Trace = name ≡ codes "trace"
+Names (name, given) (task_of.Trace options) = (name ≡ codes "trace") × IsTrace given options
 Names (name, given) (task_of.Check options) = (name ≡ codes "check") × IsFile given options
 Names (name, given) (task_of.Fmt options) = (name ≡ codes "fmt") × IsFile given options
 Names (name, given) (task_of.Run options) = (name ≡ codes "run") × IsRun given options
@@ -183,6 +211,10 @@ IsAnswer words (answer.Fault text) =
 -- the command, which says too whether it explains what is wrong
 abbrev pub with_explain : Shape → Shape
 with_explain command = record command { rules = command.rules ++ explain_rules }
+
+-- the command, which says too which threads may be left at the end
+abbrev pub with_end : Shape → Shape
+with_end command = record command { rules = command.rules ++ end_rules }
 
 -- the values of an argument are read as they are written
 abbrev pub is_as_written : Reading → Bool

@@ -6,9 +6,9 @@ ghost use Rattle.std.specs.List.{list_all};
 ghost use Rattle.std.specs.String.{string_bytes};
 ghost use Rattle.clap.specs.Words.{app_of, first_of, found_of, kind_of, rows_of, rule_of, shape_of, subcommand_rows_of};
 ghost use Rattle.clap.specs.declared.builder.command.Command.TheViews.{out-Command};
-ghost use Rattle.cml_words.specs.Words.{any_rule, command_of, commands, count_rule, file_command, file_rule, flag_rule, option_rule, replay_command, run_command, with_explain, workers_rule};
-ghost use Rattle.cml_words.specs.Words.{explain_rules, explanation, explains, is_complete, is_flagged, is_served, option_number};
-ghost use Rattle.cml_words.specs.Words.{AnswersError, AnswersTask, IsAnswer, IsFile, IsReplay, IsRun, Names, Replaces};
+ghost use Rattle.cml_words.specs.Words.{any_rule, command_of, commands, count_rule, file_command, file_rule, flag_rule, list_rule, option_rule, replay_command, run_command, trace_command, with_end, with_explain, workers_rule};
+ghost use Rattle.cml_words.specs.Words.{end_rules, explain_rules, explanation, explains, is_complete, is_flagged, is_served, option_number, option_texts};
+ghost use Rattle.cml_words.specs.Words.{AnswersError, AnswersTask, IsAnswer, IsEnd, IsFile, IsReplay, IsRun, IsTrace, Names, Replaces};
 
 use clap::error::ErrorKind;
 use clap::{Arg, ArgAction, ArgMatches, Command, Error, value_parser};
@@ -48,10 +48,10 @@ impl Explain {
 }
 
 /// A command of the program.
-#[derive(Clone, Copy, PartialEq, Eq)]
+#[derive(Drop)]
 pub enum Task<'a> {
     /// Answers a trace.
-    Trace,
+    Trace(TraceOptions),
     /// Checks the script in a file.
     Check(FileOptions<'a>),
     /// Prints the forms of the text in a file.
@@ -60,6 +60,13 @@ pub enum Task<'a> {
     Run(RunOptions<'a>),
     /// Runs a script again, by the schedule that a run recorded.
     Replay(ReplayOptions<'a>),
+}
+
+/// How a trace is answered.
+#[derive(Clone, Copy, PartialEq, Eq)]
+pub struct TraceOptions {
+    /// Whether each line is answered as soon as it has been read.
+    pub live: bool,
 }
 
 /// How a file is read.
@@ -71,8 +78,17 @@ pub struct FileOptions<'a> {
     pub explain: Explain,
 }
 
+/// Which threads may be left at the end of a run.
+#[derive(Drop)]
+pub struct EndOptions<'a> {
+    /// Whether none may but servers, and none may have ended at a fault.
+    pub strict: bool,
+    /// The functions of servers: threads that began with one of them may wait.
+    pub servers: Vec<&'a str>,
+}
+
 /// How a script is run.
-#[derive(Clone, Copy, PartialEq, Eq)]
+#[derive(Drop)]
 pub struct RunOptions<'a> {
     /// The file of the script.
     pub file: &'a str,
@@ -86,12 +102,14 @@ pub struct RunOptions<'a> {
     pub watch: Option<u64>,
     /// The file that gets the schedule of the run.
     pub record: Option<&'a str>,
+    /// Which threads may be left at its end.
+    pub end: EndOptions<'a>,
     /// Whether what is wrong with the script is explained.
     pub explain: Explain,
 }
 
 /// How a script is run again.
-#[derive(Clone, Copy, PartialEq, Eq)]
+#[derive(Drop)]
 pub struct ReplayOptions<'a> {
     /// The file of the script.
     pub script: &'a str,
@@ -99,6 +117,8 @@ pub struct ReplayOptions<'a> {
     pub schedule: &'a str,
     /// After how many items of the schedule each report comes, from 1 to 1,000,000,000; without it there is none.
     pub watch: Option<u64>,
+    /// Which threads may be left at its end.
+    pub end: EndOptions<'a>,
     /// Whether what is wrong with the script is explained.
     pub explain: Explain,
 }
@@ -122,7 +142,10 @@ pub fn read_words<'a>(alloc: Global, words: &'a [String]) -> Result<Answer<'a>, 
     ensures { IfOk result (IsAnswer (map string_bytes words.now)) }
 {
     match command(alloc)?.try_get_matches_from(words) {
-        Ok(matches) => answer_to_task(alloc, task_of(&matches)),
+        Ok(matches) => {
+            let task = task_of(alloc, &matches)?;
+            answer_to_task(alloc, task)
+        }
         Err(error) => answer_to_error(alloc, &error),
     }
 }
@@ -131,8 +154,8 @@ pub fn read_words<'a>(alloc: Global, words: &'a [String]) -> Result<Answer<'a>, 
 fn answer_to_task<'a>(alloc: Global, task: Task<'a>) -> Result<Answer<'a>, AllocError>
     ensures { IfOk result (AnswersTask task.entry) }
 {
-    if let Task::Run(options) = task
-        && replaces(&options)
+    if let Task::Run(options) = &task
+        && replaces(options)
     {
         let name = options.file;
         return Ok(Answer::Fault(format!(in alloc; "--record would replace {name}\n")?));
@@ -151,20 +174,30 @@ fn replaces(options: &RunOptions<'_>) -> bool
 }
 
 // The command that the arguments named, with what it was given.
-fn task_of<'a>(matches: &ArgMatches<'a>) -> Task<'a>
+fn task_of<'a>(alloc: Global, matches: &ArgMatches<'a>) -> Result<Task<'a>, AllocError>
     requires { is_complete commands (subcommand_rows_of matches.now) ≡ true }
-    ensures { IsSomeAnd (subcommand_rows_of matches.now) (λ named. Names named result) }
+    ensures { IfOk result (λ task. IsSomeAnd (subcommand_rows_of matches.now) (λ named. Names named task)) }
 {
     let Some((name, below)) = matches.subcommand() else {
         unreachable!()
     };
     match name {
-        "trace" => Task::Trace,
-        "check" => Task::Check(file_options(below)),
-        "fmt" => Task::Fmt(file_options(below)),
-        "run" => Task::Run(run_options(below)),
-        "replay" => Task::Replay(replay_options(below)),
+        "trace" => Ok(Task::Trace(trace_options(below))),
+        "check" => Ok(Task::Check(file_options(below))),
+        "fmt" => Ok(Task::Fmt(file_options(below))),
+        "run" => Ok(Task::Run(run_options(alloc, below)?)),
+        "replay" => Ok(Task::Replay(replay_options(alloc, below)?)),
         _ => unreachable!(),
+    }
+}
+
+// What `trace` was given.
+fn trace_options(matches: &ArgMatches<'_>) -> TraceOptions
+    requires { list_all (is_served (rows_of (found_of matches.now))) trace_command.rules ≡ true }
+    ensures { IsTrace (rows_of (found_of matches.now)) result }
+{
+    TraceOptions {
+        live: flag(matches, "live"),
     }
 }
 
@@ -180,32 +213,51 @@ fn file_options<'a>(matches: &ArgMatches<'a>) -> FileOptions<'a>
 }
 
 // What `run` was given.
-fn run_options<'a>(matches: &ArgMatches<'a>) -> RunOptions<'a>
+fn run_options<'a>(alloc: Global, matches: &ArgMatches<'a>) -> Result<RunOptions<'a>, AllocError>
     requires { list_all (is_served (rows_of (found_of matches.now))) run_command.rules ≡ true }
-    ensures { IsRun (rows_of (found_of matches.now)) result }
+    ensures { IfOk result (IsRun (rows_of (found_of matches.now))) }
 {
-    RunOptions {
+    let end = end_options(alloc, matches)?;
+    Ok(RunOptions {
         file: given(matches, "FILE"),
         workers: number(matches, "workers").unwrap_or(1) as usize,
         steps: number(matches, "steps").unwrap_or(DEFAULT_STEPS),
         seed: number(matches, "seed"),
         watch: number(matches, "watch"),
         record: matches.get_str("record"),
+        end,
         explain: explain_option(matches),
-    }
+    })
 }
 
 // What `replay` was given.
-fn replay_options<'a>(matches: &ArgMatches<'a>) -> ReplayOptions<'a>
+fn replay_options<'a>(
+    alloc: Global,
+    matches: &ArgMatches<'a>,
+) -> Result<ReplayOptions<'a>, AllocError>
     requires { list_all (is_served (rows_of (found_of matches.now))) replay_command.rules ≡ true }
-    ensures { IsReplay (rows_of (found_of matches.now)) result }
+    ensures { IfOk result (IsReplay (rows_of (found_of matches.now))) }
 {
-    ReplayOptions {
+    let end = end_options(alloc, matches)?;
+    Ok(ReplayOptions {
         script: given(matches, "FILE"),
         schedule: given(matches, "SCHEDULE"),
         watch: number(matches, "watch"),
+        end,
         explain: explain_option(matches),
-    }
+    })
+}
+
+// What is said of threads that are left at the end.
+fn end_options<'a>(alloc: Global, matches: &ArgMatches<'a>) -> Result<EndOptions<'a>, AllocError>
+    requires { list_all (is_served (rows_of (found_of matches.now))) end_rules ≡ true }
+    ensures { IfOk result (IsEnd (rows_of (found_of matches.now))) }
+{
+    let servers = texts(alloc, matches, "servers")?;
+    Ok(EndOptions {
+        strict: flag(matches, "strict"),
+        servers,
+    })
 }
 
 // What is said of explaining what is wrong: `--plain` turns it off, also where `--explain` asks for it.
@@ -231,6 +283,16 @@ fn given<'a>(matches: &ArgMatches<'a>, id: &str) -> &'a str
         unreachable!()
     };
     text
+}
+
+// All that an option was given.
+fn texts<'a>(alloc: Global, matches: &ArgMatches<'a>, id: &str) -> Result<Vec<&'a str>, AllocError>
+    ensures { IfOk result (λ all. map (λ text. text.now) all.items ≡ option_texts id.now (rows_of (found_of matches.now))) }
+{
+    match matches.get_strs(id) {
+        Some(all) => Vec::from_slice(alloc, all),
+        None => Ok(Vec::new(alloc)),
+    }
 }
 
 // The number that an option was given.
@@ -269,7 +331,7 @@ fn answer_to_error<'a>(alloc: Global, error: &Error) -> Result<Answer<'a>, Alloc
 fn command<'a>(alloc: Global) -> Result<Command<'a>, AllocError>
     ensures { IfOk result (λ command. app_of command ≡ commands) }
 {
-    let trace = trace(alloc);
+    let trace = trace(alloc)?;
     let check = file_alone(alloc, "check", "Checks a script")?;
     let fmt = file_alone(alloc, "fmt", "Prints the forms of a text, each on a line")?;
     let run = run(alloc)?;
@@ -285,11 +347,18 @@ fn command<'a>(alloc: Global) -> Result<Command<'a>, AllocError>
 }
 
 // The command that answers a trace.
-fn trace<'a>(alloc: Global) -> Command<'a>
-    ensures shape { shape_of result ≡ command_of (codes "trace") [] }
-    ensures globals { (out-Command result).has_globals ≡ false }
+fn trace<'a>(alloc: Global) -> Result<Command<'a>, AllocError>
+    ensures shape { IfOk result (λ command. shape_of command ≡ trace_command) }
+    ensures globals { IfOk result (λ command. (out-Command command).has_globals ≡ false) }
 {
-    Command::new(alloc, "trace").about("Answers the commands on standard input")
+    let live = flag_of(
+        alloc,
+        "live",
+        "Answers each line as soon as it has been read",
+    );
+    Command::new(alloc, "trace")
+        .about("Answers the commands on standard input")
+        .arg(live)
 }
 
 // The command that runs a script.
@@ -313,7 +382,8 @@ fn run<'a>(alloc: Global) -> Result<Command<'a>, AllocError>
         .arg(seed)?
         .arg(watch)?
         .arg(record)?;
-    explaining(alloc, command)
+    let ended = ending(alloc, command)?;
+    explaining(alloc, ended)
 }
 
 // The command that runs a script again.
@@ -330,7 +400,8 @@ fn replay<'a>(alloc: Global) -> Result<Command<'a>, AllocError>
     )?
     .arg(schedule)?
     .arg(watch)?;
-    explaining(alloc, command)
+    let ended = ending(alloc, command)?;
+    explaining(alloc, ended)
 }
 
 // A command that takes a file alone.
@@ -355,6 +426,26 @@ fn explaining<'a>(alloc: Global, command: Command<'a>) -> Result<Command<'a>, Al
     );
     let plain = flag_of(alloc, "plain", "Explains nothing, on a terminal too");
     command.arg(explain)?.arg(plain)
+}
+
+// The command, which says too which threads may be left at the end.
+fn ending<'a>(alloc: Global, command: Command<'a>) -> Result<Command<'a>, AllocError>
+    requires { (out-Command command).has_globals ≡ false }
+    ensures shape { IfOk result (λ new. shape_of new ≡ with_end (shape_of command.entry)) }
+    ensures globals { IfOk result (λ new. (out-Command new).has_globals ≡ false) }
+{
+    let strict = flag_of(
+        alloc,
+        "strict",
+        "Ends with status 6 where a thread is left waiting, or ended at a fault",
+    );
+    let servers = list(
+        alloc,
+        "servers",
+        "F",
+        "Lets threads that began with function F wait; may be given again",
+    );
+    command.arg(strict)?.arg(servers)
 }
 
 // A command on a file.
@@ -396,6 +487,14 @@ fn option<'a>(alloc: Global, name: &'a str, value: &'a str, help: &'a str) -> Ar
         .value_name(value)
         .action(ArgAction::Set)
         .help(help)
+}
+
+// An option that may be given again, each time with a value.
+fn list<'a>(alloc: Global, name: &'a str, value: &'a str, help: &'a str) -> Arg<'a>
+    ensures rule { rule_of result ≡ list_rule name.now }
+    ensures global { result.global ≡ false }
+{
+    option(alloc, name, value, help).action(ArgAction::Append)
 }
 
 // An option that counts steps or items.

@@ -1,7 +1,7 @@
 use Rattle.std.proofs.Common.{rules, ◌≡◌, ◌∙◌, ap₂, codes, true, []}
 use Rattle.std.proofs.lemmas.Result.{IfOk-weaker}
 use Rattle.clap.specs.Words.{App, app_of, new_app, with_subcommand}
-use Rattle.cml_words.specs.Words.{command_of, file_command, run_command}
+use Rattle.cml_words.specs.Words.{file_command, run_command, trace_command}
 use Rattle.cml_words.proofs.command.Goals as goal
 
 -- the program without its commands, and with the first of them
@@ -9,7 +9,7 @@ abbrev none : App
 none = record { top = record (new_app (codes "cml")).top { subcommand_required = true }; subs = [] }
 
 abbrev one : App
-one = with_subcommand none (command_of (codes "trace") [])
+one = with_subcommand none trace_command
 
 abbrev two : App
 two = with_subcommand one (file_command (codes "check"))
@@ -23,7 +23,7 @@ four = with_subcommand three run_command
 pub returns : goal.returns
 returns c =
     let is_none : app_of c.subcommand_required.result ≡ none = search rules in
-    let is_one : app_of c.in_ok-subcommand.field-0 ≡ one = c.in_ok-subcommand.ensures.shape c.trace-trace.ensures.globals ∙ ap₂ with_subcommand is_none c.trace-trace.ensures.shape in
+    let is_one : app_of c.in_ok-subcommand.field-0 ≡ one = c.in_ok-subcommand.ensures.shape c.in_ok-trace.ensures.globals ∙ ap₂ with_subcommand is_none c.in_ok-trace.ensures.shape in
     let is_two : app_of c.in_ok-subcommand-2.field-0 ≡ two =
     c.in_ok-subcommand-2.ensures.shape c.in_ok-check.ensures.globals ∙ ap₂ with_subcommand is_one c.in_ok-check.ensures.shape in
     let is_three : app_of c.in_ok-subcommand-3.field-0 ≡ three =

@@ -13,13 +13,13 @@ task_of-requires c =
     let words = map string_bytes c.args.words.now in
     ap (is_complete commands) (named_by _ words c.in-Ok.matches app c.in-Ok.ensures.matches) ∙ commands_complete words (no_fault _ words app c.in-Ok.ensures.kinds)
 
-pub returns-in-Ok : goal.returns-in-Ok
-returns-in-Ok c =
+pub returns-in_ok-task-in-Ok : goal.returns-in_ok-task-in-Ok
+returns-in_ok-task-in-Ok c =
     let app = c.in_ok-command.ensures in
     let words = map string_bytes c.args.words.now in
-    let named = subst (λ found. IsSomeAnd found (λ named. Names named c.task_of.result)) (named_by _ words c.in-Ok.matches app c.in-Ok.ensures.matches) c.task_of.ensures in
-    let is : IsTask words c.task_of.result = (no_fault _ words app c.in-Ok.ensures.kinds, named) in
-    IfOk-weaker c.answer_to_task.result _ _ (λ a says. IsAnswer-task words c.task_of.result a is says) c.answer_to_task.ensures
+    let named = subst (λ found. IsSomeAnd found (λ named. Names named c.in_ok-task-in-Ok.task)) (named_by _ words c.in-Ok.matches app c.in-Ok.ensures.matches) c.in_ok-task-in-Ok.ensures in
+    let is : IsTask words c.in_ok-task-in-Ok.task = (no_fault _ words app c.in-Ok.ensures.kinds, named) in
+    IfOk-weaker c.answer_to_task.result _ _ (λ a says. IsAnswer-task words c.in_ok-task-in-Ok.task a is says) c.answer_to_task.ensures
 
 pub returns-in-Err : goal.returns-in-Err
 returns-in-Err c =

@@ -2,7 +2,7 @@ use Rattle.std.proofs.Common.{◌≡◌, ◌∙◌, [], ◌∷◌, ap, codes, fa
 use Rattle.std.proofs.lemmas.Result.{IfOk-weaker}
 use Rattle.clap.specs.Words.{Shape, shape_of}
 use Rattle.clap.specs.declared.builder.command.Command.TheViews.{out-Command}
-use Rattle.cml_words.specs.Words.{any_rule, command_of, count_rule, file_rule, option_rule, with_explain, workers_rule}
+use Rattle.cml_words.specs.Words.{any_rule, command_of, count_rule, file_rule, option_rule, with_end, with_explain, workers_rule}
 use Rattle.cml_words.proofs.Added.{with_more, added_shape, added_globals}
 use Rattle.cml_words.proofs.run.Goals as goal
 
@@ -22,8 +22,8 @@ with_watch = with_more with_seed (count_rule (codes "watch"))
 abbrev with_record : Shape
 with_record = with_more with_watch (option_rule (codes "record"))
 
-pub explaining-requires : goal.explaining-requires
-explaining-requires c =
+pub ending-requires : goal.ending-requires
+ending-requires c =
     let one : (out-Command c.in_ok-arg.field-0).has_globals ≡ false =
     added_globals _ _ _ c.in_ok-arg.ensures c.workers-workers.ensures.global c.in_ok-on_file.ensures.globals in
     let two : (out-Command c.in_ok-arg-2.field-0).has_globals ≡ false = added_globals _ _ _ c.in_ok-arg-2.ensures c.count-steps.ensures.global one in
@@ -43,4 +43,5 @@ returns-clause-shape c =
     added_shape _ _ _ _ _ c.in_ok-arg-4.ensures c.watch-watch.ensures.global three c.watch-watch.ensures.rule in
     let five : shape_of c.in_ok-command.command ≡ with_record =
     added_shape _ _ _ _ _ c.in_ok-command.ensures c.option-record.ensures.global four c.option-record.ensures.rule in
-    IfOk-weaker c.explaining.result _ _ (λ command is. is ∙ ap with_explain five) c.explaining.ensures.shape
+    let six : shape_of c.in_ok-ended.ended ≡ with_end with_record = c.in_ok-ended.ensures.shape ∙ ap with_end five in
+    IfOk-weaker c.explaining.result _ _ (λ command is. is ∙ ap with_explain six) c.explaining.ensures.shape

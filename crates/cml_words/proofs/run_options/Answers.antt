@@ -1,10 +1,13 @@
-use Rattle.std.proofs.Common.{◌≡◌, ◌∙◌, [], ◌∷◌, codes, refl, subst, sym, ℕ, Option}
+use Rattle.std.proofs.Common.{◌≡◌, ◌∙◌, [], ◌∷◌, ◌++◌, codes, refl, subst, sym, ℕ, List, Option}
 use Rattle.std.specs.Prelude.{IfSome, unwrap_or}
 use Rattle.clap.proofs.WalkLemmas.{first_value-rows}
-use Rattle.clap.specs.Words.{found_of, rows_of}
-use Rattle.cml_words.specs.Words.{count_rule, explain_rules, file_rule, any_rule, option_rule, workers_rule, option_number, run_command, IsCount, IsWorkers}
-use Rattle.cml_words.proofs.Served.{count_is_number, counts, few, file_given, served_by_name, served_last, steps_count, workers_are_number, workers_count}
+use Rattle.clap.specs.Words.{Rule, found_of, rows_of}
+use Rattle.cml_words.specs.Words.{count_rule, end_rules, explain_rules, file_rule, any_rule, option_rule, workers_rule, option_number, run_command, IsCount, IsWorkers}
+use Rattle.cml_words.proofs.Served.{count_is_number, counts, few, file_given, served_by_name, served_first, served_last, steps_count, workers_are_number, workers_count}
 use Rattle.cml_words.proofs.run_options.Goals as goal
+
+abbrev own : List Rule
+own = file_rule (codes "FILE") ∷ workers_rule (codes "workers") ∷ count_rule (codes "steps") ∷ any_rule (codes "seed") ∷ count_rule (codes "watch") ∷ option_rule (codes "record") ∷ []
 
 pub given-requires : goal.given-requires
 given-requires c =
@@ -31,11 +34,13 @@ number-requires-4 c =
     let given = rows_of (found_of c.args.matches.now) in
     count_is_number given (codes "watch") (served_by_name given run_command.rules (codes "watch") (count_rule (codes "watch")) c.requires refl)
 
+pub end_options-requires : goal.end_options-requires
+end_options-requires c =
+    let given = rows_of (found_of c.args.matches.now) in
+    served_first given end_rules explain_rules (served_last given own (end_rules ++ explain_rules) c.requires)
+
 pub explain_option-requires : goal.explain_option-requires
-explain_option-requires c =
-    served_last (rows_of (found_of c.args.matches.now))
-    (file_rule (codes "FILE") ∷ workers_rule (codes "workers") ∷ count_rule (codes "steps") ∷ any_rule (codes "seed") ∷ count_rule (codes "watch") ∷ option_rule (codes "record") ∷ [])
-    explain_rules c.requires
+explain_option-requires c = served_last (rows_of (found_of c.args.matches.now)) (own ++ end_rules) explain_rules c.requires
 
 pub returns : goal.returns
 returns c =
@@ -52,6 +57,7 @@ returns c =
       seed = c.number-3.ensures;
       watch = c.number-4.ensures;
       record_file = c.get_str.ensures ∙ first_value-rows (found_of c.args.matches.now) (codes "record");
+      end = c.in_ok-end.ensures;
       explain = c.explain_option.ensures;
       counts = (
         subst IsWorkers (sym by_workers) (workers_count _ workers),

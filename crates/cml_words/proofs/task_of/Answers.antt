@@ -4,6 +4,18 @@ use Rattle.cml_words.specs.declared.Task.TheVariants as task_of
 use Rattle.cml_words.proofs.Named.{named_complete, named_task, no_other}
 use Rattle.cml_words.proofs.task_of.Goals as goal
 
+pub trace_options-requires : goal.trace_options-requires
+trace_options-requires c =
+    let found = subcommand_rows_of c.args.matches.now in
+    let below = found_of c.in-Some.below.now in
+    named_complete found (codes "trace") below (search rules) c.in-Some.ensures.rows c.requires
+
+pub returns-in-trace : goal.returns-in-trace
+returns-in-trace c =
+    let found = subcommand_rows_of c.args.matches.now in
+    let below = found_of c.in-Some.below.now in
+    named_task found (codes "trace") below (task_of.Trace c.trace_options.result) (search rules) c.in-Some.ensures.rows (refl, c.trace_options.ensures)
+
 pub file_options-requires : goal.file_options-requires
 file_options-requires c =
     let found = subcommand_rows_of c.args.matches.now in
@@ -34,11 +46,11 @@ run_options-requires c =
     let below = found_of c.in-Some.below.now in
     named_complete found (codes "run") below (search rules) c.in-Some.ensures.rows c.requires
 
-pub returns-in-run : goal.returns-in-run
-returns-in-run c =
+pub returns-in_ok-run_options-in-run : goal.returns-in_ok-run_options-in-run
+returns-in_ok-run_options-in-run c =
     let found = subcommand_rows_of c.args.matches.now in
     let below = found_of c.in-Some.below.now in
-    named_task found (codes "run") below (task_of.Run c.run_options.result) (search rules) c.in-Some.ensures.rows (refl, c.run_options.ensures)
+    named_task found (codes "run") below (task_of.Run c.in_ok-run_options-in-run.field-0) (search rules) c.in-Some.ensures.rows (refl, c.in_ok-run_options-in-run.ensures)
 
 pub replay_options-requires : goal.replay_options-requires
 replay_options-requires c =
@@ -46,11 +58,11 @@ replay_options-requires c =
     let below = found_of c.in-Some.below.now in
     named_complete found (codes "replay") below (search rules) c.in-Some.ensures.rows c.requires
 
-pub returns-in-replay : goal.returns-in-replay
-returns-in-replay c =
+pub returns-in_ok-replay_options-in-replay : goal.returns-in_ok-replay_options-in-replay
+returns-in_ok-replay_options-in-replay c =
     let found = subcommand_rows_of c.args.matches.now in
     let below = found_of c.in-Some.below.now in
-    named_task found (codes "replay") below (task_of.Replay c.replay_options.result) (search rules) c.in-Some.ensures.rows (refl, c.replay_options.ensures)
+    named_task found (codes "replay") below (task_of.Replay c.in_ok-replay_options-in-replay.field-0) (search rules) c.in-Some.ensures.rows (refl, c.in_ok-replay_options-in-replay.ensures)
 
 pub unreachable-requires-in_default-name : goal.unreachable-requires-in_default-name
 unreachable-requires-in_default-name c =

@@ -16,7 +16,11 @@ pub returns-in-Ok-Task-Trace-clause-ran : goal.returns-in-Ok-Task-Trace-clause-r
 returns-in-Ok-Task-Trace-clause-ran g c =
     let words = map string_bytes c.args.words.now in
     let is = c.in-Ok-Task-Trace.field-0-is ∙ ap answer.Task c.in-Ok-Task-Trace.field-0-0-is in
-    inl (answer.Task Trace, subst (IsAnswer words) is c.in-Ok-Task-Trace.ensures, (c.trace.ensures.ran, λ name. refl))
+    inl (
+      answer.Task (Trace c.in-Ok-Task-Trace.options),
+      subst (IsAnswer words) is c.in-Ok-Task-Trace.ensures,
+      (c.trace.ensures.ran, λ name. refl),
+    )
 
 pub returns-in-Ok-Task-Check-clause-ran : goal.returns-in-Ok-Task-Check-clause-ran
 returns-in-Ok-Task-Check-clause-ran g c =

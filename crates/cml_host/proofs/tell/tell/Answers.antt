@@ -1,5 +1,5 @@
 use Rattle.std.proofs.Common.{rules, inl, inr}
-use Rattle.std.proofs.lemmas.Result.{IfOk-weaker, IfErr-weaker}
+use Rattle.std.proofs.lemmas.Result.{IfErr-weaker, on_ok_weaker}
 use Rattle.cml_hub.specs.Courses.{run_of}
 use Rattle.cml_host.specs.Told.{whole_output}
 use Rattle.cml_host.proofs.TellLemmas.{reports_broke, told_behind, not_told_behind}
@@ -14,12 +14,9 @@ returns-in-Ok-clause-told g c =
     let output = counted_stream (g.O.Write.contents c.args.out.now.stream.now) (g.O.Write.contents c.tell_output.new.out.stream.now) c.tell_output.new.out.calls c.tell_output.new.out.failed in
     let h = c.args.hub.now in
     rw (← c.reports.ensures.reports) (
-    IfOk-weaker c.tell_output.result _ _
-    (λ status told. (
-      told_behind a b d c.reports.result.now (whole_output h.budget (run_of h.course)) output c.tell_output.new.err.calls c.tell_output.new.err.failed
-          c.in-Ok.ensures.sent.0 told.0,
-      told.1,
-    ))
+    on_ok_weaker c.tell_output.result
+    (λ told. told_behind a b d c.reports.result.now (whole_output h.budget (run_of h.course)) output c.tell_output.new.err.calls c.tell_output.new.err.failed
+    c.in-Ok.ensures.sent.0 told)
     c.tell_output.ensures.told
     )
 

@@ -1,0 +1,19 @@
+use Rattle.std.proofs.Common.{◌≡◌, ◌∙◌, Bor, List, ℕ, None, ap, map, subst}
+use Rattle.cml_stream.specs.Streams.{counted_stream}
+use Rattle.cml_host.specs.Closed.{plain_asked}
+use Rattle.cml_host.specs.Scripts.{plain_script}
+use Rattle.cml_host.specs.Servers.{first_unknown, server_numbers}
+use Rattle.cml_host.specs.Stores.{Shelf}
+use Rattle.cml_host.proofs.RanLemmas.{opened_ran}
+use Rattle.cml_host.proofs.run.run_script.Goals as goal
+
+pub returns-in-Ok-clause-ran : goal.returns-in-Ok-clause-ran
+returns-in-Ok-clause-ran g c =
+    let output = counted_stream (g.O.Write.contents c.args.out.now.stream.now) (g.O.Write.contents c.run_program.new.out.stream.now) c.run_program.new.out.calls c.run_program.new.out.failed in
+    let errors = counted_stream (g.E.Write.contents c.args.err.now.stream.now) (g.E.Write.contents c.run_program.new.err.stream.now) c.run_program.new.err.calls c.run_program.new.err.failed in
+    let store : Shelf = record { before = g.S.Store.holds c.args.store.now; after = g.S.Store.holds c.run_program.new.store } in
+    let s = plain_script c.args.script in
+    opened_ran c.args.explains s c.args.options.now c.in-Ok.servers.items (plain_asked c.ask-program.result.1) c.ask-program.result.0 output errors store c.run_program.result
+    (subst (λ (ns : List (Bor (List ℕ))). first_unknown s (map (λ name. name.now) ns) ≡ None) c.as_slice.ensures.value c.in-Ok.ensures.known)
+    (c.in-Ok.ensures.found ∙ ap (λ (ns : List (Bor (List ℕ))). server_numbers s (map (λ name. name.now) ns)) c.as_slice.ensures.value)
+    c.ask-program.ensures.program c.ask-program.ensures.asked c.run_program.ensures.ran

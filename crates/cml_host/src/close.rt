@@ -1,0 +1,151 @@
+//! How a run is closed that has come to its end: its status, and what is said of that end.
+
+ghost use Rattle.std.specs.Prelude.{◌≡◌, IfOk};
+ghost use Rattle.cml_ending.specs.Ends.{EndsSo};
+ghost use Rattle.cml_host.specs.Closed as closed;
+ghost use Rattle.cml_host.specs.Closed.{IsClosing, SaysEnd, asked_of, plain_asked, plain_closing, plain_subject};
+ghost use Rattle.cml_host.specs.Scripts.{plain_script};
+ghost use Rattle.cml_host.specs.Told as spec;
+ghost use Rattle.cml_stream.specs.Streams.{counted_stream};
+
+use crate::output::say;
+use crate::script::Script;
+use cml_check::Prog;
+use cml_ending::{explain_end, is_stuck};
+use cml_hub::{End, Hub};
+use cml_stream::Counting;
+use cml_text::Sexpr;
+use std::alloc::{AllocError, Global};
+use std::io::Write;
+
+// The status of a run that is stuck, where it is judged strictly.
+const STUCK: u8 = 6;
+
+/// A script that is spoken of.
+#[derive(Drop)]
+pub struct Subject<'a> {
+    /// The name under which it lies.
+    pub name: &'a str,
+    /// Its text.
+    pub text: Vec<u8>,
+    /// Its forms.
+    pub forms: Vec<Sexpr>,
+}
+
+/// What is asked of the end of a run.
+#[derive(Drop)]
+pub struct Asked<'a> {
+    /// The script that is spoken of, where the end is explained.
+    pub subject: Option<Subject<'a>>,
+    /// Whether it is judged strictly.
+    pub strict: bool,
+    /// The numbers of the functions of servers.
+    pub servers: Vec<u32>,
+}
+
+/// How a run is closed.
+#[derive(Drop)]
+pub struct Closing {
+    /// The status with which it ends.
+    pub status: u8,
+    /// What is said of its end, where that is explained.
+    pub words: Option<Vec<u8>>,
+}
+
+/// The program of the script, and what is asked of the end of its run. Text and forms are kept only where the end is explained.
+pub fn ask<'a>(
+    name: &'a str,
+    script: Script,
+    explains: bool,
+    strict: bool,
+    servers: Vec<u32>,
+) -> (Prog, Asked<'a>)
+    ensures program { result.0 ≡ script.program }
+    ensures asked { plain_asked result.1 ≡ asked_of explains name.now (plain_script script) strict servers.items }
+{
+    let Script {
+        text,
+        forms,
+        program,
+    } = script;
+    let subject = if explains {
+        Some(Subject { name, text, forms })
+    } else {
+        None
+    };
+    let asked = Asked {
+        subject,
+        strict,
+        servers,
+    };
+    (program, asked)
+}
+
+/// How the run of this hub is closed, which has come to its end.
+///
+/// # Errors
+/// Out of memory, which it takes only where the end is explained.
+pub fn close(alloc: Global, hub: &Hub, asked: &Asked<'_>) -> Result<Closing, AllocError>
+    ensures { IfOk result (λ closing. IsClosing (plain_asked asked.now) hub.now (plain_closing closing)) }
+{
+    let status = closing_status(hub, asked);
+    match &asked.subject {
+        Some(subject) => {
+            let words = explain(alloc, hub, subject)?;
+            Ok(Closing {
+                status,
+                words: Some(words),
+            })
+        }
+        None => Ok(Closing {
+            status,
+            words: None,
+        }),
+    }
+}
+
+// What is said of its end.
+#[inline(never)]
+fn explain(alloc: Global, hub: &Hub, subject: &Subject<'_>) -> Result<Vec<u8>, AllocError>
+    ensures { let s = plain_subject subject.now in
+        IfOk result (λ words. EndsSo s.name s.text s.forms hub.now words.items) }
+{
+    let text = subject.text.as_slice();
+    let forms = subject.forms.as_slice();
+    explain_end(alloc, subject.name, text, forms, hub)
+}
+
+// With which status it ends.
+fn closing_status(hub: &Hub, asked: &Asked<'_>) -> u8
+    ensures { result ≡ closed.closing_status (plain_asked asked.now) hub.now }
+{
+    if asked.strict && is_stuck(hub, asked.servers.as_slice()) {
+        STUCK
+    } else {
+        end_status(hub.end())
+    }
+}
+
+fn end_status(end: End) -> u8
+    ensures { result ≡ spec.end_status end }
+{
+    match end {
+        End::Quiet => 0,
+        End::Budget => 4,
+        End::Partial => 0,
+    }
+}
+
+/// Says what is said of the end, after all else was told, and returns the status.
+pub fn say_end<E: Write>(closing: &Closing, err: &mut Counting<'_, E>) -> u8
+    requires fresh { err.old.failed ≡ 0 }
+    ensures said { let errors = counted_stream (E.contents err.old.stream.now) (E.contents err.new.stream.now) err.new.calls err.new.failed in
+        SaysEnd (plain_closing closing.now).words errors }
+    ensures status { result ≡ closing.now.status }
+    ensures same_err { err.new.stream.ghost_name ≡ err.old.stream.ghost_name }
+{
+    if let Some(words) = &closing.words {
+        say(err, words.as_slice());
+    }
+    closing.status
+}

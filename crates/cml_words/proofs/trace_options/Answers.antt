@@ -1,0 +1,8 @@
+use Rattle.std.proofs.Common.{codes, refl}
+use Rattle.clap.specs.Words.{found_of, rows_of}
+use Rattle.cml_words.specs.Words.{flag_rule, trace_command}
+use Rattle.cml_words.proofs.Served.{served_by_name}
+use Rattle.cml_words.proofs.trace_options.Goals as goal
+
+pub flag-requires : goal.flag-requires
+flag-requires c = served_by_name (rows_of (found_of c.args.matches.now)) trace_command.rules (codes "live") (flag_rule (codes "live")) c.requires refl
