@@ -14,6 +14,7 @@ pub mod Meeting
 pub mod Settled
 pub mod Opening
 pub mod Ours
+pub mod DeedLemmas
 pub mod Ticking
 pub mod Going
 pub mod Placing

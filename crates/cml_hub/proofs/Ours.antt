@@ -1,15 +1,16 @@
 -- Whose slice it is, and where the machine of a running thread stands.
 use Rattle.std.proofs.Common.{◌≡◌, ℕ, ◌<◌, Bool, true, false, length, refl, ap, sym, subst, ◌∙◌, arith, Option, Some, None, slice_index_or}
-use Rattle.std.specs.Prelude.{slice_get, IsTrue, ◌↔◌}
-use Rattle.std.specs.Option.{option_map_or}
+use Rattle.std.specs.Borrow.{Bor}
+use Rattle.std.specs.Prelude.{slice_get, IsTrue, IfSome, MatchOption, ◌↔◌}
+use Rattle.std.specs.Option.{option_copied, option_map_or}
 use Rattle.std.proofs.lemmas.Option.{slice_get_within}
 use Rattle.cml_scan.specs.World.{PlainThread, running, pending_on, ended, PlainWorld}
 use Rattle.cml_book.specs.Walks.{runs, is_running}
 use Rattle.cml_step.specs.Machines.{PlainMachine}
 use Rattle.cml_step.specs.Rans.{PlainRan}
 use Rattle.cml_hub.specs.Dones.{GoesOn}
-use Rattle.cml_hub.specs.Courses.{PlainCourse, Leads, HasMachine, IsOurs}
-use Rattle.cml_hub.proofs.Standing.{found_is, stand_length}
+use Rattle.cml_hub.specs.Courses.{PlainCourse, MachineStands, Leads, HasMachine, IsOurs}
+use Rattle.cml_hub.proofs.Standing.{found, found_is, number_there, stand_length}
 use Rattle.cml_hub.proofs.MarkLemmas.{got_is}
 
 thread_runs : (o : Option PlainThread) → option_map_or runs o false ≡ true → o ≡ Some running
@@ -53,3 +54,15 @@ current_ours c ran t m s h e run is both prog = (
   λ yes. (prog, (t, record { running = run; machine = machine_at c t m h run is ∙ ap (λ x. Some x) (both.0 yes) })),
   λ o. (let k = (ours_own c ran h o).machine in let a = rw e at (machine_at c t m h run is) in let same : m ≡ ran.start = cc in both.1 same),
 )
+
+-- each thread has its machine, which stands as the thread does
+pub stands_there : (c : PlainCourse) (n : ℕ) (t : PlainThread) (r : Option (Bor PlainMachine)) → Leads c → option_copied r ≡ slice_get c.machines n → slice_get c.world.threads n ≡ Some t → MatchOption r ⊥ (λ m. MachineStands c.program t m.now)
+stands_there c n t None h e run =
+    let at = (found c.program 0 n c.world.threads c.machines t h.machines run).at in
+    cc
+stands_there c n t (Some m) h e run = (found_is c.program 0 n c.world.threads c.machines t m.now h.machines run (sym e)).1
+
+-- a machine is that of the thread of its number
+pub numbered_there : (c : PlainCourse) (n : ℕ) (r : Option (Bor PlainMachine)) → Leads c → option_copied r ≡ slice_get c.machines n → IfSome r (λ m. m.now.thread ≡ n)
+numbered_there c n None h e = tt
+numbered_there c n (Some m) h e = omega (arith, number_there c.program 0 n c.world.threads c.machines m.now h.machines (sym e))

@@ -61,6 +61,16 @@ found_is p k i ts ms t m h e g =
     let same : r.machine ≡ m = cc in
     (ap (λ (x : PlainMachine). x.thread) (sym same) ∙ r.thread, subst (λ x. MachineStands p t x) same r.stands)
 
+-- a machine that is there has its own number
+pub number_there : (p : List (PlainItem ℕ)) (k i : ℕ) (ts : List PlainThread) (ms : List PlainMachine) (m : PlainMachine) → MachinesStand p k ts ms → slice_get ms i ≡ Some m → m.thread ≡ k + i
+number_there p k i [] [] m h e = absurd (cc)
+number_there p k i [] (x ∷ ms) m h e = absurd h
+number_there p k i (t ∷ ts) [] m h e = absurd h
+number_there p k zero (t ∷ ts) (x ∷ ms) m h e =
+    let is : x ≡ m = cc in
+    ap (λ (y : PlainMachine). y.thread) (sym is) ∙ omega (arith, h.0)
+number_there p k (suc i) (t ∷ ts) (x ∷ ms) m h e = omega (arith, number_there p (suc k) i ts ms m h.2 e)
+
 pub stand_set : (p : List (PlainItem ℕ)) (k i : ℕ) (ts : List PlainThread) (ms : List PlainMachine) (t : PlainThread) (m : PlainMachine) → MachinesStand p k ts ms → m.thread ≡ k + i → MachineStands p t m
     → MachinesStand p k (slice_set ts i t) (slice_set ms i m)
 stand_set p k i [] [] t m h e s = tt

@@ -1,5 +1,5 @@
 -- A program's course: the schedule so far, and where it has led.
-use Rattle.std.specs.Prelude.{ℕ, suc, ◌≡◌, ◌≢◌, ◌*◌, ◌<◌, ◌≤◌, List, [], ◌∷◌, ◌++◌, length, map, Some, slice_get, slice_set}
+use Rattle.std.specs.Prelude.{ℕ, suc, Bool, true, false, ◌≡◌, ◌≢◌, ◌*◌, ◌<◌, ◌≤◌, List, [], ◌∷◌, ◌++◌, length, map, Some, slice_get, slice_set}
 use Rattle.std.specs.List.{All}
 use Rattle.cml_scan.specs.World.{PlainThread, running, pending_on, ended, PlainWorld}
 use Rattle.cml_scan.specs.declared.meet.Meet.{Meet}
@@ -15,7 +15,7 @@ use Rattle.cml_step.specs.Rans.{PlainRan}
 use Rattle.cml_schedule.specs.declared.item.Item.{Item}
 use Rattle.cml_schedule.specs.declared.item.Item.TheVariants.{Turn, Meet as Commit, Exchange, Clock}
 use Rattle.cml_schedule.specs.Laws.{IsWritable}
-use Rattle.cml_hub.specs.Runs.{Run, main_of, opening, stands, advance}
+use Rattle.cml_hub.specs.Runs.{Run, main_of, opening, stands, is_allowed, advance}
 use Rattle.cml_hub.specs.Agreeing.{WorldAgrees}
 use Rattle.cml_value.specs.declared.number.Tid.{Tid}
 use Rattle.cml_hub.specs.declared.done.Gone.{Gone}
@@ -76,6 +76,11 @@ pub record Adds (old : PlainCourse) (item : Item) (new : PlainCourse) : Type 0 w
   pub program : new.program ≡ old.program
   pub items : new.items ≡ old.items ++ item ∷ []
   pub run : advance (text_of old.program) (run_of old) item ≡ Some (run_of new)
+
+-- the item was added; or it is not allowed, and nothing was
+abbrev pub Comes : PlainCourse → Item → Bool → PlainCourse → Type 0
+Comes old item true new = Adds old item new
+Comes old item false new = (is_allowed old.world item ≡ false) × (new ≡ old)
 
 -- the thread of this number runs, and this is its machine
 pub record HasMachine (c : PlainCourse) (t : ℕ) (m : PlainMachine) : Type 0 where

@@ -25,7 +25,7 @@ use Rattle.cml_hub.specs.declared.marks.Mark.{Mark}
 use Rattle.cml_hub.specs.Marks.{is_here}
 use Rattle.cml_hub.specs.Runs.{Run, any_runs, over, ending, stands, advance}
 use Rattle.cml_hub.specs.Dones.{GoesOn}
-use Rattle.cml_hub.specs.Courses.{PlainCourse, run_of, Adds, HasMachine, IsOurs}
+use Rattle.cml_hub.specs.Courses.{PlainCourse, run_of, Adds, Comes, HasMachine, IsOurs}
 use Rattle.cml_hub.specs.Reports.{AreReports, IsDue}
 
 -- a hub: its program with the schedule so far and where that has led; its budget; after how many items a report is made, if any is; by
@@ -177,6 +177,15 @@ pub record IsOver (end : End) (h : Kept) : Type 0 where
   pub end_is : end ≡ ending h.budget (run_of h.course)
   pub none_out : NoneOut h
   pub none_due : NoneDue h
+
+-- Whether the item came: it was added, where it is allowed; or it is not allowed, and the course stands where it stood. A report that was
+-- due was made.
+pub record IsFollowed (old : Kept) (item : Item) (came : Bool) (new : Kept) : Type 0 where
+  pub budget : new.budget ≡ old.budget
+  pub watch : new.watch ≡ old.watch
+  pub made : List PlainReport
+  pub reports : new.reports ≡ old.reports ++ made
+  pub course : Comes old.course item came new.course
 
 -- the first item that is not allowed where it stands has this number, counted from 1
 pub record IsFirstBad (p : List (PlainItem ℕ)) (items : List Item) (number : ℕ) : Type 0 where

@@ -5,6 +5,7 @@ pub mod Agreeing
 pub mod Dones
 pub mod Asking
 pub mod Settling
+pub mod Deeds
 pub mod Courses
 pub mod CourseCodes
 pub mod Marks

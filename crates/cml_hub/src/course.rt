@@ -1,9 +1,10 @@
 //! The course of a program: its schedule so far, and where that has led.
 
-ghost use Rattle.std.specs.Prelude.{◌≡◌, ◌↔◌, ◌<◌, ◌≤◌, ◌+◌, ◌++◌, true, [], Some, IfOk, IfErr, OnOk, OnErr, IsTrue, MatchOption, slice_get, length, map, not};
+ghost use Rattle.std.specs.Prelude.{◌≡◌, ◌↔◌, ◌<◌, ◌≤◌, ◌+◌, ◌++◌, true, [], Some, IfOk, IfErr, IfSome, OnOk, OnErr, IsTrue, MatchOption, slice_get, length, map, not};
 ghost use Rattle.std.specs.List.{All};
+ghost use Rattle.std.specs.Option.{option_copied};
 ghost use Rattle.std.specs.String.{string_bytes, string_len, string_capacity};
-ghost use Rattle.cml_scan.specs.World.{running, pending};
+ghost use Rattle.cml_scan.specs.World.{PlainThread, running, pending};
 ghost use Rattle.cml_scan.specs.Scan.{scan, has_row};
 ghost use Rattle.cml_book.specs.Walks.{is_running};
 ghost use Rattle.cml_schedule.specs.Laws.{IsWritable};
@@ -12,11 +13,13 @@ ghost use Rattle.cml_schedule.specs.Laws.{AreNumbers};
 ghost use Rattle.cml_hub.specs.Runs as spec;
 ghost use Rattle.cml_hub.specs.Dones.{GoesOn};
 ghost use Rattle.cml_book.specs.Swaps.{swaps};
-ghost use Rattle.cml_hub.specs.Courses.{IsOpening, Begins, HasMachine, IsOurs, run_of, Turns, TakesRow, Meets, Ticks};
+ghost use Rattle.cml_hub.specs.Courses.{IsOpening, Begins, HasMachine, MachineStands, IsOurs, run_of, Turns, TakesRow, Meets, Ticks};
+ghost use Rattle.cml_hub.specs.Deeds.{origins, fault_count, IsKnown};
 ghost use Rattle.cml_hub.specs.Playing.{picked, spent};
 ghost use Rattle.cml_hub.specs.Reports.{report_of};
 
 use crate::choose::Chooser;
+use crate::deeds::{Deeds, note};
 use crate::done::Gone;
 use crate::perform::{Threads, prepare};
 use crate::pick::pick_row;
@@ -35,7 +38,7 @@ use std::alloc::{AllocError, AllocFailed, Global};
 use std::marker::Model;
 
 // A program, the schedule so far, and where it has led: the threads and objects, the machine of each thread, the output, and how much of the
-// budget was used. The spare is no thread's: each turn uses its lists again.
+// budget was used. The spare is no thread's: each turn uses its lists again. What the turns did is known by the schedule.
 #[derive(Drop)]
 pub(crate) struct Course {
     program: Prog,
@@ -45,12 +48,15 @@ pub(crate) struct Course {
     spare: Machine,
     output: String,
     used: u128,
+    deeds: Deeds,
 }
 
 impl Model for Course {
     ghost use Rattle.std.specs.String.{string_bytes};
     ghost use Rattle.cml_hub.specs.CourseCodes.{course_code};
+    ghost use Rattle.cml_step.specs.Calls.{text_of};
     ghost use Rattle.cml_hub.specs.Courses.{PlainCourse, Leads};
+    ghost use Rattle.cml_hub.specs.Deeds.{IsKnown};
 
     ghost Value = { PlainCourse };
 
@@ -72,7 +78,7 @@ impl Model for Course {
       machines = c.machines.items;
       output = string_bytes c.output;
       used = c.used;
-    }) };
+    }) × IsKnown (text_of c.program) c.items.items c.deeds.origins.items c.deeds.faults };
 }
 
 // Appends a line to the output, where there is room for it.
@@ -216,6 +222,37 @@ impl Course {
         &self.machines[thread.0 as usize]
     }
 
+    // The threads and objects.
+    pub(crate) fn book(&self) -> &Threads
+        ensures { result.now ≡ self.now.world }
+    {
+        &self.threads
+    }
+
+    // The machine of a thread, whatever it does, if there is such a one.
+    pub(crate) fn machine_of(&self, thread: Tid) -> Option<&Machine>
+        ensures machine { option_copied result ≡ slice_get self.now.machines thread.0 }
+        ensures thread { IfSome result (λ m. m.now.thread ≡ thread.0) }
+        ensures stands { (t : PlainThread) → slice_get self.now.world.threads thread.0 ≡ Some t →
+            MatchOption result ⊥ (λ m. MachineStands self.now.program t m.now) }
+    {
+        self.machines.get(thread.0 as usize)
+    }
+
+    // The function with which the thread began, if there is such a one.
+    pub(crate) fn origin(&self, thread: Tid) -> Option<&FnRef>
+        ensures { option_copied result ≡ slice_get (origins (text_of self.now.program) self.now.items) thread.0 }
+    {
+        self.deeds.origins.get(thread.0 as usize)
+    }
+
+    // How many threads ended at a fault.
+    pub(crate) fn faults(&self) -> usize
+        ensures { result ≡ fault_count (text_of self.now.program) self.now.items }
+    {
+        self.deeds.faults
+    }
+
     // Whether the slice is of this program, and some running thread has the machine with which it began. It compares both.
     pub(crate) fn is_ours(&self, ran: &Ran) -> bool
         ensures { IsTrue result ↔ IsOurs self.now ran.now }
@@ -244,6 +281,7 @@ impl Course {
     {
         self.items.reserve(1)?;
         self.machines.reserve(1)?;
+        self.deeds.origins.reserve(1)?;
         let taken = take_turn(
             alloc,
             &self.program,
@@ -254,11 +292,12 @@ impl Course {
             &mut self.spare,
         )?;
         let Taken {
-            ask: _ask,
+            ask,
             steps,
             prepared,
         } = taken;
         let gone = prepared.done.gone();
+        note(&mut self.deeds, ask, &prepared.done);
         tell(&mut self.output, prepared.line.as_str());
         settle(&mut self.machines, thread, prepared.done);
         self.items.push_reserved(Item::Turn(thread));
@@ -280,6 +319,9 @@ impl Course {
         let Ok(()) = self.machines.reserve(1) else {
             return Err(ran);
         };
+        let Ok(()) = self.deeds.origins.reserve(1) else {
+            return Err(ran);
+        };
         let Ok(prepared) = prepare(
             alloc,
             &self.program,
@@ -293,7 +335,8 @@ impl Course {
         };
         let gone = prepared.done.gone();
         tell(&mut self.output, prepared.line.as_str());
-        let (end, _ask) = ran.into_end();
+        let (end, ask) = ran.into_end();
+        note(&mut self.deeds, ask, &prepared.done);
         self.machines[thread.0 as usize] = end;
         settle(&mut self.machines, thread, prepared.done);
         self.items.push_reserved(Item::Turn(thread));
@@ -361,12 +404,27 @@ fn opening(alloc: Global, program: &Prog) -> Result<(Vec<Machine>, Threads), All
     }
 }
 
+// What the turns of no item did: thread 0 has begun with `main`, and nobody ended at a fault.
+fn no_deeds(alloc: Global, program: &Prog) -> Result<Deeds, AllocError>
+    ensures { IfOk result (λ d. IsKnown (text_of program.now) [] d.origins.items d.faults) }
+{
+    let Ok(main) = FnRef::new(alloc, program.main(), Vec::new(alloc)) else {
+        return Err(AllocError);
+    };
+    let mut origins = Vec::new(alloc);
+    origins.push(main)?;
+    Ok(Deeds { origins, faults: 0 })
+}
+
 impl Course {
     // The course of a program at its beginning: thread 0 is about to call `main`.
     pub(crate) fn begin(alloc: Global, program: Prog) -> Result<Course, AllocFailed<Prog>>
         ensures ok { IfOk result (λ c. Begins program c) }
         ensures err { IfErr result (λ back. back.value ≡ program) }
     {
+        let Ok(deeds) = no_deeds(alloc, &program) else {
+            return Err(AllocFailed { value: program });
+        };
         match opening(alloc, &program) {
             Ok((machines, threads)) => Ok(Course {
                 program,
@@ -376,8 +434,12 @@ impl Course {
                 spare: Machine::ended(alloc, Tid(0)),
                 output: String::new(alloc),
                 used: 0,
+                deeds,
             }),
-            Err(_) => Err(AllocFailed { value: program }),
+            Err(_) => {
+                drop(deeds);
+                Err(AllocFailed { value: program })
+            }
         }
     }
 

@@ -1,17 +1,19 @@
 //! The hub: it hands out slices of the threads and takes them back, chooses among the communications that are possible, and keeps the
 //! schedule of what happened.
 
-ghost use Rattle.std.specs.Prelude.{◌≡◌, ◌≢◌, ◌↔◌, ◌++◌, ◌+◌, ◌*◌, ◌≤◌, ◌<◌, [], Some, IfOk, IfErr, IfSome, OnOk, OnErr, IsTrue, Ok, true, false, length, slice_get};
+ghost use Rattle.std.specs.Prelude.{◌≡◌, ◌≢◌, ◌↔◌, ◌++◌, ◌+◌, ◌*◌, ◌≤◌, ◌<◌, [], Some, IfOk, IfErr, IfSome, OnOk, OnErr, IsTrue, MatchOption, Ok, true, false, length, slice_get};
+ghost use Rattle.std.specs.Option.{option_copied};
 ghost use Rattle.std.specs.Vec.{vec_len, vec_capacity};
-ghost use Rattle.cml_scan.specs.World.{pending, running};
+ghost use Rattle.cml_scan.specs.World.{PlainThread, pending, running};
 ghost use Rattle.cml_check.specs.Sizes.{size_of};
 ghost use Rattle.cml_schedule.specs.Written.{schedule_text};
 ghost use Rattle.cml_schedule.specs.Reading.{ScheduleReadsAs};
 ghost use Rattle.cml_step.specs.Calls.{text_of};
 ghost use Rattle.cml_hub.specs.Runs as spec;
-ghost use Rattle.cml_hub.specs.Courses.{run_of, TakesRow, IsOurs};
+ghost use Rattle.cml_hub.specs.Courses.{run_of, TakesRow, MachineStands, IsOurs};
+ghost use Rattle.cml_hub.specs.Deeds.{origins, fault_count};
 ghost use Rattle.cml_hub.specs.Reports.{AreReports, IsDueReport};
-ghost use Rattle.cml_hub.specs.Kept.{IsBudget, IsWatch, IsAtStart, Continues, Extends, HandsOut, is_ended, NoneDue, NoneOut, AllOut, OnlyRunningOut, NoneOutOrSame, TakesSlice, IsOver, Replays, FitsSize};
+ghost use Rattle.cml_hub.specs.Kept.{IsBudget, IsWatch, IsAtStart, Continues, Extends, HandsOut, is_ended, NoneDue, NoneOut, AllOut, OnlyRunningOut, NoneOutOrSame, TakesSlice, IsOver, IsFollowed, Replays, FitsSize};
 ghost use Rattle.cml_hub.specs.Marks.{left_by};
 ghost use Rattle.cml_hub.specs.Playing.{parties, ready_after, MovesBy, GoesBy, PlaysOut, PlaysSoFar};
 ghost use Rattle.cml_hub.specs.Moves.{IsNext, lines_up, marks_after, PartiesAway, marks_met, AddsItem, TakesBack, Reported, HandedOut, MovedOn, CalledBack, Happens, GoesAlone, with_report};
@@ -21,13 +23,15 @@ use crate::course::Course;
 use crate::done::Gone;
 use crate::fault::{End, GiveFault, Next, ReplayFault};
 use crate::marks::Marks;
+use cml_book::Book;
 use cml_check::Prog;
+use cml_index::OfferIndex;
 use cml_monitor::Report;
 use cml_scan::Meet;
 use cml_schedule::law::written_is_read;
 use cml_schedule::{Item, Plan, schedule_text};
 use cml_step::{Machine, Ran};
-use cml_value::Tid;
+use cml_value::{FnRef, Tid};
 use std::alloc::{AllocError, AllocFailed, Global};
 use std::marker::Model;
 
@@ -248,6 +252,37 @@ impl Hub {
         ensures { result ≡ self.now.course.used }
     {
         self.course.used()
+    }
+
+    /// The threads and objects where the schedule has led: who waits and for what, what the objects hold, which rows can be taken, and the time.
+    pub fn book(&self) -> &Book<OfferIndex>
+        ensures { result.now ≡ self.now.course.world }
+    {
+        self.course.book()
+    }
+
+    /// Where the thread of this number stands; each thread has its machine. It fits the program while the thread runs or waits.
+    pub fn machine(&self, thread: Tid) -> Option<&Machine>
+        ensures machine { option_copied result ≡ slice_get self.now.course.machines thread.0 }
+        ensures thread { IfSome result (λ m. m.now.thread ≡ thread.0) }
+        ensures stands { (t : PlainThread) → slice_get self.now.course.world.threads thread.0 ≡ Some t →
+            MatchOption result ⊥ (λ m. MachineStands self.now.course.program t m.now) }
+    {
+        self.course.machine_of(thread)
+    }
+
+    /// The function with which the thread began, and the values that it was given, if there is such a thread.
+    pub fn origin(&self, thread: Tid) -> Option<&FnRef>
+        ensures { option_copied result ≡ slice_get (origins (text_of self.now.course.program) self.now.course.items) thread.0 }
+    {
+        self.course.origin(thread)
+    }
+
+    /// How many threads ended at a fault.
+    pub fn faults(&self) -> usize
+        ensures { result ≡ fault_count (text_of self.now.course.program) self.now.course.items }
+    {
+        self.course.faults()
     }
 
     /// The reports that were made.
@@ -527,7 +562,7 @@ impl Hub {
     }
 
     // The item happens, which is allowed now.
-    fn follow(&mut self, alloc: Global, item: Item) -> Result<(), AllocError>
+    fn add(&mut self, alloc: Global, item: Item) -> Result<(), AllocError>
         requires allowed { spec.is_allowed self.old.course.world item ≡ true }
         requires due { NoneDue self.old }
         requires none_out { NoneOut self.old }
@@ -574,6 +609,25 @@ impl Hub {
         Ok(hub)
     }
 
+    /// One item more, where it is allowed now; where it is not, no item comes. The report that is due is made first. Returns whether the item
+    /// came.
+    ///
+    /// # Errors
+    /// Out of memory. No item came; the report may have been made.
+    pub fn follow(&mut self, alloc: Global, item: Item) -> Result<bool, AllocError>
+        requires { NoneOut self.old }
+        ensures ok { IfOk result (λ came. IsFollowed self.old item came self.new) }
+        ensures none_out { NoneOut self.new }
+        ensures err { OnErr result (self.new.course ≡ self.old.course) }
+    {
+        self.report(alloc)?;
+        if !self.is_allowed(&item) {
+            return Ok(false);
+        }
+        self.add(alloc, item)?;
+        Ok(true)
+    }
+
     // The item happens, and the report that is due after it is made.
     fn step(&mut self, alloc: Global, item: Item) -> Result<(), AllocError>
         requires allowed { spec.is_allowed self.old.course.world item ≡ true }
@@ -582,7 +636,7 @@ impl Hub {
         ensures ok { OnOk result (Happens self.old item self.new) }
         ensures program { self.new.course.program ≡ self.old.course.program }
     {
-        self.follow(alloc, item)?;
+        self.add(alloc, item)?;
         self.report(alloc)
     }
 

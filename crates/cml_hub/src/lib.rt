@@ -3,6 +3,7 @@
 
 mod choose;
 mod course;
+mod deeds;
 mod done;
 mod fault;
 mod hub;

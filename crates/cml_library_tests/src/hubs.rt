@@ -1,6 +1,6 @@
 //! The hub by itself: whole runs of scripts, slices that are handed out and given back, and schedules that are replayed.
 
-ghost use Rattle.cml_hub.specs.Kept.{IsBudget, IsWatch};
+ghost use Rattle.cml_hub.specs.Kept.{IsBudget, IsWatch, NoneOut};
 
 use crate::making::{MEMORY, program_of};
 use cml_hub::{
@@ -8,7 +8,7 @@ use cml_hub::{
     read_schedule,
 };
 use cml_monitor::render;
-use cml_scan::Meet;
+use cml_scan::{Light, Meet};
 use cml_step::{Ran, slice};
 use cml_value::Tid;
 use std::process::Abort;
@@ -515,4 +515,91 @@ fn a_schedule_says_the_size_of_its_program(rt: HostRuntime) {
         drop(plan);
     }
     drop(program);
+}
+
+// Thread 1 prints, and thread 2 is at fault.
+const FAMILY: &str =
+    "(fn child (a b) (print (+ a b))) (fn main () (spawn child 1 2) (let x (spawn child unit 4)) (sync (join x)))";
+
+// The number of the function with which the thread began, and its values.
+fn origin_of(rt: &(impl Abort + AllocGlobal), hub: &Hub, thread: u32) -> String {
+    let mut text = String::new(rt.alloc());
+    match hub.origin(Tid(thread)) {
+        None => text.push_str("nobody").expect(rt, MEMORY),
+        Some(origin) => {
+            write!(text, "{}", origin.func()).expect(rt, MEMORY);
+            for value in origin.args() {
+                let shown = value.show(rt.alloc()).expect(rt, MEMORY);
+                write!(text, " {shown}").expect(rt, MEMORY);
+                drop(shown);
+            }
+        }
+    }
+    text
+}
+
+// The origins of threads 0 to 3.
+fn origins_of(rt: &(impl Abort + AllocGlobal), hub: &Hub) -> String {
+    let mut text = String::new(rt.alloc());
+    for thread in 0..4 {
+        let origin = origin_of(rt, hub, thread);
+        write!(text, "{origin};").expect(rt, MEMORY);
+        drop(origin);
+    }
+    text
+}
+
+#[test]
+fn a_hub_knows_origins_and_faults(rt: HostRuntime) {
+    let program = program_of(&rt, FAMILY);
+    let mut hub = Hub::begin(rt.alloc(), program, 1_000_000, None).expect(&rt, MEMORY);
+    let before = origins_of(&rt, &hub);
+    assert!(rt; before.as_str() == "1;nobody;nobody;nobody;", "{before}");
+    drop(before);
+    assert!(rt;
+        hub.faults() == 0 && hub.machine(Tid(0)).is_some() && hub.machine(Tid(1)).is_none()
+    );
+    let end = hub.run_alone(rt.alloc(), &mut First).expect(&rt, MEMORY);
+    assert!(rt; end == End::Quiet);
+    let after = origins_of(&rt, &hub);
+    assert!(rt; after.as_str() == "1;0 1 2;0 () 4;nobody;", "{after}");
+    drop(after);
+    assert!(rt; hub.faults() == 1 && hub.out() == "3\nthread 2 fault kind\n");
+    assert!(rt; hub.book().is_lit(Light::Joined(Tid(2))) && hub.book().waiting(Tid(0)).is_none());
+    drop(hub);
+}
+
+// Each of the items is followed.
+fn follow_all(rt: &(impl Abort + AllocGlobal), hub: &mut Hub, items: &[Item])
+    requires { NoneOut hub.old }
+    ensures { NoneOut hub.new }
+{
+    for i in 0..items.len() {
+        let count = hub.schedule().len();
+        let stranger = hub.follow(rt.alloc(), Item::Turn(Tid(9)));
+        assert!(rt; !stranger.expect(rt, MEMORY) && hub.schedule().len() == count);
+        assert!(rt; hub.follow(rt.alloc(), items[i]).expect(rt, MEMORY));
+        assert!(rt; hub.schedule().len() == count + 1);
+    }
+}
+
+#[test]
+fn schedules_are_followed_item_by_item(rt: HostRuntime) {
+    for script in &[ADDITION, CANCELLED, SWAPPED, WANTED_TWICE, TIMED, FAMILY] {
+        let program = program_of(&rt, script);
+        let copy = program.copy().expect(&rt, MEMORY);
+        let mut whole = Hub::begin(rt.alloc(), program, 1_000_000, Some(3)).expect(&rt, MEMORY);
+        let end = whole.run_alone(rt.alloc(), &mut First).expect(&rt, MEMORY);
+        let mut hub = Hub::begin(rt.alloc(), copy, 1_000_000, Some(3)).expect(&rt, MEMORY);
+        follow_all(&rt, &mut hub, whole.schedule());
+        assert!(rt; hub.end() == end && hub.out() == whole.out(), "{script}");
+        assert!(rt;
+            hub.used() == whole.used() && hub.faults() == whole.faults(),
+            "{script}"
+        );
+        let after = hub.follow(rt.alloc(), Item::Clock(1));
+        assert!(rt; !after.expect(&rt, MEMORY), "{script}");
+        drop(hub);
+        drop(whole);
+    }
 }

@@ -2,7 +2,12 @@ use Rattle.std.proofs.Common.{arith, ap, sym, ◌∙◌, ◌≡◌, ◌+◌, ◌
 use Rattle.std.specs.String.{string_bytes}
 use Rattle.cml_schedule.specs.Laws.{IsNumber}
 use Rattle.cml_schedule.specs.declared.item.Item.TheVariants.{Turn}
-use Rattle.cml_hub.specs.Dones.{DoneFits, CanSettle}
+use Rattle.std.specs.List.{filter_map}
+use Rattle.cml_step.specs.AskViews.{plain_ask}
+use Rattle.cml_step.specs.Calls.{text_of}
+use Rattle.cml_hub.specs.Dones.{DoneFits, CanSettle, plain_done}
+use Rattle.cml_hub.specs.Deeds.{begotten}
+use Rattle.cml_hub.proofs.DeedLemmas.{turned_known, was_asked, faults_few}
 use Rattle.cml_hub.specs.Courses.{PlainCourse, HasMachine, IsOurs}
 use Rattle.cml_hub.proofs.Ours.{machine_within, ours_own}
 use Rattle.cml_step.specs.Machines.{PlainMachine}
@@ -17,7 +22,7 @@ prepare-requires-clause-running c =
     let ran = c.args.ran in
     let ours : IsOurs k ran = rw (← c.self.view_is) at c.requires in
     let e : c.thread-thread.result.0 ≡ ran.start.thread = c.thread-thread.ensures ∙ ap (λ m. m.thread) c.start.ensures in
-    rw e (ours_own k ran c.self.invariant ours).running
+    rw e (ours_own k ran c.self.invariant.0 ours).running
 
 pub prepare-requires-clause-ready : goal.prepare-requires-clause-ready
 prepare-requires-clause-ready c =
@@ -37,9 +42,9 @@ settle-requires-clause-settles c = λ end is.
     let ran = c.args.ran in
     let ours : IsOurs k ran = rw (← c.self.view_is) at c.requires in
     let ms : List PlainMachine = c.reserve-2.new.self.items in
-    let own = ours_own k ran c.self.invariant ours in
+    let own = ours_own k ran c.self.invariant.0 ours in
     let e : c.thread-thread.result.0 ≡ ran.start.thread = c.thread-thread.ensures ∙ ap (λ m. m.thread) c.start.ensures in
-    let lt : c.thread-thread.result.0 < length ms = omega (arith, e, machine_within k ran.start.thread c.self.invariant own.running, ap length c.reserve-2.ensures.items) in
+    let lt : c.thread-thread.result.0 < length ms = omega (arith, e, machine_within k ran.start.thread c.self.invariant.0 own.running, ap length c.reserve-2.ensures.items) in
     let slice = slice_here s.program ran ours.0 c.steps-steps.ensures.meant in
     let fits : DoneFits s.program ran.ask ran.end c.in-Ok-prepare.prepared.done = rw (c.end.ensures, c.ask.ensures) at c.in-Ok-prepare.ensures.ok.fits in
     let at = set_there ms c.thread-thread.result.0 c.into_end-end.result.0 lt in
@@ -54,9 +59,9 @@ settle-requires-clause-there c =
     let ran = c.args.ran in
     let ours : IsOurs k ran = rw (← c.self.view_is) at c.requires in
     let ms : List PlainMachine = c.reserve-2.new.self.items in
-    let own = ours_own k ran c.self.invariant ours in
+    let own = ours_own k ran c.self.invariant.0 ours in
     let e : c.thread-thread.result.0 ≡ ran.start.thread = c.thread-thread.ensures ∙ ap (λ m. m.thread) c.start.ensures in
-    let lt : c.thread-thread.result.0 < length ms = omega (arith, e, machine_within k ran.start.thread c.self.invariant own.running, ap length c.reserve-2.ensures.items) in
+    let lt : c.thread-thread.result.0 < length ms = omega (arith, e, machine_within k ran.start.thread c.self.invariant.0 own.running, ap length c.reserve-2.ensures.items) in
     omega (arith, lt, length-set ms c.thread-thread.result.0 c.into_end-end.result.0)
 
 pub index_mut-requires : goal.index_mut-requires
@@ -66,9 +71,9 @@ index_mut-requires c =
     let ran = c.args.ran in
     let ours : IsOurs k ran = rw (← c.self.view_is) at c.requires in
     let ms : List PlainMachine = c.reserve-2.new.self.items in
-    let own = ours_own k ran c.self.invariant ours in
+    let own = ours_own k ran c.self.invariant.0 ours in
     let e : c.thread-thread.result.0 ≡ ran.start.thread = c.thread-thread.ensures ∙ ap (λ m. m.thread) c.start.ensures in
-    let lt : c.thread-thread.result.0 < length ms = omega (arith, e, machine_within k ran.start.thread c.self.invariant own.running, ap length c.reserve-2.ensures.items) in
+    let lt : c.thread-thread.result.0 < length ms = omega (arith, e, machine_within k ran.start.thread c.self.invariant.0 own.running, ap length c.reserve-2.ensures.items) in
     omega (arith, lt)
 
 pub invariant_of-self-2 : goal.invariant_of-self-2
@@ -79,10 +84,10 @@ invariant_of-self-2 c =
     let number = c.thread-thread.result in
     let prepared = c.in-Ok-prepare.prepared in
     let ours : IsOurs k ran = rw (← c.self.view_is) at c.requires in
-    let own : HasMachine k ran.start.thread ran.start = ours_own k ran c.self.invariant ours in
+    let own : HasMachine k ran.start.thread ran.start = ours_own k ran c.self.invariant.0 ours in
     let e : number.0 ≡ ran.start.thread = c.thread-thread.ensures ∙ ap (λ m. m.thread) c.start.ensures in
     let ms : List PlainMachine = c.reserve-2.new.self.items in
-    let lt : number.0 < length ms = omega (arith, e, machine_within k ran.start.thread c.self.invariant own.running, ap length c.reserve-2.ensures.items) in
+    let lt : number.0 < length ms = omega (arith, e, machine_within k ran.start.thread c.self.invariant.0 own.running, ap length c.reserve-2.ensures.items) in
     let n : IsNumber number.0 = omega arith in
     let turn : TurnDone k number ran.start ran.end ran.ask ran.steps prepared.done c.prepare.new.book (string_bytes prepared.line) c.settle.new.machines.items = record {
       runs = rw e own.running;
@@ -97,8 +102,25 @@ invariant_of-self-2 c =
     let items : c.push_reserved.new.self.items ≡ s.items.items ++ Turn number ∷ [] = c.push_reserved.ensures.items ∙ ap (λ xs. xs ++ Turn number ∷ []) c.reserve.ensures.items in
     let output : string_bytes c.tell.new.output ≡ string_bytes s.output ++ string_bytes prepared.line = c.tell.ensures ∙ ap (λ xs. xs ++ c.as_str.result.now) c.prepare.ensures.bytes ∙ ap (λ xs. string_bytes s.output ++ xs) c.as_str.ensures.value in
     let used : s.used + c.from.result ≡ s.used + ran.steps = ap (λ n. s.used + n) (c.from.ensures ∙ c.steps-steps.ensures.steps) in
-    turned_leads_at k number ran.start ran.end ran.ask ran.steps prepared.done c.prepare.new.book (string_bytes prepared.line) c.settle.new.machines.items
-    c.push_reserved.new.self.items (string_bytes c.tell.new.output) (s.used + c.from.result) items output used c.self.invariant n turn
+    let asked : plain_ask c.into_end-end.result.1 ≡ ran.ask = c.into_end-end.ensures.ask in
+    let known = turned_known k number ran.start ran.end ran.ask ran.steps prepared.done c.prepare.new.book (string_bytes prepared.line) c.settle.new.machines.items
+    c.push_reserved.new.self.items s.deeds.origins.items c.note.new.deeds.origins.items s.deeds.faults c.note.new.deeds.faults c.self.invariant.0 turn items
+    (rw asked at c.note.ensures.origins ∙ ap (λ fs. fs ++ filter_map begotten (plain_done ran.ask prepared.done ∷ [])) c.reserve-3.ensures.items) (rw asked at c.note.ensures.faults) c.self.invariant.1 in (
+      turned_leads_at k number ran.start ran.end ran.ask ran.steps prepared.done c.prepare.new.book (string_bytes prepared.line) c.settle.new.machines.items
+          c.push_reserved.new.self.items (string_bytes c.tell.new.output) (s.used + c.from.result) items output used c.self.invariant.0 n turn,
+      known,
+    )
+
+pub note-requires-clause-asked : goal.note-requires-clause-asked
+note-requires-clause-asked c =
+    let s = c.self.inside in
+    let prepared = c.in-Ok-prepare.prepared in
+    rw (c.into_end-end.ensures.ask) (was_asked s.threads c.prepare.new.book c.thread-thread.result.0 c.args.ran.ask prepared.done (rw c.ask.ensures at c.in-Ok-prepare.ensures.ok.performed))
+
+pub note-requires-clause-few : goal.note-requires-clause-few
+note-requires-clause-few c =
+    let s = c.self.inside in
+    omega (arith, faults_few (text_of s.program) s.items.items s.deeds.origins.items s.deeds.faults c.self.invariant.1)
 
 pub returns-clause-ok : goal.returns-clause-ok
 returns-clause-ok c =
@@ -108,10 +130,10 @@ returns-clause-ok c =
     let number = c.thread-thread.result in
     let prepared = c.in-Ok-prepare.prepared in
     let ours : IsOurs k ran = rw (← c.self.view_is) at c.requires in
-    let own : HasMachine k ran.start.thread ran.start = ours_own k ran c.self.invariant ours in
+    let own : HasMachine k ran.start.thread ran.start = ours_own k ran c.self.invariant.0 ours in
     let e : number.0 ≡ ran.start.thread = c.thread-thread.ensures ∙ ap (λ m. m.thread) c.start.ensures in
     let ms : List PlainMachine = c.reserve-2.new.self.items in
-    let lt : number.0 < length ms = omega (arith, e, machine_within k ran.start.thread c.self.invariant own.running, ap length c.reserve-2.ensures.items) in
+    let lt : number.0 < length ms = omega (arith, e, machine_within k ran.start.thread c.self.invariant.0 own.running, ap length c.reserve-2.ensures.items) in
     let turn : TurnDone k number ran.start ran.end ran.ask ran.steps prepared.done c.prepare.new.book (string_bytes prepared.line) c.settle.new.machines.items = record {
       runs = rw e own.running;
       at = rw e own.machine;
@@ -126,5 +148,5 @@ returns-clause-ok c =
     let output : string_bytes c.tell.new.output ≡ string_bytes s.output ++ string_bytes prepared.line = c.tell.ensures ∙ ap (λ xs. xs ++ c.as_str.result.now) c.prepare.ensures.bytes ∙ ap (λ xs. string_bytes s.output ++ xs) c.as_str.ensures.value in
     let used : s.used + c.from.result ≡ s.used + ran.steps = ap (λ n. s.used + n) (c.from.ensures ∙ c.steps-steps.ensures.steps) in
     let turns = turned_is_at k number ran.start ran.end ran.ask ran.steps prepared.done c.prepare.new.book (string_bytes prepared.line) c.settle.new.machines.items
-    c.push_reserved.new.self.items (string_bytes c.tell.new.output) (s.used + c.from.result) items output used c.self.invariant turn in
+    c.push_reserved.new.self.items (string_bytes c.tell.new.output) (s.used + c.from.result) items output used c.self.invariant.0 turn in
     rw (← c.self.view_is, c.gone-gone.ensures) (turns, e)

@@ -11,14 +11,14 @@ returns-then-not-is_running c =
     let s = c.self.inside in
     let k : PlainCourse = record { program = s.program; items = s.items.items; world = s.threads; machines = s.machines.items; output = string_bytes s.output; used = s.used } in
     let e : c.thread-thread.result.0 ≡ c.args.ran.now.start.thread = c.thread-thread.ensures ∙ ap (λ m. m.thread) c.start-start.ensures in
-    rw (← c.self.view_is) (not_running_ours k c.args.ran.now c.thread-thread.result.0 c.is_running.result c.self.invariant e c.is_running.ensures c.if-not-is_running.true)
+    rw (← c.self.view_is) (not_running_ours k c.args.ran.now c.thread-thread.result.0 c.is_running.result c.self.invariant.0 e c.is_running.ensures c.if-not-is_running.true)
 
 pub index-requires : goal.index-requires
 index-requires c =
     let s = c.self.inside in
     let k : PlainCourse = record { program = s.program; items = s.items.items; world = s.threads; machines = s.machines.items; output = string_bytes s.output; used = s.used } in
     let run : slice_get s.threads.threads c.thread-thread.result.0 ≡ Some running = running_is s.threads c.thread-thread.result.0 (sym c.is_running.ensures ∙ c.if-not-is_running.false) in
-    omega (arith, machine_within k c.thread-thread.result.0 c.self.invariant run)
+    omega (arith, machine_within k c.thread-thread.result.0 c.self.invariant.0 run)
 
 pub returns : goal.returns
 returns c =
@@ -28,4 +28,4 @@ returns c =
     let run : slice_get s.threads.threads c.thread-thread.result.0 ≡ Some running = running_is s.threads c.thread-thread.result.0 (sym c.is_running.ensures ∙ c.if-not-is_running.false) in
     let both = rw c.start-start.ensures at c.same.ensures in
     let program = rw (← c.self.view_is) at c.requires in
-    rw (← c.self.view_is) (current_ours k c.args.ran.now c.thread-thread.result.0 c.index.result.now c.same.result c.self.invariant e run c.index.ensures both program)
+    rw (← c.self.view_is) (current_ours k c.args.ran.now c.thread-thread.result.0 c.index.result.now c.same.result c.self.invariant.0 e run c.index.ensures both program)

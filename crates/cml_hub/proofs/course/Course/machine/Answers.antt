@@ -8,22 +8,22 @@ pub index-requires : goal.index-requires
 index-requires c =
     let s = c.self.inside in
     let k : PlainCourse = record { program = s.program; items = s.items.items; world = s.threads; machines = s.machines.items; output = string_bytes s.output; used = s.used } in
-    omega (arith, machine_within k c.args.thread.0 c.self.invariant (rw (← c.self.view_is) at c.requires))
+    omega (arith, machine_within k c.args.thread.0 c.self.invariant.0 (rw (← c.self.view_is) at c.requires))
 
 pub returns-clause-keeps : goal.returns-clause-keeps
 returns-clause-keeps c =
     let s = c.self.inside in
     let k : PlainCourse = record { program = s.program; items = s.items.items; world = s.threads; machines = s.machines.items; output = string_bytes s.output; used = s.used } in
-    rw (← c.self.view_is) (machine_keeps k c.args.thread.0 c.index.result.now c.self.invariant (rw (← c.self.view_is) at c.requires) c.index.ensures)
+    rw (← c.self.view_is) (machine_keeps k c.args.thread.0 c.index.result.now c.self.invariant.0 (rw (← c.self.view_is) at c.requires) c.index.ensures)
 
 pub returns-clause-stands : goal.returns-clause-stands
 returns-clause-stands c =
     let s = c.self.inside in
     let k : PlainCourse = record { program = s.program; items = s.items.items; world = s.threads; machines = s.machines.items; output = string_bytes s.output; used = s.used } in
-    rw (← c.self.view_is) (machine_goes k c.args.thread.0 c.index.result.now c.self.invariant (machine_keeps k c.args.thread.0 c.index.result.now c.self.invariant (rw (← c.self.view_is) at c.requires) c.index.ensures))
+    rw (← c.self.view_is) (machine_goes k c.args.thread.0 c.index.result.now c.self.invariant.0 (machine_keeps k c.args.thread.0 c.index.result.now c.self.invariant.0 (rw (← c.self.view_is) at c.requires) c.index.ensures))
 
 pub returns-clause-thread : goal.returns-clause-thread
 returns-clause-thread c =
     let s = c.self.inside in
     let k : PlainCourse = record { program = s.program; items = s.items.items; world = s.threads; machines = s.machines.items; output = string_bytes s.output; used = s.used } in
-    machine_number k c.args.thread.0 c.index.result.now c.self.invariant (machine_keeps k c.args.thread.0 c.index.result.now c.self.invariant (rw (← c.self.view_is) at c.requires) c.index.ensures)
+    machine_number k c.args.thread.0 c.index.result.now c.self.invariant.0 (machine_keeps k c.args.thread.0 c.index.result.now c.self.invariant.0 (rw (← c.self.view_is) at c.requires) c.index.ensures)
