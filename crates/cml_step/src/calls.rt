@@ -1,7 +1,8 @@
 //! What can be read off a call on the stack of a thread.
 
 ghost use Rattle.std.specs.Prelude.{◌≡◌, ◌<◌, ℕ, true, Some, length, slice_get, IfSome};
-ghost use Rattle.cml_check.specs.Syntax.{PlainItem};
+ghost use Rattle.cml_check.specs.Syntax.{PlainItem, PlainEffect, effect};
+ghost use Rattle.cml_check.specs.StmtViews.{plain_source};
 ghost use Rattle.cml_check.specs.Layout.{left};
 ghost use Rattle.cml_check.specs.Follows.{Follows};
 ghost use Rattle.cml_check.specs.InstrViews.{plain_instr};
@@ -11,6 +12,16 @@ ghost use Rattle.cml_step.specs.Standing.{StandsAt, StandsIn};
 use crate::call::{Call, Wait};
 use cml_check::{Function, Instr, Prog, Source};
 use cml_value::Value;
+
+// Whether the source is an effect.
+fn is_effect(source: &Source) -> bool
+    ensures { result ≡ true → (e : PlainEffect ℕ) × (plain_source source.now ≡ effect e) }
+{
+    match source {
+        Source::Value(_) => false,
+        Source::Effect(_) => true,
+    }
+}
 
 // Whether the instruction is a statement with an effect, after which its function goes on where the call is, and which gives to what the
 // call waits for.
@@ -26,7 +37,12 @@ fn has_asked(instr: &Instr, call: &Call) -> bool
             _ => false,
         },
         Wait::Gives(given) => match instr {
-            Instr::Let(slot, Source::Effect(_), next) => *next == call.at && *slot == given,
+            Instr::Let(slot, source, next) => {
+                if !is_effect(source) {
+                    return false;
+                }
+                *next == call.at && *slot == given
+            }
             _ => false,
         },
     }

@@ -1,20 +1,22 @@
 //! Streams whose calls are counted.
 
-ghost use Rattle.std.specs.Prelude.{◌≡◌, ◌≢◌, ◌<◌, IfOk, OnOk, IfErr, OnErr};
+ghost use Rattle.std.specs.Prelude.{◌≡◌, ◌≢◌, ◌<◌, IsTrue, IsFalse, IfOk, OnOk, IfErr, OnErr};
 ghost use Rattle.std.specs.Io.{ReadsAtMost, WritesAtMost};
-ghost use Rattle.std.specs.Io.KnownBytes.{ReadConsumes, WriteAppends};
+ghost use Rattle.std.specs.Io.KnownBytes.{Keeps, ReadConsumes, WriteAppends};
 ghost use Rattle.std.specs.IoError.{error_kind};
 ghost use Rattle.cml_stream.specs.Counts.{counted};
 
 use std::io::{ErrorKind, Read, Result as IoResult, Write};
 
-/// A reader or a writer that is lent, how often it was called since then, and how often that failed. An interrupted read has not
-/// failed; a write that took nothing has. The counts saturate. They are there for contracts to read.
+/// A reader or a writer that is lent, how often it was called since then, how often that failed, and whether it was flushed after the
+/// last write. An interrupted read has not failed; a write that took nothing has. The counts saturate. They are there for contracts to
+/// read.
 #[derive(Drop)]
 pub struct Counting<'a, T> {
     stream: &'a mut T,
     calls: u64,
     failed: u64,
+    flushed: bool,
 }
 
 impl<'a, T> Counting<'a, T> {
@@ -24,11 +26,13 @@ impl<'a, T> Counting<'a, T> {
         ensures stream { result.stream.now ≡ stream.old }
         ensures calls { result.calls ≡ 0 }
         ensures failed { result.failed ≡ 0 }
+        ensures flushed { IsTrue result.flushed }
     {
         Counting {
             stream,
             calls: 0,
             failed: 0,
+            flushed: true,
         }
     }
 }
@@ -46,6 +50,7 @@ impl<'a, R: Read> Read for Counting<'a, R> {
             (λ e. error_kind e ≡ ErrorKind.Interrupted → self.new.failed ≡ self.old.failed) }
         ensures failed { IfErr result
             (λ e. error_kind e ≢ ErrorKind.Interrupted → self.new.failed ≡ counted self.old.failed) }
+        ensures flushed { self.new.flushed ≡ self.old.flushed }
     {
         let result = self.stream.read(buf);
         self.calls = self.calls.saturating_add(1);
@@ -69,9 +74,11 @@ impl<'a, W: Write> Write for Counting<'a, W> {
         ensures took { IfOk result (λ n. 0 < n → self.new.failed ≡ self.old.failed) }
         ensures nothing { IfOk result (λ n. n ≡ 0 → self.new.failed ≡ counted self.old.failed) }
         ensures failed { OnErr result (self.new.failed ≡ counted self.old.failed) }
+        ensures unflushed { IsFalse self.new.flushed }
     {
         let result = self.stream.write(buf);
         self.calls = self.calls.saturating_add(1);
+        self.flushed = false;
         match &result {
             Ok(count) if *count > 0 => {}
             _ => self.failed = self.failed.saturating_add(1),
@@ -79,7 +86,20 @@ impl<'a, W: Write> Write for Counting<'a, W> {
         result
     }
 
-    fn flush(&mut self) -> IoResult<()> {
-        self.stream.flush()
+    fn flush(&mut self) -> IoResult<()>
+        ensures bytes { Keeps (W.contents self.old.stream.now) (W.contents self.new.stream.now) }
+        ensures same_reference { self.new.stream.ghost_name ≡ self.old.stream.ghost_name }
+        ensures calls { self.new.calls ≡ counted self.old.calls }
+        ensures fine { OnOk result (self.new.failed ≡ self.old.failed) }
+        ensures flushed { OnOk result (IsTrue self.new.flushed) }
+        ensures failed { OnErr result (self.new.failed ≡ counted self.old.failed) }
+    {
+        let result = self.stream.flush();
+        self.calls = self.calls.saturating_add(1);
+        match &result {
+            Ok(()) => self.flushed = true,
+            Err(_) => self.failed = self.failed.saturating_add(1),
+        }
+        result
     }
 }

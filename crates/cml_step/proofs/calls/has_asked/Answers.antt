@@ -1,7 +1,7 @@
 use Rattle.std.proofs.Common.{◌≡◌, subst}
 use Rattle.std.proofs.lemmas.Bool.{eqb-true}
 use Rattle.cml_check.specs.Syntax.{let_be, stmts_and}
-use Rattle.cml_check.specs.StmtViews.{plain_effect, plain_source}
+use Rattle.cml_check.specs.StmtViews.{plain_effect}
 use Rattle.cml_check.specs.Layout.{left}
 use Rattle.cml_check.specs.Follows.{Follows}
 use Rattle.cml_check.specs.InstrViews.{plain_instr}
@@ -15,7 +15,8 @@ returns-in-Do c = λ f place yes follows.
 
 pub returns-then-next-call : goal.returns-then-next-call
 returns-then-next-call c = λ f place yes follows.
-    let i = c.in-Let-default-Effect-default in
+    let i = c.in-Let in
     let here = subst (λ x. Follows (left f.body) (plain_instr x) (left f.body place)) i.is follows in
-    let said = subst (λ s. left f.body place ≡ stmts_and (let_be i.slot (plain_source s)) (left f.body i.next)) i.field-1-is here in
-    gives_here f c.args.call.now place i.next i.slot c.in-Gives.given (plain_effect i.field-1-0) c.in-Gives.is c.if-next-call.true (eqb-true _ _ yes) said
+    let effect = c.is_effect.ensures c.if-not-is_effect.false in
+    let said = subst (λ s. left f.body place ≡ stmts_and (let_be i.slot s) (left f.body i.next)) effect.1 here in
+    gives_here f c.args.call.now place i.next i.slot c.in-Gives.given effect.0 c.in-Gives.is c.if-next-call.true (eqb-true _ _ yes) said
