@@ -1,5 +1,5 @@
 -- What the turns did, once one item more has come.
-use Rattle.std.proofs.Common.{◌≡◌, ℕ, ◌+◌, ◌≤◌, Bool, true, cond, List, [], ◌∷◌, ◌++◌, length, map, refl, ap, sym, subst, ◌∙◌, arith, Option, Some, None, Ok, Err, append-nil}
+use Rattle.std.proofs.Common.{◌≡◌, ℕ, ◌+◌, ◌≤◌, cond, List, [], ◌∷◌, ◌++◌, length, map, refl, ap, sym, subst, ◌∙◌, arith, Option, Some, None, Ok, Err, append-nil}
 use Rattle.std.specs.Prelude.{slice_get, option_map, option_and_then, count_by}
 use Rattle.std.specs.List.{filter_map}
 use Rattle.std.proofs.lemmas.List.Elements.{filter_map-append}
@@ -34,7 +34,7 @@ use Rattle.cml_hub.specs.Performed.{PlainDone, begets, done, or_fails, performed
 use Rattle.cml_hub.specs.Runs.{Run, main_of, opening, advance, stands, stands_from}
 use Rattle.cml_hub.specs.Dones.{plain_done, function_asked}
 use Rattle.cml_hub.specs.Courses.{PlainCourse, run_of, Leads, TakesRow}
-use Rattle.cml_hub.specs.Deeds.{deed, after_deed, deeds_from, deeds, begotten, origins, is_fault, fault_count, IsKnown, WasAsked}
+use Rattle.cml_hub.specs.Deeds.{deed, after_deed, deeds_from, deeds, begotten, is_fault, IsKnown, WasAsked}
 use Rattle.cml_hub.proofs.Standing.{found_is}
 use Rattle.cml_hub.proofs.Turning.{TurnDone}
 
@@ -99,11 +99,11 @@ faults_few p items began n h = omega (arith, h.counted, count_by-le-length is_fa
 
 -- an ask that is no spawn begets nobody
 not_begot : {R : Type 0} (so : R → PlainDone) (w new : PlainWorld) (t : ℕ) (o : Outcome R) (n : ℕ) (f : PlainFunction) → ((r : R) → so r ≡ begets n f → ⊥) → or_fails w t (done so o) ≡ (new, begets n f) → ⊥
-not_begot so w new t (Ok next) n f no h = no next.1 (ap (λ (x : PlainWorld × PlainDone). x.1) h)
-not_begot so w new t (Err why) n f no h = let e = ap (λ (x : PlainWorld × PlainDone). x.1) h in cc
+not_begot so w new t (Ok next) n f never h = never next.1 (ap (λ (x : PlainWorld × PlainDone). x.1) h)
+not_begot so w new t (Err why) n f never h = let e = ap (λ (x : PlainWorld × PlainDone). x.1) h in cc
 
 -- the thread that begins was asked for
-asked_for : (w new : PlainWorld) (t n : ℕ) (a : PlainAsk) (f : PlainFunction) (m : PlainMachine) → performed w t a ≡ (new, begets n f) → WasAsked a (Begets m)
+asked_for : (w new : PlainWorld) (t n : ℕ) (a : PlainAsk) (f : PlainFunction) (m : PlainMachine) → performed w t a ≡ (new, begets n f) → WasAsked (Begets m) a
 asked_for w new t n (ask.spawn g) f m h = tt
 asked_for w new t n ask.nothing f m h = let e = ap (λ (x : PlainWorld × PlainDone). x.1) h in cc
 asked_for w new t n ask.yield f m h = let e = ap (λ (x : PlainWorld × PlainDone). x.1) h in cc
@@ -126,7 +126,7 @@ asked_for w new t n (ask.sync g) f m h = not_begot _ w new t (sync w t g) n f (�
 asked_for w new t n ask.end f m h = not_begot _ w new t (end_thread w t) n f (λ r e. cc) h
 asked_for w new t n (ask.fault why) f m h = not_begot _ w new t (end_thread w t) n f (λ r e. cc) h
 
-pub was_asked : (w new : PlainWorld) (t : ℕ) (a : PlainAsk) (d : Done) → performed w t a ≡ (new, plain_done a d) → WasAsked a d
+pub was_asked : (w new : PlainWorld) (t : ℕ) (a : PlainAsk) (d : Done) → performed w t a ≡ (new, plain_done a d) → WasAsked d a
 was_asked w new t a Goes h = tt
 was_asked w new t a (Gets v) h = tt
 was_asked w new t a (Takes room) h = tt

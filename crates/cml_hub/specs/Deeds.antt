@@ -57,7 +57,7 @@ pub record IsKnown (p : Program) (items : List Item) (began : List PlainFunction
   pub counted : faults ≡ fault_count p items
 
 -- a thread that begins was asked for
-abbrev pub WasAsked : PlainAsk → Done → Type 0
-WasAsked (ask.spawn f) (done_of.Begets m) = Unit {0}
-WasAsked a (done_of.Begets m) = ⊥
-WasAsked a d = Unit {0}
+abbrev pub WasAsked : Done → PlainAsk → Type 0
+WasAsked (done_of.Begets m) (ask.spawn f) = Unit {0}
+WasAsked (done_of.Begets m) a = ⊥
+WasAsked d a = Unit {0}

@@ -92,6 +92,13 @@ fn tell(output: &mut String, line: &str)
     }
 }
 
+// The machine of this number, if there is one.
+fn machine_at(machines: &[Machine], thread: Tid) -> Option<&Machine>
+    ensures { option_copied result ≡ slice_get machines.now thread.0 }
+{
+    machines.get(thread.0 as usize)
+}
+
 // The numbers of a row are in their ranges.
 fn read_numbers(row: Meet)
     ensures { AreNumbers row }
@@ -236,7 +243,7 @@ impl Course {
         ensures stands { (t : PlainThread) → slice_get self.now.world.threads thread.0 ≡ Some t →
             MatchOption result ⊥ (λ m. MachineStands self.now.program t m.now) }
     {
-        self.machines.get(thread.0 as usize)
+        machine_at(self.machines.as_slice(), thread)
     }
 
     // The function with which the thread began, if there is such a one.

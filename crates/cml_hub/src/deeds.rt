@@ -20,7 +20,7 @@ pub(crate) struct Deeds {
 
 // The function of the thread that begins comes after the others, and a fault is counted. It takes no memory.
 pub(crate) fn note(deeds: &mut Deeds, ask: Ask, done: &Done)
-    requires asked { WasAsked (plain_ask ask) done.now }
+    requires asked { WasAsked done.now (plain_ask ask) }
     requires room { vec_len deeds.old.origins < vec_capacity deeds.old.origins }
     requires few { deeds.old.faults < usize.MAX }
     ensures origins { deeds.new.origins.items ≡ deeds.old.origins.items ++ filter_map begotten (plain_done (plain_ask ask) done.now ∷ []) }

@@ -1,6 +1,4 @@
-use Rattle.std.proofs.Common.{ap, ◌∙◌, ◌∷◌, [], refl, sym}
-use Rattle.cml_value.specs.Value.{function, no_values}
-use Rattle.cml_step.specs.Calls.{text_of}
+use Rattle.std.proofs.Common.{ap, ◌∷◌, [], refl}
 use Rattle.cml_hub.proofs.Opening.{main_is}
 use Rattle.cml_hub.proofs.course.no_deeds.Goals as goal
 

@@ -7,10 +7,12 @@ pub returns-clause-stands : goal.returns-clause-stands
 returns-clause-stands c =
     let s = c.self.inside in
     let k : PlainCourse = record { program = s.program; items = s.items.items; world = s.threads; machines = s.machines.items; output = string_bytes s.output; used = s.used } in
-    rw (← c.self.view_is) (λ t run. stands_there k c.args.thread.0 t c.get.result c.self.invariant.0 c.get.ensures run)
+    let there = rw c.as_slice.ensures.value at c.machine_at.ensures in
+    rw (← c.self.view_is) (λ t run. stands_there k c.args.thread.0 t c.machine_at.result c.self.invariant.0 there run)
 
 pub returns-clause-thread : goal.returns-clause-thread
 returns-clause-thread c =
     let s = c.self.inside in
     let k : PlainCourse = record { program = s.program; items = s.items.items; world = s.threads; machines = s.machines.items; output = string_bytes s.output; used = s.used } in
-    numbered_there k c.args.thread.0 c.get.result c.self.invariant.0 c.get.ensures
+    let there = rw c.as_slice.ensures.value at c.machine_at.ensures in
+    numbered_there k c.args.thread.0 c.machine_at.result c.self.invariant.0 there

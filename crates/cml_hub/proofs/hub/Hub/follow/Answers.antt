@@ -1,8 +1,6 @@
-use Rattle.std.proofs.Common.{◌≡◌, sym, ap, subst, ◌∙◌}
-use Rattle.cml_schedule.specs.declared.item.Item.{Item}
+use Rattle.std.proofs.Common.{◌≡◌, sym, subst, ◌∙◌}
 use Rattle.cml_hub.specs.Runs.{is_allowed}
 use Rattle.cml_hub.specs.Courses.{PlainCourse, Adds}
-use Rattle.cml_hub.specs.Kept.{Kept}
 use Rattle.cml_hub.proofs.Going.{none_out_reported}
 use Rattle.cml_hub.proofs.hub.Hub.follow.Goals as goal
 
