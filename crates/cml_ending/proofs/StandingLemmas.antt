@@ -1,9 +1,13 @@
 -- The top call of a stack, as a walk from the top finds it.
-use Rattle.std.proofs.Common.{◌≡◌, ℕ, ◌+◌, ◌<◌, List, [], ◌∷◌, ◌++◌, length, Option, Some, None, refl, sym, ap, ◌∙◌, arith}
+use Rattle.std.proofs.Common.{◌≡◌, ℕ, ◌+◌, ◌<◌, ◌≤◌, subst, inl, inr, List, [], ◌∷◌, ◌++◌, length, Option, Some, None, refl, sym, ap, ◌∙◌, arith}
 use Rattle.std.specs.Option.{option_or}
-use Rattle.std.proofs.lemmas.List.{length_push}
+use Rattle.std.specs.Prelude.{option_and_then, slice_get}
+use Rattle.std.proofs.lemmas.Bool.{cases_lt}
+use Rattle.std.proofs.lemmas.List.{length_push, get_or_append_left, get_or_push}
 use Rattle.cml_step.specs.Machines.{PlainHeld}
-use Rattle.cml_ending.specs.Standings.{as_call, top_call}
+use Rattle.cml_hub.specs.Courses.{PlainCourse}
+use Rattle.cml_ending.specs.declared.standing.Spot.{Spot}
+use Rattle.cml_ending.specs.Standings.{as_call, top_call, IsSpotOf, spot_at, call_of_machine}
 
 or_none : (x : Option PlainHeld) → x ≡ option_or x None
 or_none None = refl
@@ -31,3 +35,16 @@ is_through old top none so_far = sym so_far ∙ ap top_call none
 
 pub falls : (old new : List PlainHeld) (h : PlainHeld) → old ≡ new ++ h ∷ [] → length new < length old
 falls old new h split = omega (arith, ap length split, length_push new h)
+
+-- one spot more
+pub spots_more : (c : PlainCourse) (spots : List (Option Spot)) (spot : Option Spot) (n : ℕ) → length spots ≡ n
+    → IsSpotOf c.program (option_and_then call_of_machine (slice_get c.machines n)) spot
+    → ((t : ℕ) → t < n → IsSpotOf c.program (option_and_then call_of_machine (slice_get c.machines t)) (spot_at spots t))
+    → (t : ℕ) → t < n + 1 → IsSpotOf c.program (option_and_then call_of_machine (slice_get c.machines t)) (spot_at (spots ++ spot ∷ []) t)
+spots_more c spots spot n many is so_far t h =
+    elim (cases_lt t n) as (λ _. IsSpotOf c.program (option_and_then call_of_machine (slice_get c.machines t)) (spot_at (spots ++ spot ∷ []) t)) [
+      inl lt ↦ subst (λ s. IsSpotOf c.program (option_and_then call_of_machine (slice_get c.machines t)) s) (sym (get_or_append_left spots (spot ∷ []) None t (omega arith))) (so_far t lt)
+    | inr le ↦
+        let e : n ≡ t = omega arith in
+        subst (λ k. IsSpotOf c.program (option_and_then call_of_machine (slice_get c.machines k)) (spot_at (spots ++ spot ∷ []) k)) e
+        (subst (λ s. IsSpotOf c.program (option_and_then call_of_machine (slice_get c.machines n)) s) (sym (get_or_push spots spot None n many)) is) ]

@@ -1,15 +1,17 @@
 -- What is said of the base events of a group, and of threads one after another.
 use Rattle.std.proofs.Common.{◌≡◌, ◌≢◌, ℕ, zero, suc, ◌+◌, ◌-◌, ◌<◌, ◌≤◌, Bool, true, false, List, [], ◌∷◌, ◌++◌, length, get_or, take, map, Option, Some, None, refl, sym, ap, ◌∙◌, arith}
-use Rattle.std.specs.Prelude.{slice_get}
+use Rattle.std.specs.Prelude.{slice_get, Result, Ok, Err, OnOk}
 use Rattle.std.proofs.lemmas.List.{take-map, take-take, length-map, take_more, map_push}
 use Rattle.std.proofs.lemmas.Option.{slice_get-get_or}
 use Rattle.cml_text.specs.Forms.{PlainSexpr}
-use Rattle.cml_value.specs.Value.{PlainBase}
+use Rattle.cml_value.specs.Value.{PlainFunction, PlainBase}
 use Rattle.cml_value.specs.Group.{PlainGroup, bases, leaves, leaf_count}
-use Rattle.cml_scan.specs.World.{PlainThread, running, pending_on, ended}
+use Rattle.cml_scan.specs.World.{PlainThread, running, pending_on, ended, PlainWorld}
 use Rattle.cml_book.specs.Threads.{flat_of}
 use Rattle.cml_phrase.specs.Events.{PlainTold, event_limit, said_words, more_words, events_words}
-use Rattle.cml_ending.specs.Waits.{thread_behind}
+use Rattle.cml_phrase.specs.declared.event.Told.{Told}
+use Rattle.cml_phrase.specs.Views.{plain_told}
+use Rattle.cml_ending.specs.Waits.{thread_behind, base_told, awaited_words}
 use Rattle.cml_ending.specs.Rings.{behind_only, next_thread, next_threads}
 
 -- only the first ones are said
@@ -22,6 +24,20 @@ first_said forms f bs n =
 -- there are as many base events as leaves
 pub as_many : (g : PlainGroup) → length (bases g) ≡ leaf_count g
 as_many g = length-map (leaves g) (λ l. l.base)
+
+-- what is said of a group, by what its base events are, and what is said of the first of them
+pub said_of_group : {T E : Type 0} (r : Result T E) (forms : List PlainSexpr) (w : PlainWorld) (began : List PlainFunction) (taker : ℕ → Option ℕ) (g : PlainGroup)
+    (all first firsts : List PlainBase) (told given : List Told) (n : ℕ) (o p : List ℕ)
+    → all ≡ bases g → first ≡ all → firsts ≡ take event_limit first → map plain_told told ≡ map (base_told w began taker) firsts → given ≡ told → n ≡ length all
+    → OnOk r (p ≡ o ++ events_words forms (map plain_told given) n) → OnOk r (p ≡ o ++ awaited_words forms w began taker g)
+said_of_group (Ok done) forms w began taker g all first firsts told given n o p a f s t v l e =
+    let same : map plain_told given ≡ map (base_told w began taker) (take event_limit (bases g)) =
+        ap (map plain_told) v ∙ (t ∙ (ap (map (base_told w began taker)) s ∙ ap (λ bs. map (base_told w began taker) (take event_limit bs)) (f ∙ a))) in
+    let many : n ≡ leaf_count g = l ∙ (ap length a ∙ as_many g) in
+    e ∙ (ap (λ told. o ++ events_words forms told n) same
+    ∙ (ap (λ k. o ++ events_words forms (map (base_told w began taker) (take event_limit (bases g))) k) many
+    ∙ ap (λ words. o ++ words) (first_said forms (base_told w began taker) (bases g) (leaf_count g))))
+said_of_group (Err y) forms w began taker g all first firsts told given n o p a f s t v l e = tt
 
 -- the only base event
 pub only_one : (taker : ℕ → Option ℕ) (bs : List PlainBase) (b : PlainBase) → length bs ≡ 1 → b ≡ get_or bs 0 b → thread_behind taker b ≡ behind_only taker bs

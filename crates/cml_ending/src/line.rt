@@ -144,8 +144,8 @@ fn push_line(
     thread: u32,
 ) -> Result<(), AllocError>
     requires { thread < length stage.now.turns.now }
-    ensures { (t : PlainThread) → slice_get stage.now.hub.now.course.world.threads thread ≡ Some t →
-        OnOk result (out.new.items ≡ out.old.items ++ spec.thread_line (plain_stage stage.now) thread t) }
+    ensures { OnOk result ((t : PlainThread) → slice_get stage.now.hub.now.course.world.threads thread ≡ Some t →
+        out.new.items ≡ out.old.items ++ spec.thread_line (plain_stage stage.now) thread t) }
 {
     let book = stage.hub.book();
     if book.is_running(Tid(thread)) {

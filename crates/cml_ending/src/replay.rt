@@ -1,6 +1,7 @@
 //! A schedule is gone through once more.
 
-ghost use Rattle.std.specs.Prelude.{◌≡◌, ℕ, true, false, IfOk, OnOk, ◌⊎◌, ◌∷◌, ◌++◌, []};
+ghost use Rattle.std.specs.Prelude.{◌≡◌, true, false, IfOk, OnOk, Some, slice_get, ◌⊎◌, ◌∷◌, ◌++◌, []};
+ghost use Rattle.cml_scan.specs.World.{PlainThread};
 ghost use Rattle.std.specs.List.{list_any};
 ghost use Rattle.cml_step.specs.Calls.{text_of};
 ghost use Rattle.cml_hub.specs.Kept.{NoneOut};
@@ -8,7 +9,6 @@ ghost use Rattle.cml_hub.specs.Runs.{is_allowed};
 ghost use Rattle.cml_value.specs.Group.{bases};
 ghost use Rattle.cml_ending.specs.Takes.{KnowsTakers};
 ghost use Rattle.cml_ending.specs.Waits as waits;
-ghost use Rattle.cml_ending.specs.Waits.{waits_on_mvar};
 
 use crate::takers::Takers;
 use cml_hub::{Hub, Item};
@@ -53,9 +53,10 @@ fn replayed(alloc: Global, hub: &Hub) -> Result<Takers, AllocError>
     let mut second = beginning(alloc, hub)?;
     let mut takers = Takers::new(alloc);
     for i in 0..items.len() {
+        let item = items[i];
         let _so_far = second.schedule();
-        takers.follow(alloc, &second, &items[i])?;
-        come(alloc, &mut second, items[i])?;
+        takers.follow(alloc, &second, &item)?;
+        come(alloc, &mut second, item)?;
     }
     Ok(takers)
 }
@@ -83,16 +84,24 @@ fn has_mvar(alloc: Global, group: &Group) -> Result<bool, AllocError>
     Ok(false)
 }
 
+// Whether the thread of this number waits for an M-variable.
+fn waits_on_mvar(alloc: Global, hub: &Hub, thread: Tid) -> Result<bool, AllocError>
+    ensures { IfOk result (λ so. (t : PlainThread) →
+        slice_get hub.now.course.world.threads thread.0 ≡ Some t → so ≡ waits.waits_on_mvar t) }
+{
+    match hub.book().waiting(thread) {
+        Some(group) => has_mvar(alloc, group),
+        None => Ok(false),
+    }
+}
+
 // Whether a thread waits for an M-variable.
 fn some_wait_on_mvar(alloc: Global, hub: &Hub) -> Result<bool, AllocError>
-    ensures { IfOk result (λ some. some ≡ list_any waits_on_mvar hub.now.course.world.threads) }
+    ensures { IfOk result (λ some. some ≡ list_any waits.waits_on_mvar hub.now.course.world.threads) }
 {
-    let book = hub.book();
-    for t in 0..book.next_thread().0 {
-        if let Some(group) = book.waiting(Tid(t)) {
-            if has_mvar(alloc, group)? {
-                return Ok(true);
-            }
+    for t in 0..hub.book().next_thread().0 {
+        if waits_on_mvar(alloc, hub, Tid(t))? {
+            return Ok(true);
         }
     }
     Ok(false)
@@ -101,7 +110,7 @@ fn some_wait_on_mvar(alloc: Global, hub: &Hub) -> Result<bool, AllocError>
 /// Who took from each M-variable last in the hub's schedule, where a thread waits for one. Where none does, the schedule is not gone through.
 pub(crate) fn takers_of(alloc: Global, hub: &Hub) -> Result<Takers, AllocError>
     ensures { IfOk result (λ takers. KnowsTakers (text_of hub.now.course.program) hub.now.course.items takers
-        ⊎ (list_any waits_on_mvar hub.now.course.world.threads ≡ false)) }
+        ⊎ (list_any waits.waits_on_mvar hub.now.course.world.threads ≡ false)) }
 {
     if some_wait_on_mvar(alloc, hub)? {
         replayed(alloc, hub)

@@ -86,7 +86,8 @@ fn thread_spot(hub: &Hub, thread: Tid) -> Option<Spot>
 /// # Errors
 /// Out of memory.
 pub(crate) fn spots_of(alloc: Global, hub: &Hub) -> Result<Vec<Option<Spot>>, AllocError>
-    ensures { IfOk result (λ spots. AreSpots hub.now.course spots.items) }
+    ensures spots { IfOk result (λ spots. AreSpots hub.now.course spots.items) }
+    ensures count { IfOk result (λ spots. length spots.items ≡ length hub.now.course.world.threads) }
 {
     let mut spots = Vec::new(alloc);
     for t in 0..hub.book().next_thread().0 {

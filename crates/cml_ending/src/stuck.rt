@@ -1,6 +1,7 @@
 //! Whether a run is stuck.
 
-ghost use Rattle.std.specs.Prelude.{◌≡◌, Some, slice_get};
+ghost use Rattle.std.specs.Prelude.{◌≡◌, ◌==◌, Some, slice_get};
+ghost use Rattle.std.specs.List.{list_any};
 ghost use Rattle.std.specs.Option.{option_copied};
 ghost use Rattle.cml_scan.specs.World.{PlainThread};
 ghost use Rattle.cml_hub.specs.Deeds.{origins};
@@ -10,15 +11,24 @@ ghost use Rattle.cml_ending.specs.Stuck as spec;
 use cml_hub::{End, Hub};
 use cml_value::{FnRef, Tid};
 
+// Whether the function is among these.
+fn is_among(servers: &[u32], func: u32) -> bool
+    ensures { result ≡ list_any (λ g. g == func) servers.now }
+{
+    for server in servers {
+        if *server == func {
+            return true;
+        }
+    }
+    false
+}
+
 // Whether a thread that began so is a server.
 fn is_server(servers: &[u32], began: Option<&FnRef>) -> bool
     ensures { result ≡ spec.is_server servers.now (option_copied began.entry) }
 {
     match began {
-        Some(function) => {
-            let func = function.func();
-            servers.iter().any(|server| *server == func)
-        }
+        Some(function) => is_among(servers, function.func()),
         None => false,
     }
 }

@@ -95,7 +95,7 @@ impl Takers {
         ensures same { (m : ℕ) → taker_in self.new m ≡ taker_in self.old m }
         ensures room { OnOk result (variable < length self.new.last.items) }
     {
-        while self.last.len() <= variable {
+        'growing: while self.last.len() <= variable {
             self.last.push(None)?;
         }
         Ok(())

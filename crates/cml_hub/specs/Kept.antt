@@ -1,5 +1,5 @@
 -- What a hub keeps, and how its calls change it.
-use Rattle.std.specs.Prelude.{ℕ, ◌≡◌, ◌≢◌, ◌+◌, ◌≤◌, Bool, true, false, List, [], ◌∷◌, ◌++◌, ◌⊎◌, length, Option, Some, None, IfSome, Result, Ok, Err, unwrap_or, slice_get, slice_set}
+use Rattle.std.specs.Prelude.{ℕ, ◌≡◌, ◌≢◌, ◌+◌, ◌-◌, ◌≤◌, Bool, true, false, List, [], ◌∷◌, ◌++◌, ◌⊎◌, length, Option, Some, None, IfSome, Result, Ok, Err, unwrap_or, slice_get, slice_set}
 use Rattle.std.specs.List.{All}
 use Rattle.cml_value.specs.declared.number.Tid.{Tid}
 use Rattle.cml_scan.specs.World.{PlainThread, PlainWorld, running}
@@ -186,6 +186,10 @@ pub record IsFollowed (old : Kept) (item : Item) (came : Bool) (new : Kept) : Ty
   pub made : List PlainReport
   pub reports : new.reports ≡ old.reports ++ made
   pub course : Comes old.course item came new.course
+
+-- the run is over, or so many steps more of the budget are used
+abbrev pub IsFar : Kept → ℕ → Kept → Type 0
+IsFar old steps new = (over new.budget (run_of new.course) ≡ true) ⊎ (steps ≤ new.course.used - old.course.used)
 
 -- the first item that is not allowed where it stands has this number, counted from 1
 pub record IsFirstBad (p : List (PlainItem ℕ)) (items : List Item) (number : ℕ) : Type 0 where

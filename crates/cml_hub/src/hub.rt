@@ -1,7 +1,7 @@
 //! The hub: it hands out slices of the threads and takes them back, chooses among the communications that are possible, and keeps the
 //! schedule of what happened.
 
-ghost use Rattle.std.specs.Prelude.{◌≡◌, ◌≢◌, ◌↔◌, ◌++◌, ◌+◌, ◌*◌, ◌≤◌, ◌<◌, [], Some, IfOk, IfErr, IfSome, OnOk, OnErr, IsTrue, MatchOption, Ok, true, false, length, slice_get};
+ghost use Rattle.std.specs.Prelude.{◌≡◌, ◌≢◌, ◌↔◌, ◌++◌, ◌+◌, ◌-◌, ◌*◌, ◌≤◌, ◌<◌, [], Some, IfOk, IfErr, IfSome, OnOk, OnErr, IsTrue, MatchOption, Ok, true, false, length, slice_get};
 ghost use Rattle.std.specs.Option.{option_copied};
 ghost use Rattle.std.specs.Vec.{vec_len, vec_capacity};
 ghost use Rattle.cml_scan.specs.World.{PlainThread, pending, running};
@@ -13,7 +13,7 @@ ghost use Rattle.cml_hub.specs.Runs as spec;
 ghost use Rattle.cml_hub.specs.Courses.{run_of, TakesRow, MachineStands, IsOurs};
 ghost use Rattle.cml_hub.specs.Deeds.{origins, fault_count};
 ghost use Rattle.cml_hub.specs.Reports.{AreReports, IsDueReport};
-ghost use Rattle.cml_hub.specs.Kept.{IsBudget, IsWatch, IsAtStart, Continues, Extends, HandsOut, is_ended, NoneDue, NoneOut, AllOut, OnlyRunningOut, NoneOutOrSame, TakesSlice, IsOver, IsFollowed, Replays, FitsSize};
+ghost use Rattle.cml_hub.specs.Kept.{IsBudget, IsWatch, IsAtStart, Continues, Extends, HandsOut, is_ended, NoneDue, NoneOut, AllOut, OnlyRunningOut, NoneOutOrSame, TakesSlice, IsFar, IsOver, IsFollowed, Replays, FitsSize};
 ghost use Rattle.cml_hub.specs.Marks.{left_by};
 ghost use Rattle.cml_hub.specs.Playing.{parties, ready_after, MovesBy, GoesBy, PlaysOut, PlaysSoFar};
 ghost use Rattle.cml_hub.specs.Moves.{IsNext, lines_up, marks_after, PartiesAway, marks_met, AddsItem, TakesBack, Reported, HandedOut, MovedOn, CalledBack, Happens, GoesAlone, with_report};
@@ -547,6 +547,40 @@ impl Hub {
             self.report(alloc)?;
         }
         Ok(self.end())
+    }
+
+    // Whether so many steps of the budget were used since that many were.
+    fn has_used(&self, begun: u128, steps: u32) -> bool
+        ensures { IsTrue result ↔ (steps ≤ self.now.course.used - begun) }
+    {
+        u128::from(steps) <= self.course.used().saturating_sub(begun)
+    }
+
+    /// Goes on as [`Hub::run_alone`] does, where no slice is out, until so many steps more of the budget are used, or the run is over.
+    ///
+    /// # Errors
+    /// Out of memory. The items and reports that were made before stay; the chooser's picks for the one that was not made are spent.
+    pub fn run_on<C: Chooser>(
+        &mut self,
+        alloc: Global,
+        chooser: &mut C,
+        steps: u32,
+    ) -> Result<(), AllocError>
+        requires { NoneOut self.old }
+        ensures more { Continues self.old self.new }
+        ensures none_out { NoneOut self.new }
+        ensures far { OnOk result (IsFar self.old steps self.new) }
+    {
+        let begun = self.course.used();
+        self.report(alloc)?;
+        'turns: while !self.is_over() {
+            if self.has_used(begun, steps) {
+                return Ok(());
+            }
+            self.go_alone(alloc, chooser)?;
+            self.report(alloc)?;
+        }
+        Ok(())
     }
 
     // Whether the item is allowed now.

@@ -31,6 +31,8 @@ mod machines;
 #[cfg(test)]
 mod making;
 #[cfg(test)]
+mod phrases;
+#[cfg(test)]
 mod reports;
 #[cfg(test)]
 mod scans;

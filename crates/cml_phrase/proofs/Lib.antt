@@ -1,0 +1,6 @@
+pub mod KeywordLemmas
+pub mod StatementLemmas
+pub mod PlaceLemmas
+pub mod NameLemmas
+pub mod StatementCounts
+pub mod PhraseLemmas

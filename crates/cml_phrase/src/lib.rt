@@ -1,0 +1,18 @@
+//! The words in which a run is spoken of: places of statements, names, values, threads and base events.
+#![tactic(auto)]
+
+mod event;
+mod keyword;
+mod name;
+mod parts;
+mod place;
+mod statement;
+mod thread;
+mod value;
+
+pub use event::{ObjectState, Told, push_event, push_events};
+pub use name::{function_name, slot_names};
+pub use place::{Place, push_line, push_place, statement_place, statement_places};
+pub use statement::statement_spans;
+pub use thread::{Who, push_began, push_thread};
+pub use value::{push_value, push_variable};

@@ -1,0 +1,73 @@
+//! How values are spoken of.
+ghost use Rattle.std.specs.Prelude.{◌≡◌, ◌++◌, ◌∷◌, [], IfOk, OnOk};
+ghost use Rattle.std.specs.List.{flat_map};
+ghost use Rattle.std.specs.String.{string_bytes};
+ghost use Rattle.cml_value.specs.Show.{shown};
+ghost use Rattle.cml_phrase.specs.Phrases as spec;
+
+use cml_place::push_first;
+use cml_value::Value;
+use std::alloc::{AllocError, Global};
+
+// How many characters of values are said.
+const VALUE_LIMIT: usize = 40;
+
+/// Appends a value as it is printed, cut at 40 characters.
+///
+/// # Errors
+/// Out of memory.
+pub fn push_value(alloc: Global, out: &mut Vec<u8>, value: &Value) -> Result<(), AllocError>
+    ensures { OnOk result (out.new.items ≡ out.old.items ++ spec.value_words value.now) }
+{
+    let text = value.show(alloc)?;
+    push_first(out, text.as_bytes(), VALUE_LIMIT)
+}
+
+/// Appends a variable and its value: `r = (pair 0 0)`.
+///
+/// # Errors
+/// Out of memory.
+pub fn push_variable(
+    alloc: Global,
+    out: &mut Vec<u8>,
+    name: &str,
+    value: &Value,
+) -> Result<(), AllocError>
+    ensures { OnOk result (out.new.items ≡ out.old.items ++ spec.variable_words name.now value.now) }
+{
+    out.extend_from_slice(name.as_bytes())?;
+    out.extend_from_slice(b" = ")?;
+    push_value(alloc, out, value)
+}
+
+/// Appends what a function is given, in parentheses; nothing where it is given nothing.
+pub(crate) fn push_given(
+    alloc: Global,
+    out: &mut Vec<u8>,
+    values: &[Value],
+) -> Result<(), AllocError>
+    ensures { OnOk result (out.new.items ≡ out.old.items ++ spec.given_words values.now) }
+{
+    match values {
+        [] => Ok(()),
+        [first, more @ ..] => {
+            let text = listed(alloc, first, more)?;
+            out.extend_from_slice(b"(")?;
+            push_first(out, text.as_bytes(), VALUE_LIMIT)?;
+            out.extend_from_slice(b")")
+        }
+    }
+}
+
+// The values as they are printed, with a space between two.
+fn listed(alloc: Global, first: &Value, more: &[Value]) -> Result<String, AllocError>
+    ensures { IfOk result (λ text. string_bytes text ≡ shown first.now ++ flat_map spec.spaced_value more.now) }
+{
+    let mut text = first.show(alloc)?;
+    for value in more {
+        text.push_str(" ")?;
+        let own = value.show(alloc)?;
+        text.push_str(own.as_str())?;
+    }
+    Ok(text)
+}
