@@ -11,6 +11,8 @@ pub mod choosing;
 #[cfg(test)]
 mod drawing;
 #[cfg(test)]
+mod endings;
+#[cfg(test)]
 mod explains;
 #[cfg(test)]
 mod explains_scripts;

@@ -1,0 +1,10 @@
+pub mod AppendLemmas
+pub mod WordLemmas
+pub mod RingLemmas
+pub mod StandingLemmas
+pub mod TakeLemmas
+pub mod ReplayLemmas
+pub mod WaitLemmas
+pub mod LineLemmas
+pub mod StuckLemmas
+pub mod EndLemmas

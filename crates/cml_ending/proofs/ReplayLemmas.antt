@@ -1,0 +1,65 @@
+-- What comes of an item that is allowed; and whether a thread waits for an M-variable, one after another.
+use Rattle.std.proofs.Common.{◌≡◌, ℕ, ◌+◌, ◌<◌, ◌≤◌, Bool, true, false, List, [], ◌∷◌, ◌++◌, length, get_or, take, Option, Some, None, refl, sym, ap, ◌∙◌, arith}
+use Rattle.std.specs.Prelude.{slice_get, ◌||◌}
+use Rattle.std.specs.List.{list_any}
+use Rattle.std.proofs.lemmas.List.{take_more, take_all}
+use Rattle.std.proofs.lemmas.List.Folds.{list_any_more, list_any_at}
+use Rattle.std.proofs.lemmas.Option.{slice_get-get_or}
+use Rattle.cml_scan.specs.World.{PlainThread, running}
+use Rattle.cml_step.specs.Terms.{Program}
+use Rattle.cml_step.specs.Calls.{text_of}
+use Rattle.cml_schedule.specs.declared.item.Item.{Item}
+use Rattle.cml_hub.specs.Runs.{is_allowed, stands}
+use Rattle.cml_hub.specs.Courses.{PlainCourse, run_of, Adds, Comes}
+use Rattle.cml_ending.specs.declared.takers.Takers.{Takers}
+use Rattle.cml_ending.specs.Takes.{takes_of, last_taker, KnowsTakers}
+use Rattle.cml_ending.specs.Waits.{waits_on_mvar}
+use Rattle.cml_ending.proofs.TakeLemmas.{is_next_allowed}
+
+-- an item that is allowed comes
+pub does_come : (old new : PlainCourse) (item : Item) (came : Bool) → is_allowed old.world item ≡ true → Comes old item came new → came ≡ false → ⊥
+does_come old new item true allowed comes no = cc
+does_come old new item false allowed comes no = let refused = comes.0 in cc
+
+pub has_come : (old new : PlainCourse) (item : Item) (came : Bool) → came ≡ true → Comes old item came new → Adds old item new
+has_come old new item true yes comes = comes
+has_come old new item false yes comes = cc
+
+-- the next item of a schedule is allowed where the ones before it have led
+pub next_allowed : (items : List Item) (c : PlainCourse) (now : PlainCourse) (i : ℕ) (item : Item) → i < length items → item ≡ get_or items i item
+    → items ≡ c.items → stands (text_of c.program) c.items ≡ Some (run_of c) → now.program ≡ c.program → now.items ≡ take i items
+    → stands (text_of now.program) now.items ≡ Some (run_of now) → is_allowed now.world item ≡ true
+next_allowed items c now i item h is same whole program so_far leads =
+    is_next_allowed (text_of c.program) items i item (run_of c) (run_of now) h is (ap (stands (text_of c.program)) same ∙ whole)
+    (sym (ap (stands (text_of c.program)) so_far) ∙ (sym (ap (λ q. stands (text_of q) now.items) program) ∙ leads))
+
+-- one item more
+pub taken_more : (items : List Item) (i : ℕ) (item : Item) → i < length items → item ≡ get_or items i item → take i items ++ item ∷ [] ≡ take (i + 1) items
+taken_more items i item h is = ap (λ x. take i items ++ x ∷ []) is ∙ sym (take_more items i item h)
+
+pub knows_more : (p q : Program) (xs items : List Item) (item : Item) (i : ℕ) (old new : Takers) → p ≡ q → xs ≡ take i items → take i items ++ item ∷ [] ≡ take (i + 1) items
+    → (KnowsTakers p xs old → KnowsTakers p (xs ++ item ∷ []) new) → KnowsTakers q (take i items) old → KnowsTakers q (take (i + 1) items) new
+knows_more p q xs items item i old new pe xe te step knows m =
+    let before : KnowsTakers p xs old =
+        λ (k : ℕ). knows k ∙ (ap (λ zs. last_taker (takes_of q zs) k) (sym xe) ∙ ap (λ x. last_taker (takes_of x xs) k) (sym pe)) in
+    step before m
+    ∙ (ap (λ x. last_taker (takes_of x (xs ++ item ∷ [])) m) pe
+    ∙ (ap (λ zs. last_taker (takes_of q (zs ++ item ∷ [])) m) xe ∙ ap (λ zs. last_taker (takes_of q zs) m) te))
+
+-- one thread more
+is_of : (threads : List PlainThread) (i : ℕ) (b : Bool) → i < length threads → ((t : PlainThread) → slice_get threads i ≡ Some t → b ≡ waits_on_mvar t)
+    → waits_on_mvar (get_or threads i running) ≡ b
+is_of threads i b h is = sym (is (get_or threads i running) (slice_get-get_or threads i running h))
+
+pub asked_more : (threads : List PlainThread) (i : ℕ) (b : Bool) → i < length threads → ((t : PlainThread) → slice_get threads i ≡ Some t → b ≡ waits_on_mvar t) → b ≡ false
+    → list_any waits_on_mvar (take i threads) ≡ false → list_any waits_on_mvar (take (i + 1) threads) ≡ false
+asked_more threads i b h is no so_far =
+    list_any_more waits_on_mvar threads i running h
+    ∙ (ap (λ x. x || waits_on_mvar (get_or threads i running)) so_far ∙ (is_of threads i b h is ∙ no))
+
+pub asked_found : (threads : List PlainThread) (i : ℕ) (b : Bool) → i < length threads → ((t : PlainThread) → slice_get threads i ≡ Some t → b ≡ waits_on_mvar t) → b ≡ true
+    → true ≡ list_any waits_on_mvar threads
+asked_found threads i b h is yes = sym (list_any_at waits_on_mvar threads i running h (is_of threads i b h is ∙ yes))
+
+pub asked_none : (threads : List PlainThread) (i : ℕ) → length threads ≤ i → list_any waits_on_mvar (take i threads) ≡ false → false ≡ list_any waits_on_mvar threads
+asked_none threads i h so_far = sym so_far ∙ ap (list_any waits_on_mvar) (take_all i threads h)

@@ -1,0 +1,8 @@
+use Rattle.std.proofs.Common.{◌≡◌, ◌+◌, arith, ap, sym, ◌∙◌, cond}
+use Rattle.cml_ending.specs.Lines.{is_turn_of, turn_count}
+use Rattle.cml_ending.proofs.WordLemmas.{one_more_turn, few_turns, all_counted}
+use Rattle.cml_ending.proofs.turns.turn_counts.Goals as goal
+
+pub returns : goal.returns
+returns c =
+    all_counted c.loop-item.counts.items c.args.items.now c.args.threads c.loop-item.item-index c.loop-item.invariant.same c.loop-item-test.false c.loop-item.invariant.so_far

@@ -1,0 +1,10 @@
+use Rattle.cml_ending.proofs.WaitLemmas.{said_of_group}
+use Rattle.cml_step.specs.Calls.{text_of}
+use Rattle.cml_hub.specs.Deeds.{origins}
+use Rattle.cml_ending.specs.Takes.{taker_in}
+use Rattle.cml_ending.proofs.wait.push_awaited.Goals as goal
+
+pub returns : goal.returns
+returns c =
+    let h = c.args.hub.now.course in
+    said_of_group _ c.args.forms.now h.world (origins (text_of h.program) h.items) (taker_in c.args.takers.now) c.args.group.now _ _ _ _ _ _ _ c.in_ok-bases.ensures c.as_slice.ensures.value c.first_of.ensures c.in_ok-told.ensures c.as_slice-2.ensures.value c.len.ensures c.push_events.ensures

@@ -1,0 +1,9 @@
+pub mod Takes
+pub mod Waits
+pub mod Rings
+pub mod Standings
+pub mod Lines
+pub mod Views
+pub mod Heads
+pub mod Ends
+pub mod Stuck

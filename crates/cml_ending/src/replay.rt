@@ -1,0 +1,120 @@
+//! A schedule is gone through once more.
+
+ghost use Rattle.std.specs.Prelude.{◌≡◌, true, false, IfOk, OnOk, Some, slice_get, ◌⊎◌, ◌∷◌, ◌++◌, []};
+ghost use Rattle.cml_scan.specs.World.{PlainThread};
+ghost use Rattle.std.specs.List.{list_any};
+ghost use Rattle.cml_step.specs.Calls.{text_of};
+ghost use Rattle.cml_hub.specs.Kept.{NoneOut};
+ghost use Rattle.cml_hub.specs.Runs.{is_allowed};
+ghost use Rattle.cml_value.specs.Group.{bases};
+ghost use Rattle.cml_ending.specs.Takes.{KnowsTakers};
+ghost use Rattle.cml_ending.specs.Waits as waits;
+
+use crate::takers::Takers;
+use cml_hub::{Hub, Item};
+use cml_scan::leaf_bases;
+use cml_value::{Base, BaseKind, Group, Tid};
+use std::alloc::{AllocError, AllocFailed, Global};
+
+// A hub at the beginning of the other's program.
+fn beginning(alloc: Global, hub: &Hub) -> Result<Hub, AllocError>
+    ensures program { IfOk result (λ new. new.course.program ≡ hub.now.course.program) }
+    ensures items { IfOk result (λ new. new.course.items ≡ []) }
+    ensures none_out { IfOk result (λ new. NoneOut new) }
+{
+    match Hub::begin(alloc, hub.program().copy()?, hub.budget(), None) {
+        Ok(new) => Ok(new),
+        Err(AllocFailed { value }) => {
+            drop(value);
+            Err(AllocError)
+        }
+    }
+}
+
+// The item comes, which is allowed now.
+fn come(alloc: Global, hub: &mut Hub, item: Item) -> Result<(), AllocError>
+    requires out { NoneOut hub.old }
+    requires allowed { is_allowed hub.old.course.world item ≡ true }
+    ensures program { OnOk result (hub.new.course.program ≡ hub.old.course.program) }
+    ensures items { OnOk result (hub.new.course.items ≡ hub.old.course.items ++ item ∷ []) }
+    ensures none_out { OnOk result (NoneOut hub.new) }
+{
+    if !hub.follow(alloc, item)? {
+        unreachable!();
+    }
+    Ok(())
+}
+
+// Who took from each M-variable last in the hub's schedule, which is gone through once more.
+fn replayed(alloc: Global, hub: &Hub) -> Result<Takers, AllocError>
+    ensures { IfOk result (λ takers. KnowsTakers (text_of hub.now.course.program) hub.now.course.items takers) }
+{
+    let items = hub.schedule();
+    let mut second = beginning(alloc, hub)?;
+    let mut takers = Takers::new(alloc);
+    for i in 0..items.len() {
+        let item = items[i];
+        let _so_far = second.schedule();
+        takers.follow(alloc, &second, &item)?;
+        come(alloc, &mut second, item)?;
+    }
+    Ok(takers)
+}
+
+// Whether the base event is one of an M-variable.
+fn is_on_mvar(base: &Base) -> bool
+    ensures { result ≡ waits.is_on_mvar base.now }
+{
+    matches!(
+        base.kind(),
+        BaseKind::MTake(_) | BaseKind::MGet(_) | BaseKind::MSwap(_, _)
+    )
+}
+
+// Whether a base event of the group is.
+fn has_mvar(alloc: Global, group: &Group) -> Result<bool, AllocError>
+    ensures { IfOk result (λ has. has ≡ list_any waits.is_on_mvar (bases group.now)) }
+{
+    let all = leaf_bases(alloc, group)?;
+    for base in &all {
+        if is_on_mvar(base) {
+            return Ok(true);
+        }
+    }
+    Ok(false)
+}
+
+// Whether the thread of this number waits for an M-variable.
+fn waits_on_mvar(alloc: Global, hub: &Hub, thread: Tid) -> Result<bool, AllocError>
+    ensures { IfOk result (λ so. (t : PlainThread) →
+        slice_get hub.now.course.world.threads thread.0 ≡ Some t → so ≡ waits.waits_on_mvar t) }
+{
+    match hub.book().waiting(thread) {
+        Some(group) => has_mvar(alloc, group),
+        None => Ok(false),
+    }
+}
+
+// Whether a thread waits for an M-variable.
+fn some_wait_on_mvar(alloc: Global, hub: &Hub) -> Result<bool, AllocError>
+    ensures { IfOk result (λ some. some ≡ list_any waits.waits_on_mvar hub.now.course.world.threads) }
+{
+    for t in 0..hub.book().next_thread().0 {
+        if waits_on_mvar(alloc, hub, Tid(t))? {
+            return Ok(true);
+        }
+    }
+    Ok(false)
+}
+
+/// Who took from each M-variable last in the hub's schedule, where a thread waits for one. Where none does, the schedule is not gone through.
+pub(crate) fn takers_of(alloc: Global, hub: &Hub) -> Result<Takers, AllocError>
+    ensures { IfOk result (λ takers. KnowsTakers (text_of hub.now.course.program) hub.now.course.items takers
+        ⊎ (list_any waits.waits_on_mvar hub.now.course.world.threads ≡ false)) }
+{
+    if some_wait_on_mvar(alloc, hub)? {
+        replayed(alloc, hub)
+    } else {
+        Ok(Takers::new(alloc))
+    }
+}

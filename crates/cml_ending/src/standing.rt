@@ -1,0 +1,97 @@
+//! Where a thread stands.
+
+ghost use Rattle.std.specs.Prelude.{◌≡◌, ◌<◌, ℕ, None, Some, IfOk, MatchOption, length, slice_get};
+ghost use Rattle.std.specs.Option.{option_and_then};
+ghost use Rattle.cml_check.specs.Syntax.{PlainItem};
+ghost use Rattle.cml_step.specs.Machines.{plain_held};
+ghost use Rattle.cml_step.specs.Shared.{plain_seen};
+ghost use Rattle.cml_step.specs.declared.entry.Entry.TheVariants as entry;
+ghost use Rattle.cml_ending.specs.Standings as spec;
+ghost use Rattle.cml_ending.specs.Standings.{AreSpots, IsSpotOf};
+
+use cml_check::Prog;
+use cml_hub::Hub;
+use cml_step::{Call, Machine, Seen};
+use cml_value::Tid;
+use std::alloc::{AllocError, Global};
+
+/// Where a thread stands: the function of its top call, and there the number of a statement, if one is known.
+#[derive(Clone, Copy, PartialEq, Eq)]
+pub struct Spot {
+    pub function: u32,
+    pub statement: Option<usize>,
+}
+
+// The entry, if it is a call.
+fn as_call(seen: Seen<'_>) -> Option<&Call>
+    ensures { MatchOption result (spec.as_call (plain_seen seen.entry) ≡ None)
+        (λ call. spec.as_call (plain_seen seen.entry) ≡ Some (plain_held (entry.Call call.now))) }
+{
+    match seen {
+        Seen::Call(call) => Some(call),
+        Seen::Force(_, _) => None,
+        Seen::Wraps(_) => None,
+    }
+}
+
+// The top call on the stack of a thread.
+fn top_call(machine: &Machine) -> Option<&Call>
+    ensures { MatchOption result (spec.top_call machine.now.stack ≡ None)
+        (λ call. spec.top_call machine.now.stack ≡ Some (plain_held (entry.Call call.now))) }
+{
+    let mut walk = machine.entries();
+    'entries: while let Some(seen) = walk.step() {
+        match as_call(seen) {
+            Some(call) => return Some(call),
+            None => {}
+        }
+    }
+    None
+}
+
+// Where a call stands.
+fn spot_of(program: &Prog, call: &Call) -> Spot
+    ensures { IsSpotOf program.now (Some (plain_held (entry.Call call.now))) (Some result) }
+{
+    Spot {
+        function: call.function(),
+        statement: call.place(program),
+    }
+}
+
+/// Where a thread stands, which has this machine.
+pub fn machine_spot(program: &Prog, machine: &Machine) -> Option<Spot>
+    ensures { IsSpotOf program.now (spec.call_of_machine machine.now) result }
+{
+    match top_call(machine) {
+        Some(call) => Some(spot_of(program, call)),
+        None => None,
+    }
+}
+
+// Where the thread of this number stands.
+fn thread_spot(hub: &Hub, thread: Tid) -> Option<Spot>
+    requires { thread.0 < length hub.now.course.world.threads }
+    ensures { IsSpotOf hub.now.course.program
+        (option_and_then spec.call_of_machine (slice_get hub.now.course.machines thread.0)) result }
+{
+    match hub.machine(thread) {
+        Some(machine) => machine_spot(hub.program(), machine),
+        None => None,
+    }
+}
+
+/// Where each thread stands.
+///
+/// # Errors
+/// Out of memory.
+pub(crate) fn spots_of(alloc: Global, hub: &Hub) -> Result<Vec<Option<Spot>>, AllocError>
+    ensures spots { IfOk result (λ spots. AreSpots hub.now.course spots.items) }
+    ensures count { IfOk result (λ spots. length spots.items ≡ length hub.now.course.world.threads) }
+{
+    let mut spots = Vec::new(alloc);
+    for t in 0..hub.book().next_thread().0 {
+        spots.push(thread_spot(hub, Tid(t)))?;
+    }
+    Ok(spots)
+}
