@@ -20,17 +20,17 @@ next_or servers began threads i b all h is so_far =
 pub held_more : (servers : List ℕ) (began : List PlainFunction) (threads : List PlainThread) (i : ℕ) (b all : Bool) → i < length threads
     → ((t : PlainThread) → slice_get threads i ≡ Some t → b ≡ is_held_up servers (slice_get began i) t) → b ≡ false
     → some_held_up servers began i (drop i threads) ≡ all → some_held_up servers began (i + 1) (drop (i + 1) threads) ≡ all
-held_more servers began threads i b all h is no so_far =
+held_more servers began threads i b all h is not_so so_far =
     let rest = some_held_up servers began (suc i) (drop (i + 1) threads) in
     let n : i + 1 ≡ suc i = add-one i in
-    ap (λ k. some_held_up servers began k (drop (i + 1) threads)) n ∙ (sym (ap (λ x. x || rest) no) ∙ next_or servers began threads i b all h is so_far)
+    ap (λ k. some_held_up servers began k (drop (i + 1) threads)) n ∙ (sym (ap (λ x. x || rest) not_so) ∙ next_or servers began threads i b all h is so_far)
 
 pub held_found : (servers : List ℕ) (began : List PlainFunction) (threads : List PlainThread) (i : ℕ) (b all : Bool) → i < length threads
     → ((t : PlainThread) → slice_get threads i ≡ Some t → b ≡ is_held_up servers (slice_get began i) t) → b ≡ true
     → some_held_up servers began i (drop i threads) ≡ all → true ≡ all
-held_found servers began threads i b all h is yes so_far =
+held_found servers began threads i b all h is so so_far =
     let rest = some_held_up servers began (suc i) (drop (i + 1) threads) in
-    sym (ap (λ x. x || rest) yes) ∙ next_or servers began threads i b all h is so_far
+    sym (ap (λ x. x || rest) so) ∙ next_or servers began threads i b all h is so_far
 
 pub held_none : (servers : List ℕ) (began : List PlainFunction) (threads : List PlainThread) (i : ℕ) (all : Bool) → length threads ≤ i
     → some_held_up servers began i (drop i threads) ≡ all → false ≡ all

@@ -1,6 +1,6 @@
 -- What a schedule takes from M-variables, one item after another.
-use Rattle.std.proofs.Common.{◌≡◌, ℕ, zero, suc, ◌+◌, ◌<◌, ◌≤◌, Bool, true, false, eqb, List, [], ◌∷◌, ◌++◌, length, get_or, take, drop, Option, Some, None, refl, sym, ap, ◌∙◌, arith, append_assoc, append-nil}
-use Rattle.std.specs.Prelude.{if◌then◌else◌, option_and_then, slice_set}
+use Rattle.std.proofs.Common.{◌≡◌, ℕ, ◌+◌, ◌<◌, ◌≤◌, Bool, true, false, List, [], ◌∷◌, ◌++◌, length, get_or, take, drop, Option, Some, None, refl, sym, ap, ◌∙◌, arith, append_assoc, append-nil}
+use Rattle.std.specs.Prelude.{if◌then◌else◌, option_and_then}
 use Rattle.std.specs.Option.{option_or, option_to_list}
 use Rattle.std.proofs.lemmas.List.{take-append-drop, drop_more}
 use Rattle.cml_step.specs.Terms.{Program}
@@ -55,22 +55,6 @@ one_taken p items item now take old new leads some kept knows m =
         takes_of-push p items item now leads ∙ ap (λ t. takes_of p items ++ option_to_list t) some in
     kept m ∙ (ap (option_or (taker_if m take)) (knows m)
     ∙ (sym (last_taker-push (takes_of p items) take m) ∙ ap (λ takes. last_taker takes m) (sym e)))
-
--- a list of takers with room for one more
-pub none_more : (last : List (Option ℕ)) (m : ℕ) → get_or (last ++ None ∷ []) m None ≡ get_or last m None
-none_more [] zero = refl
-none_more [] (suc m) = refl
-none_more (taker ∷ last) zero = refl
-none_more (taker ∷ last) (suc m) = none_more last m
-
--- where a taker is kept
-pub kept_at : (last : List (Option ℕ)) (place t m : ℕ) → place < length last →
-    get_or (slice_set last place (Some t)) m None ≡ option_or (if eqb place m then Some t else None) (get_or last m None)
-kept_at [] place t m h = absurd (omega arith)
-kept_at (taker ∷ last) zero t zero h = refl
-kept_at (taker ∷ last) zero t (suc m) h = refl
-kept_at (taker ∷ last) (suc place) t zero h = refl
-kept_at (taker ∷ last) (suc place) t (suc m) h = kept_at last place t m (omega arith)
 
 -- a schedule that leads somewhere is allowed at each of its items
 stands_from-none : (p : Program) (items : List Item) → stands_from p None items ≡ None

@@ -8,14 +8,14 @@ use Rattle.cml_value.specs.Value.{PlainFunction, PlainBase}
 use Rattle.cml_value.specs.Group.{PlainGroup, bases, leaves, leaf_count}
 use Rattle.cml_scan.specs.World.{PlainThread, running, pending_on, ended, PlainWorld}
 use Rattle.cml_book.specs.Threads.{flat_of}
-use Rattle.cml_phrase.specs.Events.{PlainTold, event_limit, said_words, more_words, events_words}
+use Rattle.cml_phrase.specs.Events.{PlainSaid, event_limit, said_words, more_words, events_words}
 use Rattle.cml_phrase.specs.declared.event.Told.{Told}
 use Rattle.cml_phrase.specs.Views.{plain_told}
 use Rattle.cml_ending.specs.Waits.{thread_behind, base_told, awaited_words}
 use Rattle.cml_ending.specs.Rings.{behind_only, next_thread, next_threads}
 
 -- only the first ones are said
-pub first_said : (forms : List PlainSexpr) (f : PlainBase → PlainTold) (bs : List PlainBase) (n : ℕ) → events_words forms (map f (take event_limit bs)) n ≡ events_words forms (map f bs) n
+pub first_said : (forms : List PlainSexpr) (f : PlainBase → PlainSaid) (bs : List PlainBase) (n : ℕ) → events_words forms (map f (take event_limit bs)) n ≡ events_words forms (map f bs) n
 first_said forms f bs n =
     let e : take event_limit (map f (take event_limit bs)) ≡ take event_limit (map f bs) =
         ap (take event_limit) (sym (take-map f event_limit bs)) ∙ take-take event_limit event_limit (map f bs) (omega arith) in

@@ -9,7 +9,7 @@ use Rattle.cml_scan.specs.Light.{is_full}
 use Rattle.cml_phrase.specs.declared.event.ObjectState.{ObjectState}
 use Rattle.cml_phrase.specs.declared.event.ObjectState.TheVariants as state
 use Rattle.cml_phrase.specs.Phrases.{PlainWho}
-use Rattle.cml_phrase.specs.Events.{PlainTold, events_words}
+use Rattle.cml_phrase.specs.Events.{PlainSaid, events_words}
 
 abbrev pub variable_state : Option (Option PlainValue) → ObjectState
 variable_state held_so = if is_full held_so then state.Full else state.Empty
@@ -57,7 +57,7 @@ abbrev pub who_is : List PlainFunction → ℕ → PlainWho
 who_is began t = record { thread = t; began = slice_get began t }
 
 -- what is said of a base event
-abbrev pub base_told : PlainWorld → List PlainFunction → (ℕ → Option ℕ) → PlainBase → PlainTold
+abbrev pub base_told : PlainWorld → List PlainFunction → (ℕ → Option ℕ) → PlainBase → PlainSaid
 base_told w began taker b = record { base = b; state = object_state w b; who = option_map (who_is began) (thread_behind taker b) }
 
 -- what is said of a group: the base events of its leaves, from the left

@@ -1,7 +1,6 @@
 //! How a run ended, in words.
 
-ghost use Rattle.std.specs.Prelude.{◌≡◌, ◌++◌, ◌≤◌, IfOk, OnOk, length};
-ghost use Rattle.cml_scan.specs.World.{pending};
+ghost use Rattle.std.specs.Prelude.{◌≡◌, ◌==◌, if◌then◌else◌, ◌+◌, ◌++◌, ◌≤◌, IfOk, OnOk, length};
 ghost use Rattle.cml_hub.specs.Runs.{ending};
 ghost use Rattle.cml_hub.specs.Courses.{run_of};
 ghost use Rattle.cml_ending.specs.Views.{plain_stage};
@@ -22,6 +21,14 @@ use cml_text::Sexpr;
 use cml_value::Tid;
 use std::alloc::{AllocError, Global};
 
+// One, or none.
+fn one_if(holds: bool) -> u64
+    ensures one { result ≡ (if holds then 1 else 0) }
+    ensures few { result ≤ 1 }
+{
+    if holds { 1 } else { 0 }
+}
+
 // How many threads run.
 fn run_count(hub: &Hub) -> u64
     ensures { result ≡ spec.run_count hub.now.course.world }
@@ -29,9 +36,7 @@ fn run_count(hub: &Hub) -> u64
     let book = hub.book();
     let mut count = 0;
     for t in 0..book.next_thread().0 {
-        if book.is_running(Tid(t)) {
-            count += 1;
-        }
+        count += one_if(book.is_running(Tid(t)));
     }
     count
 }
@@ -50,6 +55,13 @@ fn push_left_lines(
     push_ring(alloc, out, nexts.as_slice())
 }
 
+// Whether none of either is left.
+fn is_none_left(waits: u64, runs: u64) -> bool
+    ensures { result ≡ (waits + runs == 0) }
+{
+    waits == 0 && runs == 0
+}
+
 // Appends what is said of the threads that are left, if any is.
 fn push_left(
     alloc: Global,
@@ -63,7 +75,7 @@ fn push_left(
     let hub = stage.hub;
     let waits = hub.pending() as u64;
     let runs = run_count(hub);
-    if waits == 0 && runs == 0 {
+    if is_none_left(waits, runs) {
         return Ok(());
     }
     push_head(alloc, out, waits, runs, hub.end(), hub.budget(), hub.schedule())?;

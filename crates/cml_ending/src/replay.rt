@@ -1,13 +1,13 @@
 //! A schedule is gone through once more.
 
-ghost use Rattle.std.specs.Prelude.{◌≡◌, true, false, IfOk, OnOk, Some, slice_get, ◌⊎◌, ◌∷◌, ◌++◌, []};
+ghost use Rattle.std.specs.Prelude.{◌≡◌, ℕ, None, true, false, IfOk, OnOk, Some, slice_get, ◌⊎◌, ◌∷◌, ◌++◌, []};
 ghost use Rattle.cml_scan.specs.World.{PlainThread};
 ghost use Rattle.std.specs.List.{list_any};
 ghost use Rattle.cml_step.specs.Calls.{text_of};
 ghost use Rattle.cml_hub.specs.Kept.{NoneOut};
 ghost use Rattle.cml_hub.specs.Runs.{is_allowed};
 ghost use Rattle.cml_value.specs.Group.{bases};
-ghost use Rattle.cml_ending.specs.Takes.{KnowsTakers};
+ghost use Rattle.cml_ending.specs.Takes.{taker_in, KnowsTakers};
 ghost use Rattle.cml_ending.specs.Waits as waits;
 
 use crate::takers::Takers;
@@ -39,25 +39,50 @@ fn come(alloc: Global, hub: &mut Hub, item: Item) -> Result<(), AllocError>
     ensures items { OnOk result (hub.new.course.items ≡ hub.old.course.items ++ item ∷ []) }
     ensures none_out { OnOk result (NoneOut hub.new) }
 {
-    if !hub.follow(alloc, item)? {
-        unreachable!();
+    match hub.follow(alloc, item)? {
+        true => Ok(()),
+        false => unreachable!(),
+    }
+}
+
+// The other hub's items come one after another in this hub, which stands at its beginning.
+fn follow_all(
+    alloc: Global,
+    hub: &Hub,
+    second: &mut Hub,
+    takers: &mut Takers,
+) -> Result<(), AllocError>
+    requires program { second.old.course.program ≡ hub.now.course.program }
+    requires items { second.old.course.items ≡ [] }
+    requires none_out { NoneOut second.old }
+    requires none_taken { (m : ℕ) → taker_in takers.old m ≡ None }
+    ensures { OnOk result (KnowsTakers (text_of hub.now.course.program) hub.now.course.items takers.new) }
+{
+    let items = hub.schedule();
+    for i in 0..items.len() {
+        let item = items[i];
+        let _so_far = second.schedule();
+        takers.follow(alloc, second, &item)?;
+        come(alloc, second, item)?;
     }
     Ok(())
+}
+
+// The hub is used no more.
+#[inline(never)]
+fn let_go(hub: Hub) {
+    drop(hub);
 }
 
 // Who took from each M-variable last in the hub's schedule, which is gone through once more.
 fn replayed(alloc: Global, hub: &Hub) -> Result<Takers, AllocError>
     ensures { IfOk result (λ takers. KnowsTakers (text_of hub.now.course.program) hub.now.course.items takers) }
 {
-    let items = hub.schedule();
-    let mut second = beginning(alloc, hub)?;
     let mut takers = Takers::new(alloc);
-    for i in 0..items.len() {
-        let item = items[i];
-        let _so_far = second.schedule();
-        takers.follow(alloc, &second, &item)?;
-        come(alloc, &mut second, item)?;
-    }
+    let mut second = beginning(alloc, hub)?;
+    let followed = follow_all(alloc, hub, &mut second, &mut takers);
+    let_go(second);
+    followed?;
     Ok(takers)
 }
 

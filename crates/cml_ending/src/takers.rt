@@ -122,9 +122,12 @@ impl Takers {
         ensures err { OnErr result ((m : ℕ) → taker_in self.new m ≡ taker_in self.old m) }
     {
         let _so_far = hub.schedule();
-        if let Some(take) = take_by(alloc, hub, item)? {
-            self.keep(take)?;
+        match take_by(alloc, hub, item)? {
+            Some(take) => {
+                self.keep(take)?;
+                Ok(())
+            }
+            None => Ok(()),
         }
-        Ok(())
     }
 }

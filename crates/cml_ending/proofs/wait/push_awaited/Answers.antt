@@ -1,3 +1,4 @@
+use Rattle.std.proofs.Common.{◌≡◌, length, arith}
 use Rattle.cml_ending.proofs.WaitLemmas.{said_of_group}
 use Rattle.cml_step.specs.Calls.{text_of}
 use Rattle.cml_hub.specs.Deeds.{origins}
@@ -7,4 +8,5 @@ use Rattle.cml_ending.proofs.wait.push_awaited.Goals as goal
 pub returns : goal.returns
 returns c =
     let h = c.args.hub.now.course in
-    said_of_group _ c.args.forms.now h.world (origins (text_of h.program) h.items) (taker_in c.args.takers.now) c.args.group.now _ _ _ _ _ _ _ c.in_ok-bases.ensures c.as_slice.ensures.value c.first_of.ensures c.in_ok-told.ensures c.as_slice-2.ensures.value c.len.ensures c.push_events.ensures
+    let many : c.len.result ≡ length c.in_ok-bases.bases.items = omega (arith, c.in_ok-bases.bases.ok.0) in
+    said_of_group _ c.args.forms.now h.world (origins (text_of h.program) h.items) (taker_in c.args.takers.now) c.args.group.now _ _ _ _ _ _ _ _ c.in_ok-bases.ensures c.as_slice.ensures.value c.first_of.ensures c.in_ok-told.ensures c.as_slice-2.ensures.value many c.push_events.ensures

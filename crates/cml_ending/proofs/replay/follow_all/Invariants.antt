@@ -2,7 +2,7 @@ use Rattle.std.proofs.Common.{◌≡◌, take}
 use Rattle.cml_step.specs.Calls.{text_of}
 use Rattle.cml_hub.specs.Kept.{NoneOut}
 use Rattle.cml_ending.specs.Takes.{KnowsTakers}
-use Rattle.cml_ending.proofs.replay.replayed.Given as goal
+use Rattle.cml_ending.proofs.replay.follow_all.Given as goal
 
 -- the second hub has gone so far, and the takers are known
 abbrev pub invariant-loop-i : goal.invariant-loop-i

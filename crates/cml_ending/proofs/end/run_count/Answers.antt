@@ -1,0 +1,16 @@
+use Rattle.std.proofs.Common.{◌≡◌, arith, sym, ap, ◌∙◌, length}
+use Rattle.cml_scan.specs.World.{PlainWorld}
+use Rattle.std.specs.Prelude.{count_by}
+use Rattle.std.proofs.lemmas.List.{take_all}
+use Rattle.cml_book.specs.Walks.{runs}
+use Rattle.cml_ending.proofs.ReplayLemmas.{run_more}
+use Rattle.cml_ending.proofs.end.run_count.Goals as goal
+
+pub loop-t-preserved : goal.loop-t-preserved
+loop-t-preserved c = record {
+  so_far = run_more c.args.hub.now.course.world.threads c.loop-t.t c.loop-t.count c.is_running.result c.one_if.result (omega (arith, ap (λ (w : PlainWorld). length w.threads) c.book.ensures)) c.is_running.ensures c.one_if.ensures.one c.loop-t.invariant.so_far;
+  few = omega arith;
+}
+
+pub returns : goal.returns
+returns c = c.loop-t.invariant.so_far ∙ ap (count_by runs) (take_all c.loop-t.t c.args.hub.now.course.world.threads (omega (arith, ap (λ (w : PlainWorld). length w.threads) c.book.ensures)))
