@@ -4,7 +4,7 @@ use Rattle.std.specs.Prelude.{codes, count_by, if◌then◌else◌, map}
 use Rattle.std.specs.List.{range_with_len}
 use Rattle.std.proofs.lemmas.List.{take_all, length-take-le}
 use Rattle.std.proofs.lemmas.List.Sums.{count_by_more_yes, count_by_more_no, count_by-le-length}
-use Rattle.std.proofs.lemmas.List.FromFn.{fill_by_all}
+use Rattle.std.proofs.lemmas.List.FromFn.{fill_by_all, length-map-range_with_len}
 use Rattle.std.proofs.lemmas.Bool.Decides.{nat_tests}
 use Rattle.cml_schedule.specs.declared.item.Item.{Item}
 use Rattle.cml_ending.specs.Lines.{many, is_turn_of, turn_count, turn_counts}
@@ -30,3 +30,6 @@ pub all_counted : (counts : List ℕ) (items : List Item) (threads i : ℕ) → 
     → ((t : ℕ) → t < threads → get_or counts t 0 ≡ turn_count (take i items) t) → counts ≡ turn_counts items threads
 all_counted counts items threads i same past so_far =
     fill_by_all (turn_count items) counts threads 0 same (λ t h. so_far t h ∙ ap (λ xs. turn_count xs t) (take_all i items past))
+
+pub as_many_counts : (items : List Item) (threads : ℕ) → length (turn_counts items threads) ≡ threads
+as_many_counts items threads = length-map-range_with_len (turn_count items) 0 threads

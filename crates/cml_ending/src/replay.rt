@@ -125,7 +125,8 @@ fn some_wait_on_mvar(alloc: Global, hub: &Hub) -> Result<bool, AllocError>
     ensures { IfOk result (λ some. some ≡ list_any waits.waits_on_mvar hub.now.course.world.threads) }
 {
     for t in 0..hub.book().next_thread().0 {
-        if waits_on_mvar(alloc, hub, Tid(t))? {
+        let asks = waits_on_mvar(alloc, hub, Tid(t))?;
+        if asks {
             return Ok(true);
         }
     }

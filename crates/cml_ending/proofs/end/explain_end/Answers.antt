@@ -2,6 +2,7 @@ use Rattle.std.proofs.Common.{◌≡◌, ◌∙◌, ap, sym, subst, length, arit
 use Rattle.cml_ending.specs.Lines.{turn_counts}
 use Rattle.cml_ending.specs.Takes.{taker_in}
 use Rattle.cml_ending.specs.Standings.{AreSpots}
+use Rattle.cml_ending.proofs.WordLemmas.{as_many_counts}
 use Rattle.cml_ending.proofs.EndLemmas.{whole_end, places_of_all}
 use Rattle.cml_ending.proofs.end.explain_end.Goals as goal
 
@@ -17,3 +18,9 @@ returns c =
         (c.as_slice-3.ensures.value ∙ (c.in_ok-turns.ensures ∙ (ap (λ xs. turn_counts xs c.len.result) c.schedule.ensures.items ∙ ap (turn_counts h.course.items) (many ∙ c.in_ok-spots.ensures.count))))
         c.in_ok-takers.ensures c.faults.ensures c.new-out.ensures.items c.in_ok-push_left.ensures c.in_ok-push_faults.ensures;
     }
+
+pub push_left-requires : goal.push_left-requires
+push_left-requires c =
+    let many : c.len.result ≡ length c.in_ok-spots.spots.items = omega (arith, c.in_ok-spots.spots.ok.0) in
+    let turns : length c.as_slice-3.result.now ≡ c.len.result = ap length c.as_slice-3.ensures.value ∙ (ap length c.in_ok-turns.ensures ∙ as_many_counts c.schedule.result.now c.len.result) in
+    omega (arith, c.in_ok-spots.ensures.count)
