@@ -132,13 +132,7 @@ fn in_range(rt: &impl Abort, budget: u64) -> u64
 }
 
 // What is said of the end of the run.
-fn says(
-    rt: &(impl Abort + AllocGlobal),
-    script: &str,
-    forms: &[Sexpr],
-    hub: &Hub,
-    expected: &str,
-) {
+fn says(rt: &(impl Abort + AllocGlobal), script: &str, forms: &[Sexpr], hub: &Hub, expected: &str) {
     let said = explain_end(rt.alloc(), "a.cml", script.as_bytes(), forms, hub).expect(rt, MEMORY);
     assert!(rt; said.as_slice() == expected.as_bytes(), "{expected}");
     drop(said);
