@@ -131,7 +131,7 @@ pub said_none : (s : Scene) (end : End) (budget : ℕ) (items : List Item) (wait
     → b ≡ (waits + runs == 0) → b ≡ true → o ≡ o ++ left_text s end budget items
 said_none s end budget items waits runs b o w r is so =
     let test : (length (pending s.world) + run_count s.world == 0) ≡ true =
-        sym (ap (λ n. n + run_count s.world == 0) w) ∙ (sym (ap (λ n. waits + n == 0) r) ∙ (sym is ∙ so)) in
+    sym (ap (λ n. n + run_count s.world == 0) w) ∙ (sym (ap (λ n. waits + n == 0) r) ∙ (sym is ∙ so)) in
     sym (append-nil o)
     ∙ ap (λ text. o ++ text) (sym (picked (length (pending s.world) + run_count s.world == 0) [] (opening_line (length (pending s.world)) (run_count s.world) end budget items ++ left_lines s) test))
 
@@ -144,7 +144,7 @@ said_some (Ok done) s end e budget b items is waits runs none o p q w r n not_so
     let rn = run_count s.world in
     let test : (wn + rn == 0) ≡ false = sym (ap (λ k. k + rn == 0) w) ∙ (sym (ap (λ k. waits + k == 0) r) ∙ (sym n ∙ not_so)) in
     let same : opening_line waits runs e b is ≡ opening_line wn rn end budget items =
-        ap (λ k. opening_line k runs e b is) w ∙ (ap (λ k. opening_line wn k e b is) r ∙ (ap (λ k. opening_line wn rn k b is) ee ∙ (ap (λ k. opening_line wn rn end k is) be ∙ ap (λ k. opening_line wn rn end budget k) ie))) in
+    ap (λ k. opening_line k runs e b is) w ∙ (ap (λ k. opening_line wn k e b is) r ∙ (ap (λ k. opening_line wn rn k b is) ee ∙ (ap (λ k. opening_line wn rn end k is) be ∙ ap (λ k. opening_line wn rn end budget k) ie))) in
     appended_two o (opening_line waits runs e b is) (left_lines s) p q first rest
     ∙ (ap (λ line. o ++ (line ++ left_lines s)) same
     ∙ ap (λ text. o ++ text) (sym (not_picked (wn + rn == 0) [] (opening_line wn rn end budget items ++ left_lines s) test)))
@@ -187,9 +187,9 @@ whole_end name text forms h spots places turns taker n o p q pe te same ne oe le
     let e = ending h.budget (run_of h.course) in
     let c = h.course in
     let first : p ≡ left_text (scene_of name text forms c spots) e h.budget c.items =
-        left
-        ∙ (ap (λ x. x ++ left_text (scene_by name forms places c taker spots turns) e h.budget c.items) oe
-        ∙ (ap (λ x. left_text (scene_by name forms x c taker spots turns) e h.budget c.items) pe
-        ∙ (ap (λ x. left_text (scene_by name forms (all_places text forms) c taker spots x) e h.budget c.items) te
-        ∙ same_text (scene_of name text forms c spots) taker (last_taker (takes_of (text_of c.program) c.items)) e h.budget c.items same))) in
+    left
+    ∙ (ap (λ x. x ++ left_text (scene_by name forms places c taker spots turns) e h.budget c.items) oe
+    ∙ (ap (λ x. left_text (scene_by name forms x c taker spots turns) e h.budget c.items) pe
+    ∙ (ap (λ x. left_text (scene_by name forms (all_places text forms) c taker spots x) e h.budget c.items) te
+    ∙ same_text (scene_of name text forms c spots) taker (last_taker (takes_of (text_of c.program) c.items)) e h.budget c.items same))) in
     faults ∙ (ap (λ x. x ++ faults_line n) first ∙ ap (λ k. left_text (scene_of name text forms c spots) e h.budget c.items ++ faults_line k) ne)

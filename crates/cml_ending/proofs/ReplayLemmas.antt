@@ -52,7 +52,7 @@ pub knows_more : (p q : Program) (xs items : List Item) (item : Item) (i : ℕ) 
     → (KnowsTakers p xs old → KnowsTakers p (xs ++ item ∷ []) new) → KnowsTakers q (take i items) old → KnowsTakers q (take (i + 1) items) new
 knows_more p q xs items item i old new pe xe te step knows m =
     let before : KnowsTakers p xs old =
-        λ (k : ℕ). knows k ∙ (ap (λ zs. last_taker (takes_of q zs) k) (sym xe) ∙ ap (λ x. last_taker (takes_of x xs) k) (sym pe)) in
+    λ (k : ℕ). knows k ∙ (ap (λ zs. last_taker (takes_of q zs) k) (sym xe) ∙ ap (λ x. last_taker (takes_of x xs) k) (sym pe)) in
     step before m
     ∙ (ap (λ x. last_taker (takes_of x (xs ++ item ∷ [])) m) pe
     ∙ (ap (λ zs. last_taker (takes_of q (zs ++ item ∷ [])) m) xe ∙ ap (λ zs. last_taker (takes_of q zs) m) te))

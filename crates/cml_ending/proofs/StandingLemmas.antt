@@ -43,8 +43,9 @@ pub spots_more : (c : PlainCourse) (spots : List (Option Spot)) (spot : Option S
     → (t : ℕ) → t < n + 1 → IsSpotOf c.program (option_and_then call_of_machine (slice_get c.machines t)) (spot_at (spots ++ spot ∷ []) t)
 spots_more c spots spot n many is so_far t h =
     elim (cases_lt t n) as (λ _. IsSpotOf c.program (option_and_then call_of_machine (slice_get c.machines t)) (spot_at (spots ++ spot ∷ []) t)) [
-      inl lt ↦ subst (λ s. IsSpotOf c.program (option_and_then call_of_machine (slice_get c.machines t)) s) (sym (get_or_append_left spots (spot ∷ []) None t (omega arith))) (so_far t lt)
-    | inr le ↦
-        let e : n ≡ t = omega arith in
-        subst (λ k. IsSpotOf c.program (option_and_then call_of_machine (slice_get c.machines k)) (spot_at (spots ++ spot ∷ []) k)) e
-        (subst (λ s. IsSpotOf c.program (option_and_then call_of_machine (slice_get c.machines n)) s) (sym (get_or_push spots spot None n many)) is) ]
+      | inl lt ↦ subst (λ s. IsSpotOf c.program (option_and_then call_of_machine (slice_get c.machines t)) s) (sym (get_or_append_left spots (spot ∷ []) None t (omega arith))) (so_far t lt)
+      | inr le ↦
+          let e : n ≡ t = omega arith in
+          subst (λ k. IsSpotOf c.program (option_and_then call_of_machine (slice_get c.machines k)) (spot_at (spots ++ spot ∷ []) k)) e
+          (subst (λ s. IsSpotOf c.program (option_and_then call_of_machine (slice_get c.machines n)) s) (sym (get_or_push spots spot None n many)) is)
+    ]

@@ -44,7 +44,7 @@ pub none_taken : (p : Program) (items : List Item) (item : Item) (now : Run) (ta
     KnowsTakers p items takers → KnowsTakers p (items ++ item ∷ []) takers
 none_taken p items item now takers leads none knows m =
     let e : takes_of p (items ++ item ∷ []) ≡ takes_of p items =
-        takes_of-push p items item now leads ∙ (ap (λ t. takes_of p items ++ option_to_list t) none ∙ append-nil (takes_of p items)) in
+    takes_of-push p items item now leads ∙ (ap (λ t. takes_of p items ++ option_to_list t) none ∙ append-nil (takes_of p items)) in
     knows m ∙ ap (λ takes. last_taker takes m) (sym e)
 
 -- where something is
@@ -52,7 +52,7 @@ pub one_taken : (p : Program) (items : List Item) (item : Item) (now : Run) (tak
     ((m : ℕ) → taker_in new m ≡ option_or (taker_if m take) (taker_in old m)) → KnowsTakers p items old → KnowsTakers p (items ++ item ∷ []) new
 one_taken p items item now take old new leads some kept knows m =
     let e : takes_of p (items ++ item ∷ []) ≡ takes_of p items ++ take ∷ [] =
-        takes_of-push p items item now leads ∙ ap (λ t. takes_of p items ++ option_to_list t) some in
+    takes_of-push p items item now leads ∙ ap (λ t. takes_of p items ++ option_to_list t) some in
     kept m ∙ (ap (option_or (taker_if m take)) (knows m)
     ∙ (sym (last_taker-push (takes_of p items) take m) ∙ ap (λ takes. last_taker takes m) (sym e)))
 
@@ -73,8 +73,8 @@ pub is_next_allowed : (p : Program) (items : List Item) (i : ℕ) (item : Item) 
     stands p items ≡ Some end → stands p (take i items) ≡ Some now → is_allowed now.world item ≡ true
 is_next_allowed p items i item end now h is whole so_far =
     let split : take i items ++ item ∷ drop (i + 1) items ≡ items =
-        ap (λ x. take i items ++ x ∷ drop (i + 1) items) is ∙ (ap (λ rest. take i items ++ rest) (sym (drop_more items i item h)) ∙ take-append-drop i items) in
+    ap (λ x. take i items ++ x ∷ drop (i + 1) items) is ∙ (ap (λ rest. take i items ++ rest) (sym (drop_more items i item h)) ∙ take-append-drop i items) in
     let both : stands_from p (stands p (take i items)) (item ∷ drop (i + 1) items) ≡ Some end =
-        sym (stands_from-append p (Some (opening p)) (take i items) (item ∷ drop (i + 1) items)) ∙ (ap (stands p) split ∙ whole) in
+    sym (stands_from-append p (Some (opening p)) (take i items) (item ∷ drop (i + 1) items)) ∙ (ap (stands p) split ∙ whole) in
     let on : stands_from p (Some now) (item ∷ drop (i + 1) items) ≡ Some end = ap (λ r. stands_from p r (item ∷ drop (i + 1) items)) (sym so_far) ∙ both in
     goes_on p (is_allowed now.world item) (after_item p now item) (drop (i + 1) items) end on

@@ -18,7 +18,7 @@ use Rattle.cml_ending.specs.Rings.{behind_only, next_thread, next_threads}
 pub first_said : (forms : List PlainSexpr) (f : PlainBase → PlainSaid) (bs : List PlainBase) (n : ℕ) → events_words forms (map f (take event_limit bs)) n ≡ events_words forms (map f bs) n
 first_said forms f bs n =
     let e : take event_limit (map f (take event_limit bs)) ≡ take event_limit (map f bs) =
-        ap (take event_limit) (sym (take-map f event_limit bs)) ∙ take-take event_limit event_limit (map f bs) (omega arith) in
+    ap (take event_limit) (sym (take-map f event_limit bs)) ∙ take-take event_limit event_limit (map f bs) (omega arith) in
     ap (λ told. said_words forms told ++ more_words (n - length told)) e
 
 -- there are as many base events as leaves
@@ -32,7 +32,7 @@ pub said_of_group : {T E : Type 0} (r : Result T E) (forms : List PlainSexpr) (w
     → OnOk r (p ≡ o ++ events_words forms (map plain_told given) n) → OnOk r (p ≡ o ++ awaited_words forms w began taker g)
 said_of_group (Ok done) forms w began taker g all first firsts told given n o p a f s t v l e =
     let same : map plain_told given ≡ map (base_told w began taker) (take event_limit (bases g)) =
-        ap (map plain_told) v ∙ (t ∙ (ap (map (base_told w began taker)) s ∙ ap (λ bs. map (base_told w began taker) (take event_limit bs)) (f ∙ a))) in
+    ap (map plain_told) v ∙ (t ∙ (ap (map (base_told w began taker)) s ∙ ap (λ bs. map (base_told w began taker) (take event_limit bs)) (f ∙ a))) in
     let many : n ≡ leaf_count g = l ∙ (ap length a ∙ as_many g) in
     e ∙ (ap (λ told. o ++ events_words forms told n) same
     ∙ (ap (λ k. o ++ events_words forms (map (base_told w began taker) (take event_limit (bases g))) k) many

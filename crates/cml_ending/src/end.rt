@@ -42,11 +42,7 @@ fn run_count(hub: &Hub) -> u64
 }
 
 // Appends the lines of the threads that are left, and the ring.
-fn push_left_lines(
-    alloc: Global,
-    out: &mut Vec<u8>,
-    stage: &Stage<'_>,
-) -> Result<(), AllocError>
+fn push_left_lines(alloc: Global, out: &mut Vec<u8>, stage: &Stage<'_>) -> Result<(), AllocError>
     requires { length stage.now.hub.now.course.world.threads ≤ length stage.now.turns.now }
     ensures { OnOk result (out.new.items ≡ out.old.items ++ spec.left_lines (plain_stage stage.now)) }
 {
@@ -63,11 +59,7 @@ fn is_none_left(waits: u64, runs: u64) -> bool
 }
 
 // Appends what is said of the threads that are left, if any is.
-fn push_left(
-    alloc: Global,
-    out: &mut Vec<u8>,
-    stage: &Stage<'_>,
-) -> Result<(), AllocError>
+fn push_left(alloc: Global, out: &mut Vec<u8>, stage: &Stage<'_>) -> Result<(), AllocError>
     requires { length stage.now.hub.now.course.world.threads ≤ length stage.now.turns.now }
     ensures { let h = stage.now.hub.now in OnOk result (out.new.items ≡ out.old.items
         ++ spec.left_text (plain_stage stage.now) (ending h.budget (run_of h.course)) h.budget h.course.items) }
@@ -78,7 +70,15 @@ fn push_left(
     if is_none_left(waits, runs) {
         return Ok(());
     }
-    push_head(alloc, out, waits, runs, hub.end(), hub.budget(), hub.schedule())?;
+    push_head(
+        alloc,
+        out,
+        waits,
+        runs,
+        hub.end(),
+        hub.budget(),
+        hub.schedule(),
+    )?;
     push_left_lines(alloc, out, stage)
 }
 

@@ -11,12 +11,7 @@ use cml_scan::Meet;
 use std::alloc::{AllocError, Global};
 
 // Appends how many threads wait, and how many run.
-fn push_left(
-    alloc: Global,
-    out: &mut Vec<u8>,
-    waits: u64,
-    runs: u64,
-) -> Result<(), AllocError>
+fn push_left(alloc: Global, out: &mut Vec<u8>, waits: u64, runs: u64) -> Result<(), AllocError>
     ensures { OnOk result (out.new.items ≡ out.old.items ++ spec.left_words waits runs) }
 {
     if runs == 0 {
@@ -25,7 +20,13 @@ fn push_left(
     if waits == 0 {
         return push_many(alloc, out, " thread runs", " threads run", runs);
     }
-    push_many(alloc, out, " thread waits and ", " threads wait and ", waits)?;
+    push_many(
+        alloc,
+        out,
+        " thread waits and ",
+        " threads wait and ",
+        waits,
+    )?;
     push_many(alloc, out, " runs", " run", runs)
 }
 
@@ -60,12 +61,7 @@ fn push_item(alloc: Global, out: &mut Vec<u8>, item: &Item) -> Result<(), AllocE
 }
 
 // Appends the last of so many items.
-fn push_last(
-    alloc: Global,
-    out: &mut Vec<u8>,
-    count: usize,
-    item: &Item,
-) -> Result<(), AllocError>
+fn push_last(alloc: Global, out: &mut Vec<u8>, count: usize, item: &Item) -> Result<(), AllocError>
     ensures { OnOk result (out.new.items ≡ out.old.items ++ spec.last_item_line count (Some item.now)) }
 {
     out.extend_from_slice(b"the schedule ends after item ")?;
@@ -75,11 +71,7 @@ fn push_last(
 }
 
 // Appends where the schedule ends.
-fn push_schedule_end(
-    alloc: Global,
-    out: &mut Vec<u8>,
-    items: &[Item],
-) -> Result<(), AllocError>
+fn push_schedule_end(alloc: Global, out: &mut Vec<u8>, items: &[Item]) -> Result<(), AllocError>
     ensures { OnOk result (out.new.items ≡ out.old.items ++ spec.why_line End.Partial 0 items.now) }
 {
     match items {

@@ -25,11 +25,7 @@ fn behind_only(takers: &Takers, bases: &[Base]) -> Option<u32>
 }
 
 // For which thread a thread waits that waits on this group.
-fn next_by_group(
-    alloc: Global,
-    takers: &Takers,
-    group: &Group,
-) -> Result<Option<u32>, AllocError>
+fn next_by_group(alloc: Global, takers: &Takers, group: &Group) -> Result<Option<u32>, AllocError>
     ensures { IfOk result (λ next. next ≡ spec.behind_only (taker_in takers.now) (bases_of group.now)) }
 {
     let bases = leaf_bases(alloc, group)?;

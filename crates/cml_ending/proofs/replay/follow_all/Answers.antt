@@ -26,7 +26,7 @@ loop-i-preserved c =
       items = c.in_ok-come.ensures.items ∙ (ap (λ xs. xs ++ item ∷ []) inv.items ∙ taken_more items c.loop-i.i item within is);
       none_out = c.in_ok-come.ensures.none_out;
       knows = knows_more (text_of c.loop-i.second.course.program) (text_of c.args.hub.now.course.program) c.loop-i.second.course.items items item c.loop-i.i c.loop-i.takers c.follow.new.self
-        (ap text_of inv.program) inv.items (taken_more items c.loop-i.i item within is) c.in_ok-follow.ensures.ok inv.knows;
+          (ap text_of inv.program) inv.items (taken_more items c.loop-i.i item within is) c.in_ok-follow.ensures.ok inv.knows;
     }
 
 pub returns : goal.returns

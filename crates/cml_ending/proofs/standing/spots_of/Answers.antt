@@ -11,5 +11,5 @@ loop-t-preserved c =
     record {
       as_many = ap length c.in_ok-push.ensures.items ∙ (length_push c.loop-t.spots.items c.thread_spot.result ∙ ap (λ n. n + 1) c.loop-t.invariant.as_many);
       so_far = subst (λ spots. (t : ℕ) → t < c.loop-t.t + 1 → IsSpotOf h.program (option_and_then call_of_machine (slice_get h.machines t)) (spot_at spots t)) (sym c.in_ok-push.ensures.items)
-        (spots_more h c.loop-t.spots.items c.thread_spot.result c.loop-t.t c.loop-t.invariant.as_many c.thread_spot.ensures c.loop-t.invariant.so_far);
+          (spots_more h c.loop-t.spots.items c.thread_spot.result c.loop-t.t c.loop-t.invariant.as_many c.thread_spot.ensures c.loop-t.invariant.so_far);
     }
