@@ -60,10 +60,10 @@ where
 }
 
 /// Runs the command as [`run_command`] does, over streams whose calls are counted, and of which none was called yet. A fault of the input
-/// is told only where a read failed, or 2,097,152 reads came to no end; a fault of the output only where a write failed or took nothing;
-/// and what is told is written to the errors whole, except where a write of it failed. More workers than one go through the gate with each
-/// slice of a script's thread. Where the errors go to a terminal, what is wrong with a text or a script is explained, unless the arguments
-/// say otherwise.
+/// is told only where a read failed, or 2,097,152 reads came to no end (of a live trace 2^48); a fault of the output only where a write
+/// failed or took nothing; and what is told is written to the errors whole, except where a write of it failed. More workers than one go
+/// through the gate with each slice of a script's thread. Where the errors go to a terminal, what is wrong with a text or a script is
+/// explained, and how a run ended, unless the arguments say otherwise.
 pub fn run_command_counted<R, G, I, O, E, S>(
     rt: &R,
     alloc: Global,
