@@ -11,12 +11,6 @@ pub mod choosing;
 #[cfg(test)]
 mod drawing;
 #[cfg(test)]
-mod endings;
-#[cfg(test)]
-mod explains;
-#[cfg(test)]
-mod explains_scripts;
-#[cfg(test)]
 mod forcings;
 #[cfg(test)]
 mod groups;

@@ -73,9 +73,13 @@ fn text_value(text: &ArcStr) -> Result<Value, Stop>
     Ok(Value::new(ValueKind::Text(text.clone()?)))
 }
 
-/// The value of an expression, where the slots have these values.
+/// The value of an expression, where the slots have these values; a slot that was given none is unit. Its parts are evaluated from the
+/// left, and all of them before what is made of them.
+///
+/// # Errors
+/// What ends the thread, as where a value is of the wrong kind; or out of memory.
 #[cycle(evaluate)]
-pub(crate) fn evaluate(alloc: Global, slots: &[Value], expression: &Expr) -> Result<Value, Stop>
+pub fn evaluate(alloc: Global, slots: &[Value], expression: &Expr) -> Result<Value, Stop>
     ensures { ComesTo (λ v. v) result (spec.evaluate (slot_value slots.now) expression.now) }
 {
     match &expression.kind {

@@ -48,10 +48,12 @@ impl Fault {
     }
 }
 
-// Why a part of a step has no value: the thread is at fault, or memory ran out.
+/// Why a part of a step has no value.
 #[derive(Clone, Copy)]
-pub(crate) enum Stop {
+pub enum Stop {
+    /// The thread is at fault.
     Fault(Fault),
+    /// Memory ran out.
     Memory,
 }
 

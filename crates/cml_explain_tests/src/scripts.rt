@@ -1,9 +1,9 @@
 //! What is said of the first fault of a script: whole answers, written from what the notation says.
 
-use crate::making::MEMORY;
+use crate::making::{MEMORY, forms};
 use cml_check::{CheckFault, CheckKind, check};
 use cml_explain::explain_script;
-use cml_text::{Sexpr, read};
+use cml_text::Sexpr;
 use std::process::Abort;
 use std::rt::HostRuntime;
 
@@ -191,14 +191,6 @@ const EXPLAINED: [(&str, &str); 46] = [
         "a.cml:2:9: the name of a function is wanted here\n2 |   (call 5))\n  |         ^\n",
     ),
 ];
-
-// The forms of the script.
-fn forms(rt: &(impl Abort + AllocGlobal), script: &str) -> Vec<Sexpr> {
-    match read(rt.alloc(), script.as_bytes()) {
-        Ok(forms) => forms,
-        Err(_) => panic!(rt; "no forms: {script}"),
-    }
-}
 
 // The first fault of these forms.
 fn fault(rt: &(impl Abort + AllocGlobal), forms: &[Sexpr]) -> (CheckKind, usize) {

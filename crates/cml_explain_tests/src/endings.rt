@@ -2,11 +2,10 @@
 
 ghost use Rattle.cml_hub.specs.Kept.{IsBudget};
 
-use crate::making::MEMORY;
-use cml_check::{Prog, check};
+use crate::making::{MEMORY, forms, program};
 use cml_ending::{explain_end, is_stuck};
 use cml_hub::{Hub, Script, read_schedule};
-use cml_text::{Sexpr, read};
+use cml_text::Sexpr;
 use std::process::Abort;
 use std::rt::HostRuntime;
 
@@ -112,16 +111,6 @@ const CASES: [Case; 11] = [
         stuck: (true, true),
     },
 ];
-
-// The forms of the script.
-fn forms(rt: &(impl Abort + AllocGlobal), script: &str) -> Vec<Sexpr> {
-    read(rt.alloc(), script.as_bytes()).expect(rt, script)
-}
-
-// The program of these forms.
-fn program(rt: &(impl Abort + AllocGlobal), forms: &[Sexpr]) -> Prog {
-    check(rt.alloc(), forms).expect(rt, "a program")
-}
 
 // The budget, if it may be one.
 fn in_range(rt: &impl Abort, budget: u64) -> u64

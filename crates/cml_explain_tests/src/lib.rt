@@ -1,0 +1,11 @@
+//! Tests of what is said to a person: what is wrong, and how a run went and ended. Whole texts.
+#![tactic(auto)]
+
+#[cfg(test)]
+mod endings;
+#[cfg(test)]
+mod making;
+#[cfg(test)]
+mod scripts;
+#[cfg(test)]
+mod texts;
