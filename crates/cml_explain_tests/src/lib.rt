@@ -7,6 +7,8 @@ mod endings;
 #[cfg(test)]
 mod making;
 #[cfg(test)]
+mod refusals;
+#[cfg(test)]
 mod scripts;
 #[cfg(test)]
 mod texts;
