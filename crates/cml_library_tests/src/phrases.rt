@@ -123,6 +123,7 @@ fn statements_stand_where_they_begin(rt: HostRuntime) {
     assert!(rt; function_name(items, 1) == "main" && function_name(items, 2) == "");
     let names = slot_names(rt.alloc(), items, 0).expect(&rt, MEMORY);
     assert!(rt; names.as_slice() == ["a", "b", "x", "y"].as_slice());
+    drop(names);
     drop(places);
     drop(forms);
 }
