@@ -427,6 +427,29 @@ fn slices_are_given_back_one_by_one(rt: HostRuntime) {
 }
 
 #[test]
+fn a_hub_says_whether_threads_are_ready_and_slices_out(rt: HostRuntime) {
+    let mut hub = begun(&rt, ADDITION, 1_000_000, None);
+    assert!(rt; hub.has_ready() && !hub.has_out(), "thread 0 begins");
+    for _ in 0..2 {
+        let ran = next_slice(&rt, &mut hub);
+        assert!(rt; !hub.has_ready() && hub.has_out());
+        gives(&rt, &mut hub, ran);
+        assert!(rt; hub.has_ready() && !hub.has_out());
+    }
+    // thread 0 has started thread 1
+    let first = next_slice(&rt, &mut hub);
+    assert!(rt; hub.has_ready() && hub.has_out());
+    let second = next_slice(&rt, &mut hub);
+    assert!(rt; !hub.has_ready() && hub.has_out());
+    drop(first);
+    drop(second);
+    let end = hub.run_alone(rt.alloc(), &mut First).expect(&rt, MEMORY);
+    assert!(rt; end == End::Quiet);
+    assert!(rt; !hub.has_ready() && !hub.has_out());
+    drop(hub);
+}
+
+#[test]
 fn slices_that_stay_out_are_run_again(rt: HostRuntime) {
     let mut hub = begun(&rt, ADDITION, 1_000_000, None);
     for _ in 0..2 {

@@ -1,9 +1,9 @@
 -- What is found under the lock.
-use Rattle.std.proofs.Common.{ℕ, ◌≡◌, List, sym, subst, ◌∙◌}
+use Rattle.std.proofs.Common.{ℕ, ◌≡◌, List, Bool, true, false, refl, sym, subst, ◌∙◌}
 use Rattle.cml_check.specs.Syntax.{PlainItem}
 use Rattle.cml_step.specs.Machines.{PlainMachine}
 use Rattle.cml_hub.specs.Dones.{GoesOn}
-use Rattle.cml_hub.specs.Kept.{Kept, Extends, HandsOut}
+use Rattle.cml_hub.specs.Kept.{Kept, Extends, HandsOut, NoneOut, is_out_of}
 use Rattle.cml_hub.specs.declared.fault.Next.{Next}
 use Rattle.cml_hub.specs.declared.fault.Next.TheVariants as next
 use Rattle.cml_work.specs.declared.locked.Found.{Found}
@@ -19,6 +19,17 @@ job_found old new p n m is same extends handed =
 
 -- a job of the hub's program is one of the opening's
 pub job_follows : (o : PlainOpening) (old : Kept) (f : Found) → OpenedBy o old → IsJob old.course.program f → IsJob o.program f
-job_follows o old (found.Job p m) follows job = (job.0 ∙ follows.program, job.1)
-job_follows o old (found.Wait more) follows job = job
+job_follows o old (found.Job j) follows job = (job.0 ∙ follows.program, job.1)
+job_follows o old found.Wait follows job = job
 job_follows o old found.Over follows job = job
+
+-- where it is not so that some slice is out, none is
+pub none_out_of : (h : Kept) → ((NoneOut h → ⊥) → ⊥) → NoneOut h
+none_out_of h n t = stable (is_out_of h.out t) refl
+  where
+    differ : true ≡ false → ⊥
+    differ e = cc
+
+    stable : (b : Bool) → is_out_of h.out t ≡ b → is_out_of h.out t ≡ false
+    stable true is = absurd (n (λ none. differ (sym is ∙ none t)))
+    stable false is = is

@@ -37,6 +37,7 @@ use Rattle.cml_hub.specs.contracts.hub.Hub as Hub
 use Rattle.cml_stream.specs.contracts.counts.Counting as Counting
 use Rattle.cml_work.specs.contracts.locked.Locked as Locked
 use Rattle.cml_work.specs.contracts.shared.Shared as Shared
+use Rattle.cml_work.specs.contracts.waiters.Waiters as Waiters
 use Rattle.cml_work.proofs.Crossing.{all_cross}
 
 -- a map of the table, by its two columns and its places
@@ -105,14 +106,17 @@ board_sync S D Q N q s =
     declared_sync (Wide.the_type S D Q N Global.the_row q heap) (table_sync S D unit Q (record { holds = λ x. q.holds x; first = q.first }) s, tt)
 
 -- what lies under the lock, and the lock
+waiters_send : IsSend Waiters.the_row
+waiters_send = search (sendable, crosses) depth 60 fits 100000
+
 locked_send : (O C : RattleType) (o : _) (c : _) → IsSend O → IsSend C → IsSend (Locked.the_row O C o c)
-locked_send O C o c s u = search (sendable, crosses, hub_send, seat_send) depth 60 fits 100000
+locked_send O C o c s u = search (sendable, crosses, hub_send, seat_send, waiters_send) depth 60 fits 100000
 
 pub shared_sync : (O C : RattleType) (o : _) (c : _) → IsSend O → IsSend C → IsSync (Shared.the_row O C o c)
 shared_sync O C o c s u =
     let l = locked_send O C o c s u in
     declared_sync (Shared.the_type O C o c)
-    (search (sendable, crosses) depth 60 fits 100000, (search (sendable, crosses) depth 60 fits 100000, (search (sendable, board_sync), tt)))
+    (search (sendable, crosses) depth 60 fits 100000, (search (sendable, crosses) depth 60 fits 100000, (search (sendable, crosses) depth 60 fits 100000, (search (sendable, board_sync), tt))))
 
 -- a stream that is counted, and what a closure has captured
 pub counting_send : (ℓ : _) (W : RattleType) → IsSend W → IsSend (Counting.the_row ℓ W)

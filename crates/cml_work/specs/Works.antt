@@ -75,7 +75,7 @@ WatchFails hub workers fault = IsWorkerCount workers × WatchBreaks hub fault
 
 -- what is found under the lock, if it is a job, is one of a thread of this program that can go on
 abbrev pub IsJob : List (PlainItem ℕ) → Found → Type 0
-IsJob program (found.Job p m) = (p ≡ program) × GoesOn p m
+IsJob program (found.Job j) = (j.0 ≡ program) × GoesOn j.0 j.1
 IsJob program _ = Unit {0}
 
 -- the hub was compared with the reports that were seen, which are not its own; the fault hands over both

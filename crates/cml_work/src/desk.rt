@@ -4,6 +4,7 @@ ghost use Rattle.std.specs.Prelude.{◌≡◌, ℕ, List, IfOk, IfSome, IfNone, 
 ghost use Rattle.cml_check.specs.Syntax.{PlainItem};
 ghost use Rattle.cml_step.specs.Answers.{top_await, nothing};
 ghost use Rattle.cml_step.specs.Machines.{PlainMachine, machine_term, Fits};
+ghost use Rattle.cml_work.specs.Desks.{WantedMemory};
 
 use cml_check::Prog;
 use cml_hub::GiveFault;
@@ -12,7 +13,7 @@ use cml_value::Tid;
 use std::alloc::{AllocError, Global};
 use std::sync::Wait;
 
-/// What is told of each slice before it runs, by the worker that runs it, while it holds no lock.
+/// What is told of each slice that is handed out, before it runs, by the worker that runs it, while it holds no lock.
 pub trait Gate {
     /// Whether it was told that a slice of this thread begins.
     ghost told: { Self → ℕ → Type 0 };
@@ -54,7 +55,47 @@ pub trait Desk {
     fn give<R: Wait>(&self, rt: &R, alloc: Global, ran: Ran) -> Result<(), GiveFault>
         requires { hands self.now ran.program ran.start };
 
+    /// Takes a slice back that it handed out, as [`Desk::give`] does, and says what there is to do next, as [`Desk::next`] does. A slice that
+    /// is refused as a stranger is dropped. It may wait.
+    ///
+    /// # Errors
+    /// Out of memory, for the slice or for the next job.
+    fn next_after<R: Wait>(
+        &self,
+        rt: &R,
+        alloc: Global,
+        ran: Ran,
+    ) -> Result<Option<(Prog, Machine)>, AllocError>
+        requires { hands self.now ran.program ran.start }
+        ensures fits { IfOk result (λ job. IfSome job (λ j. Fits j.0 j.1)) }
+        ensures awaits { IfOk result (λ job. IfSome job (λ j. top_await (machine_term j.0 j.1) ≡ nothing)) }
+        ensures hands { IfOk result (λ job. IfSome job (λ j. hands self.now j.0 j.1)) }
+        ensures over { IfOk result (λ job. IfNone job (over self.now)) }
+        ensures lacks { OnErr result (WantedMemory (lacks self.now) (hands self.now)) }
+    {
+        match self.give(rt, alloc, ran) {
+            Ok(()) => {}
+            Err(fault) => refused(fault)?,
+        }
+        self.next(rt, alloc)
+    }
+
     /// From now on no job is handed out. It may wait.
     fn stop<R: Wait>(&self, rt: &R)
         ensures { stopped self.now };
+}
+
+// A slice that is refused is dropped. One that is a stranger by now does no harm.
+#[inline(never)]
+pub(crate) fn refused(fault: GiveFault) -> Result<(), AllocError> {
+    match fault {
+        GiveFault::Stranger(ran) => {
+            drop(ran);
+            Ok(())
+        }
+        GiveFault::Memory(ran) => {
+            drop(ran);
+            Err(AllocError)
+        }
+    }
 }

@@ -11,6 +11,7 @@ mod opening;
 mod reports;
 mod shared;
 mod started;
+mod waiters;
 mod watching;
 mod workers;
 mod working;

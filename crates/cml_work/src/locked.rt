@@ -1,13 +1,14 @@
 //! What lies under the lock.
 
-ghost use Rattle.std.specs.Prelude.{◌≡◌, [], IfOk, true, false};
-ghost use Rattle.cml_hub.specs.Kept.{TakesSlice};
-ghost use Rattle.cml_work.specs.Finds.{TakesOnce, FindsNothing, HaveOneState, TellsReport};
+ghost use Rattle.std.specs.Prelude.{◌≡◌, ◌≢◌, ◌↔◌, ◌<◌, [], IfOk, OnErr, IsTrue, true, false, length};
+ghost use Rattle.cml_hub.specs.Kept.{TakesSlice, NoneOut};
+ghost use Rattle.cml_work.specs.Finds.{RunsHere, RunsHereOrNot, TakesOnce, LooksOnce, FindsNothing, HaveOneState, TellsReport};
 ghost use Rattle.cml_work.specs.Marks.{BeginsWith, IsKeeper, WasShown, shown_of};
 ghost use Rattle.cml_work.specs.Works.{OpenedBy, GoesOnFrom, IsJob, opening_of};
 
 use crate::marks::{Board, Mark, learn, show};
 use crate::opening::Opening;
+use crate::waiters::Waiters;
 use cml_check::Prog;
 use cml_hub::{Chooser, GiveFault, Hub, Next};
 use cml_monitor::Report;
@@ -16,14 +17,20 @@ use std::alloc::{AllocError, Global};
 use std::marker::{Brand, Model, PhantomData};
 use std::sync::Wait;
 
+// How many steps of the budget turns in place use before the lock is let go.
+const BURST: u32 = 4096;
+
 // What lies under the lock: a hub that goes on from the opening, who chooses, whether the workers are to stop, whether they all have
-// ended, and the mark of the keeper, who knows a beginning of the hub's reports that has all that the watcher was shown.
+// ended, of how many reports the watcher was told, the workers that wait, and the mark of the keeper, who knows a beginning of the hub's
+// reports that has all that the watcher was shown.
 #[derive(Drop)]
 pub(crate) struct Locked<O: Opening, C: Chooser + Drop> {
     hub: Hub,
     chooser: C,
     is_stopped: bool,
     is_done: bool,
+    told: usize,
+    waiters: Waiters,
     keeper: Mark,
     of: PhantomData<O>,
 }
@@ -37,7 +44,7 @@ impl<O: Opening, C: Chooser + Drop> Model for Locked<O, C> {
 
     ghost coded = { locked_code };
 
-    ghost view = { λ l. record { hub = l.hub; is_stopped = l.is_stopped; is_done = l.is_done } };
+    ghost view = { λ l. record { hub = l.hub; is_stopped = l.is_stopped; is_done = l.is_done; told = l.told } };
 
     ghost invariant = { λ l. OpenedBy O.opening l.hub × IsKeeper O.board (known_of l.keeper) l.keeper × BeginsWith l.hub.reports (known_of l.keeper) };
 }
@@ -46,9 +53,9 @@ impl<O: Opening, C: Chooser + Drop> Model for Locked<O, C> {
 #[derive(Drop)]
 pub(crate) enum Found {
     // A slice to run, of a thread of this program.
-    Job(Prog, Machine),
-    // Nothing until a slice comes back; and whether a report was made.
-    Wait(bool),
+    Job((Prog, Machine)),
+    // Nothing until a slice comes back.
+    Wait,
     // Nothing more.
     Over,
 }
@@ -71,13 +78,12 @@ fn take_job<C: Chooser>(alloc: Global, hub: &mut Hub, chooser: &mut C) -> Result
     ensures goes_on { GoesOnFrom hub.old hub.new }
     ensures reports { BeginsWith hub.new.reports hub.old.reports }
 {
-    let seen = hub.reports().len();
     let program = hub.program().copy()?;
     match hub.take(alloc, chooser) {
-        Ok(Next::Job(machine)) => Ok(Found::Job(program, machine)),
+        Ok(Next::Job(machine)) => Ok(Found::Job((program, machine))),
         Ok(Next::Wait) => {
             drop(program);
-            Ok(Found::Wait(seen < hub.reports().len()))
+            Ok(Found::Wait)
         }
         Ok(Next::Ended) => {
             drop(program);
@@ -95,13 +101,15 @@ impl<O: Opening, C: Chooser + Drop> Locked<O, C> {
     pub(crate) fn new(hub: Hub, chooser: C, keeper: Mark) -> Locked<O, C>
         requires hub { opening_of hub ≡ O.opening }
         requires keeper { IsKeeper O.board [] keeper }
-        ensures { result ≡ record { hub = hub; is_stopped = false; is_done = false } }
+        ensures { result ≡ record { hub = hub; is_stopped = false; is_done = false; told = 0 } }
     {
         Locked {
             hub,
             chooser,
             is_stopped: false,
             is_done: false,
+            told: 0,
+            waiters: Waiters::new(),
             keeper,
             of: PhantomData,
         }
@@ -118,6 +126,8 @@ impl<O: Opening, C: Chooser + Drop> Locked<O, C> {
             chooser,
             is_stopped,
             is_done: _,
+            told: _,
+            waiters: _,
             keeper: _,
             of: _,
         } = self;
@@ -143,7 +153,93 @@ impl<O: Opening, C: Chooser + Drop> Locked<O, C> {
         ensures hub { TakesSlice self.old.hub ran result self.new.hub }
         ensures flags { HaveOneState self.old self.new }
     {
+        self.waiters.measure(ran.steps());
         self.hub.give_own(alloc, ran)
+    }
+
+    // Whether a worker that asks for a job is to wait, though a thread may be ready: slices are short, and one is out, so that another
+    // worker comes back for the next.
+    pub(crate) fn is_enough(&self) -> bool
+        ensures out { IsTrue result → NoneOut self.now.hub → ⊥ }
+        ensures stopped { self.now.is_stopped ≡ true → result ≡ false }
+    {
+        !self.is_stopped && !self.waiters.are_wanted() && self.hub.has_out()
+    }
+
+    // Whether slices are short, and none is out, so that turns can be run in place.
+    fn is_alone(&self) -> bool
+        ensures none_out { IsTrue result → NoneOut self.now.hub }
+        ensures stopped { self.now.is_stopped ≡ true → result ≡ false }
+    {
+        !self.is_stopped && !self.waiters.are_wanted() && !self.hub.has_out()
+    }
+
+    // Turns are run in place, until some thousand steps are used.
+    fn run_here(&mut self, alloc: Global) -> Result<(), AllocError>
+        requires { NoneOut self.old.hub }
+        ensures flags { HaveOneState self.old self.new }
+        ensures runs { RunsHere self.old.hub self.new.hub }
+    {
+        self.hub.run_on(alloc, &mut self.chooser, BURST)
+    }
+
+    // The same where slices are short and none is out; else nothing.
+    fn run_short(&mut self, alloc: Global) -> Result<(), AllocError>
+        ensures flags { HaveOneState self.old self.new }
+        ensures well { self.old.is_stopped ≡ true → OnErr result ⊥ }
+        ensures stopped { self.old.is_stopped ≡ true → self.new.hub ≡ self.old.hub }
+        ensures runs { RunsHereOrNot self.old.hub self.new.hub }
+    {
+        if !self.is_alone() {
+            return Ok(());
+        }
+        self.run_here(alloc)
+    }
+
+    // What a worker finds that asks for a job. Where slices are short it is to wait while one is out, although nobody has looked; and where
+    // none is out it runs turns in place first. Then it finds what `find` finds.
+    pub(crate) fn look(&mut self, alloc: Global) -> Result<Found, AllocError>
+        ensures job { IfOk result (λ found. IsJob O.opening.program found) }
+        ensures flags { HaveOneState self.old self.new }
+        ensures stopped { self.old.is_stopped ≡ true → FindsNothing self.old.hub result self.new.hub }
+        ensures looks { self.old.is_stopped ≡ false → LooksOnce self.old.hub result self.new.hub }
+    {
+        if self.is_enough() {
+            return Ok(Found::Wait);
+        }
+        self.run_short(alloc)?;
+        self.find(alloc)
+    }
+
+    // Whether a worker is to be woken: one waits, slices are long, and a thread is ready.
+    pub(crate) fn has_more(&self) -> bool
+        ensures { IsTrue result → self.now.hub.queue ≢ [] }
+    {
+        self.waiters.has_wanted() && self.hub.has_ready()
+    }
+
+    // A worker waits.
+    pub(crate) fn wait(&mut self)
+        ensures { self.new ≡ self.old }
+    {
+        self.waiters.wait();
+    }
+
+    // A worker that waited was woken.
+    pub(crate) fn wake(&mut self)
+        ensures { self.new ≡ self.old }
+    {
+        self.waiters.wake();
+    }
+
+    // Whether reports were made of which the watcher was not told. It is told of them now.
+    pub(crate) fn has_news(&mut self) -> bool
+        ensures news { IsTrue result ↔ (self.old.told < length self.old.hub.reports) }
+        ensures told { self.new ≡ record self.old { told = length self.old.hub.reports } }
+    {
+        let told = self.told;
+        self.told = self.hub.reports().len();
+        told < self.told
     }
 
     // The workers are to stop.

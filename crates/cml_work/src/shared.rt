@@ -5,7 +5,7 @@ ghost use Rattle.cml_hub.specs.Dones.{GoesOn};
 ghost use Rattle.cml_work.specs.Marks.{BeginsWith, IsKeeper, WasShown, shown_of};
 ghost use Rattle.cml_work.specs.Works.{OpenedBy, opening_of};
 
-use crate::desk::Desk;
+use crate::desk::{Desk, refused};
 use crate::locked::{Found, Locked, Told};
 use crate::marks::{Board, Mark};
 use crate::opening::Opening;
@@ -14,13 +14,18 @@ use cml_hub::{Chooser, GiveFault, Hub};
 use cml_monitor::Report;
 use cml_step::{Machine, Ran};
 use std::alloc::{AllocError, Global};
-use std::sync::{Condvar, Mutex, Wait};
+use std::sync::{Condvar, Mutex, MutexGuard, Wait};
 
 /// A hub under a lock, from which workers take slices and a watcher the reports. It goes on from the opening.
+///
+/// A worker waits only where, under the lock, a slice of another is out. Who holds that slice comes back for the next one, or stops all
+/// workers, or finds that all is over; the last two wake all. So whichever thread becomes ready, there is one who looks for it, and to wake
+/// a worker serves only to have more of them at work. (No contract promises that a worker is served.)
 #[derive(Drop)]
 pub struct Shared<O: Opening, C: Chooser + Drop> {
     locked: Mutex<Locked<O, C>>,
-    changed: Condvar,
+    workers: Condvar,
+    watcher: Condvar,
     board: Board,
     ghost ours: { board.table.shared.table_id ≡ O.board },
 }
@@ -34,7 +39,8 @@ impl<O: Opening, C: Chooser + Drop> Shared<O, C> {
     {
         Shared {
             locked: Mutex::new(Locked::new(hub, chooser, keeper)),
-            changed: Condvar::new(),
+            workers: Condvar::new(),
+            watcher: Condvar::new(),
             board,
         }
     }
@@ -45,7 +51,8 @@ impl<O: Opening, C: Chooser + Drop> Shared<O, C> {
     {
         let Shared {
             locked,
-            changed: _,
+            workers: _,
+            watcher: _,
             board: _,
         } = self;
         locked.into_inner().into_parts()
@@ -59,7 +66,8 @@ impl<O: Opening, C: Chooser + Drop> Shared<O, C> {
     {
         let Shared {
             locked,
-            changed: _,
+            workers: _,
+            watcher: _,
             board,
         } = self;
         let mut locked = locked.into_inner();
@@ -77,7 +85,7 @@ impl<O: Opening, C: Chooser + Drop> Shared<O, C> {
     // All workers have ended.
     pub(crate) fn close<R: Wait>(&self, rt: &R) {
         self.locked.lock(rt).close();
-        self.changed.notify_all();
+        self.watcher.notify_all();
     }
 
     // A copy of the report of this number, from 0, once it is made; `None` where the workers have ended without it. The watcher's mark comes
@@ -101,8 +109,57 @@ impl<O: Opening, C: Chooser + Drop> Shared<O, C> {
                     return (Ok(Some(report)), mark);
                 }
                 Ok(Told::Over) => return (Ok(None), mark),
-                Ok(Told::Wait) => locked = self.changed.wait(rt, locked),
+                Ok(Told::Wait) => locked = self.watcher.wait(rt, locked),
                 Err(error) => return (Err(error), mark),
+            }
+        }
+        unreachable!()
+    }
+
+    // A worker waits until it is woken.
+    fn rest<'a, R: Wait>(
+        &'a self,
+        rt: &R,
+        locked: MutexGuard<'a, Locked<O, C>>,
+    ) -> MutexGuard<'a, Locked<O, C>> {
+        let mut locked = locked;
+        locked.wait();
+        let mut locked = self.workers.wait(rt, locked);
+        locked.wake();
+        locked
+    }
+
+    // The next job, for a worker that has the lock; `None` where nothing is left to do.
+    fn find_job<'a, R: Wait>(
+        &'a self,
+        rt: &R,
+        alloc: Global,
+        locked: MutexGuard<'a, Locked<O, C>>,
+    ) -> Result<Option<(Prog, Machine)>, AllocError>
+        ensures { IfOk result (λ job. IfSome job (λ j. (j.0 ≡ O.opening.program) × GoesOn j.0 j.1)) }
+    {
+        let mut locked = locked;
+        for _ in rt.forever() {
+            let answer = locked.look(alloc);
+            if locked.has_news() {
+                self.watcher.notify_all();
+            }
+            match answer {
+                Ok(Found::Job(job)) => {
+                    let has_more = locked.has_more();
+                    drop(locked);
+                    if has_more {
+                        self.workers.notify_one();
+                    }
+                    return Ok(Some(job));
+                }
+                Ok(Found::Wait) => locked = self.rest(rt, locked),
+                Ok(Found::Over) => {
+                    drop(locked);
+                    self.workers.notify_all();
+                    return Ok(None);
+                }
+                Err(error) => return Err(error),
             }
         }
         unreachable!()
@@ -120,37 +177,40 @@ impl<O: Opening, C: Chooser + Drop> Desk for Shared<O, C> {
     ghost stopped = { λ shared. Unit {0} };
 
     fn next<R: Wait>(&self, rt: &R, alloc: Global) -> Result<Option<(Prog, Machine)>, AllocError> {
-        let mut locked = self.locked.lock(rt);
-        for _ in rt.forever() {
-            match locked.find(alloc)? {
-                Found::Job(program, machine) => {
-                    // what was made ready beside this job is for others
-                    self.changed.notify_all();
-                    return Ok(Some((program, machine)));
-                }
-                Found::Wait(has_report) => {
-                    if has_report {
-                        self.changed.notify_all();
-                    }
-                    locked = self.changed.wait(rt, locked);
-                }
-                Found::Over => {
-                    self.changed.notify_all();
-                    return Ok(None);
-                }
-            }
-        }
-        unreachable!()
+        let locked = self.locked.lock(rt);
+        self.find_job(rt, alloc, locked)
     }
 
+    // Who gives a slice back so may not come for the next: another worker is woken.
     fn give<R: Wait>(&self, rt: &R, alloc: Global, ran: Ran) -> Result<(), GiveFault> {
-        let answer = self.locked.lock(rt).give(alloc, ran);
-        self.changed.notify_all();
+        let mut locked = self.locked.lock(rt);
+        let answer = locked.give(alloc, ran);
+        if locked.has_news() {
+            self.watcher.notify_all();
+        }
+        drop(locked);
+        self.workers.notify_one();
         answer
+    }
+
+    #[tactic(auto, using(crate::proofs::Handing::at_error))]
+    fn next_after<R: Wait>(
+        &self,
+        rt: &R,
+        alloc: Global,
+        ran: Ran,
+    ) -> Result<Option<(Prog, Machine)>, AllocError> {
+        let mut locked = self.locked.lock(rt);
+        match locked.give(alloc, ran) {
+            Ok(()) => {}
+            Err(fault) => refused(fault)?,
+        }
+        self.find_job(rt, alloc, locked)
     }
 
     fn stop<R: Wait>(&self, rt: &R) {
         self.locked.lock(rt).stop();
-        self.changed.notify_all();
+        self.workers.notify_all();
+        self.watcher.notify_all();
     }
 }

@@ -1,61 +1,50 @@
 //! One worker.
 
-ghost use Rattle.std.specs.Prelude.{◌≡◌, IfOk, OnOk, OnErr};
+ghost use Rattle.std.specs.Prelude.{◌≡◌, IfOk, IfSome, IfNone, OnOk, OnErr};
 ghost use Rattle.cml_step.specs.Answers.{top_await, nothing};
 ghost use Rattle.cml_step.specs.Machines.{machine_term, Fits};
 ghost use Rattle.cml_work.specs.Desks.{WantedMemory};
 
 use crate::desk::{Desk, Gate};
 use cml_check::Prog;
-use cml_hub::GiveFault;
-use cml_step::{Machine, Ran, slice};
+use cml_step::{Machine, SliceFault, slice};
 use std::alloc::{AllocError, Global};
 use std::sync::Wait;
 
-// Runs a slice.
-#[tactic(none)]
-fn run(alloc: Global, program: &Prog, machine: Machine) -> Result<Ran, AllocError>
-    requires fits { Fits program.now machine }
-    requires awaits { top_await (machine_term program.now machine) ≡ nothing }
-    ensures program { IfOk result (λ ran. ran.program ≡ program.now) }
-    ensures start { IfOk result (λ ran. ran.start ≡ machine) }
-{
-    match slice(alloc, program, machine) {
-        Ok(ran) => Ok(ran),
-        Err(fault) => {
-            drop(fault);
-            Err(AllocError)
-        }
-    }
+// Why a slice could not be run, which is dropped.
+#[inline(never)]
+fn lost(fault: SliceFault) -> AllocError {
+    drop(fault);
+    AllocError
 }
 
-// A slice that is a stranger by now is dropped.
-fn settled(given: Result<(), GiveFault>) -> Result<(), AllocError> {
-    let is_refused = matches!(&given, Err(GiveFault::Memory(_)));
-    drop(given);
-    if is_refused { Err(AllocError) } else { Ok(()) }
-}
-
-// Runs one slice, of which the gate was told, and gives it back.
-#[tactic(none)]
+// Runs one slice, of which the gate was told, gives it back, and returns the next job.
+#[tactic(auto, using(crate::proofs::Handing::of_same))]
 fn work_once<R: Wait, D: Desk, G: Gate>(
     rt: &R,
     alloc: Global,
     desk: &D,
     gate: &G,
-    program: Prog,
-    machine: Machine,
-) -> Result<(), AllocError>
-    requires fits { Fits program machine }
-    requires awaits { top_await (machine_term program machine) ≡ nothing }
-    requires hands { D.hands desk.now program machine }
-    requires told { G.told gate.now machine.thread }
+    job: (Prog, Machine),
+) -> Result<Option<(Prog, Machine)>, AllocError>
+    requires fits { Fits job.0 job.1 }
+    requires awaits { top_await (machine_term job.0 job.1) ≡ nothing }
+    requires hands { D.hands desk.now job.0 job.1 }
+    requires told { G.told gate.now job.1.thread }
+    ensures fits { IfOk result (λ next. IfSome next (λ j. Fits j.0 j.1)) }
+    ensures awaits { IfOk result (λ next. IfSome next (λ j. top_await (machine_term j.0 j.1) ≡ nothing)) }
+    ensures hands { IfOk result (λ next. IfSome next (λ j. D.hands desk.now j.0 j.1)) }
+    ensures over { IfOk result (λ next. IfNone next (D.over desk.now)) }
+    ensures lacks { OnErr result (WantedMemory (D.lacks desk.now) (D.hands desk.now)) }
 {
     let _ = gate;
-    let answer = run(alloc, &program, machine);
+    let (program, machine) = job;
+    let answer = slice(alloc, &program, machine);
     drop(program);
-    let ran = answer?;
-    settled(desk.give(rt, alloc, ran))
+    match answer {
+        Ok(ran) => desk.next_after(rt, alloc, ran),
+        Err(fault) => Err(lost(fault)),
+    }
 }
 
 // Runs slices, one after another, until none is left.
@@ -68,12 +57,16 @@ fn work_on<R: Wait, D: Desk, G: Gate>(
     ensures ok { OnOk result (D.over desk.now) }
     ensures err { OnErr result (WantedMemory (D.lacks desk.now) (D.hands desk.now)) }
 {
+    let Some(mut job) = desk.next(rt, alloc)? else {
+        return Ok(());
+    };
     for _ in rt.forever() {
-        let Some((program, machine)) = desk.next(rt, alloc)? else {
-            return Ok(());
-        };
-        gate.enter(machine.thread());
-        work_once(rt, alloc, desk, gate, program, machine)?;
+        gate.enter(job.1.thread());
+        match work_once(rt, alloc, desk, gate, job) {
+            Ok(Some(next)) => job = next,
+            Ok(None) => return Ok(()),
+            Err(error) => return Err(error),
+        }
     }
     unreachable!()
 }

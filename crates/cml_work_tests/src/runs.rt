@@ -22,6 +22,10 @@ use std::time::Duration;
 const SPIN: &str =
     "(fn spin () (while true (yield))) (fn main () (spawn spin) (while true (yield)))";
 
+// Two threads that yield sixty times, and then compute for ever.
+const LONG_AFTER_SHORT: &str =
+    "(fn work () (let i 0) (while (< i 60) (yield) (set i (+ i 1))) (while true (set i (- i 1)))) (fn main () (spawn work) (call work))";
+
 // An M-variable is a lock around another, to which four threads add.
 const TOTAL: &str =
     "(fn add (lock total amount) (sync (mtake lock)) (let old (sync (mget total))) (yield) (sync (mswap total (+ old amount))) (mput lock unit)) (fn main () (let lock (mvar unit)) (let total (mvar 0)) (let a (spawn add lock total 1)) (let b (spawn add lock total 20)) (let c (spawn add lock total 300)) (let d (spawn add lock total 4000)) (sync (join a)) (sync (join b)) (sync (join c)) (sync (join d)) (let sum (sync (mget total))) (print sum))";
@@ -56,10 +60,12 @@ impl Gate for Open {
     fn enter(&self, _thread: Tid) {}
 }
 
-// The first slice of thread 1 and the second of thread 0 each wait until the other has come, for ten seconds at most.
+// A slice of thread 0 and one of thread 1 each wait until the other has come, for ten seconds at most.
 #[derive(Drop)]
 struct Meeting {
     rt: HostRuntime,
+    // after how many slices of each
+    after: [u64; 2],
     entered: [AtomicU64; 2],
     met: AtomicU64,
 }
@@ -70,10 +76,10 @@ impl Gate for Meeting {
     fn enter(&self, thread: Tid) {
         let own = if thread.0 == 0 { 0 } else { 1 };
         let before = self.entered[own].fetch_add(1, Ordering::SeqCst);
-        if before != 1 - own as u64 {
+        if before != self.after[own] {
             return;
         }
-        let wanted = 1 + own as u64;
+        let wanted = self.after[1 - own].saturating_add(1);
         for _ in 0..10_000 {
             if self.entered[1 - own].load(Ordering::SeqCst) >= wanted {
                 self.met.fetch_add(1, Ordering::SeqCst);
@@ -81,6 +87,15 @@ impl Gate for Meeting {
             }
             thread::sleep(&self.rt, Duration::from_millis(1));
         }
+    }
+}
+
+fn meeting(rt: HostRuntime, after: [u64; 2]) -> Meeting {
+    Meeting {
+        rt,
+        after,
+        entered: [AtomicU64::new(0), AtomicU64::new(0)],
+        met: AtomicU64::new(0),
     }
 }
 
@@ -286,12 +301,9 @@ fn turns_of(schedule: &[Item], thread: Tid) -> u64 {
 
 #[test]
 fn two_workers_are_outside_the_lock_at_once(rt: HostRuntime) {
-    let gate = Meeting {
-        rt,
-        entered: [AtomicU64::new(0), AtomicU64::new(0)],
-        met: AtomicU64::new(0),
-    };
-    let hub = begun(&rt, SPIN, 100, None);
+    // the second slice of thread 0, which has started thread 1, and the first of that; too few in all for turns in place
+    let gate = meeting(rt, [1, 0]);
+    let hub = begun(&rt, SPIN, 60, None);
     let answer = run_workers(&rt, rt.alloc(), hub, 2, First, &gate);
     let hub = is_over(&rt, answer, End::Budget);
     assert!(rt; gate.met.load(Ordering::SeqCst) == 2);
@@ -303,6 +315,16 @@ fn two_workers_are_outside_the_lock_at_once(rt: HostRuntime) {
         );
     }
     drop(hub);
+}
+
+#[test]
+fn two_workers_are_outside_the_lock_at_once_after_short_slices(rt: HostRuntime) {
+    // some fifty short slices are handed out, and the others run in place
+    let gate = meeting(rt, [40, 40]);
+    let hub = begun(&rt, LONG_AFTER_SHORT, 200_000, None);
+    let answer = run_workers(&rt, rt.alloc(), hub, 2, First, &gate);
+    drop(is_over(&rt, answer, End::Budget));
+    assert!(rt; gate.met.load(Ordering::SeqCst) == 2);
 }
 
 // The lines of the reports.
