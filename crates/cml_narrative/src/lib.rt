@@ -1,0 +1,11 @@
+//! What happened in a run, item by item, in words.
+#![tactic(auto)]
+
+mod asked;
+mod commit;
+mod line;
+mod narrator;
+mod tell;
+mod why;
+
+pub use narrator::Narrator;
