@@ -43,8 +43,11 @@ pub(crate) fn push_named(
     push_thread(alloc, out, forms, who)
 }
 
-// What a thread that waits takes at a leaf of its group, if that is there.
-fn taken_at(
+/// What a thread that waits takes at a leaf of its group, if that is there: the base event, and the nacks that fire.
+///
+/// # Errors
+/// Out of memory.
+pub fn taken_at(
     alloc: Global,
     book: &Book<OfferIndex>,
     thread: Tid,
@@ -346,6 +349,21 @@ fn push_more_nacks(
     Ok(())
 }
 
+// Appends words, and these nacks.
+fn push_nacks(
+    alloc: Global,
+    out: &mut Vec<u8>,
+    words: &[u8],
+    first: NackId,
+    more: &[NackId],
+) -> Result<(), AllocError>
+    ensures { OnOk result (out.new.items ≡ out.old.items
+        ++ (words.now ++ (decimal first.0 ++ flat_map spec.and_number (numbers more.now)))) }
+{
+    push_numbered(alloc, out, words, u64::from(first.0))?;
+    push_more_nacks(alloc, out, more)
+}
+
 // Appends the nacks that fire.
 fn push_fired(alloc: Global, out: &mut Vec<u8>, nacks: &[NackId]) -> Result<(), AllocError>
     ensures { OnOk result (out.new.items ≡ out.old.items ++ spec.fired_words (numbers nacks.now)) }
@@ -353,8 +371,7 @@ fn push_fired(alloc: Global, out: &mut Vec<u8>, nacks: &[NackId]) -> Result<(), 
     match nacks {
         [] => out.extend_from_slice(b"; nacks fired: none"),
         [first, more @ ..] => {
-            push_numbered(alloc, out, b"; nacks fired: ", u64::from(first.0))?;
-            push_more_nacks(alloc, out, more)
+            push_nacks(alloc, out, b"; nacks fired: ", *first, more)
         }
     }
 }

@@ -3,7 +3,6 @@
 ghost use Rattle.std.specs.Prelude.{◌≡◌, ◌++◌, IfOk, OnOk, option_map, codes};
 ghost use Rattle.std.specs.Option.{option_or};
 ghost use Rattle.std.specs.String.{string_bytes};
-ghost use Rattle.std.specs.Fmt.{decimal};
 ghost use Rattle.std.specs.Option.{option_copied};
 ghost use Rattle.cml_scan.specs.Numbers.{numbers_of};
 ghost use Rattle.cml_hub.specs.Runs.{next_alarm};
@@ -102,26 +101,9 @@ fn leaf_why(
         return Ok(None);
     }
     let mut out = Vec::new(alloc);
-    push_counts(alloc, &mut out, thread.0, b" waits for ", count, b" events, and has none of number ", leaf)?;
+    push_numbered(alloc, &mut out, b"thread ", u64::from(thread.0))?;
+    push_numbered(alloc, &mut out, b" waits for no event of number ", u64::from(leaf))?;
     Ok(Some(out))
-}
-
-// Appends a thread with words and two numbers.
-fn push_counts(
-    alloc: Global,
-    out: &mut Vec<u8>,
-    thread: u32,
-    words: &[u8],
-    count: usize,
-    more: &[u8],
-    number: u32,
-) -> Result<(), AllocError>
-    ensures { OnOk result (out.new.items ≡ out.old.items
-        ++ (spec.thread_number thread ++ (words.now ++ (decimal count ++ (more.now ++ decimal number))))) }
-{
-    push_numbered(alloc, out, b"thread ", u64::from(thread))?;
-    push_numbered(alloc, out, words, count as u64)?;
-    push_numbered(alloc, out, more, u64::from(number))
 }
 
 // Why a thread that does not run is no party at a leaf, if that is so.
@@ -232,6 +214,21 @@ fn takes_two(base: Option<&Base>) -> bool
     }
 }
 
+// Appends an event, and what is so of it.
+fn push_base_so(
+    alloc: Global,
+    out: &mut Vec<u8>,
+    forms: &[Sexpr],
+    base: Option<&Base>,
+    so: &[u8],
+) -> Result<(), AllocError>
+    ensures { OnOk result (out.new.items ≡ out.old.items
+        ++ (spec.event_at forms.now (option_copied base.entry) ++ so.now)) }
+{
+    push_base(alloc, out, forms, base)?;
+    out.extend_from_slice(so)
+}
+
 // Appends why one leaf is not taken alone.
 fn push_alone_why(
     alloc: Global,
@@ -242,11 +239,10 @@ fn push_alone_why(
     ensures { OnOk result (out.new.items ≡ out.old.items
         ++ spec.single_why forms.now (option_copied base.entry)) }
 {
-    push_base(alloc, out, forms, base)?;
     if takes_two(base) {
-        out.extend_from_slice(b" can't happen alone")
+        push_base_so(alloc, out, forms, base, b" can't happen alone")
     } else {
-        out.extend_from_slice(b" can't happen now")
+        push_base_so(alloc, out, forms, base, b" can't happen now")
     }
 }
 
@@ -287,6 +283,23 @@ fn parties_why(
     }
 }
 
+// Appends two events, with these words between them.
+fn push_bases(
+    alloc: Global,
+    out: &mut Vec<u8>,
+    forms: &[Sexpr],
+    ours: Option<&Base>,
+    between: &[u8],
+    theirs: Option<&Base>,
+) -> Result<(), AllocError>
+    ensures { OnOk result (out.new.items ≡ out.old.items
+        ++ (spec.event_at forms.now (option_copied ours.entry)
+        ++ (between.now ++ spec.event_at forms.now (option_copied theirs.entry)))) }
+{
+    push_base_so(alloc, out, forms, ours, between)?;
+    push_base(alloc, out, forms, theirs)
+}
+
 // Appends that two leaves do not meet.
 fn push_apart(
     alloc: Global,
@@ -303,9 +316,7 @@ fn push_apart(
 {
     let ours = base_of_leaf(alloc, book, head.0, head.1)?;
     let theirs = base_of_leaf(alloc, book, other.0, other.1)?;
-    push_base(alloc, out, forms, ours.as_ref())?;
-    out.extend_from_slice(b" does not meet ")?;
-    push_base(alloc, out, forms, theirs.as_ref())
+    push_bases(alloc, out, forms, ours.as_ref(), b" does not meet ", theirs.as_ref())
 }
 
 // Appends why two leaves of threads that wait do not meet.
@@ -394,6 +405,7 @@ fn push_swap_why(
 }
 
 // The first thread that runs, if one does.
+#[tactic(auto, using(crate::proofs::WhyLemmas::runs_first, crate::proofs::WhyLemmas::none_first))]
 fn first_running(book: &Book<OfferIndex>) -> Option<Tid>
     ensures { option_map (λ t. t.0) result ≡ spec.first_running 0 book.now.threads }
 {
@@ -406,6 +418,7 @@ fn first_running(book: &Book<OfferIndex>) -> Option<Tid>
 }
 
 // Appends for which tick a thread waits next, if one does.
+#[tactic(auto, using(cml_hub::proofs::Alarms::told_alarm))]
 fn push_alarm_why(
     alloc: Global,
     out: &mut Vec<u8>,
