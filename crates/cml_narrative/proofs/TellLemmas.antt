@@ -38,22 +38,25 @@ said_is old new t n spot asked words faults more printed failed leads adds was a
     let counted = faults_on p old.items (Turn t) (run_of old) leads in
     let on : fault_count (text_of new.program) new.items ≡ fault_count p (old.items ++ Turn t ∷ []) = rw (adds.program, adds.items) refl in
     words_are (turn_head new n t.0 spot) words asked (awaited_of new n t.0) d t.0 faults more printed old.output new.output failed is
-        (are ∙ on ∙ counted ∙ ap (λ k. k + fault_of d) (sym was)) len (printed_on p (run_of old) (run_of new) t adds.run) did fault
+    (are ∙ on ∙ counted ∙ ap (λ k. k + fault_of d) (sym was)) len (printed_on p (run_of old) (run_of new) t adds.run) did fault
 
 -- a turn was told
 turn_of : (old new : PlainCourse) (t : Tid) (n : Narrator) (spot : Option Spot) (asked words before after : List ℕ) →
     Plans (tale_of n).forms old t.0 spot asked → Knows new n →
     words ≡ turn_head new n t.0 spot (turn_words asked (awaited_of new n t.0) (deed (text_of old.program) (run_of old) (Turn t))) →
     after ≡ before ++ told_line words (newly old.world new.world) → ToldSo (tale_of n) old (Turn t) true new before after
-turn_of old new t n spot asked words before after plans knows said told =
-    (told_line words (newly old.world new.world), told, record {
-      spot = spot;
-      asked = asked;
-      plans = plans;
-      taker = taker_in n.takers;
-      takers = knows;
-      line = ap (λ w. told_line w (newly old.world new.world)) said;
-    })
+turn_of old new t n spot asked words before after plans knows said told = (
+  told_line words (newly old.world new.world),
+  told,
+  record {
+    spot = spot;
+    asked = asked;
+    plans = plans;
+    taker = taker_in n.takers;
+    takers = knows;
+    line = ap (λ w. told_line w (newly old.world new.world)) said;
+  },
+)
 
 pub turn_told : (s : Tale) (old new : PlainCourse) (t : Tid) (n : Narrator) (spot : Option Spot) (asked words before after : List ℕ) (faults more printed : ℕ) (failed : Bool) →
     tale_of n ≡ s → stands (text_of old.program) old.items ≡ Some (run_of old) → Adds old (Turn t) new → Plans s.forms old t.0 spot asked → Knows new n →

@@ -107,20 +107,22 @@ fn push_gets(
 fn push_swapped(
     alloc: Global,
     out: &mut Vec<u8>,
-    words: (&[u8], &[u8], &[u8]),
+    verb: &[u8],
     own: &Value,
+    between: &[u8],
     value: Option<&Value>,
+    object: &[u8],
     number: u32,
 ) -> Result<(), AllocError>
     ensures { let held = unwrap_or (option_copied value.entry) unit in
         OnOk result (out.new.items ≡ out.old.items
-        ++ (words.entry.0.now ++ (value_words own.now ++ (words.entry.1.now ++ (value_words held ++ (words.entry.2.now ++ decimal number)))))) }
+        ++ (verb.now ++ (value_words own.now ++ (between.now ++ (value_words held ++ (object.now ++ decimal number)))))) }
 {
-    out.extend_from_slice(words.0)?;
+    out.extend_from_slice(verb)?;
     push_value(alloc, out, own)?;
-    out.extend_from_slice(words.1)?;
+    out.extend_from_slice(between)?;
     push_held(alloc, out, value)?;
-    push_numbered(alloc, out, words.2, u64::from(number))
+    push_numbered(alloc, out, object, u64::from(number))
 }
 
 // Appends a value between words.
@@ -184,8 +186,16 @@ fn push_alone(
         }
         BaseKind::MSwap(m, v) => {
             let held = book.value(Light::MVar(*m));
-            let words = (b" swaps ", b" for ", b" in M-variable ");
-            push_swapped(alloc, out, (words.0, words.1, words.2), v, held, m.0)
+            push_swapped(
+                alloc,
+                out,
+                b" swaps ",
+                v,
+                b" for ",
+                held,
+                b" in M-variable ",
+                m.0,
+            )
         }
         BaseKind::MailRecv(b) => {
             let held = book.value(Light::Mbox(*b));
@@ -233,35 +243,38 @@ fn push_handed(alloc: Global, out: &mut Vec<u8>, base: &Base) -> Result<(), Allo
 fn push_sent(
     alloc: Global,
     out: &mut Vec<u8>,
-    words: (&[u8], &[u8], &[u8]),
+    verb: &[u8],
     value: &Value,
+    object: &[u8],
     number: u32,
+    to: &[u8],
     other: &[u8],
 ) -> Result<(), AllocError>
     ensures { OnOk result (out.new.items ≡ out.old.items
-        ++ (words.entry.0.now ++ (value_words value.now ++ (words.entry.1.now ++ (decimal number ++ (words.entry.2.now ++ other.now)))))) }
+        ++ (verb.now ++ (value_words value.now ++ (object.now ++ (decimal number ++ (to.now ++ other.now)))))) }
 {
-    out.extend_from_slice(words.0)?;
+    out.extend_from_slice(verb)?;
     push_value(alloc, out, value)?;
-    push_numbered(alloc, out, words.1, u64::from(number))?;
-    push_two(out, words.2, other)
+    push_numbered(alloc, out, object, u64::from(number))?;
+    push_two(out, to, other)
 }
 
 // Appends that two values go over a swap channel.
 fn push_exchanged(
     alloc: Global,
     out: &mut Vec<u8>,
-    words: (&[u8], &[u8]),
+    verb: &[u8],
     value: &Value,
+    between: &[u8],
     theirs: &Base,
     behind: &[u8],
 ) -> Result<(), AllocError>
     ensures { OnOk result (out.new.items ≡ out.old.items
-        ++ (words.entry.0.now ++ (value_words value.now ++ (words.entry.1.now ++ (value_words (handed theirs.now) ++ behind.now))))) }
+        ++ (verb.now ++ (value_words value.now ++ (between.now ++ (value_words (handed theirs.now) ++ behind.now))))) }
 {
-    out.extend_from_slice(words.0)?;
+    out.extend_from_slice(verb)?;
     push_value(alloc, out, value)?;
-    out.extend_from_slice(words.1)?;
+    out.extend_from_slice(between)?;
     push_handed(alloc, out, theirs)?;
     out.extend_from_slice(behind)
 }
@@ -272,7 +285,14 @@ fn swap_words(alloc: Global, number: u32, other: &[u8]) -> Result<Vec<u8>, Alloc
         ≡ codes " on swap channel " ++ (decimal number ++ (codes " with " ++ other.now))) }
 {
     let mut words = Vec::new(alloc);
-    push_parts(alloc, &mut words, b" on swap channel ", number, b" with ", other)?;
+    push_parts(
+        alloc,
+        &mut words,
+        b" on swap channel ",
+        number,
+        b" with ",
+        other,
+    )?;
     Ok(words)
 }
 
@@ -305,12 +325,28 @@ fn push_with(
 {
     match base.kind() {
         BaseKind::Send(c, v) => {
-            let words = (b" sends ", b" on channel ", b" to ");
-            push_sent(alloc, out, (words.0, words.1, words.2), v, c.0, other)
+            push_sent(
+                alloc,
+                out,
+                b" sends ",
+                v,
+                b" on channel ",
+                c.0,
+                b" to ",
+                other,
+            )
         }
         BaseKind::Swap(s, v) => {
             let behind = swap_words(alloc, s.0, other)?;
-            push_exchanged(alloc, out, (b" swaps ", b" for "), v, theirs, behind.as_slice())
+            push_exchanged(
+                alloc,
+                out,
+                b" swaps ",
+                v,
+                b" for ",
+                theirs,
+                behind.as_slice(),
+            )
         }
         BaseKind::Always(_)
         | BaseKind::Recv(_)
@@ -335,11 +371,7 @@ fn push_meets(out: &mut Vec<u8>, other: &[u8]) -> Result<(), AllocError>
 }
 
 // Appends these nacks, with a comma before each.
-fn push_more_nacks(
-    alloc: Global,
-    out: &mut Vec<u8>,
-    nacks: &[NackId],
-) -> Result<(), AllocError>
+fn push_more_nacks(alloc: Global, out: &mut Vec<u8>, nacks: &[NackId]) -> Result<(), AllocError>
     ensures { OnOk result (out.new.items ≡ out.old.items
         ++ flat_map spec.and_number (numbers nacks.now)) }
 {
@@ -370,9 +402,7 @@ fn push_fired(alloc: Global, out: &mut Vec<u8>, nacks: &[NackId]) -> Result<(), 
 {
     match nacks {
         [] => out.extend_from_slice(b"; nacks fired: none"),
-        [first, more @ ..] => {
-            push_nacks(alloc, out, b"; nacks fired: ", *first, more)
-        }
+        [first, more @ ..] => { push_nacks(alloc, out, b"; nacks fired: ", *first, more) }
     }
 }
 
@@ -504,6 +534,13 @@ pub(crate) fn push_commit(
             head_leaf,
             other,
             other_leaf,
-        } => push_pair(alloc, out, forms, hub, (head, head_leaf), (other, other_leaf)),
+        } => push_pair(
+            alloc,
+            out,
+            forms,
+            hub,
+            (head, head_leaf),
+            (other, other_leaf),
+        ),
     }
 }

@@ -75,7 +75,6 @@ fn slice_spot(
 }
 
 // What a thread that runs asks at the end of its next turn.
-#[tactic(auto, using(crate::proofs::TaleLemmas::planned_is))]
 fn plan_of(
     alloc: Global,
     forms: &[Sexpr],
@@ -100,7 +99,6 @@ fn plan_of(
 ///
 /// # Errors
 /// Out of memory.
-#[tactic(auto, using(cml_hub::proofs::Ours::running_is))]
 pub(crate) fn next_plan(
     alloc: Global,
     forms: &[Sexpr],

@@ -75,12 +75,7 @@ impl Narrator<'_> {
     /// # Errors
     /// Out of memory.
     #[tactic(auto, using(crate::proofs::TaleLemmas::followed_knows))]
-    pub fn follow(
-        &mut self,
-        alloc: Global,
-        hub: &mut Hub,
-        item: Item,
-    ) -> Result<bool, AllocError>
+    pub fn follow(&mut self, alloc: Global, hub: &mut Hub, item: Item) -> Result<bool, AllocError>
         requires { NoneOut hub.old }
         ensures follows { IfOk result (λ came. IsFollowed hub.old item came hub.new) }
         ensures none_out { NoneOut hub.new }
@@ -317,6 +312,16 @@ impl Narrator<'_> {
     }
 }
 
+// With how many bytes the line of a fault of a thread begins, before the fault's name.
+fn start_len(alloc: Global, thread: Tid) -> Result<usize, AllocError>
+    ensures { IfOk result (λ len. len
+        ≡ length (codes "thread " ++ (decimal thread.0 ++ codes " fault "))) }
+{
+    let number = thread.0;
+    let text = format!(in alloc; "thread {number} fault ")?;
+    Ok(text.len())
+}
+
 // Appends that the thread of a turn ended at a fault, by the line that was printed behind so many bytes.
 fn push_fault(
     alloc: Global,
@@ -329,9 +334,8 @@ fn push_fault(
         → hub.now.course.output ≡ before ++ output_of thread.0 (fails name)
         → OnOk result (out.new.items ≡ out.old.items ++ (codes "ends at a fault: " ++ name)) }
 {
-    let number = thread.0;
-    let text = format!(in alloc; "thread {number} fault ")?;
-    let name = fault_name(hub.out().as_bytes(), printed, text.len());
+    let start = start_len(alloc, thread)?;
+    let name = fault_name(hub.out().as_bytes(), printed, start);
     push_two(out, b"ends at a fault: ", name)?;
     Ok(())
 }

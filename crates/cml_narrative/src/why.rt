@@ -1,6 +1,6 @@
 //! Why an item can't happen, in words.
 
-ghost use Rattle.std.specs.Prelude.{◌≡◌, ◌++◌, IfOk, OnOk, option_map, codes};
+ghost use Rattle.std.specs.Prelude.{◌≡◌, ◌++◌, IfOk, OnOk, option_map};
 ghost use Rattle.std.specs.Option.{option_or};
 ghost use Rattle.std.specs.String.{string_bytes};
 ghost use Rattle.std.specs.Option.{option_copied};
@@ -102,7 +102,12 @@ fn leaf_why(
     }
     let mut out = Vec::new(alloc);
     push_numbered(alloc, &mut out, b"thread ", u64::from(thread.0))?;
-    push_numbered(alloc, &mut out, b" waits for no event of number ", u64::from(leaf))?;
+    push_numbered(
+        alloc,
+        &mut out,
+        b" waits for no event of number ",
+        u64::from(leaf),
+    )?;
     Ok(Some(out))
 }
 
@@ -123,7 +128,13 @@ fn waiting_why(
         }
         None => {
             let mut out = Vec::new(alloc);
-            push_gone(alloc, &mut out, book, thread, b"none of its events can be taken")?;
+            push_gone(
+                alloc,
+                &mut out,
+                book,
+                thread,
+                b"none of its events can be taken",
+            )?;
             Ok(Some(out))
         }
     }
@@ -142,7 +153,12 @@ fn party_why(
         return waiting_why(alloc, book, thread, leaf);
     }
     let mut out = Vec::new(alloc);
-    push_thread_so(alloc, &mut out, thread, b" runs, so none of its events can be taken")?;
+    push_thread_so(
+        alloc,
+        &mut out,
+        thread,
+        b" runs, so none of its events can be taken",
+    )?;
     Ok(Some(out))
 }
 
@@ -283,40 +299,44 @@ fn parties_why(
     }
 }
 
-// Appends two events, with these words between them.
-fn push_bases(
+// Appends the event of a leaf of a thread.
+fn push_leaf(
     alloc: Global,
     out: &mut Vec<u8>,
     forms: &[Sexpr],
-    ours: Option<&Base>,
-    between: &[u8],
-    theirs: Option<&Base>,
+    book: &Book<OfferIndex>,
+    leaf: (Tid, u32),
 ) -> Result<(), AllocError>
     ensures { OnOk result (out.new.items ≡ out.old.items
-        ++ (spec.event_at forms.now (option_copied ours.entry)
-        ++ (between.now ++ spec.event_at forms.now (option_copied theirs.entry)))) }
+        ++ spec.event_at forms.now (spec.base_of_leaf book.now leaf.0.0 leaf.1)) }
 {
-    push_base_so(alloc, out, forms, ours, between)?;
-    push_base(alloc, out, forms, theirs)
+    match book.waiting(leaf.0) {
+        Some(group) => {
+            let bases = leaf_bases(alloc, group)?;
+            push_base(alloc, out, forms, bases.get(leaf.1 as usize))
+        }
+        None => push_base(alloc, out, forms, None),
+    }
 }
 
-// Appends that two leaves do not meet.
-fn push_apart(
+// Appends the events of two leaves, with these words between them.
+fn push_leaves(
     alloc: Global,
     out: &mut Vec<u8>,
     forms: &[Sexpr],
     book: &Book<OfferIndex>,
     head: (Tid, u32),
+    between: &[u8],
     other: (Tid, u32),
 ) -> Result<(), AllocError>
     ensures { OnOk result (out.new.items ≡ out.old.items
         ++ (spec.event_at forms.now (spec.base_of_leaf book.now head.0.0 head.1)
-        ++ (codes " does not meet "
+        ++ (between.now
         ++ spec.event_at forms.now (spec.base_of_leaf book.now other.0.0 other.1)))) }
 {
-    let ours = base_of_leaf(alloc, book, head.0, head.1)?;
-    let theirs = base_of_leaf(alloc, book, other.0, other.1)?;
-    push_bases(alloc, out, forms, ours.as_ref(), b" does not meet ", theirs.as_ref())
+    push_leaf(alloc, out, forms, book, head)?;
+    out.extend_from_slice(between)?;
+    push_leaf(alloc, out, forms, book, other)
 }
 
 // Appends why two leaves of threads that wait do not meet.
@@ -342,7 +362,7 @@ fn push_no_pair(
     } else if head.0.0 == other.0.0 {
         push_thread_so(alloc, out, head.0, b" can't meet itself")
     } else {
-        push_apart(alloc, out, forms, book, head, other)
+        push_leaves(alloc, out, forms, book, head, b" does not meet ", other)
     }
 }
 
@@ -382,7 +402,14 @@ fn push_row_why(
             head_leaf,
             other,
             other_leaf,
-        } => push_pair_why(alloc, out, forms, book, (head, head_leaf), (other, other_leaf)),
+        } => push_pair_why(
+            alloc,
+            out,
+            forms,
+            book,
+            (head, head_leaf),
+            (other, other_leaf),
+        ),
     }
 }
 
@@ -418,21 +445,27 @@ fn first_running(book: &Book<OfferIndex>) -> Option<Tid>
 }
 
 // Appends for which tick a thread waits next, if one does.
-#[tactic(auto, using(cml_hub::proofs::Alarms::told_alarm))]
-fn push_alarm_why(
-    alloc: Global,
-    out: &mut Vec<u8>,
-    book: &Book<OfferIndex>,
-) -> Result<(), AllocError>
-    ensures { OnOk result (out.new.items ≡ out.old.items
-        ++ spec.alarm_why (next_alarm book.now)) }
+fn push_next_tick(alloc: Global, out: &mut Vec<u8>, next: Option<u64>) -> Result<(), AllocError>
+    ensures { OnOk result (out.new.items ≡ out.old.items ++ spec.alarm_why next) }
 {
-    match book.next_alarm() {
+    match next {
         Some(next) => {
-            push_numbered(alloc, out, b"the next tick for which a thread waits is ", next)
+            push_numbered(
+                alloc,
+                out,
+                b"the next tick for which a thread waits is ",
+                next,
+            )
         }
         None => out.extend_from_slice(b"no thread waits for a tick to come"),
     }
+}
+
+// The next tick for which a thread waits.
+fn next_tick(book: &Book<OfferIndex>) -> Option<u64>
+    ensures { result ≡ next_alarm book.now }
+{
+    book.next_alarm()
 }
 
 // Appends why the time does not move to a tick.
@@ -448,7 +481,7 @@ fn push_still_why(
         Some(thread) => push_thread_so(alloc, out, thread, b" runs, so the time stands still"),
         None => {
             if book.table().head_count() == 0 {
-                push_alarm_why(alloc, out, book)
+                push_next_tick(alloc, out, next_tick(book))
             } else {
                 out.extend_from_slice(b"something else can happen, so the time stands still")
             }
