@@ -454,6 +454,41 @@ fn fired_at(taken: &Option<Chosen>) -> &[NackId]
     }
 }
 
+// Appends a commit, of which this is said, and at which these nacks fire.
+fn push_committed(
+    alloc: Global,
+    out: &mut Vec<u8>,
+    said: &[u8],
+    fired: &[NackId],
+) -> Result<(), AllocError>
+    ensures { OnOk result (out.new.items ≡ out.old.items
+        ++ (codes "commit: " ++ (said.now ++ spec.fired_words (numbers fired.now)))) }
+{
+    push_two(out, b"commit: ", said)?;
+    push_fired(alloc, out, fired)
+}
+
+// Appends the commit of one leaf, at which this is taken.
+fn push_single_taken(
+    alloc: Global,
+    out: &mut Vec<u8>,
+    forms: &[Sexpr],
+    hub: &Hub,
+    thread: Tid,
+    taken: &Option<Chosen>,
+) -> Result<(), AllocError>
+    ensures { let began = origins (text_of hub.now.course.program) hub.now.course.items in
+        let took = option_map plain_taken taken.now in
+        OnOk result (out.new.items ≡ out.old.items ++ (codes "commit: "
+        ++ ((spec.named forms.now began thread.0 ++ spec.alone_of forms.now began hub.now.course.world took)
+        ++ spec.fired_words (spec.fired_at took)))) }
+{
+    let mut said = Vec::new(alloc);
+    push_named(alloc, &mut said, forms, hub, thread)?;
+    push_taken(alloc, &mut said, forms, hub, taken)?;
+    push_committed(alloc, out, said.as_slice(), fired_at(taken))
+}
+
 // Appends the commit of one leaf.
 fn push_single(
     alloc: Global,
@@ -468,10 +503,7 @@ fn push_single(
         ++ spec.commit_words forms.now began hub.now.course.world (Meet.Single thread leaf)) }
 {
     let taken = taken_at(alloc, hub.book(), thread, leaf)?;
-    out.extend_from_slice(b"commit: ")?;
-    push_named(alloc, out, forms, hub, thread)?;
-    push_taken(alloc, out, forms, hub, &taken)?;
-    push_fired(alloc, out, fired_at(&taken))
+    push_single_taken(alloc, out, forms, hub, thread, &taken)
 }
 
 // The nacks that two parties fire.
@@ -486,6 +518,32 @@ fn fired_by_both(
     let mut all = Vec::from_slice(alloc, fired_at(ours))?;
     all.extend_from_slice(fired_at(theirs))?;
     Ok(all)
+}
+
+// Appends the commit of two leaves, at which this is taken.
+fn push_pair_taken(
+    alloc: Global,
+    out: &mut Vec<u8>,
+    forms: &[Sexpr],
+    hub: &Hub,
+    threads: (Tid, Tid),
+    ours: &Option<Chosen>,
+    theirs: &Option<Chosen>,
+) -> Result<(), AllocError>
+    ensures { let began = origins (text_of hub.now.course.program) hub.now.course.items in
+        let x = option_map plain_taken ours.now in
+        let y = option_map plain_taken theirs.now in
+        OnOk result (out.new.items ≡ out.old.items ++ (codes "commit: "
+        ++ ((spec.named forms.now began threads.0.0 ++ spec.with_of (spec.named forms.now began threads.1.0) x y)
+        ++ spec.fired_words (spec.fired_at x ++ spec.fired_at y)))) }
+{
+    let mut other = Vec::new(alloc);
+    push_named(alloc, &mut other, forms, hub, threads.1)?;
+    let mut said = Vec::new(alloc);
+    push_named(alloc, &mut said, forms, hub, threads.0)?;
+    push_both(alloc, &mut said, other.as_slice(), ours, theirs)?;
+    let fired = fired_by_both(alloc, ours, theirs)?;
+    push_committed(alloc, out, said.as_slice(), fired.as_slice())
 }
 
 // Appends the commit of two leaves.
@@ -503,13 +561,7 @@ fn push_pair(
 {
     let ours = taken_at(alloc, hub.book(), head.0, head.1)?;
     let theirs = taken_at(alloc, hub.book(), other.0, other.1)?;
-    let mut name = Vec::new(alloc);
-    push_named(alloc, &mut name, forms, hub, other.0)?;
-    let fired = fired_by_both(alloc, &ours, &theirs)?;
-    out.extend_from_slice(b"commit: ")?;
-    push_named(alloc, out, forms, hub, head.0)?;
-    push_both(alloc, out, name.as_slice(), &ours, &theirs)?;
-    push_fired(alloc, out, fired.as_slice())
+    push_pair_taken(alloc, out, forms, hub, (head.0, other.0), &ours, &theirs)
 }
 
 /// Appends what the commit of this row does that comes next in this hub.
