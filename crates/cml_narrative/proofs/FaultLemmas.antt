@@ -1,9 +1,8 @@
 -- Whether a turn ended at a fault, and what it printed then.
-use Rattle.std.proofs.Common.{◌≡◌, ℕ, ◌+◌, ◌<◌, ltb, Bool, true, false, cond, List, [], ◌∷◌, ◌++◌, length, codes, Option, Some, None, refl, sym, ap, ◌∙◌, arith}
+use Rattle.std.proofs.Common.{◌≡◌, ℕ, ◌+◌, ltb, Bool, true, false, cond, List, [], ◌∷◌, ◌++◌, length, codes, Option, Some, None, refl, sym, ap, ◌∙◌, arith}
 use Rattle.std.specs.Prelude.{slice_get, option_map, option_and_then, count_by}
 use Rattle.std.proofs.lemmas.List.Sums.{sum_by-append}
 use Rattle.std.proofs.lemmas.Bool.Decides.{nat_tests}
-use Rattle.cml_step.specs.Calls.{text_of}
 use Rattle.cml_step.specs.Slices.{sliced}
 use Rattle.cml_step.specs.Terms.{Program, Term}
 use Rattle.cml_schedule.specs.declared.item.Item.{Item}
@@ -11,7 +10,6 @@ use Rattle.cml_schedule.specs.declared.item.Item.TheVariants.{Turn}
 use Rattle.cml_value.specs.declared.number.Tid.{Tid}
 use Rattle.cml_hub.specs.Performed.{PlainDone, goes, gets, begets, prints, waits, ends, fails, performed}
 use Rattle.cml_hub.specs.Runs.{Run, opening, advance, is_allowed, turned, turned_by, stands, stands_from, output_of}
-use Rattle.cml_hub.specs.Courses.{PlainCourse, run_of, Adds}
 use Rattle.cml_narrative.specs.Tales.{did_words, turn_words}
 use Rattle.cml_hub.specs.Deeds.{deed, after_deed, deeds_from, deeds, is_fault, fault_count}
 

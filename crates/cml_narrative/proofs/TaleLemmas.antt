@@ -1,6 +1,6 @@
 -- What is told of an item, part for part.
-use Rattle.std.proofs.Common.{◌≡◌, ℕ, ◌+◌, ◌-◌, ◌<◌, eqb, Bool, true, false, cond, List, [], ◌∷◌, ◌++◌, length, map, Option, Some, None, refl, sym, ap, subst, ◌∙◌, arith, IsTrue}
-use Rattle.std.specs.Prelude.{slice_get, option_map, option_and_then, if◌then◌else◌}
+use Rattle.std.proofs.Common.{◌≡◌, ℕ, ◌-◌, Bool, true, false, List, [], ◌∷◌, ◌++◌, Option, Some, None, sym, ap, ◌∙◌, IsTrue}
+use Rattle.std.specs.Prelude.{slice_get, option_map, if◌then◌else◌}
 use Rattle.std.proofs.lemmas.Option.{slice_get-map}
 use Rattle.cml_text.specs.Forms.{PlainSexpr}
 use Rattle.cml_check.specs.Syntax.{PlainItem}
@@ -9,7 +9,7 @@ use Rattle.cml_step.specs.Calls.{text_of}
 use Rattle.cml_step.specs.Machines.{PlainMachine, machine_term}
 use Rattle.cml_step.specs.Slices.{sliced, sliced_from}
 use Rattle.cml_schedule.specs.declared.item.Item.{Item}
-use Rattle.cml_hub.specs.Courses.{PlainCourse, run_of, Adds, Comes}
+use Rattle.cml_hub.specs.Courses.{PlainCourse, Comes}
 use Rattle.cml_ending.specs.declared.standing.Spot.{Spot}
 use Rattle.cml_ending.specs.declared.takers.Takers.{Takers}
 use Rattle.cml_ending.specs.Standings.{IsSpotOf, call_of_machine}

@@ -1,6 +1,5 @@
 -- An item is told.
 use Rattle.std.proofs.Common.{◌≡◌, ℕ, ◌+◌, ltb, Bool, true, false, List, [], ◌∷◌, ◌++◌, length, codes, Option, Some, refl, sym, ap, subst, ◌∙◌, append-nil}
-use Rattle.std.specs.Prelude.{option_and_then, option_map, slice_get}
 use Rattle.std.specs.Fmt.{decimal}
 use Rattle.cml_value.specs.declared.number.Tid.{Tid}
 use Rattle.cml_scan.specs.declared.meet.Meet.{Meet}
@@ -17,7 +16,7 @@ use Rattle.cml_ending.specs.Takes.{taker_in}
 use Rattle.cml_narrative.specs.declared.narrator.Narrator.{Narrator}
 use Rattle.cml_narrative.specs.Lines.{number_words, told_line}
 use Rattle.cml_narrative.specs.Commits.{commit_words}
-use Rattle.cml_narrative.specs.Tales.{Tale, Plans, TellsTurn, ToldSo, began_in, could_count, newly, did_words, turn_words}
+use Rattle.cml_narrative.specs.Tales.{Tale, Plans, ToldSo, began_in, could_count, newly, did_words, turn_words}
 use Rattle.cml_narrative.specs.Tellers.{tale_of, Knows, awaited_of, turn_head}
 use Rattle.cml_narrative.proofs.FaultLemmas.{faults_on, printed_on, words_are, fault_of}
 

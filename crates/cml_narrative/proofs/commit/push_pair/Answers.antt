@@ -1,4 +1,3 @@
-use Rattle.std.proofs.Common.{◌≡◌}
 use Rattle.cml_narrative.proofs.commit.push_pair.Goals as goal
 
 pub returns : goal.returns

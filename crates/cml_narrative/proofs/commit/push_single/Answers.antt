@@ -1,4 +1,3 @@
-use Rattle.std.proofs.Common.{◌≡◌}
 use Rattle.cml_narrative.proofs.commit.push_single.Goals as goal
 
 pub returns : goal.returns

@@ -1,4 +1,4 @@
-use Rattle.std.proofs.Common.{◌≡◌, ◌∙◌, true, sym, ap}
+use Rattle.std.proofs.Common.{◌∙◌, sym}
 use Rattle.cml_scan.specs.World.{running}
 use Rattle.cml_hub.proofs.Ours.{running_is}
 use Rattle.cml_narrative.proofs.plan.next_plan.Goals as goal

@@ -1,6 +1,4 @@
-use Rattle.std.proofs.Common.{◌≡◌}
 use Rattle.cml_step.specs.AskViews.{plain_ask}
-use Rattle.cml_narrative.specs.Asked.{asked_words}
 use Rattle.cml_narrative.proofs.TaleLemmas.{planned_is}
 use Rattle.cml_narrative.proofs.plan.plan_of.Goals as goal
 

@@ -1,7 +1,7 @@
-use Rattle.std.proofs.Common.{◌≡◌, ◌∙◌, sym, ap, cond, Some, ℕ, drop}
+use Rattle.std.proofs.Common.{◌∙◌, sym, ap, cond, Some, drop}
 use Rattle.std.proofs.Common.{arith, ◌+◌}
 use Rattle.cml_narrative.specs.Whys.{first_running}
-use Rattle.cml_narrative.proofs.WhyLemmas.{runs_first, none_first}
+use Rattle.cml_narrative.proofs.WhyLemmas.{runs_first}
 use Rattle.cml_narrative.proofs.why.first_running.Goals as goal
 
 pub returns-then-is_running : goal.returns-then-is_running
