@@ -7,6 +7,8 @@ mod endings;
 #[cfg(test)]
 mod making;
 #[cfg(test)]
+mod narratives;
+#[cfg(test)]
 mod refusals;
 #[cfg(test)]
 mod scripts;
