@@ -15,6 +15,7 @@ mod explains;
 #[cfg(test)]
 mod explains_scripts;
 #[cfg(test)]
+mod faults;
 mod forcings;
 #[cfg(test)]
 mod groups;
