@@ -58,13 +58,13 @@ turn_told (Ok x) k c new p t m kept before after o n leads here at copied own sa
     let count : after ≡ fault_count text all = now ∙ (ap (λ q. fault_count (text_of q) new.items) same ∙ ap (fault_count text) is) in
     let grew : fault_count text all ≢ fault_count text c.items = (λ e. differs (count ∙ (e ∙ sym was))) in
     let there : slice_get (map (machine_term c.program) c.machines) t.0 ≡ Some (machine_term c.program kept) =
-        slice_get-map (machine_term c.program) c.machines t.0 ∙ (ap (option_map (machine_term c.program)) (sym at) ∙ ap (λ x. Some (machine_term c.program x)) (sym copied)) in
+    slice_get-map (machine_term c.program) c.machines t.0 ∙ (ap (option_map (machine_term c.program)) (sym at) ∙ ap (λ x. Some (machine_term c.program x)) (sym copied)) in
     let mine : IsAdded (IsBlock k c.program (failure_of text kept.thread (machine_term c.program kept))) o n =
-        subst (λ q. IsAdded (IsBlock k q (failure_of (text_of q) kept.thread (machine_term q kept))) o n) (sym here) one in
+    subst (λ q. IsAdded (IsBlock k q (failure_of (text_of q) kept.thread (machine_term q kept))) o n) (sym here) one in
     let added : IsAdded (IsBlock k c.program (failure_of text t.0 (machine_term c.program kept))) o n =
-        subst (λ u. IsAdded (IsBlock k c.program (failure_of text u (machine_term c.program kept))) o n) (ap (λ x. x.thread) copied ∙ own) mine in
+    subst (λ u. IsAdded (IsBlock k c.program (failure_of text u (machine_term c.program kept))) o n) (ap (λ x. x.thread) copied ∙ own) mine in
     let both : AreBlocks k c.program (failures text all) (o ++ added.added) =
-        one_more k c.program text c.items t (run_of c) (machine_term c.program kept) o added.added leads there grew added.is are in
+    one_more k c.program text c.items t (run_of c) (machine_term c.program kept) o added.added leads there grew added.is are in
     subst (λ items. AreBlocks k c.program (failures text items) n) (sym is) (subst (AreBlocks k c.program (failures text all)) (sym added.text_is) both)
 turn_told (Err y) k c new p t m kept before after o n leads here at copied own same is was now differs one = tt
 

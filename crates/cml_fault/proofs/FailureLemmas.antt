@@ -90,10 +90,10 @@ nobody_more k p text items item now shown leads same are =
     let gs = option_to_list (failure_by text now item) in
     let grown : failures text (items ++ item ∷ []) ≡ failures text items ++ gs = failures-push text items item now leads in
     let counts : length (failures text items ++ gs) ≡ length (failures text items) =
-        sym (ap length grown) ∙ (sym (counted text (items ++ item ∷ [])) ∙ (same ∙ counted text items)) in
+    sym (ap length grown) ∙ (sym (counted text (items ++ item ∷ [])) ∙ (same ∙ counted text items)) in
     let none : gs ≡ [] = still_nothing (failures text items) gs counts in
     let all : failures text items ≡ failures text (items ++ item ∷ []) =
-        sym (append-nil (failures text items)) ∙ (ap (λ x. failures text items ++ x) (sym none) ∙ sym grown) in
+    sym (append-nil (failures text items)) ∙ (ap (λ x. failures text items ++ x) (sym none) ∙ sym grown) in
     subst (λ fs. AreBlocks k p fs shown) all are
 
 -- nothing but a turn has a thread fail
@@ -102,7 +102,7 @@ pub none_by : (k : Known) (p : List (PlainItem ℕ)) (text : Program) (items : L
     AreBlocks k p (failures text items) shown → AreBlocks k p (failures text (items ++ item ∷ [])) shown
 none_by k p text items item now shown leads none are =
     let all : failures text items ≡ failures text (items ++ item ∷ []) =
-        sym (append-nil (failures text items)) ∙ (ap (λ x. failures text items ++ option_to_list x) (sym none) ∙ sym (failures-push text items item now leads)) in
+    sym (append-nil (failures text items)) ∙ (ap (λ x. failures text items ++ option_to_list x) (sym none) ∙ sym (failures-push text items item now leads)) in
     subst (λ fs. AreBlocks k p fs shown) all are
 
 -- a turn by which its thread fails
@@ -117,12 +117,12 @@ one_more k p text items t now term old added leads there grew is are =
     let f = failure_of text t.0 term in
     let by : failure_by text now (Turn t) ≡ failure_from text now t.0 term = ap (option_and_then (failure_from text now t.0)) there in
     let grown : failures text (items ++ Turn t ∷ []) ≡ failures text items ++ option_to_list (failure_from text now t.0 term) =
-        failures-push text items (Turn t) now leads ∙ ap (λ o. failures text items ++ option_to_list o) by in
+    failures-push text items (Turn t) now leads ∙ ap (λ o. failures text items ++ option_to_list o) by in
     let more : length (failures text items ++ option_to_list (failure_from text now t.0 term)) ≢ length (failures text items) =
-        (λ same. grew (counted text (items ++ Turn t ∷ []) ∙ (ap length grown ∙ (same ∙ sym (counted text items))))) in
+    (λ same. grew (counted text (items ++ Turn t ∷ []) ∙ (ap length grown ∙ (same ∙ sym (counted text items))))) in
     let some : failure_from text now t.0 term ≡ Some f = fails_so (is_fault (performed now.world t.0 (sliced text t.0 term).ask).1) f (failures text items) more in
     let all : failures text items ++ f ∷ [] ≡ failures text (items ++ Turn t ∷ []) =
-        ap (λ o. failures text items ++ option_to_list o) (sym some) ∙ sym grown in
+    ap (λ o. failures text items ++ option_to_list o) (sym some) ∙ sym grown in
     subst (λ fs. AreBlocks k p fs (old ++ added)) all (blocks-push k p (failures text items) f old added are is)
 
 -- a schedule that leads somewhere is allowed at each of its items
@@ -142,8 +142,8 @@ pub is_next_allowed : (p : Program) (items : List Item) (i : ℕ) (item : Item) 
     stands p items ≡ Some end → stands p (take i items) ≡ Some now → is_allowed now.world item ≡ true
 is_next_allowed p items i item end now h is whole so_far =
     let split : take i items ++ item ∷ drop (i + 1) items ≡ items =
-        ap (λ x. take i items ++ x ∷ drop (i + 1) items) is ∙ (ap (λ rest. take i items ++ rest) (sym (drop_more items i item h)) ∙ take-append-drop i items) in
+    ap (λ x. take i items ++ x ∷ drop (i + 1) items) is ∙ (ap (λ rest. take i items ++ rest) (sym (drop_more items i item h)) ∙ take-append-drop i items) in
     let both : stands_from p (stands p (take i items)) (item ∷ drop (i + 1) items) ≡ Some end =
-        sym (stands_from-append p (Some (opening p)) (take i items) (item ∷ drop (i + 1) items)) ∙ (ap (stands p) split ∙ whole) in
+    sym (stands_from-append p (Some (opening p)) (take i items) (item ∷ drop (i + 1) items)) ∙ (ap (stands p) split ∙ whole) in
     let on : stands_from p (Some now) (item ∷ drop (i + 1) items) ≡ Some end = ap (λ r. stands_from p r (item ∷ drop (i + 1) items)) (sym so_far) ∙ both in
     goes_on p (is_allowed now.world item) (after_item p now item) (drop (i + 1) items) end on

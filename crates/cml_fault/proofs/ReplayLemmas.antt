@@ -39,7 +39,7 @@ pub blocks_more : (k : Known) (p q : List (PlainItem ℕ)) (items xs ys : List I
     AreBlocks k q (failures (text_of q) (take i items)) o → AreBlocks k q (failures (text_of q) (take (i + 1) items)) n
 blocks_more k p q items xs ys i o n same xe ye step are =
     let before : AreBlocks k p (failures (text_of p) xs) o =
-        subst (λ r. AreBlocks k r (failures (text_of r) xs) o) (sym same) (subst (λ zs. AreBlocks k q (failures (text_of q) zs) o) (sym xe) are) in
+    subst (λ r. AreBlocks k r (failures (text_of r) xs) o) (sym same) (subst (λ zs. AreBlocks k q (failures (text_of q) zs) o) (sym xe) are) in
     subst (λ zs. AreBlocks k q (failures (text_of q) zs) n) ye (subst (λ r. AreBlocks k r (failures (text_of r) ys) n) same (step before))
 
 pub all_blocks : (k : Known) (p : List (PlainItem ℕ)) (items all : List Item) (i : ℕ) (o : List ℕ) → length items ≤ i → items ≡ all →

@@ -42,9 +42,9 @@ one_frame k frames i f o p all h few is e so_far =
     let rest = frame_lines k (10 - (i + 1)) (drop (i + 1) frames) in
     let left : suc (10 - (i + 1)) ≡ 10 - i = omega (arith, few) in
     let next : frame_lines k (10 - i) (drop i frames) ≡ frame_line k f (first_frame (drop (i + 1) frames)) ++ rest =
-        ap (λ n. frame_lines k n (drop i frames)) (sym left)
-        ∙ (ap (frame_lines k (suc (10 - (i + 1)))) (drop_more frames i f h)
-        ∙ ap (λ g. frame_line k g (first_frame (drop (i + 1) frames)) ++ rest) (sym is)) in
+    ap (λ n. frame_lines k n (drop i frames)) (sym left)
+    ∙ (ap (frame_lines k (suc (10 - (i + 1)))) (drop_more frames i f h)
+    ∙ ap (λ g. frame_line k g (first_frame (drop (i + 1) frames)) ++ rest) (sym is)) in
     ap (λ x. x ++ rest) e ∙ (append_assoc o (frame_line k f (first_frame (drop (i + 1) frames))) rest ∙ (ap (λ x. o ++ x) (sym next) ∙ so_far))
 
 no_frames : (k : Known) (n : ℕ) → frame_lines k n [] ≡ []

@@ -9,8 +9,8 @@ use Rattle.cml_fault.specs.Failures.{failures}
 use Rattle.cml_fault.specs.Blocks.{Known, AreBlocks}
 
 -- what is known where a schedule has led
-abbrev pub known_of : List ℕ → List ℕ → List PlainSexpr → PlainCourse → Known
-known_of name text forms c = record {
+abbrev pub known_where : List ℕ → List ℕ → List PlainSexpr → PlainCourse → Known
+known_where name text forms c = record {
   name = name;
   text = text;
   forms = forms;
@@ -20,4 +20,4 @@ known_of name text forms c = record {
 
 -- A block for each thread that ended at a fault, in the order in which they did. Where two places fit a call that waits, either may be told.
 abbrev pub FaultedSo : List ℕ → List ℕ → List PlainSexpr → PlainCourse → List ℕ → Type 0
-FaultedSo name text forms c shown = AreBlocks (known_of name text forms c) c.program (failures (text_of c.program) c.items) shown
+FaultedSo name text forms c shown = AreBlocks (known_where name text forms c) c.program (failures (text_of c.program) c.items) shown

@@ -270,5 +270,12 @@ pub(crate) fn push_failure(
     let words = fault_words(alloc, sources, machine.thread(), &slice.ask)?;
     let calls = calls_down(alloc, &stood)?;
     let frames = frames_of(alloc, program, calls.as_slice())?;
-    push_block(alloc, out, sources, words, frames.as_slice(), first_values(calls.as_slice()))
+    push_block(
+        alloc,
+        out,
+        sources,
+        words,
+        frames.as_slice(),
+        first_values(calls.as_slice()),
+    )
 }

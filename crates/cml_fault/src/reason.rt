@@ -58,7 +58,13 @@ pub(crate) fn push_reason(alloc: Global, out: &mut Vec<u8>, ask: &Ask) -> Result
     match ask {
         Ask::Fault(why) => out.extend_from_slice(fault_reason(*why).as_bytes()),
         Ask::IPut(i, _) => {
-            push_object(alloc, out, "I-variable ", i.0, " is full: it can be put only once")
+            push_object(
+                alloc,
+                out,
+                "I-variable ",
+                i.0,
+                " is full: it can be put only once",
+            )
         }
         Ask::MPut(m, _) => {
             let what = " is full: it can be put only where it is empty";

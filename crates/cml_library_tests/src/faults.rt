@@ -71,8 +71,14 @@ fn explains_faults(rt: HostRuntime) {
             .expect(&rt, MEMORY);
         let mut chooser = Script::new(Vec::new(rt.alloc()));
         let _end = hub.run_alone(rt.alloc(), &mut chooser).expect(&rt, MEMORY);
-        let said = explain_faults(rt.alloc(), "a.cml", script.as_bytes(), forms.as_slice(), &hub)
-            .expect(&rt, MEMORY);
+        let said = explain_faults(
+            rt.alloc(),
+            "a.cml",
+            script.as_bytes(),
+            forms.as_slice(),
+            &hub,
+        )
+        .expect(&rt, MEMORY);
         assert!(rt; said.as_slice() == case.said.as_bytes(), "{script}");
         drop(said);
         drop(chooser);
