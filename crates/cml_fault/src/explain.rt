@@ -105,19 +105,39 @@ fn tell_item(
     }
 }
 
-// The blocks of all threads that ended at a fault: the schedule is gone through once more.
+// The schedule is gone through once more by a hub at its beginning, and the blocks of all threads that ended at a fault are appended.
+fn tell_all(
+    alloc: Global,
+    out: &mut Vec<u8>,
+    sources: &Sources<'_>,
+    second: &mut Hub,
+) -> Result<(), AllocError>
+    requires out { NoneOut second.old }
+    requires program { second.old.course.program ≡ sources.now.hub.now.course.program }
+    requires items { second.old.course.items ≡ [] }
+    requires empty { out.old.items ≡ [] }
+    ensures { let c = sources.now.hub.now.course in
+        OnOk result (AreBlocks (plain_sources sources.now) c.program (failures (text_of c.program) c.items) out.new.items) }
+{
+    let items = sources.hub.schedule();
+    for i in 0..items.len() {
+        let item = items[i];
+        let _so_far = second.schedule();
+        tell_item(alloc, out, sources, second, item)?;
+    }
+    Ok(())
+}
+
+// The same by a hub of its own, which is let go at one place.
 fn told(alloc: Global, sources: &Sources<'_>) -> Result<Vec<u8>, AllocError>
     ensures { let c = sources.now.hub.now.course in
         IfOk result (λ shown. AreBlocks (plain_sources sources.now) c.program (failures (text_of c.program) c.items) shown.items) }
 {
-    let items = sources.hub.schedule();
     let mut out = Vec::new(alloc);
     let mut second = beginning(alloc, sources.hub)?;
-    for i in 0..items.len() {
-        let item = items[i];
-        let _so_far = second.schedule();
-        tell_item(alloc, &mut out, sources, &mut second, item)?;
-    }
+    let done = tell_all(alloc, &mut out, sources, &mut second);
+    drop(second);
+    done?;
     Ok(out)
 }
 

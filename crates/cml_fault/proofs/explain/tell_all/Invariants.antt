@@ -4,7 +4,7 @@ use Rattle.cml_hub.specs.Kept.{NoneOut}
 use Rattle.cml_fault.specs.Blocks.{AreBlocks}
 use Rattle.cml_fault.specs.Failures.{failures}
 use Rattle.cml_fault.specs.Views.{plain_sources}
-use Rattle.cml_fault.proofs.explain.told.Given as goal
+use Rattle.cml_fault.proofs.explain.tell_all.Given as goal
 
 -- the second hub has come so far in the schedule, and the blocks so far are there
 abbrev pub invariant-loop-i : goal.invariant-loop-i
