@@ -1,0 +1,149 @@
+-- The failures of a schedule, one item after another.
+use Rattle.std.proofs.Common.{◌≡◌, ◌≢◌, ℕ, zero, suc, ◌+◌, ◌<◌, Bool, true, false, cond, List, [], ◌∷◌, ◌++◌, length, get_or, take, drop, map, Option, Some, None, refl, sym, ap, subst, ◌∙◌, arith, append_assoc, append-nil}
+use Rattle.std.specs.Prelude.{if◌then◌else◌, option_and_then, option_map, slice_get, count_by}
+use Rattle.std.specs.Option.{option_to_list}
+use Rattle.std.proofs.lemmas.List.{take-append-drop, drop_more, length-append}
+use Rattle.cml_check.specs.Syntax.{PlainItem}
+use Rattle.cml_step.specs.Terms.{Program, Term}
+use Rattle.cml_step.specs.Slices.{sliced}
+use Rattle.cml_schedule.specs.declared.item.Item.{Item}
+use Rattle.cml_schedule.specs.declared.item.Item.TheVariants.{Turn, Meet, Exchange, Clock}
+use Rattle.cml_value.specs.declared.number.Tid.{Tid}
+use Rattle.cml_hub.specs.Performed.{PlainDone, performed}
+use Rattle.cml_hub.specs.Deeds.{deed, after_deed, deeds_from, is_fault, fault_count}
+use Rattle.cml_hub.specs.Runs.{Run, opening, advance, after_item, is_allowed, stands_from, stands}
+use Rattle.cml_fault.specs.Failures.{Failure, failure_of, failure_if, failure_from, failure_by, failures_from, failures}
+use Rattle.cml_fault.specs.Blocks.{Known, IsBlock, AreBlocks}
+
+-- one item more
+failures_from-push : (p : Program) (r : Option Run) (items : List Item) (item : Item) →
+    failures_from p r (items ++ item ∷ []) ≡ failures_from p r items ++ option_to_list (option_and_then (λ now. failure_by p now item) (stands_from p r items))
+failures_from-push p r [] item = append-nil (option_to_list (option_and_then (λ now. failure_by p now item) r))
+failures_from-push p r (first ∷ items) item =
+    let here = option_to_list (option_and_then (λ now. failure_by p now first) r) in
+    let next = option_and_then (λ now. advance p now first) r in
+    ap (λ fs. here ++ fs) (failures_from-push p next items item)
+    ∙ sym (append_assoc here (failures_from p next items) (option_to_list (option_and_then (λ now. failure_by p now item) (stands_from p next items))))
+
+pub failures-push : (p : Program) (items : List Item) (item : Item) (now : Run) → stands p items ≡ Some now →
+    failures p (items ++ item ∷ []) ≡ failures p items ++ option_to_list (failure_by p now item)
+failures-push p items item now leads =
+    failures_from-push p (Some (opening p)) items item
+    ∙ ap (λ r. failures p items ++ option_to_list (option_and_then (λ now. failure_by p now item) r)) leads
+
+-- there are as many as faults are counted
+counted_if : (b : Bool) (f : Failure) (n : ℕ) → cond b 1 0 + n ≡ length (option_to_list (failure_if b f)) + n
+counted_if true f n = refl
+counted_if false f n = refl
+
+counted_turn : (p : Program) (now : Run) (t : ℕ) (o : Option Term) (ds : List PlainDone) →
+    count_by is_fault (after_deed (option_map (λ term. (performed now.world t (sliced p t term).ask).1) o) ds)
+    ≡ length (option_to_list (option_and_then (failure_from p now t) o)) + count_by is_fault ds
+counted_turn p now t None ds = refl
+counted_turn p now t (Some term) ds = counted_if (is_fault (performed now.world t (sliced p t term).ask).1) (failure_of p t term) (count_by is_fault ds)
+
+counted_item : (p : Program) (r : Option Run) (item : Item) (ds : List PlainDone) →
+    count_by is_fault (after_deed (option_and_then (λ now. deed p now item) r) ds)
+    ≡ length (option_to_list (option_and_then (λ now. failure_by p now item) r)) + count_by is_fault ds
+counted_item p None item ds = refl
+counted_item p (Some now) (Turn t) ds = counted_turn p now t.0 (slice_get now.terms t.0) ds
+counted_item p (Some now) (Meet row) ds = refl
+counted_item p (Some now) (Exchange row) ds = refl
+counted_item p (Some now) (Clock tick) ds = refl
+
+counted_from : (p : Program) (r : Option Run) (items : List Item) → count_by is_fault (deeds_from p r items) ≡ length (failures_from p r items)
+counted_from p r [] = refl
+counted_from p r (item ∷ items) =
+    let next = option_and_then (λ now. advance p now item) r in
+    let here = option_to_list (option_and_then (λ now. failure_by p now item) r) in
+    counted_item p r item (deeds_from p next items)
+    ∙ (ap (λ n. length here + n) (counted_from p next items)
+    ∙ sym (length-append here (failures_from p next items)))
+
+pub counted : (p : Program) (items : List Item) → fault_count p items ≡ length (failures p items)
+counted p items = counted_from p (Some (opening p)) items
+
+-- no fault is counted where there is no failure
+pub none_counted : {A : Type 0} (k : Known) (p : List (PlainItem ℕ)) (fs : List Failure) → 0 ≡ length fs → AreBlocks k p fs []
+none_counted k p [] e = refl
+none_counted k p (f ∷ fs) e = absurd (omega (arith, e))
+
+pub no_faults : (k : Known) (p : List (PlainItem ℕ)) (text : Program) (items : List Item) → fault_count text items ≡ 0 → AreBlocks k p (failures text items) []
+no_faults k p text items none = none_counted k p (failures text items) (sym none ∙ counted text items)
+
+-- one block more
+pub blocks-push : (k : Known) (p : List (PlainItem ℕ)) (fs : List Failure) (f : Failure) (old added : List ℕ) → AreBlocks k p fs old → IsBlock k p f added → AreBlocks k p (fs ++ f ∷ []) (old ++ added)
+blocks-push k p [] f old added are is = (added, ([], (ap (λ x. x ++ added) are ∙ sym (append-nil added), (is, refl))))
+blocks-push k p (g ∷ fs) f old added (first, (rest, (split, (block, are)))) is =
+    (first, (rest ++ added, (ap (λ x. x ++ added) split ∙ append_assoc first rest added, (block, blocks-push k p fs f rest added are is))))
+
+-- an item by which no thread fails
+still_nothing : (fs gs : List Failure) → length (fs ++ gs) ≡ length fs → gs ≡ []
+still_nothing [] [] e = refl
+still_nothing [] (g ∷ gs) e = absurd (omega (arith, e))
+still_nothing (f ∷ fs) gs e = still_nothing fs gs (omega (arith, e))
+
+pub nobody_more : (k : Known) (p : List (PlainItem ℕ)) (text : Program) (items : List Item) (item : Item) (now : Run) (shown : List ℕ) → stands text items ≡ Some now →
+    fault_count text (items ++ item ∷ []) ≡ fault_count text items →
+    AreBlocks k p (failures text items) shown → AreBlocks k p (failures text (items ++ item ∷ [])) shown
+nobody_more k p text items item now shown leads same are =
+    let gs = option_to_list (failure_by text now item) in
+    let grown : failures text (items ++ item ∷ []) ≡ failures text items ++ gs = failures-push text items item now leads in
+    let counts : length (failures text items ++ gs) ≡ length (failures text items) =
+    sym (ap length grown) ∙ (sym (counted text (items ++ item ∷ [])) ∙ (same ∙ counted text items)) in
+    let none : gs ≡ [] = still_nothing (failures text items) gs counts in
+    let all : failures text items ≡ failures text (items ++ item ∷ []) =
+    sym (append-nil (failures text items)) ∙ (ap (λ x. failures text items ++ x) (sym none) ∙ sym grown) in
+    subst (λ fs. AreBlocks k p fs shown) all are
+
+-- nothing but a turn has a thread fail
+pub none_by : (k : Known) (p : List (PlainItem ℕ)) (text : Program) (items : List Item) (item : Item) (now : Run) (shown : List ℕ) → stands text items ≡ Some now →
+    failure_by text now item ≡ None →
+    AreBlocks k p (failures text items) shown → AreBlocks k p (failures text (items ++ item ∷ [])) shown
+none_by k p text items item now shown leads none are =
+    let all : failures text items ≡ failures text (items ++ item ∷ []) =
+    sym (append-nil (failures text items)) ∙ (ap (λ x. failures text items ++ option_to_list x) (sym none) ∙ sym (failures-push text items item now leads)) in
+    subst (λ fs. AreBlocks k p fs shown) all are
+
+-- a turn by which its thread fails
+fails_so : (b : Bool) (f : Failure) (fs : List Failure) → length (fs ++ option_to_list (failure_if b f)) ≢ length fs → failure_if b f ≡ Some f
+fails_so true f fs e = refl
+fails_so false f fs e = absurd (e (ap length (append-nil fs)))
+
+pub one_more : (k : Known) (p : List (PlainItem ℕ)) (text : Program) (items : List Item) (t : Tid) (now : Run) (term : Term) (old added : List ℕ) → stands text items ≡ Some now →
+    slice_get now.terms t.0 ≡ Some term → fault_count text (items ++ Turn t ∷ []) ≢ fault_count text items → IsBlock k p (failure_of text t.0 term) added →
+    AreBlocks k p (failures text items) old → AreBlocks k p (failures text (items ++ Turn t ∷ [])) (old ++ added)
+one_more k p text items t now term old added leads there grew is are =
+    let f = failure_of text t.0 term in
+    let by : failure_by text now (Turn t) ≡ failure_from text now t.0 term = ap (option_and_then (failure_from text now t.0)) there in
+    let grown : failures text (items ++ Turn t ∷ []) ≡ failures text items ++ option_to_list (failure_from text now t.0 term) =
+    failures-push text items (Turn t) now leads ∙ ap (λ o. failures text items ++ option_to_list o) by in
+    let more : length (failures text items ++ option_to_list (failure_from text now t.0 term)) ≢ length (failures text items) =
+    (λ same. grew (counted text (items ++ Turn t ∷ []) ∙ (ap length grown ∙ (same ∙ sym (counted text items))))) in
+    let some : failure_from text now t.0 term ≡ Some f = fails_so (is_fault (performed now.world t.0 (sliced text t.0 term).ask).1) f (failures text items) more in
+    let all : failures text items ++ f ∷ [] ≡ failures text (items ++ Turn t ∷ []) =
+    ap (λ o. failures text items ++ option_to_list o) (sym some) ∙ sym grown in
+    subst (λ fs. AreBlocks k p fs (old ++ added)) all (blocks-push k p (failures text items) f old added are is)
+
+-- a schedule that leads somewhere is allowed at each of its items
+stands_from-none : (p : Program) (items : List Item) → stands_from p None items ≡ None
+stands_from-none p [] = refl
+stands_from-none p (item ∷ items) = stands_from-none p items
+
+stands_from-append : (p : Program) (r : Option Run) (before after : List Item) → stands_from p r (before ++ after) ≡ stands_from p (stands_from p r before) after
+stands_from-append p r [] after = refl
+stands_from-append p r (item ∷ before) after = stands_from-append p (option_and_then (λ now. advance p now item) r) before after
+
+goes_on : (p : Program) (b : Bool) (next : Option Run) (rest : List Item) (end : Run) → stands_from p (if b then next else None) rest ≡ Some end → b ≡ true
+goes_on p true next rest end e = refl
+goes_on p false next rest end e = let none = stands_from-none p rest in cc
+
+pub is_next_allowed : (p : Program) (items : List Item) (i : ℕ) (item : Item) (end now : Run) → i < length items → item ≡ get_or items i item →
+    stands p items ≡ Some end → stands p (take i items) ≡ Some now → is_allowed now.world item ≡ true
+is_next_allowed p items i item end now h is whole so_far =
+    let split : take i items ++ item ∷ drop (i + 1) items ≡ items =
+    ap (λ x. take i items ++ x ∷ drop (i + 1) items) is ∙ (ap (λ rest. take i items ++ rest) (sym (drop_more items i item h)) ∙ take-append-drop i items) in
+    let both : stands_from p (stands p (take i items)) (item ∷ drop (i + 1) items) ≡ Some end =
+    sym (stands_from-append p (Some (opening p)) (take i items) (item ∷ drop (i + 1) items)) ∙ (ap (stands p) split ∙ whole) in
+    let on : stands_from p (Some now) (item ∷ drop (i + 1) items) ≡ Some end = ap (λ r. stands_from p r (item ∷ drop (i + 1) items)) (sym so_far) ∙ both in
+    goes_on p (is_allowed now.world item) (after_item p now item) (drop (i + 1) items) end on

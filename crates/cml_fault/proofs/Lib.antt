@@ -1,0 +1,5 @@
+pub mod FailureLemmas
+pub mod BlockLemmas
+pub mod FrameLemmas
+pub mod WordLemmas
+pub mod ReplayLemmas
