@@ -1,8 +1,8 @@
 -- The failures of a schedule, one item after another.
-use Rattle.std.proofs.Common.{◌≡◌, ◌≢◌, ℕ, zero, suc, ◌+◌, ◌<◌, Bool, true, false, cond, List, [], ◌∷◌, ◌++◌, length, get_or, take, drop, map, Option, Some, None, refl, sym, ap, subst, ◌∙◌, arith, append_assoc, append-nil}
+use Rattle.std.proofs.Common.{◌≡◌, ◌≢◌, ℕ, zero, suc, ◌+◌, ◌<◌, ◌≤◌, Bool, true, false, cond, List, [], ◌∷◌, ◌++◌, length, get_or, take, drop, map, Option, Some, None, refl, sym, ap, subst, ◌∙◌, arith, append_assoc, append-nil}
 use Rattle.std.specs.Prelude.{if◌then◌else◌, option_and_then, option_map, slice_get, count_by}
 use Rattle.std.specs.Option.{option_to_list}
-use Rattle.std.proofs.lemmas.List.{take-append-drop, drop_more, length-append}
+use Rattle.std.proofs.lemmas.List.{take-append-drop, take-append-le, take_all, drop_more, length-append, length_push}
 use Rattle.cml_check.specs.Syntax.{PlainItem}
 use Rattle.cml_step.specs.Terms.{Program, Term}
 use Rattle.cml_step.specs.Slices.{sliced}
@@ -12,7 +12,7 @@ use Rattle.cml_value.specs.declared.number.Tid.{Tid}
 use Rattle.cml_hub.specs.Performed.{PlainDone, performed}
 use Rattle.cml_hub.specs.Deeds.{deed, after_deed, deeds_from, is_fault, fault_count}
 use Rattle.cml_hub.specs.Runs.{Run, opening, advance, after_item, is_allowed, stands_from, stands}
-use Rattle.cml_fault.specs.Failures.{Failure, failure_of, failure_if, failure_from, failure_by, failures_from, failures}
+use Rattle.cml_fault.specs.Failures.{Failure, failure_of, failure_if, failure_from, failure_by, failures_from, failures, block_limit, first_failures}
 use Rattle.cml_fault.specs.Blocks.{Known, IsBlock, AreBlocks}
 
 -- one item more
@@ -64,12 +64,12 @@ pub counted : (p : Program) (items : List Item) → fault_count p items ≡ leng
 counted p items = counted_from p (Some (opening p)) items
 
 -- no fault is counted where there is no failure
-pub none_counted : {A : Type 0} (k : Known) (p : List (PlainItem ℕ)) (fs : List Failure) → 0 ≡ length fs → AreBlocks k p fs []
-none_counted k p [] e = refl
-none_counted k p (f ∷ fs) e = absurd (omega (arith, e))
+no_blocks : (k : Known) (p : List (PlainItem ℕ)) (fs : List Failure) → 0 ≡ length fs → AreBlocks k p (take block_limit fs) []
+no_blocks k p [] e = refl
+no_blocks k p (f ∷ fs) e = absurd (omega (arith, e))
 
-pub no_faults : (k : Known) (p : List (PlainItem ℕ)) (text : Program) (items : List Item) → fault_count text items ≡ 0 → AreBlocks k p (failures text items) []
-no_faults k p text items none = none_counted k p (failures text items) (sym none ∙ counted text items)
+pub no_faults : (k : Known) (p : List (PlainItem ℕ)) (text : Program) (items : List Item) → fault_count text items ≡ 0 → AreBlocks k p (first_failures text items) []
+no_faults k p text items none = no_blocks k p (failures text items) (sym none ∙ counted text items)
 
 -- one block more
 pub blocks-push : (k : Known) (p : List (PlainItem ℕ)) (fs : List Failure) (f : Failure) (old added : List ℕ) → AreBlocks k p fs old → IsBlock k p f added → AreBlocks k p (fs ++ f ∷ []) (old ++ added)
@@ -83,37 +83,51 @@ still_nothing [] [] e = refl
 still_nothing [] (g ∷ gs) e = absurd (omega (arith, e))
 still_nothing (f ∷ fs) gs e = still_nothing fs gs (omega (arith, e))
 
+nobody_by : (p : Program) (items : List Item) (item : Item) (now : Run) → stands p items ≡ Some now → fault_count p (items ++ item ∷ []) ≡ fault_count p items →
+    failures p (items ++ item ∷ []) ≡ failures p items
+nobody_by p items item now leads same =
+    let gs = option_to_list (failure_by p now item) in
+    let grown : failures p (items ++ item ∷ []) ≡ failures p items ++ gs = failures-push p items item now leads in
+    let counts : length (failures p items ++ gs) ≡ length (failures p items) =
+    sym (ap length grown) ∙ (sym (counted p (items ++ item ∷ [])) ∙ (same ∙ counted p items)) in
+    let none : gs ≡ [] = still_nothing (failures p items) gs counts in
+    grown ∙ (ap (λ x. failures p items ++ x) none ∙ append-nil (failures p items))
+
 pub nobody_more : (k : Known) (p : List (PlainItem ℕ)) (text : Program) (items : List Item) (item : Item) (now : Run) (shown : List ℕ) → stands text items ≡ Some now →
     fault_count text (items ++ item ∷ []) ≡ fault_count text items →
-    AreBlocks k p (failures text items) shown → AreBlocks k p (failures text (items ++ item ∷ [])) shown
+    AreBlocks k p (first_failures text items) shown → AreBlocks k p (first_failures text (items ++ item ∷ [])) shown
 nobody_more k p text items item now shown leads same are =
-    let gs = option_to_list (failure_by text now item) in
-    let grown : failures text (items ++ item ∷ []) ≡ failures text items ++ gs = failures-push text items item now leads in
-    let counts : length (failures text items ++ gs) ≡ length (failures text items) =
-    sym (ap length grown) ∙ (sym (counted text (items ++ item ∷ [])) ∙ (same ∙ counted text items)) in
-    let none : gs ≡ [] = still_nothing (failures text items) gs counts in
-    let all : failures text items ≡ failures text (items ++ item ∷ []) =
-    sym (append-nil (failures text items)) ∙ (ap (λ x. failures text items ++ x) (sym none) ∙ sym grown) in
-    subst (λ fs. AreBlocks k p fs shown) all are
+    subst (λ fs. AreBlocks k p (take block_limit fs) shown) (sym (nobody_by text items item now leads same)) are
 
 -- nothing but a turn has a thread fail
 pub none_by : (k : Known) (p : List (PlainItem ℕ)) (text : Program) (items : List Item) (item : Item) (now : Run) (shown : List ℕ) → stands text items ≡ Some now →
     failure_by text now item ≡ None →
-    AreBlocks k p (failures text items) shown → AreBlocks k p (failures text (items ++ item ∷ [])) shown
+    AreBlocks k p (first_failures text items) shown → AreBlocks k p (first_failures text (items ++ item ∷ [])) shown
 none_by k p text items item now shown leads none are =
     let all : failures text items ≡ failures text (items ++ item ∷ []) =
     sym (append-nil (failures text items)) ∙ (ap (λ x. failures text items ++ option_to_list x) (sym none) ∙ sym (failures-push text items item now leads)) in
-    subst (λ fs. AreBlocks k p fs shown) all are
+    subst (λ fs. AreBlocks k p (take block_limit fs) shown) all are
+
+-- enough of them are told
+pub past_limit : (k : Known) (p : List (PlainItem ℕ)) (text : Program) (items : List Item) (item : Item) (now : Run) (shown : List ℕ) → stands text items ≡ Some now →
+    block_limit ≤ fault_count text items →
+    AreBlocks k p (first_failures text items) shown → AreBlocks k p (first_failures text (items ++ item ∷ [])) shown
+past_limit k p text items item now shown leads enough are =
+    let fs = failures text items in
+    let gs = option_to_list (failure_by text now item) in
+    let many : block_limit ≤ length fs = omega (arith, counted text items, enough) in
+    let first : first_failures text (items ++ item ∷ []) ≡ take block_limit fs = ap (take block_limit) (failures-push text items item now leads) ∙ take-append-le block_limit fs gs many in
+    subst (λ xs. AreBlocks k p xs shown) (sym first) are
 
 -- a turn by which its thread fails
 fails_so : (b : Bool) (f : Failure) (fs : List Failure) → length (fs ++ option_to_list (failure_if b f)) ≢ length fs → failure_if b f ≡ Some f
 fails_so true f fs e = refl
 fails_so false f fs e = absurd (e (ap length (append-nil fs)))
 
-pub one_more : (k : Known) (p : List (PlainItem ℕ)) (text : Program) (items : List Item) (t : Tid) (now : Run) (term : Term) (old added : List ℕ) → stands text items ≡ Some now →
-    slice_get now.terms t.0 ≡ Some term → fault_count text (items ++ Turn t ∷ []) ≢ fault_count text items → IsBlock k p (failure_of text t.0 term) added →
-    AreBlocks k p (failures text items) old → AreBlocks k p (failures text (items ++ Turn t ∷ [])) (old ++ added)
-one_more k p text items t now term old added leads there grew is are =
+one_by : (text : Program) (items : List Item) (t : Tid) (now : Run) (term : Term) → stands text items ≡ Some now →
+    slice_get now.terms t.0 ≡ Some term → fault_count text (items ++ Turn t ∷ []) ≢ fault_count text items →
+    failures text (items ++ Turn t ∷ []) ≡ failures text items ++ failure_of text t.0 term ∷ []
+one_by text items t now term leads there grew =
     let f = failure_of text t.0 term in
     let by : failure_by text now (Turn t) ≡ failure_from text now t.0 term = ap (option_and_then (failure_from text now t.0)) there in
     let grown : failures text (items ++ Turn t ∷ []) ≡ failures text items ++ option_to_list (failure_from text now t.0 term) =
@@ -121,9 +135,23 @@ one_more k p text items t now term old added leads there grew is are =
     let more : length (failures text items ++ option_to_list (failure_from text now t.0 term)) ≢ length (failures text items) =
     (λ same. grew (counted text (items ++ Turn t ∷ []) ∙ (ap length grown ∙ (same ∙ sym (counted text items))))) in
     let some : failure_from text now t.0 term ≡ Some f = fails_so (is_fault (performed now.world t.0 (sliced text t.0 term).ask).1) f (failures text items) more in
-    let all : failures text items ++ f ∷ [] ≡ failures text (items ++ Turn t ∷ []) =
-    ap (λ o. failures text items ++ option_to_list o) (sym some) ∙ sym grown in
-    subst (λ fs. AreBlocks k p fs (old ++ added)) all (blocks-push k p (failures text items) f old added are is)
+    grown ∙ ap (λ o. failures text items ++ option_to_list o) some
+
+-- there is room for one more
+first_more : (k : Known) (p : List (PlainItem ℕ)) (fs : List Failure) (f : Failure) (old added : List ℕ) → length fs < block_limit → AreBlocks k p (take block_limit fs) old → IsBlock k p f added →
+    AreBlocks k p (take block_limit (fs ++ f ∷ [])) (old ++ added)
+first_more k p fs f old added room are is =
+    let before : take block_limit fs ≡ fs = take_all block_limit fs (omega (arith, room)) in
+    let after : take block_limit (fs ++ f ∷ []) ≡ fs ++ f ∷ [] = take_all block_limit (fs ++ f ∷ []) (omega (arith, room, length_push fs f)) in
+    subst (λ xs. AreBlocks k p xs (old ++ added)) (sym after) (blocks-push k p fs f old added (subst (λ xs. AreBlocks k p xs old) before are) is)
+
+pub one_more : (k : Known) (p : List (PlainItem ℕ)) (text : Program) (items : List Item) (t : Tid) (now : Run) (term : Term) (old added : List ℕ) → stands text items ≡ Some now →
+    slice_get now.terms t.0 ≡ Some term → fault_count text (items ++ Turn t ∷ []) ≢ fault_count text items → fault_count text items < block_limit → IsBlock k p (failure_of text t.0 term) added →
+    AreBlocks k p (first_failures text items) old → AreBlocks k p (first_failures text (items ++ Turn t ∷ [])) (old ++ added)
+one_more k p text items t now term old added leads there grew room is are =
+    let few : length (failures text items) < block_limit = omega (arith, counted text items, room) in
+    subst (λ fs. AreBlocks k p (take block_limit fs) (old ++ added)) (sym (one_by text items t now term leads there grew))
+    (first_more k p (failures text items) (failure_of text t.0 term) old added few are is)
 
 -- a schedule that leads somewhere is allowed at each of its items
 stands_from-none : (p : Program) (items : List Item) → stands_from p None items ≡ None

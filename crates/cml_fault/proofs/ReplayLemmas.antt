@@ -6,7 +6,7 @@ use Rattle.cml_step.specs.Calls.{text_of}
 use Rattle.cml_schedule.specs.declared.item.Item.{Item}
 use Rattle.cml_hub.specs.Runs.{is_allowed, stands}
 use Rattle.cml_hub.specs.Courses.{PlainCourse, run_of, Adds, Comes}
-use Rattle.cml_fault.specs.Failures.{failures}
+use Rattle.cml_fault.specs.Failures.{first_failures}
 use Rattle.cml_fault.specs.Blocks.{Known, AreBlocks}
 use Rattle.cml_fault.proofs.FailureLemmas.{is_next_allowed}
 
@@ -35,13 +35,13 @@ pub items_more : (items xs ys : List Item) (i : ℕ) (item : Item) → i < lengt
 items_more items xs ys i item h is so_far more = more ∙ (ap (λ x. x ++ item ∷ []) so_far ∙ taken_more items i item h is)
 
 pub blocks_more : (k : Known) (p q : List (PlainItem ℕ)) (items xs ys : List Item) (i : ℕ) (o n : List ℕ) → p ≡ q → xs ≡ take i items → ys ≡ take (i + 1) items →
-    (AreBlocks k p (failures (text_of p) xs) o → AreBlocks k p (failures (text_of p) ys) n) →
-    AreBlocks k q (failures (text_of q) (take i items)) o → AreBlocks k q (failures (text_of q) (take (i + 1) items)) n
+    (AreBlocks k p (first_failures (text_of p) xs) o → AreBlocks k p (first_failures (text_of p) ys) n) →
+    AreBlocks k q (first_failures (text_of q) (take i items)) o → AreBlocks k q (first_failures (text_of q) (take (i + 1) items)) n
 blocks_more k p q items xs ys i o n same xe ye step are =
-    let before : AreBlocks k p (failures (text_of p) xs) o =
-    subst (λ r. AreBlocks k r (failures (text_of r) xs) o) (sym same) (subst (λ zs. AreBlocks k q (failures (text_of q) zs) o) (sym xe) are) in
-    subst (λ zs. AreBlocks k q (failures (text_of q) zs) n) ye (subst (λ r. AreBlocks k r (failures (text_of r) ys) n) same (step before))
+    let before : AreBlocks k p (first_failures (text_of p) xs) o =
+    subst (λ r. AreBlocks k r (first_failures (text_of r) xs) o) (sym same) (subst (λ zs. AreBlocks k q (first_failures (text_of q) zs) o) (sym xe) are) in
+    subst (λ zs. AreBlocks k q (first_failures (text_of q) zs) n) ye (subst (λ r. AreBlocks k r (first_failures (text_of r) ys) n) same (step before))
 
 pub all_blocks : (k : Known) (p : List (PlainItem ℕ)) (items all : List Item) (i : ℕ) (o : List ℕ) → length items ≤ i → items ≡ all →
-    AreBlocks k p (failures (text_of p) (take i items)) o → AreBlocks k p (failures (text_of p) all) o
-all_blocks k p items all i o h same are = subst (λ zs. AreBlocks k p (failures (text_of p) zs) o) (take_all i items h ∙ same) are
+    AreBlocks k p (first_failures (text_of p) (take i items)) o → AreBlocks k p (first_failures (text_of p) all) o
+all_blocks k p items all i o h same are = subst (λ zs. AreBlocks k p (first_failures (text_of p) zs) o) (take_all i items h ∙ same) are

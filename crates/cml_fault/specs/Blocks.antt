@@ -1,5 +1,6 @@
 -- What is said of a thread that ended at a fault.
 use Rattle.std.specs.Prelude.{◌≡◌, ℕ, zero, suc, ◌==◌, if◌then◌else◌, List, [], ◌∷◌, ◌++◌, codes, length, Option, Some, None, option_and_then, slice_get}
+use Rattle.std.specs.Option.{option_or}
 use Rattle.std.specs.Fmt.{decimal}
 use Rattle.cml_text.specs.declared.sexpr.Span.{Span}
 use Rattle.cml_text.specs.Forms.{PlainSexpr}
@@ -13,10 +14,10 @@ use Rattle.cml_phrase.specs.Names.{function_name, slot_names}
 use Rattle.cml_phrase.specs.Phrases.{thread_words, variable_words}
 use Rattle.cml_phrase.specs.Spots.{statement_place, place_words}
 use Rattle.cml_phrase.specs.Statements.{spans_of}
+use Rattle.cml_reason.specs.Reasons.{reason_words}
 use Rattle.cml_fault.specs.declared.frame.Frame.{Frame}
 use Rattle.cml_fault.specs.Failures.{Failure}
 use Rattle.cml_fault.specs.Frames.{calls_down, AreFrames, first_values}
-use Rattle.cml_fault.specs.Reasons.{reason_words}
 
 -- what is known: the script's name, text and forms, where the statements of each function begin, and the function with which each thread began
 pub record Known : Type 0 where
@@ -33,9 +34,9 @@ frame_span k frame = option_and_then (slice_get (spans_of (slice_get k.forms fra
 abbrev pub frame_place : Known → Frame → Option Place
 frame_place k frame = option_and_then (statement_place k.places frame.function) frame.statement
 
--- who is at fault, and why
-abbrev pub thread_fault : Known → ℕ → PlainAsk → List ℕ
-thread_fault k t a = thread_words k.forms (record { thread = t; began = slice_get k.began t }) ++ (codes " ends at a fault: " ++ reason_words a)
+-- who is at fault, and why: a thread that stood so before its last step, and asked for this by it
+abbrev pub thread_fault : Known → List (PlainItem ℕ) → PlainMachine → PlainAsk → List ℕ
+thread_fault k p m a = thread_words k.forms (record { thread = m.thread; began = slice_get k.began m.thread }) ++ (codes " ends at a fault: " ++ reason_words p m a)
 
 -- that at its place, with the line, where there is a place
 abbrev pub head_lines : Known → List ℕ → Option Span → List ℕ
@@ -45,6 +46,10 @@ head_lines k words (Some span) = shown_diagnosis k.name k.text (record { at = sp
 -- the first of these frames, if there is one
 abbrev pub first_frame : List Frame → Option Frame
 first_frame frames = slice_get frames 0
+
+-- the statement that is shown: that of the first frame, or where it has none, of the one below it, which called it
+abbrev pub shown_span : Known → List Frame → Option Span
+shown_span k frames = option_or (option_and_then (frame_span k) (slice_get frames 0)) (option_and_then (frame_span k) (slice_get frames 1))
 
 -- where a function was called
 abbrev pub called_words : Known → Option Place → List ℕ
@@ -88,15 +93,16 @@ first_variables k (Some frame) vs = variables_line (slot_names k.forms frame.fun
 -- The whole: who is at fault, where and why; the functions on the stack, from the top; and the variables of the first.
 abbrev pub block_lines : Known → List ℕ → List Frame → List PlainValue → List ℕ
 block_lines k words frames vs =
-    head_lines k words (option_and_then (frame_span k) (first_frame frames)) ++ (frame_lines k frame_limit frames ++ first_variables k (first_frame frames) vs)
+    head_lines k words (shown_span k frames) ++ (frame_lines k frame_limit frames ++ first_variables k (first_frame frames) vs)
 
 -- Of this failure that is said, by a machine that stands for its term, and the frames of its calls.
 pub record IsBlock (k : Known) (p : List (PlainItem ℕ)) (f : Failure) (shown : List ℕ) : Type 0 where
   pub machine : PlainMachine
+  pub thread : machine.thread ≡ f.thread
   pub stands : machine_term p machine ≡ f.stood
   pub frames : List Frame
   pub are : AreFrames p (calls_down machine.stack) frames
-  pub text_is : shown ≡ block_lines k (thread_fault k f.thread f.ask) frames (first_values (calls_down machine.stack))
+  pub text_is : shown ≡ block_lines k (thread_fault k p machine f.ask) frames (first_values (calls_down machine.stack))
 
 -- of each of these failures, one behind the other
 abbrev pub AreBlocks : Known → List (PlainItem ℕ) → List Failure → List ℕ → Type 0

@@ -1,5 +1,5 @@
 -- The threads of a schedule that ended at a fault, in the order in which they did.
-use Rattle.std.specs.Prelude.{ℕ, ◌-◌, Bool, true, false, List, [], ◌∷◌, ◌++◌, Option, Some, None, option_and_then, slice_get}
+use Rattle.std.specs.Prelude.{ℕ, ◌-◌, take, Bool, true, false, List, [], ◌∷◌, ◌++◌, Option, Some, None, option_and_then, slice_get}
 use Rattle.std.specs.Option.{option_to_list}
 use Rattle.cml_step.specs.Terms.{Program, Term}
 use Rattle.cml_step.specs.Slices.{sliced, sliced_from}
@@ -47,3 +47,10 @@ failures_from p r (item ∷ items) =
 -- those of a schedule
 abbrev pub failures : Program → List Item → List Failure
 failures p items = failures_from p (Some (opening p)) items
+
+-- so many of them are told
+abbrev pub block_limit : ℕ
+block_limit = 20
+
+abbrev pub first_failures : Program → List Item → List Failure
+first_failures p items = take block_limit (failures p items)

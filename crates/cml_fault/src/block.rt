@@ -2,6 +2,7 @@
 
 ghost use Rattle.std.specs.Prelude.{◌≡◌, ◌++◌, ℕ, List, IfOk, OnOk, IfSome, Some, None, length, slice_get};
 ghost use Rattle.std.specs.Option.{option_and_then, option_map};
+ghost use Rattle.std.specs.Fmt.{decimal};
 ghost use Rattle.cml_step.specs.Calls.{text_of};
 ghost use Rattle.cml_step.specs.Machines.{machine_term, Fits};
 ghost use Rattle.cml_step.specs.AskViews.{plain_ask};
@@ -13,7 +14,6 @@ ghost use Rattle.cml_fault.specs.Failures.{failure_of};
 ghost use Rattle.cml_fault.specs.Views.{plain_sources, IsAdded};
 
 use crate::frame::{Frame, calls_down, first_values, frames_of};
-use crate::reason::{push_number, push_reason};
 use crate::variable::push_variables;
 use cml_hub::Hub;
 use cml_phrase::{
@@ -21,9 +21,10 @@ use cml_phrase::{
     statement_spans,
 };
 use cml_place::{Diagnosis, render};
+use cml_reason::push_reason;
 use cml_step::{Ask, Machine, run_slice};
 use cml_text::{Sexpr, Span};
-use cml_value::{Tid, Value};
+use cml_value::Value;
 use std::alloc::{AllocError, Global};
 
 // How many calls are told.
@@ -44,6 +45,14 @@ pub(crate) struct Sources<'a> {
     pub(crate) hub: &'a Hub,
 }
 
+/// Appends a number.
+pub(crate) fn push_number(alloc: Global, out: &mut Vec<u8>, number: usize) -> Result<(), AllocError>
+    ensures { OnOk result (out.new.items ≡ out.old.items ++ decimal number) }
+{
+    let digits = format!(in alloc; "{number}")?;
+    out.extend_from_slice(digits.as_bytes())
+}
+
 // Where the statement of a frame stands.
 fn frame_span(
     alloc: Global,
@@ -59,18 +68,33 @@ fn frame_span(
     Ok(spans.get(statement).copied())
 }
 
-// The same of the first frame.
-fn first_span(
+// The same of the frame of this number.
+fn span_at(
+    alloc: Global,
+    sources: &Sources<'_>,
+    frames: &[Frame],
+    at: usize,
+) -> Result<Option<Span>, AllocError>
+    ensures { IfOk result (λ span. span
+        ≡ option_and_then (spec.frame_span (plain_sources sources.now)) (slice_get frames.now at)) }
+{
+    match frames.get(at) {
+        Some(frame) => frame_span(alloc, sources, *frame),
+        None => Ok(None),
+    }
+}
+
+// The statement that is shown: that of the first frame, or where it has none, of the one below it, which called it.
+fn shown_span(
     alloc: Global,
     sources: &Sources<'_>,
     frames: &[Frame],
 ) -> Result<Option<Span>, AllocError>
-    ensures { IfOk result (λ span. span
-        ≡ option_and_then (spec.frame_span (plain_sources sources.now)) (spec.first_frame frames.now)) }
+    ensures { IfOk result (λ span. span ≡ spec.shown_span (plain_sources sources.now) frames.now) }
 {
-    match frames.get(0) {
-        Some(frame) => frame_span(alloc, sources, *frame),
-        None => Ok(None),
+    match span_at(alloc, sources, frames, 0)? {
+        Some(span) => Ok(Some(span)),
+        None => span_at(alloc, sources, frames, 1),
     }
 }
 
@@ -83,23 +107,24 @@ fn first_place(sources: &Sources<'_>, frames: &[Frame]) -> Option<Place>
     statement_place(sources.places, frame.function, statement)
 }
 
-// Who is at fault, and why.
+// Who is at fault, and why: the thread of this machine, which asks for this by its next step.
 fn fault_words(
     alloc: Global,
     sources: &Sources<'_>,
-    thread: Tid,
+    machine: &Machine,
     ask: &Ask,
 ) -> Result<Vec<u8>, AllocError>
-    ensures { IfOk result (λ words. words.items ≡ spec.thread_fault (plain_sources sources.now) thread.0 (plain_ask ask.now)) }
+    ensures { let p = sources.now.hub.now.course.program in
+        IfOk result (λ words. words.items ≡ spec.thread_fault (plain_sources sources.now) p machine.now (plain_ask ask.now)) }
 {
     let mut out = Vec::new(alloc);
     let who = Who {
-        thread,
-        began: sources.hub.origin(thread),
+        thread: machine.thread(),
+        began: sources.hub.origin(machine.thread()),
     };
     push_thread(alloc, &mut out, sources.forms, who)?;
     out.extend_from_slice(b" ends at a fault: ")?;
-    push_reason(alloc, &mut out, ask)?;
+    push_reason(alloc, &mut out, sources.hub.program(), machine, ask)?;
     Ok(out)
 }
 
@@ -188,7 +213,7 @@ fn push_rest(alloc: Global, out: &mut Vec<u8>, count: usize) -> Result<(), Alloc
         return Ok(());
     }
     out.extend_from_slice(b"   and ")?;
-    push_number(alloc, out, count as u64)?;
+    push_number(alloc, out, count)?;
     out.extend_from_slice(b" more\n")
 }
 
@@ -242,7 +267,7 @@ fn push_block(
     ensures { OnOk result (out.new.items ≡ out.old.items
         ++ spec.block_lines (plain_sources sources.now) words.items frames.now values.now) }
 {
-    let span = first_span(alloc, sources, frames)?;
+    let span = shown_span(alloc, sources, frames)?;
     push_head(alloc, out, sources, words, span)?;
     push_frames(alloc, out, sources, frames)?;
     push_first_variables(alloc, out, sources, frames, values)
@@ -267,7 +292,7 @@ pub(crate) fn push_failure(
     let program = sources.hub.program();
     let slice = run_slice(alloc, program, machine)?;
     let stood = machine.stepped(alloc, program, slice.steps - 1)?;
-    let words = fault_words(alloc, sources, machine.thread(), &slice.ask)?;
+    let words = fault_words(alloc, sources, &stood, &slice.ask)?;
     let calls = calls_down(alloc, &stood)?;
     let frames = frames_of(alloc, program, calls.as_slice())?;
     push_block(

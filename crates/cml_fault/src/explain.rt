@@ -1,22 +1,26 @@
 //! The faults of a run, as its schedule comes to them.
 
-ghost use Rattle.std.specs.Prelude.{◌≡◌, ◌++◌, ◌∷◌, [], true, IfOk, OnOk};
+ghost use Rattle.std.specs.Prelude.{◌≡◌, ◌++◌, ◌∷◌, ◌-◌, [], true, Some, IfOk, OnOk, slice_get};
 ghost use Rattle.cml_step.specs.Calls.{text_of};
 ghost use Rattle.cml_hub.specs.Kept.{NoneOut};
 ghost use Rattle.cml_hub.specs.Runs.{is_allowed};
-ghost use Rattle.cml_hub.specs.Deeds as deeds;
+ghost use Rattle.cml_hub.specs.Dones.{GoesOn};
 ghost use Rattle.cml_schedule.specs.declared.item.Item.TheVariants as item_of;
 ghost use Rattle.cml_fault.specs.Blocks.{AreBlocks};
-ghost use Rattle.cml_fault.specs.Failures.{failures};
-ghost use Rattle.cml_fault.specs.Faulted.{FaultedSo};
+ghost use Rattle.cml_fault.specs.Failures.{first_failures, block_limit};
+ghost use Rattle.cml_fault.specs.Faulted.{FaultedSo, others_line};
 ghost use Rattle.cml_fault.specs.Views.{plain_sources};
 
-use crate::block::{Sources, push_failure};
+use crate::block::{Sources, push_failure, push_number};
 use cml_hub::{Hub, Item};
 use cml_phrase::statement_places;
+use cml_step::Machine;
 use cml_text::Sexpr;
 use cml_value::Tid;
 use std::alloc::{AllocError, AllocFailed, Global};
+
+// How many faults are told.
+const BLOCK_LIMIT: usize = 20;
 
 // A hub at the beginning of the other's program.
 fn beginning(alloc: Global, hub: &Hub) -> Result<Hub, AllocError>
@@ -41,13 +45,26 @@ fn come(alloc: Global, hub: &mut Hub, item: Item) -> Result<(), AllocError>
     ensures items { OnOk result (hub.new.course.items ≡ hub.old.course.items ++ item ∷ []) }
     ensures none_out { OnOk result (NoneOut hub.new) }
 {
-    if !hub.follow(alloc, item)? {
-        unreachable!();
+    match hub.follow(alloc, item)? {
+        true => Ok(()),
+        false => unreachable!(),
     }
-    Ok(())
 }
 
-// The thread has its turn, which is allowed now. Where it ends at a fault, its block is appended.
+// The machine of a thread that runs, once more.
+fn running_machine(alloc: Global, hub: &Hub, thread: Tid) -> Result<Machine, AllocError>
+    requires { is_allowed hub.now.course.world (item_of.Turn thread) ≡ true }
+    ensures machine { IfOk result (λ m. slice_get hub.now.course.machines thread.0 ≡ Some m) }
+    ensures thread { IfOk result (λ m. m.thread ≡ thread.0) }
+    ensures goes { IfOk result (λ m. GoesOn hub.now.course.program m) }
+{
+    match hub.machine(thread) {
+        Some(machine) => machine.copy(alloc),
+        None => unreachable!(),
+    }
+}
+
+// The thread has its turn, which is allowed now. Where it ends at a fault, its block is appended, unless enough of them are there.
 fn tell_turn(
     alloc: Global,
     out: &mut Vec<u8>,
@@ -62,23 +79,24 @@ fn tell_turn(
     ensures items { OnOk result (second.new.course.items ≡ second.old.course.items ++ item_of.Turn thread ∷ []) }
     ensures none_out { OnOk result (NoneOut second.new) }
     ensures told { let k = plain_sources sources.now in let p = second.old.course.program in
-        OnOk result (AreBlocks k p (failures (text_of p) second.old.course.items) out.old.items
-        → AreBlocks k p (failures (text_of p) second.new.course.items) out.new.items) }
+        OnOk result (AreBlocks k p (first_failures (text_of p) second.old.course.items) out.old.items
+        → AreBlocks k p (first_failures (text_of p) second.new.course.items) out.new.items) }
 {
     let _so_far = second.schedule();
     let before = second.faults();
-    let Some(machine) = second.machine(thread) else {
-        unreachable!();
-    };
-    let kept = machine.copy(alloc)?;
+    if before >= BLOCK_LIMIT {
+        return come(alloc, second, Item::Turn(thread));
+    }
+    let kept = running_machine(alloc, second, thread)?;
     come(alloc, second, Item::Turn(thread))?;
-    if second.faults() == before {
+    let after = second.faults();
+    if after == before {
         return Ok(());
     }
     push_failure(alloc, out, sources, &kept)
 }
 
-// The item comes, which is allowed now. Where a thread ends at a fault by it, its block is appended.
+// The item comes, which is allowed now. Where a thread ends at a fault by it, its block is appended, unless enough of them are there.
 fn tell_item(
     alloc: Global,
     out: &mut Vec<u8>,
@@ -93,8 +111,8 @@ fn tell_item(
     ensures items { OnOk result (second.new.course.items ≡ second.old.course.items ++ item ∷ []) }
     ensures none_out { OnOk result (NoneOut second.new) }
     ensures told { let k = plain_sources sources.now in let p = second.old.course.program in
-        OnOk result (AreBlocks k p (failures (text_of p) second.old.course.items) out.old.items
-        → AreBlocks k p (failures (text_of p) second.new.course.items) out.new.items) }
+        OnOk result (AreBlocks k p (first_failures (text_of p) second.old.course.items) out.old.items
+        → AreBlocks k p (first_failures (text_of p) second.new.course.items) out.new.items) }
 {
     let _so_far = second.schedule();
     match item {
@@ -105,7 +123,7 @@ fn tell_item(
     }
 }
 
-// The schedule is gone through once more by a hub at its beginning, and the blocks of all threads that ended at a fault are appended.
+// The schedule is gone through once more by a hub at its beginning, and the blocks of the first threads that ended at faults are appended.
 fn tell_all(
     alloc: Global,
     out: &mut Vec<u8>,
@@ -117,7 +135,7 @@ fn tell_all(
     requires items { second.old.course.items ≡ [] }
     requires empty { out.old.items ≡ [] }
     ensures { let c = sources.now.hub.now.course in
-        OnOk result (AreBlocks (plain_sources sources.now) c.program (failures (text_of c.program) c.items) out.new.items) }
+        OnOk result (AreBlocks (plain_sources sources.now) c.program (first_failures (text_of c.program) c.items) out.new.items) }
 {
     let items = sources.hub.schedule();
     for i in 0..items.len() {
@@ -128,25 +146,45 @@ fn tell_all(
     Ok(())
 }
 
-// The same by a hub of its own, which is let go at one place.
+// The hub is used no more.
+#[inline(never)]
+fn let_go(hub: Hub) {
+    drop(hub);
+}
+
+// The blocks of the first threads that ended at faults, for which the schedule is gone through once more.
 fn told(alloc: Global, sources: &Sources<'_>) -> Result<Vec<u8>, AllocError>
     ensures { let c = sources.now.hub.now.course in
-        IfOk result (λ shown. AreBlocks (plain_sources sources.now) c.program (failures (text_of c.program) c.items) shown.items) }
+        IfOk result (λ shown. AreBlocks (plain_sources sources.now) c.program (first_failures (text_of c.program) c.items) shown.items) }
 {
     let mut out = Vec::new(alloc);
     let mut second = beginning(alloc, sources.hub)?;
     let done = tell_all(alloc, &mut out, sources, &mut second);
-    drop(second);
+    let_go(second);
     done?;
     Ok(out)
 }
 
-/// Where and why threads of a run ended at faults: a block for each, in the order in which they did. It is empty where no thread ended at a
-/// fault. The script has this name, text and forms.
+// Appends how many threads more ended at faults, if any did.
+fn push_others(alloc: Global, out: &mut Vec<u8>, count: usize) -> Result<(), AllocError>
+    ensures { OnOk result (out.new.items ≡ out.old.items ++ others_line count) }
+{
+    if count == 0 {
+        return Ok(());
+    }
+    if count == 1 {
+        return out.extend_from_slice(b"and 1 more thread ended at a fault\n");
+    }
+    out.extend_from_slice(b"and ")?;
+    push_number(alloc, out, count)?;
+    out.extend_from_slice(b" more threads ended at faults\n")
+}
+
+/// Where and why threads of a run ended at faults: a block for each of the first 20, in the order in which they did, and how many more did. It
+/// is empty where no thread ended at a fault. The script has this name, text and forms.
 ///
 /// # Errors
 /// Out of memory.
-#[tactic(auto, using(crate::proofs::FailureLemmas::no_faults))]
 pub fn explain_faults(
     alloc: Global,
     name: &str,
@@ -156,7 +194,8 @@ pub fn explain_faults(
 ) -> Result<Vec<u8>, AllocError>
     ensures { IfOk result (λ shown. FaultedSo name.now text.now forms.now hub.now.course shown.items) }
 {
-    if hub.faults() == 0 {
+    let faults = hub.faults();
+    if faults == 0 {
         return Ok(Vec::new(alloc));
     }
     let places = statement_places(alloc, text, forms)?;
@@ -167,5 +206,7 @@ pub fn explain_faults(
         places: places.as_slice(),
         hub,
     };
-    told(alloc, &sources)
+    let mut out = told(alloc, &sources)?;
+    push_others(alloc, &mut out, faults.saturating_sub(BLOCK_LIMIT))?;
+    Ok(out)
 }

@@ -4,7 +4,6 @@
 mod block;
 mod explain;
 mod frame;
-mod reason;
 mod variable;
 
 pub use explain::explain_faults;

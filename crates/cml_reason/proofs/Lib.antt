@@ -1,0 +1,3 @@
+pub mod ChoiceLemmas
+pub mod BlameLemmas
+pub mod StepLemmas
