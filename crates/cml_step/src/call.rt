@@ -22,7 +22,7 @@ ghost use Rattle.cml_step.specs.Steps as steps;
 ghost use Rattle.cml_step.specs.Steps.{PlainStep};
 
 use crate::ask::Ask;
-use crate::evaluate::{evaluate, evaluate_all};
+use crate::expression::{evaluate, evaluate_all};
 use crate::fault::Stop;
 use crate::kind::{event_of, ivar_of, mailbox_of, mchan_of, mvar_of, port_of, truth_of};
 use crate::number::{quick_int, quick_truth};

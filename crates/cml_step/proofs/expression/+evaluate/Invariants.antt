@@ -3,7 +3,7 @@ use Rattle.cml_check.specs.Syntax.{exprs, expr_depth, exprs_depth}
 use Rattle.cml_step.specs.Variables.{slot_value}
 use Rattle.cml_step.specs.Evaluate.{evaluate_all}
 use Rattle.cml_step.proofs.Prefixes.{prefixed}
-use Rattle.cml_step.proofs.evaluate.+evaluate.Given as goal
+use Rattle.cml_step.proofs.expression.+evaluate.Given as goal
 
 abbrev pub invariant-evaluate_all-loop-e : goal.invariant-evaluate_all-loop-e
 invariant-evaluate_all-loop-e l =
