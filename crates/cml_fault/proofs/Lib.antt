@@ -2,4 +2,5 @@ pub mod FailureLemmas
 pub mod BlockLemmas
 pub mod FrameLemmas
 pub mod WordLemmas
+pub mod ShownVariables
 pub mod ReplayLemmas

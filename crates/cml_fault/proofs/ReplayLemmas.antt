@@ -1,6 +1,10 @@
 -- What comes of an item that is allowed, one after another.
 use Rattle.std.proofs.Common.{◌≡◌, ℕ, ◌+◌, ◌<◌, ◌≤◌, Bool, true, false, List, [], ◌∷◌, ◌++◌, length, get_or, take, Option, Some, None, refl, sym, ap, subst, ◌∙◌}
-use Rattle.std.proofs.lemmas.List.{take_more, take_all}
+use Rattle.std.specs.Prelude.{slice_get}
+use Rattle.std.specs.Option.{option_map_or}
+use Rattle.std.proofs.lemmas.List.{take_more, take_all, get_or_default}
+use Rattle.cml_scan.specs.World.{PlainThread, running, pending_on, ended}
+use Rattle.cml_book.specs.Walks.{runs}
 use Rattle.cml_check.specs.Syntax.{PlainItem}
 use Rattle.cml_step.specs.Calls.{text_of}
 use Rattle.cml_schedule.specs.declared.item.Item.{Item}
@@ -19,6 +23,13 @@ pub has_come : (old new : PlainCourse) (item : Item) (came : Bool) → came ≡ 
 has_come old new item true so comes = comes
 has_come old new item false so comes = cc
 
+-- a thread that may have its turn runs
+pub runs_there : (o : Option PlainThread) → option_map_or runs o false ≡ true → o ≡ Some running
+runs_there None e = cc
+runs_there (Some running) e = refl
+runs_there (Some (pending_on g)) e = cc
+runs_there (Some ended) e = cc
+
 -- the next item of a schedule is allowed where the ones before it have led
 pub next_allowed : (items : List Item) (c : PlainCourse) (now : PlainCourse) (i : ℕ) (item : Item) → i < length items → item ≡ get_or items i item
     → items ≡ c.items → stands (text_of c.program) c.items ≡ Some (run_of c) → now.program ≡ c.program → now.items ≡ take i items
@@ -26,6 +37,10 @@ pub next_allowed : (items : List Item) (c : PlainCourse) (now : PlainCourse) (i 
 next_allowed items c now i item h is same whole program so_far leads =
     is_next_allowed (text_of c.program) items i item (run_of c) (run_of now) h is (ap (stands (text_of c.program)) same ∙ whole)
     (sym (ap (stands (text_of c.program)) so_far) ∙ (sym (ap (λ q. stands (text_of q) now.items) program) ∙ leads))
+
+-- an item by its number, whatever stands past the end
+pub item_at : (items : List Item) (i : ℕ) (d : Item) → i < length items → get_or items i d ≡ get_or items i (get_or items i d)
+item_at items i d h = get_or_default items i d (get_or items i d) h
 
 -- one item more
 pub taken_more : (items : List Item) (i : ℕ) (item : Item) → i < length items → item ≡ get_or items i item → take i items ++ item ∷ [] ≡ take (i + 1) items

@@ -5,19 +5,20 @@ use Rattle.std.specs.Fmt.{decimal}
 use Rattle.cml_text.specs.declared.sexpr.Span.{Span}
 use Rattle.cml_text.specs.Forms.{PlainSexpr}
 use Rattle.cml_value.specs.Value.{PlainValue, PlainFunction}
-use Rattle.cml_check.specs.Syntax.{PlainItem, Name}
+use Rattle.cml_check.specs.Syntax.{PlainItem}
 use Rattle.cml_place.specs.Shown.{shown_diagnosis}
 use Rattle.cml_step.specs.Asks.{PlainAsk}
 use Rattle.cml_step.specs.Machines.{PlainHeld, PlainMachine, machine_term}
 use Rattle.cml_phrase.specs.declared.place.Place.{Place}
 use Rattle.cml_phrase.specs.Names.{function_name, slot_names}
-use Rattle.cml_phrase.specs.Phrases.{thread_words, variable_words}
+use Rattle.cml_phrase.specs.Phrases.{thread_words}
 use Rattle.cml_phrase.specs.Spots.{statement_place, place_words}
 use Rattle.cml_phrase.specs.Statements.{spans_of}
 use Rattle.cml_reason.specs.Reasons.{reason_words}
 use Rattle.cml_fault.specs.declared.frame.Frame.{Frame}
 use Rattle.cml_fault.specs.Failures.{Failure}
 use Rattle.cml_fault.specs.Frames.{calls_down, AreFrames, first_values}
+use Rattle.cml_fault.specs.VariableLines.{variables_line}
 
 -- what is known: the script's name, text and forms, where the statements of each function begin, and the function with which each thread began
 pub record Known : Type 0 where
@@ -75,16 +76,6 @@ frame_lines k zero frames = rest_line (length frames)
 frame_lines k (suc n) [] = []
 frame_lines k (suc n) (frame ∷ frames) = frame_line k frame (first_frame frames) ++ frame_lines k n frames
 
--- variables by their names, each behind a comma
-abbrev pub more_variables : List Name → List PlainValue → List ℕ
-more_variables (x ∷ xs) (v ∷ vs) = codes ", " ++ (variable_words x v ++ more_variables xs vs)
-more_variables xs vs = []
-
--- the line of a call's variables, if it has any
-abbrev pub variables_line : List Name → List PlainValue → List ℕ
-variables_line (x ∷ xs) (v ∷ vs) = codes "   " ++ (variable_words x v ++ (more_variables xs vs ++ 10 ∷ []))
-variables_line xs vs = []
-
 -- the variables of the first frame
 abbrev pub first_variables : Known → Option Frame → List PlainValue → List ℕ
 first_variables k None vs = []
@@ -95,14 +86,18 @@ abbrev pub block_lines : Known → List ℕ → List Frame → List PlainValue �
 block_lines k words frames vs =
     head_lines k words (shown_span k frames) ++ (frame_lines k frame_limit frames ++ first_variables k (first_frame frames) vs)
 
--- Of this failure that is said, by a machine that stands for its term, and the frames of its calls.
+-- What is said of a thread that stood so before its last step, and asked for this by it, with the frames of its calls.
+pub record IsToldOf (k : Known) (p : List (PlainItem ℕ)) (m : PlainMachine) (a : PlainAsk) (shown : List ℕ) : Type 0 where
+  pub frames : List Frame
+  pub are : AreFrames p (calls_down m.stack) frames
+  pub text_is : shown ≡ block_lines k (thread_fault k p m a) frames (first_values (calls_down m.stack))
+
+-- What is said of a failure: by a machine of its thread that stands for its term.
 pub record IsBlock (k : Known) (p : List (PlainItem ℕ)) (f : Failure) (shown : List ℕ) : Type 0 where
   pub machine : PlainMachine
   pub thread : machine.thread ≡ f.thread
   pub stands : machine_term p machine ≡ f.stood
-  pub frames : List Frame
-  pub are : AreFrames p (calls_down machine.stack) frames
-  pub text_is : shown ≡ block_lines k (thread_fault k p machine f.ask) frames (first_values (calls_down machine.stack))
+  pub told : IsToldOf k p machine f.ask shown
 
 -- of each of these failures, one behind the other
 abbrev pub AreBlocks : Known → List (PlainItem ℕ) → List Failure → List ℕ → Type 0

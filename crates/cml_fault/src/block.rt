@@ -9,7 +9,7 @@ ghost use Rattle.cml_step.specs.AskViews.{plain_ask};
 ghost use Rattle.cml_step.specs.Answers.{top_await};
 ghost use Rattle.cml_step.specs.Answers as answers;
 ghost use Rattle.cml_fault.specs.Blocks as spec;
-ghost use Rattle.cml_fault.specs.Blocks.{IsBlock};
+ghost use Rattle.cml_fault.specs.Blocks.{IsBlock, IsToldOf};
 ghost use Rattle.cml_fault.specs.Failures.{failure_of};
 ghost use Rattle.cml_fault.specs.Views.{plain_sources, IsAdded};
 
@@ -273,6 +273,26 @@ fn push_block(
     push_first_variables(alloc, out, sources, frames, values)
 }
 
+// Appends what is said of a thread that stands so before its last step, and asks for this by it.
+fn push_stood(
+    alloc: Global,
+    out: &mut Vec<u8>,
+    sources: &Sources<'_>,
+    stood: &Machine,
+    ask: &Ask,
+) -> Result<(), AllocError>
+    ensures { let p = sources.now.hub.now.course.program in
+        let Said = IsToldOf (plain_sources sources.now) p stood.now (plain_ask ask.now) in
+        OnOk result (IsAdded Said out.old.items out.new.items) }
+{
+    let words = fault_words(alloc, sources, stood, ask)?;
+    let held = calls_down(alloc, stood)?;
+    let calls = held.as_slice();
+    let places = frames_of(alloc, sources.hub.program(), calls)?;
+    let frames = places.as_slice();
+    push_block(alloc, out, sources, words, frames, first_values(calls))
+}
+
 /// Appends the block of a thread that is to end at a fault in its next turn.
 ///
 /// # Errors
@@ -292,15 +312,5 @@ pub(crate) fn push_failure(
     let program = sources.hub.program();
     let slice = run_slice(alloc, program, machine)?;
     let stood = machine.stepped(alloc, program, slice.steps - 1)?;
-    let words = fault_words(alloc, sources, &stood, &slice.ask)?;
-    let calls = calls_down(alloc, &stood)?;
-    let frames = frames_of(alloc, program, calls.as_slice())?;
-    push_block(
-        alloc,
-        out,
-        sources,
-        words,
-        frames.as_slice(),
-        first_values(calls.as_slice()),
-    )
+    push_stood(alloc, out, sources, &stood, &slice.ask)
 }

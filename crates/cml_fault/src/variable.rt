@@ -1,14 +1,14 @@
 //! The variables of a call.
 
 ghost use Rattle.std.specs.Prelude.{◌≡◌, ◌++◌, OnOk, map, drop};
-ghost use Rattle.cml_fault.specs.Blocks as spec;
+ghost use Rattle.cml_fault.specs.VariableLines as spec;
 
 use cml_phrase::push_variable;
 use cml_value::Value;
 use std::alloc::{AllocError, Global};
 
 // Appends these variables from that number on, each behind a comma.
-#[tactic(auto, using(crate::proofs::WordLemmas::one_variable, crate::proofs::WordLemmas::no_variable))]
+#[tactic(auto, using(crate::proofs::ShownVariables::one_variable, crate::proofs::ShownVariables::no_variable))]
 fn push_more(
     alloc: Global,
     out: &mut Vec<u8>,

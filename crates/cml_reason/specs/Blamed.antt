@@ -1,5 +1,5 @@
 -- Which part of a statement has no value, and what is said of it: the leftmost innermost one whose own parts all have values, with these.
-use Rattle.std.specs.Prelude.{ℕ, List, Option, Some, None, Result, Ok, Err, unwrap_or, codes}
+use Rattle.std.specs.Prelude.{ℕ, Bool, true, false, if◌then◌else◌, List, Option, Some, None, Result, Ok, Err, unwrap_or, codes}
 use Rattle.std.specs.Option.{option_map_or}
 use Rattle.cml_value.specs.Value.{PlainValue, unit, event}
 use Rattle.cml_check.specs.Syntax.{PlainExpr, constant, number, text, variable, unary, binary, choose, wrap, guard, with_nack, PlainExprs, no_exprs, exprs_and}
@@ -21,9 +21,12 @@ abbrev pub valued : (ℕ → PlainValue) → PlainExpr ℕ → Option PlainValue
 valued of e = found_value (evaluate of e)
 
 -- the first value of some expressions that is no event
+abbrev pub is_an_event : PlainValue → Bool
+is_an_event (event e) = true
+is_an_event v = false
+
 abbrev pub no_event_or : Option PlainValue → Option PlainValue → Option PlainValue
-no_event_or (Some (event e)) others = others
-no_event_or (Some v) others = Some v
+no_event_or (Some v) others = if is_an_event v then others else Some v
 no_event_or None others = others
 
 abbrev pub first_no_event : (ℕ → PlainValue) → PlainExprs ℕ → Option PlainValue

@@ -1,6 +1,6 @@
 //! Which part of an expression has no value, and what is said of it.
 
-ghost use Rattle.std.specs.Prelude.{◌≡◌, ◌++◌, OnOk, IfOk, ℕ};
+ghost use Rattle.std.specs.Prelude.{◌≡◌, ◌++◌, OnOk, IfOk};
 ghost use Rattle.cml_check.specs.Syntax.{unary, binary, choose, wrap, guard};
 ghost use Rattle.cml_step.specs.Variables.{slot_value};
 ghost use Rattle.cml_reason.specs.Blamed as spec;
@@ -118,6 +118,7 @@ fn blame_choice(
     push_choice(alloc, out, why, found)
 }
 
+// The same of a wrap by a function, whichever that is.
 #[cycle(blame)]
 fn blame_wrap(
     alloc: Global,
@@ -127,7 +128,7 @@ fn blame_wrap(
     e: &Expr,
     es: &Exprs,
 ) -> Result<(), AllocError>
-    ensures { (f : ℕ) → OnOk result (out.new.items ≡ out.old.items ++ spec.blamed (slot_value slots.now) why (wrap e.now f es.now)) }
+    ensures { OnOk result (out.new.items ≡ out.old.items ++ spec.blamed (slot_value slots.now) why (wrap e.now 0 es.now)) }
 {
     let Some(value) = valued(alloc, slots, e)? else {
         return push_blame(alloc, out, slots, why, e);
@@ -138,7 +139,7 @@ fn blame_wrap(
     push_wrap(alloc, out, why, &value)
 }
 
-// The same of an event that is made by a function.
+// The same of an event that a function makes, whichever that is.
 #[cycle(blame)]
 fn blame_captured(
     alloc: Global,
@@ -147,7 +148,7 @@ fn blame_captured(
     why: Fault,
     es: &Exprs,
 ) -> Result<(), AllocError>
-    ensures { (f : ℕ) → OnOk result (out.new.items ≡ out.old.items ++ spec.blamed (slot_value slots.now) why (guard f es.now)) }
+    ensures { OnOk result (out.new.items ≡ out.old.items ++ spec.blamed (slot_value slots.now) why (guard 0 es.now)) }
 {
     if blame_first(alloc, out, slots, why, es)? {
         return Ok(());

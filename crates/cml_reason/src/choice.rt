@@ -1,7 +1,6 @@
 //! The values of expressions, one after another.
 
-ghost use Rattle.std.specs.Prelude.{◌≡◌, IfOk, Some, None, true};
-ghost use Rattle.cml_check.specs.Syntax.{exprs};
+ghost use Rattle.std.specs.Prelude.{◌≡◌, IfOk, None};
 ghost use Rattle.cml_step.specs.Variables.{slot_value};
 ghost use Rattle.cml_reason.specs.Blamed as spec;
 
@@ -21,14 +20,25 @@ pub(crate) fn valued(alloc: Global, slots: &[Value], e: &Expr) -> Result<Option<
     }
 }
 
-// The value, if it is there and is no event.
-fn no_event(value: Option<Value>) -> Option<Value>
-    ensures { result ≡ spec.no_event_or value None }
+// Whether the value is an event.
+fn is_event(value: &Value) -> bool
+    ensures { result ≡ spec.is_an_event value.now }
 {
-    let value = value?;
-    match value.kind() {
-        ValueKind::Event(_) => None,
-        _ => Some(value),
+    matches!(value.kind(), ValueKind::Event(_))
+}
+
+// The value of an expression, if it has one that is no event.
+fn no_event(alloc: Global, slots: &[Value], e: &Expr) -> Result<Option<Value>, AllocError>
+    ensures { IfOk result (λ v. v ≡ spec.no_event_or (spec.valued (slot_value slots.now) e.now) None) }
+{
+    match valued(alloc, slots, e)? {
+        Some(value) => {
+            if is_event(&value) {
+                return Ok(None);
+            }
+            Ok(Some(value))
+        }
+        None => Ok(None),
     }
 }
 
@@ -42,7 +52,7 @@ pub(crate) fn first_no_event(
     ensures { IfOk result (λ found. found ≡ spec.first_no_event (slot_value slots.now) es.now) }
 {
     for e in &es.items {
-        if let Some(value) = no_event(valued(alloc, slots, e)?) {
+        if let Some(value) = no_event(alloc, slots, e)? {
             return Ok(Some(value));
         }
     }

@@ -1,6 +1,6 @@
 //! What is said of a statement at which a step was at fault.
 
-ghost use Rattle.std.specs.Prelude.{◌≡◌, ◌++◌, OnOk, ℕ};
+ghost use Rattle.std.specs.Prelude.{◌≡◌, ◌++◌, OnOk};
 ghost use Rattle.cml_check.specs.Syntax.{act_on_one, act_on_two, call};
 ghost use Rattle.cml_check.specs.StmtViews.{plain_effect, plain_source};
 ghost use Rattle.cml_check.specs.InstrViews.{plain_instr};
@@ -55,7 +55,7 @@ fn push_on_two(
     }
 }
 
-// The same of one that is given a function and values.
+// The same of one that is given a function, whichever that is, and values.
 fn push_on_all(
     alloc: Global,
     out: &mut Vec<u8>,
@@ -63,7 +63,7 @@ fn push_on_all(
     why: Fault,
     es: &Exprs,
 ) -> Result<(), AllocError>
-    ensures { (f : ℕ) → OnOk result (out.new.items ≡ out.old.items ++ spec.effect_words (slot_value slots.now) why (call f es.now)) }
+    ensures { OnOk result (out.new.items ≡ out.old.items ++ spec.effect_words (slot_value slots.now) why (call 0 es.now)) }
 {
     if blame_first(alloc, out, slots, why, es)? {
         return Ok(());

@@ -3,4 +3,4 @@ use Rattle.cml_fault.proofs.block.push_failure.Goals as goal
 
 pub returns : goal.returns
 returns c =
-    block_so _ _ _ _ _ _ _ _ _ _ _ _ _ c.in_ok-run_slice.ensures.meant c.in_ok-stepped.ensures.meant c.in_ok-fault_words.ensures c.in_ok-calls_down.ensures c.in_ok-frames_of.ensures c.first_values.ensures c.push_block.ensures
+    block_so _ _ _ _ _ _ _ _ _ c.program.ensures c.in_ok-slice.ensures.meant c.in_ok-stood.ensures.meant c.in_ok-stood.ensures.thread c.push_stood.ensures

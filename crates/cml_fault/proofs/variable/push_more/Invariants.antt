@@ -1,5 +1,5 @@
 use Rattle.std.proofs.Common.{◌≡◌, ◌++◌, drop, map}
-use Rattle.cml_fault.specs.Blocks.{more_variables}
+use Rattle.cml_fault.specs.VariableLines.{more_variables}
 use Rattle.cml_fault.proofs.variable.push_more.Given as goal
 
 abbrev pub invariant-loop-i : goal.invariant-loop-i

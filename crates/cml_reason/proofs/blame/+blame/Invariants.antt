@@ -8,7 +8,7 @@ use Rattle.cml_reason.proofs.blame.+blame.Given as goal
 abbrev pub invariant-blame_first-loop-e : goal.invariant-blame_first-loop-e
 invariant-blame_first-loop-e l = record {
   left : blamed_first (slot_value l.slots) l.why (exprs (drop l.e-index l.e-items)) ≡ blamed_first (slot_value l.slots) l.why (exprs l.e-items);
-  same : l.out.items ≡ l.fn.out.now.items;
+  same : l.out.items ≡ l.fn.out.items;
 }
 
 -- a part of an expression comes before the whole
