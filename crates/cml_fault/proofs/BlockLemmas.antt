@@ -1,6 +1,6 @@
 -- One block more, where it could be made.
-use Rattle.std.proofs.Common.{◌≡◌, ◌≢◌, ℕ, ◌-◌, ◌<◌, ◌≤◌, List, [], ◌∷◌, ◌++◌, map, Some, None, refl, sym, ap, subst, ◌∙◌}
-use Rattle.std.specs.Prelude.{Result, Ok, Err, OnOk, slice_get, option_map}
+use Rattle.std.proofs.Common.{◌≡◌, ◌≢◌, ℕ, ◌-◌, ◌<◌, ◌≤◌, List, [], ◌∷◌, ◌++◌, map, Some, None, refl, sym, ap, subst, ◌∙◌, append_assoc}
+use Rattle.std.specs.Prelude.{Result, Ok, Err, OnOk, IfOk, slice_get, option_map, codes}
 use Rattle.std.proofs.lemmas.Option.{slice_get-map}
 use Rattle.cml_value.specs.declared.number.Tid.{Tid}
 use Rattle.cml_value.specs.Value.{PlainValue}
@@ -14,13 +14,24 @@ use Rattle.cml_schedule.specs.declared.item.Item.TheVariants.{Turn}
 use Rattle.cml_hub.specs.Deeds.{fault_count}
 use Rattle.cml_hub.specs.Runs.{Run, stands}
 use Rattle.cml_hub.specs.Courses.{PlainCourse, run_of}
+use Rattle.cml_reason.specs.Reasons.{reason_words}
 use Rattle.cml_fault.specs.declared.frame.Frame.{Frame}
 use Rattle.cml_fault.specs.Failures.{failure_of, failure_by, block_limit, first_failures}
 use Rattle.cml_fault.specs.Frames.{calls_down, AreFrames, first_values}
-use Rattle.cml_fault.specs.Blocks.{Known, thread_fault, block_lines, IsToldOf, IsBlock, AreBlocks}
+use Rattle.cml_fault.specs.Blocks.{Known, who_words, thread_fault, block_lines, IsToldOf, IsBlock, AreBlocks}
 use Rattle.cml_step.specs.Asks.{PlainAsk}
 use Rattle.cml_fault.specs.Views.{IsAdded}
 use Rattle.cml_fault.proofs.FailureLemmas.{nobody_more, none_by, past_limit, one_more}
+
+-- who, and why
+pub fault_said : (k : Known) (p q : List (PlainItem ℕ)) (m : PlainMachine) (a : PlainAsk) (t : ℕ) (o x y z : List ℕ) → o ≡ [] → x ≡ o ++ who_words k t → t ≡ m.thread →
+    y ≡ x ++ codes " ends at a fault: " → q ≡ p → z ≡ y ++ reason_words q m a → z ≡ thread_fault k p m a
+fault_said k p q m a t o x y z none e own f same g =
+    let says : List ℕ = codes " ends at a fault: " in
+    let why : List ℕ = reason_words p m a in
+    let z_is : z ≡ y ++ why = g ∙ ap (λ r. y ++ reason_words r m a) same in
+    let x_is : x ≡ who_words k m.thread = e ∙ (ap (λ w. w ++ who_words k t) none ∙ ap (who_words k) own) in
+    z_is ∙ (ap (λ w. w ++ why) f ∙ (append_assoc x says why ∙ ap (λ w. w ++ (says ++ why)) x_is))
 
 -- what is said of a thread that stood so
 pub told_so : {T E : Type 0} (r : Result T E) (k : Known) (p q : List (PlainItem ℕ)) (m : PlainMachine) (a : PlainAsk) (words : List ℕ) (held calls : List PlainHeld) (places frames : List Frame) (vs : List PlainValue)
@@ -75,7 +86,7 @@ pub turn_told : {T E : Type 0} (r : Result T E) (k : Known) (c new : PlainCourse
     before < block_limit →
     OnOk r (IsAdded (IsBlock k p (failure_of (text_of p) m.thread (machine_term p m))) o n) →
     OnOk r (AreBlocks k c.program (first_failures (text_of c.program) c.items) o → AreBlocks k c.program (first_failures (text_of c.program) new.items) n)
-turn_told (Ok x) k c new p t m before after o n leads here at own same is was now differs room one are =
+turn_told (Ok x) k c new p t m before after o n leads here at own same is was now differs room one = λ are.
     let text = text_of c.program in
     let all = c.items ++ Turn t ∷ [] in
     let count : after ≡ fault_count text all = now ∙ (ap (λ q. fault_count (text_of q) new.items) same ∙ ap (fault_count text) is) in
@@ -106,7 +117,7 @@ turn_untold k c new item before after o leads same is was now equal are =
 pub turn_past : {T E : Type 0} (r : Result T E) (k : Known) (c new : PlainCourse) (item : Item) (before : ℕ) (o : List ℕ) →
     stands (text_of c.program) c.items ≡ Some (run_of c) → before ≡ fault_count (text_of c.program) c.items → block_limit ≤ before → OnOk r (new.items ≡ c.items ++ item ∷ []) →
     OnOk r (AreBlocks k c.program (first_failures (text_of c.program) c.items) o → AreBlocks k c.program (first_failures (text_of c.program) new.items) o)
-turn_past (Ok x) k c new item before o leads was enough is are =
+turn_past (Ok x) k c new item before o leads was enough is = λ are.
     let text = text_of c.program in
     subst (λ items. AreBlocks k c.program (first_failures text items) o) (sym is)
     (past_limit k c.program text c.items item (run_of c) o leads (subst (λ b. block_limit ≤ b) was enough) are)
@@ -116,7 +127,12 @@ turn_past (Err y) k c new item before o leads was enough is = tt
 pub item_untold : {T E : Type 0} (r : Result T E) (k : Known) (c new : PlainCourse) (item : Item) (o : List ℕ) →
     stands (text_of c.program) c.items ≡ Some (run_of c) → failure_by (text_of c.program) (run_of c) item ≡ None → OnOk r (new.items ≡ c.items ++ item ∷ []) →
     OnOk r (AreBlocks k c.program (first_failures (text_of c.program) c.items) o → AreBlocks k c.program (first_failures (text_of c.program) new.items) o)
-item_untold (Ok x) k c new item o leads none is are =
+item_untold (Ok x) k c new item o leads none is = λ are.
     subst (λ items. AreBlocks k c.program (first_failures (text_of c.program) items) o) (sym is)
     (none_by k c.program (text_of c.program) c.items item (run_of c) o leads none are)
 item_untold (Err y) k c new item o leads none is = tt
+
+-- the machine of a thread, once more
+pub copied_goes : {E : Type 0} (r : Result PlainMachine E) (m : PlainMachine) (P : PlainMachine → Type 0) → P m → IfOk r (λ x. x ≡ m) → IfOk r P
+copied_goes (Ok x) m P holds same = subst P (sym same) holds
+copied_goes (Err y) m P holds same = tt

@@ -1,5 +1,5 @@
 -- The failures of a schedule, one item after another.
-use Rattle.std.proofs.Common.{◌≡◌, ◌≢◌, ℕ, zero, suc, ◌+◌, ◌<◌, ◌≤◌, Bool, true, false, cond, List, [], ◌∷◌, ◌++◌, length, get_or, take, drop, map, Option, Some, None, refl, sym, ap, subst, ◌∙◌, arith, append_assoc, append-nil}
+use Rattle.std.proofs.Common.{◌≡◌, ◌≢◌, ℕ, zero, suc, ◌+◌, ◌<◌, ◌≤◌, Bool, true, false, cond, List, [], ◌∷◌, ◌++◌, length, get_or, take, drop, map, Option, Some, None, refl, sym, ap, subst, ◌∙◌, arith, append_assoc, append-nil, zero-add}
 use Rattle.std.specs.Prelude.{if◌then◌else◌, option_and_then, option_map, slice_get, count_by}
 use Rattle.std.specs.Option.{option_to_list}
 use Rattle.std.proofs.lemmas.List.{take-append-drop, take-append-le, take_all, drop_more, length-append, length_push}
@@ -39,17 +39,17 @@ counted_if false f n = refl
 counted_turn : (p : Program) (now : Run) (t : ℕ) (o : Option Term) (ds : List PlainDone) →
     count_by is_fault (after_deed (option_map (λ term. (performed now.world t (sliced p t term).ask).1) o) ds)
     ≡ length (option_to_list (option_and_then (failure_from p now t) o)) + count_by is_fault ds
-counted_turn p now t None ds = refl
+counted_turn p now t None ds = sym (zero-add (count_by is_fault ds))
 counted_turn p now t (Some term) ds = counted_if (is_fault (performed now.world t (sliced p t term).ask).1) (failure_of p t term) (count_by is_fault ds)
 
 counted_item : (p : Program) (r : Option Run) (item : Item) (ds : List PlainDone) →
     count_by is_fault (after_deed (option_and_then (λ now. deed p now item) r) ds)
     ≡ length (option_to_list (option_and_then (λ now. failure_by p now item) r)) + count_by is_fault ds
-counted_item p None item ds = refl
+counted_item p None item ds = sym (zero-add (count_by is_fault ds))
 counted_item p (Some now) (Turn t) ds = counted_turn p now t.0 (slice_get now.terms t.0) ds
-counted_item p (Some now) (Meet row) ds = refl
-counted_item p (Some now) (Exchange row) ds = refl
-counted_item p (Some now) (Clock tick) ds = refl
+counted_item p (Some now) (Meet row) ds = sym (zero-add (count_by is_fault ds))
+counted_item p (Some now) (Exchange row) ds = sym (zero-add (count_by is_fault ds))
+counted_item p (Some now) (Clock tick) ds = sym (zero-add (count_by is_fault ds))
 
 counted_from : (p : Program) (r : Option Run) (items : List Item) → count_by is_fault (deeds_from p r items) ≡ length (failures_from p r items)
 counted_from p r [] = refl
@@ -73,9 +73,9 @@ no_faults k p text items none = no_blocks k p (failures text items) (sym none �
 
 -- one block more
 pub blocks-push : (k : Known) (p : List (PlainItem ℕ)) (fs : List Failure) (f : Failure) (old added : List ℕ) → AreBlocks k p fs old → IsBlock k p f added → AreBlocks k p (fs ++ f ∷ []) (old ++ added)
-blocks-push k p [] f old added are is = (added, ([], (ap (λ x. x ++ added) are ∙ sym (append-nil added), (is, refl))))
-blocks-push k p (g ∷ fs) f old added (first, (rest, (split, (block, are)))) is =
-    (first, (rest ++ added, (ap (λ x. x ++ added) split ∙ append_assoc first rest added, (block, blocks-push k p fs f rest added are is))))
+blocks-push k p [] f old added are is = (added, [], ap (λ x. x ++ added) are ∙ sym (append-nil added), is, refl)
+blocks-push k p (g ∷ fs) f old added (first, rest, split, block, are) is =
+    (first, rest ++ added, ap (λ x. x ++ added) split ∙ append_assoc first rest added, block, blocks-push k p fs f rest added are is)
 
 -- an item by which no thread fails
 still_nothing : (fs gs : List Failure) → length (fs ++ gs) ≡ length fs → gs ≡ []

@@ -4,3 +4,4 @@ pub mod FrameLemmas
 pub mod WordLemmas
 pub mod ShownVariables
 pub mod ReplayLemmas
+pub mod EndLemmas

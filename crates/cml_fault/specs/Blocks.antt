@@ -35,9 +35,13 @@ frame_span k frame = option_and_then (slice_get (spans_of (slice_get k.forms fra
 abbrev pub frame_place : Known → Frame → Option Place
 frame_place k frame = option_and_then (statement_place k.places frame.function) frame.statement
 
+-- a thread, with the function with which it began
+abbrev pub who_words : Known → ℕ → List ℕ
+who_words k t = thread_words k.forms (record { thread = t; began = slice_get k.began t })
+
 -- who is at fault, and why: a thread that stood so before its last step, and asked for this by it
 abbrev pub thread_fault : Known → List (PlainItem ℕ) → PlainMachine → PlainAsk → List ℕ
-thread_fault k p m a = thread_words k.forms (record { thread = m.thread; began = slice_get k.began m.thread }) ++ (codes " ends at a fault: " ++ reason_words p m a)
+thread_fault k p m a = who_words k m.thread ++ (codes " ends at a fault: " ++ reason_words p m a)
 
 -- that at its place, with the line, where there is a place
 abbrev pub head_lines : Known → List ℕ → Option Span → List ℕ

@@ -24,7 +24,7 @@ use cml_place::{Diagnosis, render};
 use cml_reason::push_reason;
 use cml_step::{Ask, Machine, run_slice};
 use cml_text::{Sexpr, Span};
-use cml_value::Value;
+use cml_value::{Tid, Value};
 use std::alloc::{AllocError, Global};
 
 // How many calls are told.
@@ -107,6 +107,23 @@ fn first_place(sources: &Sources<'_>, frames: &[Frame]) -> Option<Place>
     statement_place(sources.places, frame.function, statement)
 }
 
+// Appends a thread, with the function with which it began.
+fn push_who(
+    alloc: Global,
+    out: &mut Vec<u8>,
+    sources: &Sources<'_>,
+    thread: Tid,
+) -> Result<(), AllocError>
+    ensures { OnOk result (out.new.items ≡ out.old.items
+        ++ spec.who_words (plain_sources sources.now) thread.0) }
+{
+    let who = Who {
+        thread,
+        began: sources.hub.origin(thread),
+    };
+    push_thread(alloc, out, sources.forms, who)
+}
+
 // Who is at fault, and why: the thread of this machine, which asks for this by its next step.
 fn fault_words(
     alloc: Global,
@@ -118,11 +135,7 @@ fn fault_words(
         IfOk result (λ words. words.items ≡ spec.thread_fault (plain_sources sources.now) p machine.now (plain_ask ask.now)) }
 {
     let mut out = Vec::new(alloc);
-    let who = Who {
-        thread: machine.thread(),
-        began: sources.hub.origin(machine.thread()),
-    };
-    push_thread(alloc, &mut out, sources.forms, who)?;
+    push_who(alloc, &mut out, sources, machine.thread())?;
     out.extend_from_slice(b" ends at a fault: ")?;
     push_reason(alloc, &mut out, sources.hub.program(), machine, ask)?;
     Ok(out)
@@ -218,7 +231,7 @@ fn push_rest(alloc: Global, out: &mut Vec<u8>, count: usize) -> Result<(), Alloc
 }
 
 // Appends the lines of the first frames, and how many more there are.
-#[tactic(auto, using(crate::proofs::WordLemmas::one_frame, crate::proofs::WordLemmas::frames_left))]
+#[tactic(auto, using(crate::proofs::WordLemmas::frames_left))]
 fn push_frames(
     alloc: Global,
     out: &mut Vec<u8>,

@@ -8,7 +8,6 @@ use cml_value::Value;
 use std::alloc::{AllocError, Global};
 
 // Appends these variables from that number on, each behind a comma.
-#[tactic(auto, using(crate::proofs::ShownVariables::one_variable, crate::proofs::ShownVariables::no_variable))]
 fn push_more(
     alloc: Global,
     out: &mut Vec<u8>,
