@@ -3,6 +3,7 @@ use Rattle.std.proofs.Common.{◌≡◌, ◌≢◌, ℕ, zero, suc, ◌+◌, ◌
 use Rattle.std.specs.Prelude.{if◌then◌else◌, option_and_then, option_map, slice_get, count_by}
 use Rattle.std.specs.Option.{option_to_list}
 use Rattle.std.proofs.lemmas.List.{take-append-drop, take-append-le, take_all, drop_more, length-append, length_push}
+use Rattle.std.proofs.lemmas.List.Sums.{sum_by-cons}
 use Rattle.cml_check.specs.Syntax.{PlainItem}
 use Rattle.cml_step.specs.Terms.{Program, Term}
 use Rattle.cml_step.specs.Slices.{sliced}
@@ -40,7 +41,9 @@ counted_turn : (p : Program) (now : Run) (t : ℕ) (o : Option Term) (ds : List 
     count_by is_fault (after_deed (option_map (λ term. (performed now.world t (sliced p t term).ask).1) o) ds)
     ≡ length (option_to_list (option_and_then (failure_from p now t) o)) + count_by is_fault ds
 counted_turn p now t None ds = sym (zero-add (count_by is_fault ds))
-counted_turn p now t (Some term) ds = counted_if (is_fault (performed now.world t (sliced p t term).ask).1) (failure_of p t term) (count_by is_fault ds)
+counted_turn p now t (Some term) ds =
+    let done = (performed now.world t (sliced p t term).ask).1 in
+    sum_by-cons (λ (d : PlainDone). cond (is_fault d) 1 0) done ds ∙ counted_if (is_fault done) (failure_of p t term) (count_by is_fault ds)
 
 counted_item : (p : Program) (r : Option Run) (item : Item) (ds : List PlainDone) →
     count_by is_fault (after_deed (option_and_then (λ now. deed p now item) r) ds)
