@@ -1,5 +1,6 @@
 //! What is said of the threads that ended at faults: whole texts, each written by hand.
 
+use crate::budgets::in_range;
 use crate::making::{MEMORY, forms, program};
 use cml_fault::explain_faults;
 use cml_hub::{Hub, Script};
@@ -100,7 +101,8 @@ const CASES: [Case; 17] = [
 fn said_of(rt: &(impl Abort + AllocGlobal), script: &str) -> Vec<u8> {
     let forms = forms(rt, script);
     let program = program(rt, forms.as_slice());
-    let mut hub = Hub::begin(rt.alloc(), program, 100_000, None)
+    let budget = in_range(rt, 100_000);
+    let mut hub = Hub::begin(rt.alloc(), program, budget, None)
         .ok()
         .expect(rt, MEMORY);
     let mut chooser = Script::new(Vec::new(rt.alloc()));
@@ -130,9 +132,11 @@ fn explains_faults(rt: HostRuntime) {
 
 #[test]
 fn tells_twenty_faults(rt: HostRuntime) {
-    let script = "(fn bad ()\n  (sync 1))\n(fn main ()\n  (let i 0)\n  (while (< i 22)\n    (spawn bad)\n    (set i (+ i 1))))";
+    let script =
+        "(fn bad ()\n  (sync 1))\n(fn main ()\n  (let i 0)\n  (while (< i 22)\n    (spawn bad)\n    (set i (+ i 1))))";
     let said = said_of(&rt, script);
-    let end = b"a.cml:2:3: thread 20 bad ends at a fault: sync takes an event, and was given 1\n2 |   (sync 1))\n  |   ^^^^^^^^\n   in bad\nand 2 more threads ended at faults\n";
+    let end =
+        b"a.cml:2:3: thread 20 bad ends at a fault: sync takes an event, and was given 1\n2 |   (sync 1))\n  |   ^^^^^^^^\n   in bad\nand 2 more threads ended at faults\n";
     assert!(rt; said.as_slice().ends_with(end), "the last ones");
     drop(said);
 }
