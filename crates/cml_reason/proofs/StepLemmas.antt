@@ -1,6 +1,6 @@
 -- What is said of an instruction is said of the statement that it is.
-use Rattle.std.proofs.Common.{◌≡◌, ℕ, List, [], ◌∷◌, ◌++◌, Option, Some, None, refl, sym, ap, subst, ◌∙◌}
-use Rattle.std.specs.Prelude.{reverse, slice_get, OnOk, Result}
+use Rattle.std.proofs.Common.{◌≡◌, ℕ, List, [], ◌∷◌, ◌++◌, Some, None, sym, ap, subst, ◌∙◌}
+use Rattle.std.specs.Prelude.{slice_get, OnOk, Result}
 use Rattle.std.proofs.lemmas.List.{reverse-append}
 use Rattle.cml_value.specs.Value.{PlainValue, unit}
 use Rattle.cml_check.specs.Syntax.{PlainStmts, no_stmts}

@@ -1,5 +1,5 @@
 -- Which part of a statement has no value, and what is said of it: the leftmost innermost one whose own parts all have values, with these.
-use Rattle.std.specs.Prelude.{ℕ, Bool, true, false, if◌then◌else◌, List, Option, Some, None, Result, Ok, Err, unwrap_or, codes}
+use Rattle.std.specs.Prelude.{ℕ, Bool, true, false, if◌then◌else◌, List, Option, Some, None, Ok, Err, unwrap_or, codes}
 use Rattle.std.specs.Option.{option_map_or}
 use Rattle.cml_value.specs.Value.{PlainValue, unit, event}
 use Rattle.cml_check.specs.Syntax.{PlainExpr, constant, number, text, variable, unary, binary, choose, wrap, guard, with_nack, PlainExprs, no_exprs, exprs_and}

@@ -1,5 +1,5 @@
 -- What is said of an operation that has no value, and of an effect that can't be, by the values that it was given.
-use Rattle.std.specs.Prelude.{ℕ, Bool, if◌then◌else◌, List, ◌++◌, codes, Option, Some, None}
+use Rattle.std.specs.Prelude.{ℕ, if◌then◌else◌, List, ◌++◌, codes, Option, Some, None}
 use Rattle.cml_value.specs.Value.{PlainValue}
 use Rattle.cml_check.specs.declared.syntax.Unary.{Unary}
 use Rattle.cml_check.specs.declared.syntax.Binary.{Binary}

@@ -1,5 +1,5 @@
 -- Why a thread ended at a fault: by where it stood before its last step, and what it asked for by that.
-use Rattle.std.specs.Prelude.{ℕ, List, ◌++◌, codes, reverse, Option, Some, None, slice_get}
+use Rattle.std.specs.Prelude.{ℕ, List, ◌++◌, codes, reverse, Option, Some, slice_get}
 use Rattle.std.specs.Option.{option_map_or}
 use Rattle.std.specs.Fmt.{decimal}
 use Rattle.cml_check.specs.Syntax.{PlainItem}

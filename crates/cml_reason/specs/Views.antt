@@ -9,9 +9,9 @@ use Rattle.cml_reason.specs.Given.{test_words, returned_words}
 use Rattle.cml_reason.specs.Blamed.{valued, blamed, effect_words, source_words}
 
 -- these words were added, where there are any, and it is told whether there are
-abbrev pub IsSaid : Option (List ℕ) → Bool → List ℕ → List ℕ → Type 0
-IsSaid (Some words) said old new = (said ≡ true) × (new ≡ old ++ words)
-IsSaid None said old new = (said ≡ false) × (new ≡ old)
+abbrev pub IsBlamed : Option (List ℕ) → Bool → List ℕ → List ℕ → Type 0
+IsBlamed (Some words) said old new = (said ≡ true) × (new ≡ old ++ words)
+IsBlamed None said old new = (said ≡ false) × (new ≡ old)
 
 -- what is said of a test, and of an instruction, as of the statement that it is
 abbrev pub tested_words : List ℕ → (ℕ → PlainValue) → Fault → PlainExpr ℕ → List ℕ

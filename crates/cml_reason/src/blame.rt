@@ -5,7 +5,7 @@ ghost use Rattle.cml_check.specs.Syntax.{unary, binary, choose, wrap, guard};
 ghost use Rattle.cml_step.specs.Variables.{slot_value};
 ghost use Rattle.cml_reason.specs.Blamed as spec;
 ghost use Rattle.cml_reason.specs.Given.{made_reason};
-ghost use Rattle.cml_reason.specs.Views.{IsSaid};
+ghost use Rattle.cml_reason.specs.Views.{IsBlamed};
 
 use crate::choice::{first_no_event, valued};
 use crate::words::{push_binary, push_choice, push_made, push_plain, push_unary, push_wrap};
@@ -90,7 +90,7 @@ pub(crate) fn blame_first(
     why: Fault,
     es: &Exprs,
 ) -> Result<bool, AllocError>
-    ensures { IfOk result (λ said. IsSaid (spec.blamed_first (slot_value slots.now) why es.now) said out.old.items out.new.items) }
+    ensures { IfOk result (λ said. IsBlamed (spec.blamed_first (slot_value slots.now) why es.now) said out.old.items out.new.items) }
 {
     for e in &es.items {
         if valued(alloc, slots, e)?.is_none() {
