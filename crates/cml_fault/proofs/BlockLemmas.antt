@@ -1,18 +1,18 @@
 -- One block more, where it could be made.
-use Rattle.std.proofs.Common.{◌≡◌, ◌≢◌, ℕ, ◌-◌, ◌<◌, ◌≤◌, List, [], ◌∷◌, ◌++◌, map, Some, None, refl, sym, ap, subst, ◌∙◌, append_assoc}
+use Rattle.std.proofs.Common.{◌≡◌, ◌≢◌, ℕ, ◌-◌, ◌<◌, ◌≤◌, List, [], ◌∷◌, ◌++◌, map, Some, None, sym, ap, subst, ◌∙◌, append_assoc}
 use Rattle.std.specs.Prelude.{Result, Ok, Err, OnOk, IfOk, slice_get, option_map, codes}
 use Rattle.std.proofs.lemmas.Option.{slice_get-map}
 use Rattle.cml_value.specs.declared.number.Tid.{Tid}
 use Rattle.cml_value.specs.Value.{PlainValue}
 use Rattle.cml_check.specs.Syntax.{PlainItem}
-use Rattle.cml_step.specs.Terms.{Program, Term}
+use Rattle.cml_step.specs.Terms.{Term}
 use Rattle.cml_step.specs.Slices.{PlainSlice, sliced, sliced_from}
 use Rattle.cml_step.specs.Calls.{text_of}
 use Rattle.cml_step.specs.Machines.{PlainHeld, PlainMachine, machine_term}
 use Rattle.cml_schedule.specs.declared.item.Item.{Item}
 use Rattle.cml_schedule.specs.declared.item.Item.TheVariants.{Turn}
 use Rattle.cml_hub.specs.Deeds.{fault_count}
-use Rattle.cml_hub.specs.Runs.{Run, stands}
+use Rattle.cml_hub.specs.Runs.{stands}
 use Rattle.cml_hub.specs.Courses.{PlainCourse, run_of}
 use Rattle.cml_reason.specs.Reasons.{reason_words}
 use Rattle.cml_fault.specs.declared.frame.Frame.{Frame}

@@ -8,7 +8,7 @@ use Rattle.cml_value.specs.Value.{PlainValue, PlainFunction}
 use Rattle.cml_check.specs.Syntax.{PlainItem}
 use Rattle.cml_place.specs.Shown.{shown_diagnosis}
 use Rattle.cml_step.specs.Asks.{PlainAsk}
-use Rattle.cml_step.specs.Machines.{PlainHeld, PlainMachine, machine_term}
+use Rattle.cml_step.specs.Machines.{PlainMachine, machine_term}
 use Rattle.cml_phrase.specs.declared.place.Place.{Place}
 use Rattle.cml_phrase.specs.Names.{function_name, slot_names}
 use Rattle.cml_phrase.specs.Phrases.{thread_words}

@@ -6,7 +6,7 @@ use Rattle.cml_step.specs.Slices.{sliced, sliced_from}
 use Rattle.cml_step.specs.Asks.{PlainAsk}
 use Rattle.cml_schedule.specs.declared.item.Item.{Item}
 use Rattle.cml_schedule.specs.declared.item.Item.TheVariants.{Turn}
-use Rattle.cml_hub.specs.Performed.{PlainDone, performed}
+use Rattle.cml_hub.specs.Performed.{performed}
 use Rattle.cml_hub.specs.Deeds.{is_fault}
 use Rattle.cml_hub.specs.Runs.{Run, opening, advance}
 

@@ -6,7 +6,7 @@ use Rattle.cml_check.specs.Syntax.{PlainItem}
 use Rattle.cml_step.specs.declared.call.Wait.{Wait}
 use Rattle.cml_step.specs.declared.call.Wait.TheVariants as wait
 use Rattle.cml_step.specs.Calls.{placed_in}
-use Rattle.cml_step.specs.Machines.{PlainHeld, call, force, wraps}
+use Rattle.cml_step.specs.Machines.{PlainHeld, call}
 use Rattle.cml_step.specs.Standing.{StandsIn}
 use Rattle.cml_fault.specs.declared.frame.Frame.{Frame}
 

@@ -1,4 +1,4 @@
-use Rattle.std.proofs.Common.{◌≡◌, ◌<◌, ◌+◌, ◌-◌, ℕ, length, get_or, drop, arith}
+use Rattle.std.proofs.Common.{◌<◌, ◌+◌, ◌-◌, length, get_or, drop, arith}
 use Rattle.std.proofs.lemmas.List.{get_or_default, take_all, length-drop}
 use Rattle.std.specs.Prelude.{None}
 use Rattle.cml_fault.specs.declared.frame.Frame.{Frame}

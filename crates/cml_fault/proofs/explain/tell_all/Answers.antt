@@ -1,6 +1,5 @@
-use Rattle.std.proofs.Common.{◌<◌, ◌++◌, ◌∷◌, [], length, get_or, arith, ap, ◌∙◌}
+use Rattle.std.proofs.Common.{◌<◌, length, get_or, arith, ◌∙◌}
 use Rattle.cml_schedule.specs.declared.item.Item.TheVariants.{Turn}
-use Rattle.cml_step.specs.Calls.{text_of}
 use Rattle.cml_fault.specs.Views.{plain_sources}
 use Rattle.cml_fault.proofs.ReplayLemmas.{next_allowed, item_at, items_more, blocks_more, all_blocks}
 use Rattle.cml_fault.proofs.explain.tell_all.Goals as goal

@@ -1,4 +1,4 @@
-use Rattle.std.proofs.Common.{◌≡◌, arith}
+use Rattle.std.proofs.Common.{arith}
 use Rattle.cml_schedule.specs.declared.item.Item.TheVariants.{Turn}
 use Rattle.cml_fault.specs.Views.{plain_sources}
 use Rattle.cml_fault.proofs.BlockLemmas.{always, turn_told, turn_untold, turn_past}
