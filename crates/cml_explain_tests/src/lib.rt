@@ -5,6 +5,8 @@ pub mod budgets;
 #[cfg(test)]
 mod endings;
 #[cfg(test)]
+mod faults;
+#[cfg(test)]
 mod making;
 #[cfg(test)]
 mod narratives;
