@@ -365,15 +365,21 @@ fn tells_what_happened(rt: HostRuntime) {
         let forms = forms(&rt, case.script);
         let program = program(&rt, forms.as_slice());
         let plan = planned(&rt, case.schedule);
-        let mut hub = Hub::begin(rt.alloc(), program, 1000, None)
-            .ok()
-            .expect(&rt, MEMORY);
+        let mut hub = Hub::begin(rt.alloc(), program, 1000, None).expect(&rt, MEMORY);
         let text = case.script.as_bytes();
         let count = plan.items.len();
-        let mut narrator = Narrator::new(rt.alloc(), text, forms.as_slice(), count)
-            .expect(&rt, MEMORY);
+        let mut narrator = Narrator::new(rt.alloc(), text, forms.as_slice(), count).expect(
+            &rt, MEMORY,
+        );
         let items = plan.items.as_slice();
-        let story = tell_all(&rt, &mut narrator, &mut hub, forms.as_slice(), items, case.range);
+        let story = tell_all(
+            &rt,
+            &mut narrator,
+            &mut hub,
+            forms.as_slice(),
+            items,
+            case.range,
+        );
         says(&rt, story.told.as_slice(), case.told);
         says(&rt, story.why.as_slice(), case.why);
         drop(story);
