@@ -8,6 +8,7 @@ ghost use Rattle.cml_stream.specs.Streams.{counted_stream, stream};
 ghost use Rattle.cml_trace.specs.Live.{max_turns};
 
 use crate::check::check_file;
+use crate::explain::explain_file;
 use crate::fmt::print_file;
 use crate::output::{say, send_text};
 use crate::replay::replay_file;
@@ -116,6 +117,7 @@ where
             let explains = options.explain.is_on(terminal);
             replay_file(alloc, &options, explains, out, err, store)
         }
+        Ok(Answer::Task(Task::Explain(options))) => explain_file(alloc, &options, out, err, store),
         Ok(Answer::Help(text)) => send_text(text.as_bytes(), out, err),
         Ok(Answer::Fault(text)) => {
             say(err, text.as_bytes());

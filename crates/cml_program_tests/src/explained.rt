@@ -134,8 +134,24 @@ fn nothing_else_is_explained(rt: HostRuntime) -> Result<(), Fail> {
             "1 thread runs, and the schedule has no items\n  thread 0 main runs, 0 turns\n",
             0,
         ),
-        ("check b.cml --explain", "", "cannot read b.cml\n", 1),
-        ("replay a.cml a.cml --explain", "", "schedule line 1\n", 3),
+        (
+            "check b.cml --explain",
+            "",
+            "cannot read b.cml\nb.cml: No such file or directory\n",
+            1,
+        ),
+        (
+            "replay a.cml b --explain",
+            "",
+            "cannot read b\nb: No such file or directory\n",
+            1,
+        ),
+        (
+            "replay a.cml a.cml --explain",
+            "",
+            "schedule line 1\nline 1: (fn main ()): no line of a schedule is written so here\n",
+            3,
+        ),
     ] {
         let mut store = filled(
             &rt,

@@ -12,6 +12,8 @@ mod explained;
 #[cfg(test)]
 mod explained_cases;
 #[cfg(test)]
+mod explained_faults;
+#[cfg(test)]
 mod faults;
 #[cfg(test)]
 mod gates;
@@ -36,6 +38,8 @@ mod script_run;
 mod scripts;
 #[cfg(test)]
 mod stores;
+#[cfg(test)]
+mod stories;
 #[cfg(test)]
 mod words;
 #[cfg(test)]
