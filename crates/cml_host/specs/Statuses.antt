@@ -35,7 +35,7 @@ SavesNothing around = IsUnchanged around.store.before around.store.after
 -- what is wrong with them was written to the errors. Only `run` saves anything.
 abbrev pub AnswerRan : Answer → Surroundings → ℕ → Type 0
 AnswerRan (answer.Task (Trace options)) around status =
-    TraceRan options.live around.input around.output around.errors status × SavesNothing around
+    TraceRan options.live (explains options.explain around.terminal) around.input around.output around.errors status × SavesNothing around
 AnswerRan (answer.Task (Check options)) around status =
     FileRan (IsChecked (explains options.explain around.terminal) options.file.now) (explains options.explain around.terminal) options.file.now (around.store.before options.file.now)
     around.output around.errors status

@@ -100,7 +100,10 @@ where
     ensures same_err { err.new.stream.ghost_name ≡ err.old.stream.ghost_name }
 {
     match read_words(alloc, words) {
-        Ok(Answer::Task(Task::Trace(options))) => trace(alloc, options.live, input, out, err),
+        Ok(Answer::Task(Task::Trace(options))) => {
+            let explains = options.explain.is_on(terminal);
+            trace(alloc, options.live, explains, input, out, err)
+        }
         Ok(Answer::Task(Task::Check(options))) => {
             let explains = options.explain.is_on(terminal);
             check_file(alloc, options.file, explains, out, err, store)

@@ -54,16 +54,17 @@ const PRINTED: &[(&str, bool, bool)] = &[
     ("fmt a.cml --plain", true, false),
 ];
 
-// What the program leaves that is run on this line of arguments over the store, where its errors go to a terminal or not.
-fn left_on(
+/// What the program leaves that is run on this line of arguments and this input over the store, where its errors go to a terminal or not.
+pub fn left_on(
     rt: &(impl Threads + Wait + Sync),
     alloc: Global,
     line: &str,
     terminal: bool,
+    input: &str,
     store: &mut MemoryStore,
 ) -> Result<Left, AllocError> {
     let words = words(alloc, line)?;
-    let mut input = "".as_bytes();
+    let mut input = input.as_bytes();
     let (mut output, mut errors) = (Vec::new(alloc), Vec::new(alloc));
     let status = run_command_counted(
         rt,
@@ -94,7 +95,7 @@ fn refused_on(
     let name = broken.name;
     for &(line, terminal, explained) in asked {
         let mut store = filled(rt, alloc, &[("a.cml", broken.text), ("S", SCHEDULE)]);
-        let left = left_on(rt, alloc, line, terminal, &mut store)?;
+        let left = left_on(rt, alloc, line, terminal, "", &mut store)?;
         let (first, words) = (broken.line, if explained { broken.words } else { "" });
         let told = format!(in alloc; "{first}\n{words}")?;
         assert!(rt; left.status == 2, "status of {name}, {line}");
@@ -158,7 +159,7 @@ fn nothing_else_is_explained(rt: HostRuntime) -> Result<(), Fail> {
             rt.alloc(),
             &[("a.cml", "(fn main ())"), ("S", SCHEDULE)],
         );
-        let left = left_on(&rt, rt.alloc(), line, false, &mut store)?;
+        let left = left_on(&rt, rt.alloc(), line, false, "", &mut store)?;
         assert!(rt;
             left.output.as_slice() == output.as_bytes(),
             "output of {line}"
@@ -192,7 +193,7 @@ fn texts_that_are_too_long_are_explained(rt: HostRuntime) -> Result<(), Fail> {
             "fmt a.cml --explain",
             "run a.cml --explain",
         ] {
-            let left = left_on(&rt, rt.alloc(), line, false, &mut store)?;
+            let left = left_on(&rt, rt.alloc(), line, false, "", &mut store)?;
             assert!(rt;
                 left.errors.as_slice() == TOO_LONG.as_bytes(),
                 "{line}, {length}"

@@ -21,6 +21,8 @@ mod gates;
 mod limits;
 pub mod memory_store;
 #[cfg(test)]
+mod refusals;
+#[cfg(test)]
 mod replay_cases;
 #[cfg(test)]
 mod run;

@@ -19,7 +19,7 @@ returns-in-Ok-Task-Trace-clause-ran g c =
     inl (
       answer.Task (Trace c.in-Ok-Task-Trace.options),
       subst (IsAnswer words) is c.in-Ok-Task-Trace.ensures,
-      (c.trace.ensures.ran, λ name. refl),
+      (rw c.is_on-explains.ensures at c.trace.ensures.ran, λ name. refl),
     )
 
 pub returns-in-Ok-Task-Check-clause-ran : goal.returns-in-Ok-Task-Check-clause-ran
@@ -30,7 +30,7 @@ returns-in-Ok-Task-Check-clause-ran g c =
       answer.Task (Check c.in-Ok-Task-Check.options),
       subst (IsAnswer words) is c.in-Ok-Task-Check.ensures,
       (
-        rw c.is_on-explains.ensures at c.check_file.ensures.ran,
+        rw c.is_on-explains-in-Ok-Task-Check.ensures at c.check_file.ensures.ran,
         (search rules, c.requires.reads.0, c.requires.reads.1),
         c.check_file.ensures.same,
       ),
