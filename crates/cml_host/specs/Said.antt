@@ -11,7 +11,7 @@ use Rattle.cml_check.specs.Faults as script
 use Rattle.cml_check.specs.declared.fault.CheckFault.TheVariants as check_fault
 use Rattle.cml_explain.specs.Texts.{text_explained}
 use Rattle.cml_explain.specs.ScriptExplained.{script_explained}
-use Rattle.cml_host.specs.Stores.{Content, unknown, nothing, bytes, MayBeRefused, reason_words}
+use Rattle.cml_host.specs.Stores.{Content, unknown, nothing, bytes, MayBeRefused, system_words}
 use Rattle.cml_host.specs.declared.reason.Reason.{Reason}
 use Rattle.cml_host.specs.Written.{TextRan}
 use Rattle.cml_host.specs.declared.said.Said.{Said}
@@ -61,7 +61,7 @@ SaidRan (Err e) output errors status = MemoryRan errors status × IsIdle output
 
 -- why a file of this name is refused
 abbrev pub reason_line : List ℕ → Reason → List ℕ
-reason_line name reason = name ++ (codes ": " ++ line (reason_words reason))
+reason_line name reason = name ++ (codes ": " ++ line (system_words reason))
 
 -- a text, and behind it why a file of this name is refused, where that is explained and the store says it
 abbrev pub with_why : Bool → List ℕ → Option Reason → List ℕ → List ℕ

@@ -44,18 +44,18 @@ MayFail content (Refused why) = MayBeRefused content
 MayFail content Memory = Unit {0}
 
 -- why a file can't be read or written, as the system says it
-abbrev pub reason_words : Reason → List ℕ
-reason_words reason.NotFound = codes "No such file or directory"
-reason_words reason.Denied = codes "Permission denied"
-reason_words reason.IsFolder = codes "Is a directory"
-reason_words reason.NoFolder = codes "Not a directory"
-reason_words reason.LongName = codes "File name too long"
-reason_words reason.Loop = codes "Too many levels of symbolic links"
-reason_words reason.ReadOnly = codes "Read-only file system"
-reason_words reason.Full = codes "No space left on device"
-reason_words reason.Quota = codes "Disk quota exceeded"
-reason_words reason.TooLarge = codes "File too large"
-reason_words reason.Busy = codes "Text file busy"
+abbrev pub system_words : Reason → List ℕ
+system_words reason.NotFound = codes "No such file or directory"
+system_words reason.Denied = codes "Permission denied"
+system_words reason.IsFolder = codes "Is a directory"
+system_words reason.NoFolder = codes "Not a directory"
+system_words reason.LongName = codes "File name too long"
+system_words reason.Loop = codes "Too many levels of symbolic links"
+system_words reason.ReadOnly = codes "Read-only file system"
+system_words reason.Full = codes "No space left on device"
+system_words reason.Quota = codes "Disk quota exceeded"
+system_words reason.TooLarge = codes "File too large"
+system_words reason.Busy = codes "Text file busy"
 
 -- it was this, and is now these bytes, where it was known
 abbrev pub IsReplacedBy : Content → Content → List ℕ → Type 0

@@ -1,7 +1,7 @@
 //! Why a file can't be read or written.
 
 ghost use Rattle.std.specs.Prelude.{◌≡◌};
-ghost use Rattle.cml_host.specs.Stores.{reason_words};
+ghost use Rattle.cml_host.specs.Stores.{system_words};
 
 /// Why a file can't be read or written.
 #[derive(Clone, Copy, Debug, PartialEq, Eq)]
@@ -33,7 +33,7 @@ pub enum Reason {
 impl Reason {
     /// The reason in the words of the system.
     pub fn words(self) -> &'static str
-        ensures { result.now ≡ reason_words self }
+        ensures { result.now ≡ system_words self }
     {
         match self {
             Reason::NotFound => "No such file or directory",
