@@ -1,12 +1,13 @@
--- The numbers that `run` is given lie within their bounds.
+-- The numbers that `run` and `replay` are given lie within their bounds.
 use Rattle.std.proofs.Common.{ℕ, List, Option, Some, None, IfSome}
 use Rattle.std.specs.Prelude.{IsSomeAnd}
 use Rattle.cml_hub.specs.Kept.{IsBudget, IsWatch}
-use Rattle.cml_words.specs.Words.{IsAnswer, IsRun, Names}
+use Rattle.cml_words.specs.Words.{IsAnswer, IsReplay, IsRun, Names}
 use Rattle.cml_words.specs.Words as words
 use Rattle.cml_words.specs.declared.Answer.TheVariants as answer
+use Rattle.cml_words.specs.declared.ReplayOptions.{ReplayOptions}
 use Rattle.cml_words.specs.declared.RunOptions.{RunOptions}
-use Rattle.cml_words.specs.declared.Task.TheVariants.{Run}
+use Rattle.cml_words.specs.declared.Task.TheVariants.{Replay, Run}
 use Rattle.cml_work.specs.Works.{IsWorkerCount}
 
 watched : (watch : Option ℕ) → IfSome watch words.IsCount → IsWatch watch
@@ -28,3 +29,10 @@ pub counted : (given : List (List ℕ)) (options : RunOptions) → IsAnswer give
     IsWorkerCount options.workers × IsBudget options.steps × IsWatch options.watch
 counted given options is =
     some_gives _ (λ named. Names named (Run options)) _ (λ named names. run_counts options named.1 names.1) is.0.1
+
+replay_counts : (options : ReplayOptions) (given : _) → IsReplay given options → IsWatch options.watch
+replay_counts options given is = watched options.watch is.counts
+
+pub watch_counted : (given : List (List ℕ)) (options : ReplayOptions) → IsAnswer given (answer.Task (Replay options)) → IsWatch options.watch
+watch_counted given options is =
+    some_gives _ (λ named. Names named (Replay options)) _ (λ named names. replay_counts options named.1 names.1) is.0.1

@@ -7,3 +7,6 @@ mod ScriptLemmas
 mod ServerLemmas
 mod RanLemmas
 mod WorkLemmas
+mod StoryLemmas
+mod ItemLemmas
+mod NarratedLemmas

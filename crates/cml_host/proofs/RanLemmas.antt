@@ -1,5 +1,5 @@
 -- What a command did, by what it told of the hub that it had.
-use Rattle.std.proofs.Common.{◌≡◌, ◌∙◌, ◌⊎◌, ℕ, Bool, List, [], ◌++◌, true, Option, Some, None, Result, Ok, Err, OnOk, IfErr, ap, inl, inr, refl, subst, sym}
+use Rattle.std.proofs.Common.{◌≡◌, ◌∙◌, ◌⊎◌, ℕ, Bool, List, [], ◌++◌, true, Option, Some, None, is_some, Result, Ok, Err, OnOk, IfErr, ap, inl, inr, refl, subst, sym}
 use Rattle.cml_check.specs.Sizes.{size_of}
 use Rattle.cml_check.specs.Syntax.{PlainItem}
 use Rattle.cml_hub.specs.Choices.{seeded}
@@ -46,9 +46,9 @@ run_is p watch items h program watched items_are run =
 -- ---- scripts
 
 pub not_scripted : (explains : Bool) (content : Content) (name : List ℕ) (why : Refusal) (errors : Counted) (status : ℕ) →
-    IsNotOpened explains name content why → RefusalRan name why 2 errors status → NoScriptRan explains content name errors status
-not_scripted explains content name Unread errors status may (inl told) = inr (inl (may, told.0, told.1))
-not_scripted explains content name Unread errors status may (inr memory) = inr (inr memory)
+    IsNotOpened explains name content why → RefusalRan explains name why 2 errors status → NoScriptRan explains content name errors status
+not_scripted explains content name (Unread why) errors status may (inl told) = inr (inl (may, (why, told.0), told.1))
+not_scripted explains content name (Unread why) errors status may (inr memory) = inr (inr memory)
 not_scripted explains content name (Wrong told) errors status wrong said = inl (wrong.0, wrong.1, told.items, wrong.2, said.0, said.1)
 not_scripted explains content name Memory errors status any memory = inr (inr memory)
 
@@ -75,9 +75,10 @@ closed_hub asked h closing reports output a b d before broke after failed status
 -- ---- replay
 
 pub not_scheduled : (asked : PlainAsked) (p : List (PlainItem ℕ)) (watch : Option ℕ) (content : Content) (name : List ℕ) (why : Refusal) (output errors : Counted) (status : ℕ) →
-    IsNotRun p content why → RefusalRan name why 3 errors status → IsIdle output → ScheduleRan asked p watch name content output errors status
-not_scheduled asked p watch content name Unread output errors status may (inl told) idle = inr (inl (may, told.0, told.1), idle)
-not_scheduled asked p watch content name Unread output errors status may (inr memory) idle = inr (inr memory, idle)
+    IsNotRun asked.subject p content why → RefusalRan (is_some asked.subject) name why 3 errors status → IsIdle output →
+    ScheduleRan asked p watch name content output errors status
+not_scheduled asked p watch content name (Unread why) output errors status may (inl told) idle = inr (inl (may, (why, told.0), told.1), idle)
+not_scheduled asked p watch content name (Unread why) output errors status may (inr memory) idle = inr (inr memory, idle)
 not_scheduled asked p watch content name (Wrong told) output errors status wrong said idle =
     inl (wrong.0, wrong.1, inr (told.items, wrong.2, said.0, said.1, idle))
 not_scheduled asked p watch content name Memory output errors status any memory idle = inr (inr memory, idle)
@@ -95,20 +96,20 @@ closed_of asked p budget items h output errors status program budget_is items_ar
 pub scheduled : (asked : PlainAsked) (p : List (PlainItem ℕ)) (watch : Option ℕ) (name : List ℕ) (content : Content) (h : Kept) (output errors : Counted) (status : ℕ) →
     IsHubOf p watch content h → ReplayTold asked h output errors status → ScheduleRan asked p watch name content output errors status
 scheduled asked p watch name content h output errors status found (run, told) =
-    let plan = found.0 in
-    let made = found.3 in
+    let plan = found.2.0 in
+    let made = found.2.3 in
     let r = run_of h.course in
     let due : AllReported watch plan.items h.reports =
     subst (λ (ts : List Item). AllReported watch ts h.reports) made.items_are
     (subst (λ (w : Option ℕ). AllReported w h.course.items h.reports) made.watch_is made.none_due) in
     inl (
-      found.1.0,
-      found.1.1,
+      found.0,
+      found.1,
       inl (
         plan,
-        found.1.2,
+        found.2.1,
         (
-          found.2,
+          found.2.2,
           (
             h.reports,
             r,
@@ -143,8 +144,8 @@ replayed explains s options servers asked p content output errors status known n
     ))
 
 pub not_replayed : (explains : Bool) (s : PlainScript) (options : ReplayOptions) (why : Refusal) (name : List ℕ) (content : Content) (output errors : Counted) (status : ℕ) →
-    IsNotNumbered s (server_names options.end) why → RefusalRan name why 1 errors status → IsIdle output → OpenedReplayed explains s options content output errors status
-not_replayed explains s options Unread name content output errors status never said idle = absurd never
+    IsNotNumbered s (server_names options.end) why → RefusalRan explains name why 1 errors status → IsIdle output → OpenedReplayed explains s options content output errors status
+not_replayed explains s options (Unread reason) name content output errors status never said idle = absurd never
 not_replayed explains s options (Wrong told) name content output errors status wrong said idle =
     inl (inr ((wrong.0, wrong.1, subst (λ (ts : List ℕ). Says errors ts) wrong.2 said.0, said.1), idle))
 not_replayed explains s options Memory name content output errors status any memory idle = inr (memory, idle)
@@ -163,10 +164,10 @@ pub ended_alone : (r : Result (Unit {0}) ℕ) (h : Kept) (output errors : Counte
 ended_alone (Ok done) h output errors store same told = (told, same)
 ended_alone (Err status) h output errors store same told = tt
 
-pub not_ended : (r : Result (Unit {0}) ℕ) (name : Option (List ℕ)) (h : Kept) (output errors : Counted) (store : Shelf) → IsUnchanged store.before store.after →
-    IfErr r (OutputNotTold [] h.course.output (whole_output h.budget (run_of h.course)) output errors) → IfErr r (IsNotEnded name h output errors store)
-not_ended (Ok done) name h output errors store same broke = tt
-not_ended (Err status) name h output errors store same broke = inr (broke, same)
+pub not_ended : (r : Result (Unit {0}) ℕ) (explains : Bool) (name : Option (List ℕ)) (h : Kept) (output errors : Counted) (store : Shelf) → IsUnchanged store.before store.after →
+    IfErr r (OutputNotTold [] h.course.output (whole_output h.budget (run_of h.course)) output errors) → IfErr r (IsNotEnded explains name h output errors store)
+not_ended (Ok done) explains name h output errors store same broke = tt
+not_ended (Err status) explains name h output errors store same broke = inr (broke, same)
 
 -- with one, it was saved after the output was told
 pub ended_kept : (r : Result (Unit {0}) ℕ) (name : List ℕ) (h : Kept) (made : Record) (output : Counted) (a b d : Option (List ℕ)) (before broke after failed : ℕ) (store : Shelf) →
@@ -176,15 +177,16 @@ ended_kept (Ok done) name h made output a b d before broke after failed store is
     ((Appends-trans a b d [] [] told.0 saved.1, saved.2, told.2, told.3), subst (λ (ts : List ℕ). IsSaved store.before store.after name ts) is.0 saved.0)
 ended_kept (Err status) name h made output a b d before broke after failed store is told saved = tt
 
-pub not_kept : (r : Result (Unit {0}) ℕ) (name : List ℕ) (h : Kept) (made : Record) (output : Counted) (a b d : Option (List ℕ)) (before broke after failed : ℕ) (store : Shelf) →
-    IsMade h name made → IsTold [] (whole_output h.budget (run_of h.course)) output (counted_stream a b before broke) →
-    IfErr r (IsNotKept made (counted_stream b d after failed) store) → IfErr r (IsNotEnded (Some name) h output (counted_stream a d after failed) store)
-not_kept (Ok done) name h made output a b d before broke after failed store is told refused = tt
-not_kept (Err status) name h made output a b d before broke after failed store is told refused =
+pub not_kept : (r : Result (Unit {0}) ℕ) (explains : Bool) (name : List ℕ) (h : Kept) (output : Counted) (a b d : Option (List ℕ)) (before broke after failed : ℕ) (store : Shelf) →
+    IsTold [] (whole_output h.budget (run_of h.course)) output (counted_stream a b before broke) →
+    IfErr r (IsNotKept explains name (counted_stream b d after failed) store) →
+    IfErr r (IsNotEnded explains (Some name) h output (counted_stream a d after failed) store)
+not_kept (Ok done) explains name h output a b d before broke after failed store told refused = tt
+not_kept (Err status) explains name h output a b d before broke after failed store told refused =
     inl (
       told.2,
       told.3,
-      says_behind a b d after failed [] _ told.0 (subst (λ (ts : List ℕ). Says (counted_stream b d after failed) ts) is.1 refused.1),
+      (refused.1.0, says_behind a b d after failed [] _ told.0 refused.1.1),
       refused.2,
       refused.0,
     )
@@ -197,17 +199,17 @@ closed_ran asked name h closing output a b d before broke after failed store sta
     inl (inl (closed_hub asked h closing [] output a b d before broke after failed status is ended.0 said ends, ended.1))
 
 pub not_ended_ran : (asked : PlainAsked) (name : Option (List ℕ)) (h : Kept) (output errors : Counted) (store : Shelf) (status : ℕ) →
-    IsNotEnded name h output errors store status → EndedRan asked name h [] output errors store status
+    IsNotEnded (is_some asked.subject) name h output errors store status → EndedRan asked name h [] output errors store status
 not_ended_ran asked name h output errors store status (inl broke) = inl (inr (inl broke))
 not_ended_ran asked name h output errors store status (inr (inl broke, same)) = inl (inr (inr (broke, same)))
 not_ended_ran asked name h output errors store status (inr (inr cut, same)) = inr (cut, same)
 
-record_broke_behind : (name : Option (List ℕ)) (a b d : Option (List ℕ)) (reports : List PlainReport) (text : List ℕ) (output : Counted) (calls failed : ℕ)
-    (store : Shelf) (status : ℕ) → Takes (stream a b) (reports_text reports) → RecordBroke name [] text output (counted_stream b d calls failed) store status →
-    RecordBroke name reports text output (counted_stream a d calls failed) store status
-record_broke_behind None a b d reports text output calls failed store status before broke = absurd broke
-record_broke_behind (Some name) a b d reports text output calls failed store status before broke =
-    (broke.0, broke.1, says_behind a b d calls failed (reports_text reports) _ before broke.2, broke.3, broke.4)
+record_broke_behind : (explains : Bool) (name : Option (List ℕ)) (a b d : Option (List ℕ)) (reports : List PlainReport) (text : List ℕ) (output : Counted) (calls failed : ℕ)
+    (store : Shelf) (status : ℕ) → Takes (stream a b) (reports_text reports) → RecordBroke explains name [] text output (counted_stream b d calls failed) store status →
+    RecordBroke explains name reports text output (counted_stream a d calls failed) store status
+record_broke_behind explains None a b d reports text output calls failed store status before broke = absurd broke
+record_broke_behind explains (Some name) a b d reports text output calls failed store status before broke =
+    (broke.0, broke.1, (broke.2.0, says_behind a b d calls failed (reports_text reports) _ before broke.2.1), broke.3, broke.4)
 
 -- what was told of the output, after the reports that were told before
 pub ended_behind : (asked : PlainAsked) (name : Option (List ℕ)) (h : Kept) (a b d : Option (List ℕ)) (output : Counted) (calls failed : ℕ) (store : Shelf) (status : ℕ) →
@@ -220,7 +222,7 @@ ended_behind asked name h a b d output calls failed store status before (inl (in
       saved,
     ))
 ended_behind asked name h a b d output calls failed store status before (inl (inr (inl broke))) =
-    inl (inr (inl (record_broke_behind name a b d h.reports (whole_output h.budget (run_of h.course)) output calls failed store status before broke)))
+    inl (inr (inl (record_broke_behind (is_some asked.subject) name a b d h.reports (whole_output h.budget (run_of h.course)) output calls failed store status before broke)))
 ended_behind asked name h a b d output calls failed store status before (inl (inr (inr broke))) =
     inl (inr (inr (output_behind a b d h.reports (whole_output h.budget (run_of h.course)) output calls failed status before broke.0, broke.1)))
 ended_behind asked name h a b d output calls failed store status before (inr cut) =
@@ -344,11 +346,11 @@ recorded_behind old mid new (Some name) schedule same saved =
       others = λ other differs. saved.others other differs ∙ same other;
     }
 
-broke_behind : (old mid new : List ℕ → Content) (name : Option (List ℕ)) (reports : List PlainReport) (text : List ℕ) (output errors : Counted) (status : ℕ) →
-    IsUnchanged old mid → RecordBroke name reports text output errors (record { before = mid; after = new }) status →
-    RecordBroke name reports text output errors (record { before = old; after = new }) status
-broke_behind old mid new None reports text output errors status same broke = absurd broke
-broke_behind old mid new (Some name) reports text output errors status same broke =
+broke_behind : (old mid new : List ℕ → Content) (explains : Bool) (name : Option (List ℕ)) (reports : List PlainReport) (text : List ℕ) (output errors : Counted) (status : ℕ) →
+    IsUnchanged old mid → RecordBroke explains name reports text output errors (record { before = mid; after = new }) status →
+    RecordBroke explains name reports text output errors (record { before = old; after = new }) status
+broke_behind old mid new explains None reports text output errors status same broke = absurd broke
+broke_behind old mid new explains (Some name) reports text output errors status same broke =
     (broke.0, broke.1, broke.2, broke.3, λ n. broke.4 n ∙ same n)
 
 end_behind : (old mid new : List ℕ → Content) (asked : PlainAsked) (name : Option (List ℕ)) (p : List (PlainItem ℕ)) (items : List Item) (reports : List PlainReport)
@@ -358,7 +360,7 @@ end_behind : (old mid new : List ℕ → Content) (asked : PlainAsked) (name : O
 end_behind old mid new asked name p items reports budget r output errors status same (inl told) =
     inl (told.0, recorded_behind old mid new name (schedule_text budget (size_of p) items) same told.1)
 end_behind old mid new asked name p items reports budget r output errors status same (inr (inl broke)) =
-    inr (inl (broke_behind old mid new name reports (whole_output budget r) output errors status same broke))
+    inr (inl (broke_behind old mid new (is_some asked.subject) name reports (whole_output budget r) output errors status same broke))
 end_behind old mid new asked name p items reports budget r output errors status same (inr (inr broke)) =
     inr (inr (broke.0, λ n. broke.1 n ∙ same n))
 
@@ -397,9 +399,9 @@ opened_ran explains s options servers asked p output errors store status known n
 opened_ran explains s options servers asked p output errors store status known numbered program same (inr memory) = inr memory
 
 pub not_numbered_ran : (explains : Bool) (s : PlainScript) (options : RunOptions) (why : Refusal) (name : List ℕ) (output errors : Counted) (store : Shelf) (status : ℕ) →
-    IsNotNumbered s (server_names options.end) why → RefusalRan name why 1 errors status → IsIdle output → IsUnchanged store.before store.after →
+    IsNotNumbered s (server_names options.end) why → RefusalRan explains name why 1 errors status → IsIdle output → IsUnchanged store.before store.after →
     OpenedRan explains s options output errors store status
-not_numbered_ran explains s options Unread name output errors store status never said idle same = absurd never
+not_numbered_ran explains s options (Unread reason) name output errors store status never said idle same = absurd never
 not_numbered_ran explains s options (Wrong told) name output errors store status wrong said idle same =
     inl (inr ((wrong.0, wrong.1, subst (λ (ts : List ℕ). Says errors ts) wrong.2 said.0, said.1), idle, same))
 not_numbered_ran explains s options Memory name output errors store status any memory idle same = inr (memory, idle, same)

@@ -13,11 +13,13 @@ use Rattle.cml_text.specs.Steps.{IsFault}
 use Rattle.cml_text.specs.Texts.{Spells, fault_of}
 use Rattle.cml_host.specs.Checked.{IsChecked, IsShaped}
 use Rattle.cml_host.specs.Formatted.{IsPrinted}
-use Rattle.cml_host.specs.Said.{IsFaulty, FileRan, SaidRan, Told, text_told}
-use Rattle.cml_host.specs.Stores.{Content, unknown, nothing, bytes, IsLoaded}
+use Rattle.cml_host.specs.Said.{IsFaulty, FaultRan, FileRan, SaidRan, Told, text_told}
+use Rattle.cml_host.specs.Stores.{Content, unknown, nothing, bytes, IsLoaded, MayFail}
+use Rattle.cml_host.specs.declared.store.StoreFault.{StoreFault}
+use Rattle.cml_host.specs.declared.store.StoreFault.TheVariants as store_fault
 use Rattle.cml_host.specs.declared.said.Said.{Said}
 use Rattle.cml_host.specs.declared.said.Said.TheVariants.{Written, Refused}
-use Rattle.cml_stream.specs.Streams.{Counted}
+use Rattle.cml_stream.specs.Streams.{Counted, IsIdle}
 
 -- a fault that was read is told
 pub faulty : (explains : Bool) (name text : List ℕ) (fault : TextFault) (said : Said) → IsFault fault (fault_of text) → Told explains name text fault said
@@ -113,11 +115,18 @@ pub printed_whole : (explains : Bool) (name : List ℕ) → IsOfWhole (IsPrinted
 printed_whole explains name all found said is (inl spelled) = inl (spelled.0, whole_spelled all found spelled.0 is spelled.1, spelled.2)
 printed_whole explains name all found said is (inr told) = inr (whole_fault explains name all found said is told)
 
-pub file_ran : (Says : List ℕ → Said → Type 0) → IsOfWhole Says → (name : List ℕ) (content : Content) (found : List ℕ)
+pub file_ran : (Says : List ℕ → Said → Type 0) → IsOfWhole Says → (explains : Bool) (name : List ℕ) (content : Content) (found : List ℕ)
     (r : Result Said AllocError) (output errors : Counted) (status : ℕ) →
-    IsLoaded content text_limit found → IfOk r (Says found) → SaidRan r output errors status → FileRan Says name content output errors status
-file_ran Says whole name unknown found (Ok said) output errors status loaded says ran = inl (found, tt, said, says, ran)
-file_ran Says whole name nothing found (Ok said) output errors status loaded says ran = absurd loaded
-file_ran Says whole name (bytes all) found (Ok said) output errors status loaded says ran =
+    IsLoaded content text_limit found → IfOk r (Says found) → SaidRan r output errors status → FileRan Says explains name content output errors status
+file_ran Says whole explains name unknown found (Ok said) output errors status loaded says ran = inl (found, tt, said, says, ran)
+file_ran Says whole explains name nothing found (Ok said) output errors status loaded says ran = absurd loaded
+file_ran Says whole explains name (bytes all) found (Ok said) output errors status loaded says ran =
     inl (all, refl, said, whole all found said loaded says, ran)
-file_ran Says whole name content found (Err e) output errors status loaded says ran = inr (inr ran.0, ran.1)
+file_ran Says whole explains name content found (Err e) output errors status loaded says ran = inr (inr ran.0, ran.1)
+
+-- the store did not hand over the file
+pub file_refused : (Says : List ℕ → Said → Type 0) (explains : Bool) (name : List ℕ) (content : Content) (fault : StoreFault) (output errors : Counted) (status : ℕ) →
+    MayFail content fault → FaultRan explains name fault errors status → IsIdle output → FileRan Says explains name content output errors status
+file_refused Says explains name content (store_fault.Refused why) output errors status may (inl told) idle = inr (inl (may, (why, told.0), told.1), idle)
+file_refused Says explains name content (store_fault.Refused why) output errors status may (inr memory) idle = inr (inr memory, idle)
+file_refused Says explains name content store_fault.Memory output errors status may memory idle = inr (inr memory, idle)

@@ -1,8 +1,9 @@
 -- How a run is closed that has come to its end: with which status, and what is said of that end.
-use Rattle.std.specs.Prelude.{◌≡◌, ◌&&◌, ℕ, Bool, if◌then◌else◌, List, [], Option, Some, None, option_map}
+use Rattle.std.specs.Prelude.{◌≡◌, ◌&&◌, ℕ, Bool, if◌then◌else◌, List, [], ◌++◌, Option, Some, None, option_map}
 use Rattle.cml_check.specs.Syntax.{PlainItem}
 use Rattle.cml_ending.specs.Ends.{EndsSo}
 use Rattle.cml_ending.specs.Stuck.{is_stuck}
+use Rattle.cml_fault.specs.Faulted.{FaultedSo}
 use Rattle.cml_hub.specs.Courses.{run_of}
 use Rattle.cml_hub.specs.Kept.{Kept}
 use Rattle.cml_hub.specs.Runs.{Run, ending}
@@ -21,6 +22,9 @@ pub record PlainSubject : Type 0 where
   pub name : List ℕ
   pub text : List ℕ
   pub forms : List PlainSexpr
+
+abbrev pub script_as_subject : List ℕ → PlainScript → PlainSubject
+script_as_subject name s = record { name = name; text = s.text; forms = s.forms }
 
 -- What is asked of the end of a run: the script that is spoken of, where the end is explained; whether the end is judged strictly; and the
 -- numbers of the functions of servers.
@@ -47,9 +51,17 @@ pub record PlainClosing : Type 0 where
 abbrev pub closing_status : PlainAsked → Kept → ℕ
 closing_status asked h = if asked.strict && is_stuck asked.servers h then 6 else end_status (ending h.budget (run_of h.course))
 
+-- these words explain the end of a run: which threads are left and for what they wait, and then where and why threads ended at faults
+pub record IsEndExplained (s : PlainSubject) (h : Kept) (words : List ℕ) : Type 0 where
+  pub ended : List ℕ
+  pub faulted : List ℕ
+  pub ends : EndsSo s.name s.text s.forms h ended
+  pub faults : FaultedSo s.name s.text s.forms h.course faulted
+  pub both : words ≡ ended ++ faulted
+
 -- what is said of its end, where a script is spoken of
 abbrev pub AreWords : Option PlainSubject → Kept → Option (List ℕ) → Type 0
-AreWords (Some s) h (Some words) = EndsSo s.name s.text s.forms h words
+AreWords (Some s) h (Some words) = IsEndExplained s h words
 AreWords (Some s) h None = ⊥
 AreWords None h (Some words) = ⊥
 AreWords None h None = Unit {0}

@@ -11,4 +11,5 @@ pub mod Closed
 pub mod Chosen
 pub mod Running
 pub mod Replaying
+pub mod Narrated
 pub mod Statuses

@@ -1,5 +1,5 @@
 -- The command `run`: what it does with a script.
-use Rattle.std.specs.Prelude.{◌≡◌, ◌≢◌, ◌⊎◌, ℕ, ◌<◌, Bool, List, [], ◌++◌, true, codes, Option, Some, None, option_map}
+use Rattle.std.specs.Prelude.{◌≡◌, ◌≢◌, ◌⊎◌, ℕ, ◌<◌, Bool, List, [], ◌++◌, true, codes, Option, Some, None, is_some, option_map}
 use Rattle.std.specs.String.{string_bytes}
 use Rattle.cml_check.specs.Sizes.{size_of}
 use Rattle.cml_check.specs.Syntax.{PlainItem}
@@ -26,7 +26,8 @@ use Rattle.cml_host.specs.declared.workers.Cause.{Cause}
 use Rattle.cml_host.specs.declared.workers.Cause.TheVariants as cause
 use Rattle.cml_host.specs.declared.workers.Stopped.{Stopped}
 use Rattle.cml_host.specs.Stores.{Shelf, IsSaved, IsUnchanged}
-use Rattle.cml_host.specs.Said.{MemoryRan}
+use Rattle.cml_host.specs.Said.{MemoryRan, with_why}
+use Rattle.cml_host.specs.declared.reason.Reason.{Reason}
 use Rattle.cml_host.specs.Scripts.{PlainScript, IsOpened, NoScriptRan}
 use Rattle.cml_host.specs.Servers.{NoFunctionRan, first_unknown, server_numbers, server_names}
 use Rattle.cml_host.specs.Told.{IsRunOf, AllReported, reports_text, whole_output, cannot_write, IsTold, SaysStill, OutputBroke, MemoryBroke, OutputNotTold, IsCutOff, IsForeign}
@@ -45,12 +46,16 @@ abbrev pub IsRecorded : Option (List ℕ) → List ℕ → Shelf → Type 0
 IsRecorded None schedule store = IsUnchanged store.before store.after
 IsRecorded (Some name) schedule store = IsSaved store.before store.after name schedule
 
--- all was told, but the schedule could not be saved: the errors tell that after the reports
-abbrev pub RecordBroke : Option (List ℕ) → List PlainReport → List ℕ → Counted → Counted → Shelf → ℕ → Type 0
-RecordBroke None reports text output errors store status = ⊥
-RecordBroke (Some name) reports text output errors store status =
+-- what is told of a schedule that could not be saved under this name
+abbrev pub unsaved_told : Bool → List ℕ → Option Reason → List ℕ
+unsaved_told explains name why = with_why explains name why (line (codes "cannot write " ++ name))
+
+-- all was told, but the schedule could not be saved: the errors tell that after the reports, and may tell why where it is explained
+abbrev pub RecordBroke : Bool → Option (List ℕ) → List PlainReport → List ℕ → Counted → Counted → Shelf → ℕ → Type 0
+RecordBroke explains None reports text output errors store status = ⊥
+RecordBroke explains (Some name) reports text output errors store status =
     Takes output.bytes text × (output.counts.failed ≡ 0)
-    × Says errors (reports_text reports ++ line (codes "cannot write " ++ name)) × (status ≡ 1)
+    × ((why : Option Reason) × Says errors (reports_text reports ++ unsaved_told explains name why)) × (status ≡ 1)
     × IsUnchanged store.before store.after
 
 -- A run that is over was told whole, with how it ended where that was asked for, and its schedule was saved, where that was asked for; or it
@@ -58,7 +63,7 @@ RecordBroke (Some name) reports text output errors store status =
 abbrev pub EndRan : PlainAsked → Option (List ℕ) → List (PlainItem ℕ) → List Item → List PlainReport → ℕ → Run → Counted → Counted → Shelf → ℕ → Type 0
 EndRan asked name p items reports budget r output errors store status =
     (IsClosed asked p items reports budget r output errors status × IsRecorded name (schedule_text budget (size_of p) items) store)
-    ⊎ RecordBroke name reports (whole_output budget r) output errors store status
+    ⊎ RecordBroke (is_some asked.subject) name reports (whole_output budget r) output errors store status
     ⊎ (OutputBroke reports (whole_output budget r) output errors status × IsUnchanged store.before store.after)
 
 -- the reports are written while the program runs: where they are asked for, and more workers than one
@@ -191,9 +196,9 @@ IsEnded name h output errors store =
     × IsRecorded name (schedule_text h.budget (size_of h.course.program) h.course.items) store
 
 -- or not: the schedule could not be saved, or the output not be told
-abbrev pub IsNotEnded : Option (List ℕ) → Kept → Counted → Counted → Shelf → ℕ → Type 0
-IsNotEnded name h output errors store status =
-    RecordBroke name [] (whole_output h.budget (run_of h.course)) output errors store status
+abbrev pub IsNotEnded : Bool → Option (List ℕ) → Kept → Counted → Counted → Shelf → ℕ → Type 0
+IsNotEnded explains name h output errors store status =
+    RecordBroke explains name [] (whole_output h.budget (run_of h.course)) output errors store status
     ⊎ (OutputNotTold [] h.course.output (whole_output h.budget (run_of h.course)) output errors status × IsUnchanged store.before store.after)
 
 -- what there is to save of a hub under this name, and what is said where that can't be
@@ -208,5 +213,6 @@ IsKept name made errors store =
     IsSaved store.before store.after name made.schedule.items × Takes errors.bytes [] × (errors.counts.failed ≡ 0)
 
 -- or it was refused
-abbrev pub IsNotKept : Record → Counted → Shelf → ℕ → Type 0
-IsNotKept made errors store status = IsUnchanged store.before store.after × Says errors (string_bytes made.refused) × (status ≡ 1)
+abbrev pub IsNotKept : Bool → List ℕ → Counted → Shelf → ℕ → Type 0
+IsNotKept explains name errors store status =
+    IsUnchanged store.before store.after × ((why : Option Reason) × Says errors (unsaved_told explains name why)) × (status ≡ 1)

@@ -1,5 +1,5 @@
 -- What the commands that read a file say of its text, and how they end.
-use Rattle.std.specs.Prelude.{◌≡◌, ◌⊎◌, ℕ, Bool, if◌then◌else◌, List, ◌++◌, Some, Result, Ok, Err, codes}
+use Rattle.std.specs.Prelude.{◌≡◌, ◌⊎◌, ℕ, Bool, if◌then◌else◌, List, ◌++◌, Option, Some, None, Result, Ok, Err, codes}
 use Rattle.std.specs.String.{string_bytes}
 use Rattle.std.specs.declared.alloc.AllocError.{AllocError}
 use Rattle.cml_text.specs.Faults as text
@@ -11,7 +11,8 @@ use Rattle.cml_check.specs.Faults as script
 use Rattle.cml_check.specs.declared.fault.CheckFault.TheVariants as check_fault
 use Rattle.cml_explain.specs.Texts.{text_explained}
 use Rattle.cml_explain.specs.ScriptExplained.{script_explained}
-use Rattle.cml_host.specs.Stores.{Content, unknown, nothing, bytes, MayBeRefused}
+use Rattle.cml_host.specs.Stores.{Content, unknown, nothing, bytes, MayBeRefused, system_words}
+use Rattle.cml_host.specs.declared.reason.Reason.{Reason}
 use Rattle.cml_host.specs.Written.{TextRan}
 use Rattle.cml_host.specs.declared.said.Said.{Said}
 use Rattle.cml_host.specs.declared.said.Said.TheVariants.{Written, Refused}
@@ -58,10 +59,23 @@ abbrev pub SaidRan : Result Said AllocError → Counted → Counted → ℕ → 
 SaidRan (Ok said) output errors status = IsSaid said output errors status
 SaidRan (Err e) output errors status = MemoryRan errors status × IsIdle output
 
--- The file of this name was refused, where it may be; or memory ran out.
-abbrev pub RefusedRan : Content → List ℕ → Counted → ℕ → Type 0
-RefusedRan content name errors status =
-    (MayBeRefused content × Says errors (line (codes "cannot read " ++ name)) × (status ≡ 1)) ⊎ MemoryRan errors status
+-- why a file of this name is refused
+abbrev pub reason_line : List ℕ → Reason → List ℕ
+reason_line name reason = name ++ (codes ": " ++ line (system_words reason))
+
+-- a text, and behind it why a file of this name is refused, where that is explained and the store says it
+abbrev pub with_why : Bool → List ℕ → Option Reason → List ℕ → List ℕ
+with_why explains name None told = told
+with_why explains name (Some reason) told = if explains then told ++ reason_line name reason else told
+
+-- what is told of a file of this name that can't be read
+abbrev pub unread_told : Bool → List ℕ → Option Reason → List ℕ
+unread_told explains name why = with_why explains name why (line (codes "cannot read " ++ name))
+
+-- The file of this name was refused, where it may be, for a reason of the store's; or memory ran out.
+abbrev pub RefusedRan : Bool → Content → List ℕ → Counted → ℕ → Type 0
+RefusedRan explains content name errors status =
+    (MayBeRefused content × ((why : Option Reason) × Says errors (unread_told explains name why)) × (status ≡ 1)) ⊎ MemoryRan errors status
 
 -- This is the whole text that lies there: any text, where it is not known; and none, where nothing lies there.
 abbrev pub IsText : Content → List ℕ → Type 0
@@ -70,10 +84,10 @@ IsText nothing all = ⊥
 IsText (bytes known) all = all ≡ known
 
 -- The text that lies under the name was read, and what the command says of it was said; or the file was refused, or memory ran out.
-abbrev pub FileRan : (List ℕ → Said → Type 0) → List ℕ → Content → Counted → Counted → ℕ → Type 0
-FileRan Says name content output errors status =
+abbrev pub FileRan : (List ℕ → Said → Type 0) → Bool → List ℕ → Content → Counted → Counted → ℕ → Type 0
+FileRan Says explains name content output errors status =
     ((all : List ℕ) × IsText content all × (said : Said) × Says all said × IsSaid said output errors status)
-    ⊎ (RefusedRan content name errors status × IsIdle output)
+    ⊎ (RefusedRan explains content name errors status × IsIdle output)
 
 -- what is said of a text with this fault, which is not that memory ran out
 abbrev pub Told : Bool → List ℕ → List ℕ → TextFault → Said → Type 0
@@ -82,12 +96,17 @@ Told explains name given fault said = ⊥
 
 -- why a command stops where the store did not hand over a file
 abbrev pub refusal_of : StoreFault → Refusal
-refusal_of store_fault.Refused = refusal.Unread
+refusal_of (store_fault.Refused why) = refusal.Unread why
 refusal_of store_fault.Memory = refusal.Memory
 
 -- The refusal was said of the file of this name, with this status where it is the text that is wrong.
-abbrev pub RefusalRan : List ℕ → Refusal → ℕ → Counted → ℕ → Type 0
-RefusalRan name refusal.Unread wrong errors status =
-    (Says errors (line (codes "cannot read " ++ name)) × (status ≡ 1)) ⊎ MemoryRan errors status
-RefusalRan name (refusal.Wrong told) wrong errors status = Says errors told.items × (status ≡ wrong)
-RefusalRan name refusal.Memory wrong errors status = MemoryRan errors status
+abbrev pub RefusalRan : Bool → List ℕ → Refusal → ℕ → Counted → ℕ → Type 0
+RefusalRan explains name (refusal.Unread why) wrong errors status =
+    (Says errors (unread_told explains name why) × (status ≡ 1)) ⊎ MemoryRan errors status
+RefusalRan explains name (refusal.Wrong told) wrong errors status = Says errors told.items × (status ≡ wrong)
+RefusalRan explains name refusal.Memory wrong errors status = MemoryRan errors status
+
+-- the same of a fault of the store
+abbrev pub FaultRan : Bool → List ℕ → StoreFault → Counted → ℕ → Type 0
+FaultRan explains name (store_fault.Refused why) errors status = (Says errors (unread_told explains name why) × (status ≡ 1)) ⊎ MemoryRan errors status
+FaultRan explains name store_fault.Memory errors status = MemoryRan errors status

@@ -39,7 +39,7 @@ IsNoScript explains name text told =
 abbrev pub NoScriptRan : Bool → Content → List ℕ → Counted → ℕ → Type 0
 NoScriptRan explains content name errors status =
     ((text : List ℕ) × IsText content text × (told : List ℕ) × IsNoScript explains name text told × Says errors told × (status ≡ 2))
-    ⊎ RefusedRan content name errors status
+    ⊎ RefusedRan explains content name errors status
 
 -- ---- what private functions say
 
@@ -53,19 +53,19 @@ IsProgramOf forms p = shape forms ≡ Ok (text_of p)
 
 -- why the forms are no program
 abbrev pub IsNoProgram : Bool → List ℕ → List ℕ → List PlainSexpr → Refusal → Type 0
-IsNoProgram explains name text forms Unread = ⊥
+IsNoProgram explains name text forms (Unread why) = ⊥
 IsNoProgram explains name text forms (Wrong told) =
     (fault : PlainCheckFault) × (shape forms ≡ Err fault) × (told.items ≡ script_told explains name text forms fault)
 IsNoProgram explains name text forms Memory = Unit {0}
 
 -- why no program was made of a text
 abbrev pub IsNotMade : Bool → List ℕ → List ℕ → Refusal → Type 0
-IsNotMade explains name text Unread = ⊥
+IsNotMade explains name text (Unread why) = ⊥
 IsNotMade explains name text (Wrong told) = IsNoScript explains name text told.items
 IsNotMade explains name text Memory = Unit {0}
 
 -- why no program was made of what lies there
 abbrev pub IsNotOpened : Bool → List ℕ → Content → Refusal → Type 0
-IsNotOpened explains name content Unread = MayBeRefused content
+IsNotOpened explains name content (Unread why) = MayBeRefused content
 IsNotOpened explains name content (Wrong told) = (text : List ℕ) × IsText content text × IsNoScript explains name text told.items
 IsNotOpened explains name content Memory = Unit {0}

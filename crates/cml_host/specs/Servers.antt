@@ -45,6 +45,6 @@ NoFunctionRan s names errors status =
 
 -- why the functions of these names have no numbers
 abbrev pub IsNotNumbered : PlainScript → List Name → Refusal → Type 0
-IsNotNumbered s names Unread = ⊥
+IsNotNumbered s names (Unread why) = ⊥
 IsNotNumbered s names (Wrong told) = (name : Name) × (first_unknown s names ≡ Some name) × (told.items ≡ unknown_line name)
 IsNotNumbered s names Memory = Unit {0}

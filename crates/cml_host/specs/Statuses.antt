@@ -1,7 +1,7 @@
 -- What the program does about its arguments, and with which status it ends.
 use Rattle.std.specs.Prelude.{◌≡◌, ◌⊎◌, ℕ, Bool, false, List, codes}
 use Rattle.std.specs.String.{string_bytes}
-use Rattle.cml_words.specs.declared.Task.TheVariants.{Trace, Check, Fmt, Run, Replay}
+use Rattle.cml_words.specs.declared.Task.TheVariants.{Trace, Check, Fmt, Run, Replay, Explain}
 use Rattle.cml_words.specs.declared.Answer.{Answer}
 use Rattle.cml_words.specs.declared.Answer.TheVariants as answer
 use Rattle.cml_words.specs.Words.{IsAnswer, explains}
@@ -14,6 +14,7 @@ use Rattle.cml_host.specs.Formatted.{IsPrinted}
 use Rattle.cml_host.specs.Said.{FileRan}
 use Rattle.cml_host.specs.Running.{RunRan}
 use Rattle.cml_host.specs.Replaying.{ReplayRan}
+use Rattle.cml_host.specs.Narrated.{ExplainRan}
 use Rattle.cml_host.specs.Traced.{TraceRan}
 use Rattle.cml_host.specs.Written.{TextRan}
 
@@ -34,13 +35,13 @@ SavesNothing around = IsUnchanged around.store.before around.store.after
 -- what is wrong with them was written to the errors. Only `run` saves anything.
 abbrev pub AnswerRan : Answer → Surroundings → ℕ → Type 0
 AnswerRan (answer.Task (Trace options)) around status =
-    TraceRan options.live around.input around.output around.errors status × SavesNothing around
+    TraceRan options.live (explains options.explain around.terminal) around.input around.output around.errors status × SavesNothing around
 AnswerRan (answer.Task (Check options)) around status =
-    FileRan (IsChecked (explains options.explain around.terminal) options.file.now) options.file.now (around.store.before options.file.now)
+    FileRan (IsChecked (explains options.explain around.terminal) options.file.now) (explains options.explain around.terminal) options.file.now (around.store.before options.file.now)
     around.output around.errors status
     × IsIdle around.input × SavesNothing around
 AnswerRan (answer.Task (Fmt options)) around status =
-    FileRan (IsPrinted (explains options.explain around.terminal) options.file.now) options.file.now (around.store.before options.file.now)
+    FileRan (IsPrinted (explains options.explain around.terminal) options.file.now) (explains options.explain around.terminal) options.file.now (around.store.before options.file.now)
     around.output around.errors status
     × IsIdle around.input × SavesNothing around
 AnswerRan (answer.Task (Run options)) around status =
@@ -48,6 +49,8 @@ AnswerRan (answer.Task (Run options)) around status =
 AnswerRan (answer.Task (Replay options)) around status =
     ReplayRan options (explains options.explain around.terminal) around.store.before around.output around.errors status
     × IsIdle around.input × SavesNothing around
+AnswerRan (answer.Task (Explain options)) around status =
+    ExplainRan options around.store.before around.output around.errors status × IsIdle around.input × SavesNothing around
 AnswerRan (answer.Help text) around status =
     TextRan (string_bytes text) around.output around.errors status × IsIdle around.input × SavesNothing around
 AnswerRan (answer.Fault text) around status =

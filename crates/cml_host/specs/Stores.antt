@@ -1,5 +1,9 @@
 -- Stores: what is known of what lies in them.
-use Rattle.std.specs.Prelude.{◌≡◌, ◌≢◌, ℕ, ◌+◌, ◌≤◌, List, Option, Some, None, length, take}
+use Rattle.std.specs.Prelude.{◌≡◌, ◌≢◌, ℕ, ◌+◌, ◌≤◌, List, Option, Some, None, codes, length, take}
+use Rattle.cml_host.specs.declared.reason.Reason.{Reason}
+use Rattle.cml_host.specs.declared.reason.Reason.TheVariants as reason
+use Rattle.cml_host.specs.declared.store.StoreFault.{StoreFault}
+use Rattle.cml_host.specs.declared.store.StoreFault.TheVariants.{Refused, Memory}
 
 -- What is known of what lies under a name: it is unknown; nothing lies there; or these bytes do.
 pub data Content : Type 0 where
@@ -23,6 +27,35 @@ IsLoaded (bytes all) limit found = found ≡ take (limit + 1) all
 abbrev pub MayBeRefused : Content → Type 0
 MayBeRefused (bytes all) = ⊥
 MayBeRefused _ = Unit {0}
+
+-- the fault is a refusal, and not that memory ran out
+abbrev pub IsRefusal : StoreFault → Type 0
+IsRefusal (Refused why) = Unit {0}
+IsRefusal Memory = ⊥
+
+-- the reason of a refusal, where that is known
+abbrev pub reason_in : StoreFault → Option Reason
+reason_in (Refused why) = why
+reason_in Memory = None
+
+-- a fault that may come where this lies
+abbrev pub MayFail : Content → StoreFault → Type 0
+MayFail content (Refused why) = MayBeRefused content
+MayFail content Memory = Unit {0}
+
+-- why a file can't be read or written, as the system says it
+abbrev pub system_words : Reason → List ℕ
+system_words reason.NotFound = codes "No such file or directory"
+system_words reason.Denied = codes "Permission denied"
+system_words reason.IsFolder = codes "Is a directory"
+system_words reason.NoFolder = codes "Not a directory"
+system_words reason.LongName = codes "File name too long"
+system_words reason.Loop = codes "Too many levels of symbolic links"
+system_words reason.ReadOnly = codes "Read-only file system"
+system_words reason.Full = codes "No space left on device"
+system_words reason.Quota = codes "Disk quota exceeded"
+system_words reason.TooLarge = codes "File too large"
+system_words reason.Busy = codes "Text file busy"
 
 -- it was this, and is now these bytes, where it was known
 abbrev pub IsReplacedBy : Content → Content → List ℕ → Type 0

@@ -1,16 +1,17 @@
--- The command `trace`: its status, and what it says of a fault.
+-- The command `trace`: its status, what it says of a fault, and what is told of it where it is explained.
 use Rattle.std.specs.Prelude.{◌≡◌, ◌⊎◌, ℕ, ◌≤◌, Bool, true, false, List, Ok, Err, codes}
 use Rattle.cml_trace.specs.declared.fault.TraceEnd.{TraceEnd}
 use Rattle.cml_trace.specs.declared.fault.TraceEnd.TheVariants.{Done, Bad, TooLong}
 use Rattle.cml_trace.specs.declared.fault.TraceFault.{TraceFault}
 use Rattle.cml_trace.specs.declared.fault.TraceFault.TheVariants.{Read, Turns, Write, Memory}
 use Rattle.cml_trace.specs.Answers.{max_input}
+use Rattle.cml_trace.specs.Explained.{IsExplained}
 use Rattle.cml_trace.specs.Faults.{HasCause}
 use Rattle.cml_trace.specs.Live.{max_turns, IsHeardOut, LiveIsStopped, HasLiveCause}
 use Rattle.cml_trace.specs.Replies.{line}
 use Rattle.cml_trace.specs.Runs.{IsAnswered, IsBroken}
 use Rattle.cml_stream.specs.Counts.{most_reads}
-use Rattle.cml_stream.specs.Streams.{Counted, IsIdle, Says}
+use Rattle.cml_stream.specs.Streams.{Counted, Stream, IsIdle, Says}
 
 -- 0 where all was done, 2 where the trace has a bad line or is too long
 abbrev pub status_of : TraceEnd → ℕ
@@ -32,12 +33,17 @@ trace_fault_line Turns = line (codes "cannot read input")
 trace_fault_line Write = line (codes "cannot write output")
 trace_fault_line Memory = line (codes "memory")
 
+-- what is told of the trace that came from the input, where that is explained; else nothing is
+abbrev pub IsTold : Bool → Stream → Counted → Type 0
+IsTold false input errors = IsIdle errors
+IsTold true input errors = (told : List ℕ) × IsExplained input told × Says errors told
+
 -- The trace on the input was answered, and no call of its streams failed; or not to its end, since a call failed, the input did not end
 -- or memory ran out, and the errors tell of it.
-abbrev pub WholeRan : Counted → Counted → Counted → ℕ → Type 0
-WholeRan input output errors status =
+abbrev pub WholeRan : Bool → Counted → Counted → Counted → ℕ → Type 0
+WholeRan explains input output errors status =
     ((end : TraceEnd) × IsAnswered input.bytes output.bytes end × HasCause (Ok end) input.counts output.counts
-    × (status ≡ status_of end) × IsIdle errors)
+    × (status ≡ status_of end) × IsTold explains input.bytes errors)
     ⊎ ((fault : TraceFault) × IsBroken input.bytes output.bytes fault × HasCause (Err fault) input.counts output.counts
     × (status ≡ fault_status fault) × Says errors (trace_fault_line fault))
 
@@ -51,7 +57,7 @@ LiveRan input output errors status =
     × (status ≡ fault_status fault) × Says errors (trace_fault_line fault))
 
 -- What the command did: the lines are answered as they come, or the whole trace is, of which the reader is asked only so often.
-abbrev pub TraceRan : Bool → Counted → Counted → Counted → ℕ → Type 0
-TraceRan true input output errors status = LiveRan input output errors status
-TraceRan false input output errors status =
-    WholeRan input output errors status × (input.counts.calls ≤ most_reads max_input)
+abbrev pub TraceRan : Bool → Bool → Counted → Counted → Counted → ℕ → Type 0
+TraceRan true explains input output errors status = LiveRan input output errors status
+TraceRan false explains input output errors status =
+    WholeRan explains input output errors status × (input.counts.calls ≤ most_reads max_input)

@@ -1,9 +1,8 @@
 //! How a run is closed that has come to its end: its status, and what is said of that end.
 
-ghost use Rattle.std.specs.Prelude.{◌≡◌, IfOk};
-ghost use Rattle.cml_ending.specs.Ends.{EndsSo};
+ghost use Rattle.std.specs.Prelude.{◌≡◌, IfOk, is_some};
 ghost use Rattle.cml_host.specs.Closed as closed;
-ghost use Rattle.cml_host.specs.Closed.{IsClosing, SaysEnd, asked_of, plain_asked, plain_closing, plain_subject};
+ghost use Rattle.cml_host.specs.Closed.{IsClosing, IsEndExplained, SaysEnd, asked_of, script_as_subject, plain_asked, plain_closing, plain_subject};
 ghost use Rattle.cml_host.specs.Scripts.{plain_script};
 ghost use Rattle.cml_host.specs.Told as spec;
 ghost use Rattle.cml_stream.specs.Streams.{counted_stream};
@@ -12,6 +11,7 @@ use crate::output::say;
 use crate::script::Script;
 use cml_check::Prog;
 use cml_ending::{explain_end, is_stuck};
+use cml_fault::explain_faults;
 use cml_hub::{End, Hub};
 use cml_stream::Counting;
 use cml_text::Sexpr;
@@ -52,6 +52,19 @@ pub struct Closing {
     pub words: Option<Vec<u8>>,
 }
 
+/// The program of the script, and the script as one that is spoken of.
+pub fn subject_of<'a>(name: &'a str, script: Script) -> (Prog, Subject<'a>)
+    ensures program { result.0 ≡ script.program }
+    ensures subject { plain_subject result.1 ≡ script_as_subject name.now (plain_script script) }
+{
+    let Script {
+        text,
+        forms,
+        program,
+    } = script;
+    (program, Subject { name, text, forms })
+}
+
 /// The program of the script, and what is asked of the end of its run. Text and forms are kept only where the end is explained.
 pub fn ask<'a>(
     name: &'a str,
@@ -81,6 +94,13 @@ pub fn ask<'a>(
     (program, asked)
 }
 
+/// Whether what is wrong is explained: where a script is spoken of.
+pub fn explains(asked: &Asked<'_>) -> bool
+    ensures { result ≡ is_some (plain_asked asked.now).subject }
+{
+    asked.subject.is_some()
+}
+
 /// How the run of this hub is closed, which has come to its end.
 ///
 /// # Errors
@@ -91,7 +111,7 @@ pub fn close(alloc: Global, hub: &Hub, asked: &Asked<'_>) -> Result<Closing, All
     let status = closing_status(hub, asked);
     match &asked.subject {
         Some(subject) => {
-            let words = explain(alloc, hub, subject)?;
+            let words = end_words(alloc, hub, subject)?;
             Ok(Closing {
                 status,
                 words: Some(words),
@@ -104,15 +124,20 @@ pub fn close(alloc: Global, hub: &Hub, asked: &Asked<'_>) -> Result<Closing, All
     }
 }
 
-// What is said of its end.
+/// What explains the end of the run of this hub: which threads are left and for what they wait, and where and why threads ended at faults.
+///
+/// # Errors
+/// Out of memory.
 #[inline(never)]
-fn explain(alloc: Global, hub: &Hub, subject: &Subject<'_>) -> Result<Vec<u8>, AllocError>
-    ensures { let s = plain_subject subject.now in
-        IfOk result (λ words. EndsSo s.name s.text s.forms hub.now words.items) }
+pub fn end_words(alloc: Global, hub: &Hub, subject: &Subject<'_>) -> Result<Vec<u8>, AllocError>
+    ensures { IfOk result (λ words. IsEndExplained (plain_subject subject.now) hub.now words.items) }
 {
     let text = subject.text.as_slice();
     let forms = subject.forms.as_slice();
-    explain_end(alloc, subject.name, text, forms, hub)
+    let mut words = explain_end(alloc, subject.name, text, forms, hub)?;
+    let faults = explain_faults(alloc, subject.name, text, forms, hub)?;
+    words.extend_from_slice(faults.as_slice())?;
+    Ok(words)
 }
 
 // With which status it ends.

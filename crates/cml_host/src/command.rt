@@ -8,6 +8,7 @@ ghost use Rattle.cml_stream.specs.Streams.{counted_stream, stream};
 ghost use Rattle.cml_trace.specs.Live.{max_turns};
 
 use crate::check::check_file;
+use crate::explain::explain_file;
 use crate::fmt::print_file;
 use crate::output::{say, send_text};
 use crate::replay::replay_file;
@@ -99,7 +100,10 @@ where
     ensures same_err { err.new.stream.ghost_name ≡ err.old.stream.ghost_name }
 {
     match read_words(alloc, words) {
-        Ok(Answer::Task(Task::Trace(options))) => trace(alloc, options.live, input, out, err),
+        Ok(Answer::Task(Task::Trace(options))) => {
+            let explains = options.explain.is_on(terminal);
+            trace(alloc, options.live, explains, input, out, err)
+        }
         Ok(Answer::Task(Task::Check(options))) => {
             let explains = options.explain.is_on(terminal);
             check_file(alloc, options.file, explains, out, err, store)
@@ -116,6 +120,7 @@ where
             let explains = options.explain.is_on(terminal);
             replay_file(alloc, &options, explains, out, err, store)
         }
+        Ok(Answer::Task(Task::Explain(options))) => explain_file(alloc, &options, out, err, store),
         Ok(Answer::Help(text)) => send_text(text.as_bytes(), out, err),
         Ok(Answer::Fault(text)) => {
             say(err, text.as_bytes());

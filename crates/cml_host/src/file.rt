@@ -1,7 +1,7 @@
 //! Reading the bytes of a file, and saving them, over any reader and writer.
 
-ghost use Rattle.std.specs.Prelude.{◌≡◌, ◌⊎◌, ◌+◌, ◌≤◌, length, Err, IfOk, OnOk, OnErr};
-ghost use Rattle.cml_host.specs.Stores.{content_of, IsLoaded};
+ghost use Rattle.std.specs.Prelude.{◌≡◌, ◌⊎◌, ◌+◌, ◌≤◌, length, Err, IfOk, IfErr, OnOk, OnErr, None};
+ghost use Rattle.cml_host.specs.Stores.{content_of, IsLoaded, IsRefusal};
 ghost use Rattle.cml_host.specs.declared.store.StoreFault.TheVariants.{Refused};
 ghost use Rattle.cml_stream.specs.Counts.{most_reads};
 ghost use Rattle.cml_stream.specs.Streams.{stream, Takes, TakesStart};
@@ -26,7 +26,7 @@ pub fn load_from<R: Read>(
     ensures bound { IfOk result (λ bs. length bs.items ≤ limit + 1) }
     ensures found { IfOk result (λ bs. IsLoaded (content_of (R.remaining reader.old.stream.now)) limit bs.items) }
     ensures fine { OnOk result (reader.new.failed ≡ 0) }
-    ensures refused { result ≡ Err Refused → (reader.new.failed ≡ 1) ⊎ (reader.new.calls ≡ most_reads limit) }
+    ensures refused { IfErr result (λ fault. IsRefusal fault → (reader.new.failed ≡ 1) ⊎ (reader.new.calls ≡ most_reads limit)) }
     ensures calls { reader.new.calls ≤ most_reads limit }
     ensures same_reference { reader.new.stream.ghost_name ≡ reader.old.stream.ghost_name }
 {
@@ -38,7 +38,7 @@ pub fn load_from<R: Read>(
             Ok(all)
         }
         Err(ReadFault::Memory) => Err(StoreFault::Memory),
-        Err(ReadFault::Read | ReadFault::Turns) => Err(StoreFault::Refused),
+        Err(ReadFault::Read | ReadFault::Turns) => Err(StoreFault::Refused(None)),
     }
 }
 
@@ -52,11 +52,11 @@ pub fn save_to<W: Write>(writer: &mut Counting<'_, W>, bytes: &[u8]) -> Result<(
         OnOk result (Takes output bytes.now × (writer.new.failed ≡ 0)) }
     ensures err { let output = stream (W.contents writer.old.stream.now) (W.contents writer.new.stream.now) in
         OnErr result (TakesStart output bytes.now × (writer.new.failed ≡ 1)) }
-    ensures refused { OnErr result (result ≡ Err Refused) }
+    ensures refused { OnErr result (result ≡ Err (Refused None)) }
     ensures same_reference { writer.new.stream.ghost_name ≡ writer.old.stream.ghost_name }
 {
     match write_out(writer, bytes) {
         Ok(()) => Ok(()),
-        Err(_) => Err(StoreFault::Refused),
+        Err(_) => Err(StoreFault::Refused(None)),
     }
 }

@@ -1,31 +1,34 @@
 //! The command `replay`: a script runs again, by a schedule that was saved.
 
-ghost use Rattle.std.specs.Prelude.{◌≡◌, IfOk, IfErr};
-ghost use Rattle.cml_hub.specs.Kept.{IsBudget, IsWatch, FitsSize, IsReplayed};
+ghost use Rattle.std.specs.Prelude.{◌≡◌, IfOk, IfErr, codes, None};
+ghost use Rattle.cml_hub.specs.Kept.{IsBudget, IsWatch, FitsSize, IsFirstBad, IsReplayed};
 ghost use Rattle.cml_host.specs.Closed.{plain_asked};
 ghost use Rattle.cml_host.specs.Scripts.{plain_script};
-ghost use Rattle.cml_host.specs.Replaying.{ReplayRan, ReplayTold, OpenedReplayed, ScheduleRan, IsPlanOf, IsSchedule, IsHubOf, IsNoHub, IsNoPlan, IsNotRead, IsNotRun};
+ghost use Rattle.cml_host.specs.Replaying.{ReplayRan, ReplayTold, OpenedReplayed, ScheduleRan, IsBadItem, IsHubBy, IsHubOf, IsNoHub, IsNoRun, IsNotRead, IsNotRun, IsSchedule, line_told};
 ghost use Rattle.cml_host.specs.Stores.{IsUnchanged};
 ghost use Rattle.cml_stream.specs.Streams.{counted_stream};
+ghost use Rattle.cml_text.specs.Lines.{line};
 
-use crate::close::{Asked, ask, close, say_end};
+use crate::close::{Asked, ask, close, explains, say_end};
+use crate::item::explain_item;
 use crate::said::{Refusal, refuse};
 use crate::script::{Script, open_script};
 use crate::servers::find_servers;
 use crate::store::Store;
 use crate::tell::{cut_run, hub_is_a_run, let_go, tell};
 use cml_check::Prog;
+use cml_explain::explain_unfit;
 use cml_hub::{Hub, Plan, ReplayFault, ScheduleFault, matches_program, read_schedule};
 use cml_stream::Counting;
 use cml_words::ReplayOptions;
-use std::alloc::Global;
+use std::alloc::{AllocError, Global};
 use std::io::Write;
 
 /// The most bytes of a schedule.
-const SCHEDULE_LIMIT: usize = 67_108_864;
+pub const SCHEDULE_LIMIT: usize = 67_108_864;
 
-/// Runs the script that lies under its name again, by the schedule that lies under its own; and explains what is wrong with the script and how
-/// its run ended, where that is asked for.
+/// Runs the script that lies under its name again, by the schedule that lies under its own; and explains what is wrong with the script or the
+/// schedule and how its run ended, where that is asked for.
 pub fn replay_file<O: Write, E: Write, S: Store>(
     alloc: Global,
     options: &ReplayOptions<'_>,
@@ -45,7 +48,7 @@ pub fn replay_file<O: Write, E: Write, S: Store>(
 {
     match open_script(alloc, options.script, explains, store) {
         Ok(script) => replay_script(alloc, script, options, explains, out, err, store),
-        Err(why) => refuse(alloc, options.script, why, 2, err),
+        Err(why) => refuse(alloc, options.script, explains, why, 2, err),
     }
 }
 
@@ -81,7 +84,7 @@ fn replay_script<O: Write, E: Write, S: Store>(
         }
         Err(why) => {
             drop(script);
-            refuse(alloc, options.script, why, 1, err)
+            refuse(alloc, options.script, explains, why, 1, err)
         }
     }
 }
@@ -105,13 +108,13 @@ fn replay_program<O: Write, E: Write, S: Store>(
     ensures same_out { out.new.stream.ghost_name ≡ out.old.stream.ghost_name }
     ensures same_err { err.new.stream.ghost_name ≡ err.old.stream.ghost_name }
 {
-    match replayed(alloc, program, options, store) {
+    match replayed(alloc, program, asked, options, store) {
         Ok(hub) => {
             let status = tell_run(alloc, &hub, asked, out, err);
             let_go(hub);
             status
         }
-        Err(why) => refuse(alloc, options.schedule, why, 3, err),
+        Err(why) => refuse(alloc, options.schedule, explains(asked), why, 3, err),
     }
 }
 
@@ -144,39 +147,59 @@ fn tell_run<O: Write, E: Write>(
 fn replayed<S: Store>(
     alloc: Global,
     program: Prog,
+    asked: &Asked<'_>,
     options: &ReplayOptions<'_>,
     store: &mut S,
 ) -> Result<Hub, Refusal>
     requires watch { IsWatch options.now.watch }
     ensures ok { IfOk result (IsHubOf program options.now.watch (S.holds store.old options.now.schedule.now)) }
-    ensures err { IfErr result (IsNotRun program (S.holds store.old options.now.schedule.now)) }
+    ensures err { IfErr result (IsNotRun (plain_asked asked.now).subject program (S.holds store.old options.now.schedule.now)) }
     ensures same { IsUnchanged (S.holds store.old) (S.holds store.new) }
 {
-    let plan = open_schedule(alloc, options.schedule, store)?;
-    follow(alloc, program, &plan, options.watch)
+    let text = match store.load(alloc, options.schedule, SCHEDULE_LIMIT) {
+        Ok(text) => text,
+        Err(fault) => {
+            drop(program);
+            return Err(Refusal::from(fault));
+        }
+    };
+    follow_text(alloc, program, asked, text.as_slice(), options.watch)
 }
 
-// The schedule that lies under the name.
-fn open_schedule<S: Store>(alloc: Global, name: &str, store: &mut S) -> Result<Plan, Refusal>
-    ensures ok { IfOk result (IsPlanOf (S.holds store.old name.now)) }
-    ensures budget { IfOk result (λ plan. IsBudget plan.budget) }
-    ensures err { IfErr result (IsNoPlan (S.holds store.old name.now)) }
-    ensures same { IsUnchanged (S.holds store.old) (S.holds store.new) }
+// The hub of the program that has gone through the schedule that the text is.
+fn follow_text(
+    alloc: Global,
+    program: Prog,
+    asked: &Asked<'_>,
+    text: &[u8],
+    watch: Option<u64>,
+) -> Result<Hub, Refusal>
+    requires watch { IsWatch watch }
+    ensures ok { IfOk result (IsHubBy program watch text.now) }
+    ensures err { IfErr result (IsNoRun (plain_asked asked.now).subject program text.now) }
 {
-    let text = store.load(alloc, name, SCHEDULE_LIMIT)?;
-    read_plan(alloc, text.as_slice())
+    match read_plan(alloc, explains(asked), text) {
+        Ok(plan) => follow(alloc, program, asked, text, &plan, watch),
+        Err(why) => {
+            drop(program);
+            Err(why)
+        }
+    }
 }
 
-// The schedule that the text is.
-fn read_plan(alloc: Global, text: &[u8]) -> Result<Plan, Refusal>
+/// The schedule that the text is.
+///
+/// # Errors
+/// Why it is none, explained where that is asked for.
+pub fn read_plan(alloc: Global, explains: bool, text: &[u8]) -> Result<Plan, Refusal>
     ensures ok { IfOk result (IsSchedule text.now) }
     ensures budget { IfOk result (λ plan. IsBudget plan.budget) }
-    ensures err { IfErr result (IsNotRead text.now) }
+    ensures err { IfErr result (IsNotRead explains text.now) }
 {
     match read_schedule(alloc, text) {
         Ok(plan) => Ok(plan),
         Err(ScheduleFault::Line(number)) => {
-            Err(Refusal::Wrong(format!(in alloc; "schedule line {number}\n")?.into_bytes()))
+            Err(Refusal::Wrong(told_line(alloc, explains, text, number)?))
         }
         Err(ScheduleFault::TooLong) => {
             Err(Refusal::Wrong(format!(in alloc; "schedule too long\n")?.into_bytes()))
@@ -185,27 +208,89 @@ fn read_plan(alloc: Global, text: &[u8]) -> Result<Plan, Refusal>
     }
 }
 
-// The hub of the program that has gone through the plan.
-fn follow(alloc: Global, program: Prog, plan: &Plan, watch: Option<u64>) -> Result<Hub, Refusal>
+// What is told of the line of this number, which does not fit.
+fn told_line(alloc: Global, explains: bool, text: &[u8], number: u64) -> Result<Vec<u8>, AllocError>
+    ensures { IfOk result (λ told. told.items ≡ line_told explains text.now number) }
+{
+    let mut told = format!(in alloc; "schedule line {number}\n")?.into_bytes();
+    if explains {
+        let words = explain_unfit(alloc, text, number)?;
+        told.extend_from_slice(words.as_slice())?;
+    }
+    Ok(told)
+}
+
+// The hub of the program that has gone through the plan, which this text is.
+fn follow(
+    alloc: Global,
+    program: Prog,
+    asked: &Asked<'_>,
+    text: &[u8],
+    plan: &Plan,
+    watch: Option<u64>,
+) -> Result<Hub, Refusal>
     requires budget { IsBudget plan.now.budget }
     requires watch { IsWatch watch }
     ensures size { IfOk result (λ _. FitsSize plan.now.size program) }
     ensures hub { IfOk result (IsReplayed program plan.now.budget watch plan.now.items) }
-    ensures err { IfErr result (IsNoHub program plan.now) }
+    ensures err { IfErr result (IsNoHub (plain_asked asked.now).subject program text.now plan.now) }
 {
     if !matches_program(plan, &program) {
         drop(program);
-        return Err(Refusal::Wrong(format!(in alloc; "schedule program\n")?.into_bytes()));
+        return Err(Refusal::Wrong(told_size(alloc)?));
     }
     match Hub::replay(alloc, program, plan.budget, watch, plan.items.as_slice()) {
         Ok(hub) => Ok(hub),
-        Err(ReplayFault::BadItem(number, program)) => {
-            drop(program);
-            Err(Refusal::Wrong(format!(in alloc; "schedule item {number}\n")?.into_bytes()))
-        }
+        Err(ReplayFault::BadItem(number, program)) => Err(Refusal::Wrong(told_item(
+            alloc, program, asked, text, plan, number,
+        )?)),
         Err(ReplayFault::Memory(program)) => {
             drop(program);
             Err(Refusal::Memory)
+        }
+    }
+}
+
+/// What is told of a schedule of a program of another size.
+///
+/// # Errors
+/// Out of memory.
+pub fn told_size(alloc: Global) -> Result<Vec<u8>, AllocError>
+    ensures { IfOk result (λ told. told.items ≡ line (codes "schedule program")) }
+{
+    Ok(format!(in alloc; "schedule program\n")?.into_bytes())
+}
+
+// What is told of the item of this number, the first that is not allowed where it stands.
+#[inline(never)]
+fn told_item(
+    alloc: Global,
+    program: Prog,
+    asked: &Asked<'_>,
+    text: &[u8],
+    plan: &Plan,
+    number: usize,
+) -> Result<Vec<u8>, AllocError>
+    requires budget { IsBudget plan.now.budget }
+    requires bad { IsFirstBad program plan.now.items number }
+    ensures { IfOk result (λ told. IsBadItem (plain_asked asked.now).subject text.now program plan.now.items number told.items) }
+{
+    let Some(subject) = &asked.subject else {
+        drop(program);
+        return Ok(format!(in alloc; "schedule item {number}\n")?.into_bytes());
+    };
+    let (before, from) = plan.items.as_slice().split_at(number - 1);
+    match Hub::replay(alloc, program, plan.budget, None, before) {
+        Ok(hub) => {
+            hub_is_a_run(&hub);
+            let forms = subject.forms.as_slice();
+            let told = explain_item(alloc, forms, text, &hub, number, &from[0]);
+            let_go(hub);
+            told
+        }
+        Err(fault) => {
+            drop(fault);
+            Err(AllocError)
         }
     }
 }

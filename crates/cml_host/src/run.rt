@@ -1,20 +1,23 @@
 //! The command `run`: a script runs to its end, and its schedule is saved where that is asked for.
 
-ghost use Rattle.std.specs.Prelude.{◌≡◌, [], IfErr, IfOk, OnOk, option_map};
+ghost use Rattle.std.specs.Prelude.{◌≡◌, ◌++◌, [], codes, Option, IfErr, IfOk, OnOk, option_map};
+ghost use Rattle.std.specs.String.{string_bytes};
 ghost use Rattle.cml_hub.specs.Kept.{IsAtStart, IsBudget, IsWatch};
 ghost use Rattle.cml_host.specs.Closed.{plain_asked};
-ghost use Rattle.cml_host.specs.Running.{RunRan, OpenedRan, BegunRan, ProgramRan, EndedRan, IsEnded, IsNotEnded, IsMade, IsKept, IsNotKept};
+ghost use Rattle.cml_host.specs.Running.{RunRan, OpenedRan, BegunRan, ProgramRan, EndedRan, IsEnded, IsNotEnded, IsMade, IsKept, IsNotKept, unsaved_told};
 ghost use Rattle.cml_host.specs.Scripts.{plain_script};
 ghost use Rattle.cml_host.specs.Stores.{Shelf};
-ghost use Rattle.cml_stream.specs.Streams.{counted_stream};
+ghost use Rattle.cml_host.specs.declared.reason.Reason.{Reason};
+ghost use Rattle.cml_stream.specs.Streams.{Says, counted_stream};
+ghost use Rattle.cml_text.specs.Lines.{line};
 ghost use Rattle.cml_work.specs.Works.{IsWorkerCount};
 
-use crate::close::{Asked, ask, close, say_end};
+use crate::close::{Asked, ask, close, explains, say_end};
 use crate::output::say;
-use crate::said::refuse;
+use crate::said::{refuse, with_why};
 use crate::script::{Script, open_script};
 use crate::servers::find_servers;
-use crate::store::Store;
+use crate::store::{Store, StoreFault};
 use crate::tell::{cut_output, hub_is_a_run, let_go, stop, tell_output};
 use crate::workers::run_hub;
 use cml_check::Prog;
@@ -62,7 +65,7 @@ where
 {
     match open_script(alloc, options.file, explains, store) {
         Ok(script) => run_script(rt, alloc, gate, script, options, explains, out, err, store),
-        Err(why) => refuse(alloc, options.file, why, 2, err),
+        Err(why) => refuse(alloc, options.file, explains, why, 2, err),
     }
 }
 
@@ -100,7 +103,7 @@ where
         }
         Err(why) => {
             drop(script);
-            refuse(alloc, options.file, why, 1, err)
+            refuse(alloc, options.file, explains, why, 1, err)
         }
     }
 }
@@ -209,7 +212,7 @@ fn end<O: Write, E: Write, S: Store>(
     let Ok(closing) = close(alloc, hub, asked) else {
         return cut_output(hub.out(), out, err);
     };
-    match tell_and_save(alloc, hub, save_as, out, err, store) {
+    match tell_and_save(alloc, hub, explains(asked), save_as, out, err, store) {
         Ok(()) => say_end(&closing, err),
         Err(status) => status,
     }
@@ -219,6 +222,7 @@ fn end<O: Write, E: Write, S: Store>(
 fn tell_and_save<O: Write, E: Write, S: Store>(
     alloc: Global,
     hub: &Hub,
+    explains: bool,
     save_as: Option<&str>,
     out: &mut Counting<'_, O>,
     err: &mut Counting<'_, E>,
@@ -232,7 +236,7 @@ fn tell_and_save<O: Write, E: Write, S: Store>(
     ensures not_ended { let output = counted_stream (O.contents out.old.stream.now) (O.contents out.new.stream.now) out.new.calls out.new.failed in
         let errors = counted_stream (E.contents err.old.stream.now) (E.contents err.new.stream.now) err.new.calls err.new.failed in
         let shelf : Shelf = record { before = S.holds store.old; after = S.holds store.new } in
-        IfErr result (IsNotEnded (option_map (λ name. name.now) save_as.entry) hub.now output errors shelf) }
+        IfErr result (IsNotEnded explains (option_map (λ name. name.now) save_as.entry) hub.now output errors shelf) }
     ensures same_out { out.new.stream.ghost_name ≡ out.old.stream.ghost_name }
     ensures same_err { err.new.stream.ghost_name ≡ err.old.stream.ghost_name }
 {
@@ -243,7 +247,7 @@ fn tell_and_save<O: Write, E: Write, S: Store>(
         return Err(cut_output(hub.out(), out, err));
     };
     match tell_output(alloc, hub, out, err) {
-        Ok(()) => save_record(name, &made, err, store),
+        Ok(()) => save_record(alloc, name, explains, &made, err, store),
         Err(status) => Err(status),
     }
 }
@@ -259,25 +263,54 @@ fn make_record(alloc: Global, hub: &Hub, name: &str) -> Result<Record, AllocErro
 
 // Saves the record, or says that it can't be saved.
 fn save_record<E: Write, S: Store>(
+    alloc: Global,
     name: &str,
+    explains: bool,
     made: &Record,
     err: &mut Counting<'_, E>,
     store: &mut S,
 ) -> Result<(), u8>
     requires fresh { err.old.failed ≡ 0 }
+    requires made { string_bytes made.now.refused ≡ line (codes "cannot write " ++ name.now) }
     ensures kept { let errors = counted_stream (E.contents err.old.stream.now) (E.contents err.new.stream.now) err.new.calls err.new.failed in
         let shelf : Shelf = record { before = S.holds store.old; after = S.holds store.new } in
         OnOk result (IsKept name.now made.now errors shelf) }
     ensures not_kept { let errors = counted_stream (E.contents err.old.stream.now) (E.contents err.new.stream.now) err.new.calls err.new.failed in
         let shelf : Shelf = record { before = S.holds store.old; after = S.holds store.new } in
-        IfErr result (IsNotKept made.now errors shelf) }
+        IfErr result (IsNotKept explains name.now errors shelf) }
     ensures same_err { err.new.stream.ghost_name ≡ err.old.stream.ghost_name }
 {
     match store.save(name, made.schedule.as_slice()) {
         Ok(()) => Ok(()),
-        Err(_) => {
-            say(err, made.refused.as_bytes());
-            Err(1)
+        Err(fault) => Err(refuse_record(alloc, name, explains, made, fault, err)),
+    }
+}
+
+// Says that the record can't be saved, and why, where that is explained and there is memory to say it.
+fn refuse_record<E: Write>(
+    alloc: Global,
+    name: &str,
+    explains: bool,
+    made: &Record,
+    fault: StoreFault,
+    err: &mut Counting<'_, E>,
+) -> u8
+    requires fresh { err.old.failed ≡ 0 }
+    requires made { string_bytes made.now.refused ≡ line (codes "cannot write " ++ name.now) }
+    ensures said { let errors = counted_stream (E.contents err.old.stream.now) (E.contents err.new.stream.now) err.new.calls err.new.failed in
+        (why : Option Reason) × Says errors (unsaved_told explains name.now why) }
+    ensures status { result ≡ 1 }
+    ensures same_err { err.new.stream.ghost_name ≡ err.old.stream.ghost_name }
+{
+    let line = made.refused.as_bytes();
+    match with_why(alloc, line, name, explains, fault.reason()) {
+        Ok(told) => {
+            say(err, told.as_slice());
+            1
+        }
+        Err(AllocError) => {
+            say(err, line);
+            1
         }
     }
 }

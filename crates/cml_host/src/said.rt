@@ -1,12 +1,13 @@
 //! What the commands that read a file share: what they say of its text, and how they end.
 
-ghost use Rattle.std.specs.Prelude.{◌≡◌, IfOk};
-ghost use Rattle.cml_host.specs.Said.{SaidRan, RefusedRan, RefusalRan, Told};
-ghost use Rattle.cml_host.specs.Stores.{Content, MayBeRefused};
-ghost use Rattle.cml_host.specs.declared.store.StoreFault.TheVariants.{Refused};
+ghost use Rattle.std.specs.Prelude.{◌≡◌, IfOk, Some};
+ghost use Rattle.std.specs.String.{string_bytes};
+ghost use Rattle.cml_host.specs.Said as spec;
+ghost use Rattle.cml_host.specs.Said.{SaidRan, FaultRan, RefusalRan, Told, unread_told};
 ghost use Rattle.cml_stream.specs.Streams.{counted_stream};
 
 use crate::output::{say, send_text};
+use crate::reason::Reason;
 use crate::source::{Source, tell_text};
 use crate::store::StoreFault;
 use cml_stream::Counting;
@@ -32,7 +33,7 @@ pub enum Said {
 pub enum Refusal {
     /// It can't be read.
     #[error("the file can't be read")]
-    Unread,
+    Unread(Option<Reason>),
     /// Its text is refused, and this is for the errors.
     #[error("the text is refused")]
     Wrong(Vec<u8>),
@@ -60,7 +61,7 @@ impl From<StoreFault> for Refusal {
 
     fn from(fault: StoreFault) -> Refusal {
         match fault {
-            StoreFault::Refused => Refusal::Unread,
+            StoreFault::Refused(why) => Refusal::Unread(why),
             StoreFault::Memory => Refusal::Memory,
         }
     }
@@ -102,44 +103,105 @@ pub fn finish<O: Write, E: Write>(
     }
 }
 
-/// Says that the file can't be read, or that memory ran out.
+/// Says that the file can't be read, and why, where that is explained; or that memory ran out.
 pub fn refuse_file<E: Write>(
     alloc: Global,
     name: &str,
+    explains: bool,
     fault: StoreFault,
     err: &mut Counting<'_, E>,
 ) -> u8
     requires fresh { err.old.failed ≡ 0 }
     ensures refused { let errors = counted_stream (E.contents err.old.stream.now) (E.contents err.new.stream.now) err.new.calls err.new.failed in
-        (content : Content) → (fault ≡ Refused → MayBeRefused content) →
-        RefusedRan content name.now errors result }
+        FaultRan explains name.now fault errors result }
     ensures same_err { err.new.stream.ghost_name ≡ err.old.stream.ghost_name }
 {
-    if matches!(fault, StoreFault::Refused)
-        && let Ok(line) = format!(in alloc; "cannot read {name}\n")
+    if let StoreFault::Refused(why) = fault
+        && let Ok(told) = tell_unread(alloc, name, explains, why)
     {
-        say(err, line.as_bytes());
+        say(err, told.as_slice());
         return 1;
     }
     say(err, b"memory\n");
     5
 }
 
+// What is told of a file that can't be read.
+fn tell_unread(
+    alloc: Global,
+    name: &str,
+    explains: bool,
+    why: Option<Reason>,
+) -> Result<Vec<u8>, AllocError>
+    ensures { IfOk result (λ told. told.items ≡ unread_told explains name.now why) }
+{
+    let line = format!(in alloc; "cannot read {name}\n")?;
+    with_why(alloc, line.as_bytes(), name, explains, why)
+}
+
+/// The line, and then why the file of this name is refused, where that is explained and known.
+///
+/// # Errors
+/// Out of memory.
+pub fn with_why(
+    alloc: Global,
+    line: &[u8],
+    name: &str,
+    explains: bool,
+    why: Option<Reason>,
+) -> Result<Vec<u8>, AllocError>
+    ensures { IfOk result (λ told. told.items ≡ spec.with_why explains name.now why line.now) }
+{
+    match why {
+        Some(reason) => with_reason(alloc, line, name, explains, reason),
+        None => Vec::from_slice(alloc, line),
+    }
+}
+
+// The same where it is known why.
+fn with_reason(
+    alloc: Global,
+    line: &[u8],
+    name: &str,
+    explains: bool,
+    reason: Reason,
+) -> Result<Vec<u8>, AllocError>
+    ensures { IfOk result (λ told. told.items ≡ spec.with_why explains name.now (Some reason) line.now) }
+{
+    let mut told = Vec::from_slice(alloc, line)?;
+    if explains {
+        let behind = reason_line(alloc, name, reason)?;
+        told.extend_from_slice(behind.as_bytes())?;
+    }
+    Ok(told)
+}
+
+// The line that says why.
+fn reason_line(alloc: Global, name: &str, reason: Reason) -> Result<String, AllocError>
+    ensures { IfOk result (λ told. string_bytes told ≡ spec.reason_line name.now reason) }
+{
+    let words = reason.words();
+    format!(in alloc; "{name}: {words}\n")
+}
+
 /// Says why the command goes no further with the file of this name, and returns the status: this one where its text is refused.
 pub fn refuse<E: Write>(
     alloc: Global,
     name: &str,
+    explains: bool,
     why: Refusal,
     status: u8,
     err: &mut Counting<'_, E>,
 ) -> u8
     requires fresh { err.old.failed ≡ 0 }
     ensures refused { let errors = counted_stream (E.contents err.old.stream.now) (E.contents err.new.stream.now) err.new.calls err.new.failed in
-        RefusalRan name.now why status errors result }
+        RefusalRan explains name.now why status errors result }
     ensures same_err { err.new.stream.ghost_name ≡ err.old.stream.ghost_name }
 {
     match why {
-        Refusal::Unread => refuse_file(alloc, name, StoreFault::Refused, err),
+        Refusal::Unread(reason) => {
+            refuse_file(alloc, name, explains, StoreFault::Refused(reason), err)
+        }
         Refusal::Wrong(told) => {
             say(err, told.as_slice());
             status

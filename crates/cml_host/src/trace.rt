@@ -10,14 +10,16 @@ ghost use Rattle.cml_trace.specs.Live.{max_turns};
 
 use crate::output::say;
 use cml_stream::Counting;
-use cml_trace::{MAX_TURNS, TraceEnd, TraceFault, run_live, run_trace};
+use cml_trace::{MAX_TURNS, TraceEnd, TraceFault, run_live, run_trace, run_trace_explained};
 use std::alloc::Global;
 use std::io::{Read, Write};
 
-/// Answers the trace on the input: each line as soon as it was read, or the whole trace.
+/// Answers the trace on the input: each line as soon as it was read, or the whole trace, and then what is wrong with it is told, where that
+/// is explained.
 pub fn trace<R: Read, O: Write, E: Write>(
     alloc: Global,
     live: bool,
+    explains: bool,
     input: &mut Counting<'_, R>,
     out: &mut Counting<'_, O>,
     err: &mut Counting<'_, E>,
@@ -27,7 +29,7 @@ pub fn trace<R: Read, O: Write, E: Write>(
     ensures ran { let given = counted_stream (R.remaining input.old.stream.now) (R.remaining input.new.stream.now) input.new.calls input.new.failed in
         let output = counted_stream (O.contents out.old.stream.now) (O.contents out.new.stream.now) out.new.calls out.new.failed in
         let errors = counted_stream (E.contents err.old.stream.now) (E.contents err.new.stream.now) err.new.calls err.new.failed in
-        TraceRan live given output errors result }
+        TraceRan live explains given output errors result }
     ensures most { input.new.calls ≤ max_turns }
     ensures same_in { input.new.stream.ghost_name ≡ input.old.stream.ghost_name }
     ensures same_out { out.new.stream.ghost_name ≡ out.old.stream.ghost_name }
@@ -35,6 +37,8 @@ pub fn trace<R: Read, O: Write, E: Write>(
 {
     if live {
         trace_live(alloc, input, out, err)
+    } else if explains {
+        trace_explained(alloc, input, out, err)
     } else {
         trace_whole(alloc, input, out, err)
     }
@@ -79,7 +83,7 @@ fn trace_whole<R: Read, O: Write, E: Write>(
     ensures ran { let given = counted_stream (R.remaining input.old.stream.now) (R.remaining input.new.stream.now) input.new.calls input.new.failed in
         let output = counted_stream (O.contents out.old.stream.now) (O.contents out.new.stream.now) out.new.calls out.new.failed in
         let errors = counted_stream (E.contents err.old.stream.now) (E.contents err.new.stream.now) err.new.calls err.new.failed in
-        WholeRan given output errors result }
+        WholeRan false given output errors result }
     ensures most { input.new.calls ≤ most_reads max_input }
     ensures same_in { input.new.stream.ghost_name ≡ input.old.stream.ghost_name }
     ensures same_out { out.new.stream.ghost_name ≡ out.old.stream.ghost_name }
@@ -87,6 +91,37 @@ fn trace_whole<R: Read, O: Write, E: Write>(
 {
     match run_trace(alloc, input, out) {
         Ok(end) => status_of(end),
+        Err(fault) => {
+            say(err, fault_line(fault).as_bytes());
+            fault_status(fault)
+        }
+    }
+}
+
+// Answers the whole trace, and then tells what is wrong with it.
+fn trace_explained<R: Read, O: Write, E: Write>(
+    alloc: Global,
+    input: &mut Counting<'_, R>,
+    out: &mut Counting<'_, O>,
+    err: &mut Counting<'_, E>,
+) -> u8
+    requires given { (input.old.calls ≡ 0) × (input.old.failed ≡ 0) }
+    requires written { (out.old.calls ≡ 0) × (out.old.failed ≡ 0) × (err.old.calls ≡ 0) × (err.old.failed ≡ 0) }
+    ensures ran { let given = counted_stream (R.remaining input.old.stream.now) (R.remaining input.new.stream.now) input.new.calls input.new.failed in
+        let output = counted_stream (O.contents out.old.stream.now) (O.contents out.new.stream.now) out.new.calls out.new.failed in
+        let errors = counted_stream (E.contents err.old.stream.now) (E.contents err.new.stream.now) err.new.calls err.new.failed in
+        WholeRan true given output errors result }
+    ensures most { input.new.calls ≤ most_reads max_input }
+    ensures same_in { input.new.stream.ghost_name ≡ input.old.stream.ghost_name }
+    ensures same_out { out.new.stream.ghost_name ≡ out.old.stream.ghost_name }
+    ensures same_err { err.new.stream.ghost_name ≡ err.old.stream.ghost_name }
+{
+    let mut told = String::new(alloc);
+    match run_trace_explained(alloc, &mut told, input, out) {
+        Ok(end) => {
+            say(err, told.as_bytes());
+            status_of(end)
+        }
         Err(fault) => {
             say(err, fault_line(fault).as_bytes());
             fault_status(fault)

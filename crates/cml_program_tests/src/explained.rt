@@ -54,16 +54,17 @@ const PRINTED: &[(&str, bool, bool)] = &[
     ("fmt a.cml --plain", true, false),
 ];
 
-// What the program leaves that is run on this line of arguments over the store, where its errors go to a terminal or not.
-fn left_on(
+/// What the program leaves that is run on this line of arguments and this input over the store, where its errors go to a terminal or not.
+pub fn left_on(
     rt: &(impl Threads + Wait + Sync),
     alloc: Global,
     line: &str,
     terminal: bool,
+    input: &str,
     store: &mut MemoryStore,
 ) -> Result<Left, AllocError> {
     let words = words(alloc, line)?;
-    let mut input = "".as_bytes();
+    let mut input = input.as_bytes();
     let (mut output, mut errors) = (Vec::new(alloc), Vec::new(alloc));
     let status = run_command_counted(
         rt,
@@ -94,7 +95,7 @@ fn refused_on(
     let name = broken.name;
     for &(line, terminal, explained) in asked {
         let mut store = filled(rt, alloc, &[("a.cml", broken.text), ("S", SCHEDULE)]);
-        let left = left_on(rt, alloc, line, terminal, &mut store)?;
+        let left = left_on(rt, alloc, line, terminal, "", &mut store)?;
         let (first, words) = (broken.line, if explained { broken.words } else { "" });
         let told = format!(in alloc; "{first}\n{words}")?;
         assert!(rt; left.status == 2, "status of {name}, {line}");
@@ -134,15 +135,31 @@ fn nothing_else_is_explained(rt: HostRuntime) -> Result<(), Fail> {
             "1 thread runs, and the schedule has no items\n  thread 0 main runs, 0 turns\n",
             0,
         ),
-        ("check b.cml --explain", "", "cannot read b.cml\n", 1),
-        ("replay a.cml a.cml --explain", "", "schedule line 1\n", 3),
+        (
+            "check b.cml --explain",
+            "",
+            "cannot read b.cml\nb.cml: No such file or directory\n",
+            1,
+        ),
+        (
+            "replay a.cml b --explain",
+            "",
+            "cannot read b\nb: No such file or directory\n",
+            1,
+        ),
+        (
+            "replay a.cml a.cml --explain",
+            "",
+            "schedule line 1\nline 1: (fn main ()): no line of a schedule is written so here\n",
+            3,
+        ),
     ] {
         let mut store = filled(
             &rt,
             rt.alloc(),
             &[("a.cml", "(fn main ())"), ("S", SCHEDULE)],
         );
-        let left = left_on(&rt, rt.alloc(), line, false, &mut store)?;
+        let left = left_on(&rt, rt.alloc(), line, false, "", &mut store)?;
         assert!(rt;
             left.output.as_slice() == output.as_bytes(),
             "output of {line}"
@@ -176,7 +193,7 @@ fn texts_that_are_too_long_are_explained(rt: HostRuntime) -> Result<(), Fail> {
             "fmt a.cml --explain",
             "run a.cml --explain",
         ] {
-            let left = left_on(&rt, rt.alloc(), line, false, &mut store)?;
+            let left = left_on(&rt, rt.alloc(), line, false, "", &mut store)?;
             assert!(rt;
                 left.errors.as_slice() == TOO_LONG.as_bytes(),
                 "{line}, {length}"

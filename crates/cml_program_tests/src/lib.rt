@@ -12,12 +12,16 @@ mod explained;
 #[cfg(test)]
 mod explained_cases;
 #[cfg(test)]
+mod explained_faults;
+#[cfg(test)]
 mod faults;
 #[cfg(test)]
 mod gates;
 #[cfg(test)]
 mod limits;
 pub mod memory_store;
+#[cfg(test)]
+mod refusals;
 #[cfg(test)]
 mod replay_cases;
 #[cfg(test)]
@@ -36,6 +40,8 @@ mod script_run;
 mod scripts;
 #[cfg(test)]
 mod stores;
+#[cfg(test)]
+mod stories;
 #[cfg(test)]
 mod words;
 #[cfg(test)]

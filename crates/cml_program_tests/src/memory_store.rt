@@ -5,7 +5,7 @@ ghost use Rattle.std.specs.String.{string_bytes};
 ghost use Rattle.cml_host.specs.Stores.{nothing, bytes};
 ghost use Rattle.cml_program_tests.specs.Files.{content_under};
 
-use cml_host::{Store, StoreFault};
+use cml_host::{Reason, Store, StoreFault};
 use std::alloc::{AllocError, Global};
 
 /// What lies under a name.
@@ -84,7 +84,7 @@ impl Store for MemoryStore {
 
     fn load(&mut self, alloc: Global, name: &str, limit: usize) -> Result<Vec<u8>, StoreFault> {
         let Some(file) = find(self.files.as_slice(), name) else {
-            return Err(StoreFault::Refused);
+            return Err(StoreFault::Refused(Some(Reason::NotFound)));
         };
         match first(alloc, file.bytes.as_slice(), limit) {
             Ok(bytes) => Ok(bytes),
@@ -94,7 +94,7 @@ impl Store for MemoryStore {
 
     fn save(&mut self, name: &str, bytes: &[u8]) -> Result<(), StoreFault> {
         if self.is_closed {
-            return Err(StoreFault::Refused);
+            return Err(StoreFault::Refused(Some(Reason::ReadOnly)));
         }
         let Ok(file) = new_file(self.alloc, name, bytes) else {
             return Err(StoreFault::Memory);

@@ -61,6 +61,13 @@ report 8 rows 0 waiting 0
         false,
         0,
     ),
+    (
+        "explain A R --from 7",
+        "7  thread 0 main at 1:145 prints 42\n8  thread 0 main ends\n",
+        "",
+        false,
+        0,
+    ),
 ];
 
 const CANNOT_WRITE: &str = "cannot write output\n";
@@ -99,7 +106,7 @@ fn leaves(
         &mut store,
     );
     let saved = store.load(alloc, "S", 1_000_000);
-    let is_saved = !matches!(&saved, Err(StoreFault::Refused));
+    let is_saved = !matches!(&saved, Err(StoreFault::Refused(_)));
     drop(saved);
     drop(words);
     drop(store);
@@ -180,6 +187,21 @@ fn a_record_is_refused(rt: HostRuntime) -> Result<(), Fail> {
             drop(left);
         }
     }
+    Ok(())
+}
+
+#[test]
+fn a_record_is_refused_for_a_reason(rt: HostRuntime) -> Result<(), Fail> {
+    let alloc = rt.alloc();
+    let (out, err) = (
+        taking(alloc, usize::MAX, false),
+        taking(alloc, usize::MAX, false),
+    );
+    let left = leaves(&rt, alloc, "run A --record S --explain", out, err, true)?;
+    let output = "42\nend quiet pending 0\n".as_bytes();
+    let told = "cannot write S\nS: Read-only file system\n";
+    is_cut(&rt, &left, output, b"".as_slice(), told);
+    drop(left);
     Ok(())
 }
 

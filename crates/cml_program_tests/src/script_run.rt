@@ -89,7 +89,7 @@ fn is_saved(
         }
         Err(fault) => {
             assert!(rt;
-                fault == StoreFault::Refused && wanted.is_empty(),
+                fault != StoreFault::Memory && wanted.is_empty(),
                 "not saved of {name}"
             );
         }

@@ -1,7 +1,7 @@
 //! The store in memory.
 
 use crate::memory_store::MemoryStore;
-use cml_host::{Store, StoreFault};
+use cml_host::{Reason, Store, StoreFault};
 use std::test::Fail;
 
 // A name, a limit, and what is handed over.
@@ -28,7 +28,7 @@ fn what_was_saved_is_loaded(rt: HostRuntime) -> Result<(), Fail> {
         drop(loaded);
     }
     let missing = store.load(alloc, "c", 9);
-    assert!(rt; matches!(&missing, Err(StoreFault::Refused)));
+    assert!(rt; matches!(&missing, Err(StoreFault::Refused(Some(Reason::NotFound)))));
     drop(missing);
     drop(store);
     Ok(())

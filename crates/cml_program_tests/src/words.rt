@@ -11,12 +11,13 @@ pub const HELP: &str =
 Usage: cml <COMMAND>
 
 Commands:
-  trace   Answers the commands on standard input
-  check   Checks a script
-  fmt     Prints the forms of a text, each on a line
-  run     Runs a script
-  replay  Runs a script by a schedule that was saved
-  help    Print this message or the help of the given subcommand(s)
+  trace    Answers the commands on standard input
+  check    Checks a script
+  fmt      Prints the forms of a text, each on a line
+  run      Runs a script
+  replay   Runs a script by a schedule that was saved
+  explain  Says what happens in a run, by a schedule that was saved
+  help     Print this message or the help of the given subcommand(s)
 
 Options:
   -h, --help  Print help
@@ -48,8 +49,10 @@ const WORDS: &[Asked] = &[
 Usage: cml trace [OPTIONS]
 
 Options:
-      --live  Answers each line as soon as it has been read
-  -h, --help  Print help
+      --live     Answers each line as soon as it has been read
+      --explain  Explains what is wrong, and where [default: on a terminal]
+      --plain    Explains nothing, on a terminal too
+  -h, --help     Print help
 ",
         errors: "",
         status: 0,
@@ -69,7 +72,7 @@ Options:
     Asked {
         words: "check --explain x.cml",
         output: "",
-        errors: "cannot read x.cml\n",
+        errors: "cannot read x.cml\nx.cml: No such file or directory\n",
         status: 1,
     },
     Asked {
@@ -79,14 +82,62 @@ Options:
         status: 1,
     },
     Asked {
-        words: "trace --explain",
+        words: "trace --live --explain",
         output: "",
-        errors: "error: unexpected argument '--explain' found
+        errors: "--explain can't be used with --live\n",
+        status: 1,
+    },
+    Asked {
+        words: "trace --fast --explain --live",
+        output: "",
+        errors: "error: unexpected argument '--fast' found
 
 Usage: cml trace [OPTIONS]
 
 For more information, try '--help'.
 ",
+        status: 1,
+    },
+    Asked {
+        words: "trace --explain --live --plain",
+        output: "thread 0\n",
+        errors: "",
+        status: 0,
+    },
+    Asked {
+        words: "explain --help",
+        output: "Says what happens in a run, by a schedule that was saved\n\nUsage: cml explain [OPTIONS] <FILE> <SCHEDULE>\n\nArguments:\n  <FILE>      \n  <SCHEDULE>  \n\nOptions:\n      --from <I>  The first item that is explained, 1 to 1000000000 [default: 1]\n      --to <J>    The last item that is explained, 1 to 1000000000 [default: all]\n  -h, --help      Print help\n",
+        errors: "",
+        status: 0,
+    },
+    Asked {
+        words: "explain x.cml",
+        output: "",
+        errors: "error: the following required arguments were not provided:
+  <SCHEDULE>
+
+Usage: cml explain <FILE> <SCHEDULE>
+
+For more information, try '--help'.
+",
+        status: 1,
+    },
+    Asked {
+        words: "explain x.cml y --from 0",
+        output: "",
+        errors: "error: invalid value '0' for '--from <I>': 0 is not in 1..=1000000000\n\nFor more information, try '--help'.\n",
+        status: 1,
+    },
+    Asked {
+        words: "explain x.cml y --to 1000000001",
+        output: "",
+        errors: "error: invalid value '1000000001' for '--to <J>': 1000000001 is not in 1..=1000000000\n\nFor more information, try '--help'.\n",
+        status: 1,
+    },
+    Asked {
+        words: "explain x.cml y --to 3 --from 2",
+        output: "",
+        errors: "cannot read x.cml\nx.cml: No such file or directory\n",
         status: 1,
     },
     Asked {

@@ -2,6 +2,7 @@
 
 ghost use Rattle.cml_host.specs.Stores.{unknown};
 
+use crate::reason::{read_refused, refused};
 use crate::saving::{save_as_it_lies, save_beside};
 use cml_host::{Store, StoreFault, load_from};
 use cml_stream::Counting;
@@ -28,10 +29,15 @@ impl<'a, R: Files> Store for Disk<'a, R> {
     ghost holds = { λ disk name. unknown };
 
     fn load(&mut self, alloc: Global, name: &str, limit: usize) -> Result<Vec<u8>, StoreFault> {
-        let Ok(mut file) = fs::open(self.rt, name) else {
-            return Err(StoreFault::Refused);
+        let mut file = match fs::open(self.rt, name) {
+            Ok(file) => file,
+            Err(error) => return Err(refused(error)),
         };
-        load_from(alloc, &mut Counting::new(&mut file), limit)
+        match load_from(alloc, &mut Counting::new(&mut file), limit) {
+            Ok(all) => Ok(all),
+            Err(StoreFault::Refused(_)) => Err(read_refused(&mut file)),
+            Err(StoreFault::Memory) => Err(StoreFault::Memory),
+        }
     }
 
     // A regular file, or one that is new, gets its bytes at once: at a fault, and where the process is stopped, what lay under the name
@@ -40,8 +46,8 @@ impl<'a, R: Files> Store for Disk<'a, R> {
     fn save(&mut self, name: &str, bytes: &[u8]) -> Result<(), StoreFault> {
         match fs::symlink_metadata(self.rt, name) {
             Ok(old) if old.is_file() => {
-                if OpenOptions::new().write(true).open(self.rt, name).is_err() {
-                    return Err(StoreFault::Refused);
+                if let Err(error) = OpenOptions::new().write(true).open(self.rt, name) {
+                    return Err(refused(error));
                 }
                 save_beside(self.rt, name, Some(old.permissions()), bytes)
             }
@@ -49,7 +55,7 @@ impl<'a, R: Files> Store for Disk<'a, R> {
             Err(error) if error.kind() == ErrorKind::NotFound => {
                 save_beside(self.rt, name, None, bytes)
             }
-            Err(_) => Err(StoreFault::Refused),
+            Err(error) => Err(refused(error)),
         }
     }
 }

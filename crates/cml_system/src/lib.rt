@@ -8,6 +8,7 @@ ghost use Rattle.cml_system.specs.Systems.{RanOnSystem, NothingCalled, files};
 ghost use Rattle.cml_trace.specs.Live.{max_turns};
 
 mod disk;
+mod reason;
 mod saving;
 
 use cml_host::{Open, run_command_counted, say};

@@ -3,8 +3,9 @@
 ghost use Rattle.std.specs.Prelude.{OnOk};
 ghost use Rattle.cml_stream.specs.Streams.{stream, Takes};
 
+use crate::reason::{refused, write_refused};
 use arrayvec::ArrayString;
-use cml_host::{StoreFault, save_to};
+use cml_host::{Reason, StoreFault, save_to};
 use cml_stream::Counting;
 use itoa::Buffer;
 use std::fs;
@@ -31,15 +32,15 @@ pub fn save_beside<R: Files>(
 ) -> Result<(), StoreFault> {
     for number in 0..NAMES {
         let Some(beside) = name_beside(name, number) else {
-            return Err(StoreFault::Refused);
+            return Err(StoreFault::Refused(Some(Reason::LongName)));
         };
         match File::create_new(rt, beside.as_str()) {
             Ok(file) => return put_in_place(rt, file, beside.as_str(), name, old, bytes),
             Err(error) if error.kind() == ErrorKind::AlreadyExists => {}
-            Err(_) => return Err(StoreFault::Refused),
+            Err(error) => return Err(refused(error)),
         }
     }
-    Err(StoreFault::Refused)
+    Err(StoreFault::Refused(None))
 }
 
 /// Writes the bytes to what lies under the name.
@@ -47,8 +48,9 @@ pub fn save_beside<R: Files>(
 /// # Errors
 /// A refusal, where the system refuses one of the calls.
 pub fn save_as_it_lies<R: Files>(rt: &R, name: &str, bytes: &[u8]) -> Result<(), StoreFault> {
-    let Ok(mut file) = fs::create(rt, name) else {
-        return Err(StoreFault::Refused);
+    let mut file = match fs::create(rt, name) {
+        Ok(file) => file,
+        Err(error) => return Err(refused(error)),
     };
     save_to(&mut Counting::new(&mut file), bytes)
 }
@@ -85,11 +87,22 @@ fn put_in_place<R: Files>(
 ) -> Result<(), StoreFault> {
     let filled = fill(&mut file, old, bytes);
     drop(file);
-    if filled.is_ok() && fs::rename(rt, beside, name).is_ok() {
-        return Ok(());
+    let placed = match filled {
+        Ok(()) => rename(rt, beside, name),
+        Err(fault) => Err(fault),
+    };
+    if placed.is_err() {
+        let _ = fs::remove_file(rt, beside);
     }
-    let _ = fs::remove_file(rt, beside);
-    Err(StoreFault::Refused)
+    placed
+}
+
+// Gives the file another name.
+fn rename<R: Files>(rt: &R, old: &str, new: &str) -> Result<(), StoreFault> {
+    match fs::rename(rt, old, new) {
+        Ok(()) => Ok(()),
+        Err(error) => Err(refused(error)),
+    }
 }
 
 // Gives the file its permissions and its bytes, and waits until they have reached the device.
@@ -102,13 +115,15 @@ fn fill<F: Write + OpenFile>(
         OnOk result (Takes kept bytes.now) }
 {
     if let Some(permissions) = old
-        && file.set_permissions(permissions).is_err()
+        && let Err(error) = file.set_permissions(permissions)
     {
-        return Err(StoreFault::Refused);
+        return Err(refused(error));
     }
-    save_to(&mut Counting::new(file), bytes)?;
+    if save_to(&mut Counting::new(file), bytes).is_err() {
+        return Err(write_refused(file, bytes));
+    }
     match file.sync_all() {
         Ok(()) => Ok(()),
-        Err(_) => Err(StoreFault::Refused),
+        Err(error) => Err(refused(error)),
     }
 }

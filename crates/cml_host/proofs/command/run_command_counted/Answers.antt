@@ -1,9 +1,9 @@
 use Rattle.std.proofs.Common.{rules, ◌∙◌, ap, subst, map, inl, refl}
 use Rattle.std.specs.String.{string_bytes}
-use Rattle.cml_words.specs.declared.Task.TheVariants.{Trace, Check, Fmt, Run, Replay}
+use Rattle.cml_words.specs.declared.Task.TheVariants.{Trace, Check, Fmt, Run, Replay, Explain}
 use Rattle.cml_words.specs.declared.Answer.TheVariants as answer
 use Rattle.cml_words.specs.Words.{IsAnswer}
-use Rattle.cml_host.proofs.CountLemmas.{counted}
+use Rattle.cml_host.proofs.CountLemmas.{counted, watch_counted}
 use Rattle.cml_host.proofs.command.run_command_counted.Goals as goal
 
 pub run_file-requires-clause-counts : goal.run_file-requires-clause-counts
@@ -19,7 +19,7 @@ returns-in-Ok-Task-Trace-clause-ran g c =
     inl (
       answer.Task (Trace c.in-Ok-Task-Trace.options),
       subst (IsAnswer words) is c.in-Ok-Task-Trace.ensures,
-      (c.trace.ensures.ran, λ name. refl),
+      (rw c.is_on-explains.ensures at c.trace.ensures.ran, λ name. refl),
     )
 
 pub returns-in-Ok-Task-Check-clause-ran : goal.returns-in-Ok-Task-Check-clause-ran
@@ -30,7 +30,7 @@ returns-in-Ok-Task-Check-clause-ran g c =
       answer.Task (Check c.in-Ok-Task-Check.options),
       subst (IsAnswer words) is c.in-Ok-Task-Check.ensures,
       (
-        rw c.is_on-explains.ensures at c.check_file.ensures.ran,
+        rw c.is_on-explains-in-Ok-Task-Check.ensures at c.check_file.ensures.ran,
         (search rules, c.requires.reads.0, c.requires.reads.1),
         c.check_file.ensures.same,
       ),
@@ -73,3 +73,23 @@ returns-in-Ok-Task-Replay-clause-ran g c =
         c.replay_file.ensures.same,
       ),
     )
+
+pub returns-in-Ok-Task-Explain-clause-ran : goal.returns-in-Ok-Task-Explain-clause-ran
+returns-in-Ok-Task-Explain-clause-ran g c =
+    let words = map string_bytes c.args.words.now in
+    let is = c.in-Ok-Task-Explain.field-0-is ∙ ap answer.Task c.in-Ok-Task-Explain.field-0-0-is in
+    inl (
+      answer.Task (Explain c.in-Ok-Task-Explain.options),
+      subst (IsAnswer words) is c.in-Ok-Task-Explain.ensures,
+      (
+        c.explain_file.ensures.ran,
+        (search rules, c.requires.reads.0, c.requires.reads.1),
+        c.explain_file.ensures.same,
+      ),
+    )
+
+pub replay_file-requires-clause-watch : goal.replay_file-requires-clause-watch
+replay_file-requires-clause-watch g c =
+    let words = map string_bytes c.args.words.now in
+    let is = c.in-Ok-Task-Replay.field-0-is ∙ ap answer.Task c.in-Ok-Task-Replay.field-0-0-is in
+    watch_counted words c.in-Ok-Task-Replay.options (subst (IsAnswer words) is c.in-Ok-Task-Replay.ensures)

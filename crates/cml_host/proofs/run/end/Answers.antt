@@ -1,6 +1,7 @@
-use Rattle.std.proofs.Common.{◌⊎◌, List, ℕ, [], inr, option_map, refl, subst}
+use Rattle.std.proofs.Common.{◌⊎◌, Bool, List, ℕ, [], inr, option_map, refl, subst}
 use Rattle.cml_stream.specs.Streams.{counted_stream}
 use Rattle.cml_host.specs.Closed.{plain_asked, plain_closing}
+use Rattle.cml_host.specs.Running.{IsNotEnded}
 use Rattle.cml_host.specs.Stores.{Shelf}
 use Rattle.cml_host.specs.Told.{MemoryBroke, OutputBroke}
 use Rattle.cml_host.proofs.RanLemmas.{closed_ran, not_ended_ran}
@@ -35,4 +36,6 @@ returns-clause-ran g c =
     let errors = counted_stream (g.E.Write.contents c.args.err.now.stream.now) (g.E.Write.contents c.tell_and_save.new.err.stream.now)
     c.tell_and_save.new.err.calls c.tell_and_save.new.err.failed in
     let store : Shelf = record { before = g.S.Store.holds c.args.store.now; after = g.S.Store.holds c.tell_and_save.new.store } in
-    not_ended_ran (plain_asked c.args.asked.now) (option_map (λ name. name.now) c.args.save_as) c.args.hub.now output errors store c.in-Err.status c.in-Err.ensures.not_ended
+    not_ended_ran (plain_asked c.args.asked.now) (option_map (λ name. name.now) c.args.save_as) c.args.hub.now output errors store c.in-Err.status
+    (subst (λ (e : Bool). IsNotEnded e (option_map (λ name. name.now) c.args.save_as) c.args.hub.now output errors store c.in-Err.status) c.explains.ensures
+    c.in-Err.ensures.not_ended)

@@ -15,8 +15,8 @@ returns-in-Ok-tell_output-clause-not_ended g c =
     let errors = counted_stream a d c.save_record.new.err.calls c.save_record.new.err.failed in
     let store : Shelf = record { before = g.S.Store.holds c.args.store.now; after = g.S.Store.holds c.save_record.new.store } in
     let named : option_map (λ name. name.now) c.args.save_as ≡ Some c.in-Some.name.now = search rules in
-    subst (λ (n : Option (List ℕ)). IfErr c.save_record.result (IsNotEnded n c.args.hub.now output errors store)) (sym named) (
-    not_kept c.save_record.result c.in-Some.name.now c.args.hub.now c.in-Ok.made output a b d
+    subst (λ (n : Option (List ℕ)). IfErr c.save_record.result (IsNotEnded c.args.explains n c.args.hub.now output errors store)) (sym named) (
+    not_kept c.save_record.result c.args.explains c.in-Some.name.now c.args.hub.now output a b d
     c.tell_output-2.new.err.calls c.tell_output-2.new.err.failed c.save_record.new.err.calls c.save_record.new.err.failed store
-    c.in-Ok.ensures c.in-Ok-tell_output.ensures.told c.save_record.ensures.not_kept
+    c.in-Ok-tell_output.ensures.told c.save_record.ensures.not_kept
     )

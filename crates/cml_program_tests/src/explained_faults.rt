@@ -1,0 +1,224 @@
+//! Scripts that end at faults as they run, each with its whole answer: how the run ended, and where and why threads ended at faults.
+
+use crate::script_run::{Case, all_come_out};
+use std::test::Fail;
+
+// Each way in which a script was broken that shows only as it runs.
+const FAULTY: &[Case] = &[
+    Case {
+        name: "adding a pair",
+        words: "run a.cml --explain",
+        files: &[(
+            "a.cml",
+            "(fn main ()
+  (let p (pair 1 2))
+  (let i 5)
+  (print (+ i p)))
+",
+        )],
+        output: "thread 0 fault kind\nend quiet pending 0\n",
+        errors: "1 thread ended at a fault
+a.cml:4:3: thread 0 main ends at a fault: + takes numbers, and was given 5 and (pair 1 2)
+4 |   (print (+ i p)))
+  |   ^^^^^^^^^^^^^^^
+   in main
+   p = (pair 1 2), i = 5
+",
+        status: 0,
+        saved: &[],
+    },
+    Case {
+        name: "a condition that is no truth value",
+        words: "run a.cml --explain",
+        files: &[(
+            "a.cml",
+            "(fn main ()
+  (let n 3)
+  (if n (do (print 1)) (do (print 2))))
+",
+        )],
+        output: "thread 0 fault kind\nend quiet pending 0\n",
+        errors: "1 thread ended at a fault
+a.cml:3:3: thread 0 main ends at a fault: if takes a truth value, and was given 3
+3 |   (if n (do (print 1)) (do (print 2))))
+  |   ^^^^^^^^^^^^^^^^^^^^^^^^^^^^^^^^^^^^
+   in main
+   n = 3
+",
+        status: 0,
+        saved: &[],
+    },
+    Case {
+        name: "a sync of no event",
+        words: "run a.cml --explain",
+        files: &[(
+            "a.cml",
+            "(fn worker (c)
+  (sync (send c 1)))
+(fn main ()
+  (let c (chan))
+  (spawn worker c)
+  (sync c))
+",
+        )],
+        output: "thread 0 fault kind\nend quiet pending 1\n",
+        errors: "1 thread waits, and nothing can happen: a deadlock
+  thread 1 worker((chan 0)) at a.cml:2:3, in worker: send 1 on channel 0
+1 thread ended at a fault
+a.cml:6:3: thread 0 main ends at a fault: sync takes an event, and was given (chan 0)
+6 |   (sync c))
+  |   ^^^^^^^^
+   in main
+   c = (chan 0)
+",
+        status: 0,
+        saved: &[],
+    },
+    Case {
+        name: "a guard that returns no event",
+        words: "run a.cml --explain",
+        files: &[(
+            "a.cml",
+            "(fn pick ()
+  (return 5))
+(fn main ()
+  (let v (sync (guard pick)))
+  (print v))
+",
+        )],
+        output: "thread 0 fault kind\nend quiet pending 0\n",
+        errors: "1 thread ended at a fault
+a.cml:2:3: thread 0 main ends at a fault: a guard's or withnack's function returns an event, and this one returned 5
+2 |   (return 5))
+  |   ^^^^^^^^^^
+   in pick, called at a.cml:4:3
+   in main
+",
+        status: 0,
+        saved: &[],
+    },
+    Case {
+        name: "a forgotten return whose unit is used",
+        words: "run a.cml --explain",
+        files: &[(
+            "a.cml",
+            "(fn twice (n)
+  (let d (* n 2)))
+(fn main ()
+  (let y (call twice 4))
+  (print (+ y 1)))
+",
+        )],
+        output: "thread 0 fault kind\nend quiet pending 0\n",
+        errors: "1 thread ended at a fault
+a.cml:5:3: thread 0 main ends at a fault: + takes numbers, and was given () and 1
+5 |   (print (+ y 1)))
+  |   ^^^^^^^^^^^^^^^
+   in main
+   y = ()
+",
+        status: 0,
+        saved: &[],
+    },
+    Case {
+        name: "a second put",
+        words: "run a.cml --explain",
+        files: &[(
+            "a.cml",
+            "(fn main ()
+  (let i (ivar))
+  (iput i 1)
+  (iput i 2))
+",
+        )],
+        output: "thread 0 fault put\nend quiet pending 0\n",
+        errors: "1 thread ended at a fault
+a.cml:4:3: thread 0 main ends at a fault: I-variable 0 is full: it can be put only once
+4 |   (iput i 2))
+  |   ^^^^^^^^^^
+   in main
+   i = (ivar 0)
+",
+        status: 0,
+        saved: &[],
+    },
+    Case {
+        name: "a negative delay",
+        words: "run a.cml --explain",
+        files: &[(
+            "a.cml",
+            "(fn main ()
+  (let d (- 2 5))
+  (sync (after d)))
+",
+        )],
+        output: "thread 0 fault range\nend quiet pending 0\n",
+        errors: "1 thread ended at a fault
+a.cml:3:3: thread 0 main ends at a fault: after takes a tick count from 0, and was given -3
+3 |   (sync (after d)))
+  |   ^^^^^^^^^^^^^^^^
+   in main
+   d = -3
+",
+        status: 0,
+        saved: &[],
+    },
+    Case {
+        name: "a stack too deep",
+        words: "run a.cml --explain",
+        files: &[(
+            "a.cml",
+            "(fn count (n)
+  (call count (+ n 1)))
+(fn main ()
+  (call count 0))
+",
+        )],
+        output: "thread 0 fault stack\nend quiet pending 0\n",
+        errors: "1 thread ended at a fault
+a.cml:2:3: thread 0 main ends at a fault: calls nest too deep: a stack has at most 1024 entries
+2 |   (call count (+ n 1)))
+  |   ^^^^^^^^^^^^^^^^^^^^
+   in count, called at a.cml:2:3
+   in count, called at a.cml:2:3
+   in count, called at a.cml:2:3
+   in count, called at a.cml:2:3
+   in count, called at a.cml:2:3
+   in count, called at a.cml:2:3
+   in count, called at a.cml:2:3
+   in count, called at a.cml:2:3
+   in count, called at a.cml:2:3
+   in count, called at a.cml:2:3
+   and 1014 more
+   n = 1022
+",
+        status: 0,
+        saved: &[],
+    },
+    Case {
+        name: "a value too deep",
+        words: "run a.cml --explain",
+        files: &[(
+            "a.cml",
+            "(fn main ()
+  (let v unit)
+  (while true (set v (pair v 0))))
+",
+        )],
+        output: "thread 0 fault deep\nend quiet pending 0\n",
+        errors: "1 thread ended at a fault
+a.cml:3:15: thread 0 main ends at a fault: the pair nests deeper than 64, or has more than 65536 parts
+3 |   (while true (set v (pair v 0))))
+  |               ^^^^^^^^^^^^^^^^^^
+   in main
+   v = (pair (pair (pair (pair (pair (pair (pai..
+",
+        status: 0,
+        saved: &[],
+    },
+];
+
+#[test]
+fn faults_are_explained(rt: HostRuntime) -> Result<(), Fail> {
+    all_come_out(&rt, rt.alloc(), FAULTY)
+}

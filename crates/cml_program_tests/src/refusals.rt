@@ -1,0 +1,116 @@
+//! Traces of which it is told what was refused, and why a line is bad: whole answers, by each way of asking for them.
+
+use crate::explained::left_on;
+use crate::memory_store::MemoryStore;
+use crate::run::{Part, whole};
+use std::alloc::Global;
+use std::process::Abort;
+use std::sync::Wait;
+use std::test::Fail;
+use std::thread::Threads;
+
+// A trace, what answers it, what is told of it where it is explained, and the status.
+struct Told {
+    input: &'static [Part],
+    output: &'static [Part],
+    told: &'static str,
+    status: u8,
+}
+
+const TRACES: &[Told] = &[
+    Told {
+        input: &[Part::Once("spawn\nrows\n")],
+        output: &[Part::Once("thread 0\nrows 0\n")],
+        told: "",
+        status: 0,
+    },
+    Told {
+        input: &[Part::Once(
+            "spawn\nspawn\nchan\nsync 0 (send 0 5)\nsync 0 (recv 0)\ncommit 0 0 1 0\nsync 1 (recv 0)\ncommit 0 0 1 0\nend 0\nend 0",
+        )],
+        output: &[Part::Once(
+            "thread 0\nthread 1\nchan 0\nok\nrefused 2 state\nrefused 5 row\nok\nresume 0 ()\nresume 1 5\nfired\nok\nrefused 2 state\n",
+        )],
+        told: "line 5: thread 0 is pending, so it can't wait again\nline 6: thread 1 runs, so none of its events can be taken\nline 10: thread 0 has ended, so it can't end again\n",
+        status: 0,
+    },
+    Told {
+        input: &[Part::Once("; empty\n\nend 3\nsync 0\nend 4\n")],
+        output: &[Part::Once("refused 1 thread\nbad 4\n")],
+        told: "line 3: there is no thread 3\nline 4: sync takes the number of a thread and a group\n",
+        status: 2,
+    },
+    Told {
+        input: &[Part::Times("chan\n", 65_537)],
+        output: &[Part::Each("chan", 65_536), Part::Once("refused 10 full\n")],
+        told: "line 65537: there are 65536 channels, and there can't be more\n",
+        status: 0,
+    },
+];
+
+// Arguments, whether the errors go to a terminal, and whether it is told what is wrong.
+const ASKED: &[(&str, bool, bool)] = &[
+    ("trace", false, false),
+    ("trace --explain", false, true),
+    ("trace --plain", false, false),
+    ("trace --explain --plain", false, false),
+    ("trace --plain --explain", false, false),
+    ("trace", true, true),
+    ("trace --explain", true, true),
+    ("trace --plain", true, false),
+    ("trace --live", false, false),
+    ("trace --live --plain", false, false),
+    ("trace --live", true, false),
+    ("trace --live --plain", true, false),
+];
+
+// The trace is answered so on this line of arguments.
+fn told_on(
+    rt: &(impl Abort + Threads + Wait + Sync),
+    alloc: Global,
+    trace: &Told,
+    (line, terminal, explained): (&str, bool, bool),
+) -> Result<(), Fail> {
+    let input = whole(alloc, trace.input)?;
+    let output = whole(alloc, trace.output)?;
+    let told = if explained { trace.told } else { "" };
+    let mut store = MemoryStore::new(alloc);
+    let left = left_on(rt, alloc, line, terminal, input.as_str(), &mut store)?;
+    assert!(rt;
+        left.output.as_slice() == output.as_bytes(),
+        "output of {line}"
+    );
+    assert!(rt;
+        left.errors.as_slice() == told.as_bytes(),
+        "errors of {line}"
+    );
+    assert!(rt; left.status == trace.status, "status of {line}");
+    drop(input);
+    drop(output);
+    drop(left);
+    drop(store);
+    Ok(())
+}
+
+#[test]
+fn traces_are_explained(rt: HostRuntime) -> Result<(), Fail> {
+    for trace in TRACES {
+        for &asked in ASKED {
+            told_on(&rt, rt.alloc(), trace, asked)?;
+        }
+    }
+    Ok(())
+}
+
+// A trace that is too long is explained, too.
+#[test]
+fn a_trace_that_is_too_long_is_explained(rt: HostRuntime) -> Result<(), Fail> {
+    let long = Told {
+        input: &[Part::Times(" ", 1_048_577)],
+        output: &[Part::Once("too long\n")],
+        told: "a trace has at most 1048576 bytes; with --live there is no limit\n",
+        status: 2,
+    };
+    told_on(&rt, rt.alloc(), &long, ("trace", false, false))?;
+    told_on(&rt, rt.alloc(), &long, ("trace --explain", false, true))
+}
