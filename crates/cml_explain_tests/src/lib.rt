@@ -5,7 +5,11 @@ pub mod budgets;
 #[cfg(test)]
 mod endings;
 #[cfg(test)]
+mod faults;
+#[cfg(test)]
 mod making;
+#[cfg(test)]
+mod narratives;
 #[cfg(test)]
 mod refusals;
 #[cfg(test)]
