@@ -1,4 +1,4 @@
-use Rattle.std.proofs.Common.{◌≡◌, ◌+◌, ◌-◌, ◌≤◌, length, slice_get}
+use Rattle.std.proofs.Common.{◌≡◌, ◌-◌, ◌≤◌, length, slice_get}
 use Rattle.cml_text.specs.Lines.{lines}
 use Rattle.cml_explain.proofs.unfit.line_of.Given as goal
 
