@@ -4,6 +4,8 @@
 #[cfg(test)]
 mod endings;
 #[cfg(test)]
+mod explorations;
+#[cfg(test)]
 mod making;
 #[cfg(test)]
 mod scripts;
