@@ -17,12 +17,12 @@ module _ (places : List (List Place)) (forms : List PlainSexpr) (p : List (Plain
       (all.0, all.1 ++ one, all.2, said_push ranks all.1 rank one all.3 is, ap (λ l. l ++ one) all.4 ∙ append_assoc all.0 all.1 one)
 
   -- what is said of one rank more
-  pub rank_more : (ranks : List Rank) (i : ℕ) (rank : Rank) (o old new said one : List ℕ) → i < length ranks → rank ≡ get_or ranks i rank
-      → AllSaid places forms p budget w classes (take i ranks) said → old ≡ o ++ said → RankSaid places forms p budget w classes rank one → new ≡ old ++ one
+  pub rank_more : (ranks : List Rank) (i : ℕ) (d : Rank) (o old new said one : List ℕ) → i < length ranks
+      → AllSaid places forms p budget w classes (take i ranks) said → old ≡ o ++ said → RankSaid places forms p budget w classes (get_or ranks i d) one → new ≡ old ++ one
       → (more : List ℕ) × AllSaid places forms p budget w classes (take (i + 1) ranks) more × (new ≡ o ++ more)
-  rank_more ranks i rank o old new said one h at all so_far is more =
-      let split : take i ranks ++ rank ∷ [] ≡ take (i + 1) ranks = ap (λ r. take i ranks ++ r ∷ []) at ∙ sym (take_more ranks i rank h) in (
+  rank_more ranks i d o old new said one h all so_far is more =
+      let split : take i ranks ++ get_or ranks i d ∷ [] ≡ take (i + 1) ranks = sym (take_more ranks i d h) in (
         said ++ one,
-        subst (λ (rs : List Rank). AllSaid places forms p budget w classes rs (said ++ one)) split (said_push (take i ranks) said rank one all is),
+        subst (λ (rs : List Rank). AllSaid places forms p budget w classes rs (said ++ one)) split (said_push (take i ranks) said (get_or ranks i d) one all is),
         more ∙ (ap (λ l. l ++ one) so_far ∙ append_assoc o said one),
       )

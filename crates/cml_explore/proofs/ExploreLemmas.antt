@@ -3,6 +3,7 @@ use Rattle.std.proofs.Common.{◌≡◌, ◌≢◌, ◌⊎◌, inl, inr, ℕ, ze
 use Rattle.std.specs.Prelude.{Option, Result, Ok, Err, IfOk}
 use Rattle.std.specs.List.{All, list_any, list_all}
 use Rattle.std.proofs.lemmas.List.{length_push}
+use Rattle.std.proofs.lemmas.List.Folds.{list_all-append, list_any-append}
 use Rattle.std.proofs.lemmas.List.Elements.{All-nil, All-cons, All-head, All-tail, All-weaker}
 use Rattle.cml_check.specs.Syntax.{PlainItem}
 use Rattle.cml_hub.specs.Kept.{Kept}
@@ -46,24 +47,14 @@ and_true true = refl
 and_true false = refl
 
 all_more : (es : List PlainEnded) (e : PlainEnded) → list_all is_well (es ++ e ∷ []) ≡ (list_all is_well es && is_well e)
-all_more [] e = and_true (is_well e)
-all_more (x ∷ es) e = by (is_well x)
-  where
-    by : (b : Bool) → (b && list_all is_well (es ++ e ∷ [])) ≡ ((b && list_all is_well es) && is_well e)
-    by true = all_more es e
-    by false = refl
+all_more es e = list_all-append is_well es (e ∷ []) ∙ ap (λ b. list_all is_well es && b) (and_true (is_well e))
 
 or_false : (b : Bool) → b || false ≡ b
 or_false true = refl
 or_false false = refl
 
 any_more : (p : PlainEnded → Bool) (es : List PlainEnded) (e : PlainEnded) → p e ≡ false → list_any p es ≡ false → list_any p (es ++ e ∷ []) ≡ false
-any_more p [] e h none = or_false (p e) ∙ h
-any_more p (x ∷ es) e h none = by (p x) none
-  where
-    by : (b : Bool) → b || list_any p es ≡ false → b || list_any p (es ++ e ∷ []) ≡ false
-    by true g = cc
-    by false g = any_more p es e h g
+any_more p es e h none = list_any-append p es (e ∷ []) ∙ (ap (λ b. b || (p e || false)) none ∙ (or_false (p e) ∙ h))
 
 abbrev the_parts : List PlainClass → ℕ → Bool → PlainExplored
 the_parts cs n b = record { classes = cs; runs = n; well = b }
@@ -127,20 +118,20 @@ module _ (p : List (PlainItem ℕ)) (asked : Asked) (n : ℕ) (old new : PlainEx
   few_so = subst (λ (m : PlainExplored). All (λ (x : PlainClass). x.tally.runs ≤ n + 1) m.classes) (sym made) (few_classed n (asked.first + n) e.finish old.classes so_far.few)
 
   pub goes_on : stops asked.until e ≡ false → SoFar p asked (n + 1) new
-  goes_on no = record {
+  goes_on not_yet = record {
     ends = so_far.ends ++ e ∷ [];
     many = many_so;
     each = each_so;
-    none = any_more (stops asked.until) so_far.ends e no so_far.none;
+    none = any_more (stops asked.until) so_far.ends e not_yet so_far.none;
     few = few_so;
     gathered_so = all_so;
   }
 
   pub has_stopped : stops asked.until e ≡ true → n < asked.runs → IsExplored p asked new
-  has_stopped yes h = record {
+  has_stopped is_last h = record {
     ends = so_far.ends ++ e ∷ [];
     each = each_so;
-    enough = inr (so_far.ends, e, refl, omega (arith, many_so), so_far.none, yes);
+    enough = inr (so_far.ends, e, refl, omega (arith, many_so), so_far.none, is_last);
     gathered_so = all_so;
   }
 

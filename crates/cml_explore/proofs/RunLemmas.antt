@@ -28,7 +28,8 @@ ran_out p budget seed begun h begins leads ran =
     }
 
 -- the same, if memory was enough; the program is a copy
-pub ran_out_ok : {E : Type 0} (r : Result Kept E) (p : List (PlainItem ℕ)) (budget seed : ℕ) (begun : Kept) → IsAtStart p budget None begun
+pub ran_out_ok : {E : Type 0} (r : Result Kept E) (copy p : List (PlainItem ℕ)) (budget seed : ℕ) (begun : Kept) → copy ≡ p → IsAtStart copy budget None begun
     → stands (text_of begun.course.program) begun.course.items ≡ Some (run_of begun.course) → IfOk r (λ h. RunsOut seed begun h) → IfOk r (λ h. IsSeedRun p budget seed h)
-ran_out_ok (Ok h) p budget seed begun begins leads ran = ran_out p budget seed begun h begins leads ran
-ran_out_ok (Err e) p budget seed begun begins leads ran = tt
+ran_out_ok (Ok h) copy p budget seed begun same begins leads ran =
+    ran_out p budget seed begun h (subst (λ (q : List (PlainItem ℕ)). IsAtStart q budget None begun) same begins) leads ran
+ran_out_ok (Err e) copy p budget seed begun same begins leads ran = tt

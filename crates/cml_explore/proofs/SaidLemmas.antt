@@ -46,7 +46,8 @@ pub rank_past : (forms : List PlainSexpr) (places : List (List Place)) (p : List
     → (said : List ℕ) × RankSaid places forms p budget w classes rank said × (old ≡ old ++ said)
 rank_past forms places p budget w classes rank old h =
     let none : slice_get classes rank.1 ≡ None = slice_get_past classes rank.1 h in
-    ([], subst (λ (o : Option PlainClass). MatchOption o ([] {A = ℕ} ≡ []) (λ c. ClassSaid places forms p budget w c [])) (sym none) refl, sym (append-nil old))
+    let empty : List ℕ = [] in
+    (empty, subst (λ (o : Option PlainClass). MatchOption o (empty ≡ empty) (λ c. ClassSaid places forms p budget w c empty)) (sym none) refl, sym (append-nil old))
 
 pub rank_said : {T E : Type 0} (r : Result T E) (forms : List PlainSexpr) (places : List (List Place)) (p : List (PlainItem ℕ)) (budget : ℕ) (w : Widths) (classes : List PlainClass) (rank : Rank) (c : PlainClass) (old new : List ℕ)
     → slice_get classes rank.1 ≡ Some c → OnOk r ((said : List ℕ) × ClassSaid places forms p budget w c said × (new ≡ old ++ said))
@@ -55,17 +56,22 @@ rank_said (Ok x) forms places p budget w classes rank c old new at all =
     (all.0, subst (λ (o : Option PlainClass). MatchOption o (all.0 ≡ []) (λ d. ClassSaid places forms p budget w d all.0)) (sym at) all.1, all.2)
 rank_said (Err y) forms places p budget w classes rank c old new at all = tt
 
-pub told_of_runs : (name text : List ℕ) (forms : List PlainSexpr) (places : List (List Place)) (p : List (PlainItem ℕ)) (asked : Asked) (made : PlainExplored) (ranks : List Rank) (w : Widths) (begun head said : List ℕ)
-    → places ≡ all_places text forms → AreRanked made.classes ranks → w ≡ widths_of made.classes → begun ≡ [] → head ≡ begun ++ runs_line name asked.first made.runs
-    → (lines : List ℕ) × AllSaid places forms p asked.budget w made.classes ranks lines × (said ≡ head ++ lines) → IsToldOfRuns name text forms p asked made said
-told_of_runs name text forms places p asked made ranks w begun head said at ranked wide empty first all = record {
-  ranks = ranks;
-  ranked = ranked;
-  lines = all.0;
-  all = subst (λ (v : Widths). AllSaid (all_places text forms) forms p asked.budget v made.classes ranks all.0) wide
-      (subst (λ (ps : List (List Place)). AllSaid ps forms p asked.budget w made.classes ranks all.0) at all.1);
-  said_is = all.2 ∙ (ap (λ l. l ++ all.0) first ∙ ap (λ l. (l ++ runs_line name asked.first made.runs) ++ all.0) empty);
-}
+pub told_of_runs : (name text : List ℕ) (forms : List PlainSexpr) (places : List (List Place)) (p : List (PlainItem ℕ)) (asked : Asked) (made : PlainExplored) (classes : List PlainClass) (ranks slice : List Rank) (w : Widths)
+    (begun head said : List ℕ) (runs : ℕ) → places ≡ all_places text forms → classes ≡ made.classes → AreRanked classes ranks → slice ≡ ranks → w ≡ widths_of classes → begun ≡ [] → runs ≡ made.runs
+    → head ≡ begun ++ runs_line name asked.first runs → (lines : List ℕ) × AllSaid places forms p asked.budget w classes slice lines × (said ≡ head ++ lines) → IsToldOfRuns name text forms p asked made said
+told_of_runs name text forms places p asked made classes ranks slice w begun head said runs at own ranked same wide empty many first all =
+    let wide_so : w ≡ widths_of made.classes = wide ∙ ap widths_of own in
+    let head_so : head ≡ runs_line name asked.first made.runs = first ∙ (ap (λ l. l ++ runs_line name asked.first runs) empty ∙ ap (runs_line name asked.first) many) in
+    record {
+      ranks = ranks;
+      ranked = subst (λ (cs : List PlainClass). AreRanked cs ranks) own ranked;
+      lines = all.0;
+      all = subst (λ (rs : List Rank). AllSaid (all_places text forms) forms p asked.budget (widths_of made.classes) made.classes rs all.0) same
+          (subst (λ (cs : List PlainClass). AllSaid (all_places text forms) forms p asked.budget (widths_of made.classes) cs slice all.0) own
+          (subst (λ (v : Widths). AllSaid (all_places text forms) forms p asked.budget v classes slice all.0) wide_so
+          (subst (λ (ps : List (List Place)). AllSaid ps forms p asked.budget w classes slice all.0) at all.1)));
+      said_is = all.2 ∙ ap (λ l. l ++ all.0) head_so;
+    }
 
 -- nobody is known to have taken anything
 pub nobody : (taker : ℕ → Option ℕ) → ((m : ℕ) → taker m ≡ None) → taker ≡ (λ m. None)

@@ -174,17 +174,11 @@ pub fn explain_runs(
         program,
         budget: asked.budget,
     };
-    let ranks = ranks_of(alloc, made.classes())?;
-    let widths = widths_of(alloc, made.classes())?;
+    let all = made.classes();
+    let ranks = ranks_of(alloc, all)?;
+    let widths = widths_of(alloc, all)?;
     let mut out = Vec::new(alloc);
     push_head(alloc, &mut out, name, asked.first, made.runs())?;
-    push_ranks(
-        alloc,
-        &mut out,
-        &script,
-        widths,
-        made.classes(),
-        ranks.as_slice(),
-    )?;
+    push_ranks(alloc, &mut out, &script, widths, all, ranks.as_slice())?;
     Ok(out)
 }

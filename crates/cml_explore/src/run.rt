@@ -42,7 +42,8 @@ pub(crate) fn seed_run(
     requires { IsBudget budget }
     ensures { IfOk result (λ hub. IsSeedRun program.now budget seed hub) }
 {
-    match Hub::begin(alloc, program.copy()?, budget, None) {
+    let copy = program.copy()?;
+    match Hub::begin(alloc, copy, budget, None) {
         Ok(hub) => {
             let _so_far = hub.schedule();
             run_out(alloc, hub, seed)

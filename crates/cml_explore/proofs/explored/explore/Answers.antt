@@ -11,21 +11,25 @@ add-requires-clause-few c = is_few c.args.program.now c.args.asked c.loop-i.i _ 
 pub add-requires-clause-runs : goal.add-requires-clause-runs
 add-requires-clause-runs c = omega (arith, as_many c.args.program.now c.args.asked c.loop-i.i c.loop-i.made c.loop-i.invariant)
 
-stopped : goal.returns-then-stops-clause-explored
-stopped c =
+pub returns-then-stops-clause-explored : goal.returns-then-stops-clause-explored
+returns-then-stops-clause-explored c =
     let e = c.in_ok-stops.ensures in
     has_stopped c.args.program.now c.args.asked c.loop-i.i c.loop-i.made c.add.new.self e.0 c.loop-i.invariant e.1 e.2 (sym e.3 ∙ c.if-stops.true) (omega arith)
+
+pub returns-then-stops-clause-few : goal.returns-then-stops-clause-few
+returns-then-stops-clause-few c =
+    let e = c.in_ok-stops.ensures in
+    at_most c.args.program.now c.args.asked c.add.new.self
+    (has_stopped c.args.program.now c.args.asked c.loop-i.i c.loop-i.made c.add.new.self e.0 c.loop-i.invariant e.1 e.2 (sym e.3 ∙ c.if-stops.true) (omega arith))
 
 pub loop-i-preserved : goal.loop-i-preserved
 loop-i-preserved c =
     let e = c.in_ok-stops.ensures in
     goes_on c.args.program.now c.args.asked c.loop-i.i c.loop-i.made c.add.new.self e.0 c.loop-i.invariant e.1 e.2 (sym e.3 ∙ c.if-stops.false)
 
-done : goal.returns-clause-explored
-done c = is_done c.args.program.now c.args.asked c.loop-i.i c.loop-i.made c.loop-i.invariant (omega arith)
+pub returns-clause-explored : goal.returns-clause-explored
+returns-clause-explored c = is_done c.args.program.now c.args.asked c.loop-i.i c.loop-i.made c.loop-i.invariant (omega arith)
 
-pub returns-then-stops : goal.returns-then-stops
-returns-then-stops c = record { explored = stopped c; few = at_most c.args.program.now c.args.asked c.add.new.self (stopped c) }
-
-pub returns : goal.returns
-returns c = record { explored = done c; few = at_most c.args.program.now c.args.asked c.loop-i.made (done c) }
+pub returns-clause-few : goal.returns-clause-few
+returns-clause-few c =
+    at_most c.args.program.now c.args.asked c.loop-i.made (is_done c.args.program.now c.args.asked c.loop-i.i c.loop-i.made c.loop-i.invariant (omega arith))
