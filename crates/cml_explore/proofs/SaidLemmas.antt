@@ -1,5 +1,5 @@
 -- What is said of a class.
-use Rattle.std.proofs.Common.{◌≡◌, ℕ, ◌≤◌, List, [], ◌∷◌, ◌++◌, length, Option, Some, None, refl, sym, ap, subst, ◌∙◌, append_assoc, append-nil}
+use Rattle.std.proofs.Common.{◌≡◌, ℕ, ◌≤◌, List, [], ◌++◌, length, Option, Some, None, refl, sym, ap, subst, ◌∙◌, append_assoc, append-nil}
 use Rattle.std.specs.Prelude.{slice_get, MatchOption, Result, Ok, Err, OnOk}
 use Rattle.std.proofs.lemmas.Option.{slice_get_past}
 use Rattle.cml_text.specs.Forms.{PlainSexpr}

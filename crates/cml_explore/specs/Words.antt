@@ -1,5 +1,5 @@
 -- The line of a class.
-use Rattle.std.specs.Prelude.{ℕ, ◌-◌, ◌==◌, max, if◌then◌else◌, Bool, true, false, List, [], ◌∷◌, ◌++◌, codes, length, fold, replicate, count_by, Option, Some, None, slice_get}
+use Rattle.std.specs.Prelude.{ℕ, ◌-◌, ◌==◌, max, if◌then◌else◌, Bool, true, false, List, [], ◌∷◌, ◌++◌, codes, length, fold, replicate, count_by, Option, Some, slice_get}
 use Rattle.std.specs.Fmt.{decimal}
 use Rattle.cml_ending.specs.Lines.{many}
 use Rattle.cml_explore.specs.declared.detail.Detail.{Detail}

@@ -1,4 +1,4 @@
-use Rattle.std.proofs.Common.{◌≡◌, ◌∙◌, map, ap}
+use Rattle.std.proofs.Common.{◌∙◌, map, ap}
 use Rattle.cml_explore.proofs.SaidLemmas.{told_of_runs}
 use Rattle.cml_explore.proofs.answer.explain_runs.Goals as goal
 

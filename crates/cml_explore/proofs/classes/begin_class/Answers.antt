@@ -1,4 +1,3 @@
-use Rattle.std.proofs.Common.{◌≡◌, ◌∙◌, ap, ◌++◌, ◌∷◌, []}
 use Rattle.cml_explore.proofs.classes.begin_class.Goals as goal
 
 pub returns-clause-tallies : goal.returns-clause-tallies

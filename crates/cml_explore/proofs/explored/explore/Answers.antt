@@ -1,4 +1,4 @@
-use Rattle.std.proofs.Common.{◌≡◌, ◌∙◌, sym, arith}
+use Rattle.std.proofs.Common.{◌∙◌, sym, arith}
 use Rattle.cml_explore.proofs.ExploreLemmas.{nothing_yet, is_few, as_many, goes_on, has_stopped, is_done, at_most}
 use Rattle.cml_explore.proofs.explored.explore.Goals as goal
 

@@ -1,4 +1,4 @@
-use Rattle.std.proofs.Common.{◌≡◌, ◌∙◌, ◌++◌, ◌∷◌, [], ap, arith}
+use Rattle.std.proofs.Common.{◌∙◌, ◌++◌, ◌∷◌, [], ap, arith}
 use Rattle.cml_explore.specs.ClassViews.{plain_class}
 use Rattle.cml_explore.proofs.RankLemmas.{ranks_more}
 use Rattle.cml_explore.proofs.rank.unsorted.Goals as goal

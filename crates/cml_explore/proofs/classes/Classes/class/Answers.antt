@@ -1,4 +1,4 @@
-use Rattle.std.proofs.Common.{◌≡◌, ◌∙◌, sym, ap}
+use Rattle.std.proofs.Common.{◌∙◌, sym, ap}
 use Rattle.std.specs.Option.{option_copied}
 use Rattle.cml_explore.proofs.ClassLemmas.{class_there, class_is}
 use Rattle.cml_explore.proofs.classes.Classes.class.Goals as goal

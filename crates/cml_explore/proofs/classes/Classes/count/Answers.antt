@@ -1,4 +1,4 @@
-use Rattle.std.proofs.Common.{◌≡◌, sym}
+use Rattle.std.proofs.Common.{sym}
 use Rattle.cml_explore.proofs.ClassLemmas.{joins_few, joins, begins}
 use Rattle.cml_explore.proofs.classes.Classes.count.Goals as goal
 

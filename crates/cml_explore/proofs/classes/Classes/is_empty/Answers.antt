@@ -1,4 +1,4 @@
-use Rattle.std.proofs.Common.{◌≡◌, sym, ap, ◌∙◌, length, arith}
+use Rattle.std.proofs.Common.{sym, ap, ◌∙◌, length}
 use Rattle.std.specs.Prelude.{◌==◌}
 use Rattle.cml_explore.proofs.ClassLemmas.{class_count}
 use Rattle.cml_explore.proofs.classes.Classes.is_empty.Goals as goal

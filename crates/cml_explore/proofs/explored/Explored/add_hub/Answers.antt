@@ -1,4 +1,4 @@
-use Rattle.std.proofs.Common.{◌≡◌, refl, sym}
+use Rattle.std.proofs.Common.{refl, sym}
 use Rattle.cml_explore.specs.Finishes.{PlainEnded, finish_of, fate_of}
 use Rattle.cml_explore.proofs.ExploreLemmas.{added_hub, finish_is}
 use Rattle.cml_explore.proofs.explored.Explored.add_hub.Goals as goal
