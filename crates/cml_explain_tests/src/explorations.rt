@@ -3,6 +3,7 @@
 ghost use Rattle.std.specs.Prelude.{◌≤◌, ◌+◌, ◌^◌};
 ghost use Rattle.cml_hub.specs.Kept.{IsBudget};
 
+use crate::budgets::in_range;
 use crate::making::{MEMORY, forms, program};
 use cml_explore::{Asked, Until, explain_runs, explore};
 use std::process::Abort;
@@ -24,10 +25,12 @@ struct Case {
 const SPIN: &str = "(fn spin ()\n  (while true (yield)))\n(fn main ()\n  (spawn spin))";
 
 // Each of two threads takes what the other may want: a deadlock where both have taken one.
-const LOCKS: &str = "(fn lock (a b)\n  (let x (sync (mtake a)))\n  (yield)\n  (let y (sync (mtake b))))\n(fn main ()\n  (let a (mvar 0))\n  (let b (mvar 0))\n  (spawn lock a b)\n  (spawn lock b a))";
+const LOCKS: &str =
+    "(fn lock (a b)\n  (let x (sync (mtake a)))\n  (yield)\n  (let y (sync (mtake b))))\n(fn main ()\n  (let a (mvar 0))\n  (let b (mvar 0))\n  (spawn lock a b)\n  (spawn lock b a))";
 
 // One of two threads is heard.
-const GIVES: &str = "(fn give (c v)\n  (sync (send c v)))\n(fn main ()\n  (let c (chan))\n  (spawn give c 1)\n  (spawn give c 2)\n  (let x (sync (recv c)))\n  (print x))";
+const GIVES: &str =
+    "(fn give (c v)\n  (sync (send c v)))\n(fn main ()\n  (let c (chan))\n  (spawn give c 1)\n  (spawn give c 2)\n  (let x (sync (recv c)))\n  (print x))";
 
 const CASES: [Case; 9] = [
     Case {
@@ -131,10 +134,9 @@ fn asked_by(rt: &impl Abort, case: &Case) -> Asked<'static>
     ensures budget { IsBudget result.budget }
     ensures seeds { result.first + result.runs ≤ 2 ^ 64 }
 {
-    assert!(rt; 1 <= case.budget && case.budget <= 1_000_000_000);
     assert!(rt; case.runs == 0 || case.first <= u64::MAX - (case.runs - 1));
     Asked {
-        budget: case.budget,
+        budget: in_range(rt, case.budget),
         first: case.first,
         runs: case.runs,
         servers: case.servers,
