@@ -5,6 +5,8 @@ pub mod budgets;
 #[cfg(test)]
 mod endings;
 #[cfg(test)]
+mod explorations;
+#[cfg(test)]
 mod faults;
 #[cfg(test)]
 mod making;

@@ -1,0 +1,195 @@
+//! What is said of many runs: whole answers, each worked out by hand. What a seed picks was computed apart, by its generator as it is published.
+
+ghost use Rattle.std.specs.Prelude.{◌≤◌, ◌+◌, ◌^◌};
+ghost use Rattle.cml_hub.specs.Kept.{IsBudget};
+
+use crate::budgets::in_range;
+use crate::making::{MEMORY, forms, program};
+use cml_explore::{Asked, Until, explain_runs, explore};
+use std::process::Abort;
+use std::rt::HostRuntime;
+
+// Runs of a script, and what is said of them.
+struct Case {
+    script: &'static str,
+    budget: u64,
+    first: u64,
+    runs: u64,
+    servers: &'static [u32],
+    until: Option<Until>,
+    said: &'static str,
+    // Whether all of them ended well.
+    well: bool,
+}
+
+const SPIN: &str = "(fn spin ()\n  (while true (yield)))\n(fn main ()\n  (spawn spin))";
+
+// Each of two threads takes what the other may want: a deadlock where both have taken one.
+const LOCKS: &str =
+    "(fn lock (a b)\n  (let x (sync (mtake a)))\n  (yield)\n  (let y (sync (mtake b))))\n(fn main ()\n  (let a (mvar 0))\n  (let b (mvar 0))\n  (spawn lock a b)\n  (spawn lock b a))";
+
+// One of two threads is heard.
+const GIVES: &str =
+    "(fn give (c v)\n  (sync (send c v)))\n(fn main ()\n  (let c (chan))\n  (spawn give c 1)\n  (spawn give c 2)\n  (let x (sync (recv c)))\n  (print x))";
+
+const CASES: [Case; 9] = [
+    Case {
+        script: "(fn main ()\n  (print 1))",
+        budget: 100,
+        first: 7,
+        runs: 1,
+        servers: &[],
+        until: None,
+        said: "1 run of a.cml, seed 7\n1  quiet, none waits   1 output    first: seed 7, 2 items\n",
+        well: true,
+    },
+    // one thread waits where the first to take takes again, which it does for four of the ten seeds
+    Case {
+        script: LOCKS,
+        budget: 100,
+        first: 0,
+        runs: 10,
+        servers: &[],
+        until: None,
+        said: "10 runs of a.cml, seeds 0 to 9\n6  quiet, 2 wait    1 output    first: seed 1, 13 items\n       thread 1 lock((mvar 0) (mvar 1)) at 4:3: take M-variable 1, which is empty\n       thread 2 lock((mvar 1) (mvar 0)) at 4:3: take M-variable 0, which is empty\n4  quiet, 1 waits   1 output    first: seed 0, 12 items\n       thread 1 lock((mvar 0) (mvar 1)) at 2:3: take M-variable 0, which is empty\n",
+        well: false,
+    },
+    // who waits may wait
+    Case {
+        script: LOCKS,
+        budget: 100,
+        first: 1,
+        runs: 2,
+        servers: &[0],
+        until: None,
+        said: "2 runs of a.cml, seeds 1 to 2\n2  quiet, 2 wait   1 output    first: seed 1, 13 items\n       thread 1 lock((mvar 0) (mvar 1)) at 4:3: take M-variable 1, which is empty\n       thread 2 lock((mvar 1) (mvar 0)) at 4:3: take M-variable 0, which is empty\n",
+        well: true,
+    },
+    // one class, and two outputs
+    Case {
+        script: GIVES,
+        budget: 100,
+        first: 0,
+        runs: 10,
+        servers: &[],
+        until: None,
+        said: "10 runs of a.cml, seeds 0 to 9\n10  quiet, 1 waits   2 outputs   first: seed 0, 10 items\n       thread 1 give((chan 0) 1) at 2:3: send 1 on channel 0\n",
+        well: false,
+    },
+    Case {
+        script: GIVES,
+        budget: 100,
+        first: 3,
+        runs: 10,
+        servers: &[],
+        until: Some(Until::Waits),
+        said: "1 run of a.cml, seed 3\n1  quiet, 1 waits   1 output    first: seed 3, 10 items\n       thread 1 give((chan 0) 1) at 2:3: send 1 on channel 0\n",
+        well: false,
+    },
+    Case {
+        script: SPIN,
+        budget: 10,
+        first: 0,
+        runs: 2,
+        servers: &[],
+        until: Some(Until::Fault),
+        said: "2 runs of a.cml, seeds 0 to 1\n2  budget, none waits, 1 runs   1 output    first: seed 0, 6 items\n       thread 1 spin at 2:3 runs\n",
+        well: false,
+    },
+    Case {
+        script: SPIN,
+        budget: 10,
+        first: 5,
+        runs: 100,
+        servers: &[],
+        until: Some(Until::Budget),
+        said: "1 run of a.cml, seed 5\n1  budget, none waits, 1 runs   1 output    first: seed 5, 6 items\n       thread 1 spin at 2:3 runs\n",
+        well: false,
+    },
+    // the last seeds that there are
+    Case {
+        script: "(fn main ()\n  (let x (+ unit 1)))",
+        budget: 100,
+        first: 18_446_744_073_709_551_614,
+        runs: 2,
+        servers: &[],
+        until: None,
+        said: "2 runs of a.cml, seeds 18446744073709551614 to 18446744073709551615\n2  quiet, none waits, 1 fault   1 output    first: seed 18446744073709551614, 1 item\n",
+        well: false,
+    },
+    Case {
+        script: "(fn main ()\n  (print 1))",
+        budget: 100,
+        first: 0,
+        runs: 0,
+        servers: &[],
+        until: None,
+        said: "0 runs of a.cml, seed 0\n",
+        well: true,
+    },
+];
+
+// What is asked for, if it may be.
+fn asked_by(rt: &impl Abort, case: &Case) -> Asked<'static>
+    ensures budget { IsBudget result.budget }
+    ensures seeds { result.first + result.runs ≤ 2 ^ 64 }
+{
+    assert!(rt; case.runs == 0 || case.first <= u64::MAX - (case.runs - 1));
+    Asked {
+        budget: in_range(rt, case.budget),
+        first: case.first,
+        runs: case.runs,
+        servers: case.servers,
+        until: case.until,
+    }
+}
+
+#[test]
+fn tells_of_many_runs(rt: HostRuntime) {
+    for case in &CASES {
+        let forms = forms(&rt, case.script);
+        let program = program(&rt, forms.as_slice());
+        let asked = asked_by(&rt, case);
+        let made = explore(rt.alloc(), &program, asked).expect(&rt, MEMORY);
+        assert!(rt; made.is_well() == case.well, "{}", case.said);
+        let said = explain_runs(
+            rt.alloc(),
+            "a.cml",
+            case.script.as_bytes(),
+            forms.as_slice(),
+            &program,
+            asked,
+            &made,
+        )
+        .expect(&rt, MEMORY);
+        assert!(rt; said.as_slice() == case.said.as_bytes(), "{}", case.said);
+        drop(said);
+        drop(made);
+        drop(program);
+        drop(forms);
+    }
+}
+
+#[test]
+fn keeps_the_shortest_schedule(rt: HostRuntime) {
+    let forms = forms(&rt, LOCKS);
+    let program = program(&rt, forms.as_slice());
+    let asked = Asked {
+        budget: 100,
+        first: 0,
+        runs: 10,
+        servers: &[],
+        until: None,
+    };
+    let made = explore(rt.alloc(), &program, asked).expect(&rt, MEMORY);
+    assert_eq!(rt; made.runs(), 10);
+    assert_eq!(rt; made.classes().len(), 2);
+    let first = made.classes().class(0).tally;
+    assert_eq!(rt; first.runs(), 4);
+    assert_eq!(rt; first.first(), 0);
+    assert_eq!(rt; first.outputs(), 1);
+    assert_eq!(rt; first.shortest().len(), 12);
+    drop(made);
+    drop(program);
+    drop(forms);
+}

@@ -1,0 +1,55 @@
+-- Runs of a program by one seed after another.
+use Rattle.std.specs.Prelude.{ℕ, ◌≡◌, ◌≤◌, ◌+◌, ◌⊎◌, Bool, true, false, ◌&&◌, List, [], ◌∷◌, ◌++◌, map, length, Option}
+use Rattle.std.specs.List.{All, list_any, list_all}
+use Rattle.cml_check.specs.Syntax.{PlainItem}
+use Rattle.cml_explore.specs.declared.explored.Asked.{Asked}
+use Rattle.cml_explore.specs.declared.explored.Until.{Until}
+use Rattle.cml_explore.specs.Classes.{PlainClass, classed, classes_of}
+use Rattle.cml_explore.specs.Finishes.{PlainEnded, is_well, stops, EachEnds}
+
+-- the classes of runs, how many runs there were, and whether all of them ended well
+pub record PlainExplored : Type 0 where
+  pub classes : List PlainClass
+  pub runs : ℕ
+  pub well : Bool
+
+-- the classes of these runs, of which the first is by this seed
+abbrev pub gathered : ℕ → List PlainEnded → PlainExplored
+gathered first ends = record {
+  classes = classes_of first (map (λ e. e.finish) ends);
+  runs = length ends;
+  well = list_all is_well ends;
+}
+
+-- These are enough runs: as many as were asked for, none of which is one at which to stop; or as many up to the first of those.
+abbrev pub AreEnough : Option Until → ℕ → List PlainEnded → Type 0
+AreEnough until runs ends =
+    ((length ends ≡ runs) × (list_any (stops until) ends ≡ false))
+    ⊎ ((before : List PlainEnded) × (last : PlainEnded) × (ends ≡ before ++ last ∷ []) × (length ends ≤ runs)
+    × (list_any (stops until) before ≡ false) × (stops until last ≡ true))
+
+-- What was asked for was done: these are the classes of the runs that the seeds define, one after another.
+pub record IsExplored (p : List (PlainItem ℕ)) (asked : Asked) (made : PlainExplored) : Type 0 where
+  pub ends : List PlainEnded
+  pub each : EachEnds p asked.budget asked.servers.now asked.first ends
+  pub enough : AreEnough asked.until asked.runs ends
+  pub gathered_so : made ≡ gathered asked.first ends
+
+-- ---- what private functions say
+
+-- one run more, by this seed
+abbrev pub with_ended : ℕ → PlainEnded → PlainExplored → PlainExplored
+with_ended seed e made = record {
+  classes = classed seed e.finish made.classes;
+  runs = made.runs + 1;
+  well = made.well && is_well e;
+}
+
+-- so many runs were made, none of which is one at which to stop
+pub record SoFar (p : List (PlainItem ℕ)) (asked : Asked) (n : ℕ) (made : PlainExplored) : Type 0 where
+  pub ends : List PlainEnded
+  pub many : length ends ≡ n
+  pub each : EachEnds p asked.budget asked.servers.now asked.first ends
+  pub none : list_any (stops asked.until) ends ≡ false
+  pub few : All (λ c. c.tally.runs ≤ n) made.classes
+  pub gathered_so : made ≡ gathered asked.first ends

@@ -1,0 +1,11 @@
+pub mod Details
+pub mod Classes
+pub mod Generators
+pub mod Finishes
+pub mod Explored
+pub mod ThreadLines
+pub mod Ranks
+pub mod Words
+pub mod Answers
+pub mod SightViews
+pub mod ClassViews

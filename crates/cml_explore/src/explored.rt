@@ -1,0 +1,182 @@
+//! Runs of a program by one seed after another.
+
+ghost use Rattle.std.specs.Prelude.{◌≡◌, ◌≤◌, ◌<◌, ◌+◌, ◌^◌, ◌&&◌, [], true, IfOk};
+ghost use Rattle.std.specs.List.{All};
+ghost use Rattle.cml_hub.specs.Kept.{IsBudget};
+ghost use Rattle.cml_explore.specs.Finishes as spec;
+ghost use Rattle.cml_explore.specs.Finishes.{PlainEnded, finish_of, fate_of, EndsSoBy};
+ghost use Rattle.cml_explore.specs.Explored.{IsExplored, with_ended};
+
+use crate::classes::Classes;
+use crate::details::details_of;
+use crate::finish::{Fate, digest_of, fate_of};
+use crate::run::{let_go, seed_run};
+use cml_check::Prog;
+use cml_hub::{End, Hub};
+use std::alloc::{AllocError, Global};
+use std::marker::Model;
+
+/// At which run to stop.
+#[derive(Clone, Copy)]
+pub enum Until {
+    /// A thread waits that is no server.
+    Waits,
+    /// A thread ended at a fault.
+    Fault,
+    /// The budget was used.
+    Budget,
+}
+
+/// Which runs are asked for.
+#[derive(Clone, Copy)]
+pub struct Asked<'a> {
+    /// How much of the budget each may use, from 1 to 1,000,000,000.
+    pub budget: u64,
+    /// The seed of the first. Each further one has the seed that follows.
+    pub first: u64,
+    /// How many.
+    pub runs: u64,
+    /// The numbers of the functions of servers: a thread that began with one of them may wait.
+    pub servers: &'a [u32],
+    /// The run at which to stop, if at any before all were made.
+    pub until: Option<Until>,
+}
+
+/// Runs of a program, in classes of those that ended alike.
+#[derive(Drop)]
+pub struct Explored {
+    classes: Classes,
+    runs: u64,
+    well: bool,
+}
+
+impl Model for Explored {
+    ghost use Rattle.cml_explore.specs.Explored.{PlainExplored};
+
+    ghost Value = { PlainExplored };
+
+    ghost view = { λ e. record { classes = e.classes; runs = e.runs; well = e.well } };
+}
+
+// Whether a run of this fate ended well.
+fn is_well(fate: Fate) -> bool
+    ensures { (e : PlainEnded) → e.fate ≡ fate → result ≡ spec.is_well e }
+{
+    fate.end == End::Quiet && !fate.held_up && fate.faults == 0
+}
+
+// Whether a run of this fate is one at which to stop.
+fn stops(until: Option<Until>, fate: Fate) -> bool
+    ensures { (e : PlainEnded) → e.fate ≡ fate → result ≡ spec.stops until e }
+{
+    match until {
+        None => false,
+        Some(Until::Waits) => fate.held_up,
+        Some(Until::Fault) => fate.faults != 0,
+        Some(Until::Budget) => fate.end == End::Budget,
+    }
+}
+
+// Whether both hold.
+fn both(one: bool, other: bool) -> bool
+    ensures { result ≡ (one && other) }
+{
+    one && other
+}
+
+impl Explored {
+    // No runs.
+    fn new(alloc: Global) -> Explored
+        ensures { result ≡ record { classes = []; runs = 0; well = true } }
+    {
+        Explored {
+            classes: Classes::new(alloc),
+            runs: 0,
+            well: true,
+        }
+    }
+
+    // One run more, by this seed, which has ended where this hub stands. Returns whether it is one at which to stop.
+    fn add_hub(
+        &mut self,
+        alloc: Global,
+        asked: &Asked<'_>,
+        seed: u64,
+        hub: &Hub,
+    ) -> Result<bool, AllocError>
+        requires few { All (λ c. c.tally.runs < u64.MAX) self.old.classes }
+        requires runs { self.old.runs < u64.MAX }
+        ensures { let e : PlainEnded = record { finish = finish_of hub.now; fate = fate_of asked.now.servers.now hub.now } in
+            IfOk result (λ stops. (self.new ≡ with_ended seed e self.old) × (stops ≡ spec.stops asked.now.until e)) }
+    {
+        let details = details_of(alloc, hub)?;
+        let fate = fate_of(asked.servers, hub);
+        self.classes
+            .count(alloc, seed, details, digest_of(hub), hub.schedule())?;
+        self.runs += 1;
+        self.well = both(self.well, is_well(fate));
+        Ok(stops(asked.until, fate))
+    }
+
+    // One run more, by this seed. Returns whether it is one at which to stop.
+    fn add(
+        &mut self,
+        alloc: Global,
+        program: &Prog,
+        asked: &Asked<'_>,
+        seed: u64,
+    ) -> Result<bool, AllocError>
+        requires budget { IsBudget asked.now.budget }
+        requires few { All (λ c. c.tally.runs < u64.MAX) self.old.classes }
+        requires runs { self.old.runs < u64.MAX }
+        ensures { IfOk result (λ stops. (e : PlainEnded) × EndsSoBy program.now asked.now.budget asked.now.servers.now seed e
+            × (self.new ≡ with_ended seed e self.old) × (stops ≡ spec.stops asked.now.until e)) }
+    {
+        let hub = seed_run(alloc, program, asked.budget, seed)?;
+        let added = self.add_hub(alloc, asked, seed, &hub);
+        let_go(hub);
+        added
+    }
+
+    /// The classes, in the order of their first seeds.
+    pub fn classes(&self) -> &Classes
+        ensures { result.now ≡ self.now.classes }
+    {
+        &self.classes
+    }
+
+    /// How many runs there were.
+    pub fn runs(&self) -> u64
+        ensures { result ≡ self.now.runs }
+    {
+        self.runs
+    }
+
+    /// Whether each of them ended well: nothing was left to do, no thread waits but servers, and none ended at a fault.
+    pub fn is_well(&self) -> bool
+        ensures { result ≡ self.now.well }
+    {
+        self.well
+    }
+}
+
+/// Runs the program by one seed after another, each to its end, and keeps which of them ended alike. What one run takes of memory is given
+/// back before the next begins.
+///
+/// # Errors
+/// Out of memory.
+pub fn explore(alloc: Global, program: &Prog, asked: Asked<'_>) -> Result<Explored, AllocError>
+    requires budget { IsBudget asked.budget }
+    requires seeds { asked.first + asked.runs ≤ 2 ^ 64 }
+    ensures explored { IfOk result (λ made. IsExplored program.now asked.entry made) }
+    ensures few { IfOk result (λ made. made.runs ≤ asked.entry.runs) }
+{
+    let mut made = Explored::new(alloc);
+    for i in 0..asked.runs {
+        let stops = made.add(alloc, program, &asked, asked.first + i)?;
+        if stops {
+            return Ok(made);
+        }
+    }
+    Ok(made)
+}

@@ -1,0 +1,20 @@
+//! Many runs of one program, in classes of those that ended alike.
+#![tactic(auto)]
+
+mod answer;
+mod classes;
+mod detail;
+mod details;
+mod explored;
+mod finish;
+mod rank;
+mod run;
+mod sight;
+mod tally;
+mod words;
+
+pub use answer::explain_runs;
+pub use classes::{Class, Classes};
+pub use detail::Detail;
+pub use explored::{Asked, Explored, Until, explore};
+pub use tally::Tally;

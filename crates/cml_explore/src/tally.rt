@@ -1,0 +1,121 @@
+//! What is kept of runs that ended alike.
+
+ghost use Rattle.std.specs.Prelude.{◌≡◌, ◌<◌, ◌+◌, ℕ, List, IfOk, OnOk, length};
+ghost use Rattle.cml_explore.specs.declared.detail.Detail.{Detail};
+ghost use Rattle.cml_explore.specs.Classes as spec;
+ghost use Rattle.cml_explore.specs.Classes.{Finish};
+
+use cml_hub::Item;
+use indexmap::IndexSet;
+use std::alloc::{AllocError, Global};
+use std::marker::Model;
+
+/// The digest of an output.
+pub type Digest = [u8; 32];
+
+/// What is kept of runs that ended alike.
+#[derive(Drop)]
+pub struct Tally {
+    runs: u64,
+    first: u64,
+    items: usize,
+    outputs: IndexSet<[u8; 32]>,
+    shortest: Vec<Item>,
+}
+
+impl Model for Tally {
+    ghost use Rattle.cml_explore.specs.Classes.{PlainTally};
+
+    ghost Value = { PlainTally };
+
+    ghost view = { λ t. record {
+      runs = t.runs;
+      first = t.first;
+      items = t.items;
+      outputs = t.outputs.keys;
+      shortest = t.shortest.items;
+    } };
+}
+
+impl Tally {
+    // Of one run, by this seed.
+    pub(crate) fn new(
+        alloc: Global,
+        seed: u64,
+        digest: [u8; 32],
+        items: &[Item],
+    ) -> Result<Tally, AllocError>
+        ensures { IfOk result (λ t. (details : List Detail) → t ≡ spec.first_run seed (record { details = details; digest = digest; items = items.now })) }
+    {
+        let mut outputs = IndexSet::new(alloc);
+        outputs.insert(digest)?;
+        Ok(Tally {
+            runs: 1,
+            first: seed,
+            items: items.len(),
+            outputs,
+            shortest: Vec::from_slice(alloc, items)?,
+        })
+    }
+
+    // The schedule is kept, if it is shorter than the one that is.
+    fn keep_shorter(&mut self, alloc: Global, items: &[Item]) -> Result<(), AllocError>
+        ensures { OnOk result (self.new ≡ record self.old { shortest = spec.shorter self.old.shortest items.now }) }
+    {
+        if items.len() < self.shortest.len() {
+            self.shortest = Vec::from_slice(alloc, items)?;
+        }
+        Ok(())
+    }
+
+    // One run more.
+    pub(crate) fn join(
+        &mut self,
+        alloc: Global,
+        digest: [u8; 32],
+        items: &[Item],
+    ) -> Result<(), AllocError>
+        requires { self.old.runs < u64.MAX }
+        ensures { OnOk result ((details : List Detail) → self.new ≡ spec.grown self.old (record { details = details; digest = digest; items = items.now })) }
+    {
+        self.outputs.insert(digest)?;
+        self.keep_shorter(alloc, items)?;
+        self.runs += 1;
+        Ok(())
+    }
+
+    /// How many runs ended so.
+    pub fn runs(&self) -> u64
+        ensures { result ≡ self.now.runs }
+    {
+        self.runs
+    }
+
+    /// The seed of the first of them.
+    pub fn first(&self) -> u64
+        ensures { result ≡ self.now.first }
+    {
+        self.first
+    }
+
+    /// How many items the schedule of the first has.
+    pub fn items(&self) -> usize
+        ensures { result ≡ self.now.items }
+    {
+        self.items
+    }
+
+    /// How many different outputs they have, by their digests.
+    pub fn outputs(&self) -> usize
+        ensures { result ≡ length self.now.outputs }
+    {
+        self.outputs.len()
+    }
+
+    /// The shortest of their schedules, the first one of those.
+    pub fn shortest(&self) -> &[Item]
+        ensures { result.now ≡ self.now.shortest }
+    {
+        self.shortest.as_slice()
+    }
+}
