@@ -23,5 +23,5 @@ returns-in-Ok c =
     let spoken : Some s ≡ option_map plain_subject c.args.asked.now.subject = ap (option_map plain_subject) (sym c.in-Some.is) in
     IfOk-weaker c.explain_item-told.result _ _
     (λ told explained. subst (λ (o : Option PlainSubject). IsBadItem o c.args.text.now p items n told.items) spoken
-    (bad_explained s c.args.text.now p c.args.plan.now.budget items c.split_at.result.0.now n bad c.in-Ok.hub item told.items before from c.in-Ok.ensures c.hub_is_a_run.ensures.leads explained))
+    (bad_explained s c.args.text.now p c.plan.inside.budget items c.split_at.result.0.now n bad c.in-Ok.hub item told.items before from c.in-Ok.ensures c.hub_is_a_run.ensures.leads explained))
     c.explain_item-told.ensures
