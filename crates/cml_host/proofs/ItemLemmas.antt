@@ -1,5 +1,5 @@
 -- The first item of a schedule that is not allowed where it stands.
-use Rattle.std.proofs.Common.{◌≡◌, ◌∙◌, ◌+◌, ◌-◌, ◌<◌, ◌≤◌, ℕ, List, [], ◌∷◌, ◌++◌, Option, Some, None, unwrap_or, length, take, drop, get_or, refl, sym, ap, subst, arith, length-append}
+use Rattle.std.proofs.Common.{◌≡◌, ◌∙◌, ◌+◌, ◌-◌, ◌≤◌, ℕ, List, ◌∷◌, Option, Some, None, unwrap_or, length, take, drop, sym, ap, subst, arith, length-append}
 use Rattle.std.proofs.Math.Seq.{take-append_seam, drop-append_seam}
 use Rattle.cml_check.specs.Syntax.{PlainItem}
 use Rattle.cml_hub.specs.Courses.{run_of}
@@ -8,7 +8,6 @@ use Rattle.cml_hub.specs.Runs.{Run, stands}
 use Rattle.cml_scan.specs.World.{PlainWorld}
 use Rattle.cml_schedule.specs.declared.item.Item.{Item}
 use Rattle.cml_step.specs.Calls.{text_of}
-use Rattle.cml_text.specs.Forms.{PlainSexpr}
 use Rattle.cml_host.specs.Closed.{PlainSubject}
 use Rattle.cml_host.specs.Replaying.{IsBadItem, IsItemExplained}
 

@@ -1,14 +1,14 @@
 -- What `explain` did with what lies under its names.
-use Rattle.std.proofs.Common.{◌≡◌, ◌+◌, ℕ, List, true, length, take, inl, inr}
+use Rattle.std.proofs.Common.{◌≡◌, ◌+◌, ℕ, List, true, take, inl, inr}
 use Rattle.cml_check.specs.Syntax.{PlainItem}
-use Rattle.cml_hub.specs.Kept.{Kept, FitsSize}
+use Rattle.cml_hub.specs.Kept.{Kept}
 use Rattle.cml_schedule.specs.Plans.{PlainPlan}
 use Rattle.cml_schedule.specs.Reading.{schedule_limit}
 use Rattle.cml_stream.specs.Streams.{Counted, IsIdle}
 use Rattle.cml_words.specs.declared.ExplainOptions.{ExplainOptions}
 use Rattle.cml_host.specs.Closed.{PlainSubject}
-use Rattle.cml_host.specs.Narrated.{IsUnfit, Opens, PlanTold, TextExplained, ScheduleExplained, IsSetUp, IsNotSetUp}
-use Rattle.cml_host.specs.Replaying.{IsSchedule, IsNotRead, IsOtherSize}
+use Rattle.cml_host.specs.Narrated.{IsUnfit, PlanTold, TextExplained, ScheduleExplained, IsSetUp, IsNotSetUp}
+use Rattle.cml_host.specs.Replaying.{IsNotRead}
 use Rattle.cml_host.specs.Said.{RefusalRan, refusal_of}
 use Rattle.cml_host.specs.Stores.{Content, IsLoaded, MayFail}
 use Rattle.cml_host.specs.declared.said.Refusal.{Refusal}

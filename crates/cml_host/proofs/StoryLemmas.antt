@@ -1,5 +1,5 @@
 -- Stories, item by item, and how they are told.
-use Rattle.std.proofs.Common.{◌≡◌, ◌∙◌, ◌⊎◌, ◌+◌, ◌<◌, ◌≤◌, ℕ, Bool, true, false, List, [], ◌∷◌, ◌++◌, Option, Result, Err, IfErr, length, take, drop, get_or, inl, inr, refl, sym, ap, subst, append_assoc, append-nil, arith}
+use Rattle.std.proofs.Common.{◌≡◌, ◌∙◌, ◌+◌, ◌<◌, ◌≤◌, ℕ, Bool, true, false, List, [], ◌∷◌, ◌++◌, Option, Result, Err, IfErr, length, take, drop, get_or, inl, inr, refl, sym, ap, subst, append_assoc, append-nil, arith}
 use Rattle.std.proofs.lemmas.List.{take_more, take_all, take-append-drop, drop_more, drop_all, get_or_default, length-take-le}
 use Rattle.std.specs.Fmt.{decimal}
 use Rattle.cml_text.specs.Forms.{PlainSexpr}
@@ -7,18 +7,16 @@ use Rattle.std.proofs.KnownBytes.{Appends-nil, Appends-trans}
 use Rattle.cml_hub.specs.Courses.{PlainCourse, Adds}
 use Rattle.cml_hub.specs.Kept.{Kept}
 use Rattle.cml_hub.specs.Runs.{is_allowed}
-use Rattle.cml_narrative.specs.Tales.{Tale, TellsItem, ToldSo}
+use Rattle.cml_narrative.specs.Tales.{Tale}
 use Rattle.cml_schedule.specs.declared.item.Item.{Item}
-use Rattle.cml_stream.specs.Streams.{Counted, Stream, stream, counted_stream, Takes, TakesStart, Says, IsIdle}
+use Rattle.cml_stream.specs.Streams.{Counted, Stream, stream, counted_stream, Takes, TakesStart}
 use Rattle.cml_words.specs.declared.ExplainOptions.{ExplainOptions}
-use Rattle.cml_hub.specs.Courses.{Comes}
-use Rattle.cml_host.specs.Closed.{PlainSubject, IsEndExplained}
+use Rattle.cml_host.specs.Closed.{PlainSubject}
 use Rattle.cml_host.specs.Narrated.{is_asked_for, TellsWhere, IsStory, StoryBroke, StoryEnds, PlanTold, IsTellingOf, HaltRan, IsHeldUp, HasToldFirst, StoryCut, Spills, EndTold, ItemRefused, tale_for, broken_by}
-use Rattle.cml_host.specs.Said.{MemoryRan}
 use Rattle.cml_host.specs.Written.{TextRan}
 use Rattle.cml_host.specs.declared.explain.Halt.{Halt}
 use Rattle.cml_host.specs.declared.explain.Halt.TheVariants.{Memory, Write}
-use Rattle.cml_host.proofs.TellLemmas.{start_behind, start_more}
+use Rattle.cml_host.proofs.TellLemmas.{start_behind}
 
 -- an item by its number, whatever stands past the end
 pub item_at : (items : List Item) (i : ℕ) (d : Item) → i < length items → get_or items i d ≡ get_or items i (get_or items i d)

@@ -1,7 +1,7 @@
 use Rattle.std.proofs.Common.{rules, List, ℕ, subst, true}
 use Rattle.cml_check.specs.Syntax.{PlainItem}
 use Rattle.cml_stream.specs.Streams.{counted_stream}
-use Rattle.cml_host.specs.Closed.{PlainSubject, plain_subject, script_as_subject}
+use Rattle.cml_host.specs.Closed.{PlainSubject, script_as_subject}
 use Rattle.cml_host.specs.Narrated.{TextExplained}
 use Rattle.cml_host.specs.Said.{RefusalRan}
 use Rattle.cml_host.specs.Scripts.{plain_script}

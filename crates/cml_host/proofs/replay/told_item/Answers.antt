@@ -1,6 +1,5 @@
 use Rattle.std.proofs.Common.{rules, ◌≡◌, ◌∙◌, ◌-◌, List, Option, Some, ap, get_or, option_map, subst, sym, take, drop}
 use Rattle.std.proofs.lemmas.Result.{IfOk-weaker}
-use Rattle.cml_hub.specs.Kept.{IsReplayed}
 use Rattle.cml_schedule.specs.declared.item.Item.{Item}
 use Rattle.cml_schedule.specs.declared.item.Item.TheVariants.{Turn}
 use Rattle.cml_host.specs.Closed.{PlainSubject, plain_subject}

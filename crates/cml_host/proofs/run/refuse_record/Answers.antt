@@ -1,5 +1,4 @@
-use Rattle.std.proofs.Common.{◌≡◌, ◌∙◌, List, ℕ, None, ap, subst}
-use Rattle.std.specs.String.{string_bytes}
+use Rattle.std.proofs.Common.{◌∙◌, List, ℕ, None, ap, subst}
 use Rattle.cml_stream.specs.Streams.{counted_stream, Says}
 use Rattle.cml_host.specs.Said.{with_why}
 use Rattle.cml_host.proofs.run.refuse_record.Goals as goal

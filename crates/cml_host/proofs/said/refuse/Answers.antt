@@ -1,4 +1,3 @@
-use Rattle.cml_host.specs.Said.{FaultRan, RefusalRan}
 use Rattle.cml_host.proofs.said.refuse.Goals as goal
 
 pub returns-in-Unread-clause-refused : goal.returns-in-Unread-clause-refused
