@@ -48,7 +48,8 @@ const REFUSED: [(&str, &str); 7] = [
 // Parts of a trace, each with how often it stands there, and what is told of it.
 type Long = (&'static [(&'static str, u32)], &'static str);
 
-const FULL: [Long; 12] = [
+// one more than there can be: threads and channels
+const THREADS: [Long; 3] = [
     (
         &[("spawn\n", 4097)],
         "line 4097: there are 4096 threads, and there can't be more\n",
@@ -61,6 +62,10 @@ const FULL: [Long; 12] = [
         &[("swapchan\n", 65_537)],
         "line 65537: there are 65536 swap channels, and there can't be more\n",
     ),
+];
+
+// variables and mailboxes
+const VARIABLES: [Long; 3] = [
     (
         &[("ivar\n", 65_537)],
         "line 65537: there are 65536 I-variables, and there can't be more\n",
@@ -73,6 +78,10 @@ const FULL: [Long; 12] = [
         &[("mailbox\n", 65_537)],
         "line 65537: there are 65536 mailboxes, and there can't be more\n",
     ),
+];
+
+// multicast channels and ports
+const PORTS: [Long; 3] = [
     (
         &[("mchan\n", 65_537)],
         "line 65537: there are 65536 multicast channels, and there can't be more\n",
@@ -85,6 +94,10 @@ const FULL: [Long; 12] = [
         &[("mchan\n", 1), ("port 0\n", 65_536), ("copy 0\n", 1)],
         "line 65538: there are 65536 ports, and there can't be more\n",
     ),
+];
+
+// nacks, and what a queue holds
+const QUEUES: [Long; 3] = [
     (
         &[("spawn\n", 1), ("nack 0\n", 65_537)],
         "line 65538: there are 65536 nacks, and there can't be more\n",
@@ -113,15 +126,30 @@ const LARGE: [Long; 8] = [
         "line 2: the value is deeper than 64, or has more than 65536 nodes\n",
     ),
     (
-        &[("mailbox\nmail 0 ", 1), ("(pair ", 64), ("1", 1), (" 1)", 64)],
+        &[
+            ("mailbox\nmail 0 ", 1),
+            ("(pair ", 64),
+            ("1", 1),
+            (" 1)", 64),
+        ],
         "line 2: the value is deeper than 64, or has more than 65536 nodes\n",
     ),
     (
-        &[("mchan\nmulticast 0 ", 1), ("(pair ", 64), ("1", 1), (" 1)", 64)],
+        &[
+            ("mchan\nmulticast 0 ", 1),
+            ("(pair ", 64),
+            ("1", 1),
+            (" 1)", 64),
+        ],
         "line 2: the value is deeper than 64, or has more than 65536 nodes\n",
     ),
     (
-        &[("spawn\nsync 0 ", 1), ("(choose ", 64), ("never", 1), (")", 64)],
+        &[
+            ("spawn\nsync 0 ", 1),
+            ("(choose ", 64),
+            ("never", 1),
+            (")", 64),
+        ],
         "line 2: the group is deeper than 64, or has more than 65536 nodes\n",
     ),
     (
@@ -261,26 +289,50 @@ fn tells_why_commands_were_refused(rt: HostRuntime) {
     }
 }
 
-#[test]
-fn tells_of_limits(rt: HostRuntime) {
-    for long in &FULL {
-        tells_of_parts(&rt, long);
-    }
-    for long in &LARGE {
-        tells_of_parts(&rt, long);
+// What is told of each of these traces.
+fn each_tells(rt: &(impl Abort + AllocGlobal), cases: &[Long]) {
+    for long in cases {
+        tells_of_parts(rt, long);
     }
 }
 
 #[test]
+fn tells_of_too_many_threads(rt: HostRuntime) {
+    each_tells(&rt, &THREADS);
+}
+
+#[test]
+fn tells_of_too_many_variables(rt: HostRuntime) {
+    each_tells(&rt, &VARIABLES);
+}
+
+#[test]
+fn tells_of_too_many_ports(rt: HostRuntime) {
+    each_tells(&rt, &PORTS);
+}
+
+#[test]
+fn tells_of_full_queues(rt: HostRuntime) {
+    each_tells(&rt, &QUEUES);
+}
+
+#[test]
+fn tells_of_what_is_too_large(rt: HostRuntime) {
+    each_tells(&rt, &LARGE);
+}
+
+#[test]
 fn tells_why_a_line_is_bad(rt: HostRuntime) {
-    for long in &FAULTY {
-        tells_of_parts(&rt, long);
-    }
+    each_tells(&rt, &FAULTY);
     for (trace, expected) in &MISUSED {
         tells(&rt, trace.as_bytes(), expected);
     }
     for (trace, expected) in &OTHERS {
         tells(&rt, trace.as_bytes(), expected);
     }
-    tells(&rt, b"spawn\nmvar \"\xff\"", "line 2: the line is not UTF-8\n");
+    tells(
+        &rt,
+        b"spawn\nmvar \"\xff\"",
+        "line 2: the line is not UTF-8\n",
+    );
 }

@@ -40,12 +40,6 @@ const TRACES: &[Told] = &[
         told: "line 3: there is no thread 3\nline 4: sync takes the number of a thread and a group\n",
         status: 2,
     },
-    Told {
-        input: &[Part::Times("chan\n", 65_537)],
-        output: &[Part::Each("chan", 65_536), Part::Once("refused 10 full\n")],
-        told: "line 65537: there are 65536 channels, and there can't be more\n",
-        status: 0,
-    },
 ];
 
 // Arguments, whether the errors go to a terminal, and whether it is told what is wrong.
@@ -102,15 +96,27 @@ fn traces_are_explained(rt: HostRuntime) -> Result<(), Fail> {
     Ok(())
 }
 
-// A trace that is too long is explained, too.
-#[test]
-fn a_trace_that_is_too_long_is_explained(rt: HostRuntime) -> Result<(), Fail> {
-    let long = Told {
+// A trace that goes to a limit, and one that is too long.
+const LIMITS: &[Told] = &[
+    Told {
+        input: &[Part::Times("spawn\n", 4097)],
+        output: &[Part::Each("thread", 4096), Part::Once("refused 10 full\n")],
+        told: "line 4097: there are 4096 threads, and there can't be more\n",
+        status: 0,
+    },
+    Told {
         input: &[Part::Times(" ", 1_048_577)],
         output: &[Part::Once("too long\n")],
         told: "a trace has at most 1048576 bytes; with --live there is no limit\n",
         status: 2,
-    };
-    told_on(&rt, rt.alloc(), &long, ("trace", false, false))?;
-    told_on(&rt, rt.alloc(), &long, ("trace --explain", false, true))
+    },
+];
+
+#[test]
+fn traces_at_limits_are_explained(rt: HostRuntime) -> Result<(), Fail> {
+    for trace in LIMITS {
+        told_on(&rt, rt.alloc(), trace, ("trace", false, false))?;
+        told_on(&rt, rt.alloc(), trace, ("trace --explain", false, true))?;
+    }
+    Ok(())
 }
