@@ -1,13 +1,15 @@
-//! Budgets of runs.
+//! Budgets that a hub takes.
 
+ghost use Rattle.std.specs.Prelude.{IfSome};
 ghost use Rattle.cml_hub.specs.Kept.{IsBudget};
 
-use std::process::Abort;
-
-/// The budget, which must be from 1 to 1,000,000,000: else the test ends here.
-pub fn in_range(rt: &impl Abort, budget: u64) -> u64
-    ensures { IsBudget result }
+/// The number, where a budget may be it.
+pub fn as_budget(number: u64) -> Option<u64>
+    ensures { IfSome result IsBudget }
 {
-    assert!(rt; 1 <= budget && budget <= 1_000_000_000);
-    budget
+    if 1 <= number && number <= 1_000_000_000 {
+        Some(number)
+    } else {
+        None
+    }
 }

@@ -1,7 +1,6 @@
 //! What is said of how a run ended: whole texts, each written by hand, and whether the run is stuck.
 
-use crate::budgets::in_range;
-use crate::making::{MEMORY, forms, program};
+use crate::making::{MEMORY, forms, in_range, program};
 use cml_ending::{explain_end, is_stuck};
 use cml_hub::{Hub, Script, read_schedule};
 use cml_text::Sexpr;

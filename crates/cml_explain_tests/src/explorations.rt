@@ -3,8 +3,7 @@
 ghost use Rattle.std.specs.Prelude.{◌≤◌, ◌+◌, ◌^◌};
 ghost use Rattle.cml_hub.specs.Kept.{IsBudget};
 
-use crate::budgets::in_range;
-use crate::making::{MEMORY, forms, program};
+use crate::making::{MEMORY, forms, in_range, program};
 use cml_explore::{Asked, Until, explain_runs, explore};
 use std::process::Abort;
 use std::rt::HostRuntime;

@@ -1,7 +1,6 @@
 //! What is said of the threads that ended at faults: whole texts, each written by hand.
 
-use crate::budgets::in_range;
-use crate::making::{MEMORY, forms, program};
+use crate::making::{MEMORY, forms, in_range, program};
 use cml_fault::explain_faults;
 use cml_hub::{Hub, Script};
 use std::process::Abort;

@@ -1,5 +1,8 @@
 //! Scripts by their text, with their forms.
 
+ghost use Rattle.cml_hub.specs.Kept.{IsBudget};
+
+use crate::budgets::as_budget;
 use cml_check::{Prog, check};
 use cml_text::{Sexpr, read};
 use std::process::Abort;
@@ -15,4 +18,14 @@ pub fn forms(rt: &(impl Abort + AllocGlobal), script: &str) -> Vec<Sexpr> {
 /// The program of these forms.
 pub fn program(rt: &(impl Abort + AllocGlobal), forms: &[Sexpr]) -> Prog {
     check(rt.alloc(), forms).expect(rt, "a program")
+}
+
+/// The budget, which must be one.
+pub fn in_range(rt: &impl Abort, budget: u64) -> u64
+    ensures { IsBudget result }
+{
+    match as_budget(budget) {
+        Some(found) => found,
+        None => panic!(rt; "no budget: {budget}"),
+    }
 }
