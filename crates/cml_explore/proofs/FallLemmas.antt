@@ -139,8 +139,10 @@ turn_fell (Ok x) c new q t m fall before after old kept leads at own same is was
     subst (λ (r : List (PlainItem ℕ)). IsFall r (failure_of (text_of r) m.thread (machine_term r m)) fall) (named ∙ same) fell in
     let mine : IsFall c.program f fall = subst (λ (u : ℕ). IsFall c.program (failure_of text u (machine_term c.program m)) fall) own here in
     let more : failures text new.items ≡ failures text c.items ++ f ∷ [] = ap (failures text) is ∙ one_failure text c.items t (run_of c) (machine_term c.program m) leads there grew in
-    record { each = λ u. subst (λ (fs : List Failure). IsFallOf c.program (failure_of_thread fs u) (kept u)) (sym more)
-        (one_fell c.program (failures text c.items) f fall old kept u t.0 mine refl (are.each u) (keeps u)) }
+    record {
+      each = λ u. subst (λ (fs : List Failure). IsFallOf c.program (failure_of_thread fs u) (kept u)) (sym more)
+          (one_fell c.program (failures text c.items) f fall old kept u t.0 mine refl (are.each u) (keeps u));
+    }
 turn_fell (Err y) c new q t m fall before after old kept leads at own same is was now differs named fell keeps = tt
 
 -- an item that is no turn

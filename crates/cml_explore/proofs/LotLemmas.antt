@@ -183,8 +183,8 @@ lots_from p budget state begun h last begins leads ran =
     let at = begins_run begun state p budget None begins leads in
     let run : run_of begun.course ≡ opening (text_of p) = ap (λ (g : Played Lcg). g.run) at in
     let start : placed_by_lot begun state ≡ begun_by_lot (text_of p) state =
-        ap (λ (items : List Item). record { items = items; run = run_of begun.course; state = state }) begins.items
-        ∙ ap (λ (r : Run). record { items = []; run = r; state = state }) run in
+    ap (λ (items : List Item). record { items = items; run = run_of begun.course; state = state }) begins.items
+    ∙ ap (λ (r : Run). record { items = []; run = r; state = state }) run in
     ran.plays
     ∙ (ap (λ (q : List (PlainItem ℕ)). more_by_lot (text_of q) begun.budget begun.budget (placed_by_lot begun state)) begins.program
     ∙ (ap (λ b. more_by_lot (text_of p) b b (placed_by_lot begun state)) begins.budget_is

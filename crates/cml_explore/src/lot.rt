@@ -20,11 +20,7 @@ use cml_value::Tid;
 use std::alloc::{AllocError, Global};
 
 // Appends the thread, if it runs.
-fn push_ready(
-    ready: &mut Vec<Tid>,
-    book: &Book<OfferIndex>,
-    thread: Tid,
-) -> Result<(), AllocError>
+fn push_ready(ready: &mut Vec<Tid>, book: &Book<OfferIndex>, thread: Tid) -> Result<(), AllocError>
     ensures { OnOk result ((t : PlainThread) → slice_get book.now.threads thread.0 ≡ Some t →
         ready.new.items ≡ ready.old.items ++ spec.ready_of thread.0 t) }
 {
