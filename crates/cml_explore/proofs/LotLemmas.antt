@@ -1,24 +1,20 @@
 -- What is next_by_lot, one item after another.
-use Rattle.std.proofs.Common.{◌≡◌, ◌≢◌, ℕ, zero, suc, ◌+◌, ◌-◌, ◌<◌, ◌≤◌, Bool, true, false, not, ◌&&◌, ◌||◌, if◌then◌else◌, List, [], ◌∷◌, ◌++◌, length, get_or, drop, Option, Some, None, refl, sym, ap, subst, ◌∙◌, arith, append_assoc, append-nil, add-one}
+use Rattle.std.proofs.Common.{◌≡◌, ◌≢◌, ℕ, zero, suc, ◌+◌, ◌<◌, ◌≤◌, Bool, true, false, ◌||◌, if◌then◌else◌, List, [], ◌++◌, length, get_or, drop, Option, Some, None, refl, sym, ap, ◌∙◌, arith, append_assoc, append-nil, add-one}
 use Rattle.std.specs.Prelude.{◌==◌, slice_get, option_map, nat_le, Result, Ok, Err, OnOk, IfOk}
-use Rattle.std.specs.Option.{option_map_or}
 use Rattle.std.proofs.lemmas.Bool.Decides.{nat_tests}
 use Rattle.std.proofs.lemmas.List.{at_drop_more, drop_all}
 use Rattle.std.proofs.lemmas.Option.{slice_get-get_or}
 use Rattle.rand_pcg.specs.Lcg.{Lcg}
 use Rattle.cml_value.specs.declared.number.Tid.{Tid}
-use Rattle.cml_scan.specs.World.{PlainThread, running, pending_on, ended, PlainWorld}
+use Rattle.cml_scan.specs.World.{PlainThread, running, PlainWorld}
 use Rattle.cml_scan.specs.Scan.{scan}
-use Rattle.cml_scan.specs.declared.meet.Meet.{Meet}
 use Rattle.cml_schedule.specs.declared.item.Item.{Item}
-use Rattle.cml_schedule.specs.declared.item.Item.TheVariants.{Turn, Clock}
+use Rattle.cml_schedule.specs.declared.item.Item.TheVariants.{Clock}
 use Rattle.cml_check.specs.Syntax.{PlainItem}
 use Rattle.cml_step.specs.Calls.{text_of}
 use Rattle.cml_step.specs.Terms.{Program}
-use Rattle.cml_book.specs.Walks.{runs}
-use Rattle.cml_hub.specs.declared.fault.End.{End}
 use Rattle.cml_hub.specs.declared.fault.End.TheVariants.{Quiet, Budget, Partial}
-use Rattle.cml_hub.specs.Runs.{Run, opening, stands, is_allowed, advance, after_item, next_alarm, terminal, over, ending}
+use Rattle.cml_hub.specs.Runs.{Run, opening, stands, advance, after_item, next_alarm, terminal, over, ending}
 use Rattle.cml_hub.specs.Courses.{PlainCourse, run_of, Comes}
 use Rattle.cml_hub.specs.Kept.{Kept, IsAtStart, IsFollowed, NoneOut}
 use Rattle.cml_hub.specs.Playing.{Played, picked}

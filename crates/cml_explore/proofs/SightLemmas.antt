@@ -19,7 +19,7 @@ use Rattle.cml_ending.specs.declared.standing.Spot.{Spot}
 use Rattle.cml_ending.specs.declared.takers.Takers.{Takers}
 use Rattle.cml_ending.specs.Takes.{takes_of, last_taker, taker_in, KnowsTakers}
 use Rattle.cml_ending.specs.Standings.{IsSpotOf, spot_at}
-use Rattle.cml_explore.specs.Answers.{AreLeft, LeftBy}
+use Rattle.cml_explore.specs.Answers.{LeftBy}
 use Rattle.cml_explore.specs.Falls.{PlainFall, AreFalls}
 use Rattle.cml_explore.specs.ThreadLines.{Sight, sight_of, AreSpotsToTell, thread_stand, fall_left, left_line, all_left}
 

@@ -1,4 +1,4 @@
-use Rattle.std.proofs.Common.{◌≡◌, ◌∙◌, true, false, sym, subst, arith}
+use Rattle.std.proofs.Common.{false, subst, arith}
 use Rattle.cml_explore.specs.Explored.{HasMade}
 use Rattle.cml_explore.proofs.ExploreLemmas.{is_done, at_most}
 use Rattle.cml_explore.proofs.explored.explore.Goals as goal
