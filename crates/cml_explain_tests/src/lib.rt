@@ -6,6 +6,8 @@ mod endings;
 #[cfg(test)]
 mod making;
 #[cfg(test)]
+mod narratives;
+#[cfg(test)]
 mod scripts;
 #[cfg(test)]
 mod texts;

@@ -1,0 +1,3 @@
+pub mod UnitLemmas
+pub mod TaleLemmas
+pub mod FaultLemmas
