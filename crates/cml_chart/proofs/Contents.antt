@@ -1,14 +1,14 @@
 -- Which texts are what stands in an element.
 use Rattle.std.proofs.Common.{◌≡◌, ℕ, true, ◌&&◌, List, [], ◌∷◌, ◌++◌, refl, sym, ap, ◌∙◌, append_assoc, append-nil, map}
-use Rattle.std.specs.Prelude.{codes, All, IsTrue}
+use Rattle.std.specs.Prelude.{codes, IsTrue}
 use Rattle.std.specs.List.{flat_map, list_all}
 use Rattle.cml_chart.specs.Xml.{attribute, element, lone_element}
-use Rattle.cml_chart.specs.WellFormed.{Piece, piece_text, IsPiece, Attribute, attribute_text, is_name, are_names, IsElement, Content, nothing, texts, lone, holds, written, IsContent}
+use Rattle.cml_chart.specs.WellFormed.{Piece, piece_text, Attribute, HaveValues, attribute_text, is_name, are_names, IsElement, Content, nothing, texts, lone, holds, written, IsContent}
 use Rattle.cml_chart.proofs.Pieces.{Pieces}
 
 -- attributes of these names
 abbrev pub Attributes : List (List ℕ) → List ℕ → Type 0
-Attributes names bytes = (all : List Attribute) × (map (λ a. a.name) all ≡ names) × All (λ a. All IsPiece a.value) all × (bytes ≡ flat_map attribute_text all)
+Attributes names bytes = (all : List Attribute) × (map (λ a. a.name) all ≡ names) × HaveValues all × (bytes ≡ flat_map attribute_text all)
 
 pub attributes-and : (name : List ℕ) (value : List ℕ) (names : List (List ℕ)) (more : List ℕ) → Pieces value → Attributes names more → Attributes (name ∷ names) (attribute name value ++ more)
 attributes-and name value names more v m =

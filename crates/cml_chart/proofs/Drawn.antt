@@ -1,5 +1,5 @@
 -- What is drawn is well-formed.
-use Rattle.std.proofs.Common.{◌≡◌, ℕ, Bool, true, false, nat_lt, if◌then◌else◌, ◌==◌, List, [], ◌∷◌, ◌++◌, refl, sym, ap, ◌∙◌, min}
+use Rattle.std.proofs.Common.{◌≡◌, ℕ, Bool, true, false, nat_lt, if◌then◌else◌, ◌==◌, List, [], ◌∷◌, ◌++◌, refl, sym, ap, ◌∙◌}
 use Rattle.std.specs.Prelude.{codes}
 use Rattle.std.specs.List.{flat_map}
 use Rattle.std.specs.Fmt.{decimal}
@@ -8,8 +8,8 @@ use Rattle.cml_chart.specs.declared.mark.Shape.TheVariants.{Head, Spawn, Arrow, 
 use Rattle.cml_chart.specs.Xml.{escaped, attribute, element, lone_element}
 use Rattle.cml_chart.specs.Marks.{PlainMark, row_height}
 use Rattle.cml_chart.specs.Frames.{PlainFrame, frame_of, line_at, level_of, note_of}
-use Rattle.cml_chart.specs.Figures.{PlainSpot, spot_attributes, words_text, path_text, title_text, cover_text, note_text, across_text, line_text, arrow_head, sign_text, beside_text, over_text, said_text, parts_text, mark_text, life_of, life_text}
-use Rattle.cml_chart.specs.Pictures.{declaration, style_rules, style_text, box_words, root_attributes, content_text, framed_text, picture_text}
+use Rattle.cml_chart.specs.Figures.{PlainSpot, spot_attributes, words_text, path_text, title_text, cover_text, note_text, across_text, line_text, has_sign, sign_class, arrow_head, sign_path, sign_text, has_words, words_class, words_right, words_down, words_spot, said_text, parts_text, mark_text, life_of, life_text}
+use Rattle.cml_chart.specs.Pictures.{declaration, style_rules, style_text, box_words, size_attributes, root_attributes, content_text, framed_text, picture_text}
 use Rattle.cml_chart.specs.WellFormed.{IsWellFormed, attribute_text, written}
 use Rattle.cml_chart.proofs.Pieces.{Pieces, pieces-append, pieces-ascii, pieces-decimal, pieces-escaped}
 use Rattle.cml_chart.proofs.Contents.{Attributes, attributes-and, attributes-one, attributes-none, right_element, Contents, contents-none, contents-append, contents-pieces, contents-flat_map, contents-lone, contents-element}
@@ -75,52 +75,106 @@ arrow-drawn : (b : Bool) → Pieces (arrow_head b)
 arrow-drawn true = pieces-ascii (codes "l-9-4v8z") refl
 arrow-drawn false = pieces-ascii (codes "l9-4v8z") refl
 
-sign-drawn : (s : Shape) (f : PlainFrame) (m : PlainMark) → Contents (sign_text s f m)
-sign-drawn Spawn f m = path-drawn (codes "life") _ _ (codes "m-7-4l7 4l-7 4") (pieces-ascii (codes "life") refl) (pieces-ascii (codes "m-7-4l7 4l-7 4") refl)
-sign-drawn Arrow f m = path-drawn (codes "solid") _ _ (arrow_head (nat_lt m.thread m.other)) (pieces-ascii (codes "solid") refl) (arrow-drawn (nat_lt m.thread m.other))
-sign-drawn Dot f m = path-drawn (codes "solid") _ _ (codes "m-4 0a4 4 0 1 0 8 0a4 4 0 1 0-8 0z") (pieces-ascii (codes "solid") refl) (pieces-ascii (codes "m-4 0a4 4 0 1 0 8 0a4 4 0 1 0-8 0z") refl)
-sign-drawn Nack f m = path-drawn (codes "solid") _ _ (codes "m-4-4h8l-4 8z") (pieces-ascii (codes "solid") refl) (pieces-ascii (codes "m-4-4h8l-4 8z") refl)
-sign-drawn End f m = path-drawn (codes "bar") _ _ (codes "m-7 0h14") (pieces-ascii (codes "bar") refl) (pieces-ascii (codes "m-7 0h14") refl)
-sign-drawn Fault f m = path-drawn (codes "bar") _ _ (codes "m-5-5l10 10m0-10l-10 10") (pieces-ascii (codes "bar") refl) (pieces-ascii (codes "m-5-5l10 10m0-10l-10 10") refl)
-sign-drawn Waits f m = path-drawn (codes "waits") _ _ (codes "m-5 0a5 5 0 1 0 10 0a5 5 0 1 0-10 0z") (pieces-ascii (codes "waits") refl) (pieces-ascii (codes "m-5 0a5 5 0 1 0 10 0a5 5 0 1 0-10 0z") refl)
-sign-drawn Stuck f m = path-drawn (codes "stuck") _ _ (codes "m-5 0a5 5 0 1 0 10 0a5 5 0 1 0-10 0z") (pieces-ascii (codes "stuck") refl) (pieces-ascii (codes "m-5 0a5 5 0 1 0 10 0a5 5 0 1 0-10 0z") refl)
-sign-drawn Runs f m = path-drawn (codes "life") _ _ (codes "m-5-3l5 8l5-8") (pieces-ascii (codes "life") refl) (pieces-ascii (codes "m-5-3l5 8l5-8") refl)
-sign-drawn Head f m = contents-none
-sign-drawn Tick f m = contents-none
-sign-drawn Print f m = contents-none
-sign-drawn Event f m = contents-none
-sign-drawn Lost f m = contents-none
+class-drawn : (s : Shape) → Pieces (sign_class s)
+class-drawn Head = pieces-ascii ([]) refl
+class-drawn Spawn = pieces-ascii (codes "life") refl
+class-drawn Arrow = pieces-ascii (codes "solid") refl
+class-drawn Dot = pieces-ascii (codes "solid") refl
+class-drawn Tick = pieces-ascii ([]) refl
+class-drawn Print = pieces-ascii ([]) refl
+class-drawn Nack = pieces-ascii (codes "solid") refl
+class-drawn End = pieces-ascii (codes "bar") refl
+class-drawn Fault = pieces-ascii (codes "bar") refl
+class-drawn Waits = pieces-ascii (codes "waits") refl
+class-drawn Stuck = pieces-ascii (codes "stuck") refl
+class-drawn Runs = pieces-ascii (codes "life") refl
+class-drawn Event = pieces-ascii ([]) refl
+class-drawn Lost = pieces-ascii ([]) refl
 
-beside-drawn : (class : List ℕ) (f : PlainFrame) (m : PlainMark) (thread : ℕ) → Pieces class → Contents (beside_text class f m thread)
-beside-drawn class f m thread c =
-    words-drawn class (record { x = line_at f.edges thread; y = level_of m; right = codes "8"; down = codes "4" }) m.words c (pieces-ascii (codes "8") refl) (pieces-ascii (codes "4") refl)
+sign_path-drawn : (s : Shape) (b : Bool) → Pieces (sign_path s b)
+sign_path-drawn Head b = pieces-ascii ([]) refl
+sign_path-drawn Spawn b = pieces-ascii (codes "m-7-4l7 4l-7 4") refl
+sign_path-drawn Arrow b = arrow-drawn b
+sign_path-drawn Dot b = pieces-ascii (codes "m-4 0a4 4 0 1 0 8 0a4 4 0 1 0-8 0z") refl
+sign_path-drawn Tick b = pieces-ascii ([]) refl
+sign_path-drawn Print b = pieces-ascii ([]) refl
+sign_path-drawn Nack b = pieces-ascii (codes "m-4-4h8l-4 8z") refl
+sign_path-drawn End b = pieces-ascii (codes "m-7 0h14") refl
+sign_path-drawn Fault b = pieces-ascii (codes "m-5-5l10 10m0-10l-10 10") refl
+sign_path-drawn Waits b = pieces-ascii (codes "m-5 0a5 5 0 1 0 10 0a5 5 0 1 0-10 0z") refl
+sign_path-drawn Stuck b = pieces-ascii (codes "m-5 0a5 5 0 1 0 10 0a5 5 0 1 0-10 0z") refl
+sign_path-drawn Runs b = pieces-ascii (codes "m-5-3l5 8l5-8") refl
+sign_path-drawn Event b = pieces-ascii ([]) refl
+sign_path-drawn Lost b = pieces-ascii ([]) refl
 
-over-drawn : (class : List ℕ) (f : PlainFrame) (m : PlainMark) (thread : ℕ) (down : List ℕ) → Pieces class → Pieces down → Contents (over_text class f m thread down)
-over-drawn class f m thread down c d =
-    words-drawn class (record { x = line_at f.edges thread; y = level_of m; right = codes "10"; down = down }) m.words c (pieces-ascii (codes "10") refl) d
+sign-drawn : (f : PlainFrame) (m : PlainMark) → Contents (sign_text f m)
+sign-drawn f m =
+    elim (has_sign m.shape) as (λ b. Contents (if b then path_text (sign_class m.shape) (line_at f.edges m.other) (level_of m) (sign_path m.shape (nat_lt m.thread m.other)) else [])) [
+      | true ↦ path-drawn (sign_class m.shape) (line_at f.edges m.other) (level_of m) (sign_path m.shape (nat_lt m.thread m.other)) (class-drawn m.shape) (sign_path-drawn m.shape (nat_lt m.thread m.other))
+      | false ↦ contents-none
+    ]
 
-said-drawn : (s : Shape) (f : PlainFrame) (m : PlainMark) → Contents (said_text s f m)
-said-drawn Head f m = over-drawn (codes "head") f m m.thread (codes "-8") (pieces-ascii (codes "head") refl) (pieces-ascii (codes "-8") refl)
-said-drawn Spawn f m = beside-drawn (codes "head") f m m.other (pieces-ascii (codes "head") refl)
-said-drawn Arrow f m = over-drawn (codes "words") f m (min m.thread m.other) (codes "-6") (pieces-ascii (codes "words") refl) (pieces-ascii (codes "-6") refl)
-said-drawn Dot f m = beside-drawn (codes "words") f m m.thread (pieces-ascii (codes "words") refl)
-said-drawn Print f m = beside-drawn (codes "print") f m m.thread (pieces-ascii (codes "print") refl)
-said-drawn Nack f m = beside-drawn (codes "print") f m m.thread (pieces-ascii (codes "print") refl)
-said-drawn Fault f m = beside-drawn (codes "head") f m m.thread (pieces-ascii (codes "head") refl)
-said-drawn Runs f m = beside-drawn (codes "print") f m m.thread (pieces-ascii (codes "print") refl)
-said-drawn Event f m = beside-drawn (codes "words") f m m.thread (pieces-ascii (codes "words") refl)
-said-drawn Lost f m = beside-drawn (codes "lost") f m m.thread (pieces-ascii (codes "lost") refl)
-said-drawn Tick f m = contents-none
-said-drawn End f m = contents-none
-said-drawn Waits f m = contents-none
-said-drawn Stuck f m = contents-none
+words_class-drawn : (s : Shape) → Pieces (words_class s)
+words_class-drawn Head = pieces-ascii (codes "head") refl
+words_class-drawn Spawn = pieces-ascii (codes "head") refl
+words_class-drawn Arrow = pieces-ascii (codes "words") refl
+words_class-drawn Dot = pieces-ascii (codes "words") refl
+words_class-drawn Tick = pieces-ascii (codes "words") refl
+words_class-drawn Print = pieces-ascii (codes "print") refl
+words_class-drawn Nack = pieces-ascii (codes "print") refl
+words_class-drawn End = pieces-ascii (codes "words") refl
+words_class-drawn Fault = pieces-ascii (codes "head") refl
+words_class-drawn Waits = pieces-ascii (codes "words") refl
+words_class-drawn Stuck = pieces-ascii (codes "words") refl
+words_class-drawn Runs = pieces-ascii (codes "print") refl
+words_class-drawn Event = pieces-ascii (codes "words") refl
+words_class-drawn Lost = pieces-ascii (codes "lost") refl
+
+right-drawn : (s : Shape) → Pieces (words_right s)
+right-drawn Head = pieces-ascii (codes "10") refl
+right-drawn Spawn = pieces-ascii (codes "8") refl
+right-drawn Arrow = pieces-ascii (codes "10") refl
+right-drawn Dot = pieces-ascii (codes "8") refl
+right-drawn Tick = pieces-ascii (codes "8") refl
+right-drawn Print = pieces-ascii (codes "8") refl
+right-drawn Nack = pieces-ascii (codes "8") refl
+right-drawn End = pieces-ascii (codes "8") refl
+right-drawn Fault = pieces-ascii (codes "8") refl
+right-drawn Waits = pieces-ascii (codes "8") refl
+right-drawn Stuck = pieces-ascii (codes "8") refl
+right-drawn Runs = pieces-ascii (codes "8") refl
+right-drawn Event = pieces-ascii (codes "8") refl
+right-drawn Lost = pieces-ascii (codes "8") refl
+
+down-drawn : (s : Shape) → Pieces (words_down s)
+down-drawn Head = pieces-ascii (codes "-8") refl
+down-drawn Spawn = pieces-ascii (codes "4") refl
+down-drawn Arrow = pieces-ascii (codes "-6") refl
+down-drawn Dot = pieces-ascii (codes "4") refl
+down-drawn Tick = pieces-ascii (codes "4") refl
+down-drawn Print = pieces-ascii (codes "4") refl
+down-drawn Nack = pieces-ascii (codes "4") refl
+down-drawn End = pieces-ascii (codes "4") refl
+down-drawn Fault = pieces-ascii (codes "4") refl
+down-drawn Waits = pieces-ascii (codes "4") refl
+down-drawn Stuck = pieces-ascii (codes "4") refl
+down-drawn Runs = pieces-ascii (codes "4") refl
+down-drawn Event = pieces-ascii (codes "4") refl
+down-drawn Lost = pieces-ascii (codes "4") refl
+
+said-drawn : (f : PlainFrame) (m : PlainMark) → Contents (said_text f m)
+said-drawn f m =
+    elim (has_words m.shape) as (λ b. Contents (if b then words_text (words_class m.shape) (words_spot f m) m.words else [])) [
+      | true ↦ words-drawn (words_class m.shape) (words_spot f m) m.words (words_class-drawn m.shape) (right-drawn m.shape) (down-drawn m.shape)
+      | false ↦ contents-none
+    ]
 
 line_feed : Contents (codes "\n")
 line_feed = contents-pieces (codes "\n") (pieces-ascii (codes "\n") refl)
 
 parts-drawn : (f : PlainFrame) (m : PlainMark) → Contents (parts_text f m)
 parts-drawn f m =
-    let signed = contents-append (sign_text m.shape f m) (said_text m.shape f m) (sign-drawn m.shape f m) (said-drawn m.shape f m) in
+    let signed = contents-append (sign_text f m) (said_text f m) (sign-drawn f m) (said-drawn f m) in
     let lined = contents-append (line_text m.shape f m) _ (line-drawn m.shape f m) signed in
     let noted = contents-append (note_text f m) _ (note-drawn f m) lined in
     let covered = contents-append (cover_text f m) _ (cover-drawn f m) noted in

@@ -1,50 +1,43 @@
 -- Which texts are made of pieces.
 use Rattle.std.proofs.Common.{◌≡◌, ℕ, suc, zero, ◌+◌, ◌<◌, ◌%◌, ◌/◌, Bool, true, false, not, ◌&&◌, ◌==◌, nat_lt, if◌then◌else◌, List, [], ◌∷◌, ◌++◌, refl, sym, ap, ◌∙◌, subst, arith, append_assoc, append-nil, map}
-use Rattle.std.specs.Prelude.{codes, encode_utf8, All}
+use Rattle.std.specs.Prelude.{codes, encode_utf8}
 use Rattle.std.specs.List.{flat_map, list_all}
 use Rattle.std.specs.Str.{chars}
 use Rattle.std.specs.Str.Lossy.{utf8_lossy}
 use Rattle.std.specs.Fmt.{decimal, digits, digits_onto, digit_glyph}
 use Rattle.std.proofs.lemmas.Str.{encode_ascii}
+use Rattle.std.proofs.lemmas.Bool.{and_parts}
 use Rattle.std.proofs.lemmas.Bool.Decides.{nat_tests}
 use Rattle.std.proofs.lemmas.List.Concat.{flat_map-append}
 use Rattle.cml_chart.specs.Xml.{is_character, escaped_character, escaped_characters, escaped}
-use Rattle.cml_chart.specs.WellFormed.{Piece, plain, ampersand, less, greater, quote, apostrophe, piece_text, is_plain, IsPiece}
+use Rattle.cml_chart.specs.WellFormed.{Piece, plain, ampersand, less, greater, quote, apostrophe, piece_text, is_plain, IsPiece, ArePieces}
 
 -- a text that is made of pieces
 abbrev pub Pieces : List ℕ → Type 0
-Pieces bytes = (pieces : List Piece) × All IsPiece pieces × (bytes ≡ flat_map piece_text pieces)
+Pieces bytes = (pieces : List Piece) × ArePieces pieces × (bytes ≡ flat_map piece_text pieces)
 
-All-append : (xs ys : List Piece) → All IsPiece xs → All IsPiece ys → All IsPiece (xs ++ ys)
-All-append [] ys a b = b
-All-append (x ∷ xs) ys a b = (a.0, All-append xs ys a.1 b)
+ArePieces-append : (xs ys : List Piece) → ArePieces xs → ArePieces ys → ArePieces (xs ++ ys)
+ArePieces-append [] ys a b = b
+ArePieces-append (x ∷ xs) ys a b = (a.0, ArePieces-append xs ys a.1 b)
 
 pub pieces-append : (a b : List ℕ) → Pieces a → Pieces b → Pieces (a ++ b)
 pieces-append a b p q =
-    (p.0 ++ q.0, All-append p.0 q.0 p.1 q.1, ap (λ x. x ++ b) p.2 ∙ ap (λ y. flat_map piece_text p.0 ++ y) q.2 ∙ sym (flat_map-append piece_text p.0 q.0))
+    (p.0 ++ q.0, ArePieces-append p.0 q.0 p.1 q.1, ap (λ x. x ++ b) p.2 ∙ ap (λ y. flat_map piece_text p.0 ++ y) q.2 ∙ sym (flat_map-append piece_text p.0 q.0))
 
 -- a character of one byte that stands for itself
 abbrev pub is_ascii_plain : ℕ → Bool
 is_ascii_plain c = nat_lt c 128 && is_plain c
 
-and_left : (a b : Bool) → (a && b) ≡ true → a ≡ true
-and_left true b e = refl
-and_left false b e = e
-
-and_right : (a b : Bool) → (a && b) ≡ true → b ≡ true
-and_right true b e = e
-and_right false b e = grind (e)
-
 plain_byte : (c : ℕ) → is_ascii_plain c ≡ true → piece_text (plain c) ≡ c ∷ []
-plain_byte c e = let t = and_left (nat_lt c 128) (is_plain c) e in encode_ascii c (grind (arith, nat_tests))
+plain_byte c e = let t = (and_parts (nat_lt c 128) (is_plain c) e).0 in encode_ascii c (grind (arith, nat_tests))
 
 -- characters of one byte that stand for themselves are pieces
 pub pieces-ascii : (bytes : List ℕ) → list_all is_ascii_plain bytes ≡ true → Pieces bytes
 pieces-ascii [] e = ([], tt, refl)
 pieces-ascii (c ∷ cs) e =
-    let h = and_left (is_ascii_plain c) (list_all is_ascii_plain cs) e in
-    let r = pieces-ascii cs (and_right (is_ascii_plain c) (list_all is_ascii_plain cs) e) in
-    (plain c ∷ r.0, (and_right (nat_lt c 128) (is_plain c) h, r.1), ap (λ t. c ∷ t) r.2 ∙ ap (λ x. x ++ flat_map piece_text r.0) (sym (plain_byte c h)))
+    let h = and_parts (is_ascii_plain c) (list_all is_ascii_plain cs) e in
+    let r = pieces-ascii cs h.1 in
+    (plain c ∷ r.0, ((and_parts (nat_lt c 128) (is_plain c) h.0).1, r.1), ap (λ t. c ∷ t) r.2 ∙ ap (λ x. x ++ flat_map piece_text r.0) (sym (plain_byte c h.0)))
 
 digit_plain : (d : ℕ) → d < 10 → is_ascii_plain (digit_glyph false d) ≡ true
 digit_plain d lt = grind (arith, nat_tests)
@@ -74,7 +67,7 @@ one_of false false true quo apo own c e = (greater, refl, refl)
 one_of false false false true apo own c e = (quote, refl, refl)
 one_of false false false false true own c e = (apostrophe, refl, refl)
 one_of false false false false false true c e = (plain c, e, refl)
-one_of false false false false false false c e = (plain 63, refl, refl)
+one_of false false false false false false c e = (plain 63, refl, sym (encode_ascii 63 (omega arith)))
 
 one_piece : (c : ℕ) → IsOne c (escaped_character c)
 one_piece c = one_of (c == 38) (c == 60) (c == 62) (c == 34) (c == 39) (is_character c) c refl

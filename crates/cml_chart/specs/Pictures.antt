@@ -17,13 +17,18 @@ style_text = element (codes "style") (attribute (codes "type") (codes "text/css"
 abbrev pub box_words : PlainFrame → List ℕ
 box_words f = codes "0 0 " ++ (decimal f.width ++ (codes " " ++ decimal f.height))
 
+abbrev pub size_attributes : PlainFrame → List ℕ
+size_attributes f =
+    attribute (codes "width") (decimal f.width)
+    ++ (attribute (codes "height") (decimal f.height)
+    ++ attribute (codes "viewBox") (box_words f))
+
+-- what SVG 1.1 wants of the root
 abbrev pub root_attributes : PlainFrame → List ℕ
 root_attributes f =
     attribute (codes "xmlns") (codes "http://www.w3.org/2000/svg")
     ++ (attribute (codes "version") (codes "1.1")
-    ++ (attribute (codes "width") (decimal f.width)
-    ++ (attribute (codes "height") (decimal f.height)
-    ++ attribute (codes "viewBox") (box_words f))))
+    ++ size_attributes f)
 
 abbrev pub declaration : List ℕ
 declaration = codes "<?xml version='1.0' encoding='UTF-8'?>\n"

@@ -1,6 +1,6 @@
 -- What is well-formed: the text of one tree of elements, in which each element is closed, no name of an attribute stands twice in an
 -- element, and each character stands for itself or is written by its name.
-use Rattle.std.specs.Prelude.{◌≡◌, ℕ, Bool, true, not, ◌&&◌, ◌||◌, ◌==◌, nat_lt, List, [], ◌∷◌, ◌++◌, codes, encode_utf8, All, IsTrue, map}
+use Rattle.std.specs.Prelude.{◌≡◌, ℕ, Bool, true, not, ◌&&◌, ◌||◌, ◌==◌, nat_lt, List, [], ◌∷◌, ◌++◌, codes, encode_utf8, IsTrue, map}
 use Rattle.std.specs.List.{flat_map, list_all, list_any}
 use Rattle.std.specs.Str.{bytes_eq}
 use Rattle.cml_chart.specs.Xml.{is_character, attribute, element, lone_element}
@@ -34,6 +34,10 @@ IsPiece less = IsTrue true
 IsPiece greater = IsTrue true
 IsPiece quote = IsTrue true
 IsPiece apostrophe = IsTrue true
+
+abbrev pub ArePieces : List Piece → Type 0
+ArePieces [] = Unit {0}
+ArePieces (piece ∷ more) = IsPiece piece × ArePieces more
 
 pub record Attribute : Type 0 where
   pub name : List ℕ
@@ -69,15 +73,20 @@ abbrev pub are_names : List (List ℕ) → Bool
 are_names [] = true
 are_names (name ∷ names) = is_name name && not (list_any (bytes_eq name) names) && are_names names
 
+-- the values of attributes are made of pieces
+abbrev pub HaveValues : List Attribute → Type 0
+HaveValues [] = Unit {0}
+HaveValues (a ∷ more) = ArePieces a.value × HaveValues more
+
 -- an element of this name with these attributes
 pub record IsElement (name : List ℕ) (attributes : List Attribute) : Type 0 where
   pub named : IsTrue (is_name name)
   pub distinct : IsTrue (are_names (map (λ a. a.name) attributes))
-  pub values : All (λ a. All IsPiece a.value) attributes
+  pub values : HaveValues attributes
 
 abbrev pub IsContent : Content → Type 0
 IsContent nothing = IsTrue true
-IsContent (texts pieces more) = All IsPiece pieces × IsContent more
+IsContent (texts pieces more) = ArePieces pieces × IsContent more
 IsContent (lone name attributes more) = IsElement name attributes × IsContent more
 IsContent (holds name attributes inner more) = IsElement name attributes × IsContent inner × IsContent more
 

@@ -5,13 +5,10 @@ ghost use Rattle.std.specs.Fmt.{decimal};
 ghost use Rattle.cml_chart.specs.Figures as spec;
 ghost use Rattle.cml_chart.specs.Views.{plain_mark, plain_frame};
 
-use crate::frame::{Frame, level_of, line_at, note_of};
+use crate::frame::{Frame, level_of, line_at, note_of, seat_of};
 use crate::mark::{Mark, Shape, row_height};
 use crate::xml::{Spot, push_number, push_path, push_title, push_words};
 use std::alloc::{AllocError, Global};
-
-// A hollow circle.
-const RING: &[u8] = b"m-5 0a5 5 0 1 0 10 0a5 5 0 1 0-10 0z";
 
 // Data of a path that ends with a number.
 fn toward(alloc: Global, words: &[u8], number: u64) -> Result<Vec<u8>, AllocError>
@@ -108,6 +105,50 @@ fn push_line(alloc: Global, out: &mut Vec<u8>, frame: &Frame, mark: &Mark) -> Re
     }
 }
 
+// Which marks have a sign on a line.
+fn has_sign(shape: Shape) -> bool
+    ensures { result ≡ spec.has_sign shape }
+{
+    match shape {
+        Shape::Head => false,
+        Shape::Tick => false,
+        Shape::Print => false,
+        Shape::Event => false,
+        Shape::Lost => false,
+        Shape::Spawn => true,
+        Shape::Arrow => true,
+        Shape::Dot => true,
+        Shape::Nack => true,
+        Shape::End => true,
+        Shape::Fault => true,
+        Shape::Waits => true,
+        Shape::Stuck => true,
+        Shape::Runs => true,
+    }
+}
+
+// The class of the sign.
+fn sign_class(shape: Shape) -> &'static [u8]
+    ensures { result.now ≡ spec.sign_class shape }
+{
+    match shape {
+        Shape::Head => &[],
+        Shape::Tick => &[],
+        Shape::Print => &[],
+        Shape::Event => &[],
+        Shape::Lost => &[],
+        Shape::Spawn => b"life",
+        Shape::Runs => b"life",
+        Shape::Arrow => b"solid",
+        Shape::Dot => b"solid",
+        Shape::Nack => b"solid",
+        Shape::End => b"bar",
+        Shape::Fault => b"bar",
+        Shape::Waits => b"waits",
+        Shape::Stuck => b"stuck",
+    }
+}
+
 // The head of an arrow.
 fn arrow_head(from_left: bool) -> &'static [u8]
     ensures { result.now ≡ spec.arrow_head from_left }
@@ -115,103 +156,150 @@ fn arrow_head(from_left: bool) -> &'static [u8]
     if from_left { b"l-9-4v8z" } else { b"l9-4v8z" }
 }
 
-// Appends the sign of a mark.
-fn push_sign(alloc: Global, out: &mut Vec<u8>, frame: &Frame, mark: &Mark) -> Result<(), AllocError>
-    ensures { OnOk result (out.new.items ≡ out.old.items
-        ++ spec.sign_text mark.now.shape (plain_frame frame.now) (plain_mark mark.now)) }
+// What is drawn from the place of the sign on.
+fn sign_path(shape: Shape, from_left: bool) -> &'static [u8]
+    ensures { result.now ≡ spec.sign_path shape from_left }
 {
-    let edges = frame.edges.as_slice();
-    let x = line_at(edges, mark.thread);
-    let to = line_at(edges, mark.other);
-    let y = level_of(mark);
-    match mark.shape {
-        Shape::Spawn => push_path(alloc, out, b"life", to, y, b"m-7-4l7 4l-7 4"),
-        Shape::Arrow => {
-            let head = arrow_head(mark.thread < mark.other);
-            push_path(alloc, out, b"solid", to, y, head)
-        }
-        Shape::Dot => push_path(
-            alloc,
-            out,
-            b"solid",
-            x,
-            y,
-            b"m-4 0a4 4 0 1 0 8 0a4 4 0 1 0-8 0z",
-        ),
-        Shape::Nack => push_path(alloc, out, b"solid", x, y, b"m-4-4h8l-4 8z"),
-        Shape::End => push_path(alloc, out, b"bar", x, y, b"m-7 0h14"),
-        Shape::Fault => push_path(alloc, out, b"bar", x, y, b"m-5-5l10 10m0-10l-10 10"),
-        Shape::Waits => push_path(alloc, out, b"waits", x, y, RING),
-        Shape::Stuck => push_path(alloc, out, b"stuck", x, y, RING),
-        Shape::Runs => push_path(alloc, out, b"life", x, y, b"m-5-3l5 8l5-8"),
-        Shape::Head | Shape::Tick | Shape::Print | Shape::Event | Shape::Lost => Ok(()),
+    match shape {
+        Shape::Head => &[],
+        Shape::Tick => &[],
+        Shape::Print => &[],
+        Shape::Event => &[],
+        Shape::Lost => &[],
+        Shape::Spawn => b"m-7-4l7 4l-7 4",
+        Shape::Arrow => arrow_head(from_left),
+        Shape::Dot => b"m-4 0a4 4 0 1 0 8 0a4 4 0 1 0-8 0z",
+        Shape::Nack => b"m-4-4h8l-4 8z",
+        Shape::End => b"m-7 0h14",
+        Shape::Fault => b"m-5-5l10 10m0-10l-10 10",
+        Shape::Waits => b"m-5 0a5 5 0 1 0 10 0a5 5 0 1 0-10 0z",
+        Shape::Stuck => b"m-5 0a5 5 0 1 0 10 0a5 5 0 1 0-10 0z",
+        Shape::Runs => b"m-5-3l5 8l5-8",
     }
 }
 
-// Appends words to the right of the line of a thread.
-fn push_beside(
-    alloc: Global,
-    out: &mut Vec<u8>,
-    class: &[u8],
-    frame: &Frame,
-    mark: &Mark,
-    thread: u32,
-) -> Result<(), AllocError>
+// Appends the sign of a mark.
+fn push_sign(alloc: Global, out: &mut Vec<u8>, frame: &Frame, mark: &Mark) -> Result<(), AllocError>
     ensures { OnOk result (out.new.items ≡ out.old.items
-        ++ spec.beside_text class.now (plain_frame frame.now) (plain_mark mark.now) thread) }
+        ++ spec.sign_text (plain_frame frame.now) (plain_mark mark.now)) }
 {
-    let spot = Spot {
-        x: line_at(frame.edges.as_slice(), thread),
-        y: level_of(mark),
-        right: b"8",
-        down: b"4",
-    };
-    push_words(alloc, out, class, spot, mark.words.as_slice())
+    if !has_sign(mark.shape) {
+        return Ok(());
+    }
+    let x = line_at(frame.edges.as_slice(), mark.other);
+    let path = sign_path(mark.shape, mark.thread < mark.other);
+    push_path(alloc, out, sign_class(mark.shape), x, level_of(mark), path)
 }
 
-// Appends words over an arrow or a line.
-fn push_over(
-    alloc: Global,
-    out: &mut Vec<u8>,
-    class: &[u8],
-    frame: &Frame,
-    mark: &Mark,
-    thread: u32,
-    down: &[u8],
-) -> Result<(), AllocError>
-    ensures { OnOk result (out.new.items ≡ out.old.items
-        ++ spec.over_text class.now (plain_frame frame.now) (plain_mark mark.now) thread down.now) }
+// Which marks have words in a column.
+fn has_words(shape: Shape) -> bool
+    ensures { result ≡ spec.has_words shape }
 {
-    let spot = Spot {
-        x: line_at(frame.edges.as_slice(), thread),
-        y: level_of(mark),
-        right: b"10",
-        down,
-    };
-    push_words(alloc, out, class, spot, mark.words.as_slice())
+    match shape {
+        Shape::Head => true,
+        Shape::Spawn => true,
+        Shape::Arrow => true,
+        Shape::Dot => true,
+        Shape::Print => true,
+        Shape::Nack => true,
+        Shape::Fault => true,
+        Shape::Runs => true,
+        Shape::Event => true,
+        Shape::Lost => true,
+        Shape::Tick => false,
+        Shape::End => false,
+        Shape::Waits => false,
+        Shape::Stuck => false,
+    }
+}
+
+// The class of the words.
+fn words_class(shape: Shape) -> &'static [u8]
+    ensures { result.now ≡ spec.words_class shape }
+{
+    match shape {
+        Shape::Head => b"head",
+        Shape::Spawn => b"head",
+        Shape::Fault => b"head",
+        Shape::Arrow => b"words",
+        Shape::Dot => b"words",
+        Shape::Tick => b"words",
+        Shape::End => b"words",
+        Shape::Waits => b"words",
+        Shape::Stuck => b"words",
+        Shape::Event => b"words",
+        Shape::Print => b"print",
+        Shape::Nack => b"print",
+        Shape::Runs => b"print",
+        Shape::Lost => b"lost",
+    }
+}
+
+// How far words stand to the right.
+fn words_right(shape: Shape) -> &'static [u8]
+    ensures { result.now ≡ spec.words_right shape }
+{
+    match shape {
+        Shape::Head => b"10",
+        Shape::Arrow => b"10",
+        Shape::Spawn => b"8",
+        Shape::Dot => b"8",
+        Shape::Tick => b"8",
+        Shape::Print => b"8",
+        Shape::Nack => b"8",
+        Shape::End => b"8",
+        Shape::Fault => b"8",
+        Shape::Waits => b"8",
+        Shape::Stuck => b"8",
+        Shape::Runs => b"8",
+        Shape::Event => b"8",
+        Shape::Lost => b"8",
+    }
+}
+
+// How far words stand below.
+fn words_down(shape: Shape) -> &'static [u8]
+    ensures { result.now ≡ spec.words_down shape }
+{
+    match shape {
+        Shape::Head => b"-8",
+        Shape::Spawn => b"4",
+        Shape::Dot => b"4",
+        Shape::Tick => b"4",
+        Shape::Print => b"4",
+        Shape::Nack => b"4",
+        Shape::End => b"4",
+        Shape::Fault => b"4",
+        Shape::Waits => b"4",
+        Shape::Stuck => b"4",
+        Shape::Runs => b"4",
+        Shape::Event => b"4",
+        Shape::Lost => b"4",
+        Shape::Arrow => b"-6",
+    }
 }
 
 // Appends the words of a mark.
 fn push_said(alloc: Global, out: &mut Vec<u8>, frame: &Frame, mark: &Mark) -> Result<(), AllocError>
     ensures { OnOk result (out.new.items ≡ out.old.items
-        ++ spec.said_text mark.now.shape (plain_frame frame.now) (plain_mark mark.now)) }
+        ++ spec.said_text (plain_frame frame.now) (plain_mark mark.now)) }
 {
-    match mark.shape {
-        Shape::Head => push_over(alloc, out, b"head", frame, mark, mark.thread, b"-8"),
-        Shape::Spawn => push_beside(alloc, out, b"head", frame, mark, mark.other),
-        Shape::Arrow => {
-            let seat = mark.thread.min(mark.other);
-            push_over(alloc, out, b"words", frame, mark, seat, b"-6")
-        }
-        Shape::Dot => push_beside(alloc, out, b"words", frame, mark, mark.thread),
-        Shape::Print => push_beside(alloc, out, b"print", frame, mark, mark.thread),
-        Shape::Nack => push_beside(alloc, out, b"print", frame, mark, mark.thread),
-        Shape::Fault => push_beside(alloc, out, b"head", frame, mark, mark.thread),
-        Shape::Runs => push_beside(alloc, out, b"print", frame, mark, mark.thread),
-        Shape::Event => push_beside(alloc, out, b"words", frame, mark, mark.thread),
-        Shape::Lost => push_beside(alloc, out, b"lost", frame, mark, mark.thread),
-        Shape::Tick | Shape::End | Shape::Waits | Shape::Stuck => Ok(()),
+    if !has_words(mark.shape) {
+        return Ok(());
     }
+    let spot = Spot {
+        x: line_at(frame.edges.as_slice(), seat_of(mark)),
+        y: level_of(mark),
+        right: words_right(mark.shape),
+        down: words_down(mark.shape),
+    };
+    push_words(
+        alloc,
+        out,
+        words_class(mark.shape),
+        spot,
+        mark.words.as_slice(),
+    )
 }
 
 // Appends the parts of a mark.

@@ -39,17 +39,25 @@ fn box_words(alloc: Global, frame: &Frame) -> Result<Vec<u8>, AllocError>
     Ok(words)
 }
 
+// Appends the size of a picture.
+fn push_size(alloc: Global, out: &mut Vec<u8>, frame: &Frame) -> Result<(), AllocError>
+    ensures { OnOk result (out.new.items ≡ out.old.items
+        ++ spec.size_attributes (plain_frame frame.now)) }
+{
+    let corners = box_words(alloc, frame)?;
+    push_measure(alloc, out, b"width", frame.width)?;
+    push_measure(alloc, out, b"height", frame.height)?;
+    push_attribute(out, b"viewBox", corners.as_slice())
+}
+
 // Appends the attributes of the root.
 fn push_root(alloc: Global, out: &mut Vec<u8>, frame: &Frame) -> Result<(), AllocError>
     ensures { OnOk result (out.new.items ≡ out.old.items
         ++ spec.root_attributes (plain_frame frame.now)) }
 {
-    let corners = box_words(alloc, frame)?;
     push_attribute(out, b"xmlns", b"http://www.w3.org/2000/svg")?;
     push_attribute(out, b"version", b"1.1")?;
-    push_measure(alloc, out, b"width", frame.width)?;
-    push_measure(alloc, out, b"height", frame.height)?;
-    push_attribute(out, b"viewBox", corners.as_slice())
+    push_size(alloc, out, frame)
 }
 
 // Appends the lines of the threads.
