@@ -12,6 +12,8 @@ mod script;
 mod stand;
 mod text;
 mod trouble;
+mod unfit;
 
 pub use script::explain_script;
 pub use text::explain_text;
+pub use unfit::explain_unfit;

@@ -1,7 +1,6 @@
 //! What is said of how a run ended: whole texts, each written by hand, and whether the run is stuck.
 
-ghost use Rattle.cml_hub.specs.Kept.{IsBudget};
-
+use crate::budgets::in_range;
 use crate::making::{MEMORY, forms, program};
 use cml_ending::{explain_end, is_stuck};
 use cml_hub::{Hub, Script, read_schedule};
@@ -111,14 +110,6 @@ const CASES: [Case; 11] = [
         stuck: (true, true),
     },
 ];
-
-// The budget, if it may be one.
-fn in_range(rt: &impl Abort, budget: u64) -> u64
-    ensures { IsBudget result }
-{
-    assert!(rt; 1 <= budget && budget <= 1_000_000_000);
-    budget
-}
 
 // What is said of the end of the run.
 fn says(rt: &(impl Abort + AllocGlobal), script: &str, forms: &[Sexpr], hub: &Hub, expected: &str) {

@@ -1,6 +1,7 @@
 //! Tests of what is said to a person: what is wrong, and how a run went and ended. Whole texts.
 #![tactic(auto)]
 
+pub mod budgets;
 #[cfg(test)]
 mod endings;
 #[cfg(test)]

@@ -1,10 +1,8 @@
 -- Whether a turn ended at a fault, and what it printed then.
-use Rattle.std.proofs.Common.{◌≡◌, ℕ, ◌+◌, ◌<◌, ltb, Bool, true, false, cond, List, [], ◌∷◌, ◌++◌, length, codes, take, drop, Option, Some, None, refl, sym, ap, ◌∙◌, arith, append-nil, length-append, append_assoc}
+use Rattle.std.proofs.Common.{◌≡◌, ℕ, ◌+◌, ltb, Bool, true, false, cond, List, [], ◌∷◌, ◌++◌, length, codes, Option, Some, None, refl, sym, ap, ◌∙◌, arith}
 use Rattle.std.specs.Prelude.{slice_get, option_map, option_and_then, count_by}
 use Rattle.std.proofs.lemmas.List.Sums.{sum_by-append}
 use Rattle.std.proofs.lemmas.Bool.Decides.{nat_tests}
-use Rattle.std.proofs.Math.Seq.{drop-append-add, drop-append_seam, take-append_seam}
-use Rattle.cml_step.specs.Calls.{text_of}
 use Rattle.cml_step.specs.Slices.{sliced}
 use Rattle.cml_step.specs.Terms.{Program, Term}
 use Rattle.cml_schedule.specs.declared.item.Item.{Item}
@@ -12,7 +10,6 @@ use Rattle.cml_schedule.specs.declared.item.Item.TheVariants.{Turn}
 use Rattle.cml_value.specs.declared.number.Tid.{Tid}
 use Rattle.cml_hub.specs.Performed.{PlainDone, goes, gets, begets, prints, waits, ends, fails, performed}
 use Rattle.cml_hub.specs.Runs.{Run, opening, advance, is_allowed, turned, turned_by, stands, stands_from, output_of}
-use Rattle.cml_hub.specs.Courses.{PlainCourse, run_of, Adds}
 use Rattle.cml_narrative.specs.Tales.{did_words, turn_words}
 use Rattle.cml_hub.specs.Deeds.{deed, after_deed, deeds_from, deeds, is_fault, fault_count}
 
@@ -29,7 +26,7 @@ deeds_push p r (x ∷ items) item =
     ap (after_deed d) (deeds_push p next items item) ∙ after_append d (deeds_from p next items) (after_deed (option_and_then (λ now. deed p now item) (stands_from p next items)) [])
 
 -- how many faults there are, one item on
-abbrev fault_of : Option PlainDone → ℕ
+abbrev pub fault_of : Option PlainDone → ℕ
 fault_of None = 0
 fault_of (Some d) = cond (is_fault d) 1 0
 
@@ -45,7 +42,7 @@ faults_on p items item r leads =
     ∙ ap (λ n. fault_count p items + n) (after_faults (deed p r item))
 
 -- what a turn prints
-abbrev printed_by : ℕ → Option PlainDone → List ℕ
+abbrev pub printed_by : ℕ → Option PlainDone → List ℕ
 printed_by t None = []
 printed_by t (Some d) = output_of t d
 
@@ -83,14 +80,3 @@ words_are K words asked awaited (Some (prints text)) t n m printed old output fa
 words_are K words asked awaited (Some waits) t n m printed old output failed is more len out did fault = did (is ∙ no_more n m more)
 words_are K words asked awaited (Some ends) t n m printed old output failed is more len out did fault = did (is ∙ no_more n m more)
 words_are K words asked awaited (Some (fails name)) t n m printed old output failed is more len out did fault = fault (is ∙ one_more n m more) old name len out
-
--- the name in the line of a fault
-pub name_in : (printed before text name : List ℕ) (from start at : ℕ) → length before ≡ from → length text ≡ start → printed ≡ before ++ (text ++ (name ++ 10 ∷ [])) → at ≡ from + start →
-    take (length printed - 1 - at) (drop at printed) ≡ name
-name_in printed before text name from start at len1 len2 is e =
-    let whole : length printed ≡ length before + (length text + (length name + 1)) = ap length is ∙ (length-append before (text ++ (name ++ 10 ∷ [])) ∙ ap (λ n. length before + n) (length-append text (name ++ 10 ∷ []) ∙ ap (λ n. length text + n) (length-append name (10 ∷ [])))) in
-    let count : length printed - 1 - at ≡ length name = omega arith in
-    let there : at ≡ length before + length text = omega arith in
-    let rest : drop at printed ≡ name ++ 10 ∷ [] =
-    ap (λ k. drop k printed) there ∙ ap (drop (length before + length text)) is ∙ drop-append-add before (text ++ (name ++ 10 ∷ [])) (length text) ∙ drop-append_seam text (name ++ 10 ∷ []) in
-    ap (λ k. take k (drop at printed)) count ∙ ap (take (length name)) rest ∙ take-append_seam name (10 ∷ [])

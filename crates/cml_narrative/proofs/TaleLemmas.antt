@@ -1,18 +1,15 @@
 -- What is told of an item, part for part.
-use Rattle.std.proofs.Common.{◌≡◌, ℕ, ◌+◌, ◌-◌, ◌<◌, eqb, Bool, true, false, cond, List, [], ◌∷◌, ◌++◌, length, map, Option, Some, None, refl, sym, ap, subst, ◌∙◌, arith, IsTrue}
-use Rattle.std.specs.Prelude.{slice_get, option_map, option_and_then, if◌then◌else◌}
+use Rattle.std.proofs.Common.{◌≡◌, ℕ, ◌-◌, Bool, true, false, List, [], ◌∷◌, ◌++◌, Option, Some, None, sym, ap, ◌∙◌, IsTrue}
+use Rattle.std.specs.Prelude.{slice_get, option_map, if◌then◌else◌}
 use Rattle.std.proofs.lemmas.Option.{slice_get-map}
 use Rattle.cml_text.specs.Forms.{PlainSexpr}
 use Rattle.cml_check.specs.Syntax.{PlainItem}
-use Rattle.cml_scan.specs.declared.meet.Meet.{Meet}
-use Rattle.cml_scan.specs.Scan.{heads_of}
 use Rattle.cml_step.specs.Asks.{PlainAsk}
 use Rattle.cml_step.specs.Calls.{text_of}
 use Rattle.cml_step.specs.Machines.{PlainMachine, machine_term}
 use Rattle.cml_step.specs.Slices.{sliced, sliced_from}
 use Rattle.cml_schedule.specs.declared.item.Item.{Item}
-use Rattle.cml_hub.specs.Runs.{is_empty}
-use Rattle.cml_hub.specs.Courses.{PlainCourse, run_of, Adds, Comes}
+use Rattle.cml_hub.specs.Courses.{PlainCourse, Comes}
 use Rattle.cml_ending.specs.declared.standing.Spot.{Spot}
 use Rattle.cml_ending.specs.declared.takers.Takers.{Takers}
 use Rattle.cml_ending.specs.Standings.{IsSpotOf, call_of_machine}
@@ -20,11 +17,6 @@ use Rattle.cml_ending.specs.Takes.{KnowsTakers, taker_in, last_taker, takes_of}
 use Rattle.cml_narrative.specs.Asked.{asked_words}
 use Rattle.cml_narrative.specs.Tales.{is_fault_ask, Plans}
 use Rattle.cml_narrative.specs.Tellers.{StandsAsking}
-
--- there is no head exactly where there is no row
-pub idle_is : (rows : List Meet) (heads : ℕ) → heads ≡ length (heads_of rows) → eqb heads 0 ≡ is_empty rows
-idle_is [] heads e = ap (λ n. eqb n 0) e
-idle_is (row ∷ rows) heads e = ap (λ n. eqb n 0) e
 
 -- where a thread stands as it asks
 pub fault_stands : (p : List (PlainItem ℕ)) (start : PlainMachine) (a : PlainAsk) (end m : PlainMachine) (steps : ℕ) (spot : Option Spot) → is_fault_ask a ≡ true →

@@ -1,5 +1,5 @@
 -- The line of each item of a run.
-use Rattle.std.specs.Prelude.{◌≡◌, ℕ, ◌+◌, ◌-◌, ◌==◌, Bool, true, false, if◌then◌else◌, List, [], ◌∷◌, ◌++◌, codes, length, Option, Some, None, option_map, option_and_then, slice_get}
+use Rattle.std.specs.Prelude.{◌≡◌, ℕ, ◌-◌, ◌==◌, Bool, true, false, if◌then◌else◌, List, ◌++◌, codes, length, Option, Some, None, option_map, option_and_then, slice_get}
 use Rattle.std.specs.Fmt.{decimal}
 use Rattle.cml_text.specs.Forms.{PlainSexpr}
 use Rattle.cml_value.specs.Value.{PlainFunction}

@@ -49,7 +49,7 @@ turn_why_by w t None = gone_why w t (codes "it has no turn")
 -- why a leaf of a thread can't be taken, where that is so whatever else happens
 abbrev pub leaf_why : ℕ → ℕ → ℕ → Option (List ℕ)
 leaf_why t n count =
-    if nat_lt n count then None else Some (thread_number t ++ (codes " waits for " ++ (decimal count ++ (codes " events, and has none of number " ++ decimal n))))
+    if nat_lt n count then None else Some (thread_number t ++ (codes " waits for no event of number " ++ decimal n))
 
 abbrev pub waiting_why : PlainWorld → ℕ → ℕ → Option PlainGroup → Option (List ℕ)
 waiting_why w t n (Some g) = leaf_why t n (leaf_count g)

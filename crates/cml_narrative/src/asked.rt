@@ -29,12 +29,7 @@ pub(crate) fn push_numbered(
 }
 
 // Appends that an object of this kind is made, which has this number.
-fn push_makes(
-    alloc: Global,
-    out: &mut Vec<u8>,
-    kind: &[u8],
-    number: u32,
-) -> Result<(), AllocError>
+fn push_makes(alloc: Global, out: &mut Vec<u8>, kind: &[u8], number: u32) -> Result<(), AllocError>
     ensures { OnOk result (out.new.items ≡ out.old.items ++ spec.makes_words kind.now number) }
 {
     out.extend_from_slice(b"makes ")?;
@@ -43,11 +38,7 @@ fn push_makes(
 }
 
 // Appends what a new M-variable holds.
-fn push_filled(
-    alloc: Global,
-    out: &mut Vec<u8>,
-    value: &Option<Value>,
-) -> Result<(), AllocError>
+fn push_filled(alloc: Global, out: &mut Vec<u8>, value: &Option<Value>) -> Result<(), AllocError>
     ensures { OnOk result (out.new.items ≡ out.old.items ++ spec.filled_words value.now) }
 {
     match value {

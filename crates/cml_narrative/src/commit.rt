@@ -43,8 +43,11 @@ pub(crate) fn push_named(
     push_thread(alloc, out, forms, who)
 }
 
-// What a thread that waits takes at a leaf of its group, if that is there.
-fn taken_at(
+/// What a thread that waits takes at a leaf of its group, if that is there: the base event, and the nacks that fire.
+///
+/// # Errors
+/// Out of memory.
+pub fn taken_at(
     alloc: Global,
     book: &Book<OfferIndex>,
     thread: Tid,
@@ -104,20 +107,22 @@ fn push_gets(
 fn push_swapped(
     alloc: Global,
     out: &mut Vec<u8>,
-    words: (&[u8], &[u8], &[u8]),
+    verb: &[u8],
     own: &Value,
+    between: &[u8],
     value: Option<&Value>,
+    object: &[u8],
     number: u32,
 ) -> Result<(), AllocError>
     ensures { let held = unwrap_or (option_copied value.entry) unit in
         OnOk result (out.new.items ≡ out.old.items
-        ++ (words.entry.0.now ++ (value_words own.now ++ (words.entry.1.now ++ (value_words held ++ (words.entry.2.now ++ decimal number)))))) }
+        ++ (verb.now ++ (value_words own.now ++ (between.now ++ (value_words held ++ (object.now ++ decimal number)))))) }
 {
-    out.extend_from_slice(words.0)?;
+    out.extend_from_slice(verb)?;
     push_value(alloc, out, own)?;
-    out.extend_from_slice(words.1)?;
+    out.extend_from_slice(between)?;
     push_held(alloc, out, value)?;
-    push_numbered(alloc, out, words.2, u64::from(number))
+    push_numbered(alloc, out, object, u64::from(number))
 }
 
 // Appends a value between words.
@@ -181,8 +186,16 @@ fn push_alone(
         }
         BaseKind::MSwap(m, v) => {
             let held = book.value(Light::MVar(*m));
-            let words = (b" swaps ", b" for ", b" in M-variable ");
-            push_swapped(alloc, out, (words.0, words.1, words.2), v, held, m.0)
+            push_swapped(
+                alloc,
+                out,
+                b" swaps ",
+                v,
+                b" for ",
+                held,
+                b" in M-variable ",
+                m.0,
+            )
         }
         BaseKind::MailRecv(b) => {
             let held = book.value(Light::Mbox(*b));
@@ -230,35 +243,38 @@ fn push_handed(alloc: Global, out: &mut Vec<u8>, base: &Base) -> Result<(), Allo
 fn push_sent(
     alloc: Global,
     out: &mut Vec<u8>,
-    words: (&[u8], &[u8], &[u8]),
+    verb: &[u8],
     value: &Value,
+    object: &[u8],
     number: u32,
+    to: &[u8],
     other: &[u8],
 ) -> Result<(), AllocError>
     ensures { OnOk result (out.new.items ≡ out.old.items
-        ++ (words.entry.0.now ++ (value_words value.now ++ (words.entry.1.now ++ (decimal number ++ (words.entry.2.now ++ other.now)))))) }
+        ++ (verb.now ++ (value_words value.now ++ (object.now ++ (decimal number ++ (to.now ++ other.now)))))) }
 {
-    out.extend_from_slice(words.0)?;
+    out.extend_from_slice(verb)?;
     push_value(alloc, out, value)?;
-    push_numbered(alloc, out, words.1, u64::from(number))?;
-    push_two(out, words.2, other)
+    push_numbered(alloc, out, object, u64::from(number))?;
+    push_two(out, to, other)
 }
 
 // Appends that two values go over a swap channel.
 fn push_exchanged(
     alloc: Global,
     out: &mut Vec<u8>,
-    words: (&[u8], &[u8]),
+    verb: &[u8],
     value: &Value,
+    between: &[u8],
     theirs: &Base,
     behind: &[u8],
 ) -> Result<(), AllocError>
     ensures { OnOk result (out.new.items ≡ out.old.items
-        ++ (words.entry.0.now ++ (value_words value.now ++ (words.entry.1.now ++ (value_words (handed theirs.now) ++ behind.now))))) }
+        ++ (verb.now ++ (value_words value.now ++ (between.now ++ (value_words (handed theirs.now) ++ behind.now))))) }
 {
-    out.extend_from_slice(words.0)?;
+    out.extend_from_slice(verb)?;
     push_value(alloc, out, value)?;
-    out.extend_from_slice(words.1)?;
+    out.extend_from_slice(between)?;
     push_handed(alloc, out, theirs)?;
     out.extend_from_slice(behind)
 }
@@ -269,7 +285,14 @@ fn swap_words(alloc: Global, number: u32, other: &[u8]) -> Result<Vec<u8>, Alloc
         ≡ codes " on swap channel " ++ (decimal number ++ (codes " with " ++ other.now))) }
 {
     let mut words = Vec::new(alloc);
-    push_parts(alloc, &mut words, b" on swap channel ", number, b" with ", other)?;
+    push_parts(
+        alloc,
+        &mut words,
+        b" on swap channel ",
+        number,
+        b" with ",
+        other,
+    )?;
     Ok(words)
 }
 
@@ -302,12 +325,28 @@ fn push_with(
 {
     match base.kind() {
         BaseKind::Send(c, v) => {
-            let words = (b" sends ", b" on channel ", b" to ");
-            push_sent(alloc, out, (words.0, words.1, words.2), v, c.0, other)
+            push_sent(
+                alloc,
+                out,
+                b" sends ",
+                v,
+                b" on channel ",
+                c.0,
+                b" to ",
+                other,
+            )
         }
         BaseKind::Swap(s, v) => {
             let behind = swap_words(alloc, s.0, other)?;
-            push_exchanged(alloc, out, (b" swaps ", b" for "), v, theirs, behind.as_slice())
+            push_exchanged(
+                alloc,
+                out,
+                b" swaps ",
+                v,
+                b" for ",
+                theirs,
+                behind.as_slice(),
+            )
         }
         BaseKind::Always(_)
         | BaseKind::Recv(_)
@@ -332,11 +371,7 @@ fn push_meets(out: &mut Vec<u8>, other: &[u8]) -> Result<(), AllocError>
 }
 
 // Appends these nacks, with a comma before each.
-fn push_more_nacks(
-    alloc: Global,
-    out: &mut Vec<u8>,
-    nacks: &[NackId],
-) -> Result<(), AllocError>
+fn push_more_nacks(alloc: Global, out: &mut Vec<u8>, nacks: &[NackId]) -> Result<(), AllocError>
     ensures { OnOk result (out.new.items ≡ out.old.items
         ++ flat_map spec.and_number (numbers nacks.now)) }
 {
@@ -346,16 +381,28 @@ fn push_more_nacks(
     Ok(())
 }
 
+// Appends words, and these nacks.
+fn push_nacks(
+    alloc: Global,
+    out: &mut Vec<u8>,
+    words: &[u8],
+    first: NackId,
+    more: &[NackId],
+) -> Result<(), AllocError>
+    ensures { OnOk result (out.new.items ≡ out.old.items
+        ++ (words.now ++ (decimal first.0 ++ flat_map spec.and_number (numbers more.now)))) }
+{
+    push_numbered(alloc, out, words, u64::from(first.0))?;
+    push_more_nacks(alloc, out, more)
+}
+
 // Appends the nacks that fire.
 fn push_fired(alloc: Global, out: &mut Vec<u8>, nacks: &[NackId]) -> Result<(), AllocError>
     ensures { OnOk result (out.new.items ≡ out.old.items ++ spec.fired_words (numbers nacks.now)) }
 {
     match nacks {
         [] => out.extend_from_slice(b"; nacks fired: none"),
-        [first, more @ ..] => {
-            push_numbered(alloc, out, b"; nacks fired: ", u64::from(first.0))?;
-            push_more_nacks(alloc, out, more)
-        }
+        [first, more @ ..] => { push_nacks(alloc, out, b"; nacks fired: ", *first, more) }
     }
 }
 
@@ -407,6 +454,41 @@ fn fired_at(taken: &Option<Chosen>) -> &[NackId]
     }
 }
 
+// Appends a commit, of which this is said, and at which these nacks fire.
+fn push_committed(
+    alloc: Global,
+    out: &mut Vec<u8>,
+    said: &[u8],
+    fired: &[NackId],
+) -> Result<(), AllocError>
+    ensures { OnOk result (out.new.items ≡ out.old.items
+        ++ (codes "commit: " ++ (said.now ++ spec.fired_words (numbers fired.now)))) }
+{
+    push_two(out, b"commit: ", said)?;
+    push_fired(alloc, out, fired)
+}
+
+// Appends the commit of one leaf, at which this is taken.
+fn push_single_taken(
+    alloc: Global,
+    out: &mut Vec<u8>,
+    forms: &[Sexpr],
+    hub: &Hub,
+    thread: Tid,
+    taken: &Option<Chosen>,
+) -> Result<(), AllocError>
+    ensures { let began = origins (text_of hub.now.course.program) hub.now.course.items in
+        let took = option_map plain_taken taken.now in
+        OnOk result (out.new.items ≡ out.old.items ++ (codes "commit: "
+        ++ ((spec.named forms.now began thread.0 ++ spec.alone_of forms.now began hub.now.course.world took)
+        ++ spec.fired_words (spec.fired_at took)))) }
+{
+    let mut said = Vec::new(alloc);
+    push_named(alloc, &mut said, forms, hub, thread)?;
+    push_taken(alloc, &mut said, forms, hub, taken)?;
+    push_committed(alloc, out, said.as_slice(), fired_at(taken))
+}
+
 // Appends the commit of one leaf.
 fn push_single(
     alloc: Global,
@@ -421,10 +503,7 @@ fn push_single(
         ++ spec.commit_words forms.now began hub.now.course.world (Meet.Single thread leaf)) }
 {
     let taken = taken_at(alloc, hub.book(), thread, leaf)?;
-    out.extend_from_slice(b"commit: ")?;
-    push_named(alloc, out, forms, hub, thread)?;
-    push_taken(alloc, out, forms, hub, &taken)?;
-    push_fired(alloc, out, fired_at(&taken))
+    push_single_taken(alloc, out, forms, hub, thread, &taken)
 }
 
 // The nacks that two parties fire.
@@ -439,6 +518,32 @@ fn fired_by_both(
     let mut all = Vec::from_slice(alloc, fired_at(ours))?;
     all.extend_from_slice(fired_at(theirs))?;
     Ok(all)
+}
+
+// Appends the commit of two leaves, at which this is taken.
+fn push_pair_taken(
+    alloc: Global,
+    out: &mut Vec<u8>,
+    forms: &[Sexpr],
+    hub: &Hub,
+    threads: (Tid, Tid),
+    ours: &Option<Chosen>,
+    theirs: &Option<Chosen>,
+) -> Result<(), AllocError>
+    ensures { let began = origins (text_of hub.now.course.program) hub.now.course.items in
+        let x = option_map plain_taken ours.now in
+        let y = option_map plain_taken theirs.now in
+        OnOk result (out.new.items ≡ out.old.items ++ (codes "commit: "
+        ++ ((spec.named forms.now began threads.0.0 ++ spec.with_of (spec.named forms.now began threads.1.0) x y)
+        ++ spec.fired_words (spec.fired_at x ++ spec.fired_at y)))) }
+{
+    let mut other = Vec::new(alloc);
+    push_named(alloc, &mut other, forms, hub, threads.1)?;
+    let mut said = Vec::new(alloc);
+    push_named(alloc, &mut said, forms, hub, threads.0)?;
+    push_both(alloc, &mut said, other.as_slice(), ours, theirs)?;
+    let fired = fired_by_both(alloc, ours, theirs)?;
+    push_committed(alloc, out, said.as_slice(), fired.as_slice())
 }
 
 // Appends the commit of two leaves.
@@ -456,13 +561,7 @@ fn push_pair(
 {
     let ours = taken_at(alloc, hub.book(), head.0, head.1)?;
     let theirs = taken_at(alloc, hub.book(), other.0, other.1)?;
-    let mut name = Vec::new(alloc);
-    push_named(alloc, &mut name, forms, hub, other.0)?;
-    let fired = fired_by_both(alloc, &ours, &theirs)?;
-    out.extend_from_slice(b"commit: ")?;
-    push_named(alloc, out, forms, hub, head.0)?;
-    push_both(alloc, out, name.as_slice(), &ours, &theirs)?;
-    push_fired(alloc, out, fired.as_slice())
+    push_pair_taken(alloc, out, forms, hub, (head.0, other.0), &ours, &theirs)
 }
 
 /// Appends what the commit of this row does that comes next in this hub.
@@ -487,6 +586,13 @@ pub(crate) fn push_commit(
             head_leaf,
             other,
             other_leaf,
-        } => push_pair(alloc, out, forms, hub, (head, head_leaf), (other, other_leaf)),
+        } => push_pair(
+            alloc,
+            out,
+            forms,
+            hub,
+            (head, head_leaf),
+            (other, other_leaf),
+        ),
     }
 }

@@ -9,5 +9,6 @@ mod plan;
 mod tell;
 mod why;
 
+pub use commit::taken_at;
 pub use narrator::Narrator;
 pub use why::push_why;

@@ -49,7 +49,7 @@ fn push_could(
     width: usize,
     count: usize,
 ) -> Result<(), AllocError>
-    ensures { OnOk result (out.new.items ≡ out.old.items ++ spec.could_words width rows) }
+    ensures { OnOk result (out.new.items ≡ out.old.items ++ spec.could_words width count) }
 {
     if count == 0 {
         return Ok(());
@@ -66,7 +66,7 @@ pub(crate) fn push_told(
     words: &[u8],
     count: usize,
 ) -> Result<(), AllocError>
-    ensures { OnOk result (out.new.items ≡ out.old.items ++ spec.told_line words.now rows) }
+    ensures { OnOk result (out.new.items ≡ out.old.items ++ spec.told_line words.now count) }
 {
     out.extend_from_slice(words)?;
     push_could(alloc, out, words.len(), count)?;

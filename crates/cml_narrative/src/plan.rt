@@ -75,8 +75,7 @@ fn slice_spot(
 }
 
 // What a thread that runs asks at the end of its next turn.
-#[tactic(auto, using(crate::proofs::TaleLemmas::planned_is))]
-fn planned(
+fn plan_of(
     alloc: Global,
     forms: &[Sexpr],
     hub: &Hub,
@@ -100,8 +99,7 @@ fn planned(
 ///
 /// # Errors
 /// Out of memory.
-#[tactic(auto, using(cml_hub::proofs::Ours::running_is))]
-pub(crate) fn plan(
+pub(crate) fn next_plan(
     alloc: Global,
     forms: &[Sexpr],
     hub: &Hub,
@@ -116,7 +114,7 @@ pub(crate) fn plan(
     }
     match hub.machine(thread) {
         Some(machine) => {
-            let plan = planned(alloc, forms, hub, thread, machine)?;
+            let plan = plan_of(alloc, forms, hub, thread, machine)?;
             Ok(Some(plan))
         }
         None => unreachable!(),

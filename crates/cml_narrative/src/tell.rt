@@ -1,6 +1,6 @@
 //! How the items of a run are told.
 
-ghost use Rattle.std.specs.Prelude.{◌≡◌, ◌++◌, ◌==◌, ◌∷◌, [], ℕ, List, IsTrue, IfOk, OnOk, true, false, length, codes, option_and_then, nat_lt, if◌then◌else◌};
+ghost use Rattle.std.specs.Prelude.{◌≡◌, ◌++◌, ◌==◌, ◌∷◌, [], ℕ, List, IsTrue, IfOk, OnOk, true, false, length, drop, codes, option_and_then, nat_lt, if◌then◌else◌};
 ghost use Rattle.std.specs.Fmt.{decimal};
 ghost use Rattle.cml_hub.specs.Courses.{PlainCourse, TakesRow};
 ghost use Rattle.cml_hub.specs.Kept.{NoneOut, IsFollowed};
@@ -17,7 +17,7 @@ use crate::asked::{push_numbered, push_two};
 use crate::commit::{push_commit, push_named};
 use crate::line::{number_digits, number_words, push_told};
 use crate::narrator::Narrator;
-use crate::plan::{Planned, plan};
+use crate::plan::{Planned, next_plan};
 use cml_ending::{Spot, Takers, push_awaited};
 use cml_hub::{Hub, Item};
 use cml_phrase::{Place, push_line, statement_place, statement_places};
@@ -75,12 +75,7 @@ impl Narrator<'_> {
     /// # Errors
     /// Out of memory.
     #[tactic(auto, using(crate::proofs::TaleLemmas::followed_knows))]
-    pub fn follow(
-        &mut self,
-        alloc: Global,
-        hub: &mut Hub,
-        item: Item,
-    ) -> Result<bool, AllocError>
+    pub fn follow(&mut self, alloc: Global, hub: &mut Hub, item: Item) -> Result<bool, AllocError>
         requires { NoneOut hub.old }
         ensures follows { IfOk result (λ came. IsFollowed hub.old item came hub.new) }
         ensures none_out { NoneOut hub.new }
@@ -211,6 +206,7 @@ impl Narrator<'_> {
     }
 
     // TellsItem a turn.
+    #[tactic(auto, using(crate::proofs::TellLemmas::unfollowed))]
     fn tell_turn(
         &mut self,
         alloc: Global,
@@ -225,7 +221,7 @@ impl Narrator<'_> {
         ensures tale { tale_of self.new ≡ tale_of self.old }
         ensures knows { IfOk result (λ came. IsTrue came → Knows hub.old.course self.old → Knows hub.new.course self.new) }
     {
-        match plan(alloc, self.forms, hub, thread)? {
+        match next_plan(alloc, self.forms, hub, thread)? {
             Some(plan) => self.tell_planned(alloc, hub, out, thread, &plan),
             None => Ok(false),
         }
@@ -248,6 +244,7 @@ impl Narrator<'_> {
         ensures tale { tale_of self.new ≡ tale_of self.old }
         ensures knows { IfOk result (λ came. IsTrue came → Knows hub.old.course self.old → Knows hub.new.course self.new) }
     {
+        let _so_far = hub.schedule();
         let before = could_count(hub);
         let faults = hub.faults();
         let printed = hub.out().len();
@@ -315,6 +312,16 @@ impl Narrator<'_> {
     }
 }
 
+// With how many bytes the line of a fault of a thread begins, before the fault's name.
+fn start_len(alloc: Global, thread: Tid) -> Result<usize, AllocError>
+    ensures { IfOk result (λ len. len
+        ≡ length (codes "thread " ++ (decimal thread.0 ++ codes " fault "))) }
+{
+    let number = thread.0;
+    let text = format!(in alloc; "thread {number} fault ")?;
+    Ok(text.len())
+}
+
 // Appends that the thread of a turn ended at a fault, by the line that was printed behind so many bytes.
 fn push_fault(
     alloc: Global,
@@ -327,21 +334,33 @@ fn push_fault(
         → hub.now.course.output ≡ before ++ output_of thread.0 (fails name)
         → OnOk result (out.new.items ≡ out.old.items ++ (codes "ends at a fault: " ++ name)) }
 {
-    let text = format!(in alloc; "thread {} fault ", thread.0)?;
-    let name = fault_name(hub.out().as_bytes(), printed, text.len());
+    let start = start_len(alloc, thread)?;
+    let name = fault_name(hub.out().as_bytes(), printed, start);
     push_two(out, b"ends at a fault: ", name)?;
     Ok(())
 }
 
+// What is left behind so many bytes.
+fn behind(bytes: &[u8], count: usize) -> &[u8]
+    ensures { result.now ≡ drop count bytes.now }
+{
+    if count < bytes.len() {
+        &bytes[count..]
+    } else {
+        &[]
+    }
+}
+
 // The name of a fault in what was printed: behind so many bytes, and the start of its line, up to the line feed at the end.
+#[tactic(auto, using(crate::proofs::NameLemmas::name_is))]
 fn fault_name(printed: &[u8], from: usize, start: usize) -> &[u8]
     ensures { (before text name : List ℕ) → length before ≡ from → length text ≡ start
         → printed.now ≡ before ++ (text ++ (name ++ 10 ∷ [])) → result.now ≡ name }
 {
-    let at = from.saturating_add(start);
-    if at < printed.len() {
-        &printed[at..printed.len() - 1]
+    let line = behind(behind(printed, from), start);
+    if line.len() == 0 {
+        line
     } else {
-        &[]
+        &line[..line.len() - 1]
     }
 }

@@ -1,9 +1,8 @@
 //! Why an item can't happen, in words.
 
-ghost use Rattle.std.specs.Prelude.{◌≡◌, ◌++◌, IfOk, OnOk, option_map, codes};
+ghost use Rattle.std.specs.Prelude.{◌≡◌, ◌++◌, IfOk, OnOk, option_map};
 ghost use Rattle.std.specs.Option.{option_or};
 ghost use Rattle.std.specs.String.{string_bytes};
-ghost use Rattle.std.specs.Fmt.{decimal};
 ghost use Rattle.std.specs.Option.{option_copied};
 ghost use Rattle.cml_scan.specs.Numbers.{numbers_of};
 ghost use Rattle.cml_hub.specs.Runs.{next_alarm};
@@ -102,26 +101,14 @@ fn leaf_why(
         return Ok(None);
     }
     let mut out = Vec::new(alloc);
-    push_counts(alloc, &mut out, thread.0, b" waits for ", count, b" events, and has none of number ", leaf)?;
+    push_numbered(alloc, &mut out, b"thread ", u64::from(thread.0))?;
+    push_numbered(
+        alloc,
+        &mut out,
+        b" waits for no event of number ",
+        u64::from(leaf),
+    )?;
     Ok(Some(out))
-}
-
-// Appends a thread with words and two numbers.
-fn push_counts(
-    alloc: Global,
-    out: &mut Vec<u8>,
-    thread: u32,
-    words: &[u8],
-    count: usize,
-    more: &[u8],
-    number: u32,
-) -> Result<(), AllocError>
-    ensures { OnOk result (out.new.items ≡ out.old.items
-        ++ (spec.thread_number thread ++ (words.now ++ (decimal count ++ (more.now ++ decimal number))))) }
-{
-    push_numbered(alloc, out, b"thread ", u64::from(thread))?;
-    push_numbered(alloc, out, words, count as u64)?;
-    push_numbered(alloc, out, more, u64::from(number))
 }
 
 // Why a thread that does not run is no party at a leaf, if that is so.
@@ -141,7 +128,13 @@ fn waiting_why(
         }
         None => {
             let mut out = Vec::new(alloc);
-            push_gone(alloc, &mut out, book, thread, b"none of its events can be taken")?;
+            push_gone(
+                alloc,
+                &mut out,
+                book,
+                thread,
+                b"none of its events can be taken",
+            )?;
             Ok(Some(out))
         }
     }
@@ -160,7 +153,12 @@ fn party_why(
         return waiting_why(alloc, book, thread, leaf);
     }
     let mut out = Vec::new(alloc);
-    push_thread_so(alloc, &mut out, thread, b" runs, so none of its events can be taken")?;
+    push_thread_so(
+        alloc,
+        &mut out,
+        thread,
+        b" runs, so none of its events can be taken",
+    )?;
     Ok(Some(out))
 }
 
@@ -232,6 +230,21 @@ fn takes_two(base: Option<&Base>) -> bool
     }
 }
 
+// Appends an event, and what is so of it.
+fn push_base_so(
+    alloc: Global,
+    out: &mut Vec<u8>,
+    forms: &[Sexpr],
+    base: Option<&Base>,
+    so: &[u8],
+) -> Result<(), AllocError>
+    ensures { OnOk result (out.new.items ≡ out.old.items
+        ++ (spec.event_at forms.now (option_copied base.entry) ++ so.now)) }
+{
+    push_base(alloc, out, forms, base)?;
+    out.extend_from_slice(so)
+}
+
 // Appends why one leaf is not taken alone.
 fn push_alone_why(
     alloc: Global,
@@ -242,11 +255,10 @@ fn push_alone_why(
     ensures { OnOk result (out.new.items ≡ out.old.items
         ++ spec.single_why forms.now (option_copied base.entry)) }
 {
-    push_base(alloc, out, forms, base)?;
     if takes_two(base) {
-        out.extend_from_slice(b" can't happen alone")
+        push_base_so(alloc, out, forms, base, b" can't happen alone")
     } else {
-        out.extend_from_slice(b" can't happen now")
+        push_base_so(alloc, out, forms, base, b" can't happen now")
     }
 }
 
@@ -287,25 +299,44 @@ fn parties_why(
     }
 }
 
-// Appends that two leaves do not meet.
-fn push_apart(
+// Appends the event of a leaf of a thread.
+fn push_leaf(
+    alloc: Global,
+    out: &mut Vec<u8>,
+    forms: &[Sexpr],
+    book: &Book<OfferIndex>,
+    leaf: (Tid, u32),
+) -> Result<(), AllocError>
+    ensures { OnOk result (out.new.items ≡ out.old.items
+        ++ spec.event_at forms.now (spec.base_of_leaf book.now leaf.0.0 leaf.1)) }
+{
+    match book.waiting(leaf.0) {
+        Some(group) => {
+            let bases = leaf_bases(alloc, group)?;
+            push_base(alloc, out, forms, bases.get(leaf.1 as usize))
+        }
+        None => push_base(alloc, out, forms, None),
+    }
+}
+
+// Appends the events of two leaves, with these words between them.
+fn push_leaves(
     alloc: Global,
     out: &mut Vec<u8>,
     forms: &[Sexpr],
     book: &Book<OfferIndex>,
     head: (Tid, u32),
+    between: &[u8],
     other: (Tid, u32),
 ) -> Result<(), AllocError>
     ensures { OnOk result (out.new.items ≡ out.old.items
         ++ (spec.event_at forms.now (spec.base_of_leaf book.now head.0.0 head.1)
-        ++ (codes " does not meet "
+        ++ (between.now
         ++ spec.event_at forms.now (spec.base_of_leaf book.now other.0.0 other.1)))) }
 {
-    let ours = base_of_leaf(alloc, book, head.0, head.1)?;
-    let theirs = base_of_leaf(alloc, book, other.0, other.1)?;
-    push_base(alloc, out, forms, ours.as_ref())?;
-    out.extend_from_slice(b" does not meet ")?;
-    push_base(alloc, out, forms, theirs.as_ref())
+    push_leaf(alloc, out, forms, book, head)?;
+    out.extend_from_slice(between)?;
+    push_leaf(alloc, out, forms, book, other)
 }
 
 // Appends why two leaves of threads that wait do not meet.
@@ -331,7 +362,7 @@ fn push_no_pair(
     } else if head.0.0 == other.0.0 {
         push_thread_so(alloc, out, head.0, b" can't meet itself")
     } else {
-        push_apart(alloc, out, forms, book, head, other)
+        push_leaves(alloc, out, forms, book, head, b" does not meet ", other)
     }
 }
 
@@ -371,7 +402,14 @@ fn push_row_why(
             head_leaf,
             other,
             other_leaf,
-        } => push_pair_why(alloc, out, forms, book, (head, head_leaf), (other, other_leaf)),
+        } => push_pair_why(
+            alloc,
+            out,
+            forms,
+            book,
+            (head, head_leaf),
+            (other, other_leaf),
+        ),
     }
 }
 
@@ -394,6 +432,7 @@ fn push_swap_why(
 }
 
 // The first thread that runs, if one does.
+#[tactic(auto, using(crate::proofs::WhyLemmas::runs_first, crate::proofs::WhyLemmas::none_first))]
 fn first_running(book: &Book<OfferIndex>) -> Option<Tid>
     ensures { option_map (λ t. t.0) result ≡ spec.first_running 0 book.now.threads }
 {
@@ -406,20 +445,27 @@ fn first_running(book: &Book<OfferIndex>) -> Option<Tid>
 }
 
 // Appends for which tick a thread waits next, if one does.
-fn push_alarm_why(
-    alloc: Global,
-    out: &mut Vec<u8>,
-    book: &Book<OfferIndex>,
-) -> Result<(), AllocError>
-    ensures { OnOk result (out.new.items ≡ out.old.items
-        ++ spec.alarm_why (next_alarm book.now)) }
+fn push_next_tick(alloc: Global, out: &mut Vec<u8>, next: Option<u64>) -> Result<(), AllocError>
+    ensures { OnOk result (out.new.items ≡ out.old.items ++ spec.alarm_why next) }
 {
-    match book.next_alarm() {
+    match next {
         Some(next) => {
-            push_numbered(alloc, out, b"the next tick for which a thread waits is ", next)
+            push_numbered(
+                alloc,
+                out,
+                b"the next tick for which a thread waits is ",
+                next,
+            )
         }
         None => out.extend_from_slice(b"no thread waits for a tick to come"),
     }
+}
+
+// The next tick for which a thread waits.
+fn next_tick(book: &Book<OfferIndex>) -> Option<u64>
+    ensures { result ≡ next_alarm book.now }
+{
+    book.next_alarm()
 }
 
 // Appends why the time does not move to a tick.
@@ -435,7 +481,7 @@ fn push_still_why(
         Some(thread) => push_thread_so(alloc, out, thread, b" runs, so the time stands still"),
         None => {
             if book.table().head_count() == 0 {
-                push_alarm_why(alloc, out, book)
+                push_next_tick(alloc, out, next_tick(book))
             } else {
                 out.extend_from_slice(b"something else can happen, so the time stands still")
             }

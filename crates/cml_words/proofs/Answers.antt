@@ -9,7 +9,7 @@ use Rattle.clap.specs.declared.parser.matches.ArgMatches.{ArgMatches}
 use Rattle.cml_words.specs.declared.Answer.{Answer}
 use Rattle.cml_words.specs.declared.Answer.TheVariants as answer
 use Rattle.cml_words.specs.declared.Task.{Task}
-use Rattle.cml_words.specs.Words.{commands, faults, IsAnswer, IsTask, AnswersError, AnswersTask, ReplacesScript}
+use Rattle.cml_words.specs.Words.{commands, faults, IsAnswer, IsTask, AnswersError, AnswersTask, AreAtOdds}
 
 commands_are_simple : is_simple_and_free commands ≡ true
 unfolding clap_on_literals
@@ -43,7 +43,7 @@ IsAnswer-error words kind (answer.Fault text) (inr here) says = inl (kind, here,
 -- and the answer to a command that they name is one too
 pub IsAnswer-task : (words : List (List ℕ)) (task : Task) (a : Answer) → IsTask words task → AnswersTask task a → IsAnswer words a
 IsAnswer-task words task (answer.Task same) is says =
-    (subst (λ (t : Task). IsTask words t) (sym says.0) is, λ replaces. says.1 (subst ReplacesScript says.0 replaces))
+    (subst (λ (t : Task). IsTask words t) (sym says.0) is, λ told odds. says.1 told (subst (λ (t : Task). AreAtOdds t told) says.0 odds))
 IsAnswer-task words task (answer.Help text) is says = absurd says
 IsAnswer-task words task (answer.Fault text) is says =
-    inr (says.0, subst (λ (t : Task). IsTask words t) says.1 is, says.2, says.3)
+    inr (task, is, says)

@@ -167,6 +167,11 @@ pub steps_count : (o : Option ℕ) → IfSome o IsCount → IsCount (unwrap_or o
 steps_count None within = (omega arith, omega arith)
 steps_count (Some n) within = within
 
+-- and that of the first item, which is 1 where none was given
+pub first_count : (o : Option ℕ) → IfSome o IsCount → IsCount (unwrap_or o 1)
+first_count None within = (omega arith, omega arith)
+first_count (Some n) within = within
+
 -- and the number of workers, which is 1 where none was given
 pub workers_count : (o : Option ℕ) → IfSome o IsWorkers → IsWorkers (unwrap_or o 1)
 workers_count None within = (omega arith, omega arith)

@@ -21,6 +21,7 @@ use Rattle.cml_words.specs.declared.Answer.TheVariants as answer
 use Rattle.cml_words.specs.declared.Explain.{Explain}
 use Rattle.cml_words.specs.declared.Explain.TheVariants.{Asked, Off, Unsaid}
 use Rattle.cml_words.specs.declared.EndOptions.{EndOptions}
+use Rattle.cml_words.specs.declared.ExplainOptions.{ExplainOptions}
 use Rattle.cml_words.specs.declared.FileOptions.{FileOptions}
 use Rattle.cml_words.specs.declared.ReplayOptions.{ReplayOptions}
 use Rattle.cml_words.specs.declared.RunOptions.{RunOptions}
@@ -72,7 +73,7 @@ abbrev pub command_of : Text → List Rule → Shape
 command_of name rules = record (new_app name).top { rules = rules }
 
 abbrev pub trace_command : Shape
-trace_command = command_of (codes "trace") (flag_rule (codes "live") ∷ [])
+trace_command = command_of (codes "trace") (flag_rule (codes "live") ∷ explain_rules)
 
 -- a command that takes a file alone
 abbrev pub file_command : Text → Shape
@@ -85,6 +86,9 @@ run_command = command_of (codes "run")
 abbrev pub replay_command : Shape
 replay_command = command_of (codes "replay") (file_rule (codes "FILE") ∷ file_rule (codes "SCHEDULE") ∷ count_rule (codes "watch") ∷ end_rules ++ explain_rules)
 
+abbrev pub explain_command : Shape
+explain_command = command_of (codes "explain") (file_rule (codes "FILE") ∷ file_rule (codes "SCHEDULE") ∷ count_rule (codes "from") ∷ count_rule (codes "to") ∷ [])
+
 -- the program, with its commands, of which one must be named
 abbrev pub commands : App
 commands = record {
@@ -94,6 +98,7 @@ commands = record {
       ∷ file_command (codes "fmt")
       ∷ run_command
       ∷ replay_command
+      ∷ explain_command
       ∷ [];
 }
 
@@ -133,8 +138,9 @@ abbrev pub IsWorkers : ℕ → Type 0
 IsWorkers = IsInRange 1 64
 
 -- the options of `trace` are what was given
-abbrev pub IsTrace : List Row → TraceOptions → Type 0
-IsTrace given options = options.live ≡ is_flagged (codes "live") given
+pub record IsTrace (given : List Row) (options : TraceOptions) : Type 0 where
+  pub live : options.live ≡ is_flagged (codes "live") given
+  pub explain : options.explain ≡ explanation given
 
 -- the options of a command that takes a file alone are what was given
 pub record IsFile (given : List Row) (options : FileOptions) : Type 0 where
@@ -167,6 +173,14 @@ pub record IsReplay (given : List Row) (options : ReplayOptions) : Type 0 where
   pub explain : options.explain ≡ explanation given
   pub counts : IfSome options.watch IsCount
 
+-- and those of `explain`; where no first item was given, the first of all
+pub record IsExplain (given : List Row) (options : ExplainOptions) : Type 0 where
+  pub script : first_of (codes "FILE") given ≡ Some options.script.now
+  pub schedule : first_of (codes "SCHEDULE") given ≡ Some options.schedule.now
+  pub first : options.from ≡ unwrap_or (option_number (codes "from") given) 1
+  pub last : options.to ≡ option_number (codes "to") given
+  pub counts : IsCount options.from × IfSome options.to IsCount
+
 -- The command that was named, with the values that it was given, is this one.
 abbrev pub Names : Text × List Row → Task → Type 0
 Names (name, given) (task_of.Trace options) = (name ≡ codes "trace") × IsTrace given options
@@ -174,37 +188,42 @@ Names (name, given) (task_of.Check options) = (name ≡ codes "check") × IsFile
 Names (name, given) (task_of.Fmt options) = (name ≡ codes "fmt") × IsFile given options
 Names (name, given) (task_of.Run options) = (name ≡ codes "run") × IsRun given options
 Names (name, given) (task_of.Replay options) = (name ≡ codes "replay") × IsReplay given options
+Names (name, given) (task_of.Explain options) = (name ≡ codes "explain") × IsExplain given options
 
 -- the record would be saved under the name of the script: both are given by the same text
 abbrev pub Replaces : RunOptions → Type 0
 Replaces options = option_map (λ name. name.now) options.record ≡ Some options.file.now
 
--- the record of the command would replace its script
-abbrev pub ReplacesScript : Task → Type 0
-ReplacesScript (task_of.Run options) = Replaces options
-ReplacesScript _ = ⊥
+-- a trace is to be explained whose lines are answered at once
+abbrev pub ExplainsLive : TraceOptions → Type 0
+ExplainsLive options = (options.live ≡ true) × (options.explain ≡ Asked)
 
--- what is said of a record that would replace this script
+-- what is said of a record that would replace this script, and of such a trace
 abbrev pub would_replace : List ℕ → List ℕ
 would_replace name = codes "--record would replace " ++ name ++ codes "\n"
+
+abbrev pub live_is_not_explained : List ℕ
+live_is_not_explained = codes "--explain can't be used with --live\n"
+
+-- the options of the command are at odds, and this says so: its record would replace its script, or a live trace is to be explained
+abbrev pub AreAtOdds : Task → List ℕ → Type 0
+AreAtOdds (task_of.Run options) told = Replaces options × (told ≡ would_replace options.file.now)
+AreAtOdds (task_of.Trace options) told = ExplainsLive options × (told ≡ live_is_not_explained)
+AreAtOdds _ told = ⊥
 
 -- clap finds no error in the arguments, and they name this command
 abbrev pub IsTask : List (List ℕ) → Task → Type 0
 IsTask words task = (faults words ≡ []) × IsSomeAnd (subcommand_of commands words) (λ named. Names named task)
 
--- the arguments name a command whose record would replace its script, and this says so
-abbrev pub IsReplacing : List (List ℕ) → List ℕ → Type 0
-IsReplacing words told =
-    (options : RunOptions) × IsTask words (task_of.Run options) × Replaces options × (told ≡ would_replace options.file.now)
-
--- The answer is a command only where clap finds no error and the arguments name it, and its record would not replace its script; help only
--- where a request for help or for the version is among the kinds of error; and a fault only where another kind is among them, or where clap
--- finds none and the record would replace the script.
+-- The answer is a command only where clap finds no error and the arguments name it, and its options are not at odds; help only where a
+-- request for help or for the version is among the kinds of error; and a fault only where another kind is among them, or where clap finds
+-- none and the options of the command are at odds, which is said.
 abbrev pub IsAnswer : List (List ℕ) → Answer → Type 0
-IsAnswer words (answer.Task task) = IsTask words task × (ReplacesScript task → ⊥)
+IsAnswer words (answer.Task task) = IsTask words task × ((told : List ℕ) → AreAtOdds task told → ⊥)
 IsAnswer words (answer.Help text) = IsAmong DisplayHelp (faults words) ⊎ IsAmong DisplayVersion (faults words)
 IsAnswer words (answer.Fault text) =
-    ((kind : ErrorKind) × IsAmong kind (faults words) × (kind ≢ DisplayHelp) × (kind ≢ DisplayVersion)) ⊎ IsReplacing words (string_bytes text)
+    ((kind : ErrorKind) × IsAmong kind (faults words) × (kind ≢ DisplayHelp) × (kind ≢ DisplayVersion))
+    ⊎ ((task : Task) × IsTask words task × AreAtOdds task (string_bytes text))
 
 -- ---- what private functions ask for
 
@@ -235,12 +254,16 @@ is_complete app None = false
 is_complete app (Some named) =
     option_map_or (λ command. list_all (is_served named.1) command.rules) (find (λ command. bytes_eq command.name named.0) app.subs) false
 
--- The answer to arguments that name this command: it, or where its record would replace its script that this is so.
+-- The answer to arguments that name this command: it, or where its options are at odds that this is so.
 abbrev pub AnswersTask : Task → Answer → Type 0
-AnswersTask task (answer.Task same) = (same ≡ task) × (ReplacesScript task → ⊥)
+AnswersTask task (answer.Task same) = (same ≡ task) × ((told : List ℕ) → AreAtOdds task told → ⊥)
 AnswersTask task (answer.Help text) = ⊥
-AnswersTask task (answer.Fault text) =
-    (options : RunOptions) × (task ≡ task_of.Run options) × Replaces options × (string_bytes text ≡ would_replace options.file.now)
+AnswersTask task (answer.Fault text) = AreAtOdds task (string_bytes text)
+
+-- what is said of the options of this command, where they are at odds
+abbrev pub AreOdds : Task → Option (List ℕ) → Type 0
+AreOdds task (Some told) = AreAtOdds task told
+AreOdds task None = (told : List ℕ) → AreAtOdds task told → ⊥
 
 -- the answer to an error of this kind
 abbrev pub AnswersError : ErrorKind → Answer → Type 0

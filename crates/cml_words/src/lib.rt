@@ -1,14 +1,14 @@
 //! What the arguments of the program's command line ask for.
 #![tactic(auto)]
 
-ghost use Rattle.std.specs.Prelude.{◌≡◌, ◌↔◌, [], ◌∷◌, codes, false, true, is_some, map, IfOk, IsSomeAnd, IsTrue, Some};
+ghost use Rattle.std.specs.Prelude.{◌≡◌, ◌↔◌, [], ◌∷◌, codes, false, true, is_some, map, option_map, IfOk, IsSomeAnd, IsTrue, Some};
 ghost use Rattle.std.specs.List.{list_all};
 ghost use Rattle.std.specs.String.{string_bytes};
 ghost use Rattle.clap.specs.Words.{app_of, first_of, found_of, kind_of, rows_of, rule_of, shape_of, subcommand_rows_of};
 ghost use Rattle.clap.specs.declared.builder.command.Command.TheViews.{out-Command};
-ghost use Rattle.cml_words.specs.Words.{any_rule, command_of, commands, count_rule, file_command, file_rule, flag_rule, list_rule, option_rule, replay_command, run_command, trace_command, with_end, with_explain, workers_rule};
+ghost use Rattle.cml_words.specs.Words.{any_rule, command_of, commands, count_rule, explain_command, file_command, file_rule, flag_rule, list_rule, option_rule, replay_command, run_command, trace_command, with_end, with_explain, workers_rule};
 ghost use Rattle.cml_words.specs.Words.{end_rules, explain_rules, explanation, explains, is_complete, is_flagged, is_served, option_number, option_texts};
-ghost use Rattle.cml_words.specs.Words.{AnswersError, AnswersTask, IsAnswer, IsEnd, IsFile, IsReplay, IsRun, IsTrace, Names, Replaces};
+ghost use Rattle.cml_words.specs.Words.{AnswersError, AnswersTask, AreOdds, ExplainsLive, IsAnswer, IsEnd, IsExplain, IsFile, IsReplay, IsRun, IsTrace, Names, Replaces};
 
 use clap::error::ErrorKind;
 use clap::{Arg, ArgAction, ArgMatches, Command, Error, value_parser};
@@ -60,6 +60,8 @@ pub enum Task<'a> {
     Run(RunOptions<'a>),
     /// Runs a script again, by the schedule that a run recorded.
     Replay(ReplayOptions<'a>),
+    /// Says what happens in a run, by its schedule.
+    Explain(ExplainOptions<'a>),
 }
 
 /// How a trace is answered.
@@ -67,6 +69,8 @@ pub enum Task<'a> {
 pub struct TraceOptions {
     /// Whether each line is answered as soon as it has been read.
     pub live: bool,
+    /// Whether what is wrong with it is explained.
+    pub explain: Explain,
 }
 
 /// How a file is read.
@@ -123,6 +127,19 @@ pub struct ReplayOptions<'a> {
     pub explain: Explain,
 }
 
+/// Of which items of a schedule it is said what happens.
+#[derive(Clone, Copy, PartialEq, Eq)]
+pub struct ExplainOptions<'a> {
+    /// The file of the script.
+    pub script: &'a str,
+    /// The file of the schedule.
+    pub schedule: &'a str,
+    /// The first item, from 1 to 1,000,000,000; where the arguments give no number, 1.
+    pub from: u64,
+    /// The last item, from 1 to 1,000,000,000; without it that of the schedule.
+    pub to: Option<u64>,
+}
+
 /// What the arguments ask for.
 #[derive(Drop)]
 pub enum Answer<'a> {
@@ -150,17 +167,30 @@ pub fn read_words<'a>(alloc: Global, words: &'a [String]) -> Result<Answer<'a>, 
     }
 }
 
-// The task, unless its record would replace its script, which is the last of the faults that arguments can have.
+// The task, unless its options are at odds, which is the last of the faults that arguments can have.
 fn answer_to_task<'a>(alloc: Global, task: Task<'a>) -> Result<Answer<'a>, AllocError>
     ensures { IfOk result (AnswersTask task.entry) }
 {
-    if let Task::Run(options) = &task
-        && replaces(options)
-    {
-        let name = options.file;
-        return Ok(Answer::Fault(format!(in alloc; "--record would replace {name}\n")?));
+    match told_odds(alloc, &task)? {
+        Some(told) => Ok(Answer::Fault(told)),
+        None => Ok(Answer::Task(task)),
     }
-    Ok(Answer::Task(task))
+}
+
+// What is said of the options of the task, where they are at odds.
+fn told_odds(alloc: Global, task: &Task<'_>) -> Result<Option<String>, AllocError>
+    ensures { IfOk result (λ told. AreOdds task.now (option_map (λ text. string_bytes text) told)) }
+{
+    match task {
+        Task::Run(options) if replaces(options) => {
+            let name = options.file;
+            Ok(Some(format!(in alloc; "--record would replace {name}\n")?))
+        }
+        Task::Trace(options) if explains_live(*options) => {
+            Ok(Some(format!(in alloc; "--explain can't be used with --live\n")?))
+        }
+        _ => Ok(None),
+    }
 }
 
 // Whether the record would replace the script.
@@ -171,6 +201,13 @@ fn replaces(options: &RunOptions<'_>) -> bool
         Some(name) => name == options.file,
         None => false,
     }
+}
+
+// Whether a trace is to be explained whose lines are answered at once.
+fn explains_live(options: TraceOptions) -> bool
+    ensures { IsTrue result ↔ ExplainsLive options }
+{
+    options.live && options.explain == Explain::Asked
 }
 
 // The command that the arguments named, with what it was given.
@@ -187,6 +224,7 @@ fn task_of<'a>(alloc: Global, matches: &ArgMatches<'a>) -> Result<Task<'a>, Allo
         "fmt" => Ok(Task::Fmt(file_options(below))),
         "run" => Ok(Task::Run(run_options(alloc, below)?)),
         "replay" => Ok(Task::Replay(replay_options(alloc, below)?)),
+        "explain" => Ok(Task::Explain(explain_options(below))),
         _ => unreachable!(),
     }
 }
@@ -198,6 +236,7 @@ fn trace_options(matches: &ArgMatches<'_>) -> TraceOptions
 {
     TraceOptions {
         live: flag(matches, "live"),
+        explain: explain_option(matches),
     }
 }
 
@@ -246,6 +285,20 @@ fn replay_options<'a>(
         end,
         explain: explain_option(matches),
     })
+}
+
+// What `explain` was given.
+fn explain_options<'a>(matches: &ArgMatches<'a>) -> ExplainOptions<'a>
+    requires { list_all (is_served (rows_of (found_of matches.now))) explain_command.rules ≡ true }
+    ensures { IsExplain (rows_of (found_of matches.now)) result }
+{
+    let schedule = given(matches, "SCHEDULE");
+    ExplainOptions {
+        script: given(matches, "FILE"),
+        schedule,
+        from: number(matches, "from").unwrap_or(1),
+        to: number(matches, "to"),
+    }
 }
 
 // What is said of threads that are left at the end.
@@ -336,6 +389,7 @@ fn command<'a>(alloc: Global) -> Result<Command<'a>, AllocError>
     let fmt = file_alone(alloc, "fmt", "Prints the forms of a text, each on a line")?;
     let run = run(alloc)?;
     let replay = replay(alloc)?;
+    let explain = explain_run(alloc)?;
     Command::new(alloc, "cml")
         .about("Events of Concurrent ML: answers traces of commands, and checks and runs scripts")
         .subcommand_required(true)
@@ -343,7 +397,8 @@ fn command<'a>(alloc: Global) -> Result<Command<'a>, AllocError>
         .subcommand(check)?
         .subcommand(fmt)?
         .subcommand(run)?
-        .subcommand(replay)
+        .subcommand(replay)?
+        .subcommand(explain)
 }
 
 // The command that answers a trace.
@@ -356,9 +411,10 @@ fn trace<'a>(alloc: Global) -> Result<Command<'a>, AllocError>
         "live",
         "Answers each line as soon as it has been read",
     );
-    Command::new(alloc, "trace")
+    let command = Command::new(alloc, "trace")
         .about("Answers the commands on standard input")
-        .arg(live)
+        .arg(live)?;
+    explaining(alloc, command)
 }
 
 // The command that runs a script.
@@ -402,6 +458,34 @@ fn replay<'a>(alloc: Global) -> Result<Command<'a>, AllocError>
     .arg(watch)?;
     let ended = ending(alloc, command)?;
     explaining(alloc, ended)
+}
+
+// The command that says what happens in a run.
+fn explain_run<'a>(alloc: Global) -> Result<Command<'a>, AllocError>
+    ensures shape { IfOk result (λ command. shape_of command ≡ explain_command) }
+    ensures globals { IfOk result (λ command. (out-Command command).has_globals ≡ false) }
+{
+    let schedule = file(alloc, "SCHEDULE");
+    let from = count(
+        alloc,
+        "from",
+        "I",
+        "The first item that is explained, 1 to 1000000000 [default: 1]",
+    );
+    let to = count(
+        alloc,
+        "to",
+        "J",
+        "The last item that is explained, 1 to 1000000000 [default: all]",
+    );
+    on_file(
+        alloc,
+        "explain",
+        "Says what happens in a run, by a schedule that was saved",
+    )?
+    .arg(schedule)?
+    .arg(from)?
+    .arg(to)
 }
 
 // A command that takes a file alone.

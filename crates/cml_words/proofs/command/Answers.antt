@@ -1,7 +1,7 @@
 use Rattle.std.proofs.Common.{rules, ◌≡◌, ◌∙◌, ap₂, codes, true, []}
 use Rattle.std.proofs.lemmas.Result.{IfOk-weaker}
 use Rattle.clap.specs.Words.{App, app_of, new_app, with_subcommand}
-use Rattle.cml_words.specs.Words.{file_command, run_command, trace_command}
+use Rattle.cml_words.specs.Words.{file_command, replay_command, run_command, trace_command}
 use Rattle.cml_words.proofs.command.Goals as goal
 
 -- the program without its commands, and with the first of them
@@ -20,6 +20,9 @@ three = with_subcommand two (file_command (codes "fmt"))
 abbrev four : App
 four = with_subcommand three run_command
 
+abbrev five : App
+five = with_subcommand four replay_command
+
 pub returns : goal.returns
 returns c =
     let is_none : app_of c.subcommand_required.result ≡ none = search rules in
@@ -30,4 +33,6 @@ returns c =
     c.in_ok-subcommand-3.ensures.shape c.in_ok-fmt.ensures.globals ∙ ap₂ with_subcommand is_two c.in_ok-fmt.ensures.shape in
     let is_four : app_of c.in_ok-subcommand-4.field-0 ≡ four =
     c.in_ok-subcommand-4.ensures.shape c.in_ok-run.ensures.globals ∙ ap₂ with_subcommand is_three c.in_ok-run.ensures.shape in
-    IfOk-weaker c.subcommand-5.result _ _ (λ command added. added.shape c.in_ok-replay.ensures.globals ∙ ap₂ with_subcommand is_four c.in_ok-replay.ensures.shape) c.subcommand-5.ensures
+    let is_five : app_of c.in_ok-subcommand-5.field-0 ≡ five =
+    c.in_ok-subcommand-5.ensures.shape c.in_ok-replay.ensures.globals ∙ ap₂ with_subcommand is_four c.in_ok-replay.ensures.shape in
+    IfOk-weaker c.subcommand-6.result _ _ (λ command added. added.shape c.in_ok-explain.ensures.globals ∙ ap₂ with_subcommand is_five c.in_ok-explain.ensures.shape) c.subcommand-6.ensures

@@ -70,4 +70,16 @@ unreachable-requires-in_default-name c =
     let below = found_of c.in-Some.below.now in
     let complete = named_complete found c.in-Some.name.now below (search rules) c.in-Some.ensures.rows c.requires in
     let other = c.in_default-name in
-    no_other c.in-Some.name.now (rows_of below) complete other.not-trace other.not-check other.not-fmt other.not-run other.not-replay
+    no_other c.in-Some.name.now (rows_of below) complete other.not-trace other.not-check other.not-fmt other.not-run other.not-replay other.not-explain
+
+pub explain_options-requires : goal.explain_options-requires
+explain_options-requires c =
+    let found = subcommand_rows_of c.args.matches.now in
+    let below = found_of c.in-Some.below.now in
+    named_complete found (codes "explain") below (search rules) c.in-Some.ensures.rows c.requires
+
+pub returns-in-explain : goal.returns-in-explain
+returns-in-explain c =
+    let found = subcommand_rows_of c.args.matches.now in
+    let below = found_of c.in-Some.below.now in
+    named_task found (codes "explain") below (task_of.Explain c.explain_options.result) (search rules) c.in-Some.ensures.rows (refl, c.explain_options.ensures)

@@ -1,0 +1,3 @@
+mod Heights
+mod ThreadLemmas
+mod Walks

@@ -1,0 +1,10 @@
+use Rattle.std.proofs.Common.{codes}
+use Rattle.std.specs.String.{string_bytes}
+use Rattle.cml_refused.specs.Whys.{by_number}
+use Rattle.cml_refused.proofs.ThreadLemmas.{on_three}
+use Rattle.cml_refused.proofs.why.push_past.Goals as goal
+
+pub returns : goal.returns
+returns c =
+    on_three c.push_words-2.result (string_bytes c.args.text.now) (by_number (codes "thread") c.args.t) (codes " has ended, so it can't ") c.args.what.now _ _ _
+    c.in_ok-push_called.ensures c.in_ok-push_words.ensures c.push_words-2.ensures
