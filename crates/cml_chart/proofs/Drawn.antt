@@ -15,6 +15,7 @@ use Rattle.cml_chart.proofs.Pieces.{Pieces, pieces-append, pieces-ascii, pieces-
 use Rattle.cml_chart.proofs.Contents.{Attributes, attributes-and, attributes-one, attributes-none, right_element, Contents, contents-none, contents-append, contents-pieces, contents-flat_map, contents-lone, contents-element}
 
 title-drawn : (title : List ℕ) → Contents (title_text title)
+unfolding title_text
 title-drawn title = contents-element (codes "title") [] [] (escaped title) refl refl attributes-none (contents-pieces (escaped title) (pieces-escaped title))
 
 words-drawn : (class : List ℕ) (s : PlainSpot) (words : List ℕ) → Pieces class → Pieces s.right → Pieces s.down → Contents (words_text class s words)
@@ -39,6 +40,7 @@ toward-drawn : (verb : List ℕ) (n : ℕ) → Pieces verb → Pieces (verb ++ d
 toward-drawn verb n v = pieces-append verb (decimal n) v (pieces-decimal n)
 
 cover-drawn : (f : PlainFrame) (m : PlainMark) → Contents (cover_text f m)
+unfolding cover_text
 cover-drawn f m =
     let high = pieces-append (decimal (row_height m.shape)) (codes "H0z") (pieces-decimal (row_height m.shape)) (pieces-ascii (codes "H0z") refl) in
     let down = pieces-append (codes "v") _ (pieces-ascii (codes "v") refl) high in
@@ -46,6 +48,7 @@ cover-drawn f m =
     path-drawn (codes "cover") 0 m.at _ (pieces-ascii (codes "cover") refl) (pieces-append (codes "H") _ (pieces-ascii (codes "H") refl) wide)
 
 note-drawn : (f : PlainFrame) (m : PlainMark) → Contents (note_text f m)
+unfolding note_text
 note-drawn f m =
     elim (m.item == 0) as (λ b. Contents (if b then [] else words_text (codes "note") (record { x = f.margin; y = level_of m; right = codes "-8"; down = codes "4" }) (note_of m))) [
       | true ↦ contents-none
@@ -56,6 +59,7 @@ across-drawn : (class : List ℕ) (y from to : ℕ) → Pieces class → Content
 across-drawn class y from to c = path-drawn class from y (codes "H" ++ decimal to) c (toward-drawn (codes "H") to (pieces-ascii (codes "H") refl))
 
 line-drawn : (s : Shape) (f : PlainFrame) (m : PlainMark) → Contents (line_text s f m)
+unfolding line_text
 line-drawn Spawn f m = across-drawn (codes "spawn") _ _ _ (pieces-ascii (codes "spawn") refl)
 line-drawn Arrow f m = across-drawn (codes "arrow") _ _ _ (pieces-ascii (codes "arrow") refl)
 line-drawn Tick f m = across-drawn (codes "tick") _ _ _ (pieces-ascii (codes "tick") refl)
@@ -108,6 +112,7 @@ sign_path-drawn Event b = pieces-ascii ([]) refl
 sign_path-drawn Lost b = pieces-ascii ([]) refl
 
 sign-drawn : (f : PlainFrame) (m : PlainMark) → Contents (sign_text f m)
+unfolding sign_text
 sign-drawn f m =
     elim (has_sign m.shape) as (λ b. Contents (if b then path_text (sign_class m.shape) (line_at f.edges m.other) (level_of m) (sign_path m.shape (nat_lt m.thread m.other)) else [])) [
       | true ↦ path-drawn (sign_class m.shape) (line_at f.edges m.other) (level_of m) (sign_path m.shape (nat_lt m.thread m.other)) (class-drawn m.shape) (sign_path-drawn m.shape (nat_lt m.thread m.other))
@@ -163,6 +168,7 @@ down-drawn Event = pieces-ascii (codes "4") refl
 down-drawn Lost = pieces-ascii (codes "4") refl
 
 said-drawn : (f : PlainFrame) (m : PlainMark) → Contents (said_text f m)
+unfolding said_text
 said-drawn f m =
     elim (has_words m.shape) as (λ b. Contents (if b then words_text (words_class m.shape) (words_spot f m) m.words else [])) [
       | true ↦ words-drawn (words_class m.shape) (words_spot f m) m.words (words_class-drawn m.shape) (right-drawn m.shape) (down-drawn m.shape)
@@ -173,6 +179,7 @@ line_feed : Contents (codes "\n")
 line_feed = contents-pieces (codes "\n") (pieces-ascii (codes "\n") refl)
 
 parts-drawn : (f : PlainFrame) (m : PlainMark) → Contents (parts_text f m)
+unfolding parts_text
 parts-drawn f m =
     let signed = contents-append (sign_text f m) (said_text f m) (sign-drawn f m) (said-drawn f m) in
     let lined = contents-append (line_text m.shape f m) _ (line-drawn m.shape f m) signed in
@@ -181,6 +188,7 @@ parts-drawn f m =
     contents-append (title_text m.title) _ (title-drawn m.title) covered
 
 mark-drawn : (f : PlainFrame) (m : PlainMark) → Contents (mark_text f m)
+unfolding mark_text
 mark-drawn f m =
     contents-append (element (codes "g") [] (parts_text f m)) (codes "\n") (contents-element (codes "g") [] [] (parts_text f m) refl refl attributes-none (parts-drawn f m)) line_feed
 
@@ -191,6 +199,7 @@ life-of-drawn f m =
     line_feed
 
 life-drawn : (s : Shape) (f : PlainFrame) (m : PlainMark) → Contents (life_text s f m)
+unfolding life_text
 life-drawn End f m = life-of-drawn f m
 life-drawn Fault f m = life-of-drawn f m
 life-drawn Waits f m = life-of-drawn f m
@@ -207,10 +216,12 @@ life-drawn Event f m = contents-none
 life-drawn Lost f m = contents-none
 
 style-drawn : Contents style_text
+unfolding style_text
 style-drawn =
     contents-element (codes "style") _ _ style_rules refl refl (attributes-one (codes "type") (codes "text/css") (pieces-ascii (codes "text/css") refl)) (contents-pieces style_rules (pieces-ascii style_rules refl))
 
 content-drawn : (name : List ℕ) (f : PlainFrame) (marks : List PlainMark) → Contents (content_text name f marks)
+unfolding content_text
 content-drawn name f marks =
     let lives = contents-flat_map (λ m. life_text m.shape f m) marks (λ m. life-drawn m.shape f m) in
     let drawn = contents-append _ (flat_map (mark_text f) marks) lives (contents-flat_map (mark_text f) marks (λ m. mark-drawn f m)) in
@@ -230,6 +241,7 @@ root-drawn f =
 
 -- each picture is well-formed
 pub picture_well_formed : (name : List ℕ) (threads : ℕ) (marks : List PlainMark) (height : ℕ) (bytes : List ℕ) → bytes ≡ picture_text name threads marks height → IsWellFormed bytes
+unfolding framed_text
 picture_well_formed name threads marks height bytes is =
     let f = frame_of threads marks height in
     let a = root-drawn f in

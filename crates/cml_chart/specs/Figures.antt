@@ -28,15 +28,15 @@ path_text class x y rest =
     lone_element (codes "path") (attribute (codes "class") class ++ attribute (codes "d") (codes "M" ++ (decimal x ++ (codes " " ++ (decimal y ++ rest)))))
 
 -- what a mouse shows
-abbrev pub title_text : List ℕ → List ℕ
+unfoldable pub title_text : List ℕ → List ℕ
 title_text title = element (codes "title") [] (escaped title)
 
 -- the whole row of a mark, unseen, for the mouse
-abbrev pub cover_text : PlainFrame → PlainMark → List ℕ
+unfoldable pub cover_text : PlainFrame → PlainMark → List ℕ
 cover_text f m = path_text (codes "cover") 0 m.at (codes "H" ++ (decimal f.width ++ (codes "v" ++ (decimal (row_height m.shape) ++ codes "H0z"))))
 
 -- the number of the item, in the margin
-abbrev pub note_text : PlainFrame → PlainMark → List ℕ
+unfoldable pub note_text : PlainFrame → PlainMark → List ℕ
 note_text f m =
     if m.item == 0 then [] else words_text (codes "note") (record { x = f.margin; y = level_of m; right = codes "-8"; down = codes "4" }) (note_of m)
 
@@ -44,7 +44,7 @@ note_text f m =
 abbrev pub across_text : List ℕ → ℕ → ℕ → ℕ → List ℕ
 across_text class y from to = path_text class from y (codes "H" ++ decimal to)
 
-abbrev pub line_text : Shape → PlainFrame → PlainMark → List ℕ
+unfoldable pub line_text : Shape → PlainFrame → PlainMark → List ℕ
 line_text Spawn f m = across_text (codes "spawn") (level_of m) (line_at f.edges m.thread) (line_at f.edges m.other)
 line_text Arrow f m = across_text (codes "arrow") (level_of m) (line_at f.edges m.thread) (line_at f.edges m.other)
 line_text Tick f m = across_text (codes "tick") (level_of m) f.margin f.width
@@ -89,7 +89,7 @@ sign_path Runs from_left = codes "m-5-3l5 8l5-8"
 sign_path shape from_left = []
 
 -- the thread on whose line the sign stands: the one that the mark leads to
-abbrev pub sign_text : PlainFrame → PlainMark → List ℕ
+unfoldable pub sign_text : PlainFrame → PlainMark → List ℕ
 sign_text f m = if has_sign m.shape then path_text (sign_class m.shape) (line_at f.edges m.other) (level_of m) (sign_path m.shape (nat_lt m.thread m.other)) else []
 
 -- which marks have words in a column
@@ -124,22 +124,22 @@ words_down shape = codes "4"
 abbrev pub words_spot : PlainFrame → PlainMark → PlainSpot
 words_spot f m = record { x = line_at f.edges (seat_of m.shape m.thread m.other); y = level_of m; right = words_right m.shape; down = words_down m.shape }
 
-abbrev pub said_text : PlainFrame → PlainMark → List ℕ
+unfoldable pub said_text : PlainFrame → PlainMark → List ℕ
 said_text f m = if has_words m.shape then words_text (words_class m.shape) (words_spot f m) m.words else []
 
 -- the parts of a mark
-abbrev pub parts_text : PlainFrame → PlainMark → List ℕ
+unfoldable pub parts_text : PlainFrame → PlainMark → List ℕ
 parts_text f m =
     title_text m.title ++ (cover_text f m ++ (note_text f m ++ (line_text m.shape f m ++ (sign_text f m ++ said_text f m))))
 
-abbrev pub mark_text : PlainFrame → PlainMark → List ℕ
+unfoldable pub mark_text : PlainFrame → PlainMark → List ℕ
 mark_text f m = element (codes "g") [] (parts_text f m) ++ codes "\n"
 
 -- the line of a thread, down to a mark at which it ends
 abbrev pub life_of : PlainFrame → PlainMark → List ℕ
 life_of f m = path_text (codes "life") (line_at f.edges m.thread) (line_at f.tops m.thread) (codes "V" ++ decimal (level_of m)) ++ codes "\n"
 
-abbrev pub life_text : Shape → PlainFrame → PlainMark → List ℕ
+unfoldable pub life_text : Shape → PlainFrame → PlainMark → List ℕ
 life_text End f m = life_of f m
 life_text Fault f m = life_of f m
 life_text Waits f m = life_of f m

@@ -11,7 +11,7 @@ use Rattle.cml_chart.specs.Figures.{title_text, mark_text, life_text}
 abbrev pub style_rules : List ℕ
 style_rules = codes "svg{background:#fff}text{font:11px monospace}path{fill:none;stroke:#000}.head{font-weight:bold}.note{fill:#555;text-anchor:end}.print{fill:#333;font-style:italic}.lost{fill:#c00;font-weight:bold}.cover{stroke:none;pointer-events:all}.life{stroke:#777}.spawn{stroke-width:.8;stroke-dasharray:2 2}.tick{stroke:#777;stroke-dasharray:7 5}.arrow{stroke-width:1.5}.solid{fill:#000;stroke:none}.bar{stroke-width:3}.waits{fill:#fff;stroke-width:1.5}.stuck{fill:#fff;stroke:#c00;stroke-width:3}"
 
-abbrev pub style_text : List ℕ
+unfoldable pub style_text : List ℕ
 style_text = element (codes "style") (attribute (codes "type") (codes "text/css")) style_rules
 
 abbrev pub box_words : PlainFrame → List ℕ
@@ -34,11 +34,11 @@ abbrev pub declaration : List ℕ
 declaration = codes "<?xml version='1.0' encoding='UTF-8'?>\n"
 
 -- what is in a picture of this name: how it looks, the lines of the threads, and the marks over them
-abbrev pub content_text : List ℕ → PlainFrame → List PlainMark → List ℕ
+unfoldable pub content_text : List ℕ → PlainFrame → List PlainMark → List ℕ
 content_text name f marks =
     title_text name ++ (style_text ++ (codes "\n" ++ (flat_map (λ m. life_text m.shape f m) marks ++ flat_map (mark_text f) marks)))
 
-abbrev pub framed_text : List ℕ → PlainFrame → List PlainMark → List ℕ
+unfoldable pub framed_text : List ℕ → PlainFrame → List PlainMark → List ℕ
 framed_text name f marks = declaration ++ (element (codes "svg") (root_attributes f) (content_text name f marks) ++ codes "\n")
 
 -- a picture of this name, of so many threads, with these marks, and of this height

@@ -32,6 +32,7 @@ fn cover_data(alloc: Global, frame: &Frame, height: u32) -> Result<Vec<u8>, Allo
 }
 
 // Appends the whole row of a mark, unseen, for the mouse.
+#[tactic(auto, unfolding(crate::specs::Figures::cover_text))]
 fn push_cover(
     alloc: Global,
     out: &mut Vec<u8>,
@@ -46,6 +47,7 @@ fn push_cover(
 }
 
 // Appends the number of the item, in the margin.
+#[tactic(auto, unfolding(crate::specs::Figures::note_text))]
 fn push_note(alloc: Global, out: &mut Vec<u8>, frame: &Frame, mark: &Mark) -> Result<(), AllocError>
     ensures { OnOk result (out.new.items ≡ out.old.items
         ++ spec.note_text (plain_frame frame.now) (plain_mark mark.now)) }
@@ -79,6 +81,7 @@ fn push_across(
 }
 
 // Appends the line that leads from one thread to another, or across the picture.
+#[tactic(auto, unfolding(crate::specs::Figures::line_text))]
 fn push_line(alloc: Global, out: &mut Vec<u8>, frame: &Frame, mark: &Mark) -> Result<(), AllocError>
     ensures { OnOk result (out.new.items ≡ out.old.items
         ++ spec.line_text mark.now.shape (plain_frame frame.now) (plain_mark mark.now)) }
@@ -179,6 +182,7 @@ fn sign_path(shape: Shape, from_left: bool) -> &'static [u8]
 }
 
 // Appends the sign of a mark.
+#[tactic(auto, unfolding(crate::specs::Figures::sign_text))]
 fn push_sign(alloc: Global, out: &mut Vec<u8>, frame: &Frame, mark: &Mark) -> Result<(), AllocError>
     ensures { OnOk result (out.new.items ≡ out.old.items
         ++ spec.sign_text (plain_frame frame.now) (plain_mark mark.now)) }
@@ -280,6 +284,7 @@ fn words_down(shape: Shape) -> &'static [u8]
 }
 
 // Appends the words of a mark.
+#[tactic(auto, unfolding(crate::specs::Figures::said_text))]
 fn push_said(alloc: Global, out: &mut Vec<u8>, frame: &Frame, mark: &Mark) -> Result<(), AllocError>
     ensures { OnOk result (out.new.items ≡ out.old.items
         ++ spec.said_text (plain_frame frame.now) (plain_mark mark.now)) }
@@ -303,6 +308,7 @@ fn push_said(alloc: Global, out: &mut Vec<u8>, frame: &Frame, mark: &Mark) -> Re
 }
 
 // Appends the parts of a mark.
+#[tactic(auto, unfolding(crate::specs::Figures::parts_text))]
 fn push_parts(
     alloc: Global,
     out: &mut Vec<u8>,
@@ -321,6 +327,7 @@ fn push_parts(
 }
 
 /// Appends a mark.
+#[tactic(auto, unfolding(crate::specs::Figures::mark_text))]
 pub(crate) fn push_mark(
     alloc: Global,
     out: &mut Vec<u8>,
@@ -353,6 +360,7 @@ fn push_life_of(
 }
 
 /// Appends the line of a thread, if it ends at the mark.
+#[tactic(auto, unfolding(crate::specs::Figures::life_text))]
 pub(crate) fn push_life(
     alloc: Global,
     out: &mut Vec<u8>,

@@ -18,6 +18,7 @@ const STYLE: &[u8] =
     b"svg{background:#fff}text{font:11px monospace}path{fill:none;stroke:#000}.head{font-weight:bold}.note{fill:#555;text-anchor:end}.print{fill:#333;font-style:italic}.lost{fill:#c00;font-weight:bold}.cover{stroke:none;pointer-events:all}.life{stroke:#777}.spawn{stroke-width:.8;stroke-dasharray:2 2}.tick{stroke:#777;stroke-dasharray:7 5}.arrow{stroke-width:1.5}.solid{fill:#000;stroke:none}.bar{stroke-width:3}.waits{fill:#fff;stroke-width:1.5}.stuck{fill:#fff;stroke:#c00;stroke-width:3}";
 
 // Appends how each class looks.
+#[tactic(auto, unfolding(crate::specs::Pictures::style_text))]
 fn push_style(out: &mut Vec<u8>) -> Result<(), AllocError>
     ensures { OnOk result (out.new.items ≡ out.old.items ++ spec.style_text) }
 {
@@ -93,6 +94,7 @@ fn push_marks(
 }
 
 // Appends what is in the picture: its name, how it looks, the lines of the threads, and the marks.
+#[tactic(auto, unfolding(crate::specs::Pictures::content_text))]
 fn push_content(
     alloc: Global,
     out: &mut Vec<u8>,
@@ -111,6 +113,7 @@ fn push_content(
 }
 
 // A picture of this name in this frame.
+#[tactic(auto, unfolding(crate::specs::Pictures::framed_text))]
 fn framed_picture(
     alloc: Global,
     name: &str,
@@ -135,7 +138,6 @@ fn framed_picture(
 ///
 /// # Errors
 /// Out of memory.
-#[tactic(auto, using(crate::proofs::Drawn::picture_well_formed))]
 pub fn picture_of(
     alloc: Global,
     name: &str,

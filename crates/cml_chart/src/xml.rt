@@ -146,6 +146,7 @@ pub(crate) fn push_words(
 }
 
 /// Appends what a mouse shows.
+#[tactic(auto, unfolding(crate::specs::Figures::title_text))]
 pub(crate) fn push_title(alloc: Global, out: &mut Vec<u8>, title: &[u8]) -> Result<(), AllocError>
     ensures { OnOk result (out.new.items ≡ out.old.items ++ title_text title.now) }
 {
