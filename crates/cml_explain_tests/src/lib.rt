@@ -5,9 +5,13 @@ pub mod budgets;
 #[cfg(test)]
 mod endings;
 #[cfg(test)]
+mod faults;
+#[cfg(test)]
 mod making;
 #[cfg(test)]
 mod narratives;
+#[cfg(test)]
+mod refusals;
 #[cfg(test)]
 mod scripts;
 #[cfg(test)]

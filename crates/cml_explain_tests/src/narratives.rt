@@ -303,6 +303,32 @@ fn planned(rt: &(impl Abort + AllocGlobal), items: &str) -> Plan {
         .expect(rt, items)
 }
 
+// What is told, and why the item after it can't happen.
+#[derive(Drop)]
+struct Story {
+    told: Vec<u8>,
+    why: Vec<u8>,
+}
+
+// One item more: told in the range, else followed. Returns whether it came.
+fn goes_on(
+    rt: &(impl Abort + AllocGlobal),
+    narrator: &mut Narrator<'_>,
+    hub: &mut Hub,
+    out: &mut Vec<u8>,
+    item: Item,
+    is_told: bool,
+) -> bool
+    requires { NoneOut hub.old }
+    ensures { NoneOut hub.new }
+{
+    if is_told {
+        narrator.tell(rt.alloc(), hub, out, item).expect(rt, MEMORY)
+    } else {
+        narrator.follow(rt.alloc(), hub, item).expect(rt, MEMORY)
+    }
+}
+
 // Tells the items in the range, as far as they can happen. Returns what is told, and why the next one can't happen.
 fn tell_all(
     rt: &(impl Abort + AllocGlobal),
@@ -311,7 +337,7 @@ fn tell_all(
     forms: &[Sexpr],
     items: &[Item],
     range: (usize, usize),
-) -> (Vec<u8>, Vec<u8>)
+) -> Story
     requires { NoneOut hub.old }
 {
     let mut told = Vec::new(rt.alloc());
@@ -319,17 +345,18 @@ fn tell_all(
     let mut number: usize = 0;
     for item in items {
         number = number.saturating_add(1);
-        let came = if range.0 <= number && number <= range.1 {
-            narrator.tell(rt.alloc(), hub, &mut told, *item).expect(rt, MEMORY)
-        } else {
-            narrator.follow(rt.alloc(), hub, *item).expect(rt, MEMORY)
-        };
-        if !came {
+        let is_told = range.0 <= number && number <= range.1;
+        if !goes_on(rt, narrator, hub, &mut told, *item, is_told) {
             push_why(rt.alloc(), &mut why, forms, hub, item).expect(rt, MEMORY);
-            return (told, why);
+            break;
         }
     }
-    (told, why)
+    Story { told, why }
+}
+
+// What was said is this.
+fn says(rt: &impl Abort, said: &[u8], expected: &str) {
+    assert!(rt; said == expected.as_bytes(), "{expected}");
 }
 
 #[test]
@@ -341,15 +368,15 @@ fn tells_what_happened(rt: HostRuntime) {
         let mut hub = Hub::begin(rt.alloc(), program, 1000, None)
             .ok()
             .expect(&rt, MEMORY);
-        let items = plan.items.as_slice();
-        let mut narrator = Narrator::new(rt.alloc(), case.script.as_bytes(), forms.as_slice(), items.len())
+        let text = case.script.as_bytes();
+        let count = plan.items.len();
+        let mut narrator = Narrator::new(rt.alloc(), text, forms.as_slice(), count)
             .expect(&rt, MEMORY);
-        let (told, why) = tell_all(&rt, &mut narrator, &mut hub, forms.as_slice(), items, case.range);
-        let said = String::from_utf8_lossy(rt.alloc(), told.as_slice()).expect(&rt, MEMORY);
-        assert!(rt; told.as_slice() == case.told.as_bytes(), "{said}");
-        assert!(rt; why.as_slice() == case.why.as_bytes(), "{said}");
-        drop(why);
-        drop(told);
+        let items = plan.items.as_slice();
+        let story = tell_all(&rt, &mut narrator, &mut hub, forms.as_slice(), items, case.range);
+        says(&rt, story.told.as_slice(), case.told);
+        says(&rt, story.why.as_slice(), case.why);
+        drop(story);
         drop(narrator);
         drop(hub);
         drop(plan);

@@ -55,8 +55,8 @@ abbrev pub waiting_why : PlainWorld → ℕ → ℕ → Option PlainGroup → Op
 waiting_why w t n (Some g) = leaf_why t n (leaf_count g)
 waiting_why w t n None = Some (gone_why w t (codes "none of its events can be taken"))
 
-abbrev pub party_why : PlainWorld → ℕ → ℕ → Option (List ℕ)
-party_why w t n =
+abbrev pub party_reason : PlainWorld → ℕ → ℕ → Option (List ℕ)
+party_reason w t n =
     if is_running w t then Some (thread_number t ++ codes " runs, so none of its events can be taken") else waiting_why w t n (waits_on w t)
 
 -- an event, if it is there
@@ -90,13 +90,13 @@ pair_why forms w h i o j =
     else if h.0 == o.0 then thread_number h.0 ++ codes " can't meet itself"
     else event_at forms (base_of_leaf w h.0 i) ++ (codes " does not meet " ++ event_at forms (base_of_leaf w o.0 j))
 
-abbrev pub row_why : List PlainSexpr → PlainWorld → Meet → List ℕ
-row_why forms w (Single t n) = else_words (party_why w t.0 n) (single_why forms (base_of_leaf w t.0 n))
-row_why forms w (Pair h i o j) = else_words (option_or (party_why w h.0 i) (party_why w o.0 j)) (pair_why forms w h i o j)
+abbrev pub row_reason : List PlainSexpr → PlainWorld → Meet → List ℕ
+row_reason forms w (Single t n) = else_words (party_reason w t.0 n) (single_why forms (base_of_leaf w t.0 n))
+row_reason forms w (Pair h i o j) = else_words (option_or (party_reason w h.0 i) (party_reason w o.0 j)) (pair_why forms w h i o j)
 
 -- why a row is not taken as an exchange
 abbrev pub swap_why : List PlainSexpr → PlainWorld → Meet → List ℕ
-swap_why forms w row = if has_row (scan w) row then codes "it is no swap, and can happen as a commit" else row_why forms w row
+swap_why forms w row = if has_row (scan w) row then codes "it is no swap, and can happen as a commit" else row_reason forms w row
 
 -- the first of these threads that runs, of which the first has this number
 abbrev pub first_running : ℕ → List PlainThread → Option ℕ
@@ -114,7 +114,7 @@ still_why w (Some t) = thread_number t ++ codes " runs, so the time stands still
 
 abbrev pub item_why : List PlainSexpr → PlainWorld → Item → List ℕ
 item_why forms w (Turn t) = turn_why_by w t.0 (waits_on w t.0)
-item_why forms w (Commit row) = row_why forms w row
+item_why forms w (Commit row) = row_reason forms w row
 item_why forms w (Exchange row) = swap_why forms w row
 item_why forms w (Clock tick) = still_why w (first_running 0 w.threads)
 

@@ -141,13 +141,13 @@ fn waiting_why(
 }
 
 // Why a thread is no party at a leaf, if that is so whatever else happens.
-fn party_why(
+fn party_reason(
     alloc: Global,
     book: &Book<OfferIndex>,
     thread: Tid,
     leaf: u32,
 ) -> Result<Option<Vec<u8>>, AllocError>
-    ensures { IfOk result (λ why. option_map (λ words. words.items) why ≡ spec.party_why book.now thread.0 leaf) }
+    ensures { IfOk result (λ why. option_map (λ words. words.items) why ≡ spec.party_reason book.now thread.0 leaf) }
 {
     if !book.is_running(thread) {
         return waiting_why(alloc, book, thread, leaf);
@@ -272,9 +272,9 @@ fn push_single_why(
     leaf: u32,
 ) -> Result<(), AllocError>
     ensures { OnOk result (out.new.items ≡ out.old.items
-        ++ spec.row_why forms.now book.now (Meet.Single thread leaf)) }
+        ++ spec.row_reason forms.now book.now (Meet.Single thread leaf)) }
 {
-    match party_why(alloc, book, thread, leaf)? {
+    match party_reason(alloc, book, thread, leaf)? {
         Some(why) => out.extend_from_slice(why.as_slice()),
         None => {
             let base = base_of_leaf(alloc, book, thread, leaf)?;
@@ -291,11 +291,11 @@ fn parties_why(
     other: (Tid, u32),
 ) -> Result<Option<Vec<u8>>, AllocError>
     ensures { IfOk result (λ why. option_map (λ words. words.items) why
-        ≡ option_or (spec.party_why book.now head.0.0 head.1) (spec.party_why book.now other.0.0 other.1)) }
+        ≡ option_or (spec.party_reason book.now head.0.0 head.1) (spec.party_reason book.now other.0.0 other.1)) }
 {
-    match party_why(alloc, book, head.0, head.1)? {
+    match party_reason(alloc, book, head.0, head.1)? {
         Some(why) => Ok(Some(why)),
-        None => party_why(alloc, book, other.0, other.1),
+        None => party_reason(alloc, book, other.0, other.1),
     }
 }
 
@@ -376,7 +376,7 @@ fn push_pair_why(
     other: (Tid, u32),
 ) -> Result<(), AllocError>
     ensures { OnOk result (out.new.items ≡ out.old.items
-        ++ spec.row_why forms.now book.now (Meet.Pair head.0 head.1 other.0 other.1)) }
+        ++ spec.row_reason forms.now book.now (Meet.Pair head.0 head.1 other.0 other.1)) }
 {
     match parties_why(alloc, book, head, other)? {
         Some(why) => out.extend_from_slice(why.as_slice()),
@@ -393,7 +393,7 @@ fn push_row_why(
     row: &Meet,
 ) -> Result<(), AllocError>
     ensures { OnOk result (out.new.items ≡ out.old.items
-        ++ spec.row_why forms.now book.now row.now) }
+        ++ spec.row_reason forms.now book.now row.now) }
 {
     match *row {
         Meet::Single { tid, leaf } => push_single_why(alloc, out, forms, book, tid, leaf),

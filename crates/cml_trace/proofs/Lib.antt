@@ -5,6 +5,7 @@ mod AnswerLemmas
 mod DoneLemmas
 mod EngineLemmas
 mod LiveLemmas
+mod ExplainedLemmas
 mod FormLemmas
 mod LineLemmas
 mod OneAnswerLemmas

@@ -13,13 +13,13 @@ use Rattle.cml_trace.specs.Answers.{answer_to, after_order, trace_lines, Answers
 use Rattle.cml_trace.specs.Laws.{OneAnswer, HasOneAnswer}
 use Rattle.cml_trace.proofs.AnswerLemmas.{has_answer}
 
-asks_one : SpellsOneAtMost → (first : List ℕ) (a b : Order) → AsksFor first a → AsksFor first b → a ≡ b
+pub asks_one : SpellsOneAtMost → (first : List ℕ) (a b : Order) → AsksFor first a → AsksFor first b → a ≡ b
 asks_one once first a b x y =
     let same : order_of x.0 ≡ order_of y.0 = ap order_of (once first x.0 y.0 x.1 y.1) in
     let there : Some a ≡ Some b = sym x.2 ∙ same ∙ y.2 in
     cc
 
-asks_not_bad : SpellsOneAtMost → SpelledHasNoFault → (first : List ℕ) (a : Order) → AsksFor first a → IsBad first → ⊥
+pub asks_not_bad : SpellsOneAtMost → SpelledHasNoFault → (first : List ℕ) (a : Order) → AsksFor first a → IsBad first → ⊥
 asks_not_bad once faultless first a x (inl f) =
     let clash : None ≡ Some f.0 = sym (faultless first x.0 x.1) ∙ f.1 in cc
 asks_not_bad once faultless first a x (inr y) =

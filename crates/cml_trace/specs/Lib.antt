@@ -11,4 +11,6 @@ pub mod Pages
 pub mod Runs
 pub mod Faults
 pub mod Live
+pub mod Bads
+pub mod Explained
 pub mod Laws

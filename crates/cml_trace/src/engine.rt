@@ -7,6 +7,8 @@ ghost use Rattle.cml_scan.specs.World.{PlainWorld};
 ghost use Rattle.cml_book.specs.Step.{replies_of, world_after, empty_world};
 ghost use Rattle.cml_trace.specs.Answers.{trace_lines, max_input};
 ghost use Rattle.cml_stream.specs.Counts.{Calls, most_reads};
+ghost use Rattle.std.specs.String.{string_bytes};
+ghost use Rattle.cml_trace.specs.Explained.{IsExplained};
 ghost use Rattle.cml_trace.specs.Faults.{HasCause, IsWriteFailure};
 ghost use Rattle.cml_trace.specs.Lines.{TraceLines};
 ghost use Rattle.cml_trace.specs.Pages.{Tells, TellsStart};
@@ -15,6 +17,7 @@ ghost use Rattle.cml_stream.specs.Streams.{stream, Takes, TakesStart};
 ghost use Rattle.cml_trace.specs.Runs.{AreAnswered, AreBegun, AreWritten, AreWrittenTo, IsAnswered, IsBroken};
 
 use crate::batch::{Batch, Stop, gather};
+use crate::explained::explain_trace;
 use crate::fault::{TraceEnd, TraceFault};
 use crate::line::Lines;
 use crate::page::Page;
@@ -87,6 +90,43 @@ pub fn run_trace_over<T: Table + Drop, R: Read, W: Write>(
         return Ok(TraceEnd::TooLong);
     }
     answer(alloc, table, input.as_slice(), writer)
+}
+
+/// Answers a trace as [`run_trace`] does, and then appends what is told of it: why commands were refused, and why a line is bad.
+///
+/// # Errors
+/// Those of [`run_trace`].
+pub fn run_trace_explained<R: Read, W: Write>(
+    alloc: Global,
+    told: &mut String,
+    reader: &mut Counting<'_, R>,
+    writer: &mut Counting<'_, W>,
+) -> Result<TraceEnd, TraceFault>
+    requires nothing { string_bytes told.old ≡ [] }
+    requires uncalled { (reader.old.calls ≡ 0) × (reader.old.failed ≡ 0) × (writer.old.calls ≡ 0) × (writer.old.failed ≡ 0) }
+    ensures ok { let input = stream (R.remaining reader.old.stream.now) (R.remaining reader.new.stream.now) in
+        let output = stream (W.contents writer.old.stream.now) (W.contents writer.new.stream.now) in
+        IfOk result (IsAnswered input output) }
+    ensures told { let input = stream (R.remaining reader.old.stream.now) (R.remaining reader.new.stream.now) in
+        OnOk result (IsExplained input (string_bytes told.new)) }
+    ensures err { let input = stream (R.remaining reader.old.stream.now) (R.remaining reader.new.stream.now) in
+        let output = stream (W.contents writer.old.stream.now) (W.contents writer.new.stream.now) in
+        IfErr result (IsBroken input output) }
+    ensures cause { let reads : Calls = record { calls = reader.new.calls; failed = reader.new.failed } in
+        let writes : Calls = record { calls = writer.new.calls; failed = writer.new.failed } in
+        HasCause result reads writes }
+    ensures reads { reader.new.calls ≤ most_reads max_input }
+    ensures same { (reader.new.stream.ghost_name ≡ reader.old.stream.ghost_name) × (writer.new.stream.ghost_name ≡ writer.old.stream.ghost_name) }
+{
+    let input = read_all(alloc, reader, MAX_INPUT)?;
+    if input.len() > MAX_INPUT {
+        write_out(writer, b"too long\n")?;
+        told.push_str("a trace has at most 1048576 bytes; with --live there is no limit\n")?;
+        return Ok(TraceEnd::TooLong);
+    }
+    let end = answer(alloc, OfferIndex::new(alloc), input.as_slice(), writer)?;
+    explain_trace(alloc, told, input.as_slice())?;
+    Ok(end)
 }
 
 // Answers a trace that is not too long.

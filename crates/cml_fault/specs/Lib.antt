@@ -1,0 +1,6 @@
+pub mod Failures
+pub mod Frames
+pub mod VariableLines
+pub mod Blocks
+pub mod Views
+pub mod Faulted

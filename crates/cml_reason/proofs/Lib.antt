@@ -1,0 +1,4 @@
+pub mod ChoiceLemmas
+pub mod BlameLemmas
+pub mod StepLemmas
+pub mod PieceLemmas

@@ -1,0 +1,5 @@
+pub mod Wanted
+pub mod Given
+pub mod Blamed
+pub mod Reasons
+pub mod Views
