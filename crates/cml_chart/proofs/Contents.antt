@@ -1,9 +1,8 @@
 -- Which texts are what stands in an element.
-use Rattle.std.proofs.Common.{◌≡◌, ℕ, true, ◌&&◌, List, [], ◌∷◌, ◌++◌, refl, sym, ap, ◌∙◌, append_assoc, append-nil, map}
-use Rattle.std.specs.Prelude.{codes, IsTrue}
-use Rattle.std.specs.List.{flat_map, list_all}
+use Rattle.std.proofs.Common.{◌≡◌, ℕ, true, List, [], ◌∷◌, ◌++◌, refl, sym, ap, ◌∙◌, append_assoc, append-nil, map}
+use Rattle.std.specs.List.{flat_map}
 use Rattle.cml_chart.specs.Xml.{attribute, element, lone_element}
-use Rattle.cml_chart.specs.WellFormed.{Piece, piece_text, Attribute, HaveValues, attribute_text, is_name, are_names, IsElement, Content, nothing, texts, lone, holds, written, IsContent}
+use Rattle.cml_chart.specs.WellFormed.{piece_text, Attribute, HaveValues, attribute_text, is_name, are_names, IsElement, Content, nothing, texts, lone, holds, written, IsContent}
 use Rattle.cml_chart.proofs.Pieces.{Pieces}
 
 -- attributes of these names

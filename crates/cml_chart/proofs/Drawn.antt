@@ -1,16 +1,16 @@
 -- What is drawn is well-formed.
-use Rattle.std.proofs.Common.{◌≡◌, ℕ, Bool, true, false, nat_lt, if◌then◌else◌, ◌==◌, List, [], ◌∷◌, ◌++◌, refl, sym, ap, ◌∙◌}
+use Rattle.std.proofs.Common.{◌≡◌, ℕ, Bool, true, false, nat_lt, if◌then◌else◌, ◌==◌, List, [], ◌∷◌, ◌++◌, refl, ap, ◌∙◌}
 use Rattle.std.specs.Prelude.{codes}
 use Rattle.std.specs.List.{flat_map}
 use Rattle.std.specs.Fmt.{decimal}
 use Rattle.cml_chart.specs.declared.mark.Shape.{Shape}
 use Rattle.cml_chart.specs.declared.mark.Shape.TheVariants.{Head, Spawn, Arrow, Dot, Tick, Print, Nack, End, Fault, Waits, Stuck, Runs, Event, Lost}
-use Rattle.cml_chart.specs.Xml.{escaped, attribute, element, lone_element}
+use Rattle.cml_chart.specs.Xml.{escaped, element}
 use Rattle.cml_chart.specs.Marks.{PlainMark, row_height}
 use Rattle.cml_chart.specs.Frames.{PlainFrame, frame_of, line_at, level_of, note_of}
-use Rattle.cml_chart.specs.Figures.{PlainSpot, spot_attributes, words_text, path_text, title_text, cover_text, note_text, across_text, line_text, has_sign, sign_class, arrow_head, sign_path, sign_text, has_words, words_class, words_right, words_down, words_spot, said_text, parts_text, mark_text, life_of, life_text}
-use Rattle.cml_chart.specs.Pictures.{declaration, style_rules, style_text, box_words, size_attributes, root_attributes, content_text, framed_text, picture_text}
-use Rattle.cml_chart.specs.WellFormed.{IsWellFormed, attribute_text, written}
+use Rattle.cml_chart.specs.Figures.{PlainSpot, words_text, path_text, title_text, cover_text, note_text, across_text, line_text, has_sign, sign_class, arrow_head, sign_path, sign_text, has_words, words_class, words_right, words_down, words_spot, said_text, parts_text, mark_text, life_of, life_text}
+use Rattle.cml_chart.specs.Pictures.{declaration, style_rules, style_text, box_words, root_attributes, content_text, framed_text, picture_text}
+use Rattle.cml_chart.specs.WellFormed.{IsWellFormed, attribute_text}
 use Rattle.cml_chart.proofs.Pieces.{Pieces, pieces-append, pieces-ascii, pieces-decimal, pieces-escaped}
 use Rattle.cml_chart.proofs.Contents.{Attributes, attributes-and, attributes-one, attributes-none, right_element, Contents, contents-none, contents-append, contents-pieces, contents-flat_map, contents-lone, contents-element}
 

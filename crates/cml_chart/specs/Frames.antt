@@ -1,8 +1,8 @@
 -- Where the lines of threads stand in a picture: each column is as wide as the longest words that stand in it.
-use Rattle.std.specs.Prelude.{ℕ, ◌+◌, ◌*◌, ◌==◌, max, min, nat_lt, if◌then◌else◌, List, [], ◌∷◌, ◌++◌, codes, fold, length, replicate, slice_get, slice_set, unwrap_or}
+use Rattle.std.specs.Prelude.{ℕ, ◌+◌, ◌*◌, ◌==◌, max, min, nat_lt, if◌then◌else◌, List, [], ◌∷◌, ◌++◌, codes, fold, replicate, slice_get, slice_set, unwrap_or}
 use Rattle.std.specs.Fmt.{decimal}
 use Rattle.cml_chart.specs.declared.mark.Shape.{Shape}
-use Rattle.cml_chart.specs.declared.mark.Shape.TheVariants.{Head, Spawn, Arrow, Dot, Tick, Print, Nack, End, Fault, Waits, Stuck, Runs, Event, Lost}
+use Rattle.cml_chart.specs.declared.mark.Shape.TheVariants.{Head, Spawn, Arrow, Tick}
 use Rattle.cml_chart.specs.Marks.{PlainMark, row_drop}
 
 -- how many cells a byte takes: a character of three or four bytes takes two, and any other one
