@@ -1,5 +1,5 @@
 -- What a turn shows: a thread that begins, what is printed, the end of the thread, by itself or at a fault; and else nothing.
-use Rattle.std.specs.Prelude.{ℕ, ◌+◌, nat_lt, if◌then◌else◌, List, [], ◌∷◌, ◌++◌, codes, drop, length, Option, Some, None, slice_get}
+use Rattle.std.specs.Prelude.{ℕ, ◌+◌, ◌-◌, nat_lt, if◌then◌else◌, List, [], ◌∷◌, ◌++◌, codes, drop, take, length, Option, Some, None, slice_get}
 use Rattle.std.specs.Fmt.{decimal}
 use Rattle.cml_text.specs.Forms.{PlainSexpr}
 use Rattle.cml_value.specs.Value.{PlainFunction}
@@ -27,13 +27,17 @@ thread_count c = length c.world.threads
 abbrev pub before_of : PlainCourse → Before
 before_of c = record { faults = fault_count (text_of c.program) c.items; printed = length c.output; threads = thread_count c }
 
+-- the line that stands behind so many bytes at the end of what was printed, without its line feed
+abbrev pub line_behind : ℕ → List ℕ → List ℕ
+line_behind at output = let line = drop at output in take (length line - 1) line
+
 -- what stands before the name of a fault in its line
 abbrev pub fault_start : ℕ → List ℕ
 fault_start t = codes "thread " ++ (decimal t ++ codes " fault ")
 
 -- the name of the fault at which a thread ended: what was printed behind so many bytes, without its beginning
 abbrev pub fault_words : List ℕ → ℕ → ℕ → List ℕ
-fault_words output printed t = cut (drop (printed + length (fault_start t)) output)
+fault_words output printed t = cut (line_behind (printed + length (fault_start t)) output)
 
 -- a thread that began
 abbrev pub spawn_draft : List PlainSexpr → PlainCourse → ℕ → ℕ → PlainDraft
@@ -43,7 +47,7 @@ spawn_draft forms c t other = record { shape = Spawn; thread = t; other = other;
 abbrev pub turn_draft : List PlainSexpr → Before → ℕ → PlainCourse → Option PlainDraft
 turn_draft forms old t new =
     if nat_lt old.faults (fault_count (text_of new.program) new.items) then Some (own_draft Fault t (fault_words new.output old.printed t))
-    else (if nat_lt old.printed (length new.output) then Some (own_draft Print t (cut (drop old.printed new.output)))
+    else (if nat_lt old.printed (length new.output) then Some (own_draft Print t (cut (line_behind old.printed new.output)))
     else (if nat_lt old.threads (thread_count new) then Some (spawn_draft forms new t old.threads)
     else (if has_ended (slice_get new.world.threads t) then Some (own_draft End t []) else None)))
 

@@ -33,11 +33,15 @@ pub(crate) fn before(hub: &Hub) -> Before
     }
 }
 
-// What is behind so many bytes.
-fn behind(bytes: &[u8], at: usize) -> &[u8]
-    ensures { result.now ≡ drop at bytes.now }
+// The line that stands behind so many bytes at the end of what was printed, without its line feed.
+fn line_behind(bytes: &[u8], at: usize) -> &[u8]
+    ensures { result.now ≡ spec.line_behind at bytes.now }
 {
-    if at <= bytes.len() { &bytes[at..] } else { &[] }
+    if at < bytes.len() {
+        &bytes[at..bytes.len() - 1]
+    } else {
+        &[]
+    }
 }
 
 // The name of the fault at which a thread ended.
@@ -47,7 +51,7 @@ fn fault_name(alloc: Global, hub: &Hub, thread: u32, printed: usize) -> Result<V
 {
     let start = format!(in alloc; "thread {thread} fault ")?;
     let at = printed.saturating_add(start.len());
-    cut(alloc, behind(hub.out().as_bytes(), at))
+    cut(alloc, line_behind(hub.out().as_bytes(), at))
 }
 
 // The thread that began.
@@ -87,7 +91,7 @@ fn turn_draft(
         return Ok(Some(own_draft(Shape::Fault, thread, words)));
     }
     if old.printed < now.printed {
-        let words = cut(alloc, behind(hub.out().as_bytes(), old.printed))?;
+        let words = cut(alloc, line_behind(hub.out().as_bytes(), old.printed))?;
         return Ok(Some(own_draft(Shape::Print, thread, words)));
     }
     if old.threads < now.threads {
