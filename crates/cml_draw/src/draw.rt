@@ -15,7 +15,7 @@ ghost use Rattle.cml_chart.specs.WellFormed.{IsWellFormed};
 
 use crate::life::{add_heads, add_lives, threads_of};
 use crate::sheet::Sheet;
-use crate::turn::{add_turn, before, planned_drafts};
+use crate::turn::{add_turn, planned_drafts, so_far};
 use cml_chart::picture_of;
 use cml_hub::{Hub, Item};
 use cml_narrative::Narrator;
@@ -96,7 +96,7 @@ fn show_item(
     ensures tale { tale_of narrator.new ≡ tale_of narrator.old }
     ensures none_out { NoneOut hub.new }
 {
-    let old = before(hub);
+    let old = so_far(hub);
     let mut drafts = planned_drafts(alloc, forms, hub, item)?;
     let mut told = Vec::new(alloc);
     if !narrator.tell(alloc, hub, &mut told, item)? {

@@ -23,7 +23,7 @@ pub(crate) struct Before {
 }
 
 /// How far the run of a hub has come.
-pub(crate) fn before(hub: &Hub) -> Before
+pub(crate) fn so_far(hub: &Hub) -> Before
     ensures { result ≡ spec.before_of hub.now.course }
 {
     Before {
@@ -85,7 +85,7 @@ fn turn_draft(
     ensures { IfOk result (λ draft. option_map plain_draft draft
         ≡ spec.turn_draft forms.now old thread hub.now.course) }
 {
-    let now = before(hub);
+    let now = so_far(hub);
     if old.faults < now.faults {
         let words = fault_name(alloc, hub, thread, old.printed)?;
         return Ok(Some(own_draft(Shape::Fault, thread, words)));
