@@ -4,8 +4,8 @@ use Rattle.cml_text.specs.Forms.{PlainSexpr}
 use Rattle.cml_schedule.specs.declared.item.Item.{Item}
 use Rattle.cml_hub.specs.Courses.{PlainCourse, Adds, run_of}
 use Rattle.cml_hub.specs.Runs.{terminal, is_allowed}
-use Rattle.cml_draw.specs.declared.draw.DrawFault.{DrawFault}
-use Rattle.cml_draw.specs.declared.draw.DrawFault.TheVariants.{BadItem, TooMany, Memory}
+use Rattle.cml_draw.specs.declared.whole.DrawFault.{DrawFault}
+use Rattle.cml_draw.specs.declared.whole.DrawFault.TheVariants.{BadItem, TooMany, Memory}
 use Rattle.cml_narrative.specs.Tales.{Tale, TellsItem}
 use Rattle.cml_chart.specs.Pictures.{picture_text}
 use Rattle.cml_draw.specs.Drafts.{PlainDraft}

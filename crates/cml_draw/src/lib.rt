@@ -3,10 +3,10 @@
 
 mod commit;
 mod draft;
-mod draw;
 mod life;
 mod sheet;
 mod single;
 mod turn;
+mod whole;
 
-pub use draw::{DrawFault, draw};
+pub use whole::{DrawFault, draw};

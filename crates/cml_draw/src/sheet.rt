@@ -6,7 +6,7 @@ ghost use Rattle.cml_chart.specs.Views.{plain_mark};
 ghost use Rattle.cml_draw.specs.Views.{plain_draft, plain_sheet};
 
 use crate::draft::Draft;
-use crate::draw::DrawFault;
+use crate::whole::DrawFault;
 use cml_chart::{Mark, Shape, row_height};
 use std::alloc::{AllocError, Global};
 

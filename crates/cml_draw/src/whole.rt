@@ -39,7 +39,7 @@ pub enum DrawFault {
 
 impl From<AllocError> for DrawFault {
     ghost use Rattle.std.specs.Prelude.{◌≡◌};
-    ghost use Rattle.cml_draw.specs.declared.draw.DrawFault.TheVariants.{Memory};
+    ghost use Rattle.cml_draw.specs.declared.whole.DrawFault.TheVariants.{Memory};
 
     ghost from_gives = { λ _ e. e ≡ Memory };
 
