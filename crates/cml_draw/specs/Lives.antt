@@ -4,9 +4,8 @@ use Rattle.std.specs.List.{list_any}
 use Rattle.std.specs.Fmt.{decimal}
 use Rattle.cml_text.specs.Forms.{PlainSexpr}
 use Rattle.cml_value.specs.Value.{PlainBase, PlainFunction}
-use Rattle.cml_value.specs.Group.{PlainGroup}
+use Rattle.cml_value.specs.Group.{PlainGroup, bases}
 use Rattle.cml_scan.specs.World.{PlainThread, running, pending_on, ended}
-use Rattle.cml_scan.specs.Offers.{bases}
 use Rattle.cml_scan.specs.declared.meet.Meet.{Meet}
 use Rattle.cml_scan.specs.declared.meet.Meet.TheVariants.{Single, Pair}
 use Rattle.cml_schedule.specs.declared.item.Item.{Item}

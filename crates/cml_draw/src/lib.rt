@@ -4,6 +4,7 @@
 mod commit;
 mod draft;
 mod life;
+mod rows;
 mod sheet;
 mod single;
 mod turn;
