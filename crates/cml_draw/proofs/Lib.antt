@@ -1,0 +1,3 @@
+pub mod UnitSaid
+pub mod Along
+pub mod Below
