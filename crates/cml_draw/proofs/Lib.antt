@@ -1,3 +1,6 @@
 pub mod UnitSaid
+pub mod Rows
+pub mod Flags
 pub mod Along
 pub mod Below
+pub mod Left

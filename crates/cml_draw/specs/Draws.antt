@@ -1,25 +1,27 @@
 -- The picture of a schedule.
-use Rattle.std.specs.Prelude.{◌≡◌, ℕ, ◌+◌, ◌-◌, ◌<◌, ◌⊎◌, false, List, [], ◌∷◌, ◌++◌, length, drop, take}
+use Rattle.std.specs.Prelude.{◌≡◌, ℕ, ◌+◌, ◌-◌, ◌≤◌, false, List, [], ◌∷◌, ◌++◌, length, drop, take}
 use Rattle.cml_text.specs.Forms.{PlainSexpr}
 use Rattle.cml_schedule.specs.declared.item.Item.{Item}
-use Rattle.cml_hub.specs.Courses.{PlainCourse, Adds, run_of}
-use Rattle.cml_hub.specs.Runs.{terminal, is_allowed}
-use Rattle.cml_draw.specs.declared.whole.DrawFault.{DrawFault}
-use Rattle.cml_draw.specs.declared.whole.DrawFault.TheVariants.{BadItem, TooMany, Memory}
+use Rattle.cml_hub.specs.Courses.{PlainCourse, Adds}
+use Rattle.cml_hub.specs.Runs.{is_allowed}
 use Rattle.cml_narrative.specs.Tales.{Tale, TellsItem}
 use Rattle.cml_chart.specs.Pictures.{picture_text}
-use Rattle.cml_draw.specs.Drafts.{PlainDraft}
-use Rattle.cml_draw.specs.Turns.{began_with, thread_count, item_drafts}
-use Rattle.cml_draw.specs.Sheets.{PlainSheet, blank_sheet, with_rows}
-use Rattle.cml_draw.specs.Lives.{with_heads, with_lives}
+use Rattle.cml_draw.specs.declared.fault.DrawFault.{DrawFault}
+use Rattle.cml_draw.specs.declared.fault.DrawFault.TheVariants.{BadItem, TooMany, Memory}
+use Rattle.cml_draw.specs.Turns.{thread_count, item_drafts}
+use Rattle.cml_draw.specs.Sheets.{PlainSheet, blank_sheet, with_rows, row_limit, height_limit, IsTooMuch}
+use Rattle.cml_draw.specs.Lives.{with_lines}
 
--- What these items show that lead from one course to another: a sheet that grows by the rows of each, whose title is the item's line in the
--- narrative.
+-- the rows of an item that leads from one course to the next, whose title is its line in the narrative
+abbrev pub with_item : List PlainSexpr → PlainCourse → Item → PlainCourse → List ℕ → PlainSheet → PlainSheet
+with_item forms c item next told s = with_rows (length next.items) told s (item_drafts forms c item next)
+
+-- What these items show that lead from one course to another: a sheet that grows by the rows of each.
 abbrev pub Shows : Tale → PlainCourse → PlainSheet → List Item → PlainCourse → PlainSheet → Type 0
 Shows tale c s [] c' s' = (c' ≡ c) × (s' ≡ s)
 Shows tale c s (item ∷ items) c' s' =
     (next : PlainCourse) × (told : List ℕ) × Adds c item next × TellsItem tale c item next told
-    × Shows tale next (with_rows (length next.items) told s (item_drafts tale.forms c item next)) items c' s'
+    × Shows tale next (with_item tale.forms c item next told s) items c' s'
 
 -- these items lead from one course to another
 abbrev pub Leads : PlainCourse → List Item → PlainCourse → Type 0
@@ -33,48 +35,57 @@ items_before from to items = take (from - 1) (take to items)
 abbrev pub items_within : ℕ → ℕ → List Item → List Item
 items_within from to items = drop (from - 1) (take to items)
 
--- The picture of the items of a schedule from one number on, up to another: what they show, the heads of the lines of the threads that take
--- part and were there before, and how the lines of those that take part end. The schedule begins at this course.
-pub record Draws (tale : Tale) (name : List ℕ) (start : PlainCourse) (items : List Item) (from to : ℕ) (end : PlainCourse) (picture : List ℕ) : Type 0 where
-  pub first : PlainCourse
-  pub sheet : PlainSheet
-  pub leads : Leads start (items_before from to items) first
-  pub shows : Shows tale first blank_sheet (items_within from to items) end sheet
-  pub text : let part = items_within from to items in
-      let headed = with_heads tale.forms (began_with end) part (thread_count first) sheet in
-      let whole = with_lives tale.forms (began_with end) (terminal end.world) (thread_count first) part end.world.threads (thread_count end) headed in
-      picture ≡ picture_text name (thread_count end) whole.marks (whole.reach + 12)
+-- The picture of items that have led to this course: the rows of what they show, and where the lines of the threads begin and end that take
+-- part; so many threads were there before.
+unfoldable pub drawn_text : List ℕ → List PlainSexpr → PlainCourse → List Item → ℕ → PlainSheet → List ℕ
+drawn_text name forms end items before s =
+    let whole = with_lines forms end items before s in
+    picture_text name (thread_count end) whole.marks (whole.reach + 12)
 
--- one of these items can't happen where the ones before it lead, which is where the hub stands: the one of this number
+-- The items from one number on, up to another, and their rows, which are not too much. The schedule begins at this course.
+pub record IsShown (tale : Tale) (start : PlainCourse) (items : List Item) (from to before : ℕ) (end : PlainCourse) (sheet : PlainSheet) : Type 0 where
+  pub first : PlainCourse
+  pub leads : Leads start (items_before from to items) first
+  pub before_is : before ≡ thread_count first
+  pub shows : Shows tale first blank_sheet (items_within from to items) end sheet
+  pub few : sheet.rows ≤ row_limit
+  pub low : sheet.bottom ≤ height_limit
+
+-- The picture of the items of a schedule from one number on, up to another.
+pub record Draws (tale : Tale) (name : List ℕ) (start : PlainCourse) (items : List Item) (from to : ℕ) (end : PlainCourse) (picture : List ℕ) : Type 0 where
+  pub before : ℕ
+  pub sheet : PlainSheet
+  pub shown : IsShown tale start items from to before end sheet
+  pub text : picture ≡ drawn_text name tale.forms end (items_within from to items) before sheet
+
+-- One of these items can't happen where the ones before it lead, which is where the run stands then. Its number is counted from 1, with the
+-- items that led to where these begin.
 pub record IsUnfit (start : PlainCourse) (items : List Item) (number : ℕ) (end : PlainCourse) : Type 0 where
   pub done : List Item
   pub item : Item
   pub rest : List Item
   pub split : items ≡ done ++ item ∷ rest
-  pub counted : number ≡ length done + 1
+  pub counted : number ≡ length start.items + length done + 1
   pub leads : Leads start done end
   pub refused : is_allowed end.world item ≡ false
 
--- how many rows a picture has at most, and how high it is before its last row
-abbrev pub row_limit : ℕ
-row_limit = 2000
-
-abbrev pub height_limit : ℕ
-height_limit = 1000000000
-
--- some of the items that are to be shown, from the first on, show more
-pub record IsTooMuch (tale : Tale) (start : PlainCourse) (items : List Item) (from to : ℕ) (end : PlainCourse) : Type 0 where
-  pub first : PlainCourse
+-- some of these items, from the first on, show too much
+pub record ShowsTooMuch (tale : Tale) (c : PlainCourse) (s : PlainSheet) (items : List Item) (end : PlainCourse) : Type 0 where
   pub done : List Item
   pub rest : List Item
   pub sheet : PlainSheet
+  pub split : items ≡ done ++ rest
+  pub shows : Shows tale c s done end sheet
+  pub more : IsTooMuch sheet
+
+-- the items that are to be shown show too much
+pub record IsTooLong (tale : Tale) (start : PlainCourse) (items : List Item) (from to : ℕ) (end : PlainCourse) : Type 0 where
+  pub first : PlainCourse
   pub leads : Leads start (items_before from to items) first
-  pub split : items_within from to items ≡ done ++ rest
-  pub shows : Shows tale first blank_sheet done end sheet
-  pub more : (row_limit < sheet.rows) ⊎ (height_limit < sheet.bottom)
+  pub shows : ShowsTooMuch tale first blank_sheet (items_within from to items) end
 
 -- why a schedule is not drawn
 abbrev pub Refuses : Tale → PlainCourse → List Item → ℕ → ℕ → PlainCourse → DrawFault → Type 0
-Refuses tale start items from to end (BadItem number) = IsUnfit start items number end
-Refuses tale start items from to end TooMany = IsTooMuch tale start items from to end
+Refuses tale start items from to end (BadItem number) = IsUnfit start (take to items) number end
+Refuses tale start items from to end TooMany = IsTooLong tale start items from to end
 Refuses tale start items from to end Memory = Unit {0}

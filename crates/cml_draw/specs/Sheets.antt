@@ -1,8 +1,11 @@
 -- The rows of a picture, from the top.
-use Rattle.std.specs.Prelude.{ℕ, ◌+◌, max, List, [], ◌∷◌, ◌++◌, fold}
+use Rattle.std.specs.Prelude.{ℕ, ◌+◌, ◌<◌, ◌⊎◌, max, List, [], ◌∷◌, ◌++◌}
+use Rattle.std.specs.List.{fold}
 use Rattle.cml_chart.specs.declared.mark.Shape.{Shape}
 use Rattle.cml_chart.specs.declared.mark.Shape.TheVariants.{Head, Spawn, Arrow, Dot, Tick, Print, Nack, End, Fault, Waits, Stuck, Runs, Event, Lost}
 use Rattle.cml_chart.specs.Marks.{PlainMark, row_height}
+use Rattle.cml_draw.specs.declared.fault.DrawFault.{DrawFault}
+use Rattle.cml_draw.specs.declared.fault.DrawFault.TheVariants.{BadItem, TooMany, Memory}
 use Rattle.cml_draw.specs.Drafts.{PlainDraft}
 
 -- the marks so far, how far below the top the next row begins, how far down the marks reach, and how many rows were counted
@@ -30,7 +33,7 @@ abbrev pub mark_at : ℕ → ℕ → List ℕ → PlainDraft → PlainMark
 mark_at at item title d = record { shape = d.shape; item = item; thread = d.thread; other = d.other; words = d.words; title = title; at = at }
 
 -- one row more
-abbrev pub with_row : ℕ → List ℕ → PlainSheet → PlainDraft → PlainSheet
+unfoldable pub with_row : ℕ → List ℕ → PlainSheet → PlainDraft → PlainSheet
 with_row item title s d = record {
   marks = s.marks ++ mark_at s.bottom item title d ∷ [];
   bottom = s.bottom + row_height d.shape;
@@ -43,10 +46,27 @@ abbrev pub with_rows : ℕ → List ℕ → PlainSheet → List PlainDraft → P
 with_rows item title s drafts = fold (with_row item title) s drafts
 
 -- a mark more, at this place, which takes no row
-abbrev pub with_mark : ℕ → List ℕ → PlainSheet → PlainDraft → PlainSheet
+unfoldable pub with_mark : ℕ → List ℕ → PlainSheet → PlainDraft → PlainSheet
 with_mark at title s d = record {
   marks = s.marks ++ mark_at at 0 title d ∷ [];
   bottom = s.bottom;
   reach = max s.reach (at + row_height d.shape);
   rows = s.rows;
 }
+
+-- how many rows a picture has at most, and how far down they go
+abbrev pub row_limit : ℕ
+row_limit = 2000
+
+abbrev pub height_limit : ℕ
+height_limit = 1000000000
+
+-- there are more rows, or they go further down
+abbrev pub IsTooMuch : PlainSheet → Type 0
+IsTooMuch s = (row_limit < s.rows) ⊎ (height_limit < s.bottom)
+
+-- why rows are not added that would lead to this sheet
+abbrev pub RefusesRows : PlainSheet → DrawFault → Type 0
+RefusesRows s TooMany = IsTooMuch s
+RefusesRows s Memory = Unit {0}
+RefusesRows s (BadItem number) = ⊥

@@ -7,7 +7,7 @@ use Rattle.cml_phrase.specs.Phrases.{value_words}
 use Rattle.cml_phrase.specs.Events.{event_words}
 
 -- a base event by itself
-abbrev pub plain_event : List PlainSexpr → PlainBase → List ℕ
+unfoldable pub plain_event : List PlainSexpr → PlainBase → List ℕ
 plain_event forms base = event_words forms (record { base = base; state = state.Unsaid; who = None })
 
 -- and what it gives
@@ -15,7 +15,7 @@ abbrev pub giving_words : List PlainSexpr → PlainBase → PlainValue → List 
 giving_words forms base v = plain_event forms base ++ (codes ": " ++ value_words v)
 
 -- what is said of a base event that gives this value: what gives no value of its own is said alone
-abbrev pub single_words : List PlainSexpr → PlainValue → PlainBase → List ℕ
+unfoldable pub single_words : List PlainSexpr → PlainValue → PlainBase → List ℕ
 single_words forms v (always x) = codes "always ready: " ++ value_words v
 single_words forms v (iget i) = giving_words forms (iget i) v
 single_words forms v (mtake m) = giving_words forms (mtake m) v

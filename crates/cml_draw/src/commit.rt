@@ -9,10 +9,13 @@ ghost use Rattle.cml_channel.specs.Handed.{handed};
 ghost use Rattle.cml_phrase.specs.Phrases.{value_words};
 ghost use Rattle.cml_narrative.specs.Commits.{and_number, fired_at};
 ghost use Rattle.cml_narrative.specs.Views.{plain_taken};
+ghost use Rattle.cml_book.specs.Commit.{given};
 ghost use Rattle.cml_draw.specs.Commits as spec;
+ghost use Rattle.cml_draw.specs.Drafts as drawn;
+ghost use Rattle.cml_draw.specs.Singles as alone;
 ghost use Rattle.cml_draw.specs.Views.{plain_draft};
 
-use crate::draft::{Draft, cut, own_draft};
+use crate::draft::{Draft, cut, led_draft, own_draft};
 use crate::single::push_single;
 use cml_book::Book;
 use cml_chart::Shape;
@@ -36,7 +39,18 @@ fn push_numbers(alloc: Global, out: &mut Vec<u8>, nacks: &[NackId]) -> Result<()
     Ok(())
 }
 
+// The words of nacks that fire.
+fn nack_words(alloc: Global, first: NackId, more: &[NackId]) -> Result<Vec<u8>, AllocError>
+    ensures { IfOk result (λ words. words.items ≡ spec.nack_words first.0 (numbers more.now)) }
+{
+    let text = format!(in alloc; "fires nack {}", first.0)?;
+    let mut words = Vec::from_slice(alloc, text.as_bytes())?;
+    push_numbers(alloc, &mut words, more)?;
+    cut(alloc, words.as_slice())
+}
+
 // Adds the nacks that a thread fires, if it fires any.
+#[tactic(auto, unfolding(crate::specs::Commits::nack_drafts))]
 fn add_nacks(
     alloc: Global,
     drafts: &mut Vec<Draft>,
@@ -49,16 +63,28 @@ fn add_nacks(
     match nacks {
         [] => Ok(()),
         [first, more @ ..] => {
-            let text = format!(in alloc; "fires nack {}", first.0)?;
-            let mut words = Vec::from_slice(alloc, text.as_bytes())?;
-            push_numbers(alloc, &mut words, more)?;
-            let shown = cut(alloc, words.as_slice())?;
-            Ok(drafts.push(own_draft(Shape::Nack, thread, shown))?)
+            let words = nack_words(alloc, *first, more)?;
+            Ok(drafts.push(own_draft(Shape::Nack, thread, words))?)
         }
     }
 }
 
+// What is said of a base event that is taken alone, as it is shown.
+fn single_words(
+    alloc: Global,
+    forms: &[Sexpr],
+    book: &Book<OfferIndex>,
+    base: &Base,
+) -> Result<Vec<u8>, AllocError>
+    ensures { IfOk result (λ words. words.items ≡ drawn.cut (alone.single_words forms.now (given book.now base.now) base.now)) }
+{
+    let mut words = Vec::new(alloc);
+    push_single(alloc, &mut words, forms, book, base)?;
+    cut(alloc, words.as_slice())
+}
+
 // Adds what a thread takes alone.
+#[tactic(auto, unfolding(crate::specs::Commits::single_drafts))]
 fn add_single(
     alloc: Global,
     drafts: &mut Vec<Draft>,
@@ -74,16 +100,15 @@ fn add_single(
     match taken {
         None => Ok(()),
         Some(x) => {
-            let mut words = Vec::new(alloc);
-            push_single(alloc, &mut words, forms, book, &x.base)?;
-            let shown = cut(alloc, words.as_slice())?;
-            drafts.push(own_draft(Shape::Dot, thread, shown))?;
+            let words = single_words(alloc, forms, book, &x.base)?;
+            drafts.push(own_draft(Shape::Dot, thread, words))?;
             add_nacks(alloc, drafts, thread, x.lost.as_slice())
         }
     }
 }
 
 // A value that goes over a channel of this kind and number.
+#[tactic(auto, unfolding(crate::specs::Commits::over_words))]
 fn over_words(
     alloc: Global,
     channel: &[u8],
@@ -102,19 +127,12 @@ fn over_words(
 // Adds an arrow.
 fn add_arrow(drafts: &mut Vec<Draft>, from: u32, to: u32, words: Vec<u8>) -> Result<(), AllocError>
     ensures { OnOk result (map plain_draft drafts.new.items
-        ≡ map plain_draft drafts.old.items ++ spec.arrow_draft from to words.items ∷ []) }
+        ≡ map plain_draft drafts.old.items ++ drawn.led_draft Shape.Arrow from to words.items ∷ []) }
 {
-    let draft = Draft {
-        shape: Shape::Arrow,
-        thread: from,
-        other: to,
-        words,
-    };
-    Ok(drafts.push(draft)?)
+    Ok(drafts.push(led_draft(Shape::Arrow, from, to, words))?)
 }
 
-// Adds the arrow back of a swap, with what the other hands over.
-#[tactic(auto, using(crate::proofs::UnitSaid::unit_shown))]
+// What the other hands over in a swap.
 fn handed_words(alloc: Global, base: &Base, number: u32) -> Result<Vec<u8>, AllocError>
     ensures { IfOk result (λ words. words.items
         ≡ spec.over_words (codes "swap channel ") number (handed base.now)) }
@@ -138,16 +156,19 @@ fn handed_words(alloc: Global, base: &Base, number: u32) -> Result<Vec<u8>, Allo
 }
 
 // The same of unit.
-#[tactic(auto, using(crate::proofs::UnitSaid::unit_shown))]
+#[tactic(auto, using(crate::proofs::UnitSaid::unit_shown), unfolding(crate::specs::Commits::over_words))]
 fn unit_words(alloc: Global, number: u32) -> Result<Vec<u8>, AllocError>
     ensures { IfOk result (λ words. words.items
         ≡ spec.over_words (codes "swap channel ") number unit) }
 {
-    let text = format!(in alloc; "swap channel {number}: ()")?;
-    cut(alloc, text.as_bytes())
+    let text = format!(in alloc; "swap channel {number}: ")?;
+    let mut words = Vec::from_slice(alloc, text.as_bytes())?;
+    words.extend_from_slice(b"()")?;
+    cut(alloc, words.as_slice())
 }
 
 // Adds what goes between the head of a pair and the other.
+#[tactic(auto, unfolding(crate::specs::Commits::arrow_drafts))]
 fn add_arrows(
     alloc: Global,
     drafts: &mut Vec<Draft>,
@@ -186,7 +207,8 @@ fn add_arrows(
 }
 
 // Adds what goes between two that meet, by what both take.
-fn add_pair(
+#[tactic(auto, unfolding(crate::specs::Commits::pair_arrows))]
+fn add_met(
     alloc: Global,
     drafts: &mut Vec<Draft>,
     head: u32,
@@ -224,7 +246,42 @@ fn add_fired(
     }
 }
 
+// What a pair shows, by what both take.
+fn pair_drafts(
+    alloc: Global,
+    head: u32,
+    other: u32,
+    ours: &Option<Chosen>,
+    theirs: &Option<Chosen>,
+) -> Result<Vec<Draft>, AllocError>
+    ensures { IfOk result (λ drafts. map plain_draft drafts.items
+        ≡ spec.pair_drafts head other (option_map plain_taken ours.now) (option_map plain_taken theirs.now)) }
+{
+    let mut drafts = Vec::new(alloc);
+    add_met(alloc, &mut drafts, head, other, ours, theirs)?;
+    add_fired(alloc, &mut drafts, head, ours)?;
+    add_fired(alloc, &mut drafts, other, theirs)?;
+    Ok(drafts)
+}
+
+// What a thread shows that goes on alone.
+fn single_drafts(
+    alloc: Global,
+    forms: &[Sexpr],
+    book: &Book<OfferIndex>,
+    thread: u32,
+    taken: &Option<Chosen>,
+) -> Result<Vec<Draft>, AllocError>
+    ensures { IfOk result (λ drafts. map plain_draft drafts.items
+        ≡ spec.single_drafts forms.now book.now thread (option_map plain_taken taken.now)) }
+{
+    let mut drafts = Vec::new(alloc);
+    add_single(alloc, &mut drafts, forms, book, thread, taken)?;
+    Ok(drafts)
+}
+
 /// What the commit of a row shows that comes next in this book.
+#[tactic(auto, unfolding(crate::specs::Commits::commit_drafts))]
 pub(crate) fn commit_drafts(
     alloc: Global,
     forms: &[Sexpr],
@@ -234,11 +291,10 @@ pub(crate) fn commit_drafts(
     ensures { IfOk result (λ drafts. map plain_draft drafts.items
         ≡ spec.commit_drafts forms.now book.now row) }
 {
-    let mut drafts = Vec::new(alloc);
     match row {
         Meet::Single { tid, leaf } => {
             let taken = taken_at(alloc, book, tid, leaf)?;
-            add_single(alloc, &mut drafts, forms, book, tid.0, &taken)?;
+            single_drafts(alloc, forms, book, tid.0, &taken)
         }
         Meet::Pair {
             head,
@@ -248,10 +304,7 @@ pub(crate) fn commit_drafts(
         } => {
             let ours = taken_at(alloc, book, head, head_leaf)?;
             let theirs = taken_at(alloc, book, other, other_leaf)?;
-            add_pair(alloc, &mut drafts, head.0, other.0, &ours, &theirs)?;
-            add_fired(alloc, &mut drafts, head.0, &ours)?;
-            add_fired(alloc, &mut drafts, other.0, &theirs)?;
+            pair_drafts(alloc, head.0, other.0, &ours, &theirs)
         }
     }
-    Ok(drafts)
 }

@@ -3,11 +3,17 @@
 
 mod commit;
 mod draft;
+mod fault;
+mod flags;
 mod life;
+mod mark;
+mod name;
 mod rows;
 mod sheet;
+mod shown;
 mod single;
 mod turn;
 mod whole;
 
-pub use whole::{DrawFault, draw};
+pub use fault::DrawFault;
+pub use whole::draw;

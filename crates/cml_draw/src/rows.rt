@@ -1,25 +1,26 @@
 //! Rows, one below the other.
 
-ghost use Rattle.std.specs.Prelude.{◌≡◌, ◌≤◌, [], IfOk, OnOk, map};
-ghost use Rattle.cml_draw.specs.Sheets as spec;
+ghost use Rattle.std.specs.Prelude.{◌≡◌, ◌≤◌, IfErr, IfOk, OnOk, map};
 ghost use Rattle.cml_chart.specs.Views.{plain_mark};
+ghost use Rattle.cml_draw.specs.Sheets as spec;
 ghost use Rattle.cml_draw.specs.Views.{plain_draft, plain_sheet};
 
 use crate::draft::Draft;
+use crate::fault::DrawFault;
 use crate::sheet::Sheet;
-use crate::whole::DrawFault;
 use cml_chart::{Mark, Shape, row_height};
 use std::alloc::{AllocError, Global};
 
 // How many rows a picture has at most.
 const ROW_LIMIT: u32 = 2_000;
 
-// How high a picture is at most.
+// How far down the rows of a picture go at most.
 const HEIGHT_LIMIT: u32 = 1_000_000_000;
 
 // How many rows a mark of this shape counts.
 fn counted_rows(shape: Shape) -> u32
-    ensures { result ≡ spec.counted_rows shape }
+    ensures counted { result ≡ spec.counted_rows shape }
+    ensures one { result ≤ 1 }
 {
     match shape {
         Shape::Print | Shape::Nack => 0,
@@ -76,6 +77,7 @@ impl Sheet {
     }
 
     // A row more.
+    #[tactic(auto, using(crate::proofs::Rows::height_small), unfolding(crate::specs::Sheets::with_row))]
     fn add_row(
         &mut self,
         alloc: Global,
@@ -83,26 +85,27 @@ impl Sheet {
         title: &[u8],
         draft: &Draft,
     ) -> Result<(), DrawFault>
-        ensures { OnOk result (plain_sheet self.new
+        ensures added { OnOk result (plain_sheet self.new
             ≡ spec.with_row item title.now (plain_sheet self.old) (plain_draft draft.now)) }
+        ensures refused { IfErr result (λ why. spec.RefusesRows (spec.with_row item title.now (plain_sheet self.old) (plain_draft draft.now)) why) }
     {
-        let height = row_height(draft.shape);
-        let counted = counted_rows(draft.shape);
-        if self.bottom > HEIGHT_LIMIT || (self.rows >= ROW_LIMIT && counted > 0) {
+        let bottom = self.bottom + row_height(draft.shape);
+        let rows = self.rows + counted_rows(draft.shape);
+        if rows > ROW_LIMIT || bottom > HEIGHT_LIMIT {
             return Err(DrawFault::TooMany);
         }
         let mark = mark_at(alloc, self.bottom, item, title, draft)?;
         self.marks.push(mark).map_err(AllocError::from)?;
-        self.bottom += height;
-        self.reach = self.reach.max(self.bottom);
-        self.rows += counted;
+        self.bottom = bottom;
+        self.reach = self.reach.max(bottom);
+        self.rows = rows;
         Ok(())
     }
 
     /// A row for each of these.
     ///
     /// # Errors
-    /// There would be too many rows, or the picture too high; or out of memory.
+    /// There would be too many rows, or they would go too far down; or out of memory.
     pub(crate) fn add_rows(
         &mut self,
         alloc: Global,
@@ -110,8 +113,9 @@ impl Sheet {
         title: &[u8],
         drafts: &[Draft],
     ) -> Result<(), DrawFault>
-        ensures { OnOk result (plain_sheet self.new
+        ensures added { OnOk result (plain_sheet self.new
             ≡ spec.with_rows item title.now (plain_sheet self.old) (map plain_draft drafts.now)) }
+        ensures refused { IfErr result (λ why. spec.RefusesRows (spec.with_rows item title.now (plain_sheet self.old) (map plain_draft drafts.now)) why) }
     {
         for draft in drafts {
             self.add_row(alloc, item, title, draft)?;
@@ -120,6 +124,7 @@ impl Sheet {
     }
 
     /// A mark more, at this place, which takes no row.
+    #[tactic(auto, using(crate::proofs::Rows::height_small), unfolding(crate::specs::Sheets::with_mark))]
     pub(crate) fn add_mark(
         &mut self,
         alloc: Global,
@@ -127,7 +132,7 @@ impl Sheet {
         title: &[u8],
         draft: &Draft,
     ) -> Result<(), AllocError>
-        requires { at ≤ 1_000_001_000 }
+        requires { at ≤ 1000001000 }
         ensures { OnOk result (plain_sheet self.new
             ≡ spec.with_mark at title.now (plain_sheet self.old) (plain_draft draft.now)) }
     {

@@ -11,6 +11,7 @@ pub(crate) struct Sheet {
     pub(crate) bottom: u32,
     pub(crate) reach: u32,
     pub(crate) rows: u32,
-    ghost not_high: { bottom ≤ 1000000026 },
+    ghost low: { bottom ≤ 1000000000 },
     ghost few: { rows ≤ 2000 },
+    ghost within: { reach ≤ 1000001026 },
 }

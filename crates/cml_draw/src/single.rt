@@ -15,6 +15,7 @@ use cml_value::{Base, BaseKind, Value};
 use std::alloc::{AllocError, Global};
 
 /// Appends a base event by itself.
+#[tactic(auto, unfolding(crate::specs::Singles::plain_event))]
 pub(crate) fn push_plain_event(
     alloc: Global,
     out: &mut Vec<u8>,
@@ -74,6 +75,7 @@ fn push_ready(alloc: Global, out: &mut Vec<u8>, value: &Value) -> Result<(), All
 }
 
 /// Appends what is said of a base event that is taken alone.
+#[tactic(auto, unfolding(crate::specs::Singles::single_words))]
 pub(crate) fn push_single(
     alloc: Global,
     out: &mut Vec<u8>,

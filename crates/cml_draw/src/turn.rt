@@ -1,12 +1,12 @@
 //! What an item shows, by the hub before and behind it.
 
-ghost use Rattle.std.specs.Prelude.{◌≡◌, ◌++◌, ◌∷◌, [], ◌+◌, IfOk, OnOk, map, length, drop, slice_get};
-ghost use Rattle.std.specs.Option.{option_map};
+ghost use Rattle.std.specs.Prelude.{◌≡◌, ◌++◌, ◌∷◌, [], IfOk, OnOk, map, drop, option_map};
 ghost use Rattle.cml_draw.specs.Turns as spec;
 ghost use Rattle.cml_draw.specs.Views.{plain_draft};
 
 use crate::commit::commit_drafts;
-use crate::draft::{Draft, cut, head_words, own_draft};
+use crate::draft::{Draft, cut, led_draft, own_draft};
+use crate::name::head_words;
 use cml_chart::Shape;
 use cml_hub::{Hub, Item};
 use cml_scan::Light;
@@ -33,29 +33,35 @@ pub(crate) fn so_far(hub: &Hub) -> Before
     }
 }
 
-// The line that stands behind so many bytes at the end of what was printed, without its line feed.
-fn line_behind(bytes: &[u8], at: usize) -> &[u8]
-    ensures { result.now ≡ spec.line_behind at bytes.now }
+// What stands behind so many bytes.
+fn behind(bytes: &[u8], at: usize) -> &[u8]
+    ensures { result.now ≡ drop at bytes.now }
 {
-    if at < bytes.len() {
-        &bytes[at..bytes.len() - 1]
-    } else {
-        &[]
-    }
+    if at < bytes.len() { &bytes[at..] } else { &[] }
 }
 
-// The name of the fault at which a thread ended.
-fn fault_name(alloc: Global, hub: &Hub, thread: u32, printed: usize) -> Result<Vec<u8>, AllocError>
-    ensures { IfOk result (λ words. words.items
-        ≡ spec.fault_words hub.now.course.output printed thread) }
+// A line without its line feed.
+fn line_of(bytes: &[u8]) -> &[u8]
+    ensures { result.now ≡ spec.line_of bytes.now }
+{
+    if bytes.is_empty() {
+        return bytes;
+    }
+    &bytes[..bytes.len() - 1]
+}
+
+// The name of the fault at which a thread ended, by its line.
+#[tactic(auto, unfolding(crate::specs::Turns::fault_words))]
+fn fault_words(alloc: Global, thread: u32, line: &[u8]) -> Result<Vec<u8>, AllocError>
+    ensures { IfOk result (λ words. words.items ≡ spec.fault_words thread line.now) }
 {
     let start = format!(in alloc; "thread {thread} fault ")?;
-    let at = printed.saturating_add(start.len());
-    cut(alloc, line_behind(hub.out().as_bytes(), at))
+    cut(alloc, line_of(behind(line, start.len())))
 }
 
 // The thread that began.
-fn spawned(
+#[tactic(auto, unfolding(crate::specs::Turns::spawn_draft))]
+fn spawn_draft(
     alloc: Global,
     forms: &[Sexpr],
     hub: &Hub,
@@ -66,15 +72,62 @@ fn spawned(
         ≡ spec.spawn_draft forms.now hub.now.course thread other) }
 {
     let words = head_words(alloc, forms, hub, other)?;
-    Ok(Draft {
-        shape: Shape::Spawn,
-        thread,
-        other,
-        words,
-    })
+    Ok(led_draft(Shape::Spawn, thread, other, words))
+}
+
+// The end of the thread, if it has ended.
+#[tactic(auto, unfolding(crate::specs::Turns::end_draft))]
+fn end_draft(alloc: Global, hub: &Hub, thread: u32) -> Option<Draft>
+    ensures { option_map plain_draft result ≡ spec.end_draft thread hub.now.course }
+{
+    if hub.book().is_lit(Light::Joined(Tid(thread))) {
+        Some(own_draft(Shape::End, thread, Vec::new(alloc)))
+    } else {
+        None
+    }
+}
+
+// The thread that began, if one did; or that.
+#[tactic(auto, unfolding(crate::specs::Turns::life_draft))]
+fn life_draft(
+    alloc: Global,
+    forms: &[Sexpr],
+    hub: &Hub,
+    thread: u32,
+    old: Before,
+) -> Result<Option<Draft>, AllocError>
+    ensures { IfOk result (λ draft. option_map plain_draft draft
+        ≡ spec.life_draft forms.now old thread hub.now.course) }
+{
+    if old.threads < hub.book().next_thread().0 {
+        let draft = spawn_draft(alloc, forms, hub, thread, old.threads)?;
+        return Ok(Some(draft));
+    }
+    Ok(end_draft(alloc, hub, thread))
+}
+
+// What was printed, if something was; or that.
+#[tactic(auto, unfolding(crate::specs::Turns::print_draft))]
+fn print_draft(
+    alloc: Global,
+    forms: &[Sexpr],
+    hub: &Hub,
+    thread: u32,
+    old: Before,
+) -> Result<Option<Draft>, AllocError>
+    ensures { IfOk result (λ draft. option_map plain_draft draft
+        ≡ spec.print_draft forms.now old thread hub.now.course) }
+{
+    let printed = hub.out().as_bytes();
+    if old.printed < printed.len() {
+        let words = cut(alloc, line_of(behind(printed, old.printed)))?;
+        return Ok(Some(own_draft(Shape::Print, thread, words)));
+    }
+    life_draft(alloc, forms, hub, thread, old)
 }
 
 // What a turn shows that has come, if it shows anything.
+#[tactic(auto, unfolding(crate::specs::Turns::turn_draft))]
 fn turn_draft(
     alloc: Global,
     forms: &[Sexpr],
@@ -85,36 +138,35 @@ fn turn_draft(
     ensures { IfOk result (λ draft. option_map plain_draft draft
         ≡ spec.turn_draft forms.now old thread hub.now.course) }
 {
-    let now = so_far(hub);
-    if old.faults < now.faults {
-        let words = fault_name(alloc, hub, thread, old.printed)?;
+    if old.faults < hub.faults() {
+        let line = behind(hub.out().as_bytes(), old.printed);
+        let words = fault_words(alloc, thread, line)?;
         return Ok(Some(own_draft(Shape::Fault, thread, words)));
     }
-    if old.printed < now.printed {
-        let words = cut(alloc, line_behind(hub.out().as_bytes(), old.printed))?;
-        return Ok(Some(own_draft(Shape::Print, thread, words)));
-    }
-    if old.threads < now.threads {
-        let draft = spawned(alloc, forms, hub, thread, old.threads)?;
-        return Ok(Some(draft));
-    }
-    if hub.book().is_lit(Light::Joined(Tid(thread))) {
-        return Ok(Some(own_draft(Shape::End, thread, Vec::new(alloc))));
-    }
-    Ok(None)
+    print_draft(alloc, forms, hub, thread, old)
 }
 
 // What a move of the clock shows.
 fn clock_draft(alloc: Global, tick: u64) -> Result<Draft, AllocError>
-    ensures { IfOk result (λ draft. plain_draft draft
-        ≡ spec.clock_draft tick) }
+    ensures { IfOk result (λ draft. plain_draft draft ≡ spec.clock_draft tick) }
 {
     let text = format!(in alloc; "tick {tick}")?;
     let words = Vec::from_slice(alloc, text.as_bytes())?;
     Ok(own_draft(Shape::Tick, 0, words))
 }
 
+// That alone.
+fn clock_drafts(alloc: Global, tick: u64) -> Result<Vec<Draft>, AllocError>
+    ensures { IfOk result (λ drafts. map plain_draft drafts.items ≡ spec.clock_draft tick ∷ []) }
+{
+    let mut drafts = Vec::new(alloc);
+    let draft = clock_draft(alloc, tick)?;
+    drafts.push(draft)?;
+    Ok(drafts)
+}
+
 /// What an item shows that is not a turn, before it comes; of a turn nothing.
+#[tactic(auto, unfolding(crate::specs::Turns::planned_drafts))]
 pub(crate) fn planned_drafts(
     alloc: Global,
     forms: &[Sexpr],
@@ -128,16 +180,12 @@ pub(crate) fn planned_drafts(
         Item::Turn(_) => Ok(Vec::new(alloc)),
         Item::Meet(row) => commit_drafts(alloc, forms, hub.book(), row),
         Item::Exchange(row) => commit_drafts(alloc, forms, hub.book(), row),
-        Item::Clock(tick) => {
-            let mut drafts = Vec::new(alloc);
-            let draft = clock_draft(alloc, tick)?;
-            drafts.push(draft)?;
-            Ok(drafts)
-        }
+        Item::Clock(tick) => clock_drafts(alloc, tick),
     }
 }
 
 /// Adds what a turn shows that has come; of another item nothing.
+#[tactic(auto, unfolding(crate::specs::Turns::came_drafts))]
 pub(crate) fn add_turn(
     alloc: Global,
     drafts: &mut Vec<Draft>,
@@ -149,10 +197,25 @@ pub(crate) fn add_turn(
     ensures { OnOk result (map plain_draft drafts.new.items
         ≡ map plain_draft drafts.old.items ++ spec.came_drafts forms.now old item hub.now.course) }
 {
-    let Item::Turn(thread) = item else {
-        return Ok(());
-    };
-    match turn_draft(alloc, forms, hub, thread.0, old)? {
+    match item {
+        Item::Turn(thread) => add_came(alloc, drafts, forms, hub, thread.0, old),
+        Item::Meet(_) | Item::Exchange(_) | Item::Clock(_) => Ok(()),
+    }
+}
+
+// Adds what a turn of this thread shows.
+fn add_came(
+    alloc: Global,
+    drafts: &mut Vec<Draft>,
+    forms: &[Sexpr],
+    hub: &Hub,
+    thread: u32,
+    old: Before,
+) -> Result<(), AllocError>
+    ensures { OnOk result (map plain_draft drafts.new.items
+        ≡ map plain_draft drafts.old.items ++ spec.listed (spec.turn_draft forms.now old thread hub.now.course)) }
+{
+    match turn_draft(alloc, forms, hub, thread, old)? {
         Some(draft) => Ok(drafts.push(draft)?),
         None => Ok(()),
     }

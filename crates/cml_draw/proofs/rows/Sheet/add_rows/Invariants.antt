@@ -1,9 +1,10 @@
-use Rattle.std.proofs.Common.{◌≡◌, map, take}
-use Rattle.std.specs.List.{fold}
-use Rattle.cml_draw.specs.Sheets.{with_row}
+use Rattle.std.proofs.Common.{◌≡◌, map, drop}
+use Rattle.cml_draw.specs.Sheets.{with_rows}
 use Rattle.cml_draw.specs.Views.{plain_draft, plain_sheet}
 use Rattle.cml_draw.proofs.rows.Sheet.add_rows.Given as goal
 
--- the rows so far
+-- those that are left lead from here to the same
 abbrev pub invariant-loop-draft : goal.invariant-loop-draft
-invariant-loop-draft l = plain_sheet l.self ≡ fold (with_row l.item l.title) (plain_sheet l.fn.self) (map plain_draft (take l.draft-index l.drafts))
+invariant-loop-draft l =
+    with_rows l.item l.title (plain_sheet l.self) (map plain_draft (drop l.draft-index l.drafts))
+    ≡ with_rows l.item l.title (plain_sheet l.fn.self) (map plain_draft l.drafts)

@@ -1,0 +1,43 @@
+-- Rows, one below the other.
+use Rattle.std.proofs.Common.{◌≡◌, ℕ, ◌+◌, ◌<◌, ◌≤◌, ◌⊎◌, List, [], ◌∷◌, ◌++◌, arith, inl, inr}
+use Rattle.std.specs.List.{fold}
+use Rattle.cml_chart.specs.declared.mark.Shape.{Shape}
+use Rattle.cml_chart.specs.declared.mark.Shape.TheVariants.{Head, Spawn, Arrow, Dot, Tick, Print, Nack, End, Fault, Waits, Stuck, Runs, Event, Lost}
+use Rattle.cml_chart.specs.Marks.{row_height}
+use Rattle.cml_draw.specs.declared.fault.DrawFault.{DrawFault}
+use Rattle.cml_draw.specs.declared.fault.DrawFault.TheVariants.{BadItem, TooMany, Memory}
+use Rattle.cml_draw.specs.Drafts.{PlainDraft}
+use Rattle.cml_draw.specs.Sheets.{PlainSheet, with_row, with_rows, IsTooMuch, RefusesRows}
+
+-- no row is higher than this
+pub height_small : (shape : Shape) → row_height shape ≤ 26
+height_small Head = omega arith
+height_small Spawn = omega arith
+height_small Arrow = omega arith
+height_small Dot = omega arith
+height_small Tick = omega arith
+height_small Print = omega arith
+height_small Nack = omega arith
+height_small End = omega arith
+height_small Fault = omega arith
+height_small Waits = omega arith
+height_small Stuck = omega arith
+height_small Runs = omega arith
+height_small Event = omega arith
+height_small Lost = omega arith
+
+-- one row more makes no more room
+row_stays : (item : ℕ) (title : List ℕ) (s : PlainSheet) (d : PlainDraft) → IsTooMuch s → IsTooMuch (with_row item title s d)
+unfolding with_row
+row_stays item title s d (inl h) = inl (omega (arith, h))
+row_stays item title s d (inr h) = inr (omega (arith, h))
+
+-- and so do more rows
+too_much_stays : (item : ℕ) (title : List ℕ) (s : PlainSheet) (ds : List PlainDraft) → IsTooMuch s → IsTooMuch (with_rows item title s ds)
+too_much_stays item title s [] h = h
+too_much_stays item title s (d ∷ ds) h = too_much_stays item title (with_row item title s d) ds (row_stays item title s d h)
+
+pub refused_stays : (item : ℕ) (title : List ℕ) (s : PlainSheet) (ds : List PlainDraft) (why : DrawFault) → RefusesRows s why → RefusesRows (with_rows item title s ds) why
+refused_stays item title s ds TooMany h = too_much_stays item title s ds h
+refused_stays item title s ds Memory h = tt
+refused_stays item title s ds (BadItem number) h = absurd h
