@@ -50,9 +50,17 @@ with_first forms shape t at all s =
     let said = take event_limit all in
     with_more shape t (at + row_height shape * length said) (length all - length said) (with_events forms shape t at said s)
 
+-- what is said of an event that has no base events
+unfoldable pub never_words : List ℕ
+never_words = codes "nothing: it never happens"
+
+-- that it never happens
+unfoldable pub with_never : Shape → ℕ → ℕ → PlainSheet → PlainSheet
+with_never shape t at s = with_mark at [] s (own_draft shape t never_words)
+
 -- for what a thread waits; where that is nothing, it never happens
 unfoldable pub with_awaited : List PlainSexpr → Shape → ℕ → ℕ → List PlainBase → PlainSheet → PlainSheet
-with_awaited forms shape t at [] s = with_mark at [] s (own_draft shape t (codes "nothing: it never happens"))
+with_awaited forms shape t at [] s = with_never shape t at s
 with_awaited forms shape t at (base ∷ more) s = with_first forms shape t at (base ∷ more) s
 
 abbrev pub circle_shape : Bool → Shape

@@ -19,7 +19,7 @@ fn set_flag(flags: &mut [bool], thread: Tid)
 }
 
 // Sets the flags of the threads of a row.
-#[tactic(auto, using(crate::proofs::Flags::flag_set, crate::proofs::Flags::flag_both))]
+#[tactic(auto, using(crate::proofs::FlagLemmas::flag_set, crate::proofs::FlagLemmas::flag_both))]
 fn set_row(flags: &mut [bool], row: Meet)
     ensures { (t : ℕ) → slice_get flags.new t ≡ spec.flag_or (spec.is_of_row row t) (slice_get flags.old t) }
 {
@@ -38,7 +38,7 @@ fn set_row(flags: &mut [bool], row: Meet)
 }
 
 // Sets the flags of the threads of an item.
-#[tactic(auto, using(crate::proofs::Flags::flag_set, crate::proofs::Flags::flag_both))]
+#[tactic(auto, using(crate::proofs::FlagLemmas::flag_set, crate::proofs::FlagLemmas::flag_both))]
 fn set_item(flags: &mut [bool], item: &Item)
     ensures { (t : ℕ) → slice_get flags.new t ≡ spec.flag_or (spec.is_of_item t item.now) (slice_get flags.old t) }
 {

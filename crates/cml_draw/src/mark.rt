@@ -1,6 +1,6 @@
 //! Where the line of a thread begins and ends.
 
-ghost use Rattle.std.specs.Prelude.{◌≡◌, ◌≤◌, ◌*◌, ◌+◌, OnOk, length, take, slice_get};
+ghost use Rattle.std.specs.Prelude.{◌≡◌, ◌≤◌, ◌*◌, ◌+◌, IfOk, OnOk, length, take, slice_get};
 ghost use Rattle.cml_chart.specs.Marks as mark;
 ghost use Rattle.cml_phrase.specs.Events.{event_limit};
 ghost use Rattle.cml_draw.specs.Lives as spec;
@@ -62,7 +62,7 @@ fn add_event(
 }
 
 // Adds the base events for which a thread waits.
-#[tactic(auto, using(crate::proofs::Rows::height_small))]
+#[tactic(auto, using(crate::proofs::RowLemmas::height_small))]
 fn add_events(
     alloc: Global,
     sheet: &mut Sheet,
@@ -121,7 +121,7 @@ fn first_of(bases: &[Base]) -> &[Base]
 }
 
 // Adds the first six base events, and how many more there are.
-#[tactic(auto, using(crate::proofs::Rows::height_small), unfolding(crate::specs::Lives::with_first))]
+#[tactic(auto, using(crate::proofs::RowLemmas::height_small), unfolding(crate::specs::Lives::with_first))]
 fn add_first(
     alloc: Global,
     sheet: &mut Sheet,
@@ -141,8 +141,33 @@ fn add_first(
     add_more(alloc, sheet, shape, thread, below, bases.len() - said.len())
 }
 
+// What is said of an event that has no base events.
+#[tactic(auto, unfolding(crate::specs::Lives::never_words))]
+fn never_words(alloc: Global) -> Result<Vec<u8>, AllocError>
+    ensures { IfOk result (λ words. words.items ≡ spec.never_words) }
+{
+    Vec::from_slice(alloc, b"nothing: it never happens")
+}
+
+// Adds that it never happens.
+#[tactic(auto, unfolding(crate::specs::Lives::with_never))]
+fn add_never(
+    alloc: Global,
+    sheet: &mut Sheet,
+    shape: Shape,
+    thread: u32,
+    at: u32,
+) -> Result<(), AllocError>
+    requires { at ≤ 1000001000 }
+    ensures { OnOk result (plain_sheet sheet.new
+        ≡ spec.with_never shape thread at (plain_sheet sheet.old)) }
+{
+    let words = never_words(alloc)?;
+    sheet.add_mark(alloc, at, b"", &own_draft(shape, thread, words))
+}
+
 // Adds for what a thread waits.
-#[tactic(auto, unfolding(crate::specs::Lives::with_awaited))]
+#[tactic(auto, using(crate::proofs::EventLemmas::awaited_none, crate::proofs::EventLemmas::awaited_some))]
 fn add_awaited(
     alloc: Global,
     sheet: &mut Sheet,
@@ -157,10 +182,7 @@ fn add_awaited(
         ≡ spec.with_awaited forms.now shape thread at bases.now (plain_sheet sheet.old)) }
 {
     match bases {
-        [] => {
-            let words = Vec::from_slice(alloc, b"nothing: it never happens")?;
-            sheet.add_mark(alloc, at, b"", &own_draft(shape, thread, words))
-        }
+        [] => add_never(alloc, sheet, shape, thread, at),
         [_, ..] => add_first(alloc, sheet, forms, shape, thread, at, bases),
     }
 }

@@ -77,7 +77,7 @@ impl Sheet {
     }
 
     // A row more.
-    #[tactic(auto, using(crate::proofs::Rows::height_small), unfolding(crate::specs::Sheets::with_row))]
+    #[tactic(auto, using(crate::proofs::RowLemmas::height_small), unfolding(crate::specs::Sheets::with_row))]
     fn add_row(
         &mut self,
         alloc: Global,
@@ -124,7 +124,7 @@ impl Sheet {
     }
 
     /// A mark more, at this place, which takes no row.
-    #[tactic(auto, using(crate::proofs::Rows::height_small), unfolding(crate::specs::Sheets::with_mark))]
+    #[tactic(auto, using(crate::proofs::RowLemmas::height_small), unfolding(crate::specs::Sheets::with_mark))]
     pub(crate) fn add_mark(
         &mut self,
         alloc: Global,

@@ -1,7 +1,7 @@
 use Rattle.std.proofs.Common.{◌≡◌, map, drop}
 use Rattle.cml_draw.specs.Sheets.{with_rows}
 use Rattle.cml_draw.specs.Views.{plain_draft, plain_sheet}
-use Rattle.cml_draw.proofs.rows.Sheet.add_rows.Given as goal
+use Rattle.cml_draw.proofs.sheet.Sheet.add_rows.Given as goal
 
 -- those that are left lead from here to the same
 abbrev pub invariant-loop-draft : goal.invariant-loop-draft

@@ -1,5 +1,6 @@
 -- Flags that are set.
 use Rattle.std.proofs.Common.{◌≡◌, ℕ, zero, suc, ◌+◌, ◌<◌, ◌==◌, Bool, true, false, ◌||◌, List, [], ◌∷◌, length, take, get_or, Option, Some, None, refl, sym, ap, ◌∙◌, arith}
+use Rattle.std.proofs.Math.Dec.{eqb-zero-suc, eqb-suc-zero, eqb-suc-suc}
 use Rattle.std.specs.Prelude.{slice_get, slice_set}
 use Rattle.cml_draw.specs.Parts.{flag_or}
 
@@ -11,9 +12,9 @@ nothing_set false = refl
 pub flag_set : (flags : List Bool) (at t : ℕ) → slice_get (slice_set flags at true) t ≡ flag_or (at == t) (slice_get flags t)
 flag_set [] at t = nothing_set (at == t)
 flag_set (f ∷ fs) zero zero = refl
-flag_set (f ∷ fs) zero (suc t) = refl
-flag_set (f ∷ fs) (suc at) zero = refl
-flag_set (f ∷ fs) (suc at) (suc t) = flag_set fs at t
+flag_set (f ∷ fs) zero (suc t) = ap (λ b. flag_or b (slice_get fs t)) (sym (eqb-zero-suc t))
+flag_set (f ∷ fs) (suc at) zero = ap (λ b. flag_or b (Some f)) (sym (eqb-suc-zero at))
+flag_set (f ∷ fs) (suc at) (suc t) = flag_set fs at t ∙ ap (λ b. flag_or b (slice_get fs t)) (sym (eqb-suc-suc at t))
 
 -- set by one, and then by another
 pub flag_both : (a b : Bool) (flag : Option Bool) → flag_or b (flag_or a flag) ≡ flag_or (a || b) flag
