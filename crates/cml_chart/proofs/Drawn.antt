@@ -5,18 +5,18 @@ use Rattle.std.specs.List.{flat_map}
 use Rattle.std.specs.Fmt.{decimal}
 use Rattle.cml_chart.specs.declared.mark.Shape.{Shape}
 use Rattle.cml_chart.specs.declared.mark.Shape.TheVariants.{Head, Spawn, Arrow, Dot, Tick, Print, Nack, End, Fault, Waits, Stuck, Runs, Event, Lost}
-use Rattle.cml_chart.specs.Xml.{escaped, element}
-use Rattle.cml_chart.specs.Marks.{PlainMark, row_height}
-use Rattle.cml_chart.specs.Frames.{PlainFrame, frame_of, line_at, level_of, note_of}
+use Rattle.cml_chart.specs.Xml.{escaped_words, element}
+use Rattle.cml_chart.specs.Marks.{ChartMark, row_height}
+use Rattle.cml_chart.specs.Frames.{ChartFrame, frame_of, line_from_left, level_of, note_of}
 use Rattle.cml_chart.specs.Figures.{PlainSpot, words_text, path_text, title_text, cover_text, note_text, across_text, line_text, has_sign, sign_class, arrow_head, sign_path, sign_text, has_words, words_class, words_right, words_down, words_spot, said_text, parts_text, mark_text, life_of, life_text}
 use Rattle.cml_chart.specs.Pictures.{declaration, style_rules, style_text, box_words, root_attributes, content_text, framed_text, picture_text}
 use Rattle.cml_chart.specs.WellFormed.{IsWellFormed, attribute_text}
-use Rattle.cml_chart.proofs.Pieces.{Pieces, pieces-append, pieces-ascii, pieces-decimal, pieces-escaped}
+use Rattle.cml_chart.proofs.Pieces.{Pieces, pieces-append, pieces-ascii, pieces-decimal, pieces-escaped_words}
 use Rattle.cml_chart.proofs.Contents.{Attributes, attributes-and, attributes-one, attributes-none, right_element, Contents, contents-none, contents-append, contents-pieces, contents-flat_map, contents-lone, contents-element}
 
 title-drawn : (title : List ℕ) → Contents (title_text title)
 unfolding title_text
-title-drawn title = contents-element (codes "title") [] [] (escaped title) refl refl attributes-none (contents-pieces (escaped title) (pieces-escaped title))
+title-drawn title = contents-element (codes "title") [] [] (escaped_words title) refl refl attributes-none (contents-pieces (escaped_words title) (pieces-escaped_words title))
 
 words-drawn : (class : List ℕ) (s : PlainSpot) (words : List ℕ) → Pieces class → Pieces s.right → Pieces s.down → Contents (words_text class s words)
 words-drawn class s words c r d =
@@ -25,7 +25,7 @@ words-drawn class s words c r d =
     let y = attributes-and (codes "y") (decimal s.y) _ _ (pieces-decimal s.y) right in
     let x = attributes-and (codes "x") (decimal s.x) _ _ (pieces-decimal s.x) y in
     let all = attributes-and (codes "class") class _ _ c x in
-    contents-element (codes "text") _ _ (escaped words) refl refl all (contents-pieces (escaped words) (pieces-escaped words))
+    contents-element (codes "text") _ _ (escaped_words words) refl refl all (contents-pieces (escaped_words words) (pieces-escaped_words words))
 
 path-drawn : (class : List ℕ) (x y : ℕ) (rest : List ℕ) → Pieces class → Pieces rest → Contents (path_text class x y rest)
 path-drawn class x y rest c r =
@@ -39,7 +39,7 @@ path-drawn class x y rest c r =
 toward-drawn : (verb : List ℕ) (n : ℕ) → Pieces verb → Pieces (verb ++ decimal n)
 toward-drawn verb n v = pieces-append verb (decimal n) v (pieces-decimal n)
 
-cover-drawn : (f : PlainFrame) (m : PlainMark) → Contents (cover_text f m)
+cover-drawn : (f : ChartFrame) (m : ChartMark) → Contents (cover_text f m)
 unfolding cover_text
 cover-drawn f m =
     let high = pieces-append (decimal (row_height m.shape)) (codes "H0z") (pieces-decimal (row_height m.shape)) (pieces-ascii (codes "H0z") refl) in
@@ -47,7 +47,7 @@ cover-drawn f m =
     let wide = pieces-append (decimal f.width) _ (pieces-decimal f.width) down in
     path-drawn (codes "cover") 0 m.at _ (pieces-ascii (codes "cover") refl) (pieces-append (codes "H") _ (pieces-ascii (codes "H") refl) wide)
 
-note-drawn : (f : PlainFrame) (m : PlainMark) → Contents (note_text f m)
+note-drawn : (f : ChartFrame) (m : ChartMark) → Contents (note_text f m)
 unfolding note_text
 note-drawn f m =
     elim (m.item == 0) as (λ b. Contents (if b then [] else words_text (codes "note") (record { x = f.margin; y = level_of m; right = codes "-8"; down = codes "4" }) (note_of m))) [
@@ -58,7 +58,7 @@ note-drawn f m =
 across-drawn : (class : List ℕ) (y from to : ℕ) → Pieces class → Contents (across_text class y from to)
 across-drawn class y from to c = path-drawn class from y (codes "H" ++ decimal to) c (toward-drawn (codes "H") to (pieces-ascii (codes "H") refl))
 
-line-drawn : (s : Shape) (f : PlainFrame) (m : PlainMark) → Contents (line_text s f m)
+line-drawn : (s : Shape) (f : ChartFrame) (m : ChartMark) → Contents (line_text s f m)
 unfolding line_text
 line-drawn Spawn f m = across-drawn (codes "spawn") _ _ _ (pieces-ascii (codes "spawn") refl)
 line-drawn Arrow f m = across-drawn (codes "arrow") _ _ _ (pieces-ascii (codes "arrow") refl)
@@ -111,11 +111,11 @@ sign_path-drawn Runs b = pieces-ascii (codes "m-5-3l5 8l5-8") refl
 sign_path-drawn Event b = pieces-ascii ([]) refl
 sign_path-drawn Lost b = pieces-ascii ([]) refl
 
-sign-drawn : (f : PlainFrame) (m : PlainMark) → Contents (sign_text f m)
+sign-drawn : (f : ChartFrame) (m : ChartMark) → Contents (sign_text f m)
 unfolding sign_text
 sign-drawn f m =
-    elim (has_sign m.shape) as (λ b. Contents (if b then path_text (sign_class m.shape) (line_at f.edges m.other) (level_of m) (sign_path m.shape (nat_lt m.thread m.other)) else [])) [
-      | true ↦ path-drawn (sign_class m.shape) (line_at f.edges m.other) (level_of m) (sign_path m.shape (nat_lt m.thread m.other)) (class-drawn m.shape) (sign_path-drawn m.shape (nat_lt m.thread m.other))
+    elim (has_sign m.shape) as (λ b. Contents (if b then path_text (sign_class m.shape) (line_from_left f.edges m.other) (level_of m) (sign_path m.shape (nat_lt m.thread m.other)) else [])) [
+      | true ↦ path-drawn (sign_class m.shape) (line_from_left f.edges m.other) (level_of m) (sign_path m.shape (nat_lt m.thread m.other)) (class-drawn m.shape) (sign_path-drawn m.shape (nat_lt m.thread m.other))
       | false ↦ contents-none
     ]
 
@@ -167,7 +167,7 @@ down-drawn Runs = pieces-ascii (codes "4") refl
 down-drawn Event = pieces-ascii (codes "4") refl
 down-drawn Lost = pieces-ascii (codes "4") refl
 
-said-drawn : (f : PlainFrame) (m : PlainMark) → Contents (said_text f m)
+said-drawn : (f : ChartFrame) (m : ChartMark) → Contents (said_text f m)
 unfolding said_text
 said-drawn f m =
     elim (has_words m.shape) as (λ b. Contents (if b then words_text (words_class m.shape) (words_spot f m) m.words else [])) [
@@ -178,7 +178,7 @@ said-drawn f m =
 line_feed : Contents (codes "\n")
 line_feed = contents-pieces (codes "\n") (pieces-ascii (codes "\n") refl)
 
-parts-drawn : (f : PlainFrame) (m : PlainMark) → Contents (parts_text f m)
+parts-drawn : (f : ChartFrame) (m : ChartMark) → Contents (parts_text f m)
 unfolding parts_text
 parts-drawn f m =
     let signed = contents-append (sign_text f m) (said_text f m) (sign-drawn f m) (said-drawn f m) in
@@ -187,18 +187,18 @@ parts-drawn f m =
     let covered = contents-append (cover_text f m) _ (cover-drawn f m) noted in
     contents-append (title_text m.title) _ (title-drawn m.title) covered
 
-mark-drawn : (f : PlainFrame) (m : PlainMark) → Contents (mark_text f m)
+mark-drawn : (f : ChartFrame) (m : ChartMark) → Contents (mark_text f m)
 unfolding mark_text
 mark-drawn f m =
     contents-append (element (codes "g") [] (parts_text f m)) (codes "\n") (contents-element (codes "g") [] [] (parts_text f m) refl refl attributes-none (parts-drawn f m)) line_feed
 
-life-of-drawn : (f : PlainFrame) (m : PlainMark) → Contents (life_of f m)
+life-of-drawn : (f : ChartFrame) (m : ChartMark) → Contents (life_of f m)
 life-of-drawn f m =
-    contents-append (path_text (codes "life") (line_at f.edges m.thread) (line_at f.tops m.thread) (codes "V" ++ decimal (level_of m))) (codes "\n")
+    contents-append (path_text (codes "life") (line_from_left f.edges m.thread) (line_from_left f.tops m.thread) (codes "V" ++ decimal (level_of m))) (codes "\n")
     (path-drawn (codes "life") _ _ (codes "V" ++ decimal (level_of m)) (pieces-ascii (codes "life") refl) (toward-drawn (codes "V") (level_of m) (pieces-ascii (codes "V") refl)))
     line_feed
 
-life-drawn : (s : Shape) (f : PlainFrame) (m : PlainMark) → Contents (life_text s f m)
+life-drawn : (s : Shape) (f : ChartFrame) (m : ChartMark) → Contents (life_text s f m)
 unfolding life_text
 life-drawn End f m = life-of-drawn f m
 life-drawn Fault f m = life-of-drawn f m
@@ -220,7 +220,7 @@ unfolding style_text
 style-drawn =
     contents-element (codes "style") _ _ style_rules refl refl (attributes-one (codes "type") (codes "text/css") (pieces-ascii (codes "text/css") refl)) (contents-pieces style_rules (pieces-ascii style_rules refl))
 
-content-drawn : (name : List ℕ) (f : PlainFrame) (marks : List PlainMark) → Contents (content_text name f marks)
+content-drawn : (name : List ℕ) (f : ChartFrame) (marks : List ChartMark) → Contents (content_text name f marks)
 unfolding content_text
 content-drawn name f marks =
     let lives = contents-flat_map (λ m. life_text m.shape f m) marks (λ m. life-drawn m.shape f m) in
@@ -229,7 +229,7 @@ content-drawn name f marks =
     let styled = contents-append style_text _ style-drawn fed in
     contents-append (title_text name) _ (title-drawn name) styled
 
-root-drawn : (f : PlainFrame) → Attributes (codes "xmlns" ∷ codes "version" ∷ codes "width" ∷ codes "height" ∷ codes "viewBox" ∷ []) (root_attributes f)
+root-drawn : (f : ChartFrame) → Attributes (codes "xmlns" ∷ codes "version" ∷ codes "width" ∷ codes "height" ∷ codes "viewBox" ∷ []) (root_attributes f)
 root-drawn f =
     let size = pieces-append (decimal f.width) (codes " " ++ decimal f.height) (pieces-decimal f.width) (toward-drawn (codes " ") f.height (pieces-ascii (codes " ") refl)) in
     let view = pieces-append (codes "0 0 ") _ (pieces-ascii (codes "0 0 ") refl) size in
@@ -240,7 +240,7 @@ root-drawn f =
     attributes-and (codes "xmlns") (codes "http://www.w3.org/2000/svg") _ _ (pieces-ascii (codes "http://www.w3.org/2000/svg") refl) n
 
 -- each picture is well-formed
-pub picture_well_formed : (name : List ℕ) (threads : ℕ) (marks : List PlainMark) (height : ℕ) (bytes : List ℕ) → bytes ≡ picture_text name threads marks height → IsWellFormed bytes
+pub picture_well_formed : (name : List ℕ) (threads : ℕ) (marks : List ChartMark) (height : ℕ) (bytes : List ℕ) → bytes ≡ picture_text name threads marks height → IsWellFormed bytes
 unfolding framed_text
 picture_well_formed name threads marks height bytes is =
     let f = frame_of threads marks height in

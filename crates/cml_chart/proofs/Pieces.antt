@@ -9,8 +9,8 @@ use Rattle.std.proofs.lemmas.Str.{encode_ascii}
 use Rattle.std.proofs.lemmas.Bool.{and_parts}
 use Rattle.std.proofs.lemmas.Bool.Decides.{nat_tests}
 use Rattle.std.proofs.lemmas.List.Concat.{flat_map-append}
-use Rattle.cml_chart.specs.Xml.{is_character, escaped_character, escaped}
-use Rattle.cml_chart.specs.WellFormed.{Piece, plain, ampersand, less, greater, quote, apostrophe, piece_text, is_plain, IsPiece, ArePieces}
+use Rattle.cml_chart.specs.Xml.{is_character, escaped_character, escaped_words}
+use Rattle.cml_chart.specs.WellFormed.{Piece, plain, ampersand, less, greater, quote, apostrophe, piece_text, stands_for_itself, IsPiece, ArePieces}
 
 -- a text that is made of pieces
 abbrev pub Pieces : List ℕ → Type 0
@@ -26,10 +26,10 @@ pieces-append a b p q =
 
 -- a character of one byte that stands for itself
 abbrev pub is_ascii_plain : ℕ → Bool
-is_ascii_plain c = nat_lt c 128 && is_plain c
+is_ascii_plain c = nat_lt c 128 && stands_for_itself c
 
 plain_byte : (c : ℕ) → is_ascii_plain c ≡ true → piece_text (plain c) ≡ c ∷ []
-plain_byte c e = let t = (and_parts (nat_lt c 128) (is_plain c) e).0 in encode_ascii c (grind (arith, nat_tests))
+plain_byte c e = let t = (and_parts (nat_lt c 128) (stands_for_itself c) e).0 in encode_ascii c (grind (arith, nat_tests))
 
 -- characters of one byte that stand for themselves are pieces
 pub pieces-ascii : (bytes : List ℕ) → list_all is_ascii_plain bytes ≡ true → Pieces bytes
@@ -37,7 +37,7 @@ pieces-ascii [] e = ([], tt, refl)
 pieces-ascii (c ∷ cs) e =
     let h = and_parts (is_ascii_plain c) (list_all is_ascii_plain cs) e in
     let r = pieces-ascii cs h.1 in
-    (plain c ∷ r.0, ((and_parts (nat_lt c 128) (is_plain c) h.0).1, r.1), ap (λ t. c ∷ t) r.2 ∙ ap (λ x. x ++ flat_map piece_text r.0) (sym (plain_byte c h.0)))
+    (plain c ∷ r.0, ((and_parts (nat_lt c 128) (stands_for_itself c) h.0).1, r.1), ap (λ t. c ∷ t) r.2 ∙ ap (λ x. x ++ flat_map piece_text r.0) (sym (plain_byte c h.0)))
 
 digit_plain : (d : ℕ) → d < 10 → is_ascii_plain (digit_glyph false d) ≡ true
 digit_plain d lt = grind (arith, nat_tests)
@@ -59,7 +59,7 @@ pieces-decimal n = pieces-ascii (decimal n) (onto_plain 64 n [] refl)
 abbrev IsOne : ℕ → List ℕ → Type 0
 IsOne c text = (piece : Piece) × IsPiece piece × (text ≡ piece_text piece)
 
-one_of : (amp lt gt quo apo own : Bool) (c : ℕ) → is_plain c ≡ (own && not amp && not lt && not gt && not quo && not apo) →
+one_of : (amp lt gt quo apo own : Bool) (c : ℕ) → stands_for_itself c ≡ (own && not amp && not lt && not gt && not quo && not apo) →
     IsOne c (if amp then codes "&amp;" else (if lt then codes "&lt;" else (if gt then codes "&gt;" else (if quo then codes "&quot;" else (if apo then codes "&apos;" else (if own then encode_utf8 c else codes "?"))))))
 one_of true lt gt quo apo own c e = (ampersand, refl, refl)
 one_of false true gt quo apo own c e = (less, refl, refl)
@@ -80,5 +80,5 @@ pieces-characters (c ∷ cs) =
     (one.0 ∷ r.0, (one.1, r.1), ap (λ x. x ++ flat_map escaped_character cs) one.2 ∙ ap (λ y. piece_text one.0 ++ y) r.2)
 
 -- a text that is escaped is made of pieces
-pub pieces-escaped : (bytes : List ℕ) → Pieces (escaped bytes)
-pieces-escaped bytes = pieces-characters (chars (utf8_lossy bytes))
+pub pieces-escaped_words : (bytes : List ℕ) → Pieces (escaped_words bytes)
+pieces-escaped_words bytes = pieces-characters (chars (utf8_lossy bytes))

@@ -3,9 +3,9 @@ use Rattle.std.specs.Prelude.{ℕ, ◌==◌, Bool, true, false, nat_lt, if◌the
 use Rattle.std.specs.Fmt.{decimal}
 use Rattle.cml_chart.specs.declared.mark.Shape.{Shape}
 use Rattle.cml_chart.specs.declared.mark.Shape.TheVariants.{Head, Spawn, Arrow, Dot, Tick, Print, Nack, End, Fault, Waits, Stuck, Runs, Event, Lost}
-use Rattle.cml_chart.specs.Xml.{escaped, attribute, element, lone_element}
-use Rattle.cml_chart.specs.Marks.{PlainMark, row_height}
-use Rattle.cml_chart.specs.Frames.{PlainFrame, line_at, level_of, note_of, seat_of}
+use Rattle.cml_chart.specs.Xml.{escaped_words, attribute, element, lone_element}
+use Rattle.cml_chart.specs.Marks.{ChartMark, row_height}
+use Rattle.cml_chart.specs.Frames.{ChartFrame, line_from_left, level_of, note_of, seat_of}
 
 -- where words stand: a place, and how far they are moved from it
 pub record PlainSpot : Type 0 where
@@ -20,7 +20,7 @@ spot_attributes s =
 
 -- words of this class
 abbrev pub words_text : List ℕ → PlainSpot → List ℕ → List ℕ
-words_text class spot words = element (codes "text") (attribute (codes "class") class ++ spot_attributes spot) (escaped words)
+words_text class spot words = element (codes "text") (attribute (codes "class") class ++ spot_attributes spot) (escaped_words words)
 
 -- a path of this class, from a place on
 abbrev pub path_text : List ℕ → ℕ → ℕ → List ℕ → List ℕ
@@ -29,14 +29,14 @@ path_text class x y rest =
 
 -- what a mouse shows
 unfoldable pub title_text : List ℕ → List ℕ
-title_text title = element (codes "title") [] (escaped title)
+title_text title = element (codes "title") [] (escaped_words title)
 
 -- the whole row of a mark, unseen, for the mouse
-unfoldable pub cover_text : PlainFrame → PlainMark → List ℕ
+unfoldable pub cover_text : ChartFrame → ChartMark → List ℕ
 cover_text f m = path_text (codes "cover") 0 m.at (codes "H" ++ (decimal f.width ++ (codes "v" ++ (decimal (row_height m.shape) ++ codes "H0z"))))
 
 -- the number of the item, in the margin
-unfoldable pub note_text : PlainFrame → PlainMark → List ℕ
+unfoldable pub note_text : ChartFrame → ChartMark → List ℕ
 note_text f m =
     if m.item == 0 then [] else words_text (codes "note") (record { x = f.margin; y = level_of m; right = codes "-8"; down = codes "4" }) (note_of m)
 
@@ -44,9 +44,9 @@ note_text f m =
 abbrev pub across_text : List ℕ → ℕ → ℕ → ℕ → List ℕ
 across_text class y from to = path_text class from y (codes "H" ++ decimal to)
 
-unfoldable pub line_text : Shape → PlainFrame → PlainMark → List ℕ
-line_text Spawn f m = across_text (codes "spawn") (level_of m) (line_at f.edges m.thread) (line_at f.edges m.other)
-line_text Arrow f m = across_text (codes "arrow") (level_of m) (line_at f.edges m.thread) (line_at f.edges m.other)
+unfoldable pub line_text : Shape → ChartFrame → ChartMark → List ℕ
+line_text Spawn f m = across_text (codes "spawn") (level_of m) (line_from_left f.edges m.thread) (line_from_left f.edges m.other)
+line_text Arrow f m = across_text (codes "arrow") (level_of m) (line_from_left f.edges m.thread) (line_from_left f.edges m.other)
 line_text Tick f m = across_text (codes "tick") (level_of m) f.margin f.width
 line_text shape f m = []
 
@@ -89,8 +89,8 @@ sign_path Runs from_left = codes "m-5-3l5 8l5-8"
 sign_path shape from_left = []
 
 -- the thread on whose line the sign stands: the one that the mark leads to
-unfoldable pub sign_text : PlainFrame → PlainMark → List ℕ
-sign_text f m = if has_sign m.shape then path_text (sign_class m.shape) (line_at f.edges m.other) (level_of m) (sign_path m.shape (nat_lt m.thread m.other)) else []
+unfoldable pub sign_text : ChartFrame → ChartMark → List ℕ
+sign_text f m = if has_sign m.shape then path_text (sign_class m.shape) (line_from_left f.edges m.other) (level_of m) (sign_path m.shape (nat_lt m.thread m.other)) else []
 
 -- which marks have words in a column
 abbrev pub has_words : Shape → Bool
@@ -121,25 +121,25 @@ words_down Head = codes "-8"
 words_down Arrow = codes "-6"
 words_down shape = codes "4"
 
-abbrev pub words_spot : PlainFrame → PlainMark → PlainSpot
-words_spot f m = record { x = line_at f.edges (seat_of m.shape m.thread m.other); y = level_of m; right = words_right m.shape; down = words_down m.shape }
+abbrev pub words_spot : ChartFrame → ChartMark → PlainSpot
+words_spot f m = record { x = line_from_left f.edges (seat_of m.shape m.thread m.other); y = level_of m; right = words_right m.shape; down = words_down m.shape }
 
-unfoldable pub said_text : PlainFrame → PlainMark → List ℕ
+unfoldable pub said_text : ChartFrame → ChartMark → List ℕ
 said_text f m = if has_words m.shape then words_text (words_class m.shape) (words_spot f m) m.words else []
 
 -- the parts of a mark
-unfoldable pub parts_text : PlainFrame → PlainMark → List ℕ
+unfoldable pub parts_text : ChartFrame → ChartMark → List ℕ
 parts_text f m =
     title_text m.title ++ (cover_text f m ++ (note_text f m ++ (line_text m.shape f m ++ (sign_text f m ++ said_text f m))))
 
-unfoldable pub mark_text : PlainFrame → PlainMark → List ℕ
+unfoldable pub mark_text : ChartFrame → ChartMark → List ℕ
 mark_text f m = element (codes "g") [] (parts_text f m) ++ codes "\n"
 
 -- the line of a thread, down to a mark at which it ends
-abbrev pub life_of : PlainFrame → PlainMark → List ℕ
-life_of f m = path_text (codes "life") (line_at f.edges m.thread) (line_at f.tops m.thread) (codes "V" ++ decimal (level_of m)) ++ codes "\n"
+abbrev pub life_of : ChartFrame → ChartMark → List ℕ
+life_of f m = path_text (codes "life") (line_from_left f.edges m.thread) (line_from_left f.tops m.thread) (codes "V" ++ decimal (level_of m)) ++ codes "\n"
 
-unfoldable pub life_text : Shape → PlainFrame → PlainMark → List ℕ
+unfoldable pub life_text : Shape → ChartFrame → ChartMark → List ℕ
 life_text End f m = life_of f m
 life_text Fault f m = life_of f m
 life_text Waits f m = life_of f m

@@ -3,7 +3,7 @@ use Rattle.std.specs.Prelude.{ℕ, ◌+◌, ◌*◌, ◌==◌, max, min, nat_lt,
 use Rattle.std.specs.Fmt.{decimal}
 use Rattle.cml_chart.specs.declared.mark.Shape.{Shape}
 use Rattle.cml_chart.specs.declared.mark.Shape.TheVariants.{Head, Spawn, Arrow, Tick}
-use Rattle.cml_chart.specs.Marks.{PlainMark, row_drop}
+use Rattle.cml_chart.specs.Marks.{ChartMark, row_drop}
 
 -- how many cells a byte takes: a character of three or four bytes takes two, and any other one
 abbrev pub byte_cells : ℕ → ℕ
@@ -27,18 +27,18 @@ seat_of Arrow thread other = min thread other
 seat_of shape thread other = thread
 
 -- the room that words take in a column, with what stands around them; a move of the clock has none there
-abbrev pub room_of : Shape → List ℕ → ℕ
-room_of Tick words = 0
-room_of shape words = 18 + 7 * cells words
+abbrev pub seat_room : Shape → List ℕ → ℕ
+seat_room Tick words = 0
+seat_room shape words = 18 + 7 * cells words
 
 -- a column made as wide as a mark wants it
-abbrev pub widened : List ℕ → PlainMark → List ℕ
+abbrev pub widened : List ℕ → ChartMark → List ℕ
 widened columns m =
     let seat = seat_of m.shape m.thread m.other in
-    slice_set columns seat (max (unwrap_or (slice_get columns seat) 0) (room_of m.shape m.words))
+    slice_set columns seat (max (unwrap_or (slice_get columns seat) 0) (seat_room m.shape m.words))
 
 -- the width of the column of each thread, by its number
-abbrev pub columns_of : ℕ → List PlainMark → List ℕ
+abbrev pub columns_of : ℕ → List ChartMark → List ℕ
 columns_of threads marks = fold widened (replicate threads 0) marks
 
 -- what stands in the margin beside a mark: the number of its item, and of a move of the clock the words
@@ -46,14 +46,14 @@ abbrev pub note_words : Shape → ℕ → List ℕ → List ℕ
 note_words Tick item words = decimal item ++ (codes " " ++ words)
 note_words shape item words = decimal item
 
-abbrev pub note_of : PlainMark → List ℕ
+abbrev pub note_of : ChartMark → List ℕ
 note_of m = if m.item == 0 then [] else note_words m.shape m.item m.words
 
-abbrev pub wider_margin : ℕ → PlainMark → ℕ
+abbrev pub wider_margin : ℕ → ChartMark → ℕ
 wider_margin margin m = max margin (16 + 7 * cells (note_of m))
 
 -- how wide the margin is
-abbrev pub margin_of : List PlainMark → ℕ
+abbrev pub margin_of : List ChartMark → ℕ
 margin_of marks = fold wider_margin 16 marks
 
 -- where columns of these widths begin that stand side by side from there on, and where the last one ends
@@ -62,7 +62,7 @@ edges_from x [] = x ∷ []
 edges_from x (c ∷ cs) = x ∷ edges_from (x + c) cs
 
 -- how far below the top of the picture a mark stands
-abbrev pub level_of : PlainMark → ℕ
+abbrev pub level_of : ChartMark → ℕ
 level_of m = m.at + row_drop m.shape
 
 -- the line of a thread begins at its head, or where it is spawned
@@ -71,14 +71,14 @@ begun_at Head thread other level tops = slice_set tops thread level
 begun_at Spawn thread other level tops = slice_set tops other level
 begun_at shape thread other level tops = tops
 
-abbrev pub begun : List ℕ → PlainMark → List ℕ
-begun tops m = begun_at m.shape m.thread m.other (level_of m) tops
+abbrev pub with_top : List ℕ → ChartMark → List ℕ
+with_top tops m = begun_at m.shape m.thread m.other (level_of m) tops
 
-abbrev pub tops_of : ℕ → List PlainMark → List ℕ
-tops_of threads marks = fold begun (replicate threads 0) marks
+abbrev pub tops_of : ℕ → List ChartMark → List ℕ
+tops_of threads marks = fold with_top (replicate threads 0) marks
 
 -- where the columns begin, where the lines of threads begin, the margin, and how wide and high the picture is
-pub record PlainFrame : Type 0 where
+pub record ChartFrame : Type 0 where
   pub edges : List ℕ
   pub tops : List ℕ
   pub margin : ℕ
@@ -86,18 +86,18 @@ pub record PlainFrame : Type 0 where
   pub height : ℕ
 
 -- where the line of a thread stands
-abbrev pub line_at : List ℕ → ℕ → ℕ
-line_at places thread = unwrap_or (slice_get places thread) 0
+abbrev pub line_from_left : List ℕ → ℕ → ℕ
+line_from_left places thread = unwrap_or (slice_get places thread) 0
 
-abbrev pub edges_of : ℕ → List PlainMark → List ℕ
+abbrev pub edges_of : ℕ → List ChartMark → List ℕ
 edges_of threads marks = edges_from (margin_of marks + 10) (columns_of threads marks)
 
 -- the frame of a picture of so many threads, with these marks and of this height
-abbrev pub frame_of : ℕ → List PlainMark → ℕ → PlainFrame
+abbrev pub frame_of : ℕ → List ChartMark → ℕ → ChartFrame
 frame_of threads marks height = record {
   edges = edges_of threads marks;
   tops = tops_of threads marks;
   margin = margin_of marks;
-  width = line_at (edges_of threads marks) threads;
+  width = line_from_left (edges_of threads marks) threads;
   height = height;
 }

@@ -5,7 +5,7 @@ use Rattle.cml_chart.specs.declared.mark.Shape.TheVariants.{Head, Spawn, Arrow, 
 
 -- A mark: its shape, the number of the item that it shows (0 where it shows none), its thread, the thread that it leads to (the same where
 -- it leads to none), its words, what a mouse shows of it, and how far below the top of the picture its row begins.
-pub record PlainMark : Type 0 where
+pub record ChartMark : Type 0 where
   pub shape : Shape
   pub item : ℕ
   pub thread : ℕ

@@ -21,8 +21,8 @@ abbrev pub escaped_characters : List ℕ → List ℕ
 escaped_characters text = flat_map escaped_character (chars text)
 
 -- the characters of a text as they are written; what is no UTF-8 counts as the character that stands for it
-abbrev pub escaped : List ℕ → List ℕ
-escaped bytes = escaped_characters (utf8_lossy bytes)
+abbrev pub escaped_words : List ℕ → List ℕ
+escaped_words bytes = escaped_characters (utf8_lossy bytes)
 
 abbrev pub attribute : List ℕ → List ℕ → List ℕ
 attribute name value = codes " " ++ (name ++ (codes "='" ++ (value ++ codes "'")))

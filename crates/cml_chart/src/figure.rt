@@ -3,9 +3,9 @@
 ghost use Rattle.std.specs.Prelude.{◌≡◌, ◌++◌, IfOk, OnOk, codes};
 ghost use Rattle.std.specs.Fmt.{decimal};
 ghost use Rattle.cml_chart.specs.Figures as spec;
-ghost use Rattle.cml_chart.specs.Views.{plain_mark, plain_frame};
+ghost use Rattle.cml_chart.specs.Views.{plain_mark, chart_frame};
 
-use crate::frame::{Frame, level_of, line_at, note_of, seat_of};
+use crate::frame::{Frame, level_of, line_from_left, note_of, seat_of};
 use crate::mark::{Mark, Shape, row_height};
 use crate::xml::{Spot, push_number, push_path, push_title, push_words};
 use std::alloc::{AllocError, Global};
@@ -40,7 +40,7 @@ fn push_cover(
     mark: &Mark,
 ) -> Result<(), AllocError>
     ensures { OnOk result (out.new.items ≡ out.old.items
-        ++ spec.cover_text (plain_frame frame.now) (plain_mark mark.now)) }
+        ++ spec.cover_text (chart_frame frame.now) (plain_mark mark.now)) }
 {
     let rest = cover_data(alloc, frame, row_height(mark.shape))?;
     push_path(alloc, out, b"cover", 0, u64::from(mark.at), rest.as_slice())
@@ -50,7 +50,7 @@ fn push_cover(
 #[tactic(auto, unfolding(crate::specs::Figures::note_text))]
 fn push_note(alloc: Global, out: &mut Vec<u8>, frame: &Frame, mark: &Mark) -> Result<(), AllocError>
     ensures { OnOk result (out.new.items ≡ out.old.items
-        ++ spec.note_text (plain_frame frame.now) (plain_mark mark.now)) }
+        ++ spec.note_text (chart_frame frame.now) (plain_mark mark.now)) }
 {
     if mark.item == 0 {
         return Ok(());
@@ -84,11 +84,11 @@ fn push_across(
 #[tactic(auto, unfolding(crate::specs::Figures::line_text))]
 fn push_line(alloc: Global, out: &mut Vec<u8>, frame: &Frame, mark: &Mark) -> Result<(), AllocError>
     ensures { OnOk result (out.new.items ≡ out.old.items
-        ++ spec.line_text mark.now.shape (plain_frame frame.now) (plain_mark mark.now)) }
+        ++ spec.line_text mark.now.shape (chart_frame frame.now) (plain_mark mark.now)) }
 {
     let edges = frame.edges.as_slice();
-    let from = line_at(edges, mark.thread);
-    let to = line_at(edges, mark.other);
+    let from = line_from_left(edges, mark.thread);
+    let to = line_from_left(edges, mark.other);
     let y = level_of(mark);
     match mark.shape {
         Shape::Spawn => push_across(alloc, out, b"spawn", y, from, to),
@@ -185,12 +185,12 @@ fn sign_path(shape: Shape, from_left: bool) -> &'static [u8]
 #[tactic(auto, unfolding(crate::specs::Figures::sign_text))]
 fn push_sign(alloc: Global, out: &mut Vec<u8>, frame: &Frame, mark: &Mark) -> Result<(), AllocError>
     ensures { OnOk result (out.new.items ≡ out.old.items
-        ++ spec.sign_text (plain_frame frame.now) (plain_mark mark.now)) }
+        ++ spec.sign_text (chart_frame frame.now) (plain_mark mark.now)) }
 {
     if !has_sign(mark.shape) {
         return Ok(());
     }
-    let x = line_at(frame.edges.as_slice(), mark.other);
+    let x = line_from_left(frame.edges.as_slice(), mark.other);
     let path = sign_path(mark.shape, mark.thread < mark.other);
     push_path(alloc, out, sign_class(mark.shape), x, level_of(mark), path)
 }
@@ -287,13 +287,13 @@ fn words_down(shape: Shape) -> &'static [u8]
 #[tactic(auto, unfolding(crate::specs::Figures::said_text))]
 fn push_said(alloc: Global, out: &mut Vec<u8>, frame: &Frame, mark: &Mark) -> Result<(), AllocError>
     ensures { OnOk result (out.new.items ≡ out.old.items
-        ++ spec.said_text (plain_frame frame.now) (plain_mark mark.now)) }
+        ++ spec.said_text (chart_frame frame.now) (plain_mark mark.now)) }
 {
     if !has_words(mark.shape) {
         return Ok(());
     }
     let spot = Spot {
-        x: line_at(frame.edges.as_slice(), seat_of(mark)),
+        x: line_from_left(frame.edges.as_slice(), seat_of(mark)),
         y: level_of(mark),
         right: words_right(mark.shape),
         down: words_down(mark.shape),
@@ -316,7 +316,7 @@ fn push_parts(
     mark: &Mark,
 ) -> Result<(), AllocError>
     ensures { OnOk result (out.new.items ≡ out.old.items
-        ++ spec.parts_text (plain_frame frame.now) (plain_mark mark.now)) }
+        ++ spec.parts_text (chart_frame frame.now) (plain_mark mark.now)) }
 {
     push_title(alloc, out, mark.title.as_slice())?;
     push_cover(alloc, out, frame, mark)?;
@@ -335,7 +335,7 @@ pub(crate) fn push_mark(
     mark: &Mark,
 ) -> Result<(), AllocError>
     ensures { OnOk result (out.new.items ≡ out.old.items
-        ++ spec.mark_text (plain_frame frame.now) (plain_mark mark.now)) }
+        ++ spec.mark_text (chart_frame frame.now) (plain_mark mark.now)) }
 {
     out.extend_from_slice(b"<g>")?;
     push_parts(alloc, out, frame, mark)?;
@@ -350,10 +350,10 @@ fn push_life_of(
     mark: &Mark,
 ) -> Result<(), AllocError>
     ensures { OnOk result (out.new.items ≡ out.old.items
-        ++ spec.life_of (plain_frame frame.now) (plain_mark mark.now)) }
+        ++ spec.life_of (chart_frame frame.now) (plain_mark mark.now)) }
 {
-    let x = line_at(frame.edges.as_slice(), mark.thread);
-    let top = line_at(frame.tops.as_slice(), mark.thread);
+    let x = line_from_left(frame.edges.as_slice(), mark.thread);
+    let top = line_from_left(frame.tops.as_slice(), mark.thread);
     let rest = toward(alloc, b"V", level_of(mark))?;
     push_path(alloc, out, b"life", x, top, rest.as_slice())?;
     out.extend_from_slice(b"\n")
@@ -368,7 +368,7 @@ pub(crate) fn push_life(
     mark: &Mark,
 ) -> Result<(), AllocError>
     ensures { OnOk result (out.new.items ≡ out.old.items
-        ++ spec.life_text mark.now.shape (plain_frame frame.now) (plain_mark mark.now)) }
+        ++ spec.life_text mark.now.shape (chart_frame frame.now) (plain_mark mark.now)) }
 {
     match mark.shape {
         Shape::End | Shape::Fault | Shape::Waits | Shape::Stuck | Shape::Runs => {

@@ -2,7 +2,7 @@
 
 ghost use Rattle.std.specs.Prelude.{◌≡◌, ◌++◌, ◌∷◌, [], ◌≤◌, ◌<◌, ◌+◌, ◌^◌, IfOk, OnOk, length, map, fold, max, unwrap_or, slice_get, slice_set};
 ghost use Rattle.cml_chart.specs.Frames as spec;
-ghost use Rattle.cml_chart.specs.Views.{plain_mark, plain_frame};
+ghost use Rattle.cml_chart.specs.Views.{plain_mark, chart_frame};
 
 use crate::mark::{Mark, Shape, row_drop};
 use crate::xml::push_number;
@@ -72,8 +72,8 @@ pub(crate) fn seat_of(mark: &Mark) -> u32
 }
 
 // The room that words take in a column.
-fn room_of(mark: &Mark) -> u16
-    ensures { result ≡ spec.room_of mark.now.shape mark.now.words.items }
+fn seat_room(mark: &Mark) -> u16
+    ensures { result ≡ spec.seat_room mark.now.shape mark.now.words.items }
 {
     match mark.shape {
         Shape::Tick => 0,
@@ -97,7 +97,7 @@ fn room_of(mark: &Mark) -> u16
 fn widen(columns: &mut [u16], mark: &Mark)
     ensures { columns.new ≡ spec.widened columns.old (plain_mark mark.now) }
 {
-    let room = room_of(mark);
+    let room = seat_room(mark);
     let seat = seat_of(mark) as usize;
     if seat < columns.len() {
         columns[seat] = columns[seat].max(room);
@@ -211,7 +211,7 @@ fn set_place(places: &mut [u64], thread: u32, place: u64)
 
 // Sets where the line of a thread begins, if it begins at the mark.
 fn begin_line(tops: &mut [u64], mark: &Mark)
-    ensures { tops.new ≡ spec.begun tops.old (plain_mark mark.now) }
+    ensures { tops.new ≡ spec.with_top tops.old (plain_mark mark.now) }
 {
     match mark.shape {
         Shape::Head => set_place(tops, mark.thread, level_of(mark)),
@@ -243,8 +243,8 @@ fn tops_of(alloc: Global, threads: u32, marks: &[Mark]) -> Result<Vec<u64>, Allo
 }
 
 /// Where the line of a thread stands, or begins.
-pub(crate) fn line_at(places: &[u64], thread: u32) -> u64
-    ensures { result ≡ spec.line_at places.now thread }
+pub(crate) fn line_from_left(places: &[u64], thread: u32) -> u64
+    ensures { result ≡ spec.line_from_left places.now thread }
 {
     places.get(thread as usize).copied().unwrap_or(0)
 }
@@ -256,14 +256,14 @@ pub(crate) fn frame_of(
     marks: &[Mark],
     height: u32,
 ) -> Result<Frame, AllocError>
-    ensures { IfOk result (λ frame. plain_frame frame
+    ensures { IfOk result (λ frame. chart_frame frame
         ≡ spec.frame_of threads (map plain_mark marks.now) height) }
 {
     let margin = u64::from(margin_of(alloc, marks)?);
     let columns = columns_of(alloc, threads, marks)?;
     let edges = edges_from(alloc, margin + 10, columns.as_slice())?;
     let tops = tops_of(alloc, threads, marks)?;
-    let width = line_at(edges.as_slice(), threads);
+    let width = line_from_left(edges.as_slice(), threads);
     Ok(Frame {
         edges,
         tops,

@@ -5,7 +5,7 @@ ghost use Rattle.std.specs.List.{flat_map};
 ghost use Rattle.cml_chart.specs.Pictures as spec;
 ghost use Rattle.cml_chart.specs.WellFormed.{IsWellFormed};
 ghost use Rattle.cml_chart.specs.Figures.{mark_text, life_text};
-ghost use Rattle.cml_chart.specs.Views.{plain_mark, plain_frame};
+ghost use Rattle.cml_chart.specs.Views.{plain_mark, chart_frame};
 
 use crate::figure::{push_life, push_mark};
 use crate::frame::{Frame, frame_of};
@@ -31,7 +31,7 @@ fn push_style(out: &mut Vec<u8>) -> Result<(), AllocError>
 
 // The corner and the size of a picture.
 fn box_words(alloc: Global, frame: &Frame) -> Result<Vec<u8>, AllocError>
-    ensures { IfOk result (λ words. words.items ≡ spec.box_words (plain_frame frame.now)) }
+    ensures { IfOk result (λ words. words.items ≡ spec.box_words (chart_frame frame.now)) }
 {
     let mut words = Vec::from_slice(alloc, b"0 0 ")?;
     push_number(alloc, &mut words, frame.width)?;
@@ -43,7 +43,7 @@ fn box_words(alloc: Global, frame: &Frame) -> Result<Vec<u8>, AllocError>
 // Appends the size of a picture.
 fn push_size(alloc: Global, out: &mut Vec<u8>, frame: &Frame) -> Result<(), AllocError>
     ensures { OnOk result (out.new.items ≡ out.old.items
-        ++ spec.size_attributes (plain_frame frame.now)) }
+        ++ spec.size_attributes (chart_frame frame.now)) }
 {
     let corners = box_words(alloc, frame)?;
     push_measure(alloc, out, b"width", frame.width)?;
@@ -54,7 +54,7 @@ fn push_size(alloc: Global, out: &mut Vec<u8>, frame: &Frame) -> Result<(), Allo
 // Appends the attributes of the root.
 fn push_root(alloc: Global, out: &mut Vec<u8>, frame: &Frame) -> Result<(), AllocError>
     ensures { OnOk result (out.new.items ≡ out.old.items
-        ++ spec.root_attributes (plain_frame frame.now)) }
+        ++ spec.root_attributes (chart_frame frame.now)) }
 {
     push_attribute(out, b"xmlns", b"http://www.w3.org/2000/svg")?;
     push_attribute(out, b"version", b"1.1")?;
@@ -69,7 +69,7 @@ fn push_lives(
     marks: &[Mark],
 ) -> Result<(), AllocError>
     ensures { OnOk result (out.new.items ≡ out.old.items
-        ++ flat_map (λ m. life_text m.shape (plain_frame frame.now) m) (map plain_mark marks.now)) }
+        ++ flat_map (λ m. life_text m.shape (chart_frame frame.now) m) (map plain_mark marks.now)) }
 {
     for mark in marks {
         push_life(alloc, out, frame, mark)?;
@@ -85,7 +85,7 @@ fn push_marks(
     marks: &[Mark],
 ) -> Result<(), AllocError>
     ensures { OnOk result (out.new.items ≡ out.old.items
-        ++ flat_map (mark_text (plain_frame frame.now)) (map plain_mark marks.now)) }
+        ++ flat_map (mark_text (chart_frame frame.now)) (map plain_mark marks.now)) }
 {
     for mark in marks {
         push_mark(alloc, out, frame, mark)?;
@@ -103,7 +103,7 @@ fn push_content(
     marks: &[Mark],
 ) -> Result<(), AllocError>
     ensures { OnOk result (out.new.items ≡ out.old.items
-        ++ spec.content_text name.now (plain_frame frame.now) (map plain_mark marks.now)) }
+        ++ spec.content_text name.now (chart_frame frame.now) (map plain_mark marks.now)) }
 {
     push_title(alloc, out, name.as_bytes())?;
     push_style(out)?;
@@ -121,7 +121,7 @@ fn framed_picture(
     marks: &[Mark],
 ) -> Result<Vec<u8>, AllocError>
     ensures { IfOk result (λ text. text.items
-        ≡ spec.framed_text name.now (plain_frame frame.now) (map plain_mark marks.now)) }
+        ≡ spec.framed_text name.now (chart_frame frame.now) (map plain_mark marks.now)) }
 {
     let mut out = Vec::from_slice(alloc, b"<?xml version='1.0' encoding='UTF-8'?>\n")?;
     out.extend_from_slice(b"<svg")?;

@@ -67,8 +67,8 @@ fn push_characters(out: &mut String, text: &str) -> Result<(), AllocError>
 }
 
 // A text as it is written.
-fn escaped(alloc: Global, bytes: &[u8]) -> Result<String, AllocError>
-    ensures { IfOk result (λ text. string_bytes text ≡ spec.escaped bytes.now) }
+fn escaped_words(alloc: Global, bytes: &[u8]) -> Result<String, AllocError>
+    ensures { IfOk result (λ text. string_bytes text ≡ spec.escaped_words bytes.now) }
 {
     let text = String::from_utf8_lossy(alloc, bytes)?;
     let mut out = String::new(alloc);
@@ -78,9 +78,9 @@ fn escaped(alloc: Global, bytes: &[u8]) -> Result<String, AllocError>
 
 /// Appends a text as it is written.
 pub(crate) fn push_escaped(alloc: Global, out: &mut Vec<u8>, bytes: &[u8]) -> Result<(), AllocError>
-    ensures { OnOk result (out.new.items ≡ out.old.items ++ spec.escaped bytes.now) }
+    ensures { OnOk result (out.new.items ≡ out.old.items ++ spec.escaped_words bytes.now) }
 {
-    let text = escaped(alloc, bytes)?;
+    let text = escaped_words(alloc, bytes)?;
     out.extend_from_slice(text.as_bytes())
 }
 

@@ -15,14 +15,14 @@ use Rattle.cml_chart.specs.Marks.{row_height}
 use Rattle.cml_narrative.specs.Commits.{named}
 use Rattle.cml_draw.specs.Drafts.{own_draft, cut}
 use Rattle.cml_draw.specs.Heads.{head_words}
-use Rattle.cml_draw.specs.Singles.{plain_event}
+use Rattle.cml_draw.specs.Singles.{bare_event}
 use Rattle.cml_draw.specs.Parts.{acts, takes_part}
-use Rattle.cml_draw.specs.Sheets.{PlainSheet, first_row, with_mark}
+use Rattle.cml_draw.specs.Sheets.{PlainSheet, top_row, with_mark}
 use Rattle.cml_draw.specs.Turns.{began_with, thread_count}
 
 -- the head of the line of a thread that was there before, at the top
 unfoldable pub with_head : List PlainSexpr → List PlainFunction → ℕ → PlainSheet → PlainSheet
-with_head forms began t s = with_mark first_row (named forms began t) s (own_draft Head t (head_words forms began t))
+with_head forms began t s = with_mark top_row (named forms began t) s (own_draft Head t (head_words forms began t))
 
 -- the heads of the lines of the first n threads, of those of which this is true
 unfoldable pub with_heads : List PlainSexpr → List PlainFunction → (ℕ → Bool) → ℕ → PlainSheet → PlainSheet
@@ -33,7 +33,7 @@ with_heads forms began is_shown (suc t) s =
 
 -- a base event for which a thread waits
 unfoldable pub with_event : List PlainSexpr → Shape → ℕ → ℕ → PlainBase → PlainSheet → PlainSheet
-with_event forms shape t at base s = with_mark at (plain_event forms base) s (own_draft shape t (cut (plain_event forms base)))
+with_event forms shape t at base s = with_mark at (bare_event forms base) s (own_draft shape t (cut (bare_event forms base)))
 
 -- these, one below the other
 unfoldable pub with_events : List PlainSexpr → Shape → ℕ → ℕ → List PlainBase → PlainSheet → PlainSheet

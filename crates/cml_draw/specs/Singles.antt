@@ -7,12 +7,12 @@ use Rattle.cml_phrase.specs.Phrases.{value_words}
 use Rattle.cml_phrase.specs.Events.{event_words}
 
 -- a base event by itself
-unfoldable pub plain_event : List PlainSexpr → PlainBase → List ℕ
-plain_event forms base = event_words forms (record { base = base; state = state.Unsaid; who = None })
+unfoldable pub bare_event : List PlainSexpr → PlainBase → List ℕ
+bare_event forms base = event_words forms (record { base = base; state = state.Unsaid; who = None })
 
 -- and what it gives
 abbrev pub giving_words : List PlainSexpr → PlainBase → PlainValue → List ℕ
-giving_words forms base v = plain_event forms base ++ (codes ": " ++ value_words v)
+giving_words forms base v = bare_event forms base ++ (codes ": " ++ value_words v)
 
 -- what is said of a base event that gives this value: what gives no value of its own is said alone
 unfoldable pub single_words : List PlainSexpr → PlainValue → PlainBase → List ℕ
@@ -23,4 +23,4 @@ single_words forms v (mget m) = giving_words forms (mget m) v
 single_words forms v (mswap m x) = giving_words forms (mswap m x) v
 single_words forms v (mail_recv b) = giving_words forms (mail_recv b) v
 single_words forms v (port_recv p) = giving_words forms (port_recv p) v
-single_words forms v base = plain_event forms base
+single_words forms v base = bare_event forms base

@@ -7,7 +7,7 @@ use Rattle.cml_narrative.specs.Tales.{Tale}
 use Rattle.cml_draw.specs.declared.fault.DrawFault.{DrawFault}
 use Rattle.cml_draw.specs.declared.fault.DrawFault.TheVariants.{BadItem, TooMany, Memory}
 use Rattle.cml_draw.specs.Sheets.{PlainSheet, IsTooMuch}
-use Rattle.cml_draw.specs.Draws.{Shows, IsUnfit, ShowsTooMuch}
+use Rattle.cml_draw.specs.Draws.{Shows, HasUnfit, ShowsTooMuch}
 
 -- the item can't happen where the run stands, and has this number
 pub record CantCome (c : PlainCourse) (item : Item) (number : ℕ) (end : PlainCourse) : Type 0 where
@@ -23,7 +23,7 @@ Halts c item end Memory = Unit {0}
 
 -- of these
 abbrev pub HaltsOf : PlainCourse → List Item → PlainCourse → DrawFault → Type 0
-HaltsOf c items end (BadItem number) = IsUnfit c items number end
+HaltsOf c items end (BadItem number) = HasUnfit c items number end
 HaltsOf c items end TooMany = ⊥
 HaltsOf c items end Memory = Unit {0}
 
@@ -35,6 +35,6 @@ Stops tale c s item end Memory = Unit {0}
 
 -- of these
 abbrev pub StopsOf : Tale → PlainCourse → PlainSheet → List Item → PlainCourse → DrawFault → Type 0
-StopsOf tale c s items end (BadItem number) = IsUnfit c items number end
+StopsOf tale c s items end (BadItem number) = HasUnfit c items number end
 StopsOf tale c s items end TooMany = ShowsTooMuch tale c s items end
 StopsOf tale c s items end Memory = Unit {0}

@@ -63,9 +63,9 @@ turn_draft forms old t new =
     if nat_lt old.faults (fault_count (text_of new.program) new.items) then Some (own_draft Fault t (fault_words t (drop old.printed new.output)))
     else print_draft forms old t new
 
-abbrev pub listed : Option PlainDraft → List PlainDraft
-listed None = []
-listed (Some d) = d ∷ []
+abbrev pub listed_draft : Option PlainDraft → List PlainDraft
+listed_draft None = []
+listed_draft (Some d) = d ∷ []
 
 -- a move of the clock, which is of no thread
 abbrev pub clock_draft : ℕ → PlainDraft
@@ -80,7 +80,7 @@ planned_drafts forms w (item.Clock tick) = clock_draft tick ∷ []
 
 -- what a turn shows that has come
 unfoldable pub came_drafts : List PlainSexpr → Before → Item → PlainCourse → List PlainDraft
-came_drafts forms old (item.Turn t) new = listed (turn_draft forms old t.0 new)
+came_drafts forms old (item.Turn t) new = listed_draft (turn_draft forms old t.0 new)
 came_drafts forms old (item.Meet row) new = []
 came_drafts forms old (item.Exchange row) new = []
 came_drafts forms old (item.Clock tick) new = []

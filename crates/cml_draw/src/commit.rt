@@ -1,6 +1,6 @@
 //! What a commit shows.
 
-ghost use Rattle.std.specs.Prelude.{◌≡◌, ◌++◌, ◌∷◌, [], IfOk, OnOk, map, codes};
+ghost use Rattle.std.specs.Prelude.{◌≡◌, ◌++◌, ◌∷◌, [], IfOk, OnOk, map, codes, option_copied, unwrap_or};
 ghost use Rattle.cml_value.specs.Value.{unit};
 ghost use Rattle.std.specs.List.{flat_map};
 ghost use Rattle.std.specs.Option.{option_map};
@@ -16,7 +16,7 @@ ghost use Rattle.cml_draw.specs.Singles as alone;
 ghost use Rattle.cml_draw.specs.Views.{plain_draft};
 
 use crate::draft::{Draft, cut, led_draft, own_draft};
-use crate::single::push_single;
+use crate::single::{push_held_value, push_single};
 use cml_book::Book;
 use cml_chart::Shape;
 use cml_group::Chosen;
@@ -28,13 +28,21 @@ use cml_text::Sexpr;
 use cml_value::{Base, BaseKind, NackId, Value};
 use std::alloc::{AllocError, Global};
 
+// Appends a nack, with a comma before it.
+fn push_number(alloc: Global, out: &mut Vec<u8>, nack: NackId) -> Result<(), AllocError>
+    ensures { OnOk result (out.new.items ≡ out.old.items ++ and_number nack.0) }
+{
+    let text = format!(in alloc; "{}", nack.0)?;
+    out.extend_from_slice(b", ")?;
+    out.extend_from_slice(text.as_bytes())
+}
+
 // Appends these nacks, with a comma before each.
 fn push_numbers(alloc: Global, out: &mut Vec<u8>, nacks: &[NackId]) -> Result<(), AllocError>
     ensures { OnOk result (out.new.items ≡ out.old.items ++ flat_map and_number (numbers nacks.now)) }
 {
     for nack in nacks {
-        let text = format!(in alloc; ", {}", nack.0)?;
-        out.extend_from_slice(text.as_bytes())?;
+        push_number(alloc, out, *nack)?;
     }
     Ok(())
 }
@@ -107,20 +115,21 @@ fn add_single(
     }
 }
 
-// A value that goes over a channel of this kind and number.
+// A value that goes over a channel of this kind and number, or unit where there is none.
 #[tactic(auto, unfolding(crate::specs::Commits::over_words))]
 fn over_words(
     alloc: Global,
     channel: &[u8],
     number: u32,
-    value: &Value,
+    value: Option<&Value>,
 ) -> Result<Vec<u8>, AllocError>
-    ensures { IfOk result (λ words. words.items ≡ spec.over_words channel.now number value.now) }
+    ensures { let held = unwrap_or (option_copied value.entry) unit in
+        IfOk result (λ words. words.items ≡ spec.over_words channel.now number held) }
 {
     let mut words = Vec::from_slice(alloc, channel)?;
     let text = format!(in alloc; "{number}: ")?;
     words.extend_from_slice(text.as_bytes())?;
-    push_value(alloc, &mut words, value)?;
+    push_held_value(alloc, &mut words, value)?;
     cut(alloc, words.as_slice())
 }
 
@@ -132,14 +141,29 @@ fn add_arrow(drafts: &mut Vec<Draft>, from: u32, to: u32, words: Vec<u8>) -> Res
     Ok(drafts.push(led_draft(Shape::Arrow, from, to, words))?)
 }
 
-// What the other hands over in a swap.
-fn handed_words(alloc: Global, base: &Base, number: u32) -> Result<Vec<u8>, AllocError>
-    ensures { IfOk result (λ words. words.items
-        ≡ spec.over_words (codes "swap channel ") number (handed base.now)) }
+// Adds an arrow, and one back.
+fn add_both(
+    drafts: &mut Vec<Draft>,
+    from: u32,
+    to: u32,
+    words: Vec<u8>,
+    back: Vec<u8>,
+) -> Result<(), AllocError>
+    ensures { OnOk result (map plain_draft drafts.new.items
+        ≡ map plain_draft drafts.old.items
+        ++ drawn.led_draft Shape.Arrow from to words.items ∷ drawn.led_draft Shape.Arrow to from back.items ∷ []) }
+{
+    add_arrow(drafts, from, to, words)?;
+    add_arrow(drafts, to, from, back)
+}
+
+// What a thread hands over by this base event; none stands for unit.
+fn handed_value(base: &Base) -> Option<&Value>
+    ensures { unwrap_or (option_copied result) unit ≡ handed base.now }
 {
     match base.kind() {
-        BaseKind::Send(_, v) => over_words(alloc, b"swap channel ", number, v),
-        BaseKind::Swap(_, v) => over_words(alloc, b"swap channel ", number, v),
+        BaseKind::Send(_, v) => Some(v),
+        BaseKind::Swap(_, v) => Some(v),
         BaseKind::Always(_)
         | BaseKind::Recv(_)
         | BaseKind::IGet(_)
@@ -151,20 +175,8 @@ fn handed_words(alloc: Global, base: &Base, number: u32) -> Result<Vec<u8>, Allo
         | BaseKind::Join(_)
         | BaseKind::At(_)
         | BaseKind::After(_)
-        | BaseKind::Nack(_) => unit_words(alloc, number),
+        | BaseKind::Nack(_) => None,
     }
-}
-
-// The same of unit.
-#[tactic(auto, using(crate::proofs::UnitSaid::unit_shown), unfolding(crate::specs::Commits::over_words))]
-fn unit_words(alloc: Global, number: u32) -> Result<Vec<u8>, AllocError>
-    ensures { IfOk result (λ words. words.items
-        ≡ spec.over_words (codes "swap channel ") number unit) }
-{
-    let text = format!(in alloc; "swap channel {number}: ")?;
-    let mut words = Vec::from_slice(alloc, text.as_bytes())?;
-    words.extend_from_slice(b"()")?;
-    cut(alloc, words.as_slice())
 }
 
 // Adds what goes between the head of a pair and the other.
@@ -182,14 +194,13 @@ fn add_arrows(
 {
     match base.kind() {
         BaseKind::Send(c, v) => {
-            let words = over_words(alloc, b"channel ", c.0, v)?;
+            let words = over_words(alloc, b"channel ", c.0, Some(v))?;
             add_arrow(drafts, head, other, words)
         }
         BaseKind::Swap(s, v) => {
-            let words = over_words(alloc, b"swap channel ", s.0, v)?;
-            let back = handed_words(alloc, theirs, s.0)?;
-            add_arrow(drafts, head, other, words)?;
-            add_arrow(drafts, other, head, back)
+            let words = over_words(alloc, b"swap channel ", s.0, Some(v))?;
+            let back = over_words(alloc, b"swap channel ", s.0, handed_value(theirs))?;
+            add_both(drafts, head, other, words, back)
         }
         BaseKind::Always(_)
         | BaseKind::Recv(_)
@@ -242,7 +253,7 @@ fn add_fired(
 {
     match taken {
         Some(x) => add_nacks(alloc, drafts, thread, x.lost.as_slice()),
-        None => Ok(()),
+        None => add_nacks(alloc, drafts, thread, &[]),
     }
 }
 

@@ -3,6 +3,7 @@
 ghost use Rattle.std.specs.Prelude.{◌≡◌, ◌≤◌, ◌*◌, ◌+◌, IfOk, OnOk, length, take, slice_get};
 ghost use Rattle.cml_chart.specs.Marks as mark;
 ghost use Rattle.cml_phrase.specs.Events.{event_limit};
+ghost use Rattle.cml_narrative.specs.Commits.{named};
 ghost use Rattle.cml_draw.specs.Lives as spec;
 ghost use Rattle.cml_draw.specs.Turns.{began_with};
 ghost use Rattle.cml_draw.specs.Views.{plain_sheet};
@@ -240,6 +241,39 @@ fn add_running(
     sheet.add_mark(alloc, bottom, title, &own_draft(Shape::Runs, thread, words))
 }
 
+// Adds that this thread of the run runs.
+fn add_runs(
+    alloc: Global,
+    sheet: &mut Sheet,
+    forms: &[Sexpr],
+    hub: &Hub,
+    thread: u32,
+) -> Result<(), AllocError>
+    ensures { OnOk result (plain_sheet sheet.new
+        ≡ spec.with_running (named forms.now (began_with hub.now.course) thread) thread (plain_sheet sheet.old)) }
+{
+    let title = thread_words(alloc, forms, hub, thread)?;
+    add_running(alloc, sheet, thread, title.as_slice())
+}
+
+// Adds the circle of this thread of the run, which waits on this group.
+fn add_waits(
+    alloc: Global,
+    sheet: &mut Sheet,
+    forms: &[Sexpr],
+    hub: &Hub,
+    is_quiet: bool,
+    thread: u32,
+    group: &Group,
+) -> Result<(), AllocError>
+    ensures { OnOk result (plain_sheet sheet.new
+        ≡ spec.with_circle forms.now (named forms.now (began_with hub.now.course) thread) is_quiet thread group.now (plain_sheet sheet.old)) }
+{
+    let title = thread_words(alloc, forms, hub, thread)?;
+    let named = title.as_slice();
+    add_circle(alloc, sheet, forms, is_quiet, thread, named, group)
+}
+
 /// Adds the end of the line of a thread, if it is left.
 #[tactic(auto, using(crate::proofs::Left::left_runs, crate::proofs::Left::left_waits, crate::proofs::Left::left_ended))]
 pub(crate) fn add_left(
@@ -253,20 +287,11 @@ pub(crate) fn add_left(
     ensures { OnOk result (plain_sheet sheet.new
         ≡ spec.with_left forms.now (began_with hub.now.course) is_quiet thread (slice_get hub.now.course.world.threads thread) (plain_sheet sheet.old)) }
 {
-    let title = thread_words(alloc, forms, hub, thread)?;
     if hub.book().is_running(Tid(thread)) {
-        return add_running(alloc, sheet, thread, title.as_slice());
+        return add_runs(alloc, sheet, forms, hub, thread);
     }
     match hub.book().waiting(Tid(thread)) {
-        Some(group) => add_circle(
-            alloc,
-            sheet,
-            forms,
-            is_quiet,
-            thread,
-            title.as_slice(),
-            group,
-        ),
+        Some(group) => add_waits(alloc, sheet, forms, hub, is_quiet, thread, group),
         None => Ok(()),
     }
 }

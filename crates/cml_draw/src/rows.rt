@@ -77,7 +77,7 @@ impl Sheet {
     }
 
     // A row more.
-    #[tactic(auto, using(crate::proofs::RowLemmas::height_small), unfolding(crate::specs::Sheets::with_row))]
+    #[tactic(auto, using(crate::proofs::RowLemmas::height_small), unfolding(crate::specs::Sheets::with_one_row))]
     fn add_row(
         &mut self,
         alloc: Global,
@@ -86,8 +86,8 @@ impl Sheet {
         draft: &Draft,
     ) -> Result<(), DrawFault>
         ensures added { OnOk result (plain_sheet self.new
-            ≡ spec.with_row item title.now (plain_sheet self.old) (plain_draft draft.now)) }
-        ensures refused { IfErr result (λ why. spec.RefusesRows (spec.with_row item title.now (plain_sheet self.old) (plain_draft draft.now)) why) }
+            ≡ spec.with_one_row item title.now (plain_sheet self.old) (plain_draft draft.now)) }
+        ensures refused { IfErr result (λ why. spec.RefusesRows (spec.with_one_row item title.now (plain_sheet self.old) (plain_draft draft.now)) why) }
     {
         let bottom = self.bottom + row_height(draft.shape);
         let rows = self.rows + counted_rows(draft.shape);

@@ -1,11 +1,11 @@
 //! Which items are shown, and what they show.
 
-ghost use Rattle.std.specs.Prelude.{◌≡◌, ◌+◌, ◌∷◌, [], IfOk, IfErr, OnOk, length};
+ghost use Rattle.std.specs.Prelude.{◌≡◌, ◌+◌, ◌∷◌, [], IfOk, IfErr, OnOk, drop, length, take};
 ghost use Rattle.cml_hub.specs.Courses.{Adds};
 ghost use Rattle.cml_hub.specs.Kept.{NoneOut};
 ghost use Rattle.cml_narrative.specs.Tellers.{tale_of, Knows};
 ghost use Rattle.cml_draw.specs.Draws as spec;
-ghost use Rattle.cml_draw.specs.Draws.{IsShown, Leads, Refuses, Shows};
+ghost use Rattle.cml_draw.specs.Draws.{IsRangeShown, ItemsLead, IsNotDrawn, Shows};
 ghost use Rattle.cml_draw.specs.Sheets.{blank_sheet};
 ghost use Rattle.cml_draw.specs.Stops.{Halts, HaltsOf, Stops, StopsOf};
 ghost use Rattle.cml_draw.specs.Views.{plain_sheet};
@@ -18,22 +18,40 @@ use cml_narrative::Narrator;
 use cml_text::Sexpr;
 use std::alloc::Global;
 
+// The first of these, so many.
+fn first_of(items: &[Item], count: usize) -> &[Item]
+    ensures { result.now ≡ take count items.now }
+{
+    if count < items.len() {
+        &items[..count]
+    } else {
+        items
+    }
+}
+
+// Those behind them.
+fn behind(items: &[Item], count: usize) -> &[Item]
+    ensures { result.now ≡ drop count items.now }
+{
+    if count < items.len() {
+        &items[count..]
+    } else {
+        &[]
+    }
+}
+
 // The items before the first that is shown.
 fn items_before(items: &[Item], from: usize, to: usize) -> &[Item]
     ensures { result.now ≡ spec.items_before from to items.now }
 {
-    let last = to.min(items.len());
-    let first = from.saturating_sub(1).min(last);
-    &items[..first]
+    first_of(first_of(items, to), from.saturating_sub(1))
 }
 
 /// The items that are shown.
 pub(crate) fn items_within(items: &[Item], from: usize, to: usize) -> &[Item]
     ensures { result.now ≡ spec.items_within from to items.now }
 {
-    let last = to.min(items.len());
-    let first = from.saturating_sub(1).min(last);
-    &items[first..last]
+    behind(first_of(items, to), from.saturating_sub(1))
 }
 
 // The number of the item that comes next, which can't happen.
@@ -74,7 +92,7 @@ fn follow_all(
 ) -> Result<(), DrawFault>
     requires none_out { NoneOut hub.old }
     requires knows { Knows hub.old.course narrator.old }
-    ensures leads { OnOk result (Leads hub.old.course items.now hub.new.course) }
+    ensures leads { OnOk result (ItemsLead hub.old.course items.now hub.new.course) }
     ensures halts { IfErr result (λ why. HaltsOf hub.old.course items.now hub.new.course why) }
     ensures knows { OnOk result (Knows hub.new.course narrator.new) }
     ensures tale { tale_of narrator.new ≡ tale_of narrator.old }
@@ -153,8 +171,8 @@ pub(crate) fn show_range(
     requires knows { Knows hub.old.course narrator.old }
     requires forms { forms.now ≡ narrator.old.forms.now }
     requires blank { plain_sheet sheet.old ≡ blank_sheet }
-    ensures shown { IfOk result (λ before. IsShown (tale_of narrator.old) hub.old.course items.now from to before hub.new.course (plain_sheet sheet.new)) }
-    ensures refused { IfErr result (λ why. Refuses (tale_of narrator.old) hub.old.course items.now from to hub.new.course why) }
+    ensures shown { IfOk result (λ before. IsRangeShown (tale_of narrator.old) hub.old.course items.now from to before hub.new.course (plain_sheet sheet.new)) }
+    ensures refused { IfErr result (λ why. IsNotDrawn (tale_of narrator.old) hub.old.course items.now from to hub.new.course why) }
     ensures none_out { NoneOut hub.new }
 {
     follow_all(alloc, narrator, hub, items_before(items, from, to))?;

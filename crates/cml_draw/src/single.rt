@@ -15,14 +15,14 @@ use cml_value::{Base, BaseKind, Value};
 use std::alloc::{AllocError, Global};
 
 /// Appends a base event by itself.
-#[tactic(auto, unfolding(crate::specs::Singles::plain_event))]
+#[tactic(auto, unfolding(crate::specs::Singles::bare_event))]
 pub(crate) fn push_plain_event(
     alloc: Global,
     out: &mut Vec<u8>,
     forms: &[Sexpr],
     base: &Base,
 ) -> Result<(), AllocError>
-    ensures { OnOk result (out.new.items ≡ out.old.items ++ spec.plain_event forms.now base.now) }
+    ensures { OnOk result (out.new.items ≡ out.old.items ++ spec.bare_event forms.now base.now) }
 {
     let told = Told {
         base,
@@ -32,9 +32,9 @@ pub(crate) fn push_plain_event(
     push_event(alloc, out, forms, told)
 }
 
-// Appends what an object holds, or unit where it holds nothing.
+/// Appends a value, or unit where there is none.
 #[tactic(auto, using(crate::proofs::UnitSaid::unit_shown))]
-fn push_held_value(
+pub(crate) fn push_held_value(
     alloc: Global,
     out: &mut Vec<u8>,
     value: Option<&Value>,

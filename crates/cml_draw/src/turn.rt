@@ -213,7 +213,7 @@ fn add_came(
     old: Before,
 ) -> Result<(), AllocError>
     ensures { OnOk result (map plain_draft drafts.new.items
-        ≡ map plain_draft drafts.old.items ++ spec.listed (spec.turn_draft forms.now old thread hub.now.course)) }
+        ≡ map plain_draft drafts.old.items ++ spec.listed_draft (spec.turn_draft forms.now old thread hub.now.course)) }
 {
     match turn_draft(alloc, forms, hub, thread, old)? {
         Some(draft) => Ok(drafts.push(draft)?),

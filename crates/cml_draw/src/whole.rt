@@ -6,7 +6,7 @@ ghost use Rattle.cml_chart.specs.WellFormed.{IsWellFormed};
 ghost use Rattle.cml_hub.specs.Kept.{NoneOut};
 ghost use Rattle.cml_narrative.specs.Tales.{Tale};
 ghost use Rattle.cml_draw.specs.Draws as spec;
-ghost use Rattle.cml_draw.specs.Draws.{Draws, Refuses};
+ghost use Rattle.cml_draw.specs.Draws.{Draws, IsNotDrawn};
 ghost use Rattle.cml_draw.specs.Views.{plain_sheet};
 
 use crate::fault::DrawFault;
@@ -62,7 +62,7 @@ pub fn draw(
         IfOk result (λ picture. Draws tale name.now hub.old.course items.now from to hub.new.course picture.items) }
     ensures well_formed { IfOk result (λ picture. IsWellFormed picture.items) }
     ensures refused { let tale : Tale = record { text = text.now; forms = forms.now; digits = length (decimal (length items.now)) } in
-        IfErr result (λ why. Refuses tale hub.old.course items.now from to hub.new.course why) }
+        IfErr result (λ why. IsNotDrawn tale hub.old.course items.now from to hub.new.course why) }
     ensures none_out { NoneOut hub.new }
 {
     let mut narrator = Narrator::new(alloc, text, forms, items.len())?;
