@@ -136,6 +136,6 @@ pub range_stops : (tale : Tale) (start : PlainCourse) (items : List Item) (from 
     ItemsLead start (items_before from to items) first → StopsOf tale first blank_sheet (items_within from to items) end why → IsNotDrawn tale start items from to end why
 range_stops tale start items from to first end (BadItem number) leads h =
     subst (λ xs. HasUnfit start xs number end) (take-append-drop (from - 1) (take to items))
-    (stops_then start (items_before from to items) first (items_within from to items) number end leads h)
+    (stops_then tale start (items_before from to items) first (items_within from to items) number end leads h)
 range_stops tale start items from to first end TooMany leads h = record { first = first; leads = leads; shows = h }
 range_stops tale start items from to first end Memory leads h = tt

@@ -13,15 +13,15 @@ use Rattle.cml_draw.specs.Sheets.{PlainSheet, blank_sheet, with_rows, row_limit,
 use Rattle.cml_draw.specs.Lives.{with_lines}
 
 -- the rows of an item that leads from one course to the next, whose title is its line in the narrative
-abbrev pub with_shown : List PlainSexpr → PlainCourse → Item → PlainCourse → List ℕ → PlainSheet → PlainSheet
-with_shown forms c item next told s = with_rows (length next.items) told s (item_drafts forms c item next)
+abbrev pub with_rows_of : List PlainSexpr → PlainCourse → Item → PlainCourse → List ℕ → PlainSheet → PlainSheet
+with_rows_of forms c item next told s = with_rows (length next.items) told s (item_drafts forms c item next)
 
 -- What these items show that lead from one course to another: a sheet that grows by the rows of each.
 abbrev pub Shows : Tale → PlainCourse → PlainSheet → List Item → PlainCourse → PlainSheet → Type 0
 Shows tale c s [] c' s' = (c' ≡ c) × (s' ≡ s)
 Shows tale c s (item ∷ items) c' s' =
     (next : PlainCourse) × (told : List ℕ) × Adds c item next × TellsItem tale c item next told
-    × Shows tale next (with_shown tale.forms c item next told s) items c' s'
+    × Shows tale next (with_rows_of tale.forms c item next told s) items c' s'
 
 -- these items lead from one course to another
 abbrev pub ItemsLead : PlainCourse → List Item → PlainCourse → Type 0
