@@ -1,15 +1,14 @@
 -- One item more.
-use Rattle.std.proofs.Common.{◌≡◌, ℕ, suc, ◌+◌, ◌-◌, ◌<◌, ◌≤◌, List, [], ◌∷◌, ◌++◌, length, take, drop, get_or, false, refl, sym, ap, subst, ◌∙◌, arith, append_assoc, append-nil, length-append, take-append-drop, drop-cons}
+use Rattle.std.proofs.Common.{◌≡◌, ℕ, suc, ◌+◌, ◌-◌, ◌<◌, List, [], ◌∷◌, ◌++◌, length, take, drop, get_or, refl, sym, ap, subst, ◌∙◌, arith, append_assoc, length-append, take-append-drop, drop-cons}
 use Rattle.std.proofs.lemmas.List.{take_more}
 use Rattle.cml_schedule.specs.declared.item.Item.{Item}
 use Rattle.cml_hub.specs.Courses.{PlainCourse, Adds}
 use Rattle.cml_hub.specs.Runs.{is_allowed}
-use Rattle.cml_narrative.specs.Tales.{Tale, TellsItem}
+use Rattle.cml_narrative.specs.Tales.{Tale}
 use Rattle.cml_draw.specs.declared.fault.DrawFault.{DrawFault}
 use Rattle.cml_draw.specs.declared.fault.DrawFault.TheVariants.{BadItem, TooMany, Memory}
-use Rattle.cml_draw.specs.Sheets.{PlainSheet, blank_sheet, row_limit, height_limit, IsTooMuch}
-use Rattle.cml_draw.specs.Draws.{ItemsLead, Shows, HasUnfit, ShowsTooMuch, IsRangeShown, IsNotDrawn, items_before, items_within}
-use Rattle.cml_draw.specs.Turns.{thread_count}
+use Rattle.cml_draw.specs.Sheets.{PlainSheet, blank_sheet}
+use Rattle.cml_draw.specs.Draws.{ItemsLead, Shows, HasUnfit, IsNotDrawn, items_before, items_within}
 use Rattle.cml_draw.specs.Stops.{CantCome, Halts, HaltsOf, Stops, StopsOf}
 
 -- what leads on, and then these

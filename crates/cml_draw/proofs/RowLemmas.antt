@@ -1,6 +1,5 @@
 -- Rows, one below the other.
-use Rattle.std.proofs.Common.{◌≡◌, ℕ, suc, ◌+◌, ◌<◌, ◌≤◌, ◌⊎◌, List, [], ◌∷◌, ◌++◌, map, length, get_or, drop, arith, inl, inr, sym, ap, subst, ◌∙◌, drop-cons, add-one}
-use Rattle.std.specs.List.{fold}
+use Rattle.std.proofs.Common.{◌≡◌, ℕ, suc, ◌<◌, ◌≤◌, List, [], ◌∷◌, map, length, get_or, drop, arith, inl, inr, sym, ap, subst, ◌∙◌, drop-cons}
 use Rattle.cml_chart.specs.declared.mark.Shape.{Shape}
 use Rattle.cml_chart.specs.declared.mark.Shape.TheVariants.{Head, Spawn, Arrow, Dot, Tick, Print, Nack, End, Fault, Waits, Stuck, Runs, Event, Lost}
 use Rattle.cml_chart.specs.Marks.{row_height}

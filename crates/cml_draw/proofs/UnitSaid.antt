@@ -1,5 +1,5 @@
 -- How unit is said.
-use Rattle.std.proofs.Common.{◌≡◌, ◌++◌, List, ℕ, refl, ap}
+use Rattle.std.proofs.Common.{◌≡◌, ◌++◌, List, ℕ, refl}
 use Rattle.std.specs.Prelude.{codes}
 use Rattle.cml_value.specs.Value.{unit}
 use Rattle.cml_place.specs.Shown.{shown_bytes, bytes_of_first}

@@ -1,7 +1,6 @@
 -- Which threads take part.
 use Rattle.std.specs.Prelude.{ℕ, ◌==◌, Bool, true, false, ◌||◌, List, Option, Some, None, unwrap_or, slice_get, nat_le}
 use Rattle.std.specs.List.{list_any}
-
 use Rattle.cml_scan.specs.declared.meet.Meet.{Meet}
 use Rattle.cml_scan.specs.declared.meet.Meet.TheVariants.{Single, Pair}
 use Rattle.cml_schedule.specs.declared.item.Item.{Item}

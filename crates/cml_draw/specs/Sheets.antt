@@ -2,7 +2,7 @@
 use Rattle.std.specs.Prelude.{ℕ, ◌+◌, ◌<◌, ◌⊎◌, max, List, [], ◌∷◌, ◌++◌}
 use Rattle.std.specs.List.{fold}
 use Rattle.cml_chart.specs.declared.mark.Shape.{Shape}
-use Rattle.cml_chart.specs.declared.mark.Shape.TheVariants.{Head, Spawn, Arrow, Dot, Tick, Print, Nack, End, Fault, Waits, Stuck, Runs, Event, Lost}
+use Rattle.cml_chart.specs.declared.mark.Shape.TheVariants.{Print, Nack}
 use Rattle.cml_chart.specs.Marks.{ChartMark, row_height}
 use Rattle.cml_draw.specs.declared.fault.DrawFault.{DrawFault}
 use Rattle.cml_draw.specs.declared.fault.DrawFault.TheVariants.{BadItem, TooMany, Memory}

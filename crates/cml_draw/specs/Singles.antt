@@ -1,7 +1,7 @@
 -- What a dot says: an event that a thread takes alone, and the value that it gives.
 use Rattle.std.specs.Prelude.{ℕ, List, ◌++◌, codes, None}
 use Rattle.cml_text.specs.Forms.{PlainSexpr}
-use Rattle.cml_value.specs.Value.{PlainValue, PlainBase, always, send, recv, swap, iget, mtake, mget, mswap, mail_recv, port_recv, join, at_tick, after_ticks, nack}
+use Rattle.cml_value.specs.Value.{PlainValue, PlainBase, always, iget, mtake, mget, mswap, mail_recv, port_recv}
 use Rattle.cml_phrase.specs.declared.event.ObjectState.TheVariants as state
 use Rattle.cml_phrase.specs.Phrases.{value_words}
 use Rattle.cml_phrase.specs.Events.{event_words}

@@ -177,6 +177,13 @@ pub(crate) fn show_range(
 {
     follow_all(alloc, narrator, hub, items_before(items, from, to))?;
     let before = hub.book().next_thread().0;
-    show_all(alloc, narrator, hub, sheet, forms, items_within(items, from, to))?;
+    show_all(
+        alloc,
+        narrator,
+        hub,
+        sheet,
+        forms,
+        items_within(items, from, to),
+    )?;
     Ok(before)
 }

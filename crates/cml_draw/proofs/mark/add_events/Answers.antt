@@ -1,5 +1,4 @@
-use Rattle.std.proofs.Common.{arith, sym, ◌∙◌, ap}
-use Rattle.cml_draw.specs.Lives.{with_events}
+use Rattle.std.proofs.Common.{arith, sym, ◌∙◌}
 use Rattle.cml_draw.specs.Views.{plain_sheet}
 use Rattle.cml_draw.proofs.EventLemmas.{events_on, events_end}
 use Rattle.cml_draw.proofs.RowLemmas.{height_small}

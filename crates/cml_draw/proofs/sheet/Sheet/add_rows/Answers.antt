@@ -1,4 +1,4 @@
-use Rattle.std.proofs.Common.{rules, ◌≡◌, ◌<◌, IfErr, Err, length, map, subst, sym}
+use Rattle.std.proofs.Common.{rules, ◌≡◌, IfErr, Err, map, subst, sym}
 use Rattle.cml_draw.specs.Sheets.{with_rows, RefusesRows}
 use Rattle.cml_draw.specs.Views.{plain_draft, plain_sheet}
 use Rattle.cml_draw.proofs.RowLemmas.{rows_refused}
