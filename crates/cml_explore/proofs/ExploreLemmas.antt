@@ -39,7 +39,7 @@ map_more : (es : List PlainEnded) (e : PlainEnded) → map (λ x. x.finish) (es 
 map_more [] e = refl
 map_more (x ∷ es) e = ap (λ l. x.finish ∷ l) (map_more es e)
 
-map_long : (es : List PlainEnded) → length (map (λ x. x.finish) es) ≡ length es
+pub map_long : (es : List PlainEnded) → length (map (λ x. x.finish) es) ≡ length es
 map_long [] = refl
 map_long (x ∷ es) = let rest = map_long es in omega arith
 

@@ -8,3 +8,4 @@ pub mod SightLemmas
 pub mod AnswerLemmas
 pub mod RankLemmas
 pub mod SaidLemmas
+pub mod LawLemmas

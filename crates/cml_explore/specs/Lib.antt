@@ -12,3 +12,4 @@ pub mod Words
 pub mod Answers
 pub mod SightViews
 pub mod ClassViews
+pub mod Laws

@@ -8,6 +8,7 @@ mod details;
 mod explored;
 mod fall;
 mod finish;
+pub mod law;
 mod lot;
 mod rank;
 mod run;

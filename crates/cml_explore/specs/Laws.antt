@@ -1,0 +1,33 @@
+-- What holds of the classes of all runs.
+use Rattle.std.specs.Prelude.{ℕ, ◌≡◌, ◌≤◌, ◌<◌, ◌+◌, true, List, sum_by}
+use Rattle.std.specs.List.{All}
+use Rattle.cml_check.specs.Syntax.{PlainItem}
+use Rattle.cml_schedule.specs.declared.item.Item.{Item}
+use Rattle.cml_hub.specs.Kept.{Kept}
+use Rattle.cml_explore.specs.declared.detail.Detail.{Detail}
+use Rattle.cml_explore.specs.declared.explored.Asked.{Asked}
+use Rattle.cml_explore.specs.Details.{AreDetails, alike}
+use Rattle.cml_explore.specs.Classes.{PlainClass}
+use Rattle.cml_explore.specs.Finishes.{IsSeedRun}
+use Rattle.cml_explore.specs.Explored.{PlainExplored, IsExplored}
+
+-- This is the schedule of the run by one of so many seeds, which ended as the runs of a class did that have these details.
+pub record IsOneOfClass (p : List (PlainItem ℕ)) (asked : Asked) (runs : ℕ) (details : List Detail) (items : List Item) : Type 0 where
+  pub seed : ℕ
+  pub from : asked.first ≤ seed
+  pub below : seed < asked.first + runs
+  pub hub : Kept
+  pub run : IsSeedRun p asked.budget asked.turns seed hub
+  pub ended : List Detail
+  pub are : AreDetails hub ended
+  pub same : alike ended details ≡ true
+  pub items_are : hub.course.items ≡ items
+
+-- The schedule that is kept of a class is that of one of its runs.
+abbrev pub KeepsItsOwn : Type 0
+KeepsItsOwn =
+    (p : List (PlainItem ℕ)) (asked : Asked) (made : PlainExplored) → IsExplored p asked made → All (λ c. IsOneOfClass p asked made.runs c.details c.tally.shortest) made.classes
+
+-- Each run counts once.
+abbrev pub CountsEachOnce : Type 0
+CountsEachOnce = (p : List (PlainItem ℕ)) (asked : Asked) (made : PlainExplored) → IsExplored p asked made → sum_by (λ c. c.tally.runs) made.classes ≡ made.runs
