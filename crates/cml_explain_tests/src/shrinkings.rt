@@ -36,13 +36,13 @@ const TOGETHER: &str =
     "turn 0\nturn 0\nturn 0\nturn 0\nturn 0\nturn 1\nturn 2\ncommit 1 0\nturn 1\nturn 1\ncommit 2 0\nturn 2\nturn 2\n";
 
 const CASES: [Case; 7] = [
-    // Nothing can be left out: 8 tries for ranges, 26 for one pass, 3 for turns that move, and 26 for the last pass.
+    // Nothing can be left out: 26 tries for one pass, 3 for turns that move, 22 for ranges, and 26 for the last pass.
     Case {
         script: LOCKS,
         items: "turn 0\nturn 0\nturn 0\nturn 1\nturn 0\nturn 2\nturn 0\ncommit 1 0\nturn 1\ncommit 2 0\nturn 2\nturn 1\nturn 2\n",
         tries: 10_000,
         found: TOGETHER,
-        used: 63,
+        used: 77,
         said: "13 items, 2 commits -> 13 items, 2 commits\n",
     },
     // Two of the prints are left out, in a pass of 28 tries.
@@ -51,24 +51,24 @@ const CASES: [Case; 7] = [
         items: PRINTED,
         tries: 10_000,
         found: TOGETHER,
-        used: 91,
+        used: 105,
         said: "15 items, 2 commits -> 13 items, 2 commits\n",
     },
-    // The last print is left out by the eleventh try.
+    // The last print is left out by the third try.
     Case {
         script: PRINTS,
         items: PRINTED,
-        tries: 11,
+        tries: 3,
         found: "turn 0\nturn 0\nturn 0\nturn 1\nturn 0\nturn 2\nturn 0\ncommit 1 0\nturn 1\nturn 0\ncommit 2 0\nturn 2\nturn 1\nturn 2\n",
-        used: 11,
+        used: 3,
         said: "15 items, 2 commits -> 14 items, 2 commits\n",
     },
     Case {
         script: PRINTS,
         items: PRINTED,
-        tries: 10,
+        tries: 2,
         found: PRINTED,
-        used: 10,
+        used: 2,
         said: "15 items, 2 commits -> 15 items, 2 commits\n",
     },
     Case {

@@ -52,7 +52,7 @@ fn cut_ranges(
     Ok(())
 }
 
-/// Tries to leave out halves of the items, then quarters, and so on, down to two in a row.
+/// Tries to leave out halves of the items, then quarters, and so on, down to eight in a row.
 ///
 /// # Errors
 /// Out of memory.
@@ -66,9 +66,31 @@ pub(crate) fn halve(
     ensures { OnOk result (Goes goal.now search.old search.new) }
 {
     let mut size = search.items.len() / 2;
-    while size > 1 {
+    while size > 7 {
         cut_ranges(search, alloc, goal, size)?;
         size /= 2;
+    }
+    Ok(())
+}
+
+/// Tries to leave out so many items in a row, for most numbers from half of them down to two: what comes round again and again can be left out by as many
+/// items as one round has.
+///
+/// # Errors
+/// Out of memory.
+pub(crate) fn thin(
+    search: &mut Search,
+    alloc: Global,
+    goal: &Goal<'_>,
+) -> Result<(), AllocError>
+    requires budget { IsBudget goal.now.budget }
+    requires alike { AlikeTo goal.now search.old.items }
+    ensures { OnOk result (Goes goal.now search.old search.new) }
+{
+    let mut size = search.items.len() / 2;
+    while size > 1 {
+        cut_ranges(search, alloc, goal, size)?;
+        size -= 1 + size / 16;
     }
     Ok(())
 }

@@ -7,7 +7,7 @@ ghost use Rattle.cml_shrink.specs.Shrinking.{IsShrunk};
 ghost use Rattle.cml_shrink.specs.Searching.{AlikeTo, Finds};
 
 use crate::fault::ShrinkFault;
-use crate::gather::{gather, halve};
+use crate::gather::{gather, halve, thin};
 use crate::replay::{Goal, end_details};
 use crate::search::{Search, begin};
 use cml_check::Prog;
@@ -72,6 +72,7 @@ fn find(
     halve(&mut search, alloc, goal)?;
     search.settle(alloc, goal)?;
     gather(&mut search, alloc, goal)?;
+    thin(&mut search, alloc, goal)?;
     search.settle(alloc, goal)?;
     Ok(search)
 }
