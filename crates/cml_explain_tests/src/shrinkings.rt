@@ -131,7 +131,12 @@ fn finds_shorter_schedules(rt: HostRuntime) {
         .ok()
         .expect(&rt, MEMORY);
         assert!(rt; found.items() == wanted.items.as_slice(), "{}", case.found);
-        assert!(rt; found.used() == case.used, "{} for {}", found.used(), case.used);
+        assert!(rt;
+            found.used() == case.used,
+            "{} for {}",
+            found.used(),
+            case.used
+        );
         let said = counted(&rt, given.items.as_slice(), found.items());
         assert!(rt; said.as_slice() == case.said.as_bytes(), "{}", case.said);
         drop(said);
@@ -160,7 +165,10 @@ fn refuses_what_cannot_be_followed(rt: HostRuntime) {
 
 #[test]
 fn counts_items_and_commits(rt: HostRuntime) {
-    let old = scheduled(&rt, "turn 0\ncommit 1 0\nswap 1 0 2 0\ncommit 0 0 1 1\nclock 5\n");
+    let old = scheduled(
+        &rt,
+        "turn 0\ncommit 1 0\nswap 1 0 2 0\ncommit 0 0 1 1\nclock 5\n",
+    );
     let new = scheduled(&rt, "swap 1 0 2 0\n");
     let said = counted(&rt, old.items.as_slice(), new.items.as_slice());
     assert!(rt; said.as_slice() == b"5 items, 3 commits -> 1 item, 1 commit\n");

@@ -56,11 +56,7 @@ fn cut_ranges(
 ///
 /// # Errors
 /// Out of memory.
-pub(crate) fn halve(
-    search: &mut Search,
-    alloc: Global,
-    goal: &Goal<'_>,
-) -> Result<(), AllocError>
+pub(crate) fn halve(search: &mut Search, alloc: Global, goal: &Goal<'_>) -> Result<(), AllocError>
     requires budget { IsBudget goal.now.budget }
     requires alike { AlikeTo goal.now search.old.items }
     ensures { OnOk result (Goes goal.now search.old search.new) }
@@ -78,11 +74,7 @@ pub(crate) fn halve(
 ///
 /// # Errors
 /// Out of memory.
-pub(crate) fn thin(
-    search: &mut Search,
-    alloc: Global,
-    goal: &Goal<'_>,
-) -> Result<(), AllocError>
+pub(crate) fn thin(search: &mut Search, alloc: Global, goal: &Goal<'_>) -> Result<(), AllocError>
     requires budget { IsBudget goal.now.budget }
     requires alike { AlikeTo goal.now search.old.items }
     ensures { OnOk result (Goes goal.now search.old search.new) }
@@ -155,11 +147,7 @@ fn draw_near(
 ///
 /// # Errors
 /// Out of memory.
-pub(crate) fn gather(
-    search: &mut Search,
-    alloc: Global,
-    goal: &Goal<'_>,
-) -> Result<(), AllocError>
+pub(crate) fn gather(search: &mut Search, alloc: Global, goal: &Goal<'_>) -> Result<(), AllocError>
     requires budget { IsBudget goal.now.budget }
     requires alike { AlikeTo goal.now search.old.items }
     ensures { OnOk result (Goes goal.now search.old search.new) }

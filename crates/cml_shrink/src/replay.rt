@@ -72,11 +72,7 @@ pub(crate) fn end_details(
 ///
 /// # Errors
 /// Out of memory.
-pub(crate) fn ends_alike(
-    alloc: Global,
-    goal: &Goal<'_>,
-    items: &[Item],
-) -> Result<bool, AllocError>
+pub(crate) fn ends_alike(alloc: Global, goal: &Goal<'_>, items: &[Item]) -> Result<bool, AllocError>
     requires { IsBudget goal.now.budget }
     ensures { IfOk result (λ alike. IsJudged goal.now.program.now goal.now.budget goal.now.details.now items.now alike) }
 {

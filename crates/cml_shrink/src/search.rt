@@ -202,12 +202,7 @@ impl Search {
     }
 
     // Tries what may be left out at the item of this number: a thread's items from it on, or it alone.
-    fn cut_at(
-        &mut self,
-        alloc: Global,
-        goal: &Goal<'_>,
-        number: usize,
-    ) -> Result<bool, AllocError>
+    fn cut_at(&mut self, alloc: Global, goal: &Goal<'_>, number: usize) -> Result<bool, AllocError>
         requires budget { IsBudget goal.now.budget }
         requires there { number < length self.old.items }
         ensures { IfOk result (λ came. Steps goal.now (NeededBy goal.now self.old.items number) self.old came self.new) }

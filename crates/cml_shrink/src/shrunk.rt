@@ -58,12 +58,7 @@ fn shrunk_by(search: Search, tries: u64) -> Shrunk
 }
 
 // Searches from the given items on.
-fn find(
-    alloc: Global,
-    goal: &Goal<'_>,
-    given: &[Item],
-    tries: u64,
-) -> Result<Search, AllocError>
+fn find(alloc: Global, goal: &Goal<'_>, given: &[Item], tries: u64) -> Result<Search, AllocError>
     requires budget { IsBudget goal.now.budget }
     requires alike { AlikeTo goal.now given.now }
     ensures { IfOk result (λ search. Finds goal.now given.now tries search) }

@@ -11,7 +11,7 @@ returns-then-came c =
     let items = c.args.self.now.items in
     let n = c.args.number in
     step_came g ((t : ℕ) → takes_part t c.item_at-item.result ≡ true → UnlikeTo g (without_rest items t n)) (NeededBy g items n)
-        c.args.self.now c.cut_threads.new.self c.in_ok-came.came c.if-came.true c.in_ok-came.ensures
+    c.args.self.now c.cut_threads.new.self c.in_ok-came.came c.if-came.true c.in_ok-came.ensures
 
 pub returns : goal.returns
 returns c =
@@ -19,7 +19,7 @@ returns c =
     let items = c.args.self.now.items in
     let n = c.args.number in
     then_none_ok c.cut_item.result g ((t : ℕ) → takes_part t c.item_at-item.result ≡ true → UnlikeTo g (without_rest items t n))
-        (UnlikeTo g (remove c.cut_threads.new.self.items n)) (NeededBy g items n)
-        c.args.self.now c.cut_threads.new.self c.cut_item.new.self c.in_ok-came.came c.if-came.false c.in_ok-came.ensures c.cut_item.ensures
+    (UnlikeTo g (remove c.cut_threads.new.self.items n)) (NeededBy g items n)
+    c.args.self.now c.cut_threads.new.self c.cut_item.new.self c.in_ok-came.came c.if-came.false c.in_ok-came.ensures c.cut_item.ensures
     (λ same rest alone.
-      needed_at g items n c.item_at-item.result c.item_at-item.ensures rest (subst (λ (all : List Item). UnlikeTo g (remove all n)) same alone))
+    needed_at g items n c.item_at-item.result c.item_at-item.ensures rest (subst (λ (all : List Item). UnlikeTo g (remove all n)) same alone))

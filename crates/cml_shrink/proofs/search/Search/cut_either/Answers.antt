@@ -12,8 +12,8 @@ returns-then-came c =
     let items = c.args.self.now.items in
     let n = c.args.number in
     step_came g (UnlikeTo g (without_rest items c.args.head.0 n))
-        ((t : ℕ) → ((c.args.head.0 == t) || (c.args.other.0 == t)) ≡ true → UnlikeTo g (without_rest items t n))
-        c.args.self.now c.cut_rest.new.self c.in_ok-came.came c.if-came.true c.in_ok-came.ensures
+    ((t : ℕ) → ((c.args.head.0 == t) || (c.args.other.0 == t)) ≡ true → UnlikeTo g (without_rest items t n))
+    c.args.self.now c.cut_rest.new.self c.in_ok-came.came c.if-came.true c.in_ok-came.ensures
 
 pub returns : goal.returns
 returns c =
@@ -21,7 +21,7 @@ returns c =
     let items = c.args.self.now.items in
     let n = c.args.number in
     then_none_ok c.cut_rest-2.result g (UnlikeTo g (without_rest items c.args.head.0 n)) (UnlikeTo g (without_rest c.cut_rest.new.self.items c.args.other.0 n))
-        ((t : ℕ) → ((c.args.head.0 == t) || (c.args.other.0 == t)) ≡ true → UnlikeTo g (without_rest items t n))
-        c.args.self.now c.cut_rest.new.self c.cut_rest-2.new.self c.in_ok-came.came c.if-came.false c.in_ok-came.ensures c.cut_rest-2.ensures
+    ((t : ℕ) → ((c.args.head.0 == t) || (c.args.other.0 == t)) ≡ true → UnlikeTo g (without_rest items t n))
+    c.args.self.now c.cut_rest.new.self c.cut_rest-2.new.self c.in_ok-came.came c.if-came.false c.in_ok-came.ensures c.cut_rest-2.ensures
     (λ same x y t e.
-      rest_of_two g items n c.args.head.0 c.args.other.0 t x (subst (λ (all : List Item). UnlikeTo g (without_rest all c.args.other.0 n)) same y) e)
+    rest_of_two g items n c.args.head.0 c.args.other.0 t x (subst (λ (all : List Item). UnlikeTo g (without_rest all c.args.other.0 n)) same y) e)

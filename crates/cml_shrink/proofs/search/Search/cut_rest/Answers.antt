@@ -9,5 +9,5 @@ pub attempt-requires-clause-few : goal.attempt-requires-clause-few
 attempt-requires-clause-few c =
     let items = c.args.self.now.items in
     let cut : c.in_ok-shorter.shorter.items ≡ without_rest items c.args.thread.0 c.args.number =
-        c.in_ok-shorter.ensures ∙ ap (λ (all : List Item). without_rest all c.args.thread.0 c.args.number) (c.as_slice.ensures.value ∙ ap (λ (s : PlainSearch). s.items) c.self.view_is) in
+    c.in_ok-shorter.ensures ∙ ap (λ (all : List Item). without_rest all c.args.thread.0 c.args.number) (c.as_slice.ensures.value ∙ ap (λ (s : PlainSearch). s.items) c.self.view_is) in
     omega (arith, ap length cut, rest_no_longer items c.args.thread.0 c.args.number)

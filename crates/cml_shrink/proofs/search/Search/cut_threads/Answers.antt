@@ -11,7 +11,7 @@ returns-in-Turn c =
     let items = c.args.self.now.items in
     let n = c.args.number in
     step_as_ok c.cut_rest.result g (UnlikeTo g (without_rest items c.in-Turn.thread.0 n))
-        ((t : ℕ) → takes_part t c.args.item ≡ true → UnlikeTo g (without_rest items t n)) c.args.self.now c.cut_rest.new.self c.cut_rest.ensures
+    ((t : ℕ) → takes_part t c.args.item ≡ true → UnlikeTo g (without_rest items t n)) c.args.self.now c.cut_rest.new.self c.cut_rest.ensures
     (λ h t e. rest_of_one g items n c.in-Turn.thread.0 t h (sym (ap (λ (item : Item). takes_part t item) c.in-Turn.is) ∙ e))
 
 pub returns-in-Meet : goal.returns-in-Meet
@@ -20,7 +20,7 @@ returns-in-Meet c =
     let items = c.args.self.now.items in
     let n = c.args.number in
     step_as_ok c.cut_parties.result g ((t : ℕ) → is_in_row t c.in-Meet.row ≡ true → UnlikeTo g (without_rest items t n))
-        ((t : ℕ) → takes_part t c.args.item ≡ true → UnlikeTo g (without_rest items t n)) c.args.self.now c.cut_parties.new.self c.cut_parties.ensures
+    ((t : ℕ) → takes_part t c.args.item ≡ true → UnlikeTo g (without_rest items t n)) c.args.self.now c.cut_parties.new.self c.cut_parties.ensures
     (λ h t e. h t (sym (ap (λ (item : Item). takes_part t item) c.in-Meet.is) ∙ e))
 
 pub returns-in-Exchange : goal.returns-in-Exchange
@@ -29,7 +29,7 @@ returns-in-Exchange c =
     let items = c.args.self.now.items in
     let n = c.args.number in
     step_as_ok c.cut_parties-in-Exchange.result g ((t : ℕ) → is_in_row t c.in-Exchange.row ≡ true → UnlikeTo g (without_rest items t n))
-        ((t : ℕ) → takes_part t c.args.item ≡ true → UnlikeTo g (without_rest items t n)) c.args.self.now c.cut_parties-in-Exchange.new.self c.cut_parties-in-Exchange.ensures
+    ((t : ℕ) → takes_part t c.args.item ≡ true → UnlikeTo g (without_rest items t n)) c.args.self.now c.cut_parties-in-Exchange.new.self c.cut_parties-in-Exchange.ensures
     (λ h t e. h t (sym (ap (λ (item : Item). takes_part t item) c.in-Exchange.is) ∙ e))
 
 pub returns-in-Clock : goal.returns-in-Clock
