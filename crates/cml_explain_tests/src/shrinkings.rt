@@ -27,7 +27,7 @@ const LOCKS: &str =
 const PRINTS: &str =
     "(fn lock (a b)\n  (let x (sync (mtake a)))\n  (yield)\n  (let y (sync (mtake b))))\n(fn main ()\n  (let a (mvar 0))\n  (let b (mvar 0))\n  (spawn lock a b)\n  (spawn lock b a)\n  (while true (print 1)))";
 
-// Two threads that lock, with three prints between, of which the last ends at the place where the first does.
+// Two threads that lock, with three prints between.
 const PRINTED: &str =
     "turn 0\nturn 0\nturn 0\nturn 1\nturn 0\nturn 2\nturn 0\ncommit 1 0\nturn 1\nturn 0\ncommit 2 0\nturn 2\nturn 1\nturn 0\nturn 2\n";
 
@@ -45,14 +45,15 @@ const CASES: [Case; 7] = [
         used: 77,
         said: "13 items, 2 commits -> 13 items, 2 commits\n",
     },
-    // Two of the prints are left out, in a pass of 28 tries.
+    // The prints are left out, in a pass of 27 tries: after each the loop goes on where it began. Then 24 tries for a pass, 2 for turns that move, 18 for
+    // ranges, and 24 for the last pass.
     Case {
         script: PRINTS,
         items: PRINTED,
         tries: 10_000,
-        found: TOGETHER,
-        used: 105,
-        said: "15 items, 2 commits -> 13 items, 2 commits\n",
+        found: "turn 0\nturn 0\nturn 0\nturn 0\nturn 1\nturn 2\ncommit 1 0\nturn 1\nturn 1\ncommit 2 0\nturn 2\nturn 2\n",
+        used: 95,
+        said: "15 items, 2 commits -> 12 items, 2 commits\n",
     },
     // The last print is left out by the third try.
     Case {

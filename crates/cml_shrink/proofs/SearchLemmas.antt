@@ -4,10 +4,10 @@ use Rattle.std.specs.Prelude.{◌==◌, ◌||◌, Some, Result, Ok, Err, IfOk, O
 use Rattle.cml_schedule.specs.declared.item.Item.{Item}
 use Rattle.cml_explore.specs.declared.detail.Detail.{Detail}
 use Rattle.cml_shrink.specs.Cuts.{is_in_row, takes_part, without_rest}
-use Rattle.cml_shrink.specs.Ends.{HasEnded}
+use Rattle.cml_shrink.specs.Ends.{EndsWith}
 use Rattle.cml_shrink.specs.Shrinking.{PlainShrunk, IsShrunk}
 use Rattle.cml_shrink.specs.declared.replay.Goal.{Goal}
-use Rattle.cml_shrink.specs.Searching.{PlainSearch, AlikeTo, UnlikeTo, NeededBy, MinimalTo, Steps, Begins, Goes, Settles, Finds}
+use Rattle.cml_shrink.specs.Searching.{PlainSearch, AlikeTo, UnlikeTo, NeededBy, MinimalTo, Steps, SearchBegins, Goes, SearchSettles, SearchFinds}
 
 -- nothing was tried
 pub no_step : (g : Goal) (A : Type 0) (s : PlainSearch) → A → Steps g A s false s
@@ -141,18 +141,18 @@ needed_at g items n here is rest alone = record {
 }
 
 -- nothing more can be left out
-pub settles : (g : Goal) (old mid new : PlainSearch) (came : Bool) → came ≡ false → Goes g old mid → Steps g (MinimalTo g mid.items) mid came new → Settles g old new
+pub settles : (g : Goal) (old mid new : PlainSearch) (came : Bool) → came ≡ false → Goes g old mid → Steps g (MinimalTo g mid.items) mid came new → SearchSettles g old new
 settles g old mid new came e s step = let t = step_none g (MinimalTo g mid.items) mid new came e step in record {
   goes = goes_on g old mid new s (step_goes g (MinimalTo g mid.items) mid new false s.ends_alike t);
   minimal = elim t.2 [ inl e ↦ inl e | inr least ↦ inr (subst (λ (items : List Item). MinimalTo g items) (sym t.0) least) ];
 }
 
 -- from the beginning of the search on
-pub begins_so : (g : Goal) (given : List Item) (tries : ℕ) (s : PlainSearch) → s.items ≡ given → s.left ≡ tries → AlikeTo g given → Begins g given tries s
+pub begins_so : (g : Goal) (given : List Item) (tries : ℕ) (s : PlainSearch) → s.items ≡ given → s.left ≡ tries → AlikeTo g given → SearchBegins g given tries s
 begins_so g given tries s e left alike = record { ends_alike = subst (λ (items : List Item). AlikeTo g items) (sym e) alike; items_are = e; left_is = left }
 
-pub finds_so : (g : Goal) (given : List Item) (tries : ℕ) (s a b c d : PlainSearch) → Begins g given tries s → Goes g s a → Settles g a b → Goes g b c → Settles g c d
-    → Finds g given tries d
+pub finds_so : (g : Goal) (given : List Item) (tries : ℕ) (s a b c d : PlainSearch) → SearchBegins g given tries s → Goes g s a → SearchSettles g a b → Goes g b c → SearchSettles g c d
+    → SearchFinds g given tries d
 finds_so g given tries s a b c d begins first second third last = record {
   ends_alike = last.goes.ends_alike;
   no_longer = omega (arith, ap length begins.items_are, first.no_longer, second.goes.no_longer, third.no_longer, last.goes.no_longer);
@@ -161,12 +161,12 @@ finds_so g given tries s a b c d begins first second third last = record {
 }
 
 pub shrunk_so : (g : Goal) (given : List Item) (tries : ℕ) (own : List Detail) (found : PlainSearch) (s : PlainShrunk) → g.details.now ≡ own
-    → HasEnded g.program.now g.budget given own → Finds g given tries found → s ≡ record { items = found.items; used = tries - found.left }
+    → EndsWith g.program.now g.budget given own → SearchFinds g given tries found → s ≡ record { items = found.items; used = tries - found.left }
     → IsShrunk g.program.now g.budget given tries s
 shrunk_so g given tries own found s same ended finds is =
     subst (λ (made : PlainShrunk). IsShrunk g.program.now g.budget given tries made) (sym is) (record {
       details = g.details.now;
-      ended = subst (λ (ds : List Detail). HasEnded g.program.now g.budget given ds) (sym same) ended;
+      ended = subst (λ (ds : List Detail). EndsWith g.program.now g.budget given ds) (sym same) ended;
       ends_alike = finds.ends_alike;
       no_longer = finds.no_longer;
       in_tries = omega arith;

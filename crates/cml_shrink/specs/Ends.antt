@@ -15,7 +15,7 @@ use Rattle.cml_shrink.specs.declared.fault.ShrinkFault.TheVariants.{BadItem, Mem
 
 -- The items can be followed from the start, each of them allowed where it stands; a hub of this program and budget stands where they lead; and these are
 -- the details of how that run ended.
-pub record HasEnded (p : List (PlainItem ℕ)) (budget : ℕ) (items : List Item) (details : List Detail) : Type 0 where
+pub record EndsWith (p : List (PlainItem ℕ)) (budget : ℕ) (items : List Item) (details : List Detail) : Type 0 where
   pub hub : Kept
   pub program : hub.course.program ≡ p
   pub budget_is : hub.budget ≡ budget
@@ -25,11 +25,11 @@ pub record HasEnded (p : List (PlainItem ℕ)) (budget : ℕ) (items : List Item
 
 -- The items can be followed from the start, and end alike: as these details say.
 abbrev pub EndsAlike : List (PlainItem ℕ) → ℕ → List Detail → List Item → Type 0
-EndsAlike p budget details items = (own : List Detail) × HasEnded p budget items own × (alike own details ≡ true)
+EndsAlike p budget details items = (own : List Detail) × EndsWith p budget items own × (alike own details ≡ true)
 
 -- The items can be followed from the start, and end otherwise.
 abbrev pub EndsOtherwise : List (PlainItem ℕ) → ℕ → List Detail → List Item → Type 0
-EndsOtherwise p budget details items = (own : List Detail) × HasEnded p budget items own × (alike own details ≡ false)
+EndsOtherwise p budget details items = (own : List Detail) × EndsWith p budget items own × (alike own details ≡ false)
 
 -- The items can't be followed from the start, or they end otherwise.
 abbrev pub IsUnlike : List (PlainItem ℕ) → ℕ → List Detail → List Item → Type 0
@@ -43,7 +43,7 @@ IsRefused p items Memory = Unit {0}
 -- ---- what private functions say
 
 -- these are the details of how the run of a hub ended; its schedule leads to where it stands
-pub record IsDone (h : Kept) (details : List Detail) : Type 0 where
+pub record HubEndsWith (h : Kept) (details : List Detail) : Type 0 where
   pub leads : stands (text_of h.course.program) h.course.items ≡ Some (run_of h.course)
   pub told : AreDetails h details
 

@@ -30,7 +30,7 @@ Steps g Else old true new = AlikeTo g new.items × (length new.items ≤ length 
 Steps g Else old false new = (new.items ≡ old.items) × (new.left ≤ old.left) × ((new.left ≡ 0) ⊎ Else)
 
 -- the search begins with these items, which end alike, and so many tries
-pub record Begins (g : Goal) (given : List Item) (tries : ℕ) (s : PlainSearch) : Type 0 where
+pub record SearchBegins (g : Goal) (given : List Item) (tries : ℕ) (s : PlainSearch) : Type 0 where
   pub ends_alike : AlikeTo g s.items
   pub items_are : s.items ≡ given
   pub left_is : s.left ≡ tries
@@ -42,12 +42,12 @@ pub record Goes (g : Goal) (old new : PlainSearch) : Type 0 where
   pub tries : new.left ≤ old.left
 
 -- steps until nothing more can be left out, unless no try is left
-pub record Settles (g : Goal) (old new : PlainSearch) : Type 0 where
+pub record SearchSettles (g : Goal) (old new : PlainSearch) : Type 0 where
   pub goes : Goes g old new
   pub minimal : (new.left ≡ 0) ⊎ MinimalTo g new.items
 
 -- what was found from the given items on, with so many tries
-pub record Finds (g : Goal) (given : List Item) (tries : ℕ) (found : PlainSearch) : Type 0 where
+pub record SearchFinds (g : Goal) (given : List Item) (tries : ℕ) (found : PlainSearch) : Type 0 where
   pub ends_alike : AlikeTo g found.items
   pub no_longer : length found.items ≤ length given
   pub in_tries : found.left ≤ tries

@@ -4,7 +4,7 @@ use Rattle.cml_check.specs.Syntax.{PlainItem}
 use Rattle.cml_schedule.specs.declared.item.Item.{Item}
 use Rattle.cml_explore.specs.declared.detail.Detail.{Detail}
 use Rattle.cml_shrink.specs.Cuts.{takes_part, without_rest}
-use Rattle.cml_shrink.specs.Ends.{HasEnded, EndsAlike, IsUnlike}
+use Rattle.cml_shrink.specs.Ends.{EndsWith, EndsAlike, IsUnlike}
 
 -- a schedule, and how many others were tried to find it
 pub record PlainShrunk : Type 0 where
@@ -25,7 +25,7 @@ IsMinimal p budget details items = (i : ℕ) → i < length items → IsNeeded p
 -- can be left out of it, unless all tries were used.
 pub record IsShrunk (p : List (PlainItem ℕ)) (budget : ℕ) (given : List Item) (tries : ℕ) (found : PlainShrunk) : Type 0 where
   pub details : List Detail
-  pub ended : HasEnded p budget given details
+  pub ended : EndsWith p budget given details
   pub ends_alike : EndsAlike p budget details found.items
   pub no_longer : length found.items ≤ length given
   pub in_tries : found.used ≤ tries

@@ -2,7 +2,7 @@
 
 ghost use Rattle.std.specs.Prelude.{IfOk, MatchResult};
 ghost use Rattle.cml_hub.specs.Kept.{IsBudget};
-ghost use Rattle.cml_shrink.specs.Ends.{HasEnded, IsRefused, IsDone, IsWhy, IsJudged};
+ghost use Rattle.cml_shrink.specs.Ends.{EndsWith, IsRefused, HubEndsWith, IsWhy, IsJudged};
 
 use crate::fault::ShrinkFault;
 use cml_check::Prog;
@@ -29,7 +29,7 @@ fn let_go(hub: Hub) {
 
 // The details of how the run of a hub ended, which is used no more.
 fn last_details(alloc: Global, hub: Hub) -> Result<Vec<Detail>, AllocError>
-    ensures { IfOk result (λ details. IsDone hub details.items) }
+    ensures { IfOk result (λ details. HubEndsWith hub details.items) }
 {
     let _so_far = hub.schedule();
     let details = details_of(alloc, &hub);
@@ -59,7 +59,7 @@ pub(crate) fn end_details(
     items: &[Item],
 ) -> Result<Vec<Detail>, ShrinkFault>
     requires { IsBudget budget }
-    ensures { MatchResult result (λ details. HasEnded program.now budget items.now details.items) (λ why. IsRefused program.now items.now why) }
+    ensures { MatchResult result (λ details. EndsWith program.now budget items.now details.items) (λ why. IsRefused program.now items.now why) }
 {
     let copy = program.copy()?;
     match Hub::replay(alloc, copy, budget, None, items) {

@@ -3,7 +3,7 @@
 ghost use Rattle.std.specs.Prelude.{◌≡◌, ◌<◌, ◌≤◌, ℕ, true, Some, IfOk, OnOk, ◌==◌, ◌||◌, length, remove, slice_get};
 ghost use Rattle.cml_hub.specs.Kept.{IsBudget};
 ghost use Rattle.cml_shrink.specs.Cuts.{is_in_row, takes_part, without_rest as without_rest_of};
-ghost use Rattle.cml_shrink.specs.Searching.{AlikeTo, UnlikeTo, NeededBy, MinimalTo, Steps, Begins, Goes, Settles};
+ghost use Rattle.cml_shrink.specs.Searching.{AlikeTo, UnlikeTo, NeededBy, MinimalTo, Steps, SearchBegins, Goes, SearchSettles};
 
 use crate::cut::{without_item, without_rest};
 use crate::replay::{Goal, ends_alike};
@@ -48,7 +48,7 @@ pub(crate) fn begin(
     tries: u64,
 ) -> Result<Search, AllocError>
     requires { AlikeTo goal.now given.now }
-    ensures { IfOk result (λ search. Begins goal.now given.now tries search) }
+    ensures { IfOk result (λ search. SearchBegins goal.now given.now tries search) }
 {
     Ok(Search {
         items: Vec::from_slice(alloc, given)?,
@@ -253,7 +253,7 @@ impl Search {
     pub(crate) fn settle(&mut self, alloc: Global, goal: &Goal<'_>) -> Result<(), AllocError>
         requires budget { IsBudget goal.now.budget }
         requires alike { AlikeTo goal.now self.old.items }
-        ensures { OnOk result (Settles goal.now self.old self.new) }
+        ensures { OnOk result (SearchSettles goal.now self.old self.new) }
     {
         'passes: loop {
             let changed = self.pass(alloc, goal)?;

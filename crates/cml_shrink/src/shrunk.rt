@@ -4,7 +4,7 @@ ghost use Rattle.std.specs.Prelude.{◌≡◌, ◌≤◌, ◌-◌, IfOk, IfErr};
 ghost use Rattle.cml_hub.specs.Kept.{IsBudget};
 ghost use Rattle.cml_shrink.specs.Ends.{IsRefused};
 ghost use Rattle.cml_shrink.specs.Shrinking.{IsShrunk};
-ghost use Rattle.cml_shrink.specs.Searching.{AlikeTo, Finds};
+ghost use Rattle.cml_shrink.specs.Searching.{AlikeTo, SearchFinds};
 
 use crate::fault::ShrinkFault;
 use crate::gather::{gather, halve, thin};
@@ -61,7 +61,7 @@ fn shrunk_by(search: Search, tries: u64) -> Shrunk
 fn find(alloc: Global, goal: &Goal<'_>, given: &[Item], tries: u64) -> Result<Search, AllocError>
     requires budget { IsBudget goal.now.budget }
     requires alike { AlikeTo goal.now given.now }
-    ensures { IfOk result (λ search. Finds goal.now given.now tries search) }
+    ensures { IfOk result (λ search. SearchFinds goal.now given.now tries search) }
 {
     let mut search = begin(alloc, goal, given, tries)?;
     halve(&mut search, alloc, goal)?;
