@@ -3,7 +3,7 @@ use Rattle.std.proofs.Common.{◌≡◌, ℕ, ◌+◌, ◌-◌, ◌<◌, ◌≤�
 use Rattle.std.specs.Prelude.{◌==◌, ◌||◌, Some, Result, Ok, Err, IfOk, OnOk, slice_get, remove}
 use Rattle.cml_schedule.specs.declared.item.Item.{Item}
 use Rattle.cml_explore.specs.declared.detail.Detail.{Detail}
-use Rattle.cml_shrink.specs.Cuts.{takes_part, without_rest}
+use Rattle.cml_shrink.specs.Cuts.{acts_in, without_rest}
 use Rattle.cml_shrink.specs.Ends.{EndsWith}
 use Rattle.cml_shrink.specs.Shrinking.{PlainShrunk, IsShrunk}
 use Rattle.cml_shrink.specs.declared.replay.Goal.{Goal}
@@ -133,11 +133,11 @@ rest_of_two g items n h o t x y e =
     elim (one_of_two (h == t) (o == t) e) [ inl p ↦ rest_of_one g items n h t x p | inr q ↦ rest_of_one g items n o t y q ]
 
 -- what is needed at an item
-pub needed_at : (g : Goal) (items : List Item) (n : ℕ) (here : Item) → slice_get items n ≡ Some here → ((t : ℕ) → takes_part t here ≡ true → UnlikeTo g (without_rest items t n))
+pub needed_at : (g : Goal) (items : List Item) (n : ℕ) (here : Item) → slice_get items n ≡ Some here → ((t : ℕ) → acts_in t here ≡ true → UnlikeTo g (without_rest items t n))
     → UnlikeTo g (remove items n) → NeededBy g items n
 needed_at g items n here is rest alone = record {
   alone = alone;
-  rest = λ t item at part. rest t (let same : item ≡ here = cc in subst (λ (x : Item). takes_part t x ≡ true) same part);
+  rest = λ t item at part. rest t (let same : item ≡ here = cc in subst (λ (x : Item). acts_in t x ≡ true) same part);
 }
 
 -- nothing more can be left out

@@ -11,12 +11,12 @@ is_in_row t (Single u n) = u.0 == t
 is_in_row t (Pair h i o j) = (h.0 == t) || (o.0 == t)
 
 -- the thread takes part in the item: it has its turn, or it is a party to the row that is taken
-abbrev pub takes_part : ℕ → Item → Bool
-takes_part t (Turn u) = u.0 == t
-takes_part t (Commit row) = is_in_row t row
-takes_part t (Exchange row) = is_in_row t row
-takes_part t (Clock tick) = false
+abbrev pub acts_in : ℕ → Item → Bool
+acts_in t (Turn u) = u.0 == t
+acts_in t (Commit row) = is_in_row t row
+acts_in t (Exchange row) = is_in_row t row
+acts_in t (Clock tick) = false
 
 -- the items without those in which the thread takes part, from the item of this number on; they are numbered from 0
 abbrev pub without_rest : List Item → ℕ → ℕ → List Item
-without_rest items t i = take i items ++ filter (λ item. not (takes_part t item)) (drop i items)
+without_rest items t i = take i items ++ filter (λ item. not (acts_in t item)) (drop i items)

@@ -3,7 +3,7 @@ use Rattle.std.specs.Prelude.{ℕ, ◌≡◌, ◌≤◌, ◌<◌, ◌⊎◌, tru
 use Rattle.cml_check.specs.Syntax.{PlainItem}
 use Rattle.cml_schedule.specs.declared.item.Item.{Item}
 use Rattle.cml_explore.specs.declared.detail.Detail.{Detail}
-use Rattle.cml_shrink.specs.Cuts.{takes_part, without_rest}
+use Rattle.cml_shrink.specs.Cuts.{acts_in, without_rest}
 use Rattle.cml_shrink.specs.Ends.{EndsWith, EndsAlike, IsUnlike}
 
 -- a schedule, and how many others were tried to find it
@@ -15,7 +15,7 @@ pub record PlainShrunk : Type 0 where
 -- thread from this one on, where the thread takes part in it.
 pub record IsNeeded (p : List (PlainItem ℕ)) (budget : ℕ) (details : List Detail) (items : List Item) (i : ℕ) : Type 0 where
   pub alone : IsUnlike p budget details (remove items i)
-  pub rest : (t : ℕ) (item : Item) → slice_get items i ≡ Some item → takes_part t item ≡ true → IsUnlike p budget details (without_rest items t i)
+  pub rest : (t : ℕ) (item : Item) → slice_get items i ≡ Some item → acts_in t item ≡ true → IsUnlike p budget details (without_rest items t i)
 
 -- No single item can be left out, and no single thread's items from some point on.
 abbrev pub IsMinimal : List (PlainItem ℕ) → ℕ → List Detail → List Item → Type 0

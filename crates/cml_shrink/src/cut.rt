@@ -19,8 +19,8 @@ fn is_in_row(thread: Tid, row: &Meet) -> bool
 }
 
 /// Whether the thread takes part in the item.
-pub(crate) fn takes_part(thread: Tid, item: &Item) -> bool
-    ensures { result ≡ spec.takes_part thread.0 item.now }
+pub(crate) fn acts_in(thread: Tid, item: &Item) -> bool
+    ensures { result ≡ spec.acts_in thread.0 item.now }
 {
     match item {
         Item::Turn(turn) => turn.0 == thread.0,
@@ -48,10 +48,10 @@ pub(crate) fn without_item(
 
 // Appends the items in which the thread takes no part.
 fn push_others(shorter: &mut Vec<Item>, thread: Tid, items: &[Item]) -> Result<(), AllocError>
-    ensures { OnOk result (shorter.new.items ≡ shorter.old.items ++ filter (λ item. not (spec.takes_part thread.0 item)) items.now) }
+    ensures { OnOk result (shorter.new.items ≡ shorter.old.items ++ filter (λ item. not (spec.acts_in thread.0 item)) items.now) }
 {
     for item in items {
-        if !takes_part(thread, item) {
+        if !acts_in(thread, item) {
             shorter.push(*item)?;
         }
     }

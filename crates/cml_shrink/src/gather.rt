@@ -4,7 +4,7 @@ ghost use Rattle.std.specs.Prelude.{◌+◌, ◌≤◌, ◌<◌, IfSome, OnOk, l
 ghost use Rattle.cml_hub.specs.Kept.{IsBudget};
 ghost use Rattle.cml_shrink.specs.Searching.{AlikeTo, Goes};
 
-use crate::cut::{takes_part, with_moved, without_range};
+use crate::cut::{acts_in, with_moved, without_range};
 use crate::replay::Goal;
 use crate::search::Search;
 use cml_hub::Item;
@@ -94,7 +94,7 @@ fn next_of(items: &[Item], thread: Tid, number: usize) -> Option<usize>
     ensures there { IfSome result (λ next. next < length items.now) }
 {
     for i in number..items.len() {
-        if takes_part(thread, &items[i]) {
+        if acts_in(thread, &items[i]) {
             return Some(i);
         }
     }

@@ -2,7 +2,7 @@
 
 ghost use Rattle.std.specs.Prelude.{◌≡◌, ◌<◌, ◌≤◌, ℕ, true, Some, IfOk, OnOk, ◌==◌, ◌||◌, length, remove, slice_get};
 ghost use Rattle.cml_hub.specs.Kept.{IsBudget};
-ghost use Rattle.cml_shrink.specs.Cuts.{is_in_row, takes_part, without_rest as without_rest_of};
+ghost use Rattle.cml_shrink.specs.Cuts.{is_in_row, acts_in, without_rest as without_rest_of};
 ghost use Rattle.cml_shrink.specs.Searching.{AlikeTo, UnlikeTo, NeededBy, MinimalTo, Steps, SearchBegins, Goes, SearchSettles};
 
 use crate::cut::{without_item, without_rest};
@@ -191,7 +191,7 @@ impl Search {
         requires budget { IsBudget goal.now.budget }
         requires there { number < length self.old.items }
         ensures { IfOk result (λ came. Steps goal.now
-            ((t : ℕ) → takes_part t item ≡ true → UnlikeTo goal.now (without_rest_of self.old.items t number)) self.old came self.new) }
+            ((t : ℕ) → acts_in t item ≡ true → UnlikeTo goal.now (without_rest_of self.old.items t number)) self.old came self.new) }
     {
         match item {
             Item::Turn(thread) => self.cut_rest(alloc, goal, number, thread),
