@@ -10,3 +10,4 @@ mod WorkLemmas
 mod StoryLemmas
 mod ItemLemmas
 mod NarratedLemmas
+mod ExploringLemmas

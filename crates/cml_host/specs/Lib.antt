@@ -12,4 +12,5 @@ pub mod Chosen
 pub mod Running
 pub mod Replaying
 pub mod Narrated
+pub mod Exploring
 pub mod Statuses

@@ -5,6 +5,7 @@ mod check;
 mod close;
 mod command;
 mod explain;
+mod explore;
 mod file;
 mod fmt;
 mod item;
