@@ -14,6 +14,7 @@ struct Case {
     budget: u64,
     first: u64,
     runs: u64,
+    turns: bool,
     servers: &'static [u32],
     until: Option<Until>,
     said: &'static str,
@@ -31,12 +32,17 @@ const LOCKS: &str =
 const GIVES: &str =
     "(fn give (c v)\n  (sync (send c v)))\n(fn main ()\n  (let c (chan))\n  (spawn give c 1)\n  (spawn give c 2)\n  (let x (sync (recv c)))\n  (print x))";
 
-const CASES: [Case; 9] = [
+// The put fails, unless the take comes first.
+const PUT: &str =
+    "(fn taker (m)\n  (sync (mtake m)))\n(fn main ()\n  (let m (mvar 0))\n  (spawn taker m)\n  (mput m 1))";
+
+const CASES: [Case; 12] = [
     Case {
         script: "(fn main ()\n  (print 1))",
         budget: 100,
         first: 7,
         runs: 1,
+        turns: false,
         servers: &[],
         until: None,
         said: "1 run of a.cml, seed 7\n1  quiet, none waits   1 output    first: seed 7, 2 items\n",
@@ -48,9 +54,10 @@ const CASES: [Case; 9] = [
         budget: 100,
         first: 0,
         runs: 10,
+        turns: false,
         servers: &[],
         until: None,
-        said: "10 runs of a.cml, seeds 0 to 9\n6  quiet, 2 wait    1 output    first: seed 1, 13 items\n       thread 1 lock((mvar 0) (mvar 1)) at 4:3: take M-variable 1, which is empty\n       thread 2 lock((mvar 1) (mvar 0)) at 4:3: take M-variable 0, which is empty\n4  quiet, 1 waits   1 output    first: seed 0, 12 items\n       thread 1 lock((mvar 0) (mvar 1)) at 2:3: take M-variable 0, which is empty\n",
+        said: "10 runs of a.cml, seeds 0 to 9\n6  quiet, 2 wait    1 output    first: seed 1, 13 items\n       thread 1 lock((mvar 0) (mvar 1)) at 4:3: take M-variable 1, which is empty; last taken by thread 2 lock((mvar 1) (mvar 0))\n       thread 2 lock((mvar 1) (mvar 0)) at 4:3: take M-variable 0, which is empty; last taken by thread 1 lock((mvar 0) (mvar 1))\n4  quiet, 1 waits   1 output    first: seed 0, 12 items\n       thread 1 lock((mvar 0) (mvar 1)) at 2:3: take M-variable 0, which is empty; last taken by thread 2 lock((mvar 1) (mvar 0))\n",
         well: false,
     },
     // who waits may wait
@@ -59,9 +66,10 @@ const CASES: [Case; 9] = [
         budget: 100,
         first: 1,
         runs: 2,
+        turns: false,
         servers: &[0],
         until: None,
-        said: "2 runs of a.cml, seeds 1 to 2\n2  quiet, 2 wait   1 output    first: seed 1, 13 items\n       thread 1 lock((mvar 0) (mvar 1)) at 4:3: take M-variable 1, which is empty\n       thread 2 lock((mvar 1) (mvar 0)) at 4:3: take M-variable 0, which is empty\n",
+        said: "2 runs of a.cml, seeds 1 to 2\n2  quiet, 2 wait   1 output    first: seed 1, 13 items\n       thread 1 lock((mvar 0) (mvar 1)) at 4:3: take M-variable 1, which is empty; last taken by thread 2 lock((mvar 1) (mvar 0))\n       thread 2 lock((mvar 1) (mvar 0)) at 4:3: take M-variable 0, which is empty; last taken by thread 1 lock((mvar 0) (mvar 1))\n",
         well: true,
     },
     // one class, and two outputs
@@ -70,6 +78,7 @@ const CASES: [Case; 9] = [
         budget: 100,
         first: 0,
         runs: 10,
+        turns: false,
         servers: &[],
         until: None,
         said: "10 runs of a.cml, seeds 0 to 9\n10  quiet, 1 waits   2 outputs   first: seed 0, 10 items\n       thread 1 give((chan 0) 1) at 2:3: send 1 on channel 0\n",
@@ -80,6 +89,7 @@ const CASES: [Case; 9] = [
         budget: 100,
         first: 3,
         runs: 10,
+        turns: false,
         servers: &[],
         until: Some(Until::Waits),
         said: "1 run of a.cml, seed 3\n1  quiet, 1 waits   1 output    first: seed 3, 10 items\n       thread 1 give((chan 0) 1) at 2:3: send 1 on channel 0\n",
@@ -90,6 +100,7 @@ const CASES: [Case; 9] = [
         budget: 10,
         first: 0,
         runs: 2,
+        turns: false,
         servers: &[],
         until: Some(Until::Fault),
         said: "2 runs of a.cml, seeds 0 to 1\n2  budget, none waits, 1 runs   1 output    first: seed 0, 6 items\n       thread 1 spin at 2:3 runs\n",
@@ -100,6 +111,7 @@ const CASES: [Case; 9] = [
         budget: 10,
         first: 5,
         runs: 100,
+        turns: false,
         servers: &[],
         until: Some(Until::Budget),
         said: "1 run of a.cml, seed 5\n1  budget, none waits, 1 runs   1 output    first: seed 5, 6 items\n       thread 1 spin at 2:3 runs\n",
@@ -111,9 +123,10 @@ const CASES: [Case; 9] = [
         budget: 100,
         first: 18_446_744_073_709_551_614,
         runs: 2,
+        turns: false,
         servers: &[],
         until: None,
-        said: "2 runs of a.cml, seeds 18446744073709551614 to 18446744073709551615\n2  quiet, none waits, 1 fault   1 output    first: seed 18446744073709551614, 1 item\n",
+        said: "2 runs of a.cml, seeds 18446744073709551614 to 18446744073709551615\n2  quiet, none waits, 1 fault   1 output    first: seed 18446744073709551614, 1 item\n       thread 0 main at 2:3 ends at a fault: + takes numbers, and was given () and 1\n",
         well: false,
     },
     Case {
@@ -121,10 +134,46 @@ const CASES: [Case; 9] = [
         budget: 100,
         first: 0,
         runs: 0,
+        turns: false,
         servers: &[],
         until: None,
         said: "0 runs of a.cml, seed 0\n",
         well: true,
+    },
+    // by turns in order the put always fails
+    Case {
+        script: PUT,
+        budget: 100,
+        first: 0,
+        runs: 10,
+        turns: false,
+        servers: &[],
+        until: None,
+        said: "10 runs of a.cml, seeds 0 to 9\n10  quiet, none waits, 1 fault   1 output    first: seed 0, 6 items\n       thread 0 main at 6:3 ends at a fault: M-variable 0 is full: it can be put only where it is empty\n",
+        well: false,
+    },
+    // where turns are drawn too, the take comes first for three of the ten seeds
+    Case {
+        script: PUT,
+        budget: 100,
+        first: 0,
+        runs: 10,
+        turns: true,
+        servers: &[],
+        until: None,
+        said: "10 runs of a.cml, seeds 0 to 9\n7  quiet, none waits, 1 fault   1 output    first: seed 0, 6 items\n       thread 0 main at 6:3 ends at a fault: M-variable 0 is full: it can be put only where it is empty\n3  quiet, none waits            1 output    first: seed 5, 7 items\n",
+        well: false,
+    },
+    Case {
+        script: GIVES,
+        budget: 100,
+        first: 0,
+        runs: 10,
+        turns: true,
+        servers: &[],
+        until: None,
+        said: "10 runs of a.cml, seeds 0 to 9\n10  quiet, 1 waits   2 outputs   first: seed 0, 10 items\n       thread 2 give((chan 0) 2) at 2:3: send 2 on channel 0\n",
+        well: false,
     },
 ];
 
@@ -138,6 +187,7 @@ fn asked_by(rt: &impl Abort, case: &Case) -> Asked<'static>
         budget: in_range(rt, case.budget),
         first: case.first,
         runs: case.runs,
+        turns: case.turns,
         servers: case.servers,
         until: case.until,
     }
@@ -177,6 +227,7 @@ fn keeps_the_shortest_schedule(rt: HostRuntime) {
         budget: 100,
         first: 0,
         runs: 10,
+        turns: false,
         servers: &[],
         until: None,
     };
@@ -188,6 +239,9 @@ fn keeps_the_shortest_schedule(rt: HostRuntime) {
     assert_eq!(rt; first.first(), 0);
     assert_eq!(rt; first.outputs(), 1);
     assert_eq!(rt; first.shortest().len(), 12);
+    let ranking = made.classes().ranking(rt.alloc()).expect(&rt, MEMORY);
+    assert!(rt; ranking.as_slice() == [1, 0].as_slice());
+    drop(ranking);
     drop(made);
     drop(program);
     drop(forms);

@@ -1,6 +1,7 @@
 -- One run more among classes.
 use Rattle.std.proofs.Common.{◌≡◌, ℕ, zero, suc, ◌<◌, Bool, true, false, if◌then◌else◌, ◌||◌, List, [], ◌∷◌, ◌++◌, map, length, get_or, set, Some, None, refl, sym, ap, subst, ◌∙◌, arith}
-use Rattle.std.specs.Prelude.{position, slice_get, Result, Ok, Err, OnOk}
+use Rattle.std.specs.Prelude.{position, slice_get, Result, Ok, Err, OnOk, OnErr}
+use Rattle.std.proofs.lemmas.List.{set-get_or}
 use Rattle.std.proofs.lemmas.List.Quantifiers.{position-Some}
 use Rattle.std.proofs.lemmas.Option.{slice_get-get_or}
 use Rattle.std.specs.List.{All, list_any}
@@ -81,6 +82,19 @@ joins (Ok x) f seed end ks ts i k t new old same at is view more =
     ap (λ u. with_details (map f ks) (set ts i u)) by
     ∙ (classed_at f seed end ks ts i k t same found.0 found.1 found.2 ∙ ap (classed seed end) (sym view))
 joins (Err y) f seed end ks ts i k t new old same at is view more = tt
+
+-- Where memory was not enough, nothing has changed.
+pub joins_not : {K T E : Type 0} (r : Result T E) (f : K → List Detail) (ks : List K) (ts : List PlainTally) (i : ℕ) (t new : PlainTally) (old : List PlainClass) → t ≡ get_or ts i t → old ≡ with_details (map f ks) ts
+    → OnErr r (new ≡ t) → OnErr r (with_details (map f ks) (set ts i new) ≡ old)
+joins_not (Ok x) f ks ts i t new old is view same = tt
+joins_not (Err y) f ks ts i t new old is view same =
+    ap (λ u. with_details (map f ks) (set ts i u)) (same ∙ is) ∙ (ap (with_details (map f ks)) (set-get_or ts i t) ∙ sym view)
+
+pub begins_not : {K T E : Type 0} (r : Result T E) (f : K → List Detail) (ks new_ks : List K) (ts new_ts : List PlainTally) (old : List PlainClass) → old ≡ with_details (map f ks) ts
+    → OnErr r ((new_ks ≡ ks) × (new_ts ≡ ts)) → OnErr r (with_details (map f new_ks) new_ts ≡ old)
+begins_not (Ok x) f ks new_ks ts new_ts old view same = tt
+begins_not (Err y) f ks new_ks ts new_ts old view same =
+    ap (λ k. with_details (map f k) new_ts) same.0 ∙ (ap (with_details (map f ks)) same.1 ∙ sym view)
 
 -- It begins a class, if memory was enough.
 pub begins : {K T E : Type 0} (r : Result T E) (f : K → List Detail) (seed : ℕ) (end : Finish) (ks : List K) (ts : List PlainTally) (new_details : List (List Detail)) (new_tallies : List PlainTally) (old : List PlainClass)

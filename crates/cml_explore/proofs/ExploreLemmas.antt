@@ -1,6 +1,7 @@
 -- One run more.
 use Rattle.std.proofs.Common.{◌≡◌, inl, inr, ℕ, suc, ◌+◌, ◌<◌, ◌≤◌, Bool, true, false, if◌then◌else◌, ◌&&◌, ◌||◌, List, [], ◌∷◌, ◌++◌, map, length, refl, sym, ap, subst, ◌∙◌, arith}
-use Rattle.std.specs.Prelude.{Option, Result, Ok, Err, IfOk}
+use Rattle.std.specs.Prelude.{◌==◌, Option, Result, Ok, Err, IfOk}
+use Rattle.std.proofs.lemmas.Bool.Decides.{nat_tests}
 use Rattle.std.specs.List.{All, list_any, list_all}
 use Rattle.std.proofs.lemmas.List.{length_push}
 use Rattle.std.proofs.lemmas.List.Folds.{list_all-append, list_any-append}
@@ -11,21 +12,21 @@ use Rattle.cml_explore.specs.declared.explored.Asked.{Asked}
 use Rattle.cml_schedule.specs.declared.item.Item.{Item}
 use Rattle.sha2.specs.Sha256.{sha256}
 use Rattle.cml_explore.specs.declared.detail.Detail.{Detail}
-use Rattle.cml_explore.specs.Details.{alike, details_of}
+use Rattle.cml_explore.specs.Details.{alike}
 use Rattle.cml_explore.specs.Classes.{Finish, PlainClass, grown, classed, classed_all}
 use Rattle.cml_explore.specs.declared.explored.Until.{Until}
-use Rattle.cml_explore.specs.Finishes.{PlainEnded, is_well, stops, EndsSoBy, EachEnds, IsSeedRun, finish_of, fate_of}
-use Rattle.cml_explore.specs.Explored.{PlainExplored, gathered, with_ended, IsExplored, SoFar}
+use Rattle.cml_explore.specs.Finishes.{PlainEnded, is_well, stops, IsEndOf, EndsSoBy, EachEnds, IsSeedRun, finish_of}
+use Rattle.cml_explore.specs.Explored.{PlainExplored, gathered, nothing_made, with_ended, IsExplored, SoFar, HasMade}
 
 -- one run more, by the seed that follows
-ends_more : (p : List (PlainItem ℕ)) (budget : ℕ) (servers : List ℕ) (seed : ℕ) (es : List PlainEnded) (n : ℕ) (e : PlainEnded) → n ≡ seed + length es
-    → EachEnds p budget servers seed es → EndsSoBy p budget servers n e → EachEnds p budget servers seed (es ++ e ∷ [])
-ends_more p budget servers seed [] n e at each is =
+ends_more : (p : List (PlainItem ℕ)) (budget : ℕ) (turns : Bool) (servers : List ℕ) (seed : ℕ) (es : List PlainEnded) (n : ℕ) (e : PlainEnded) → n ≡ seed + length es
+    → EachEnds p budget turns servers seed es → EndsSoBy p budget turns servers n e → EachEnds p budget turns servers seed (es ++ e ∷ [])
+ends_more p budget turns servers seed [] n e at each is =
     let here : n ≡ seed = omega arith in
-    (subst (λ k. EndsSoBy p budget servers k e) here is, tt)
-ends_more p budget servers seed (x ∷ es) n e at each is =
+    (subst (λ k. EndsSoBy p budget turns servers k e) here is, tt)
+ends_more p budget turns servers seed (x ∷ es) n e at each is =
     let next : n ≡ suc seed + length es = omega arith in
-    (each.0, ends_more p budget servers (suc seed) es n e next each.1 is)
+    (each.0, ends_more p budget turns servers (suc seed) es n e next each.1 is)
 
 classed_more : (seed : ℕ) (es : List Finish) (n : ℕ) (e : Finish) (cs : List PlainClass) → n ≡ seed + length es
     → classed_all seed (es ++ e ∷ []) cs ≡ classed n e (classed_all seed es cs)
@@ -83,73 +84,83 @@ few_classed n seed end (c ∷ cs) few =
     few_if (alike end.details c.details) n end c cs (classed seed end cs) (All-head P c cs few)
     (All-weaker P (λ (x : PlainClass). x.tally.runs ≤ n + 1) (λ x h. omega arith) cs rest) (few_classed n seed end cs rest)
 
-pub nothing_yet : (p : List (PlainItem ℕ)) (asked : Asked) (made : PlainExplored) → made ≡ record { classes = []; runs = 0; well = true } → SoFar p asked 0 made
-nothing_yet p asked made new = record {
-  ends = [];
-  many = refl;
-  each = tt;
-  none = refl;
-  few = subst (λ (m : PlainExplored). All (λ (x : PlainClass). x.tally.runs ≤ 0) m.classes) (sym new) (All-nil (λ (x : PlainClass). x.tally.runs ≤ 0));
-  gathered_so = new;
-}
+few_all : (n seed : ℕ) (ends : List Finish) (cs : List PlainClass) (m : ℕ) → m ≡ n + length ends → All (λ (x : PlainClass). x.tally.runs ≤ n) cs → All (λ (x : PlainClass). x.tally.runs ≤ m) (classed_all seed ends cs)
+few_all n seed [] cs m at few = All-weaker (λ (x : PlainClass). x.tally.runs ≤ n) (λ (x : PlainClass). x.tally.runs ≤ m) (λ x h. omega (arith, at, h)) cs few
+few_all n seed (e ∷ ends) cs m at few =
+    let next : m ≡ (n + 1) + length ends = omega (arith, at) in
+    few_all (n + 1) (suc seed) ends (classed seed e cs) m next (few_classed n seed e cs few)
 
--- the runs are fewer than are classed by 64 bits
-pub is_few : (p : List (PlainItem ℕ)) (asked : Asked) (n m : ℕ) (made : PlainExplored) → SoFar p asked n made → n < m → All (λ (x : PlainClass). x.tally.runs < m) made.classes
-is_few p asked n m made so_far h = All-weaker (λ (x : PlainClass). x.tally.runs ≤ n) (λ (x : PlainClass). x.tally.runs < m) (λ x g. omega arith) made.classes so_far.few
+-- the class of most runs has no more than there were
+few_gathered : (first : ℕ) (ends : List PlainEnded) → All (λ (x : PlainClass). x.tally.runs ≤ length ends) (gathered first ends).classes
+few_gathered first ends =
+    few_all 0 first (map (λ (x : PlainEnded). x.finish) ends) [] (length ends) (sym (map_long ends)) (All-nil (λ (x : PlainClass). x.tally.runs ≤ 0))
 
-pub as_many : (p : List (PlainItem ℕ)) (asked : Asked) (n : ℕ) (made : PlainExplored) → SoFar p asked n made → made.runs ≡ n
-as_many p asked n made so_far = ap (λ (m : PlainExplored). m.runs) so_far.gathered_so ∙ so_far.many
+pub nothing_yet : (p : List (PlainItem ℕ)) (asked : Asked) (made : PlainExplored) → made ≡ nothing_made → SoFar p asked made
+nothing_yet p asked made new = record { ends = []; each = tt; none = refl; gathered_so = new }
 
-module _ (p : List (PlainItem ℕ)) (asked : Asked) (n : ℕ) (old new : PlainExplored) (e : PlainEnded) (so_far : SoFar p asked n old)
-    (is : EndsSoBy p asked.budget asked.servers.now (asked.first + n) e) (made : new ≡ with_ended (asked.first + n) e old) where
-  each_so : EachEnds p asked.budget asked.servers.now asked.first (so_far.ends ++ e ∷ [])
-  each_so = ends_more p asked.budget asked.servers.now asked.first so_far.ends (asked.first + n) e (ap (λ k. asked.first + k) (sym so_far.many)) so_far.each is
+pub as_many : (p : List (PlainItem ℕ)) (asked : Asked) (made : PlainExplored) (so_far : SoFar p asked made) → made.runs ≡ length so_far.ends
+as_many p asked made so_far = ap (λ (m : PlainExplored). m.runs) so_far.gathered_so
 
-  many_so : length (so_far.ends ++ e ∷ []) ≡ n + 1
-  many_so = length_push so_far.ends e ∙ ap (λ k. k + 1) so_far.many
+-- the runs are fewer than can be counted
+pub is_few : (p : List (PlainItem ℕ)) (asked : Asked) (m : ℕ) (made : PlainExplored) → SoFar p asked made → made.runs < m → All (λ (x : PlainClass). x.tally.runs < m) made.classes
+is_few p asked m made so_far h =
+    let many = as_many p asked made so_far in
+    let all : All (λ (x : PlainClass). x.tally.runs ≤ length so_far.ends) made.classes =
+    subst (λ (e : PlainExplored). All (λ (x : PlainClass). x.tally.runs ≤ length so_far.ends) e.classes) (sym so_far.gathered_so) (few_gathered asked.first so_far.ends) in
+    All-weaker (λ (x : PlainClass). x.tally.runs ≤ length so_far.ends) (λ (x : PlainClass). x.tally.runs < m) (λ x g. omega (arith, g, many, h)) made.classes all
+
+module _ (p : List (PlainItem ℕ)) (asked : Asked) (old new : PlainExplored) (e : PlainEnded) (so_far : SoFar p asked old)
+    (is : EndsSoBy p asked.budget asked.turns asked.servers.now (asked.first + old.runs) e) (made : new ≡ with_ended (asked.first + old.runs) e old) where
+  at_seed : asked.first + old.runs ≡ asked.first + length so_far.ends
+  at_seed = ap (λ k. asked.first + k) (as_many p asked old so_far)
+
+  each_so : EachEnds p asked.budget asked.turns asked.servers.now asked.first (so_far.ends ++ e ∷ [])
+  each_so = ends_more p asked.budget asked.turns asked.servers.now asked.first so_far.ends (asked.first + old.runs) e at_seed so_far.each is
 
   all_so : new ≡ gathered asked.first (so_far.ends ++ e ∷ [])
   all_so =
       made
-      ∙ (ap (with_ended (asked.first + n) e) so_far.gathered_so
-      ∙ sym (gathered_more asked.first so_far.ends (asked.first + n) e (ap (λ k. asked.first + k) (sym so_far.many))))
+      ∙ (ap (with_ended (asked.first + old.runs) e) so_far.gathered_so
+      ∙ sym (gathered_more asked.first so_far.ends (asked.first + old.runs) e at_seed))
 
-  few_so : All (λ (x : PlainClass). x.tally.runs ≤ n + 1) new.classes
-  few_so = subst (λ (m : PlainExplored). All (λ (x : PlainClass). x.tally.runs ≤ n + 1) m.classes) (sym made) (few_classed n (asked.first + n) e.finish old.classes so_far.few)
-
-  pub goes_on : stops asked.until e ≡ false → SoFar p asked (n + 1) new
+  pub goes_on : stops asked.until e ≡ false → SoFar p asked new
   goes_on not_yet = record {
     ends = so_far.ends ++ e ∷ [];
-    many = many_so;
     each = each_so;
     none = any_more (stops asked.until) so_far.ends e not_yet so_far.none;
-    few = few_so;
     gathered_so = all_so;
   }
 
-  pub has_stopped : stops asked.until e ≡ true → n < asked.runs → IsExplored p asked new
-  has_stopped is_last h = record {
-    ends = so_far.ends ++ e ∷ [];
-    each = each_so;
-    enough = inr (so_far.ends, e, refl, omega (arith, many_so), so_far.none, is_last);
-    gathered_so = all_so;
-  }
+  pub has_stopped : stops asked.until e ≡ true → old.runs < asked.runs → IsExplored p asked new
+  has_stopped is_last h =
+      let many = as_many p asked old so_far in
+      record {
+        ends = so_far.ends ++ e ∷ [];
+        each = each_so;
+        enough = inr (so_far.ends, e, refl, omega (arith, length_push so_far.ends e, many, h), so_far.none, is_last);
+        gathered_so = all_so;
+      }
 
 -- all that were asked for were made
-pub is_done : (p : List (PlainItem ℕ)) (asked : Asked) (n : ℕ) (made : PlainExplored) → SoFar p asked n made → n ≡ asked.runs → IsExplored p asked made
-is_done p asked n made so_far h = record {
+pub is_done : (p : List (PlainItem ℕ)) (asked : Asked) (made : PlainExplored) → SoFar p asked made → made.runs ≡ asked.runs → IsExplored p asked made
+is_done p asked made so_far h = record {
   ends = so_far.ends;
   each = so_far.each;
-  enough = inl (so_far.many ∙ h, so_far.none);
+  enough = inl (sym (as_many p asked made so_far) ∙ h, so_far.none);
   gathered_so = so_far.gathered_so;
 }
 
+-- whether it was the last one that was asked for
+pub made_so : (b : Bool) (p : List (PlainItem ℕ)) (asked : Asked) (made : PlainExplored) → SoFar p asked made → made.runs ≤ asked.runs → b ≡ (made.runs == asked.runs) → HasMade p asked b made
+made_so true p asked made so_far h is = let same : made.runs ≡ asked.runs = grind (arith, nat_tests) in is_done p asked made so_far same
+made_so false p asked made so_far h is = let few : made.runs < asked.runs = grind (arith, nat_tests) in (so_far, few)
+
 -- a run was added, which a hub has made by the seed
-pub added_by : {E : Type 0} (r : Result Bool E) (p : List (PlainItem ℕ)) (budget : ℕ) (servers : List ℕ) (until : Option Until) (seed : ℕ) (h : Kept) (old new : PlainExplored) → IsSeedRun p budget seed h
-    → (let e : PlainEnded = record { finish = finish_of h; fate = fate_of servers h } in IfOk r (λ s. (new ≡ with_ended seed e old) × (s ≡ stops until e)))
-    → IfOk r (λ s. (e : PlainEnded) × EndsSoBy p budget servers seed e × (new ≡ with_ended seed e old) × (s ≡ stops until e))
-added_by (Ok s) p budget servers until seed h old new run is = (record { finish = finish_of h; fate = fate_of servers h }, (h, run, refl), is.0, is.1)
-added_by (Err x) p budget servers until seed h old new run is = tt
+pub added_by : {E : Type 0} (r : Result Bool E) (p : List (PlainItem ℕ)) (budget : ℕ) (turns : Bool) (servers : List ℕ) (until : Option Until) (seed : ℕ) (h : Kept) (old new : PlainExplored) → IsSeedRun p budget turns seed h
+    → IfOk r (λ s. (e : PlainEnded) × IsEndOf servers h e × (new ≡ with_ended seed e old) × (s ≡ stops until e))
+    → IfOk r (λ s. (e : PlainEnded) × EndsSoBy p budget turns servers seed e × (new ≡ with_ended seed e old) × (s ≡ stops until e))
+added_by (Ok s) p budget turns servers until seed h old new run is = (is.0, (h, run, is.1), is.2, is.3)
+added_by (Err x) p budget turns servers until seed h old new run is = tt
 
 -- they are at most as many as were asked for
 pub at_most : (p : List (PlainItem ℕ)) (asked : Asked) (made : PlainExplored) → IsExplored p asked made → made.runs ≤ asked.runs
@@ -166,8 +177,7 @@ pub added_hub : (old : PlainExplored) (cs new_classes : List PlainClass) (n m : 
 added_hub old cs new_classes n m was well now seed finish e view is made more well_is both =
     same_parts _ _ _ _ _ _ (made ∙ ap (λ f. classed seed f cs) is) more (both ∙ ap (λ b. was && b) well_is) ∙ ap (with_ended seed e) view
 
-pub finish_is : (h : Kept) (details : List Detail) (digest : List ℕ) (items : List Item) → details ≡ details_of h → digest ≡ sha256 h.course.output → items ≡ h.course.items
-    → record { details = details; digest = digest; items = items } ≡ finish_of h
-finish_is h details digest items a b d =
-    ap (λ x. record { details = x; digest = digest; items = items }) a
-    ∙ (ap (λ x. record { details = details_of h; digest = x; items = items }) b ∙ ap (λ x. record { details = details_of h; digest = sha256 h.course.output; items = x }) d)
+pub finish_is : (h : Kept) (details : List Detail) (digest : List ℕ) (items : List Item) → digest ≡ sha256 h.course.output → items ≡ h.course.items
+    → record { details = details; digest = digest; items = items } ≡ finish_of h details
+finish_is h details digest items b d =
+    ap (λ x. record { details = details; digest = x; items = items }) b ∙ ap (λ x. record { details = details; digest = sha256 h.course.output; items = x }) d

@@ -1,5 +1,7 @@
 pub mod ClassLemmas
+pub mod FallLemmas
 pub mod DetailLemmas
+pub mod LotLemmas
 pub mod RunLemmas
 pub mod ExploreLemmas
 pub mod SightLemmas

@@ -1,10 +1,24 @@
 -- The lines of threads, one after another.
-use Rattle.std.proofs.Common.{◌≡◌, ℕ, suc, ◌+◌, ◌<◌, ◌≤◌, List, ◌++◌, length, get_or, drop, Some, sym, ap, ◌∙◌, append_assoc, append-nil, add-one}
-use Rattle.std.specs.Prelude.{slice_get}
-use Rattle.std.proofs.lemmas.List.{at_drop_more, drop_all}
+use Rattle.std.proofs.Common.{◌≡◌, ℕ, suc, ◌+◌, ◌<◌, ◌≤◌, List, [], ◌∷◌, ◌++◌, length, get_or, drop, Option, Some, None, inl, inr, refl, sym, ap, subst, ◌∙◌, arith, append_assoc, append-nil, add-one}
+use Rattle.std.specs.Prelude.{slice_get, Result, Ok, Err, OnOk}
+use Rattle.std.proofs.lemmas.Bool.{cases_lt}
+use Rattle.std.proofs.lemmas.List.{at_drop_more, drop_all, get_or_append_left, get_or_push}
 use Rattle.std.proofs.lemmas.Option.{slice_get-get_or}
 use Rattle.cml_scan.specs.World.{PlainThread, running}
-use Rattle.cml_explore.specs.ThreadLines.{Sight, left_line, all_left}
+use Rattle.cml_text.specs.Forms.{PlainSexpr}
+use Rattle.cml_check.specs.Syntax.{PlainItem}
+use Rattle.cml_step.specs.Calls.{text_of}
+use Rattle.cml_step.specs.Machines.{PlainHeld}
+use Rattle.cml_hub.specs.Courses.{PlainCourse}
+use Rattle.cml_hub.specs.Deeds.{origins}
+use Rattle.cml_phrase.specs.declared.place.Place.{Place}
+use Rattle.cml_ending.specs.declared.standing.Spot.{Spot}
+use Rattle.cml_ending.specs.declared.takers.Takers.{Takers}
+use Rattle.cml_ending.specs.Takes.{takes_of, last_taker, taker_in, KnowsTakers}
+use Rattle.cml_ending.specs.Standings.{IsSpotOf, spot_at}
+use Rattle.cml_explore.specs.Answers.{AreLeft, LeftBy}
+use Rattle.cml_explore.specs.Falls.{PlainFall, AreFalls}
+use Rattle.cml_explore.specs.ThreadLines.{Sight, sight_of, AreSpotsToTell, left_line, all_left}
 
 pub one_left_more : (s : Sight) (threads : List PlainThread) (i : ℕ) (o p all : List ℕ) → i < length threads
     → ((t : PlainThread) → slice_get threads i ≡ Some t → p ≡ o ++ left_line s i t)
@@ -22,3 +36,37 @@ one_left_more s threads i o p all h is so_far =
 pub no_left_more : (s : Sight) (threads : List PlainThread) (i : ℕ) (o all : List ℕ) → length threads ≤ i → o ++ all_left s i (drop i threads) ≡ all → o ≡ all
 no_left_more s threads i o all h so_far =
     sym (append-nil o) ∙ (ap (λ rest. o ++ all_left s i rest) (sym (drop_all i threads h)) ∙ so_far)
+
+-- one spot more
+pub spot_more : (p : List (PlainItem ℕ)) (call : ℕ → Option PlainHeld) (spots : List (Option Spot)) (spot : Option Spot) (n : ℕ) → length spots ≡ n → IsSpotOf p (call n) spot
+    → ((t : ℕ) → t < n → IsSpotOf p (call t) (spot_at spots t)) → (t : ℕ) → t < n + 1 → IsSpotOf p (call t) (spot_at (spots ++ spot ∷ []) t)
+spot_more p call spots spot n many is so_far t h =
+    elim (cases_lt t n) as (λ _. IsSpotOf p (call t) (spot_at (spots ++ spot ∷ []) t)) [
+      | inl lt ↦ subst (λ s. IsSpotOf p (call t) s) (sym (get_or_append_left spots (spot ∷ []) None t (omega arith))) (so_far t lt)
+      | inr le ↦
+          let e : n ≡ t = omega arith in
+          subst (λ k. IsSpotOf p (call k) (spot_at (spots ++ spot ∷ []) k)) e (subst (λ s. IsSpotOf p (call n) s) (sym (get_or_push spots spot None n many)) is)
+    ]
+
+same_takers : (p : PlainCourse) (takers : Takers) → KnowsTakers (text_of p.program) p.items takers → taker_in takers ≡ last_taker (takes_of (text_of p.program) p.items)
+same_takers p takers knows = λ i m. knows m i
+
+-- the lines of the threads of a run
+pub left_by : {T E : Type 0} (r : Result T E) (forms : List PlainSexpr) (places : List (List Place)) (c : PlainCourse) (takers : Takers) (falls : ℕ → Option PlainFall) (spots : List (Option Spot)) (old new : List ℕ)
+    → KnowsTakers (text_of c.program) c.items takers → AreFalls c.program c.items falls → AreSpotsToTell c falls spots
+    → OnOk r (new ≡ old ++ all_left (record {
+      forms = forms;
+      places = places;
+      program = c.program;
+      world = c.world;
+      began = origins (text_of c.program) c.items;
+      taker = taker_in takers;
+      falls = falls;
+      spots = spots;
+    }) 0 c.world.threads) → OnOk r (LeftBy forms places c old new)
+left_by (Ok x) forms places c takers falls spots old new knows are stands e = (
+  all_left (sight_of forms places c falls spots) 0 c.world.threads,
+  record { falls = falls; are = are; spots = spots; stands = stands; lines_are = refl },
+  e ∙ ap (λ (taker : ℕ → Option ℕ). old ++ all_left (record (sight_of forms places c falls spots) { taker = taker }) 0 c.world.threads) (same_takers c takers knows),
+)
+left_by (Err y) forms places c takers falls spots old new knows are stands e = tt

@@ -1,6 +1,6 @@
 -- Runs of a program by one seed after another.
-use Rattle.std.specs.Prelude.{ℕ, ◌≡◌, ◌≤◌, ◌+◌, ◌⊎◌, Bool, true, false, ◌&&◌, List, [], ◌∷◌, ◌++◌, map, length, Option}
-use Rattle.std.specs.List.{All, list_any, list_all}
+use Rattle.std.specs.Prelude.{ℕ, ◌≡◌, ◌≤◌, ◌<◌, ◌+◌, ◌⊎◌, Bool, true, false, ◌&&◌, List, [], ◌∷◌, ◌++◌, map, length, Option}
+use Rattle.std.specs.List.{list_any, list_all}
 use Rattle.cml_check.specs.Syntax.{PlainItem}
 use Rattle.cml_explore.specs.declared.explored.Asked.{Asked}
 use Rattle.cml_explore.specs.declared.explored.Until.{Until}
@@ -31,11 +31,27 @@ AreEnough until runs ends =
 -- What was asked for was done: these are the classes of the runs that the seeds define, one after another.
 pub record IsExplored (p : List (PlainItem ℕ)) (asked : Asked) (made : PlainExplored) : Type 0 where
   pub ends : List PlainEnded
-  pub each : EachEnds p asked.budget asked.servers.now asked.first ends
+  pub each : EachEnds p asked.budget asked.turns asked.servers.now asked.first ends
   pub enough : AreEnough asked.until asked.runs ends
   pub gathered_so : made ≡ gathered asked.first ends
 
+-- So far these are the classes of the runs that the first seeds define, none of which is one at which to stop.
+pub record SoFar (p : List (PlainItem ℕ)) (asked : Asked) (made : PlainExplored) : Type 0 where
+  pub ends : List PlainEnded
+  pub each : EachEnds p asked.budget asked.turns asked.servers.now asked.first ends
+  pub none : list_any (stops asked.until) ends ≡ false
+  pub gathered_so : made ≡ gathered asked.first ends
+
+-- One run more was made: it was the last, and what was asked for was done; or there are more to make.
+abbrev pub HasMade : List (PlainItem ℕ) → Asked → Bool → PlainExplored → Type 0
+HasMade p asked true made = IsExplored p asked made
+HasMade p asked false made = SoFar p asked made × (made.runs < asked.runs)
+
 -- ---- what private functions say
+
+-- no runs
+abbrev pub nothing_made : PlainExplored
+nothing_made = record { classes = []; runs = 0; well = true }
 
 -- one run more, by this seed
 abbrev pub with_ended : ℕ → PlainEnded → PlainExplored → PlainExplored
@@ -44,12 +60,3 @@ with_ended seed e made = record {
   runs = made.runs + 1;
   well = made.well && is_well e;
 }
-
--- so many runs were made, none of which is one at which to stop
-pub record SoFar (p : List (PlainItem ℕ)) (asked : Asked) (n : ℕ) (made : PlainExplored) : Type 0 where
-  pub ends : List PlainEnded
-  pub many : length ends ≡ n
-  pub each : EachEnds p asked.budget asked.servers.now asked.first ends
-  pub none : list_any (stops asked.until) ends ≡ false
-  pub few : All (λ c. c.tally.runs ≤ n) made.classes
-  pub gathered_so : made ≡ gathered asked.first ends

@@ -1,6 +1,9 @@
+pub mod Falls
+pub mod FallViews
 pub mod Details
 pub mod Classes
 pub mod Generators
+pub mod Lots
 pub mod Finishes
 pub mod Explored
 pub mod ThreadLines

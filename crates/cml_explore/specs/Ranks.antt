@@ -1,5 +1,5 @@
 -- Classes by size.
-use Rattle.std.specs.Prelude.{ℕ, suc, List, [], ◌∷◌}
+use Rattle.std.specs.Prelude.{◌≡◌, ℕ, suc, List, [], ◌∷◌, map}
 use Rattle.std.specs.declared.cmp.Ordering.{Ordering}
 use Rattle.std.specs.declared.cmp.Reverse.{Reverse}
 use Rattle.std.specs.Ordering.{nat_cmp, ordering_then}
@@ -22,3 +22,7 @@ by_size x y = ordering_then (nat_cmp y.0.0 x.0.0) (nat_cmp x.1 y.1)
 -- the classes by size
 abbrev pub AreRanked : List PlainClass → List Rank → Type 0
 AreRanked classes ranks = IsPermutation (ranks_from 0 classes) ranks × IsSorted by_size ranks
+
+-- these are the numbers of the classes by size
+abbrev pub AreInRank : List PlainClass → List ℕ → Type 0
+AreInRank classes numbers = (ranks : List Rank) × AreRanked classes ranks × (numbers ≡ map (λ rank. rank.1) ranks)

@@ -8,6 +8,7 @@ ghost use Rattle.cml_explore.specs.ClassViews.{plain_class};
 
 use crate::classes::{Class, Classes};
 use crate::explored::{Asked, Explored};
+use crate::fall::retold;
 use crate::rank::{Rank, ranks_of};
 use crate::run::{let_go, seed_run};
 use crate::sight::{Sighted, push_all_left, spots_of};
@@ -25,9 +26,10 @@ struct Scripted<'a> {
     places: &'a [Vec<Place>],
     program: &'a Prog,
     budget: u64,
+    turns: bool,
 }
 
-// Appends the lines of the threads that are left in this run.
+// Appends the lines of the threads that are left in this run, or ended at a fault.
 fn push_hub(
     alloc: Global,
     out: &mut Vec<u8>,
@@ -36,17 +38,20 @@ fn push_hub(
 ) -> Result<(), AllocError>
     ensures { OnOk result (LeftBy script.now.forms.now (map (λ own. own.items) script.now.places.now) hub.now.course out.old.items out.new.items) }
 {
-    let spots = spots_of(alloc, hub)?;
+    let known = retold(alloc, hub)?;
+    let spots = spots_of(alloc, hub, &known.falls)?;
     let sight = Sighted {
         forms: script.forms,
         places: script.places,
         hub,
+        takers: &known.takers,
+        falls: &known.falls,
         spots: spots.as_slice(),
     };
     push_all_left(alloc, out, &sight)
 }
 
-// Appends the lines of the threads that are left in the run by this seed, which is made once more.
+// Appends those in the run by this seed, which is made once more.
 fn push_seed(
     alloc: Global,
     out: &mut Vec<u8>,
@@ -54,9 +59,9 @@ fn push_seed(
     seed: u64,
 ) -> Result<(), AllocError>
     requires { IsBudget script.now.budget }
-    ensures { OnOk result (LeftBySeed script.now.forms.now (map (λ own. own.items) script.now.places.now) script.now.program.now script.now.budget seed out.old.items out.new.items) }
+    ensures { OnOk result (LeftBySeed script.now.forms.now (map (λ own. own.items) script.now.places.now) script.now.program.now script.now.budget script.now.turns seed out.old.items out.new.items) }
 {
-    let hub = seed_run(alloc, script.program, script.budget, seed)?;
+    let hub = seed_run(alloc, script.program, script.budget, script.turns, seed)?;
     let pushed = push_hub(alloc, out, script, &hub);
     let_go(hub);
     pushed
@@ -71,7 +76,7 @@ fn push_class(
     class: Class<'_>,
 ) -> Result<(), AllocError>
     requires { IsBudget script.now.budget }
-    ensures { OnOk result ((said : List ℕ) × ClassSaid (map (λ own. own.items) script.now.places.now) script.now.forms.now script.now.program.now script.now.budget widths (plain_class class.entry) said
+    ensures { OnOk result ((said : List ℕ) × ClassSaid (map (λ own. own.items) script.now.places.now) script.now.forms.now script.now.program.now script.now.budget script.now.turns widths (plain_class class.entry) said
         × (out.new.items ≡ out.old.items ++ said)) }
 {
     push_class_line(alloc, out, widths, class)?;
@@ -88,7 +93,7 @@ fn push_rank(
     rank: Rank,
 ) -> Result<(), AllocError>
     requires { IsBudget script.now.budget }
-    ensures { OnOk result ((said : List ℕ) × RankSaid (map (λ own. own.items) script.now.places.now) script.now.forms.now script.now.program.now script.now.budget widths classes.now rank said
+    ensures { OnOk result ((said : List ℕ) × RankSaid (map (λ own. own.items) script.now.places.now) script.now.forms.now script.now.program.now script.now.budget script.now.turns widths classes.now rank said
         × (out.new.items ≡ out.old.items ++ said)) }
 {
     if rank.1 >= classes.len() {
@@ -107,7 +112,7 @@ fn push_ranks(
     ranks: &[Rank],
 ) -> Result<(), AllocError>
     requires { IsBudget script.now.budget }
-    ensures { OnOk result ((said : List ℕ) × AllSaid (map (λ own. own.items) script.now.places.now) script.now.forms.now script.now.program.now script.now.budget widths classes.now ranks.now said
+    ensures { OnOk result ((said : List ℕ) × AllSaid (map (λ own. own.items) script.now.places.now) script.now.forms.now script.now.program.now script.now.budget script.now.turns widths classes.now ranks.now said
         × (out.new.items ≡ out.old.items ++ said)) }
 {
     for rank in ranks {
@@ -150,7 +155,7 @@ fn push_head(
 }
 
 /// What is said of the runs that were asked for: how many, and the classes of those that ended alike, by size and then by first seed, each with
-/// the threads that are left in its first run, which is made once more. The script has this name, text and forms, and is this program.
+/// the threads that are left in its first run, or ended at a fault in it, for which that is made once more. The script has this name, text and forms, and is this program.
 ///
 /// # Errors
 /// Out of memory.
@@ -173,6 +178,7 @@ pub fn explain_runs(
         places: places.as_slice(),
         program,
         budget: asked.budget,
+        turns: asked.turns,
     };
     let all = made.classes();
     let ranks = ranks_of(alloc, all)?;

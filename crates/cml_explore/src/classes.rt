@@ -113,7 +113,8 @@ impl Classes {
         items: &[Item],
     ) -> Result<(), AllocError>
         requires { All (λ c. c.tally.runs < u64.MAX) self.old }
-        ensures { OnOk result (self.new ≡ spec.classed seed (record { details = details.items; digest = digest; items = items.now }) self.old) }
+        ensures ok { OnOk result (self.new ≡ spec.classed seed (record { details = details.items; digest = digest; items = items.now }) self.old) }
+        ensures err { OnErr result (self.new ≡ self.old) }
     {
         match self.details.get_index_of(&details) {
             Some(class) => self.tallies[class].join(alloc, digest, items),

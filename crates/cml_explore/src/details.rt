@@ -8,9 +8,12 @@ ghost use Rattle.cml_step.specs.Machines.{plain_held};
 ghost use Rattle.cml_step.specs.Shared.{plain_seen};
 ghost use Rattle.cml_step.specs.declared.entry.Entry.TheVariants as entry;
 ghost use Rattle.cml_ending.specs.Standings.{as_call, top_call, call_of_machine};
+ghost use Rattle.cml_explore.specs.FallViews.{plain_fall, fall_in};
 ghost use Rattle.cml_explore.specs.Details as spec;
+ghost use Rattle.cml_explore.specs.Details.{AreDetails};
 
-use crate::detail::{Detail, end_detail, kind_detail};
+use crate::detail::{Detail, ask_detail, end_detail, kind_detail};
+use crate::fall::{Fall, Falls, falls_of};
 use cml_hub::Hub;
 use cml_scan::leaf_bases;
 use cml_step::{Call, Machine, Seen};
@@ -131,15 +134,47 @@ fn push_waiting(
     push_kinds(details, bases.as_slice())
 }
 
+// Appends what is said of a thread that ended at a fault.
+fn push_fall(
+    details: &mut Vec<Detail>,
+    hub: &Hub,
+    thread: Tid,
+    fall: &Fall,
+) -> Result<(), AllocError>
+    ensures { OnOk result (details.new.items ≡ details.old.items ++ spec.fall_details hub.now.course thread.0 (Some (plain_fall fall.now))) }
+{
+    details.push(Detail::Fell)?;
+    push_began(details, hub.origin(thread))?;
+    push_top(details, &fall.machine)?;
+    details.push(ask_detail(&fall.ask))?;
+    Ok(())
+}
+
+// Appends what is said of a thread that has ended.
+fn push_ended(
+    details: &mut Vec<Detail>,
+    hub: &Hub,
+    falls: &Falls,
+    thread: Tid,
+) -> Result<(), AllocError>
+    ensures { OnOk result (details.new.items ≡ details.old.items ++ spec.fall_details hub.now.course thread.0 (fall_in falls.now thread.0)) }
+{
+    match falls.of(thread.0) {
+        Some(fall) => push_fall(details, hub, thread, fall),
+        None => Ok(()),
+    }
+}
+
 // Appends what is said of the thread of this number.
 fn push_thread(
     alloc: Global,
     details: &mut Vec<Detail>,
     hub: &Hub,
+    falls: &Falls,
     thread: Tid,
 ) -> Result<(), AllocError>
     ensures { OnOk result ((t : PlainThread) → slice_get hub.now.course.world.threads thread.0 ≡ Some t →
-        details.new.items ≡ details.old.items ++ spec.thread_details hub.now.course thread.0 t) }
+        details.new.items ≡ details.old.items ++ spec.thread_details hub.now.course (fall_in falls.now) thread.0 t) }
 {
     let book = hub.book();
     if book.is_running(thread) {
@@ -147,31 +182,45 @@ fn push_thread(
     }
     match book.waiting(thread) {
         Some(group) => push_waiting(alloc, details, hub, thread, group),
-        None => Ok(()),
+        None => push_ended(details, hub, falls, thread),
     }
 }
 
 // Appends what is said of all threads.
-fn push_threads(alloc: Global, details: &mut Vec<Detail>, hub: &Hub) -> Result<(), AllocError>
+fn push_threads(
+    alloc: Global,
+    details: &mut Vec<Detail>,
+    hub: &Hub,
+    falls: &Falls,
+) -> Result<(), AllocError>
     ensures { OnOk result (details.new.items ≡ details.old.items
-        ++ spec.threads_details hub.now.course 0 hub.now.course.world.threads) }
+        ++ spec.threads_details hub.now.course (fall_in falls.now) 0 hub.now.course.world.threads) }
 {
     for t in 0..hub.book().next_thread().0 {
-        push_thread(alloc, details, hub, Tid(t))?;
+        push_thread(alloc, details, hub, falls, Tid(t))?;
     }
     Ok(())
 }
 
-/// How the run of a hub ended.
-///
-/// # Errors
-/// Out of memory.
-pub(crate) fn details_of(alloc: Global, hub: &Hub) -> Result<Vec<Detail>, AllocError>
-    ensures { IfOk result (λ details. details.items ≡ spec.details_of hub.now) }
+// How the run of a hub ended, of which these are the threads that ended at faults.
+fn details_with(alloc: Global, hub: &Hub, falls: &Falls) -> Result<Vec<Detail>, AllocError>
+    ensures { IfOk result (λ details. details.items ≡ spec.details_with hub.now (fall_in falls.now)) }
 {
     let mut details = Vec::new(alloc);
     details.push(end_detail(hub.end()))?;
-    push_threads(alloc, &mut details, hub)?;
+    push_threads(alloc, &mut details, hub, falls)?;
     details.push(Detail::Faults(hub.faults()))?;
     Ok(details)
+}
+
+/// How the run of a hub ended. Two runs ended alike where these are the same, in the same order. Only where a thread ended at a fault the
+/// schedule is gone through once more.
+///
+/// # Errors
+/// Out of memory.
+pub fn details_of(alloc: Global, hub: &Hub) -> Result<Vec<Detail>, AllocError>
+    ensures { IfOk result (λ details. AreDetails hub.now details.items) }
+{
+    let falls = falls_of(alloc, hub)?;
+    details_with(alloc, hub, &falls)
 }

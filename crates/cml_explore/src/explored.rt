@@ -1,11 +1,13 @@
 //! Runs of a program by one seed after another.
 
-ghost use Rattle.std.specs.Prelude.{◌≡◌, ◌≤◌, ◌<◌, ◌+◌, ◌^◌, ◌&&◌, [], true, IfOk};
+ghost use Rattle.std.specs.Prelude.{◌≡◌, ◌≤◌, ◌<◌, ◌+◌, ◌^◌, ◌==◌, ◌&&◌, List, ℕ, IfOk, OnOk, OnErr};
 ghost use Rattle.std.specs.List.{All};
+ghost use Rattle.cml_check.specs.Syntax.{PlainItem};
 ghost use Rattle.cml_hub.specs.Kept.{IsBudget};
+ghost use Rattle.cml_explore.specs.declared.explored.Asked.{Asked};
 ghost use Rattle.cml_explore.specs.Finishes as spec;
-ghost use Rattle.cml_explore.specs.Finishes.{PlainEnded, finish_of, fate_of, EndsSoBy};
-ghost use Rattle.cml_explore.specs.Explored.{IsExplored, with_ended};
+ghost use Rattle.cml_explore.specs.Finishes.{PlainEnded, IsEndOf, EndsSoBy};
+ghost use Rattle.cml_explore.specs.Explored.{IsExplored, SoFar, HasMade, with_ended};
 
 use crate::classes::Classes;
 use crate::details::details_of;
@@ -36,6 +38,9 @@ pub struct Asked<'a> {
     pub first: u64,
     /// How many.
     pub runs: u64,
+    /// Whether it is drawn by lot what happens next, the turns of threads that are ready too. Else these come in order, and rows alone are
+    /// picked.
+    pub turns: bool,
     /// The numbers of the functions of servers: a thread that began with one of them may wait.
     pub servers: &'a [u32],
     /// The run at which to stop, if at any before all were made.
@@ -85,9 +90,10 @@ fn both(one: bool, other: bool) -> bool
 }
 
 impl Explored {
-    // No runs.
-    fn new(alloc: Global) -> Explored
-        ensures { result ≡ record { classes = []; runs = 0; well = true } }
+    /// No runs yet.
+    pub fn new(alloc: Global) -> Explored
+        ensures none { result.runs ≡ 0 }
+        ensures begins { (p : List (PlainItem ℕ)) (asked : Asked) → SoFar p asked result }
     {
         Explored {
             classes: Classes::new(alloc),
@@ -106,8 +112,9 @@ impl Explored {
     ) -> Result<bool, AllocError>
         requires few { All (λ c. c.tally.runs < u64.MAX) self.old.classes }
         requires runs { self.old.runs < u64.MAX }
-        ensures { let e : PlainEnded = record { finish = finish_of hub.now; fate = fate_of asked.now.servers.now hub.now } in
-            IfOk result (λ stops. (self.new ≡ with_ended seed e self.old) × (stops ≡ spec.stops asked.now.until e)) }
+        ensures added { IfOk result (λ stops. (e : PlainEnded) × IsEndOf asked.now.servers.now hub.now e
+            × (self.new ≡ with_ended seed e self.old) × (stops ≡ spec.stops asked.now.until e)) }
+        ensures err { OnErr result (self.new ≡ self.old) }
     {
         let details = details_of(alloc, hub)?;
         let fate = fate_of(asked.servers, hub);
@@ -129,13 +136,41 @@ impl Explored {
         requires budget { IsBudget asked.now.budget }
         requires few { All (λ c. c.tally.runs < u64.MAX) self.old.classes }
         requires runs { self.old.runs < u64.MAX }
-        ensures { IfOk result (λ stops. (e : PlainEnded) × EndsSoBy program.now asked.now.budget asked.now.servers.now seed e
+        ensures added { IfOk result (λ stops. (e : PlainEnded) × EndsSoBy program.now asked.now.budget asked.now.turns asked.now.servers.now seed e
             × (self.new ≡ with_ended seed e self.old) × (stops ≡ spec.stops asked.now.until e)) }
+        ensures err { OnErr result (self.new ≡ self.old) }
     {
-        let hub = seed_run(alloc, program, asked.budget, seed)?;
+        let hub = seed_run(alloc, program, asked.budget, asked.turns, seed)?;
         let added = self.add_hub(alloc, asked, seed, &hub);
         let_go(hub);
         added
+    }
+
+    /// One run more, by the seed that follows those of the runs so far. Returns whether it was the last: one at which to stop, or the last one
+    /// that was asked for. What one run takes of memory is given back before it returns.
+    ///
+    /// # Errors
+    /// Out of memory. Nothing has changed then.
+    pub fn go(
+        &mut self,
+        alloc: Global,
+        program: &Prog,
+        asked: &Asked<'_>,
+    ) -> Result<bool, AllocError>
+        requires budget { IsBudget asked.now.budget }
+        requires seeds { asked.now.first + asked.now.runs ≤ 2 ^ 64 }
+        requires so_far { SoFar program.now asked.now self.old }
+        requires left { self.old.runs < asked.now.runs }
+        ensures one { OnOk result (self.new.runs ≡ self.old.runs + 1) }
+        ensures made { IfOk result (λ last. HasMade program.now asked.now last self.new) }
+        ensures err { OnErr result (self.new ≡ self.old) }
+    {
+        let seed = asked.first + self.runs;
+        let stops = self.add(alloc, program, asked, seed)?;
+        if stops {
+            return Ok(true);
+        }
+        Ok(self.runs == asked.runs)
     }
 
     /// The classes, in the order of their first seeds.
@@ -172,9 +207,9 @@ pub fn explore(alloc: Global, program: &Prog, asked: Asked<'_>) -> Result<Explor
     ensures few { IfOk result (λ made. made.runs ≤ asked.entry.runs) }
 {
     let mut made = Explored::new(alloc);
-    for i in 0..asked.runs {
-        let stops = made.add(alloc, program, &asked, asked.first + i)?;
-        if stops {
+    'runs: while made.runs < asked.runs {
+        let last = made.go(alloc, program, &asked)?;
+        if last {
             return Ok(made);
         }
     }

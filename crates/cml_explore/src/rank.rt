@@ -1,8 +1,9 @@
 //! Classes by size.
 
-ghost use Rattle.std.specs.Prelude.{◌≡◌, IfOk};
+ghost use Rattle.std.specs.Prelude.{◌≡◌, ◌<◌, IfOk, length, map};
+ghost use Rattle.std.specs.List.{All};
 ghost use Rattle.cml_explore.specs.Ranks as spec;
-ghost use Rattle.cml_explore.specs.Ranks.{AreRanked};
+ghost use Rattle.cml_explore.specs.Ranks.{AreRanked, AreInRank};
 
 use crate::classes::Classes;
 use std::alloc::{AllocError, Global};
@@ -32,4 +33,30 @@ pub(crate) fn ranks_of(alloc: Global, classes: &Classes) -> Result<Vec<Rank>, Al
     let mut ranks = unsorted(alloc, classes)?;
     ranks.sort()?;
     Ok(ranks)
+}
+
+// The numbers of the classes of these ranks.
+fn numbers_of(alloc: Global, ranks: &[Rank]) -> Result<Vec<usize>, AllocError>
+    ensures { IfOk result (λ numbers. numbers.items ≡ map (λ rank. rank.1) ranks.now) }
+{
+    let mut numbers = Vec::new(alloc);
+    for rank in ranks {
+        numbers.push(rank.1)?;
+    }
+    Ok(numbers)
+}
+
+impl Classes {
+    /// The numbers of the classes by size: of two that have as many runs, the one with the lesser first seed comes first. That is the order in
+    /// which [`explain_runs`](crate::explain_runs) tells of them.
+    ///
+    /// # Errors
+    /// Out of memory.
+    pub fn ranking(&self, alloc: Global) -> Result<Vec<usize>, AllocError>
+        ensures ranked { IfOk result (λ numbers. AreInRank self.now numbers.items) }
+        ensures below { IfOk result (λ numbers. All (λ n. n < length self.now) numbers.items) }
+    {
+        let ranks = ranks_of(alloc, self)?;
+        numbers_of(alloc, ranks.as_slice())
+    }
 }

@@ -1,17 +1,20 @@
-//! The lines of the threads that are left when a run has ended, in short.
+//! The lines of the threads that are left when a run has ended, or ended at a fault, in short.
 
-ghost use Rattle.std.specs.Prelude.{◌≡◌, ◌++◌, ◌<◌, None, OnOk, IfOk, Some, map, length, slice_get};
+ghost use Rattle.std.specs.Prelude.{◌≡◌, ◌++◌, ◌<◌, OnOk, IfOk, Some, map, length, slice_get};
 ghost use Rattle.std.specs.Option.{option_and_then};
 ghost use Rattle.cml_scan.specs.World.{PlainThread};
-ghost use Rattle.cml_ending.specs.Standings.{AreSpots, IsSpotOf, call_of_machine, spot_at};
+ghost use Rattle.cml_ending.specs.Standings.{IsSpotOf, call_of_machine, spot_at};
 ghost use Rattle.cml_ending.specs.Lines.{spot_place};
-ghost use Rattle.cml_ending.specs.Takes.{taker_in};
+ghost use Rattle.cml_explore.specs.FallViews.{plain_fall, fall_in};
 ghost use Rattle.cml_explore.specs.SightViews.{plain_sight};
 ghost use Rattle.cml_explore.specs.ThreadLines as spec;
+ghost use Rattle.cml_explore.specs.ThreadLines.{AreSpotsToTell};
 
+use crate::fall::{Fall, Falls};
 use cml_ending::{Spot, Takers, machine_spot, push_awaited, who_is};
 use cml_hub::Hub;
 use cml_phrase::{Place, push_line, push_thread, statement_place};
+use cml_reason::push_reason;
 use cml_text::Sexpr;
 use cml_value::{Group, Tid};
 use std::alloc::{AllocError, Global};
@@ -25,12 +28,16 @@ pub(crate) struct Sighted<'a> {
     pub(crate) places: &'a [Vec<Place>],
     /// The run.
     pub(crate) hub: &'a Hub,
-    /// Where each thread stands.
+    /// The thread that took from each M-variable last.
+    pub(crate) takers: &'a Takers,
+    /// The threads that ended at faults.
+    pub(crate) falls: &'a Falls,
+    /// Where each thread stands; of one that ended at a fault, where it stood before its last step.
     pub(crate) spots: &'a [Option<Spot>],
 }
 
-// Where the thread of this number stands.
-fn thread_spot(hub: &Hub, thread: Tid) -> Option<Spot>
+// Where the thread of this number stands now.
+fn spot_now(hub: &Hub, thread: Tid) -> Option<Spot>
     requires { thread.0 < length hub.now.course.world.threads }
     ensures { IsSpotOf hub.now.course.program
         (option_and_then call_of_machine (slice_get hub.now.course.machines thread.0)) result }
@@ -41,17 +48,32 @@ fn thread_spot(hub: &Hub, thread: Tid) -> Option<Spot>
     }
 }
 
-/// Where each thread stands.
+// Where it stands; where it ended at a fault, where it stood before its last step.
+fn thread_spot(hub: &Hub, falls: &Falls, thread: Tid) -> Option<Spot>
+    requires { thread.0 < length hub.now.course.world.threads }
+    ensures { IsSpotOf hub.now.course.program (spec.call_of_thread hub.now.course (fall_in falls.now) thread.0) result }
+{
+    match falls.of(thread.0) {
+        Some(fall) => machine_spot(hub.program(), &fall.machine),
+        None => spot_now(hub, thread),
+    }
+}
+
+/// Where each thread stands; of one that ended at a fault, where it stood before its last step.
 ///
 /// # Errors
 /// Out of memory.
-pub(crate) fn spots_of(alloc: Global, hub: &Hub) -> Result<Vec<Option<Spot>>, AllocError>
-    ensures spots { IfOk result (λ spots. AreSpots hub.now.course spots.items) }
+pub(crate) fn spots_of(
+    alloc: Global,
+    hub: &Hub,
+    falls: &Falls,
+) -> Result<Vec<Option<Spot>>, AllocError>
+    ensures spots { IfOk result (λ spots. AreSpotsToTell hub.now.course (fall_in falls.now) spots.items) }
     ensures count { IfOk result (λ spots. length spots.items ≡ length hub.now.course.world.threads) }
 {
     let mut spots = Vec::new(alloc);
     for t in 0..hub.book().next_thread().0 {
-        spots.push(thread_spot(hub, Tid(t)))?;
+        spots.push(thread_spot(hub, falls, Tid(t)))?;
     }
     Ok(spots)
 }
@@ -103,7 +125,7 @@ fn push_stand(
     push_position(alloc, out, place)
 }
 
-// Appends the events for which a thread waits that waits on this group. Who took from an M-variable last is not told.
+// Appends the events for which a thread waits that waits on this group.
 fn push_events(
     alloc: Global,
     out: &mut Vec<u8>,
@@ -112,8 +134,7 @@ fn push_events(
 ) -> Result<(), AllocError>
     ensures { OnOk result (out.new.items ≡ out.old.items ++ spec.events_told (plain_sight sight.now) group.now) }
 {
-    let takers = Takers::new(alloc);
-    push_awaited(alloc, out, sight.forms, sight.hub, &takers, group)
+    push_awaited(alloc, out, sight.forms, sight.hub, sight.takers, group)
 }
 
 // Appends the line of a thread that waits on this group.
@@ -145,7 +166,38 @@ fn push_running(
     out.extend_from_slice(b" runs\n")
 }
 
-// Appends the line of the thread of this number, if it is left.
+// Appends the line of a thread that ended at a fault.
+fn push_fallen(
+    alloc: Global,
+    out: &mut Vec<u8>,
+    sight: &Sighted<'_>,
+    thread: u32,
+    fall: &Fall,
+) -> Result<(), AllocError>
+    ensures { OnOk result (out.new.items ≡ out.old.items ++ spec.fall_left (plain_sight sight.now) thread (Some (plain_fall fall.now))) }
+{
+    push_stand(alloc, out, sight, thread)?;
+    out.extend_from_slice(b" ends at a fault: ")?;
+    push_reason(alloc, out, sight.hub.program(), &fall.machine, &fall.ask)?;
+    out.extend_from_slice(b"\n")
+}
+
+// Appends the line of a thread that has ended, if it did at a fault.
+fn push_ended(
+    alloc: Global,
+    out: &mut Vec<u8>,
+    sight: &Sighted<'_>,
+    thread: u32,
+) -> Result<(), AllocError>
+    ensures { OnOk result (out.new.items ≡ out.old.items ++ spec.fall_left (plain_sight sight.now) thread (fall_in sight.now.falls.now thread)) }
+{
+    match sight.falls.of(thread) {
+        Some(fall) => push_fallen(alloc, out, sight, thread, fall),
+        None => Ok(()),
+    }
+}
+
+// Appends the line of the thread of this number, if it has one.
 fn push_left(
     alloc: Global,
     out: &mut Vec<u8>,
@@ -161,11 +213,11 @@ fn push_left(
     }
     match book.waiting(Tid(thread)) {
         Some(group) => push_waiting(alloc, out, sight, thread, group),
-        None => Ok(()),
+        None => push_ended(alloc, out, sight, thread),
     }
 }
 
-/// Appends the lines of all threads that are left.
+/// Appends the lines of all threads that are left, or ended at a fault.
 ///
 /// # Errors
 /// Out of memory.

@@ -1,6 +1,7 @@
 //! What is kept of runs that ended alike.
 
-ghost use Rattle.std.specs.Prelude.{◌≡◌, ◌<◌, ◌+◌, ℕ, List, IfOk, OnOk, length};
+ghost use Rattle.std.specs.Prelude.{◌≡◌, ◌<◌, ◌+◌, ℕ, List, IfOk, OnOk, OnErr, length};
+ghost use Rattle.std.specs.Option.{option_map_or};
 ghost use Rattle.cml_explore.specs.declared.detail.Detail.{Detail};
 ghost use Rattle.cml_explore.specs.Classes as spec;
 ghost use Rattle.cml_explore.specs.Classes.{Finish};
@@ -58,13 +59,33 @@ impl Tally {
         })
     }
 
-    // The schedule is kept, if it is shorter than the one that is.
-    fn keep_shorter(&mut self, alloc: Global, items: &[Item]) -> Result<(), AllocError>
-        ensures { OnOk result (self.new ≡ record self.old { shortest = spec.shorter self.old.shortest items.now }) }
+    // A copy of the schedule, if it is shorter than the one that is kept.
+    fn shorter(&self, alloc: Global, items: &[Item]) -> Result<Option<Vec<Item>>, AllocError>
+        ensures { IfOk result (λ copy. spec.shorter self.now.shortest items.now ≡ option_map_or (λ c. c.items) copy self.now.shortest) }
     {
-        if items.len() < self.shortest.len() {
-            self.shortest = Vec::from_slice(alloc, items)?;
+        if items.len() >= self.shortest.len() {
+            return Ok(None);
         }
+        Ok(Some(Vec::from_slice(alloc, items)?))
+    }
+
+    // One run more, of which this is the schedule, if it is shorter than the one that is kept.
+    fn grow(&mut self, digest: [u8; 32], shorter: Option<Vec<Item>>) -> Result<(), AllocError>
+        requires { self.old.runs < u64.MAX }
+        ensures ok { OnOk result (self.new ≡ record {
+          runs = self.old.runs + 1;
+          first = self.old.first;
+          items = self.old.items;
+          outputs = spec.with_digest self.old.outputs digest;
+          shortest = option_map_or (λ c. c.items) shorter self.old.shortest;
+        }) }
+        ensures err { OnErr result (self.new ≡ self.old) }
+    {
+        self.outputs.insert(digest)?;
+        if let Some(items) = shorter {
+            self.shortest = items;
+        }
+        self.runs += 1;
         Ok(())
     }
 
@@ -76,12 +97,11 @@ impl Tally {
         items: &[Item],
     ) -> Result<(), AllocError>
         requires { self.old.runs < u64.MAX }
-        ensures { OnOk result ((details : List Detail) → self.new ≡ spec.grown self.old (record { details = details; digest = digest; items = items.now })) }
+        ensures ok { OnOk result ((details : List Detail) → self.new ≡ spec.grown self.old (record { details = details; digest = digest; items = items.now })) }
+        ensures err { OnErr result (self.new ≡ self.old) }
     {
-        self.outputs.insert(digest)?;
-        self.keep_shorter(alloc, items)?;
-        self.runs += 1;
-        Ok(())
+        let shorter = self.shorter(alloc, items)?;
+        self.grow(digest, shorter)
     }
 
     /// How many runs ended so.

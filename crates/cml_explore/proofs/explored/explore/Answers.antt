@@ -1,35 +1,25 @@
-use Rattle.std.proofs.Common.{◌∙◌, sym, arith}
-use Rattle.cml_explore.proofs.ExploreLemmas.{nothing_yet, is_few, as_many, goes_on, has_stopped, is_done, at_most}
+use Rattle.std.proofs.Common.{◌≡◌, ◌∙◌, true, false, sym, subst, arith}
+use Rattle.cml_explore.specs.Explored.{HasMade}
+use Rattle.cml_explore.proofs.ExploreLemmas.{is_done, at_most}
 use Rattle.cml_explore.proofs.explored.explore.Goals as goal
 
-pub loop-i-init : goal.loop-i-init
-loop-i-init c = nothing_yet c.args.program.now c.args.asked c.new-made.result c.new-made.ensures
+pub runs-init : goal.runs-init
+runs-init c = record { so_far = c.new-made.ensures.begins c.args.program.now c.args.asked; few = omega (arith, c.new-made.ensures.none) }
 
-pub add-requires-clause-few : goal.add-requires-clause-few
-add-requires-clause-few c = is_few c.args.program.now c.args.asked c.loop-i.i _ c.loop-i.made c.loop-i.invariant (omega arith)
+pub returns-then-last-clause-explored : goal.returns-then-last-clause-explored
+returns-then-last-clause-explored c = subst (λ b. HasMade c.args.program.now c.args.asked b c.go.new.self) c.if-last.true c.in_ok-last.ensures.made
 
-pub add-requires-clause-runs : goal.add-requires-clause-runs
-add-requires-clause-runs c = omega (arith, as_many c.args.program.now c.args.asked c.loop-i.i c.loop-i.made c.loop-i.invariant)
+pub returns-then-last-clause-few : goal.returns-then-last-clause-few
+returns-then-last-clause-few c =
+    at_most c.args.program.now c.args.asked c.go.new.self (subst (λ b. HasMade c.args.program.now c.args.asked b c.go.new.self) c.if-last.true c.in_ok-last.ensures.made)
 
-pub returns-then-stops-clause-explored : goal.returns-then-stops-clause-explored
-returns-then-stops-clause-explored c =
-    let e = c.in_ok-stops.ensures in
-    has_stopped c.args.program.now c.args.asked c.loop-i.i c.loop-i.made c.add.new.self e.0 c.loop-i.invariant e.1 e.2 (sym e.3 ∙ c.if-stops.true) (omega arith)
-
-pub returns-then-stops-clause-few : goal.returns-then-stops-clause-few
-returns-then-stops-clause-few c =
-    let e = c.in_ok-stops.ensures in
-    at_most c.args.program.now c.args.asked c.add.new.self
-    (has_stopped c.args.program.now c.args.asked c.loop-i.i c.loop-i.made c.add.new.self e.0 c.loop-i.invariant e.1 e.2 (sym e.3 ∙ c.if-stops.true) (omega arith))
-
-pub loop-i-preserved : goal.loop-i-preserved
-loop-i-preserved c =
-    let e = c.in_ok-stops.ensures in
-    goes_on c.args.program.now c.args.asked c.loop-i.i c.loop-i.made c.add.new.self e.0 c.loop-i.invariant e.1 e.2 (sym e.3 ∙ c.if-stops.false)
+pub runs-preserved : goal.runs-preserved
+runs-preserved c =
+    let more : HasMade c.args.program.now c.args.asked false c.go.new.self = subst (λ b. HasMade c.args.program.now c.args.asked b c.go.new.self) c.if-last.false c.in_ok-last.ensures.made in
+    record { so_far = more.0; few = omega (arith, more.1) }
 
 pub returns-clause-explored : goal.returns-clause-explored
-returns-clause-explored c = is_done c.args.program.now c.args.asked c.loop-i.i c.loop-i.made c.loop-i.invariant (omega arith)
+returns-clause-explored c = is_done c.args.program.now c.args.asked c.runs.made c.runs.invariant.so_far (omega (arith, c.runs.invariant.few))
 
 pub returns-clause-few : goal.returns-clause-few
-returns-clause-few c =
-    at_most c.args.program.now c.args.asked c.loop-i.made (is_done c.args.program.now c.args.asked c.loop-i.i c.loop-i.made c.loop-i.invariant (omega arith))
+returns-clause-few c = c.runs.invariant.few

@@ -3,12 +3,15 @@ use Rattle.cml_explore.specs.Finishes.{PlainEnded, finish_of, fate_of}
 use Rattle.cml_explore.proofs.ExploreLemmas.{added_hub, finish_is}
 use Rattle.cml_explore.proofs.explored.Explored.add_hub.Goals as goal
 
-pub returns : goal.returns
-returns c =
+pub returns-clause-added : goal.returns-clause-added
+returns-clause-added c =
     let h = c.args.hub.now in
-    let e : PlainEnded = record { finish = finish_of h; fate = fate_of c.args.asked.now.servers.now h } in (
+    let details = c.in_ok-details.details.items in
+    let e : PlainEnded = record { finish = finish_of h details; fate = fate_of c.args.asked.now.servers.now h } in (
+      e,
+      record { details = c.in_ok-details.ensures; finish_is = refl; fate_is = refl },
       added_hub c.args.self.now c.self.inside.classes c.count.new.self c.self.inside.runs _ c.self.inside.well c.is_well.result c.both-self-inside.result c.args.seed
-          (record { details = c.in_ok-details.details.items; digest = c.digest_of.result; items = c.schedule.result.now }) e c.self.view_is
-          (finish_is h _ _ _ c.in_ok-details.ensures c.digest_of.ensures c.schedule.ensures.items) c.in_ok-count.ensures refl (c.is_well.ensures e (sym c.fate_of-fate.ensures)) c.both-self-inside.ensures,
+          (record { details = details; digest = c.digest_of.result; items = c.schedule.result.now }) e c.self.view_is
+          (finish_is h details _ _ c.digest_of.ensures c.schedule.ensures.items) c.in_ok-count.ensures.ok refl (c.is_well.ensures e (sym c.fate_of-fate.ensures)) c.both-self-inside.ensures,
       c.stops.ensures e (sym c.fate_of-fate.ensures),
     )

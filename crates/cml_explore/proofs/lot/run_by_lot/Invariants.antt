@@ -1,0 +1,9 @@
+use Rattle.cml_explore.specs.Lots.{LeftByLot}
+use Rattle.cml_explore.proofs.lot.run_by_lot.Given as goal
+
+-- so many items more at most
+abbrev pub invariant-items : goal.invariant-items
+invariant-items l = LeftByLot l.fn.hub l.fn.chooser l.left l.hub l.chooser
+
+abbrev pub decreases-items : goal.decreases-items
+decreases-items l = l.left
