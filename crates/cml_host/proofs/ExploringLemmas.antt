@@ -3,13 +3,14 @@ use Rattle.std.proofs.Common.{◌≡◌, ◌∙◌, ◌⊎◌, ◌+◌, ◌++◌
 use Rattle.std.specs.Prelude.{slice_get}
 use Rattle.std.specs.Fmt.{decimal}
 use Rattle.std.proofs.KnownBytes.{Appends-trans}
+use Rattle.std.proofs.Math.Path.{fun_ext}
 use Rattle.cml_check.specs.Syntax.{Name, PlainItem}
 use Rattle.cml_explore.specs.Classes.{PlainClass}
 use Rattle.cml_explore.specs.Explored.{PlainExplored}
 use Rattle.cml_explore.specs.declared.explored.Asked.{Asked}
 use Rattle.cml_stream.specs.Streams.{Counted, Stream, stream, counted_stream, Says, Takes, TakesStart}
 use Rattle.cml_words.specs.declared.ExploreOptions.{ExploreOptions}
-use Rattle.cml_host.specs.Exploring.{AreSaved, AsksFor, ClassesKept, File, FilesKept, LeavesAll, MadeAll, MadeErased, MadeTold, NotShown, ProgramExplored, RanOut, RunsTold, StopsErased, StopsShowing, erased, file_of, files_from, saved_start, shown_all, shown_at, shown_next, shown_so_far, shown_to}
+use Rattle.cml_host.specs.Exploring.{AreSaved, AsksFor, ClassesKept, File, FilesKept, LeavesAll, MadeAll, MadeErased, MadeTold, NotShown, ProgramExplored, RanOut, RunsTold, ScriptExplored, StopsErased, StopsShowing, erased, file_of, files_from, saved_start, shown_all, shown_at, shown_next, shown_so_far, shown_to}
 use Rattle.cml_host.specs.Scripts.{PlainScript}
 use Rattle.cml_host.specs.Stores.{Content, Shelf, IsReplacedBy, IsSaved, IsUnchanged}
 use Rattle.cml_host.specs.Told.{SaysAfter}
@@ -51,6 +52,14 @@ erased_on shows runs n a b c first then = Appends-trans a b c _ _ first then
 pub erasing_broke : (shows : Bool) (runs n : ℕ) (a b c : Option (List ℕ)) (calls failed : ℕ) → Takes (stream a b) (shown_so_far shows runs n)
     → TakesStart (stream b c) (erased shows) × (failed ≡ 1) → StopsErased shows runs Write (counted_stream a c calls failed)
 erasing_broke shows runs n a b c calls failed first part = (n, start_behind a b c _ _ first part.0, part.1)
+
+pub made_erased : (p : List (PlainItem ℕ)) (asked : Asked) (shows : Bool) (made : PlainExplored) (a b c : Option (List ℕ)) (was broke calls failed : ℕ)
+    → MadeAll p asked shows made (counted_stream a b was broke) → Takes (stream b c) (erased shows) × (failed ≡ 0) → MadeErased p asked shows made (counted_stream a c calls failed)
+made_erased p asked shows made a b c was broke calls failed all then = record {
+  explored = all.explored;
+  takes = erased_on shows asked.runs made.runs a b c all.takes then.0;
+  fine = then.1;
+}
 
 pub stopped_writing : (shows : Bool) (runs : ℕ) (a b : Option (List ℕ)) (calls failed : ℕ) → StopsShowing shows runs Write (counted_stream a b calls failed)
     → StopsErased shows runs Write (counted_stream a b calls failed)
@@ -146,3 +155,10 @@ saved_more (f ∷ files) file old mid new all saved = (all.0, all.1, saved_more 
 pub saved_still : (files : List File) (old mid new : List ℕ → Content) → AreSaved files old mid → IsUnchanged mid new → AreSaved files old new
 saved_still [] old mid new same still = λ name. still name ∙ same name
 saved_still (f ∷ files) old mid new all still = (all.0, all.1, saved_still files all.0 mid new all.2 still)
+
+-- what was done about the store that the script was read from
+pub explored_behind : (options : ExploreOptions) (shows : Bool) (s : PlainScript) (output errors : Counted) (old mid new : List ℕ → Content) (status : ℕ) → IsUnchanged old mid
+    → ScriptExplored options shows s output errors (record { before = mid; after = new }) status → ScriptExplored options shows s output errors (record { before = old; after = new }) status
+explored_behind options shows s output errors old mid new status same ran =
+    let is : mid ≡ old = fun_ext (λ name. same name) in
+    subst (λ (b : List ℕ → Content). ScriptExplored options shows s output errors (record { before = b; after = new }) status) is ran

@@ -11,3 +11,4 @@ mod StoryLemmas
 mod ItemLemmas
 mod NarratedLemmas
 mod ExploringLemmas
+mod ShrunkLemmas

@@ -13,4 +13,5 @@ pub mod Running
 pub mod Replaying
 pub mod Narrated
 pub mod Exploring
+pub mod Shrunk
 pub mod Statuses

@@ -14,6 +14,7 @@ use crate::fmt::print_file;
 use crate::output::{say, send_text};
 use crate::replay::replay_file;
 use crate::run::run_file;
+use crate::shrink::shrink_file;
 use crate::store::Store;
 use crate::trace::trace;
 use crate::workers::Open;
@@ -125,6 +126,7 @@ where
         Ok(Answer::Task(Task::Explore(options))) => {
             explore_file(alloc, &options, terminal, out, err, store)
         }
+        Ok(Answer::Task(Task::Shrink(options))) => shrink_file(alloc, &options, out, err, store),
         Ok(Answer::Help(text)) => send_text(text.as_bytes(), out, err),
         Ok(Answer::Fault(text)) => {
             say(err, text.as_bytes());

@@ -17,6 +17,7 @@ mod run;
 mod said;
 mod script;
 mod servers;
+mod shrink;
 mod source;
 mod store;
 mod tell;
