@@ -320,19 +320,16 @@ fn over_record(alloc: Global, options: &RunOptions<'_>) -> Result<Option<String>
 }
 
 // And of those of `explore`.
-fn explore_odds(
-    alloc: Global,
-    options: &ExploreOptions<'_>,
-) -> Result<Option<String>, AllocError>
+fn explore_odds(alloc: Global, options: &ExploreOptions<'_>) -> Result<Option<String>, AllocError>
     ensures { IfOk result (λ told. ToldOdds (ExploreOdds options.now) (option_map (λ text. string_bytes text) told)) }
 {
     if is_unknown(options.until) {
         return Ok(Some(format!(in alloc; "--until takes waits, fault or budget\n")?));
     }
     if passes_the_last(options.seed, options.runs) {
-        return Ok(Some(
-            format!(in alloc; "--runs goes past the last seed, 18446744073709551615\n")?,
-        ));
+        return Ok(Some(format!(in alloc;
+            "--runs goes past the last seed, 18446744073709551615\n"
+        )?));
     }
     match options.save {
         Some(start) if saves_over(start, options.script) => {
