@@ -1,21 +1,33 @@
 -- What was shown, told and saved of many runs, one thing after another.
-use Rattle.std.proofs.Common.{◌≡◌, ◌∙◌, ◌⊎◌, ◌+◌, ◌++◌, ◌∷◌, [], ℕ, suc, Bool, true, false, List, Option, Some, None, Result, Ok, Err, IfErr, IfOk, length, refl, sym, ap, subst, inl, inr, add-one, add-zero, append-nil, append_assoc, arith}
+use Rattle.std.proofs.Common.{◌≡◌, ◌∙◌, ◌⊎◌, ◌+◌, ◌++◌, ◌∷◌, [], ℕ, suc, Bool, true, false, List, Option, Some, None, Result, Ok, Err, OnErr, IfErr, IfOk, ◌<◌, get_or, take, drop, drop-cons, length, refl, sym, ap, subst, inl, inr, add-one, add-zero, append-nil, append_assoc, arith}
 use Rattle.std.specs.Prelude.{slice_get}
 use Rattle.std.specs.Fmt.{decimal}
+use Rattle.std.specs.Option.{option_map_or}
+use Rattle.std.proofs.lemmas.List.{length-take-le, take-append-drop}
+use Rattle.std.proofs.Math.Seq.{take-suc}
 use Rattle.std.proofs.KnownBytes.{Appends-trans}
 use Rattle.std.proofs.Math.Path.{fun_ext}
+use Rattle.cml_check.specs.Sizes.{size_of}
 use Rattle.cml_check.specs.Syntax.{Name, PlainItem}
 use Rattle.cml_explore.specs.Classes.{PlainClass}
 use Rattle.cml_explore.specs.Explored.{PlainExplored}
 use Rattle.cml_explore.specs.declared.explored.Asked.{Asked}
+use Rattle.cml_schedule.specs.Written.{schedule_text}
+use Rattle.cml_schedule.specs.declared.item.Item.{Item}
+use Rattle.cml_stream.specs.Counts.{counted}
 use Rattle.cml_stream.specs.Streams.{Counted, Stream, stream, counted_stream, Says, Takes, TakesStart}
+use Rattle.cml_words.specs.Words.{saved_name}
 use Rattle.cml_words.specs.declared.ExploreOptions.{ExploreOptions}
-use Rattle.cml_host.specs.Exploring.{AreSaved, AsksFor, ClassesKept, File, FilesKept, LeavesAll, MadeAll, MadeErased, MadeTold, NotShown, ProgramExplored, RanOut, RunsTold, ScriptExplored, StopsErased, StopsShowing, erased, file_of, files_from, saved_start, shown_all, shown_at, shown_next, shown_so_far, shown_to}
+use Rattle.cml_host.specs.Exploring.{AreSaved, AsksFor, ClassesKept, File, FilesKept, IsNotSaved, LeavesAll, MadeAll, MadeErased, MadeTold, NotShown, ProgramExplored, RanOut, RunsTold, ScriptExplored, SomeSaved, StopsErased, StopsShowing, UnsavedTold, erased, erasure, file_of, judged, shortest_of, files_from, saved_start, shown_all, shown_at, shown_next, shown_so_far, shown_to}
+use Rattle.cml_host.specs.Running.{unsaved_told}
 use Rattle.cml_host.specs.Scripts.{PlainScript}
 use Rattle.cml_host.specs.Stores.{Content, Shelf, IsReplacedBy, IsSaved, IsUnchanged}
 use Rattle.cml_host.specs.Told.{SaysAfter}
 use Rattle.cml_host.specs.declared.explain.Halt.{Halt}
 use Rattle.cml_host.specs.declared.explain.Halt.TheVariants.{Memory, Write}
+use Rattle.cml_host.specs.declared.explore.Unsaved.{Unsaved}
+use Rattle.cml_host.specs.declared.explore.Unsaved.TheVariants as unsaved
+use Rattle.cml_host.proofs.SayLemmas.{start_taken}
 use Rattle.cml_host.proofs.TellLemmas.{start_behind, start_more}
 
 -- ---- what is shown
@@ -155,6 +167,79 @@ saved_more (f ∷ files) file old mid new all saved = (all.0, all.1, saved_more 
 pub saved_still : (files : List File) (old mid new : List ℕ → Content) → AreSaved files old mid → IsUnchanged mid new → AreSaved files old new
 saved_still [] old mid new same still = λ name. still name ∙ same name
 saved_still (f ∷ files) old mid new all still = (all.0, all.1, saved_still files all.0 mid new all.2 still)
+
+pub erase_broke : {A B : Type 0} (r : Result A B) (shows : Bool) (a b : Option (List ℕ)) (was failed : ℕ) → shows ≡ true → was ≡ 0
+    → OnErr r ((n : ℕ) × Takes (stream a b) (take n erasure)) → OnErr r (failed ≡ counted was) → OnErr r (TakesStart (stream a b) (erased shows) × (failed ≡ 1))
+erase_broke (Ok x) shows a b was failed on none part broken = tt
+erase_broke (Err e) shows a b was failed on none part broken =
+    subst (λ (s : Bool). TakesStart (stream a b) (erased s) × (failed ≡ 1)) (sym on) (start_taken (stream a b) erasure part.0 part.1, broken ∙ ap counted none)
+
+-- ---- what is saved, and not
+
+-- the files up to this one, this one, and those behind it
+files_at : (start : Name) (budget : ℕ) (p : List (PlainItem ℕ)) (classes : List PlainClass) (numbers : List ℕ) (i : ℕ) → i < length numbers
+    → files_from start budget p classes 1 numbers
+    ≡ files_from start budget p classes 1 (take i numbers) ++ file_of start budget p classes (i + 1) (get_or numbers i 0) ∷ files_from start budget p classes (suc (i + 1)) (drop (suc i) numbers)
+files_at start budget p classes numbers i within =
+    let long : length (take i numbers) ≡ i = length-take-le i numbers (omega arith) in
+    let place : 1 + length (take i numbers) ≡ i + 1 = omega arith in
+    let whole : numbers ≡ take i numbers ++ (get_or numbers i 0 ∷ drop (suc i) numbers) =
+    sym (take-append-drop i numbers) ∙ ap (λ (xs : List ℕ). take i numbers ++ xs) (drop-cons numbers i 0 within) in
+    ap (files_from start budget p classes 1) whole
+    ∙ (files_append start budget p classes 1 (take i numbers) (get_or numbers i 0 ∷ drop (suc i) numbers)
+    ∙ ap (λ (n : ℕ). files_from start budget p classes 1 (take i numbers) ++ files_from start budget p classes n (get_or numbers i 0 ∷ drop (suc i) numbers)) place)
+
+pub some_saved : (start : Name) (budget : ℕ) (p : List (PlainItem ℕ)) (classes : List PlainClass) (numbers : List ℕ) (i : ℕ) (why : Unsaved) (old mid new : List ℕ → Content)
+    → i < length numbers → AreSaved (files_from start budget p classes 1 (take i numbers)) old mid
+    → IsNotSaved (saved_name start (decimal (i + 1))) why (record { before = mid; after = new })
+    → SomeSaved (files_from start budget p classes 1 numbers) why (record { before = old; after = new })
+some_saved start budget p classes numbers i unsaved.Memory old mid new within all still =
+    (_, _, files_at start budget p classes numbers i within, saved_still _ old mid new all still)
+some_saved start budget p classes numbers i (unsaved.Refused name why) old mid new within all still =
+    (_, _, _, files_at start budget p classes numbers i within, saved_still _ old mid new all still.1, still.0)
+
+-- one file more was saved
+pub saved_next : (start : Name) (budget : ℕ) (p : List (PlainItem ℕ)) (classes : List PlainClass) (numbers : List ℕ) (i : ℕ) (items : List Item) (c : PlainClass) (old mid new : List ℕ → Content)
+    → i < length numbers → slice_get classes (get_or numbers i 0) ≡ Some c → items ≡ c.tally.shortest
+    → AreSaved (files_from start budget p classes 1 (take i numbers)) old mid → IsSaved mid new (saved_name start (decimal (i + 1))) (schedule_text budget (size_of p) items)
+    → AreSaved (files_from start budget p classes 1 (take (i + 1) numbers)) old new
+saved_next start budget p classes numbers i items c old mid new within class is all saved =
+    let long : length (take i numbers) ≡ i = length-take-le i numbers (omega arith) in
+    let place : 1 + length (take i numbers) ≡ i + 1 = omega arith in
+    let n = get_or numbers i 0 in
+    let whole : take (i + 1) numbers ≡ take i numbers ++ n ∷ [] = ap (λ (k : ℕ). take k numbers) (add-one i) ∙ take-suc numbers i 0 within in
+    let shortest : items ≡ shortest_of classes n = is ∙ sym (ap (λ (o : Option PlainClass). option_map_or (λ c. c.tally.shortest) o []) class) in
+    let more = subst (λ (xs : List Item). IsSaved mid new (saved_name start (decimal (i + 1))) (schedule_text budget (size_of p) xs)) shortest saved in
+    let files : files_from start budget p classes 1 (take (i + 1) numbers) ≡ files_from start budget p classes 1 (take i numbers) ++ file_of start budget p classes (i + 1) n ∷ [] =
+    ap (files_from start budget p classes 1) whole
+    ∙ (files_append start budget p classes 1 (take i numbers) (n ∷ [])
+    ∙ ap (λ (k : ℕ). files_from start budget p classes 1 (take i numbers) ++ files_from start budget p classes k (n ∷ [])) place) in
+    subst (λ (fs : List File). AreSaved fs old new) (sym files) (saved_more _ (file_of start budget p classes (i + 1) n) old mid new all more)
+
+-- what is told where not all files were saved
+pub kept_not : (files : List File) (well : Bool) (why : Unsaved) (a b : Option (List ℕ)) (calls failed : ℕ) (store : Shelf) (status : ℕ) → SomeSaved files why store
+    → UnsavedTold why (counted_stream a b calls failed) status → FilesKept files well [] (counted_stream a b calls failed) store status
+kept_not files well unsaved.Memory a b calls failed store status saved told =
+    inr (saved.0, saved.1, saved.2, saved.3, inl (says_first a b calls failed _ told.0, told.1))
+kept_not files well (unsaved.Refused name why) a b calls failed store status saved (inl told) =
+    inr (
+      saved.0,
+      saved.1 ∷ saved.2,
+      saved.3,
+      saved.4,
+      inr (saved.1, saved.2, refl,
+          (told.0.0, says_first a b calls failed _ (subst (λ (n : List ℕ). Says (counted_stream a b calls failed) (unsaved_told true n told.0.0)) saved.5 told.0.1)), told.1),
+    )
+kept_not files well (unsaved.Refused name why) a b calls failed store status saved (inr out) =
+    inr (saved.0, saved.1 ∷ saved.2, saved.3, saved.4, inl (says_first a b calls failed _ out.0, out.1))
+
+-- none is asked for
+pub none_kept : (start : Option Name) (budget : ℕ) (p : List (PlainItem ℕ)) (made : PlainExplored) (errors : Counted) (store : Shelf) (status : ℕ) → start ≡ None
+    → IsUnchanged store.before store.after → Takes errors.bytes [] → errors.counts.failed ≡ 0 → status ≡ judged made.well → ClassesKept start budget p made [] errors store status
+none_kept start budget p made errors store status none same takes fine is =
+    subst (λ (o : Option Name). ClassesKept o budget p made [] errors store status) (sym none) (inl ([], refl, inl (same, takes, fine, is)))
+
+-- ---- the script
 
 -- what was done about the store that the script was read from
 pub explored_behind : (options : ExploreOptions) (shows : Bool) (s : PlainScript) (output errors : Counted) (old mid new : List ℕ → Content) (status : ℕ) → IsUnchanged old mid

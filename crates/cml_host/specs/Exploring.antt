@@ -1,5 +1,5 @@
 -- The command `explore`: what is told of many runs of a script, what is shown meanwhile, and what is saved of them.
-use Rattle.std.specs.Prelude.{◌≡◌, ◌⊎◌, ℕ, zero, suc, ◌+◌, ◌-◌, ◌*◌, ◌/◌, ◌==◌, Bool, if◌then◌else◌, List, [], ◌∷◌, ◌++◌, map, codes, Option, Some, None, option_and_then, option_map, slice_get}
+use Rattle.std.specs.Prelude.{◌≡◌, ◌⊎◌, ℕ, zero, suc, ◌+◌, ◌-◌, ◌*◌, ◌/◌, ◌==◌, Bool, true, if◌then◌else◌, List, [], ◌∷◌, ◌++◌, map, codes, Option, Some, None, option_and_then, option_map, slice_get}
 use Rattle.std.specs.Fmt.{decimal}
 use Rattle.std.specs.Option.{option_map_or}
 use Rattle.std.specs.String.{string_bytes}
@@ -125,7 +125,7 @@ AreFiles (Some start) budget p classes files =
 -- the files were saved, one after another
 abbrev pub AreSaved : List File → (List ℕ → Content) → (List ℕ → Content) → Type 0
 AreSaved [] old new = IsUnchanged old new
-AreSaved (file ∷ files) old new = (then : List ℕ → Content) × IsSaved old then file.name file.bytes × AreSaved files then new
+AreSaved (file ∷ files) old new = (mid : List ℕ → Content) × IsSaved old mid file.name file.bytes × AreSaved files mid new
 
 -- the status where these runs ended well, or not
 abbrev pub judged : Bool → ℕ
