@@ -1,0 +1,22 @@
+-- What may be left out of a schedule.
+use Rattle.std.specs.Prelude.{ℕ, ◌==◌, Bool, false, not, ◌||◌, List, ◌++◌, take, drop, filter}
+use Rattle.cml_scan.specs.declared.meet.Meet.{Meet}
+use Rattle.cml_scan.specs.declared.meet.Meet.TheVariants.{Single, Pair}
+use Rattle.cml_schedule.specs.declared.item.Item.{Item}
+use Rattle.cml_schedule.specs.declared.item.Item.TheVariants.{Turn, Meet as Commit, Exchange, Clock}
+
+-- the thread is a party to the row
+abbrev pub is_in_row : ℕ → Meet → Bool
+is_in_row t (Single u n) = u.0 == t
+is_in_row t (Pair h i o j) = (h.0 == t) || (o.0 == t)
+
+-- the thread takes part in the item: it has its turn, or it is a party to the row that is taken
+abbrev pub takes_part : ℕ → Item → Bool
+takes_part t (Turn u) = u.0 == t
+takes_part t (Commit row) = is_in_row t row
+takes_part t (Exchange row) = is_in_row t row
+takes_part t (Clock tick) = false
+
+-- the items without those in which the thread takes part, from the item of this number on; they are numbered from 0
+abbrev pub without_rest : List Item → ℕ → ℕ → List Item
+without_rest items t i = take i items ++ filter (λ item. not (takes_part t item)) (drop i items)

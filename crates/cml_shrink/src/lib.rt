@@ -1,0 +1,14 @@
+//! A shorter schedule of a program that ends alike.
+#![tactic(auto)]
+
+mod counts;
+mod cut;
+mod fault;
+mod gather;
+mod replay;
+mod search;
+mod shrunk;
+
+pub use counts::push_counts;
+pub use fault::ShrinkFault;
+pub use shrunk::{Shrunk, shrink};
