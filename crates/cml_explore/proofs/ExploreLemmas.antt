@@ -93,7 +93,9 @@ few_all n seed (e ∷ ends) cs m at few =
 -- the class of most runs has no more than there were
 few_gathered : (first : ℕ) (ends : List PlainEnded) → All (λ (x : PlainClass). x.tally.runs ≤ length ends) (gathered first ends).classes
 few_gathered first ends =
-    few_all 0 first (map (λ (x : PlainEnded). x.finish) ends) [] (length ends) (sym (map_long ends)) (All-nil (λ (x : PlainClass). x.tally.runs ≤ 0))
+    let long : length (map (λ (x : PlainEnded). x.finish) ends) ≡ length ends = map_long ends in
+    let many : length ends ≡ 0 + length (map (λ (x : PlainEnded). x.finish) ends) = omega (arith, long) in
+    few_all 0 first (map (λ (x : PlainEnded). x.finish) ends) [] (length ends) many (All-nil (λ (x : PlainClass). x.tally.runs ≤ 0))
 
 pub nothing_yet : (p : List (PlainItem ℕ)) (asked : Asked) (made : PlainExplored) → made ≡ nothing_made → SoFar p asked made
 nothing_yet p asked made new = record { ends = []; each = tt; none = refl; gathered_so = new }
@@ -109,19 +111,19 @@ is_few p asked m made so_far h =
     subst (λ (e : PlainExplored). All (λ (x : PlainClass). x.tally.runs ≤ length so_far.ends) e.classes) (sym so_far.gathered_so) (few_gathered asked.first so_far.ends) in
     All-weaker (λ (x : PlainClass). x.tally.runs ≤ length so_far.ends) (λ (x : PlainClass). x.tally.runs < m) (λ x g. omega (arith, g, many, h)) made.classes all
 
-module _ (p : List (PlainItem ℕ)) (asked : Asked) (old new : PlainExplored) (e : PlainEnded) (so_far : SoFar p asked old)
-    (is : EndsSoBy p asked.budget asked.turns asked.servers.now (asked.first + old.runs) e) (made : new ≡ with_ended (asked.first + old.runs) e old) where
-  at_seed : asked.first + old.runs ≡ asked.first + length so_far.ends
-  at_seed = ap (λ k. asked.first + k) (as_many p asked old so_far)
+module _ (p : List (PlainItem ℕ)) (asked : Asked) (old new : PlainExplored) (e : PlainEnded) (so_far : SoFar p asked old) (n : ℕ) (at : n ≡ asked.first + old.runs)
+    (is : EndsSoBy p asked.budget asked.turns asked.servers.now n e) (made : new ≡ with_ended n e old) where
+  at_seed : n ≡ asked.first + length so_far.ends
+  at_seed = at ∙ ap (λ k. asked.first + k) (as_many p asked old so_far)
 
   each_so : EachEnds p asked.budget asked.turns asked.servers.now asked.first (so_far.ends ++ e ∷ [])
-  each_so = ends_more p asked.budget asked.turns asked.servers.now asked.first so_far.ends (asked.first + old.runs) e at_seed so_far.each is
+  each_so = ends_more p asked.budget asked.turns asked.servers.now asked.first so_far.ends n e at_seed so_far.each is
 
   all_so : new ≡ gathered asked.first (so_far.ends ++ e ∷ [])
   all_so =
       made
-      ∙ (ap (with_ended (asked.first + old.runs) e) so_far.gathered_so
-      ∙ sym (gathered_more asked.first so_far.ends (asked.first + old.runs) e at_seed))
+      ∙ (ap (with_ended n e) so_far.gathered_so
+      ∙ sym (gathered_more asked.first so_far.ends n e at_seed))
 
   pub goes_on : stops asked.until e ≡ false → SoFar p asked new
   goes_on not_yet = record {

@@ -1,30 +1,26 @@
 -- What is next_by_lot, one item after another.
-use Rattle.std.proofs.Common.{◌≡◌, ◌≢◌, ℕ, zero, suc, ◌+◌, ◌-◌, ◌<◌, ◌≤◌, Bool, true, false, not, ◌&&◌, ◌||◌, if◌then◌else◌, List, [], ◌∷◌, ◌++◌, length, get_or, drop, Option, Some, None, refl, sym, ap, subst, ◌∙◌, arith, append_assoc, append-nil, add-one}
+use Rattle.std.proofs.Common.{◌≡◌, ◌≢◌, ℕ, zero, suc, ◌+◌, ◌<◌, ◌≤◌, Bool, true, false, ◌||◌, if◌then◌else◌, List, [], ◌++◌, length, get_or, drop, Option, Some, None, refl, sym, ap, ◌∙◌, arith, append_assoc, append-nil, add-one}
 use Rattle.std.specs.Prelude.{◌==◌, slice_get, option_map, nat_le, Result, Ok, Err, OnOk, IfOk}
-use Rattle.std.specs.Option.{option_map_or}
 use Rattle.std.proofs.lemmas.Bool.Decides.{nat_tests}
 use Rattle.std.proofs.lemmas.List.{at_drop_more, drop_all}
 use Rattle.std.proofs.lemmas.Option.{slice_get-get_or}
 use Rattle.rand_pcg.specs.Lcg.{Lcg}
 use Rattle.cml_value.specs.declared.number.Tid.{Tid}
-use Rattle.cml_scan.specs.World.{PlainThread, running, pending_on, ended, PlainWorld}
+use Rattle.cml_scan.specs.World.{PlainThread, running, PlainWorld}
 use Rattle.cml_scan.specs.Scan.{scan}
-use Rattle.cml_scan.specs.declared.meet.Meet.{Meet}
 use Rattle.cml_schedule.specs.declared.item.Item.{Item}
-use Rattle.cml_schedule.specs.declared.item.Item.TheVariants.{Turn, Clock}
+use Rattle.cml_schedule.specs.declared.item.Item.TheVariants.{Clock}
 use Rattle.cml_check.specs.Syntax.{PlainItem}
 use Rattle.cml_step.specs.Calls.{text_of}
 use Rattle.cml_step.specs.Terms.{Program}
-use Rattle.cml_book.specs.Walks.{runs}
-use Rattle.cml_hub.specs.declared.fault.End.{End}
 use Rattle.cml_hub.specs.declared.fault.End.TheVariants.{Quiet, Budget, Partial}
-use Rattle.cml_hub.specs.Runs.{Run, opening, stands, is_allowed, advance, after_item, next_alarm, terminal, over, ending}
+use Rattle.cml_hub.specs.Runs.{Run, opening, stands, advance, after_item, next_alarm, terminal, over, ending}
 use Rattle.cml_hub.specs.Courses.{PlainCourse, run_of, Comes}
 use Rattle.cml_hub.specs.Kept.{Kept, IsAtStart, IsFollowed, NoneOut}
-use Rattle.cml_hub.specs.Playing.{Played}
+use Rattle.cml_hub.specs.Playing.{Played, picked}
 use Rattle.cml_hub.proofs.Played.{begins_run}
 use Rattle.cml_explore.specs.Generators.{by_generator}
-use Rattle.cml_explore.specs.Lots.{ready_of, ready_from, row_choices, item_by_lot, next_by_lot, ByLot, added_by_lot, led_by, one_by_lot, more_by_lot, begun_by_lot, run_by_lot, placed_by_lot, GoesByLot, RunsByLot, LeftByLot}
+use Rattle.cml_explore.specs.Lots.{ready_of, ready_from, row_choices, row_by_lot, item_by_lot, next_by_lot, ByLot, added_by_lot, led_by, one_by_lot, more_by_lot, begun_by_lot, run_by_lot, placed_by_lot, GoesByLot, RunsByLot, LeftByLot}
 
 -- one thread more
 pub ready_more : (threads : List PlainThread) (i : ℕ) (o p all : List Tid) → i < length threads
@@ -61,6 +57,14 @@ lot_moves w state ready a b n is long rows sum some =
     ∙ (ap (λ t. if t then (option_map Clock (next_alarm w), state) else item_by_lot w (by_generator.next state) (slice_get (ready_from 0 w.threads) (by_generator.picks state n))) test
     ∙ ap (λ l. item_by_lot w (by_generator.next state) (slice_get l (by_generator.picks state n))) (sym is))
 
+-- the lot fell on a row
+pub lot_row : (w : PlainWorld) (state spent_ : Lcg) (ready : List Tid) (a b n k : ℕ) → ready ≡ ready_from 0 w.threads → a ≡ length ready → b ≡ row_choices (scan w) → n ≡ a + b → n ≢ 0
+    → k ≡ by_generator.picks state n → spent_ ≡ by_generator.next state → None ≡ slice_get ready k → next_by_lot w state ≡ row_by_lot w spent_ (picked by_generator spent_ (scan w))
+lot_row w state spent_ ready a b n k is long rows sum some at next none =
+    lot_moves w state ready a b n is long rows sum some
+    ∙ (ap (λ i. item_by_lot w (by_generator.next state) (slice_get ready i)) (sym at)
+    ∙ (ap (item_by_lot w (by_generator.next state)) (sym none) ∙ ap (λ s. item_by_lot w s None) (sym next)))
+
 module _ (old new : Kept) (state last : Lcg) (item : Item) where
   came_program : (came : Bool) → Comes old.course item came new.course → new.course.program ≡ old.course.program
   came_program true adds = adds.program
@@ -77,31 +81,31 @@ module _ (old new : Kept) (state last : Lcg) (item : Item) where
 
   -- the item that was next_by_lot came, or was not allowed
   pub goes_by : (came : Bool) → Some item ≡ (next_by_lot old.course.world state).0 → last ≡ (next_by_lot old.course.world state).1 → IsFollowed old item came new → GoesByLot old state new last
-  goes_by came is then followed =
+  goes_by came is after followed =
       let p = text_of old.course.program in
       record {
         program = came_program came followed.course;
         budget_is = followed.budget;
         goes = came_so came followed.course
             ∙ (ap (λ (o : Option Item). added_by_lot (placed_by_lot old state) last o (led_by p (run_of old.course) o)) is
-            ∙ ap (λ (s : Lcg). added_by_lot (placed_by_lot old state) s (next_by_lot old.course.world state).0 (led_by p (run_of old.course) (next_by_lot old.course.world state).0)) then);
+            ∙ ap (λ (s : Lcg). added_by_lot (placed_by_lot old state) s (next_by_lot old.course.world state).0 (led_by p (run_of old.course) (next_by_lot old.course.world state).0)) after);
       }
 
 -- the same, where memory was enough
 pub goes_by_ok : {E : Type 0} (r : Result Bool E) (old new : Kept) (state last : Lcg) (item : Item) → Some item ≡ (next_by_lot old.course.world state).0 → last ≡ (next_by_lot old.course.world state).1
     → IfOk r (λ came. IsFollowed old item came new) → OnOk r (GoesByLot old state new last)
-goes_by_ok (Ok came) old new state last item is then followed = goes_by old new state last item came is then followed
-goes_by_ok (Err e) old new state last item is then followed = tt
+goes_by_ok (Ok came) old new state last item is after followed = goes_by old new state last item came is after followed
+goes_by_ok (Err e) old new state last item is after followed = tt
 
 -- nothing was next_by_lot
 pub goes_nowhere : (old : Kept) (state last : Lcg) → None ≡ (next_by_lot old.course.world state).0 → last ≡ (next_by_lot old.course.world state).1 → GoesByLot old state old last
-goes_nowhere old state last is then =
+goes_nowhere old state last is after =
     let p = text_of old.course.program in
     record {
       program = refl;
       budget_is = refl;
       goes = ap (λ (o : Option Item). added_by_lot (placed_by_lot old state) last o (led_by p (run_of old.course) o)) is
-          ∙ ap (λ (s : Lcg). added_by_lot (placed_by_lot old state) s (next_by_lot old.course.world state).0 (led_by p (run_of old.course) (next_by_lot old.course.world state).0)) then;
+          ∙ ap (λ (s : Lcg). added_by_lot (placed_by_lot old state) s (next_by_lot old.course.world state).0 (led_by p (run_of old.course) (next_by_lot old.course.world state).0)) after;
     }
 
 -- whether a run is over, by how it ends

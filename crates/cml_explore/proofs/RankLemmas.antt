@@ -1,5 +1,5 @@
 -- One class more.
-use Rattle.std.proofs.Common.{◌≡◌, ℕ, suc, ◌+◌, ◌<◌, List, [], ◌∷◌, ◌++◌, map, take, fold, length, get_or, Some, refl, sym, ap, subst, ◌∙◌, arith}
+use Rattle.std.proofs.Common.{◌≡◌, ℕ, suc, ◌+◌, ◌<◌, List, [], ◌∷◌, ◌++◌, map, take, fold, length, get_or, Some, zero-add, sym, ap, subst, ◌∙◌, arith}
 use Rattle.std.specs.Prelude.{slice_get, Vec, Result, Ok, Err, IfOk}
 use Rattle.std.specs.List.{All}
 use Rattle.std.specs.declared.alloc.Global.{Global}
@@ -61,6 +61,6 @@ pub ranked_below : {E : Type 0} (r : Result (Vec ℕ Global) E) (cs : List Plain
     → IfOk r (λ numbers. All (λ (k : ℕ). k < length cs) numbers.items)
 ranked_below (Ok numbers) cs ranks slice ranked same is =
     let n = length cs in
-    let all : All (λ (r : Rank). r.1 < n) ranks = All-permutation (λ (r : Rank). r.1 < n) (ranks_from 0 cs) ranks ranked.0 (ranks_below 0 n cs refl) in
+    let all : All (λ (r : Rank). r.1 < n) ranks = All-permutation (λ (r : Rank). r.1 < n) (ranks_from 0 cs) ranks ranked.0 (ranks_below 0 n cs (sym (zero-add n))) in
     subst (λ (ks : List ℕ). All (λ (k : ℕ). k < n) ks) (sym (is ∙ ap (map (λ (r : Rank). r.1)) same)) (numbers_below n ranks all)
 ranked_below (Err e) cs ranks slice ranked same is = tt

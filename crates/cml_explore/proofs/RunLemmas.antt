@@ -1,5 +1,5 @@
 -- The run of a program by a seed.
-use Rattle.std.proofs.Common.{◌≡◌, ◌∙◌, ℕ, Bool, true, false, List, None, Option, Some, subst}
+use Rattle.std.proofs.Common.{◌≡◌, ◌∙◌, ℕ, Bool, true, false, List, None, Some, subst}
 use Rattle.std.specs.Prelude.{Result, Ok, Err, IfOk}
 use Rattle.rand_pcg.specs.Lcg.{Lcg}
 use Rattle.cml_check.specs.Syntax.{PlainItem}

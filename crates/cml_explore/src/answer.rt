@@ -8,7 +8,7 @@ ghost use Rattle.cml_explore.specs.ClassViews.{plain_class};
 
 use crate::classes::{Class, Classes};
 use crate::explored::{Asked, Explored};
-use crate::fall::retold;
+use crate::fall::retell;
 use crate::rank::{Rank, ranks_of};
 use crate::run::{let_go, seed_run};
 use crate::sight::{Sighted, push_all_left, spots_of};
@@ -38,7 +38,7 @@ fn push_hub(
 ) -> Result<(), AllocError>
     ensures { OnOk result (LeftBy script.now.forms.now (map (λ own. own.items) script.now.places.now) hub.now.course out.old.items out.new.items) }
 {
-    let known = retold(alloc, hub)?;
+    let known = retell(alloc, hub)?;
     let spots = spots_of(alloc, hub, &known.falls)?;
     let sight = Sighted {
         forms: script.forms,

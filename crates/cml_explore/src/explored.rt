@@ -82,6 +82,13 @@ fn stops(until: Option<Until>, fate: Fate) -> bool
     }
 }
 
+// Whether so many runs are all that were asked for.
+fn are_all(made: u64, asked: u64) -> bool
+    ensures { result ≡ (made == asked) }
+{
+    made == asked
+}
+
 // Whether both hold.
 fn both(one: bool, other: bool) -> bool
     ensures { result ≡ (one && other) }
@@ -170,7 +177,8 @@ impl Explored {
         if stops {
             return Ok(true);
         }
-        Ok(self.runs == asked.runs)
+        let made = self.runs();
+        Ok(are_all(made, asked.runs))
     }
 
     /// The classes, in the order of their first seeds.
@@ -207,7 +215,7 @@ pub fn explore(alloc: Global, program: &Prog, asked: Asked<'_>) -> Result<Explor
     ensures few { IfOk result (λ made. made.runs ≤ asked.entry.runs) }
 {
     let mut made = Explored::new(alloc);
-    'runs: while made.runs < asked.runs {
+    'going: while made.runs() < asked.runs {
         let last = made.go(alloc, program, &asked)?;
         if last {
             return Ok(made);

@@ -221,7 +221,7 @@ pub(crate) struct Retold {
 ///
 /// # Errors
 /// Out of memory.
-pub(crate) fn retold(alloc: Global, hub: &Hub) -> Result<Retold, AllocError>
+pub(crate) fn retell(alloc: Global, hub: &Hub) -> Result<Retold, AllocError>
     ensures takers { IfOk result (λ retold. KnowsTakers (text_of hub.now.course.program) hub.now.course.items retold.takers) }
     ensures falls { IfOk result (λ retold. AreFalls hub.now.course.program hub.now.course.items (fall_in retold.falls)) }
 {
@@ -244,7 +244,7 @@ pub(crate) fn falls_of(alloc: Global, hub: &Hub) -> Result<Falls, AllocError>
     if hub.faults() == 0 {
         return Ok(Falls::new(alloc));
     }
-    let Retold { takers, falls } = retold(alloc, hub)?;
+    let Retold { takers, falls } = retell(alloc, hub)?;
     drop(takers);
     Ok(falls)
 }

@@ -1,7 +1,7 @@
-//! Runs in which it is next_by_lot what happens next.
+//! Runs in which it is drawn by lot what happens next.
 
 ghost use Rattle.std.specs.Prelude.{◌≡◌, ◌++◌, Some, OnOk, IfOk, option_map, slice_get};
-ghost use Rattle.cml_scan.specs.Scan.{scan};
+ghost use Rattle.cml_scan.specs.Scan.{scan, scan_of};
 ghost use Rattle.cml_scan.specs.World.{PlainThread};
 ghost use Rattle.cml_hub.specs.Courses.{run_of};
 ghost use Rattle.cml_hub.specs.Kept.{NoneOut};
@@ -42,14 +42,14 @@ fn ready_threads(alloc: Global, hub: &Hub) -> Result<Vec<Tid>, AllocError>
     Ok(ready)
 }
 
-// A row that can be taken, which the chooser picks, if there is one.
-fn pick_row(hub: &Hub, chooser: &mut Seeded) -> Option<Meet>
-    ensures picked { result ≡ picked by_generator chooser.old (scan hub.now.course.world) }
+// A row of the table, which the chooser picks, if there is one: a head, and then one of the head's rows. It picks both, also where there is only
+// one.
+fn pick_among<T: Table>(table: &T, chooser: &mut Seeded) -> Option<Meet>
+    ensures picked { result ≡ picked by_generator chooser.old (scan_of (T.entries table.now) (T.is_lit table.now)) }
     ensures spent { chooser.new ≡ spent by_generator chooser.old result }
 {
     no_head_where_no_row();
     a_head_has_a_partner();
-    let table = hub.book().table();
     let heads = table.head_count();
     if heads == 0 {
         return None;
@@ -57,6 +57,14 @@ fn pick_row(hub: &Hub, chooser: &mut Seeded) -> Option<Meet>
     let head = table.head(chooser.pick(heads));
     let partners = table.partner_count(head);
     Some(table.partner(head, chooser.pick(partners)))
+}
+
+// A row that can be taken, which the chooser picks, if there is one.
+fn pick_row(hub: &Hub, chooser: &mut Seeded) -> Option<Meet>
+    ensures picked { result ≡ picked by_generator chooser.old (scan hub.now.course.world) }
+    ensures spent { chooser.new ≡ spent by_generator chooser.old result }
+{
+    pick_among(hub.book().table(), chooser)
 }
 
 // The item that takes a row.
@@ -70,7 +78,7 @@ fn row_item(hub: &Hub, row: Meet) -> Item
     }
 }
 
-// A row is next_by_lot.
+// The item that takes a row, which is picked, if there is one.
 fn row_item_by_lot(hub: &Hub, chooser: &mut Seeded) -> Option<Item>
     ensures item { result ≡ (spec.row_by_lot hub.now.course.world chooser.old (picked by_generator chooser.old (scan hub.now.course.world))).0 }
     ensures state { chooser.new ≡ (spec.row_by_lot hub.now.course.world chooser.old (picked by_generator chooser.old (scan hub.now.course.world))).1 }
@@ -103,7 +111,7 @@ fn alarm_item(hub: &Hub) -> Option<Item>
     }
 }
 
-// What happens next is next_by_lot, where these threads run.
+// The item that comes next is drawn, where these threads run.
 fn next_item(hub: &Hub, ready: &[Tid], chooser: &mut Seeded) -> Option<Item>
     requires { ready.now ≡ spec.ready_from 0 hub.now.course.world.threads }
     ensures item { result ≡ (spec.next_by_lot hub.now.course.world chooser.old).0 }
@@ -119,7 +127,7 @@ fn next_item(hub: &Hub, ready: &[Tid], chooser: &mut Seeded) -> Option<Item>
     }
 }
 
-// One item more, as it is next_by_lot.
+// One item more, as it was drawn.
 fn go(alloc: Global, hub: &mut Hub, chooser: &mut Seeded) -> Result<(), AllocError>
     requires { NoneOut hub.old }
     ensures ok { OnOk result (GoesByLot hub.old chooser.old hub.new chooser.new) }
@@ -146,7 +154,7 @@ fn is_over(hub: &Hub) -> bool
     }
 }
 
-/// The hub runs to its end: what happens next is next_by_lot each time.
+/// The hub runs to its end: each item is drawn by lot.
 ///
 /// # Errors
 /// Out of memory.

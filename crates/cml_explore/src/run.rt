@@ -1,6 +1,6 @@
 //! One run of a program.
 
-ghost use Rattle.std.specs.Prelude.{IfOk};
+ghost use Rattle.std.specs.Prelude.{true, false, IfOk};
 ghost use Rattle.cml_hub.specs.Kept.{IsBudget, NoneOut};
 ghost use Rattle.cml_explore.specs.Finishes.{IsSeedRun, RunsOut};
 

@@ -1,4 +1,3 @@
-use Rattle.std.specs.Prelude.{IfOk}
 use Rattle.cml_explore.specs.FallViews.{fall_in}
 use Rattle.cml_explore.proofs.FallLemmas.{details_so}
 use Rattle.cml_explore.proofs.details.details_of.Goals as goal

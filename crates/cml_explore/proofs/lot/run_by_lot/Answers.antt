@@ -1,4 +1,4 @@
-use Rattle.std.proofs.Common.{◌≡◌, ◌∙◌, sym, arith}
+use Rattle.std.proofs.Common.{◌∙◌, sym, arith}
 use Rattle.cml_explore.proofs.LotLemmas.{lots_init, lots_more, lots_over, lots_out}
 use Rattle.cml_explore.proofs.lot.run_by_lot.Goals as goal
 

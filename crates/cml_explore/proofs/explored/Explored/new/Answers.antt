@@ -1,3 +1,4 @@
+use Rattle.std.proofs.Common.{rules}
 use Rattle.cml_explore.proofs.ExploreLemmas.{nothing_yet}
 use Rattle.cml_explore.proofs.explored.Explored.new.Goals as goal
 
