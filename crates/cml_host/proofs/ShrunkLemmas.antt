@@ -1,7 +1,9 @@
 -- What `shrink` did with what lies under its names.
 use Rattle.std.proofs.Common.{◌≡◌, ◌+◌, ℕ, List, Option, Some, true, take, inl, inr, sym, subst}
 use Rattle.std.specs.String.{string_bytes}
+use Rattle.cml_check.specs.Sizes.{size_of}
 use Rattle.cml_check.specs.Syntax.{PlainItem}
+use Rattle.cml_schedule.specs.Written.{schedule_text}
 use Rattle.cml_schedule.specs.Reading.{schedule_limit}
 use Rattle.cml_stream.specs.Streams.{Counted, IsIdle}
 use Rattle.cml_host.specs.Closed.{PlainSubject}
@@ -31,7 +33,7 @@ shrunk_told s p q tries name content told output errors status same there was =
     let by = here.2 in
     let of = by.3 in
     let said = subst (λ (t : List ℕ). ScheduleTold t told.counts.items output errors status) of.2 was in
-    inl (here.0, here.1, inl (by.0, by.1, (by.2, (of.0, of.1, subst (λ (t : List ℕ). ScheduleTold _ t output errors status) of.3 said))))
+    inl (here.0, here.1, inl (by.0, by.1, (by.2, (of.0, of.1, subst (λ (t : List ℕ). ScheduleTold (schedule_text by.0.budget (size_of p) of.0.items) t output errors status) of.3 said))))
 
 -- or why there is none
 pub not_shrunk : (s : PlainSubject) (p q : List (PlainItem ℕ)) (o : Option PlainSubject) (tries : ℕ) (name : List ℕ) (content : Content) (why : Refusal) (output errors : Counted) (status : ℕ)

@@ -15,8 +15,8 @@ returns-in-Ok-clause-ran g c =
     shrunk_told (script_as_subject options.script.now (plain_script c.args.script)) c.args.script.program c.ask-program.result.0 options.tries options.schedule.now
     (g.S.Store.holds c.args.store.now options.schedule.now) c.in-Ok.shorter output errors c.tell_shorter.result c.ask-program.ensures.program c.in-Ok.ensures.ok c.tell_shorter.ensures.told
 
-pub returns-in-Err-clause-ran : goal.returns-in-Err-clause-ran
-returns-in-Err-clause-ran g c =
+pub returns-clause-ran : goal.returns-clause-ran
+returns-clause-ran g c =
     let options = c.args.options.now in
     let output = counted_stream (g.O.Write.contents c.args.out.now.stream.now) (g.O.Write.contents c.args.out.now.stream.now) c.args.out.now.calls c.args.out.now.failed in
     let errors = counted_stream (g.E.Write.contents c.args.err.now.stream.now) (g.E.Write.contents c.refuse.new.err.stream.now) c.refuse.new.err.calls c.refuse.new.err.failed in
