@@ -18,7 +18,7 @@ use Rattle.cml_stream.specs.Counts.{counted}
 use Rattle.cml_stream.specs.Streams.{Counted, Stream, stream, counted_stream, Says, Takes, TakesStart}
 use Rattle.cml_words.specs.Words.{saved_name}
 use Rattle.cml_words.specs.declared.ExploreOptions.{ExploreOptions}
-use Rattle.cml_host.specs.Exploring.{AreSaved, AsksFor, ClassesKept, File, FilesKept, IsNotSaved, LeavesAll, MadeAll, MadeErased, MadeTold, NotShown, ProgramExplored, RanOut, RunsTold, ScriptExplored, SomeSaved, StopsErased, StopsShowing, UnsavedTold, erased, erasure, file_of, judged, shortest_of, files_from, saved_start, shown_all, shown_at, shown_next, shown_so_far, shown_to}
+use Rattle.cml_host.specs.Exploring.{AreSaved, AsksForRuns, ClassesKept, File, FilesKept, IsNotSaved, LeavesAll, MadeAll, MadeErased, MadeTold, NotShown, ProgramExplored, RanOut, RunsTold, ScriptExplored, SomeSaved, StopsErased, StopsShowing, UnsavedTold, erased, erasure, file_of, judged, shortest_of, files_from, saved_start, shown_in_all, shown_at, shown_next, shown_so_far, shown_to}
 use Rattle.cml_host.specs.Running.{unsaved_told}
 use Rattle.cml_host.specs.Scripts.{PlainScript}
 use Rattle.cml_host.specs.Stores.{Content, Shelf, IsReplacedBy, IsSaved, IsUnchanged}
@@ -58,7 +58,7 @@ stops_next Write shows runs n a b c calls failed first part =
 
 -- what is shown was taken away
 pub erased_on : (shows : Bool) (runs n : ℕ) (a b c : Option (List ℕ)) → Takes (stream a b) (shown_so_far shows runs n) → Takes (stream b c) (erased shows)
-    → Takes (stream a c) (shown_all shows runs n)
+    → Takes (stream a c) (shown_in_all shows runs n)
 erased_on shows runs n a b c first then = Appends-trans a b c _ _ first then
 
 pub erasing_broke : (shows : Bool) (runs n : ℕ) (a b c : Option (List ℕ)) (calls failed : ℕ) → Takes (stream a b) (shown_so_far shows runs n)
@@ -117,30 +117,30 @@ runs_later start budget p made said a b c calls failed before output store statu
 
 -- the runs were made, and told of
 pub told_of_made : (options : ExploreOptions) (shows : Bool) (s : PlainScript) (asked : Asked) (made : PlainExplored) (a b c : Option (List ℕ)) (was broke calls failed : ℕ)
-    (output : Counted) (store : Shelf) (status : ℕ) → AsksFor options asked.servers.now asked → MadeErased s.program asked shows made (counted_stream a b was broke)
+    (output : Counted) (store : Shelf) (status : ℕ) → AsksForRuns options asked.servers.now asked → MadeErased s.program asked shows made (counted_stream a b was broke)
     → MadeTold options s asked made output (counted_stream b c calls failed) store status
     → ProgramExplored options shows s asked.servers.now output (counted_stream a c calls failed) store status
 told_of_made options shows s asked made a b c was broke calls failed output store status asks erased_so (inl told) =
-    let shown : Takes (stream a b) (shown_all shows options.runs made.runs) = subst (λ (n : ℕ). Takes (stream a b) (shown_all shows n made.runs)) asks.runs erased_so.takes in
+    let shown : Takes (stream a b) (shown_in_all shows options.runs made.runs) = subst (λ (n : ℕ). Takes (stream a b) (shown_in_all shows n made.runs)) asks.runs erased_so.takes in
     inl (asked, asks, (made, erased_so.explored, (told.0, told.1, runs_later (saved_start options) options.steps s.program made told.0 a b c calls failed _ output store status shown told.2)))
 told_of_made options shows s asked made a b c was broke calls failed output store status asks erased_so (inr out) =
-    let shown : Takes (stream a b) (shown_all shows options.runs made.runs) = subst (λ (n : ℕ). Takes (stream a b) (shown_all shows n made.runs)) asks.runs erased_so.takes in
+    let shown : Takes (stream a b) (shown_in_all shows options.runs made.runs) = subst (λ (n : ℕ). Takes (stream a b) (shown_in_all shows n made.runs)) asks.runs erased_so.takes in
     inr (made.runs, inl (ran_out_later a b c calls failed status _ shown out.0), out.1)
 
 -- or memory ran out, or what is shown could not be written
 pub ran_out_of_runs : (options : ExploreOptions) (shows : Bool) (s : PlainScript) (asked : Asked) (a b c : Option (List ℕ)) (was broke calls failed : ℕ)
-    (output : Counted) (store : Shelf) (status : ℕ) → AsksFor options asked.servers.now asked → StopsErased shows asked.runs Memory (counted_stream a b was broke)
+    (output : Counted) (store : Shelf) (status : ℕ) → AsksForRuns options asked.servers.now asked → StopsErased shows asked.runs Memory (counted_stream a b was broke)
     → RanOut [] (counted_stream b c calls failed) status → LeavesAll output store
     → ProgramExplored options shows s asked.servers.now output (counted_stream a c calls failed) store status
 ran_out_of_runs options shows s asked a b c was broke calls failed output store status asks stops out leaves =
-    let shown : Takes (stream a b) (shown_all shows options.runs stops.0) = subst (λ (n : ℕ). Takes (stream a b) (shown_all shows n stops.0)) asks.runs stops.1 in
+    let shown : Takes (stream a b) (shown_in_all shows options.runs stops.0) = subst (λ (n : ℕ). Takes (stream a b) (shown_in_all shows n stops.0)) asks.runs stops.1 in
     inr (stops.0, inl (ran_out_later a b c calls failed status _ shown out), leaves)
 
 pub showing_broke : (options : ExploreOptions) (shows : Bool) (s : PlainScript) (asked : Asked) (a b : Option (List ℕ)) (calls failed : ℕ)
-    (output : Counted) (store : Shelf) (status : ℕ) → AsksFor options asked.servers.now asked → StopsErased shows asked.runs Write (counted_stream a b calls failed)
+    (output : Counted) (store : Shelf) (status : ℕ) → AsksForRuns options asked.servers.now asked → StopsErased shows asked.runs Write (counted_stream a b calls failed)
     → status ≡ 1 → LeavesAll output store → ProgramExplored options shows s asked.servers.now output (counted_stream a b calls failed) store status
 showing_broke options shows s asked a b calls failed output store status asks stops is leaves =
-    let shown : TakesStart (stream a b) (shown_all shows options.runs stops.0) = subst (λ (n : ℕ). TakesStart (stream a b) (shown_all shows n stops.0)) asks.runs stops.1 in
+    let shown : TakesStart (stream a b) (shown_in_all shows options.runs stops.0) = subst (λ (n : ℕ). TakesStart (stream a b) (shown_in_all shows n stops.0)) asks.runs stops.1 in
     inr (stops.0, inr (shown, stops.2, is), leaves)
 
 -- ---- what is saved
@@ -227,8 +227,13 @@ kept_not files well (unsaved.Refused name why) a b calls failed store status sav
       saved.1 ∷ saved.2,
       saved.3,
       saved.4,
-      inr (saved.1, saved.2, refl,
-          (told.0.0, says_first a b calls failed _ (subst (λ (n : List ℕ). Says (counted_stream a b calls failed) (unsaved_told true n told.0.0)) saved.5 told.0.1)), told.1),
+      inr (
+        saved.1,
+        saved.2,
+        refl,
+        (told.0.0, says_first a b calls failed _ (subst (λ (n : List ℕ). Says (counted_stream a b calls failed) (unsaved_told true n told.0.0)) saved.5 told.0.1)),
+        told.1,
+      ),
     )
 kept_not files well (unsaved.Refused name why) a b calls failed store status saved (inr out) =
     inr (saved.0, saved.1 ∷ saved.2, saved.3, saved.4, inl (says_first a b calls failed _ out.0, out.1))

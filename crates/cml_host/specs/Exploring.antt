@@ -51,7 +51,7 @@ abbrev pub explored_servers : ExploreOptions → List Name
 explored_servers options = map (λ name. name.now) options.servers.items
 
 -- these runs are those that the arguments ask for, where the functions of servers have these numbers
-pub record AsksFor (options : ExploreOptions) (servers : List ℕ) (asked : Asked) : Type 0 where
+pub record AsksForRuns (options : ExploreOptions) (servers : List ℕ) (asked : Asked) : Type 0 where
   pub budget : asked.budget ≡ options.steps
   pub first : asked.first ≡ options.seed
   pub runs : asked.runs ≡ options.runs
@@ -89,8 +89,8 @@ shown_so_far shows runs count = if shows then shown_to runs count else []
 abbrev pub erased : Bool → List ℕ
 erased shows = if shows then erasure else []
 
-abbrev pub shown_all : Bool → ℕ → ℕ → List ℕ
-shown_all shows runs count = shown_so_far shows runs count ++ erased shows
+abbrev pub shown_in_all : Bool → ℕ → ℕ → List ℕ
+shown_in_all shows runs count = shown_so_far shows runs count ++ erased shows
 
 -- ---- what is saved
 
@@ -169,12 +169,12 @@ LeavesAll output store = IsIdle output × IsUnchanged store.before store.after
 -- written.
 abbrev pub ProgramExplored : ExploreOptions → Bool → PlainScript → List ℕ → Counted → Counted → Shelf → ℕ → Type 0
 ProgramExplored options shows s servers output errors store status =
-    ((asked : Asked) × AsksFor options servers asked
+    ((asked : Asked) × AsksForRuns options servers asked
     × ((made : PlainExplored) × IsExplored s.program asked made
     × ((said : List ℕ) × IsToldOfRuns options.script.now s.text s.forms s.program asked made said
-    × RunsTold (saved_start options) options.steps s.program made said (shown_all shows options.runs made.runs) output errors store status)))
-    ⊎ ((count : ℕ) × (RanOut (shown_all shows options.runs count) errors status
-    ⊎ (TakesStart errors.bytes (shown_all shows options.runs count) × (errors.counts.failed ≡ 1) × (status ≡ 1)))
+    × RunsTold (saved_start options) options.steps s.program made said (shown_in_all shows options.runs made.runs) output errors store status)))
+    ⊎ ((count : ℕ) × (RanOut (shown_in_all shows options.runs count) errors status
+    ⊎ (TakesStart errors.bytes (shown_in_all shows options.runs count) × (errors.counts.failed ≡ 1) × (status ≡ 1)))
     × LeavesAll output store)
 
 -- The same of the script, where it has the functions that are named as those of servers; or it has not.
@@ -201,8 +201,8 @@ StopsShowing shows runs Write errors = (count : ℕ) × TakesStart errors.bytes 
 
 -- the same with what takes it away
 abbrev pub StopsErased : Bool → ℕ → Halt → Counted → Type 0
-StopsErased shows runs Memory errors = (count : ℕ) × Takes errors.bytes (shown_all shows runs count) × (errors.counts.failed ≡ 0)
-StopsErased shows runs Write errors = (count : ℕ) × TakesStart errors.bytes (shown_all shows runs count) × (errors.counts.failed ≡ 1)
+StopsErased shows runs Memory errors = (count : ℕ) × Takes errors.bytes (shown_in_all shows runs count) × (errors.counts.failed ≡ 0)
+StopsErased shows runs Write errors = (count : ℕ) × TakesStart errors.bytes (shown_in_all shows runs count) × (errors.counts.failed ≡ 1)
 
 -- what is shown of one run more
 abbrev pub shown_next : Bool → ℕ → ℕ → List ℕ
@@ -229,7 +229,7 @@ pub record MadeAll (p : List (PlainItem ℕ)) (asked : Asked) (shows : Bool) (ma
 -- and what is shown was taken away
 pub record MadeErased (p : List (PlainItem ℕ)) (asked : Asked) (shows : Bool) (made : PlainExplored) (errors : Counted) : Type 0 where
   pub explored : IsExplored p asked made
-  pub takes : Takes errors.bytes (shown_all shows asked.runs made.runs)
+  pub takes : Takes errors.bytes (shown_in_all shows asked.runs made.runs)
   pub fine : errors.counts.failed ≡ 0
 
 -- the file was not saved, for this

@@ -8,7 +8,7 @@ ghost use Rattle.cml_check.specs.Sizes.{size_of};
 ghost use Rattle.cml_explore.specs.Answers.{IsToldOfRuns};
 ghost use Rattle.cml_explore.specs.Explored.{SoFar};
 ghost use Rattle.cml_host.specs.Exploring as spec;
-ghost use Rattle.cml_host.specs.Exploring.{AreSaved, AsksFor, ClassesKept, ExploreRan, FilesKept, IsNotSaved, MadeAll, MadeErased, MadeOne, MadeTold, NameRefused, NotShown, ProgramExplored, RunsTold, ScriptExplored, SomeSaved, StopsErased, StopsShowing, UnsavedTold, erased, files_from, judged, saved_start, shown_at, shown_next, stop_at};
+ghost use Rattle.cml_host.specs.Exploring.{AreSaved, AsksForRuns, ClassesKept, ExploreRan, FilesKept, IsNotSaved, MadeAll, MadeErased, MadeOne, MadeTold, NameRefused, NotShown, ProgramExplored, RunsTold, ScriptExplored, SomeSaved, StopsErased, StopsShowing, UnsavedTold, erased, files_from, judged, saved_start, shown_at, shown_next, stop_at};
 ghost use Rattle.cml_host.specs.Running as running;
 ghost use Rattle.cml_host.specs.Scripts.{plain_script};
 ghost use Rattle.cml_host.specs.Stores.{Shelf, IsSaved};
@@ -116,7 +116,7 @@ fn explore_opened<O: Write, E: Write, S: Store>(
 
 // What the arguments ask for, where the functions of servers have these numbers.
 fn asked_for<'a>(options: &ExploreOptions<'_>, servers: &'a [u32]) -> Asked<'a>
-    ensures { AsksFor options.now servers.now result }
+    ensures { AsksForRuns options.now servers.now result }
 {
     Asked {
         budget: options.steps,
@@ -152,7 +152,7 @@ fn explore_program<O: Write, E: Write, S: Store>(
 ) -> u8
     requires counts { IsRuns asked.now.runs × IsBudget asked.now.budget }
     requires seeds { asked.now.first + asked.now.runs ≤ 2 ^ 64 }
-    requires asks { AsksFor options.now asked.now.servers.now asked.now }
+    requires asks { AsksForRuns options.now asked.now.servers.now asked.now }
     requires fresh { (out.old.calls ≡ 0) × (out.old.failed ≡ 0) × (err.old.failed ≡ 0) }
     ensures ran { let output = counted_stream (O.contents out.old.stream.now) (O.contents out.new.stream.now) out.new.calls out.new.failed in
         let errors = counted_stream (E.contents err.old.stream.now) (E.contents err.new.stream.now) err.new.calls err.new.failed in
@@ -372,7 +372,16 @@ fn tell_made<O: Write, E: Write, S: Store>(
     ensures same_err { err.new.stream.ghost_name ≡ err.old.stream.ghost_name }
 {
     match told_of(alloc, script, options.script, asked, made) {
-        Ok(said) => tell_said(alloc, &script.program, options, made, said.as_slice(), out, err, store),
+        Ok(said) => tell_said(
+            alloc,
+            &script.program,
+            options,
+            made,
+            said.as_slice(),
+            out,
+            err,
+            store,
+        ),
         Err(AllocError) => {
             say(err, b"memory\n");
             5
@@ -418,7 +427,15 @@ fn tell_said<O: Write, E: Write, S: Store>(
     ensures same_err { err.new.stream.ghost_name ≡ err.old.stream.ghost_name }
 {
     match write_out(out, said) {
-        Ok(()) => keep_files(alloc, program, options.steps, options.save, made, err, store),
+        Ok(()) => keep_files(
+            alloc,
+            program,
+            options.steps,
+            options.save,
+            made,
+            err,
+            store,
+        ),
         Err(_) => {
             say(err, b"cannot write output\n");
             1
@@ -473,7 +490,16 @@ fn keep_classes<E: Write, S: Store>(
 {
     let classes = made.classes();
     match classes.ranking(alloc) {
-        Ok(numbers) => keep_ranked(alloc, program, budget, start, made, numbers.as_slice(), err, store),
+        Ok(numbers) => keep_ranked(
+            alloc,
+            program,
+            budget,
+            start,
+            made,
+            numbers.as_slice(),
+            err,
+            store,
+        ),
         Err(AllocError) => {
             say(err, b"memory\n");
             5
@@ -499,7 +525,15 @@ fn keep_ranked<E: Write, S: Store>(
         FilesKept (files_from start.now budget program.now made.now.classes 1 numbers.now) made.now.well [] errors shelf result }
     ensures same_err { err.new.stream.ghost_name ≡ err.old.stream.ghost_name }
 {
-    match save_classes(alloc, program, budget, start, made.classes(), numbers, store) {
+    match save_classes(
+        alloc,
+        program,
+        budget,
+        start,
+        made.classes(),
+        numbers,
+        store,
+    ) {
         Ok(()) => judge(made),
         Err(why) => refuse_unsaved(alloc, why, err),
     }

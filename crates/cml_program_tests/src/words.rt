@@ -20,7 +20,6 @@ Commands:
   explore  Runs a script many times, and says how the runs end
   shrink   Looks for a shorter schedule of a run that ends alike
   draw     Draws what happens in a run, by a schedule that was saved, as an SVG picture
-  step     Runs a script by hand: shows what can happen, and asks what does
   help     Print this message or the help of the given subcommand(s)
 
 Options:
@@ -29,7 +28,7 @@ Options:
 
 // The help of `run`.
 const RUN_HELP: &str =
-    "Runs a script\n\nUsage: cml run [OPTIONS] <FILE>\n\nArguments:\n  <FILE>  \n\nOptions:\n      --workers <N>    How many workers run its threads, 1 to 64 [default: 1]\n      --steps <B>      How many steps it may take, 1 to 1000000000 [default: 1000000]\n      --seed <S>       Draws the choices from this number\n      --watch <K>      Reports after every K items of the schedule, 1 to 1000000000\n      --record <FILE>  Saves the schedule of the run\n      --draw <FILE>    Saves a picture of the run\n      --strict         Ends with status 6 where a thread is left waiting, or ended at a fault\n      --servers <F>    Lets threads that began with function F wait; may be given again\n      --explain        Explains what is wrong, and where [default: on a terminal]\n      --plain          Explains nothing, on a terminal too\n  -h, --help           Print help\n";
+    "Runs a script\n\nUsage: cml run [OPTIONS] <FILE>\n\nArguments:\n  <FILE>  \n\nOptions:\n      --workers <N>    How many workers run its threads, 1 to 64 [default: 1]\n      --steps <B>      How many steps it may take, 1 to 1000000000 [default: 1000000]\n      --seed <S>       Draws the choices from this number\n      --watch <K>      Reports after every K items of the schedule, 1 to 1000000000\n      --record <FILE>  Saves the schedule of the run\n      --strict         Ends with status 6 where a thread is left waiting, or ended at a fault\n      --servers <F>    Lets threads that began with function F wait; may be given again\n      --explain        Explains what is wrong, and where [default: on a terminal]\n      --plain          Explains nothing, on a terminal too\n  -h, --help           Print help\n";
 
 // Arguments, what is written to the output and to the errors, and the status.
 struct Asked {
@@ -163,12 +162,6 @@ For more information, try '--help'.
         status: 0,
     },
     Asked {
-        words: "step --help",
-        output: "Runs a script by hand: shows what can happen, and asks what does\n\nUsage: cml step [OPTIONS] <FILE>\n\nArguments:\n  <FILE>  \n\nOptions:\n      --record <FILE>  Saves the schedule of the run\n  -h, --help           Print help\n",
-        errors: "",
-        status: 0,
-    },
-    Asked {
         words: "explore x.cml --runs 0",
         output: "",
         errors: "error: invalid value '0' for '--runs <N>': 0 is not in 1..=1000000\n\nFor more information, try '--help'.\n",
@@ -274,42 +267,6 @@ For more information, try '--help'.
         words: "draw x.cml y --from 2 --to 1",
         output: "",
         errors: "cannot read x.cml\nx.cml: No such file or directory\n",
-        status: 1,
-    },
-    Asked {
-        words: "step x.cml --record x.cml",
-        output: "",
-        errors: "--record would replace x.cml\n",
-        status: 1,
-    },
-    Asked {
-        words: "step x.cml --record y",
-        output: "",
-        errors: "cannot read x.cml\nx.cml: No such file or directory\n",
-        status: 1,
-    },
-    Asked {
-        words: "run x.cml --draw x.cml",
-        output: "",
-        errors: "--draw would replace x.cml\n",
-        status: 1,
-    },
-    Asked {
-        words: "run x.cml --draw y --record y",
-        output: "",
-        errors: "--draw would replace y\n",
-        status: 1,
-    },
-    Asked {
-        words: "run x.cml --draw x.cml --record x.cml",
-        output: "",
-        errors: "--record would replace x.cml\n",
-        status: 1,
-    },
-    Asked {
-        words: "run x.cml --draw y --record z",
-        output: "",
-        errors: "cannot read x.cml\n",
         status: 1,
     },
     Asked {

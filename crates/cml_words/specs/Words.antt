@@ -28,7 +28,6 @@ use Rattle.cml_words.specs.declared.PartOptions.{PartOptions}
 use Rattle.cml_words.specs.declared.ReplayOptions.{ReplayOptions}
 use Rattle.cml_words.specs.declared.RunOptions.{RunOptions}
 use Rattle.cml_words.specs.declared.ShrinkOptions.{ShrinkOptions}
-use Rattle.cml_words.specs.declared.StepOptions.{StepOptions}
 use Rattle.cml_words.specs.declared.TraceOptions.{TraceOptions}
 use Rattle.cml_words.specs.declared.Until.{Until}
 use Rattle.cml_words.specs.declared.Until.TheVariants.{Budget, Fault, Waits}
@@ -94,7 +93,7 @@ file_command name = command_of name (file_rule (codes "FILE") ∷ explain_rules)
 
 abbrev pub run_command : Shape
 run_command = command_of (codes "run")
-    (file_rule (codes "FILE") ∷ workers_rule (codes "workers") ∷ count_rule (codes "steps") ∷ any_rule (codes "seed") ∷ count_rule (codes "watch") ∷ option_rule (codes "record") ∷ option_rule (codes "draw") ∷ end_rules ++ explain_rules)
+    (file_rule (codes "FILE") ∷ workers_rule (codes "workers") ∷ count_rule (codes "steps") ∷ any_rule (codes "seed") ∷ count_rule (codes "watch") ∷ option_rule (codes "record") ∷ end_rules ++ explain_rules)
 
 abbrev pub replay_command : Shape
 replay_command = command_of (codes "replay") (file_rule (codes "FILE") ∷ file_rule (codes "SCHEDULE") ∷ count_rule (codes "watch") ∷ end_rules ++ explain_rules)
@@ -110,9 +109,6 @@ explore_command = command_of (codes "explore")
 abbrev pub shrink_command : Shape
 shrink_command = command_of (codes "shrink") (file_rule (codes "FILE") ∷ file_rule (codes "SCHEDULE") ∷ count_rule (codes "tries") ∷ [])
 
-abbrev pub step_command : Shape
-step_command = command_of (codes "step") (file_rule (codes "FILE") ∷ option_rule (codes "record") ∷ [])
-
 -- the program, with its commands, of which one must be named
 abbrev pub commands : App
 commands = record {
@@ -126,7 +122,6 @@ commands = record {
       ∷ explore_command
       ∷ shrink_command
       ∷ part_command (codes "draw")
-      ∷ step_command
       ∷ [];
 }
 
@@ -199,7 +194,6 @@ pub record IsRun (given : List Row) (options : RunOptions) : Type 0 where
   pub seed : options.seed ≡ option_number (codes "seed") given
   pub watch : options.watch ≡ option_number (codes "watch") given
   pub record_file : option_map (λ name. name.now) options.record ≡ first_of (codes "record") given
-  pub draw_file : option_map (λ name. name.now) options.draw ≡ first_of (codes "draw") given
   pub end : IsEnd given options.end
   pub explain : options.explain ≡ explanation given
   pub counts : IsWorkers options.workers × IsCount options.steps × IfSome options.watch IsCount
@@ -240,11 +234,6 @@ pub record IsShrink (given : List Row) (options : ShrinkOptions) : Type 0 where
   pub tries : options.tries ≡ unwrap_or (option_number (codes "tries") given) 10000
   pub counts : IsCount options.tries
 
--- and those of `step`
-pub record IsStep (given : List Row) (options : StepOptions) : Type 0 where
-  pub script : first_of (codes "FILE") given ≡ Some options.script.now
-  pub record_file : option_map (λ name. name.now) options.record ≡ first_of (codes "record") given
-
 -- The command that was named, with the values that it was given, is this one.
 abbrev pub Names : Text × List Row → Task → Type 0
 Names (name, given) (task_of.Trace options) = (name ≡ codes "trace") × IsTrace given options
@@ -256,7 +245,6 @@ Names (name, given) (task_of.Explain options) = (name ≡ codes "explain") × Is
 Names (name, given) (task_of.Explore options) = (name ≡ codes "explore") × IsExplore given options
 Names (name, given) (task_of.Shrink options) = (name ≡ codes "shrink") × IsShrink given options
 Names (name, given) (task_of.Draw options) = (name ≡ codes "draw") × IsPart given options
-Names (name, given) (task_of.Step options) = (name ≡ codes "step") × IsStep given options
 
 -- ---- options at odds
 
@@ -278,21 +266,9 @@ ExplainsLive options = (options.live ≡ true) × (options.explain ≡ Asked)
 abbrev pub TraceOdds : TraceOptions → List ℕ → Type 0
 TraceOdds options told = ExplainsLive options × (told ≡ codes "--explain can't be used with --live\n")
 
--- the record of a run would replace its script, or its picture the script or the record
-abbrev pub record_of : RunOptions → Option Text
-record_of options = option_map (λ name. name.now) options.record
-
-abbrev pub drawn_to : RunOptions → Option Text
-drawn_to options = option_map (λ name. name.now) options.draw
-
-abbrev pub OverRecord : RunOptions → List ℕ → Type 0
-OverRecord options told = IsSomeAnd (record_of options) (λ name. ReplacedOdds (codes "--draw") (drawn_to options) name told)
-
-abbrev pub DrawnOdds : RunOptions → List ℕ → Type 0
-DrawnOdds options told = ReplacedOdds (codes "--draw") (drawn_to options) options.file.now told ⊎ OverRecord options told
-
+-- the record of a run would replace its script
 abbrev pub RunOdds : RunOptions → List ℕ → Type 0
-RunOdds options told = ReplacedOdds (codes "--record") (record_of options) options.file.now told ⊎ DrawnOdds options told
+RunOdds options told = ReplacedOdds (codes "--record") (option_map (λ name. name.now) options.record) options.file.now told
 
 -- the word of `--until` means nothing
 abbrev pub IsUnknown : Option Text → Type 0
@@ -320,16 +296,11 @@ ExploreOdds options told =
     ⊎ (PassesTheLast options.seed options.runs × (told ≡ codes "--runs goes past the last seed, 18446744073709551615\n"))
     ⊎ (IsSomeAnd options.save (λ start. SavesOver start.now options.script.now) × (told ≡ would_replace (codes "--save") options.script.now))
 
--- the record of a run by hand would replace its script
-abbrev pub StepOdds : StepOptions → List ℕ → Type 0
-StepOdds options told = ReplacedOdds (codes "--record") (option_map (λ name. name.now) options.record) options.script.now told
-
 -- the options of the command are at odds, and this says so
 abbrev pub AreAtOdds : Task → List ℕ → Type 0
 AreAtOdds (task_of.Trace options) told = TraceOdds options told
 AreAtOdds (task_of.Run options) told = RunOdds options told
 AreAtOdds (task_of.Explore options) told = ExploreOdds options told
-AreAtOdds (task_of.Step options) told = StepOdds options told
 AreAtOdds _ told = ⊥
 
 -- clap finds no error in the arguments, and they name this command
@@ -356,10 +327,9 @@ with_explain command = record command { rules = command.rules ++ explain_rules }
 abbrev pub with_end : Shape → Shape
 with_end command = record command { rules = command.rules ++ end_rules }
 
--- the program, with the commands that make a run again and again, or by hand
+-- the program, with the commands that make runs again and again, or draw one
 abbrev pub with_others : App → App
-with_others app =
-    with_subcommand (with_subcommand (with_subcommand (with_subcommand app explore_command) shrink_command) (part_command (codes "draw"))) step_command
+with_others app = with_subcommand (with_subcommand (with_subcommand app explore_command) shrink_command) (part_command (codes "draw"))
 
 -- and what is made of many runs
 abbrev pub with_finding : Shape → Shape

@@ -7,11 +7,11 @@ ghost use Rattle.std.specs.List.{list_all};
 ghost use Rattle.std.specs.String.{string_bytes};
 ghost use Rattle.clap.specs.Words.{app_of, first_of, found_of, kind_of, rows_of, rule_of, shape_of, subcommand_rows_of};
 ghost use Rattle.clap.specs.declared.builder.command.Command.TheViews.{out-Command};
-ghost use Rattle.cml_words.specs.Words.{any_rule, command_of, commands, count_rule, explore_command, file_command, file_rule, flag_rule, list_rule, number_rule, option_rule, part_command, replay_command, run_command, runs_rule, shrink_command, step_command, trace_command, with_end, with_explain, with_others, workers_rule};
+ghost use Rattle.cml_words.specs.Words.{any_rule, command_of, commands, count_rule, explore_command, file_command, file_rule, flag_rule, list_rule, number_rule, option_rule, part_command, replay_command, run_command, runs_rule, shrink_command, trace_command, with_end, with_explain, with_others, workers_rule};
 ghost use Rattle.cml_words.specs.Words.{end_rules, explain_rules, explanation, explains, is_complete, is_flagged, is_served, option_number, option_texts, saved_end, saved_name, until_named, with_finding};
-ghost use Rattle.cml_words.specs.Words.{AnswersError, AnswersTask, AreOdds, ExplainsLive, IsAnswer, IsEnd, IsExplore, IsFile, IsPart, IsReplay, IsRun, IsShrink, IsStep, IsTrace, Names};
+ghost use Rattle.cml_words.specs.Words.{AnswersError, AnswersTask, AreOdds, ExplainsLive, IsAnswer, IsEnd, IsExplore, IsFile, IsPart, IsReplay, IsRun, IsShrink, IsTrace, Names};
 ghost use Rattle.cml_words.specs.Words as spec;
-ghost use Rattle.cml_words.specs.Words.{DrawnOdds, ExploreOdds, IsUnknown, OverRecord, PassesTheLast, Replaces, ReplacedOdds, RunOdds, SavesOver, StepOdds, ToldOdds, TraceOdds};
+ghost use Rattle.cml_words.specs.Words.{ExploreOdds, IsUnknown, PassesTheLast, Replaces, ReplacedOdds, RunOdds, SavesOver, ToldOdds, TraceOdds};
 
 use clap::error::ErrorKind;
 use clap::{Arg, ArgAction, ArgMatches, Command, Error, value_parser};
@@ -80,8 +80,6 @@ pub enum Task<'a> {
     Shrink(ShrinkOptions<'a>),
     /// Draws what happens in a run, by its schedule.
     Draw(PartOptions<'a>),
-    /// Runs a script by hand.
-    Step(StepOptions<'a>),
 }
 
 /// How a trace is answered.
@@ -126,8 +124,6 @@ pub struct RunOptions<'a> {
     pub watch: Option<u64>,
     /// The file that gets the schedule of the run.
     pub record: Option<&'a str>,
-    /// The file that gets a picture of the run.
-    pub draw: Option<&'a str>,
     /// Which threads may be left at its end.
     pub end: EndOptions<'a>,
     /// Whether what is wrong with the script is explained.
@@ -219,15 +215,6 @@ pub struct ShrinkOptions<'a> {
     pub tries: u64,
 }
 
-/// How a script is run by hand.
-#[derive(Clone, Copy, PartialEq, Eq)]
-pub struct StepOptions<'a> {
-    /// The file of the script.
-    pub script: &'a str,
-    /// The file that gets the schedule of the run.
-    pub record: Option<&'a str>,
-}
-
 /// What the arguments ask for.
 #[derive(Drop)]
 pub enum Answer<'a> {
@@ -273,7 +260,6 @@ fn told_odds(alloc: Global, task: &Task<'_>) -> Result<Option<String>, AllocErro
         Task::Trace(options) => trace_odds(alloc, *options),
         Task::Run(options) => run_odds(alloc, options),
         Task::Explore(options) => explore_odds(alloc, options),
-        Task::Step(options) => step_odds(alloc, *options),
         _ => Ok(None),
     }
 }
@@ -293,30 +279,7 @@ fn trace_odds(alloc: Global, options: TraceOptions) -> Result<Option<String>, Al
 fn run_odds(alloc: Global, options: &RunOptions<'_>) -> Result<Option<String>, AllocError>
     ensures { IfOk result (λ told. ToldOdds (RunOdds options.now) (option_map (λ text. string_bytes text) told)) }
 {
-    match told_replaced(alloc, "--record", options.record, options.file)? {
-        Some(told) => Ok(Some(told)),
-        None => drawn_odds(alloc, options),
-    }
-}
-
-// And of its picture.
-fn drawn_odds(alloc: Global, options: &RunOptions<'_>) -> Result<Option<String>, AllocError>
-    ensures { IfOk result (λ told. ToldOdds (DrawnOdds options.now) (option_map (λ text. string_bytes text) told)) }
-{
-    match told_replaced(alloc, "--draw", options.draw, options.file)? {
-        Some(told) => Ok(Some(told)),
-        None => over_record(alloc, options),
-    }
-}
-
-// And of its picture, where the record would be replaced.
-fn over_record(alloc: Global, options: &RunOptions<'_>) -> Result<Option<String>, AllocError>
-    ensures { IfOk result (λ told. ToldOdds (OverRecord options.now) (option_map (λ text. string_bytes text) told)) }
-{
-    match options.record {
-        Some(record) => told_replaced(alloc, "--draw", options.draw, record),
-        None => Ok(None),
-    }
+    told_replaced(alloc, "--record", options.record, options.file)
 }
 
 // And of those of `explore`.
@@ -337,13 +300,6 @@ fn explore_odds(alloc: Global, options: &ExploreOptions<'_>) -> Result<Option<St
         }
         _ => Ok(None),
     }
-}
-
-// And of those of `step`.
-fn step_odds(alloc: Global, options: StepOptions<'_>) -> Result<Option<String>, AllocError>
-    ensures { IfOk result (λ told. ToldOdds (StepOdds options.entry) (option_map (λ text. string_bytes text) told)) }
-{
-    told_replaced(alloc, "--record", options.record, options.script)
 }
 
 // What is said of the file that this option saves, where it would replace the one of this name.
@@ -458,7 +414,6 @@ fn task_of<'a>(alloc: Global, matches: &ArgMatches<'a>) -> Result<Task<'a>, Allo
         "explore" => Ok(Task::Explore(explore_options(alloc, below)?)),
         "shrink" => Ok(Task::Shrink(shrink_options(below))),
         "draw" => Ok(Task::Draw(part_options(below))),
-        "step" => Ok(Task::Step(step_options(below))),
         _ => unreachable!(),
     }
 }
@@ -498,7 +453,6 @@ fn run_options<'a>(alloc: Global, matches: &ArgMatches<'a>) -> Result<RunOptions
         seed: number(matches, "seed"),
         watch: number(matches, "watch"),
         record: matches.get_str("record"),
-        draw: matches.get_str("draw"),
         end,
         explain: explain_option(matches),
     })
@@ -567,17 +521,6 @@ fn shrink_options<'a>(matches: &ArgMatches<'a>) -> ShrinkOptions<'a>
         script: given(matches, "FILE"),
         schedule,
         tries: number(matches, "tries").unwrap_or(DEFAULT_TRIES),
-    }
-}
-
-// What `step` was given.
-fn step_options<'a>(matches: &ArgMatches<'a>) -> StepOptions<'a>
-    requires { list_all (is_served (rows_of (found_of matches.now))) step_command.rules ≡ true }
-    ensures { IsStep (rows_of (found_of matches.now)) result }
-{
-    StepOptions {
-        script: given(matches, "FILE"),
-        record: matches.get_str("record"),
     }
 }
 
@@ -682,19 +625,17 @@ fn command<'a>(alloc: Global) -> Result<Command<'a>, AllocError>
     others(alloc, program)
 }
 
-// The program, with the commands that make a run again and again, or by hand.
+// The program, with the commands that make runs again and again, or draw one.
 fn others<'a>(alloc: Global, program: Command<'a>) -> Result<Command<'a>, AllocError>
     ensures { IfOk result (λ command. app_of command ≡ with_others (app_of program.entry)) }
 {
     let explore = explore(alloc)?;
     let shrink = shrink(alloc)?;
     let draw = draw(alloc)?;
-    let step = step(alloc)?;
     program
         .subcommand(explore)?
         .subcommand(shrink)?
-        .subcommand(draw)?
-        .subcommand(step)
+        .subcommand(draw)
 }
 
 // The command that answers a trace.
@@ -727,15 +668,13 @@ fn run<'a>(alloc: Global) -> Result<Command<'a>, AllocError>
     );
     let seed = seed(alloc, "Draws the choices from this number");
     let watch = watch(alloc);
-    let record = record(alloc);
-    let draw = option(alloc, "draw", "FILE", "Saves a picture of the run");
+    let record = option(alloc, "record", "FILE", "Saves the schedule of the run");
     let command = on_file(alloc, "run", "Runs a script")?
         .arg(workers)?
         .arg(steps)?
         .arg(seed)?
         .arg(watch)?
-        .arg(record)?
-        .arg(draw)?;
+        .arg(record)?;
     let ended = ending(alloc, command)?;
     explaining(alloc, ended)
 }
@@ -878,20 +817,6 @@ fn shrink<'a>(alloc: Global) -> Result<Command<'a>, AllocError>
     .arg(tries)
 }
 
-// The command that runs a script by hand.
-fn step<'a>(alloc: Global) -> Result<Command<'a>, AllocError>
-    ensures shape { IfOk result (λ command. shape_of command ≡ step_command) }
-    ensures globals { IfOk result (λ command. (out-Command command).has_globals ≡ false) }
-{
-    let record = record(alloc);
-    on_file(
-        alloc,
-        "step",
-        "Runs a script by hand: shows what can happen, and asks what does",
-    )?
-    .arg(record)
-}
-
 // A command that takes a file alone.
 fn file_alone<'a>(alloc: Global, name: &'a str, about: &'a str) -> Result<Command<'a>, AllocError>
     ensures shape { IfOk result (λ command. shape_of command ≡ file_command name.now) }
@@ -999,14 +924,6 @@ fn servers<'a>(alloc: Global) -> Arg<'a>
         "F",
         "Lets threads that began with function F wait; may be given again",
     )
-}
-
-// The option that asks for the schedule of a run.
-fn record<'a>(alloc: Global) -> Arg<'a>
-    ensures rule { rule_of result ≡ option_rule (codes "record") }
-    ensures global { result.global ≡ false }
-{
-    option(alloc, "record", "FILE", "Saves the schedule of the run")
 }
 
 // The option that says how many runs are made.

@@ -22,9 +22,6 @@ with_watch = with_more with_seed (count_rule (codes "watch"))
 abbrev with_record : Shape
 with_record = with_more with_watch (option_rule (codes "record"))
 
-abbrev with_draw : Shape
-with_draw = with_more with_record (option_rule (codes "draw"))
-
 pub ending-requires : goal.ending-requires
 ending-requires c =
     let one : (out-Command c.in_ok-arg.field-0).has_globals ≡ false =
@@ -32,8 +29,7 @@ ending-requires c =
     let two : (out-Command c.in_ok-arg-2.field-0).has_globals ≡ false = added_globals _ _ _ c.in_ok-arg-2.ensures c.count-steps.ensures.global one in
     let three : (out-Command c.in_ok-arg-3.field-0).has_globals ≡ false = added_globals _ _ _ c.in_ok-arg-3.ensures c.seed-seed.ensures.global two in
     let four : (out-Command c.in_ok-arg-4.field-0).has_globals ≡ false = added_globals _ _ _ c.in_ok-arg-4.ensures c.watch-watch.ensures.global three in
-    let five : (out-Command c.in_ok-arg-5.field-0).has_globals ≡ false = added_globals _ _ _ c.in_ok-arg-5.ensures c.record-record.ensures.global four in
-    added_globals _ _ _ c.in_ok-command.ensures c.option-draw.ensures.global five
+    added_globals _ _ _ c.in_ok-command.ensures c.option-record.ensures.global four
 
 pub returns-clause-shape : goal.returns-clause-shape
 returns-clause-shape c =
@@ -45,9 +41,7 @@ returns-clause-shape c =
     added_shape _ _ _ _ _ c.in_ok-arg-3.ensures c.seed-seed.ensures.global two c.seed-seed.ensures.rule in
     let four : shape_of c.in_ok-arg-4.field-0 ≡ with_watch =
     added_shape _ _ _ _ _ c.in_ok-arg-4.ensures c.watch-watch.ensures.global three c.watch-watch.ensures.rule in
-    let five : shape_of c.in_ok-arg-5.field-0 ≡ with_record =
-    added_shape _ _ _ _ _ c.in_ok-arg-5.ensures c.record-record.ensures.global four c.record-record.ensures.rule in
-    let six : shape_of c.in_ok-command.command ≡ with_draw =
-    added_shape _ _ _ _ _ c.in_ok-command.ensures c.option-draw.ensures.global five c.option-draw.ensures.rule in
-    let seven : shape_of c.in_ok-ended.ended ≡ with_end with_draw = c.in_ok-ended.ensures.shape ∙ ap with_end six in
-    IfOk-weaker c.explaining.result _ _ (λ command is. is ∙ ap with_explain seven) c.explaining.ensures.shape
+    let five : shape_of c.in_ok-command.command ≡ with_record =
+    added_shape _ _ _ _ _ c.in_ok-command.ensures c.option-record.ensures.global four c.option-record.ensures.rule in
+    let six : shape_of c.in_ok-ended.ended ≡ with_end with_record = c.in_ok-ended.ensures.shape ∙ ap with_end five in
+    IfOk-weaker c.explaining.result _ _ (λ command is. is ∙ ap with_explain six) c.explaining.ensures.shape

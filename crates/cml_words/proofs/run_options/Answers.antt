@@ -7,7 +7,7 @@ use Rattle.cml_words.proofs.Served.{count_is_number, counts, few, file_given, se
 use Rattle.cml_words.proofs.run_options.Goals as goal
 
 abbrev own : List Rule
-own = file_rule (codes "FILE") ∷ workers_rule (codes "workers") ∷ count_rule (codes "steps") ∷ any_rule (codes "seed") ∷ count_rule (codes "watch") ∷ option_rule (codes "record") ∷ option_rule (codes "draw") ∷ []
+own = file_rule (codes "FILE") ∷ workers_rule (codes "workers") ∷ count_rule (codes "steps") ∷ any_rule (codes "seed") ∷ count_rule (codes "watch") ∷ option_rule (codes "record") ∷ []
 
 pub given-requires : goal.given-requires
 given-requires c =
@@ -57,7 +57,6 @@ returns c =
       seed = c.number-3.ensures;
       watch = c.number-4.ensures;
       record_file = c.get_str.ensures ∙ first_value-rows (found_of c.args.matches.now) (codes "record");
-      draw_file = c.get_str-2.ensures ∙ first_value-rows (found_of c.args.matches.now) (codes "draw");
       end = c.in_ok-end.ensures;
       explain = c.explain_option.ensures;
       counts = (

@@ -71,7 +71,7 @@ unreachable-requires-in_default-name c =
     let complete = named_complete found c.in-Some.name.now below (search rules) c.in-Some.ensures.rows c.requires in
     let other = c.in_default-name in
     no_other c.in-Some.name.now (rows_of below) complete other.not-trace other.not-check other.not-fmt other.not-run other.not-replay other.not-explain other.not-explore
-    other.not-shrink other.not-draw other.not-step
+    other.not-shrink other.not-draw
 
 pub part_options-requires : goal.part_options-requires
 part_options-requires c =
@@ -120,15 +120,3 @@ returns-in-draw c =
     let found = subcommand_rows_of c.args.matches.now in
     let below = found_of c.in-Some.below.now in
     named_task found (codes "draw") below (task_of.Draw c.part_options-in-draw.result) (search rules) c.in-Some.ensures.rows (refl, c.part_options-in-draw.ensures)
-
-pub step_options-requires : goal.step_options-requires
-step_options-requires c =
-    let found = subcommand_rows_of c.args.matches.now in
-    let below = found_of c.in-Some.below.now in
-    named_complete found (codes "step") below (search rules) c.in-Some.ensures.rows c.requires
-
-pub returns-in-step : goal.returns-in-step
-returns-in-step c =
-    let found = subcommand_rows_of c.args.matches.now in
-    let below = found_of c.in-Some.below.now in
-    named_task found (codes "step") below (task_of.Step c.step_options.result) (search rules) c.in-Some.ensures.rows (refl, c.step_options.ensures)

@@ -12,7 +12,7 @@ returns-in_err-write_out-clause-err g c =
     let b = g.E.Write.contents c.write_out.new.out.stream.now in
     let is : c.from_residual-in_err-write_out.result ≡ Err Write = search rules in
     if_err c.from_residual-in_err-write_out.result Write _ is (
-    subst (λ (ts : List ℕ). TakesStart (stream a b) ts) (c.as_bytes.ensures.value ∙ c.in_ok-line.ensures)
-        (start_taken (stream a b) c.as_bytes.result.now c.in_err-write_out.ensures.err.0 c.in_err-write_out.ensures.err.1),
-    c.in_err-write_out.ensures.failed ∙ ap counted c.requires.fresh,
+      subst (λ (ts : List ℕ). TakesStart (stream a b) ts) (c.as_bytes.ensures.value ∙ c.in_ok-line.ensures)
+          (start_taken (stream a b) c.as_bytes.result.now c.in_err-write_out.ensures.err.0 c.in_err-write_out.ensures.err.1),
+      c.in_err-write_out.ensures.failed ∙ ap counted c.requires.fresh,
     )
