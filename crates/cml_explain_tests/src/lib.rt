@@ -13,6 +13,8 @@ mod making;
 #[cfg(test)]
 mod narratives;
 #[cfg(test)]
+mod pictures;
+#[cfg(test)]
 mod refusals;
 #[cfg(test)]
 mod scripts;

@@ -295,8 +295,8 @@ const CASES: [Case; 34] = [
     },
 ];
 
-// The schedule of these items.
-fn planned(rt: &(impl Abort + AllocGlobal), items: &str) -> Plan {
+/// The schedule of these items.
+pub fn planned(rt: &(impl Abort + AllocGlobal), items: &str) -> Plan {
     let text = format!(in rt.alloc(); "schedule 2 1000 1 1\n{items}end\n").expect(rt, MEMORY);
     read_schedule(rt.alloc(), text.as_bytes())
         .ok()

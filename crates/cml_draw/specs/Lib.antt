@@ -1,0 +1,11 @@
+pub mod Drafts
+pub mod Heads
+pub mod Singles
+pub mod Commits
+pub mod Turns
+pub mod Sheets
+pub mod Parts
+pub mod Lives
+pub mod Draws
+pub mod Stops
+pub mod Views

@@ -1,0 +1,189 @@
+//! Which items are shown, and what they show.
+
+ghost use Rattle.std.specs.Prelude.{◌≡◌, ◌+◌, ◌∷◌, [], IfOk, IfErr, OnOk, drop, length, take};
+ghost use Rattle.cml_hub.specs.Courses.{Adds};
+ghost use Rattle.cml_hub.specs.Kept.{NoneOut};
+ghost use Rattle.cml_narrative.specs.Tellers.{tale_of, Knows};
+ghost use Rattle.cml_draw.specs.Draws as spec;
+ghost use Rattle.cml_draw.specs.Draws.{IsRangeShown, ItemsLead, IsNotDrawn, Shows};
+ghost use Rattle.cml_draw.specs.Sheets.{blank_sheet};
+ghost use Rattle.cml_draw.specs.Stops.{Halts, HaltsOf, Stops, StopsOf};
+ghost use Rattle.cml_draw.specs.Views.{plain_sheet};
+
+use crate::fault::DrawFault;
+use crate::sheet::Sheet;
+use crate::turn::{add_turn, planned_drafts, so_far};
+use cml_hub::{Hub, Item};
+use cml_narrative::Narrator;
+use cml_text::Sexpr;
+use std::alloc::Global;
+
+// The first of these, so many.
+fn first_of(items: &[Item], count: usize) -> &[Item]
+    ensures { result.now ≡ take count items.now }
+{
+    if count < items.len() {
+        &items[..count]
+    } else {
+        items
+    }
+}
+
+// Those behind them.
+fn behind(items: &[Item], count: usize) -> &[Item]
+    ensures { result.now ≡ drop count items.now }
+{
+    if count < items.len() {
+        &items[count..]
+    } else {
+        &[]
+    }
+}
+
+// The items before the first that is shown.
+fn items_before(items: &[Item], from: usize, to: usize) -> &[Item]
+    ensures { result.now ≡ spec.items_before from to items.now }
+{
+    first_of(first_of(items, to), from.saturating_sub(1))
+}
+
+/// The items that are shown.
+pub(crate) fn items_within(items: &[Item], from: usize, to: usize) -> &[Item]
+    ensures { result.now ≡ spec.items_within from to items.now }
+{
+    behind(first_of(items, to), from.saturating_sub(1))
+}
+
+// The number of the item that comes next, which can't happen.
+fn unfit(hub: &Hub) -> DrawFault
+    ensures { result ≡ DrawFault.BadItem (length hub.now.course.items + 1) }
+{
+    let done = hub.schedule().len();
+    DrawFault::BadItem(done + 1)
+}
+
+// Follows an item, which is not shown.
+fn follow_item(
+    alloc: Global,
+    narrator: &mut Narrator<'_>,
+    hub: &mut Hub,
+    item: Item,
+) -> Result<(), DrawFault>
+    requires none_out { NoneOut hub.old }
+    requires knows { Knows hub.old.course narrator.old }
+    ensures leads { OnOk result (Adds hub.old.course item hub.new.course) }
+    ensures halts { IfErr result (λ why. Halts hub.old.course item hub.new.course why) }
+    ensures knows { OnOk result (Knows hub.new.course narrator.new) }
+    ensures tale { tale_of narrator.new ≡ tale_of narrator.old }
+    ensures none_out { NoneOut hub.new }
+{
+    if !narrator.follow(alloc, hub, item)? {
+        return Err(unfit(hub));
+    }
+    Ok(())
+}
+
+// Follows these items, of which none is shown.
+fn follow_all(
+    alloc: Global,
+    narrator: &mut Narrator<'_>,
+    hub: &mut Hub,
+    items: &[Item],
+) -> Result<(), DrawFault>
+    requires none_out { NoneOut hub.old }
+    requires knows { Knows hub.old.course narrator.old }
+    ensures leads { OnOk result (ItemsLead hub.old.course items.now hub.new.course) }
+    ensures halts { IfErr result (λ why. HaltsOf hub.old.course items.now hub.new.course why) }
+    ensures knows { OnOk result (Knows hub.new.course narrator.new) }
+    ensures tale { tale_of narrator.new ≡ tale_of narrator.old }
+    ensures none_out { NoneOut hub.new }
+{
+    for item in items {
+        follow_item(alloc, narrator, hub, *item)?;
+    }
+    Ok(())
+}
+
+// Follows an item, and adds what it shows.
+fn show_item(
+    alloc: Global,
+    narrator: &mut Narrator<'_>,
+    hub: &mut Hub,
+    sheet: &mut Sheet,
+    forms: &[Sexpr],
+    item: Item,
+) -> Result<(), DrawFault>
+    requires none_out { NoneOut hub.old }
+    requires knows { Knows hub.old.course narrator.old }
+    requires forms { forms.now ≡ narrator.old.forms.now }
+    ensures shows { OnOk result (Shows (tale_of narrator.old) hub.old.course (plain_sheet sheet.old) (item ∷ []) hub.new.course (plain_sheet sheet.new)) }
+    ensures stops { IfErr result (λ why. Stops (tale_of narrator.old) hub.old.course (plain_sheet sheet.old) item hub.new.course why) }
+    ensures knows { OnOk result (Knows hub.new.course narrator.new) }
+    ensures tale { tale_of narrator.new ≡ tale_of narrator.old }
+    ensures none_out { NoneOut hub.new }
+{
+    let old = so_far(hub);
+    let mut drafts = planned_drafts(alloc, forms, hub, item)?;
+    let mut told = Vec::new(alloc);
+    if !narrator.tell(alloc, hub, &mut told, item)? {
+        return Err(unfit(hub));
+    }
+    add_turn(alloc, &mut drafts, forms, hub, item, old)?;
+    let number = hub.schedule().len();
+    sheet.add_rows(alloc, number, told.as_slice(), drafts.as_slice())
+}
+
+// Follows these items, and adds what they show.
+fn show_all(
+    alloc: Global,
+    narrator: &mut Narrator<'_>,
+    hub: &mut Hub,
+    sheet: &mut Sheet,
+    forms: &[Sexpr],
+    items: &[Item],
+) -> Result<(), DrawFault>
+    requires none_out { NoneOut hub.old }
+    requires knows { Knows hub.old.course narrator.old }
+    requires forms { forms.now ≡ narrator.old.forms.now }
+    ensures shows { OnOk result (Shows (tale_of narrator.old) hub.old.course (plain_sheet sheet.old) items.now hub.new.course (plain_sheet sheet.new)) }
+    ensures stops { IfErr result (λ why. StopsOf (tale_of narrator.old) hub.old.course (plain_sheet sheet.old) items.now hub.new.course why) }
+    ensures none_out { NoneOut hub.new }
+{
+    for item in items {
+        show_item(alloc, narrator, hub, sheet, forms, *item)?;
+    }
+    Ok(())
+}
+
+/// Follows the items up to the last that is shown, and adds what those show that are shown. Returns how many threads there were before
+/// these.
+pub(crate) fn show_range(
+    alloc: Global,
+    narrator: &mut Narrator<'_>,
+    hub: &mut Hub,
+    sheet: &mut Sheet,
+    forms: &[Sexpr],
+    items: &[Item],
+    from: usize,
+    to: usize,
+) -> Result<u32, DrawFault>
+    requires none_out { NoneOut hub.old }
+    requires knows { Knows hub.old.course narrator.old }
+    requires forms { forms.now ≡ narrator.old.forms.now }
+    requires blank { plain_sheet sheet.old ≡ blank_sheet }
+    ensures shown { IfOk result (λ before. IsRangeShown (tale_of narrator.old) hub.old.course items.now from to before hub.new.course (plain_sheet sheet.new)) }
+    ensures refused { IfErr result (λ why. IsNotDrawn (tale_of narrator.old) hub.old.course items.now from to hub.new.course why) }
+    ensures none_out { NoneOut hub.new }
+{
+    follow_all(alloc, narrator, hub, items_before(items, from, to))?;
+    let before = hub.book().next_thread().0;
+    show_all(
+        alloc,
+        narrator,
+        hub,
+        sheet,
+        forms,
+        items_within(items, from, to),
+    )?;
+    Ok(before)
+}
