@@ -19,7 +19,7 @@ use Rattle.cml_host.proofs.ScriptLemmas.{lies_there, whole_no_schedule, whole_pl
 
 -- ---- a text, from its first bytes
 
-whole_unfit : (p : List (PlainItem ℕ)) (told all found : List ℕ) → found ≡ take (schedule_limit + 1) all → IsUnfit p found told → IsUnfit p all told
+pub whole_unfit : (p : List (PlainItem ℕ)) (told all found : List ℕ) → found ≡ take (schedule_limit + 1) all → IsUnfit p found told → IsUnfit p all told
 whole_unfit p told all found is (inl none) = inl (whole_no_schedule true all found told is none)
 whole_unfit p told all found is (inr other) = whole_plan (λ t. IsUnfit p t told) all found is other.1.0 (inr other)
 

@@ -8,6 +8,7 @@ ghost use Rattle.cml_stream.specs.Streams.{counted_stream, stream};
 ghost use Rattle.cml_trace.specs.Live.{max_turns};
 
 use crate::check::check_file;
+use crate::draw::draw_file;
 use crate::explain::explain_file;
 use crate::explore::explore_file;
 use crate::fmt::print_file;
@@ -127,6 +128,7 @@ where
             explore_file(alloc, &options, terminal, out, err, store)
         }
         Ok(Answer::Task(Task::Shrink(options))) => shrink_file(alloc, &options, out, err, store),
+        Ok(Answer::Task(Task::Draw(options))) => draw_file(alloc, &options, out, err, store),
         Ok(Answer::Help(text)) => send_text(text.as_bytes(), out, err),
         Ok(Answer::Fault(text)) => {
             say(err, text.as_bytes());

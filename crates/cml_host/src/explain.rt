@@ -153,8 +153,11 @@ fn explain_text<O: Write, E: Write>(
     }
 }
 
-// A hub at the beginning of a run of the program, and the plan that the text is, if that is one of such programs.
-fn begin(alloc: Global, program: Prog, text: &[u8]) -> Result<(Hub, Plan), Refusal>
+/// A hub at the beginning of a run of the program, and the plan that the text is, if that is one of such programs.
+///
+/// # Errors
+/// Why the text is none; or out of memory.
+pub fn begin(alloc: Global, program: Prog, text: &[u8]) -> Result<(Hub, Plan), Refusal>
     ensures ok { IfOk result (λ begun. IsSetUp program text.now begun.0 begun.1) }
     ensures err { IfErr result (IsNotSetUp program text.now) }
 {

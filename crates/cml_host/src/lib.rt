@@ -4,6 +4,7 @@
 mod check;
 mod close;
 mod command;
+mod draw;
 mod explain;
 mod explore;
 mod file;

@@ -1,6 +1,6 @@
 use Rattle.std.proofs.Common.{rules, ◌∙◌, ap, subst, map, inl, refl}
 use Rattle.std.specs.String.{string_bytes}
-use Rattle.cml_words.specs.declared.Task.TheVariants.{Trace, Check, Fmt, Run, Replay, Explain, Explore, Shrink}
+use Rattle.cml_words.specs.declared.Task.TheVariants.{Trace, Check, Fmt, Run, Replay, Explain, Explore, Shrink, Draw}
 use Rattle.cml_words.specs.declared.Answer.TheVariants as answer
 use Rattle.cml_words.specs.Words.{IsAnswer}
 use Rattle.cml_host.proofs.CountLemmas.{counted, explore_counted, explore_seeds, watch_counted}
@@ -124,4 +124,14 @@ returns-in-Ok-Task-Shrink-clause-ran g c =
       answer.Task (Shrink c.in-Ok-Task-Shrink.options),
       subst (IsAnswer words) is c.in-Ok-Task-Shrink.ensures,
       (c.shrink_file.ensures.ran, (search rules, c.requires.reads.0, c.requires.reads.1), c.shrink_file.ensures.same),
+    )
+
+pub returns-in-Ok-Task-Draw-clause-ran : goal.returns-in-Ok-Task-Draw-clause-ran
+returns-in-Ok-Task-Draw-clause-ran g c =
+    let words = map string_bytes c.args.words.now in
+    let is = c.in-Ok-Task-Draw.field-0-is ∙ ap answer.Task c.in-Ok-Task-Draw.field-0-0-is in
+    inl (
+      answer.Task (Draw c.in-Ok-Task-Draw.options),
+      subst (IsAnswer words) is c.in-Ok-Task-Draw.ensures,
+      (c.draw_file.ensures.ran, (search rules, c.requires.reads.0, c.requires.reads.1), c.draw_file.ensures.same),
     )
