@@ -200,6 +200,36 @@ const CASES: &[Case] = &[
         status: 1,
         saved: &[],
     },
+    Case {
+        name: "no schedule to draw",
+        words: "draw a.cml R",
+        files: &[("a.cml", ONE)],
+        output: "",
+        errors: "cannot read R\nR: No such file or directory\n",
+        status: 1,
+        saved: &[],
+    },
+    Case {
+        name: "a schedule to draw with an item that can't happen",
+        words: "draw a.cml S",
+        files: &[
+            ("a.cml", ONE),
+            ("S", "schedule 1 100\nturn 0\n\nturn 1\nend\n"),
+        ],
+        output: "",
+        errors: "schedule item 2\nline 4: turn 1: there is no thread 1\n",
+        status: 3,
+        saved: &[],
+    },
+    Case {
+        name: "a schedule to draw of another script",
+        words: "draw a.cml S",
+        files: &[("a.cml", ONE), ("S", "schedule 2 9 1 2\nend\n")],
+        output: "",
+        errors: "schedule program\n",
+        status: 3,
+        saved: &[],
+    },
 ];
 
 // The run by seed 1, in which both threads wait.
