@@ -124,7 +124,7 @@ fn apart(items: &[Item], number: usize) -> Option<usize>
     }
 }
 
-// Tries to move the next turn of a thread to where it follows the one at this number.
+// Tries to move the next turn of a thread to where it follows the one at this number, if that is not the last item.
 fn draw_near(
     search: &mut Search,
     alloc: Global,
@@ -132,10 +132,12 @@ fn draw_near(
     number: usize,
 ) -> Result<(), AllocError>
     requires budget { IsBudget goal.now.budget }
-    requires there { number + 1 < length search.old.items }
     requires alike { AlikeTo goal.now search.old.items }
     ensures { OnOk result (Goes goal.now search.old search.new) }
 {
+    if number >= search.items.len().saturating_sub(1) {
+        return Ok(());
+    }
     let Some(next) = apart(search.items.as_slice(), number) else {
         return Ok(());
     };
@@ -153,9 +155,7 @@ pub(crate) fn gather(search: &mut Search, alloc: Global, goal: &Goal<'_>) -> Res
     ensures { OnOk result (Goes goal.now search.old search.new) }
 {
     for number in 0..search.items.len() {
-        if number + 1 < search.items.len() {
-            draw_near(search, alloc, goal, number)?;
-        }
+        draw_near(search, alloc, goal, number)?;
     }
     Ok(())
 }
