@@ -174,7 +174,7 @@ fn drawn_of(
     let forms = subject.forms.as_slice();
     match draw(alloc, subject.name, script, forms, hub, items, from, to) {
         Ok(picture) => Ok(picture),
-        Err(fault) => Err(undrawn(alloc, hub, subject, text, items, fault)),
+        Err(fault) => Err(told_fault(alloc, hub, subject, text, items, fault)),
     }
 }
 
@@ -190,7 +190,7 @@ fn last_drawn(options: &PartOptions<'_>, items: &[Item]) -> usize
 
 // How the fault is told for which there is no picture.
 #[inline(never)]
-fn undrawn(
+fn told_fault(
     alloc: Global,
     hub: &Hub,
     subject: &Subject<'_>,

@@ -1,5 +1,5 @@
 -- What is said of options that are at odds.
-use Rattle.std.proofs.Common.{◌≡◌, ◌∙◌, ◌⊎◌, ◌++◌, ap, codes, inl, inr, rules, subst, sym, ℕ, Bool, true, List, Option, Some, None, MatchOption, IsTrue, Bor}
+use Rattle.std.proofs.Common.{◌≡◌, ◌∙◌, ◌++◌, ap, codes, rules, sym, ℕ, Bool, true, List, Option, Some, None, MatchOption, IsTrue, Bor}
 use Rattle.std.specs.Char.{is_ascii_digit}
 use Rattle.std.specs.List.{list_all}
 use Rattle.std.proofs.lemmas.List.{append_cancel_left, append_cancel_right}

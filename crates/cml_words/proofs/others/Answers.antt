@@ -1,7 +1,7 @@
-use Rattle.std.proofs.Common.{◌≡◌, ◌∙◌, ap, ap₂, codes}
+use Rattle.std.proofs.Common.{◌≡◌, ◌∙◌, ap, ap₂}
 use Rattle.std.proofs.lemmas.Result.{IfOk-weaker}
 use Rattle.clap.specs.Words.{app_of, with_subcommand}
-use Rattle.cml_words.specs.Words.{explore_command, part_command, shrink_command}
+use Rattle.cml_words.specs.Words.{explore_command, shrink_command}
 use Rattle.cml_words.proofs.others.Goals as goal
 
 pub returns : goal.returns
