@@ -1,5 +1,5 @@
 -- Lists with items left out are no longer.
-use Rattle.std.proofs.Common.{◌≡◌, ℕ, ◌≤◌, List, length, take, drop, not, filter, refl, arith, length-append, length-take, length-drop}
+use Rattle.std.proofs.Common.{ℕ, ◌≤◌, List, length, take, drop, not, filter, refl, arith, length-append, length-take, length-drop}
 use Rattle.std.proofs.lemmas.List.Filters.{length-filter_both}
 use Rattle.cml_schedule.specs.declared.item.Item.{Item}
 use Rattle.cml_shrink.specs.Cuts.{takes_part, without_rest}

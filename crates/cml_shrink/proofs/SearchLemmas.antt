@@ -3,7 +3,7 @@ use Rattle.std.proofs.Common.{◌≡◌, ℕ, ◌+◌, ◌-◌, ◌<◌, ◌≤�
 use Rattle.std.specs.Prelude.{◌==◌, ◌||◌, Some, Result, Ok, Err, IfOk, OnOk, slice_get, remove}
 use Rattle.cml_schedule.specs.declared.item.Item.{Item}
 use Rattle.cml_explore.specs.declared.detail.Detail.{Detail}
-use Rattle.cml_shrink.specs.Cuts.{is_in_row, takes_part, without_rest}
+use Rattle.cml_shrink.specs.Cuts.{takes_part, without_rest}
 use Rattle.cml_shrink.specs.Ends.{EndsWith}
 use Rattle.cml_shrink.specs.Shrinking.{PlainShrunk, IsShrunk}
 use Rattle.cml_shrink.specs.declared.replay.Goal.{Goal}

@@ -1,4 +1,4 @@
-use Rattle.std.proofs.Common.{◌≡◌, ℕ, ◌+◌, ◌-◌, ◌≤◌, length, ap, arith}
+use Rattle.std.proofs.Common.{◌≡◌, ◌+◌, ◌-◌, ◌≤◌, length, ap, arith}
 use Rattle.cml_shrink.specs.Searching.{PlainSearch}
 use Rattle.cml_shrink.proofs.SearchLemmas.{pass_goes, pass_ends}
 use Rattle.cml_shrink.proofs.search.Search.pass.Goals as goal
