@@ -1,13 +1,15 @@
--- The numbers that `run` and `replay` are given lie within their bounds.
-use Rattle.std.proofs.Common.{ℕ, List, Option, Some, None, IfSome}
+-- The numbers that commands are given lie within their bounds.
+use Rattle.std.proofs.Common.{◌≡◌, ◌⊎◌, ◌+◌, ◌<◌, ◌≤◌, ◌^◌, ℕ, List, Option, Some, None, IfSome, codes, inl, inr, refl}
+use Rattle.std.proofs.lemmas.Bool.{cases_lt}
 use Rattle.std.specs.Prelude.{IsSomeAnd}
 use Rattle.cml_hub.specs.Kept.{IsBudget, IsWatch}
-use Rattle.cml_words.specs.Words.{IsAnswer, IsReplay, IsRun, Names}
+use Rattle.cml_words.specs.Words.{IsAnswer, IsExplore, IsReplay, IsRun, IsRuns, Names}
 use Rattle.cml_words.specs.Words as words
 use Rattle.cml_words.specs.declared.Answer.TheVariants as answer
+use Rattle.cml_words.specs.declared.ExploreOptions.{ExploreOptions}
 use Rattle.cml_words.specs.declared.ReplayOptions.{ReplayOptions}
 use Rattle.cml_words.specs.declared.RunOptions.{RunOptions}
-use Rattle.cml_words.specs.declared.Task.TheVariants.{Replay, Run}
+use Rattle.cml_words.specs.declared.Task.TheVariants.{Explore, Replay, Run}
 use Rattle.cml_work.specs.Works.{IsWorkerCount}
 
 watched : (watch : Option ℕ) → IfSome watch words.IsCount → IsWatch watch
@@ -36,3 +38,18 @@ replay_counts options given is = watched options.watch is.counts
 pub watch_counted : (given : List (List ℕ)) (options : ReplayOptions) → IsAnswer given (answer.Task (Replay options)) → IsWatch options.watch
 watch_counted given options is =
     some_gives _ (λ named. Names named (Replay options)) _ (λ named names. replay_counts options named.1 names.1) is.0.1
+
+explore_counts : (options : ExploreOptions) (given : _) → IsExplore given options → IsRuns options.runs × IsBudget options.steps
+explore_counts options given is = (is.counts.0, (is.counts.1.0, is.counts.1.1))
+
+pub explore_counted : (given : List (List ℕ)) (options : ExploreOptions) → IsAnswer given (answer.Task (Explore options)) → IsRuns options.runs × IsBudget options.steps
+explore_counted given options is =
+    some_gives _ (λ named. Names named (Explore options)) _ (λ named names. explore_counts options named.1 names.1) is.0.1
+
+-- there is a seed for each run
+pub explore_seeds : (given : List (List ℕ)) (options : ExploreOptions) → IsAnswer given (answer.Task (Explore options)) → options.seed + options.runs ≤ 2 ^ 64
+explore_seeds given options is = go (cases_lt (2 ^ 64) (options.seed + options.runs))
+  where
+    go : (2 ^ 64 < options.seed + options.runs) ⊎ (options.seed + options.runs ≤ 2 ^ 64) → options.seed + options.runs ≤ 2 ^ 64
+    go (inl past) = absurd (is.1 (codes "--runs goes past the last seed, 18446744073709551615\n") (inr (inl (past, refl))))
+    go (inr within) = within

@@ -10,3 +10,6 @@ mod WorkLemmas
 mod StoryLemmas
 mod ItemLemmas
 mod NarratedLemmas
+mod DrawnLemmas
+mod ExploringLemmas
+mod ShrunkLemmas

@@ -10,7 +10,7 @@ use Rattle.cml_hub.specs.Runs.{is_allowed}
 use Rattle.cml_narrative.specs.Tales.{Tale}
 use Rattle.cml_schedule.specs.declared.item.Item.{Item}
 use Rattle.cml_stream.specs.Streams.{Counted, Stream, stream, counted_stream, Takes, TakesStart}
-use Rattle.cml_words.specs.declared.ExplainOptions.{ExplainOptions}
+use Rattle.cml_words.specs.declared.PartOptions.{PartOptions}
 use Rattle.cml_host.specs.Closed.{PlainSubject}
 use Rattle.cml_host.specs.Narrated.{is_asked_for, TellsWhere, IsStory, StoryBroke, StoryEnds, PlanTold, IsTellingOf, HaltRan, IsHeldUp, HasToldFirst, StoryCut, Spills, EndTold, ItemRefused, tale_for, broken_by}
 use Rattle.cml_host.specs.Written.{TextRan}
@@ -29,7 +29,7 @@ if_err r e P is p = subst (λ (x : Result _ _). IfErr x P) (sym is) p
 -- ---- stories
 
 -- one item more
-pub story_more : (options : ExplainOptions) (s : Tale) (c d e : PlainCourse) (items : List Item) (item : Item) (story told : List ℕ) →
+pub story_more : (options : PartOptions) (s : Tale) (c d e : PlainCourse) (items : List Item) (item : Item) (story told : List ℕ) →
     IsStory options s c items d story → Adds d item e → TellsWhere (is_asked_for options (length e.items)) s d item e told →
     IsStory options s c (items ++ item ∷ []) e (story ++ told)
 story_more options s c d e [] item story told (same, none) adds tells = (
@@ -56,30 +56,30 @@ story_more options s c d e (first ∷ items) item story told (next, came, (said,
 )
 
 -- the story of the items so far, of which a first part was written
-pub record Goes (options : ExplainOptions) (s : Tale) (start : Kept) (items : List Item) (count : ℕ) (h : Kept) (piece : List ℕ) (output : Stream) : Type 0 where
+pub record Goes (options : PartOptions) (s : Tale) (start : Kept) (items : List Item) (count : ℕ) (h : Kept) (piece : List ℕ) (output : Stream) : Type 0 where
   pub budget : h.budget ≡ start.budget
   pub written : List ℕ
   pub story : IsStory options s start.course (take count items) h.course (written ++ piece)
   pub takes : Takes output written
 
-pub goes_none : (options : ExplainOptions) (s : Tale) (h : Kept) (items : List Item) (piece : List ℕ) (a : Option (List ℕ)) → piece ≡ [] →
+pub goes_none : (options : PartOptions) (s : Tale) (h : Kept) (items : List Item) (piece : List ℕ) (a : Option (List ℕ)) → piece ≡ [] →
     Goes options s h items 0 h piece (stream a a)
 goes_none options s h items piece a none = record { budget = refl; written = []; story = (refl, none); takes = Appends-nil a }
 
 -- an item came, and its line is appended
-telling_on : (options : ExplainOptions) (s : Tale) (old : PlainCourse) (item : Item) (came : Bool) (new : PlainCourse) (before after : List ℕ) → came ≡ true →
+telling_on : (options : PartOptions) (s : Tale) (old : PlainCourse) (item : Item) (came : Bool) (new : PlainCourse) (before after : List ℕ) → came ≡ true →
     IsTellingOf options s old item came new before after →
     Adds old item new × ((told : List ℕ) × (after ≡ before ++ told) × TellsWhere (is_asked_for options (length new.items)) s old item new told)
 telling_on options s old item true new before after so told = told
 telling_on options s old item false new before after so told = cc
 
 -- or it did not come
-telling_not : (options : ExplainOptions) (s : Tale) (old : PlainCourse) (item : Item) (came : Bool) (new : PlainCourse) (before after : List ℕ) → came ≡ false →
+telling_not : (options : PartOptions) (s : Tale) (old : PlainCourse) (item : Item) (came : Bool) (new : PlainCourse) (before after : List ℕ) → came ≡ false →
     IsTellingOf options s old item came new before after → (is_allowed old.world item ≡ false) × (new ≡ old) × (after ≡ before)
 telling_not options s old item true new before after so told = cc
 telling_not options s old item false new before after so told = told
 
-pub goes_on : (options : ExplainOptions) (s t : Tale) (start : Kept) (items : List Item) (count : ℕ) (item : Item) (old new : Kept) (before after : List ℕ)
+pub goes_on : (options : PartOptions) (s t : Tale) (start : Kept) (items : List Item) (count : ℕ) (item : Item) (old new : Kept) (before after : List ℕ)
     (came : Bool) (output : Stream) → count < length items → item ≡ get_or items count item → s ≡ t → came ≡ true →
     Goes options t start items count old before output → IsTellingOf options s old.course item came new.course before after → new.budget ≡ old.budget →
     Goes options t start items (count + 1) new after output
@@ -100,7 +100,7 @@ goes_on options s t start items count item old new before after came output with
     }
 
 -- a first part of what was not written yet was written
-pub goes_spilled : (options : ExplainOptions) (s : Tale) (start : Kept) (items : List Item) (count : ℕ) (h : Kept) (before after : List ℕ) (a b d : Option (List ℕ)) →
+pub goes_spilled : (options : PartOptions) (s : Tale) (start : Kept) (items : List Item) (count : ℕ) (h : Kept) (before after : List ℕ) (a b d : Option (List ℕ)) →
     Goes options s start items count h before (stream a b) → Spills (stream b d) before after → Goes options s start items count h after (stream a d)
 goes_spilled options s start items count h before after a b d goes (sent, is, takes) = record {
   budget = goes.budget;
@@ -117,7 +117,7 @@ split_at : (items : List Item) (count : ℕ) → items ≡ take count items ++ d
 split_at items count = sym (take-append-drop count items)
 
 -- memory ran out
-pub cut_here : (options : ExplainOptions) (s : Tale) (start : Kept) (items : List Item) (count : ℕ) (h : Kept) (piece : List ℕ) (a b : Option (List ℕ)) (calls failed : ℕ) →
+pub cut_here : (options : PartOptions) (s : Tale) (start : Kept) (items : List Item) (count : ℕ) (h : Kept) (piece : List ℕ) (a b : Option (List ℕ)) (calls failed : ℕ) →
     Goes options s start items count h piece (stream a b) → failed ≡ 0 → StoryCut options s start items Memory (counted_stream a b calls failed)
 cut_here options s start items count h piece a b calls failed goes fine = record {
   done = take count items;
@@ -132,7 +132,7 @@ cut_here options s start items count h piece a b calls failed goes fine = record
 }
 
 -- a write failed
-pub cut_writing : (options : ExplainOptions) (s : Tale) (start : Kept) (items : List Item) (count : ℕ) (h : Kept) (piece : List ℕ) (a b d : Option (List ℕ)) (calls failed : ℕ) →
+pub cut_writing : (options : PartOptions) (s : Tale) (start : Kept) (items : List Item) (count : ℕ) (h : Kept) (piece : List ℕ) (a b d : Option (List ℕ)) (calls failed : ℕ) →
     Goes options s start items count h piece (stream a b) → TakesStart (stream b d) piece → failed ≡ 1 →
     StoryCut options s start items Write (counted_stream a d calls failed)
 cut_writing options s start items count h piece a b d calls failed goes part broke = record {
@@ -148,13 +148,13 @@ cut_writing options s start items count h piece a b d calls failed goes part bro
 }
 
 -- nothing was told
-pub cut_first : (options : ExplainOptions) (s : Tale) (start : Kept) (items : List Item) (a : Option (List ℕ)) (calls failed : ℕ) → failed ≡ 0 →
+pub cut_first : (options : PartOptions) (s : Tale) (start : Kept) (items : List Item) (a : Option (List ℕ)) (calls failed : ℕ) → failed ≡ 0 →
     StoryCut options s start items Memory (counted_stream a a calls failed)
 cut_first options s start items a calls failed fine =
     cut_here options s start items 0 start [] a a calls failed (goes_none options s start items [] a refl) fine
 
 -- an item did not come
-pub told_until : (options : ExplainOptions) (s t : Tale) (start : Kept) (items : List Item) (count : ℕ) (item : Item) (old new : Kept) (before after : List ℕ)
+pub told_until : (options : PartOptions) (s t : Tale) (start : Kept) (items : List Item) (count : ℕ) (item : Item) (old new : Kept) (before after : List ℕ)
     (came : Bool) (a b : Option (List ℕ)) (calls failed : ℕ) → count < length items → item ≡ get_or items count item → s ≡ t → came ≡ false →
     Goes options t start items count old before (stream a b) → IsTellingOf options s old.course item came new.course before after → new.budget ≡ old.budget →
     failed ≡ 0 → HasToldFirst options t start items count new after (counted_stream a b calls failed)
@@ -173,7 +173,7 @@ told_until options s t start items count item old new before after came a b call
       fine = fine;
     }
 
-pub told_all : (options : ExplainOptions) (s : Tale) (start : Kept) (items : List Item) (count : ℕ) (h : Kept) (piece : List ℕ) (a b : Option (List ℕ)) (calls failed : ℕ) →
+pub told_all : (options : PartOptions) (s : Tale) (start : Kept) (items : List Item) (count : ℕ) (h : Kept) (piece : List ℕ) (a b : Option (List ℕ)) (calls failed : ℕ) →
     length items ≤ count → Goes options s start items count h piece (stream a b) → failed ≡ 0 →
     HasToldFirst options s start items (length items) h piece (counted_stream a b calls failed)
 told_all options s start items count h piece a b calls failed past goes fine =
@@ -189,7 +189,7 @@ told_all options s start items count h piece a b calls failed past goes fine =
     }
 
 -- the last piece was written
-pub told_written : (options : ExplainOptions) (s : Tale) (start : Kept) (items : List Item) (count : ℕ) (h : Kept) (piece after : List ℕ) (a b d : Option (List ℕ))
+pub told_written : (options : PartOptions) (s : Tale) (start : Kept) (items : List Item) (count : ℕ) (h : Kept) (piece after : List ℕ) (a b d : Option (List ℕ))
     (calls failed more broke : ℕ) → HasToldFirst options s start items count h piece (counted_stream a b calls failed) → Spills (stream b d) piece after → after ≡ [] →
     broke ≡ 0 → HasToldFirst options s start items count h [] (counted_stream a d more broke)
 told_written options s start items count h piece after a b d calls failed more broke told (sent, is, takes) none fine = record {
@@ -205,7 +205,7 @@ told_written options s start items count h piece after a b d calls failed more b
 }
 
 -- or not
-pub cut_last : (options : ExplainOptions) (s : Tale) (start : Kept) (items : List Item) (count : ℕ) (h : Kept) (piece : List ℕ) (a b d : Option (List ℕ))
+pub cut_last : (options : PartOptions) (s : Tale) (start : Kept) (items : List Item) (count : ℕ) (h : Kept) (piece : List ℕ) (a b d : Option (List ℕ))
     (calls failed more broke : ℕ) → HasToldFirst options s start items count h piece (counted_stream a b calls failed) → TakesStart (stream b d) piece → broke ≡ 1 →
     StoryCut options s start items Write (counted_stream a d more broke)
 cut_last options s start items count h piece a b d calls failed more broke told part failing = record {
@@ -238,7 +238,7 @@ taken_length : (items : List Item) (count : ℕ) → count ≤ length items → 
 taken_length items count within = sym (length-take-le count items within)
 
 -- all items were told, and then how the run ended
-pub plan_ended : (s : PlainSubject) (options : ExplainOptions) (schedule : List ℕ) (items : List Item) (start h : Kept) (count : ℕ) (a b d : Option (List ℕ))
+pub plan_ended : (s : PlainSubject) (options : PartOptions) (schedule : List ℕ) (items : List Item) (start h : Kept) (count : ℕ) (a b d : Option (List ℕ))
     (calls failed more broke : ℕ) (errors : Counted) (status : ℕ) → length items ≤ count →
     HasToldFirst options (tale_for s (length items)) start items count h [] (counted_stream a b calls failed) →
     EndTold s h (counted_stream b d more broke) errors status → PlanTold s options schedule items start (counted_stream a d more broke) errors status
@@ -263,7 +263,7 @@ plan_ended s options schedule items start h count a b d calls failed more broke 
         )
 
 -- the next item can't happen
-pub plan_held_up : (s : PlainSubject) (options : ExplainOptions) (schedule : List ℕ) (items : List Item) (start h : Kept) (count : ℕ) (item : Item) (a b : Option (List ℕ))
+pub plan_held_up : (s : PlainSubject) (options : PartOptions) (schedule : List ℕ) (items : List Item) (start h : Kept) (count : ℕ) (item : Item) (a b : Option (List ℕ))
     (calls failed : ℕ) (errors : Counted) (status : ℕ) → count < length items → item ≡ get_or items count item →
     HasToldFirst options (tale_for s (length items)) start items count h [] (counted_stream a b calls failed) →
     ItemRefused s.forms schedule h.course.world (count + 1) item errors status → PlanTold s options schedule items start (counted_stream a b calls failed) errors status
@@ -302,7 +302,7 @@ breaks_anywhere : (s : PlainSubject) (schedule : List ℕ) (left : List Item) (c
 breaks_anywhere s schedule [] count h story output errors status broke = inr broke
 breaks_anywhere s schedule (item ∷ items) count h story output errors status broke = inr broke
 
-pub plan_cut : (s : PlainSubject) (options : ExplainOptions) (schedule : List ℕ) (items : List Item) (start : Kept) (why : Halt) (output errors : Counted) (status : ℕ) →
+pub plan_cut : (s : PlainSubject) (options : PartOptions) (schedule : List ℕ) (items : List Item) (start : Kept) (why : Halt) (output errors : Counted) (status : ℕ) →
     StoryCut options (tale_for s (length items)) start items why output → HaltRan why errors status → PlanTold s options schedule items start output errors status
 plan_cut s options schedule items start why output errors status cut ran = (
   cut.done,

@@ -12,7 +12,7 @@ use Rattle.cml_step.specs.Calls.{text_of}
 use Rattle.cml_stream.specs.Streams.{Counted, Stream, IsIdle, Says, Takes, TakesStart}
 use Rattle.cml_text.specs.Forms.{PlainSexpr}
 use Rattle.cml_scan.specs.World.{PlainWorld}
-use Rattle.cml_words.specs.declared.ExplainOptions.{ExplainOptions}
+use Rattle.cml_words.specs.declared.PartOptions.{PartOptions}
 use Rattle.cml_host.specs.Closed.{PlainSubject, IsEndExplained, script_as_subject}
 use Rattle.cml_host.specs.Replaying.{IsSchedule, IsNoSchedule, IsOtherSize, IsItemExplained}
 use Rattle.cml_host.specs.Said.{IsText, MemoryRan, RefusedRan}
@@ -33,7 +33,7 @@ is_late None n = false
 is_late (Some last) n = nat_lt last n
 
 -- whether an item of this number, counted from 1, is told: those are from the first that is asked for to the last
-abbrev pub is_asked_for : ExplainOptions → ℕ → Bool
+abbrev pub is_asked_for : PartOptions → ℕ → Bool
 is_asked_for options n = nat_le options.from n && not (is_late options.to n)
 
 -- the line of an item that leads from one course to the next, where it is told; else nothing
@@ -43,7 +43,7 @@ TellsWhere false s old item new told = told ≡ []
 
 -- These items lead from the first course to the last, and this is their story: for each that is told the line that says what it does to where
 -- the items before it lead.
-abbrev pub IsStory : ExplainOptions → Tale → PlainCourse → List Item → PlainCourse → List ℕ → Type 0
+abbrev pub IsStory : PartOptions → Tale → PlainCourse → List Item → PlainCourse → List ℕ → Type 0
 IsStory options s course [] last story = (last ≡ course) × (story ≡ [])
 IsStory options s course (item ∷ items) last story =
     (next : PlainCourse) × Adds course item next
@@ -84,7 +84,7 @@ pub record Opens (p : List (PlainItem ℕ)) (budget : ℕ) (h : Kept) : Type 0 w
 
 -- These items were told from this hub on, as far as they can happen, to the hub where those that were lead; and then how the run ended, or why
 -- the next one can't happen.
-abbrev pub PlanTold : PlainSubject → ExplainOptions → List ℕ → List Item → Kept → Counted → Counted → ℕ → Type 0
+abbrev pub PlanTold : PlainSubject → PartOptions → List ℕ → List Item → Kept → Counted → Counted → ℕ → Type 0
 PlanTold s options schedule items start output errors status =
     (done : List Item) × (left : List Item) × (items ≡ done ++ left)
     × ((h : Kept) × (h.budget ≡ start.budget)
@@ -93,7 +93,7 @@ PlanTold s options schedule items start output errors status =
 
 -- The schedule that this text is was told of, from the beginning of a run of the program on; or something is wrong with it, and the errors tell
 -- what; or memory ran out before.
-abbrev pub TextExplained : PlainSubject → ExplainOptions → List (PlainItem ℕ) → List ℕ → Counted → Counted → ℕ → Type 0
+abbrev pub TextExplained : PlainSubject → PartOptions → List (PlainItem ℕ) → List ℕ → Counted → Counted → ℕ → Type 0
 TextExplained s options p text output errors status =
     ((plan : PlainPlan) × IsSchedule text plan × FitsSize plan.size p
     × ((start : Kept) × Opens p plan.budget start × PlanTold s options text plan.items start output errors status))
@@ -101,14 +101,14 @@ TextExplained s options p text output errors status =
     ⊎ (MemoryRan errors status × IsIdle output)
 
 -- That of what lies there; or it was not read.
-abbrev pub ScheduleExplained : PlainSubject → ExplainOptions → List (PlainItem ℕ) → Content → Counted → Counted → ℕ → Type 0
+abbrev pub ScheduleExplained : PlainSubject → PartOptions → List (PlainItem ℕ) → Content → Counted → Counted → ℕ → Type 0
 ScheduleExplained s options p content output errors status =
     ((text : List ℕ) × IsText content text × TextExplained s options p text output errors status)
     ⊎ (RefusedRan true content options.schedule.now errors status × IsIdle output)
 
 -- `explain`: the schedule that lies under its name was told of, as one of the script that lies under its own; or no script lies there, which is
 -- explained, it was not read, or memory ran out, and nothing was written to the output.
-abbrev pub ExplainRan : ExplainOptions → (List ℕ → Content) → Counted → Counted → ℕ → Type 0
+abbrev pub ExplainRan : PartOptions → (List ℕ → Content) → Counted → Counted → ℕ → Type 0
 ExplainRan options held output errors status =
     ((s : PlainScript) × IsOpened (held options.script.now) s
     × ScheduleExplained (script_as_subject options.script.now s) options s.program (held options.schedule.now) output errors status)
@@ -117,7 +117,7 @@ ExplainRan options held output errors status =
 -- ---- what private functions say
 
 -- an item that came was told where that is asked for; where it did not come nothing was
-abbrev pub IsTellingOf : ExplainOptions → Tale → PlainCourse → Item → Bool → PlainCourse → List ℕ → List ℕ → Type 0
+abbrev pub IsTellingOf : PartOptions → Tale → PlainCourse → Item → Bool → PlainCourse → List ℕ → List ℕ → Type 0
 IsTellingOf options s old item true new before after =
     Adds old item new × ((told : List ℕ) × (after ≡ before ++ told) × TellsWhere (is_asked_for options (length new.items)) s old item new told)
 IsTellingOf options s old item false new before after = (is_allowed old.world item ≡ false) × (new ≡ old) × (after ≡ before)
@@ -143,7 +143,7 @@ IsHeldUp (item ∷ items) c = is_allowed c.world item ≡ false
 
 -- So many of the items happened, from this hub on to that one: all, or those before the first that can't. Their story was written, but for its
 -- last piece.
-pub record HasToldFirst (options : ExplainOptions) (s : Tale) (start : Kept) (items : List Item) (count : ℕ) (h : Kept) (piece : List ℕ) (output : Counted) : Type 0 where
+pub record HasToldFirst (options : PartOptions) (s : Tale) (start : Kept) (items : List Item) (count : ℕ) (h : Kept) (piece : List ℕ) (output : Counted) : Type 0 where
   pub counted : count ≤ length items
   pub budget : h.budget ≡ start.budget
   pub held_up : IsHeldUp (drop count items) h.course
@@ -153,7 +153,7 @@ pub record HasToldFirst (options : ExplainOptions) (s : Tale) (start : Kept) (it
   pub fine : output.counts.failed ≡ 0
 
 -- the story was cut off for this: a start of that of some first items was written
-pub record StoryCut (options : ExplainOptions) (s : Tale) (start : Kept) (items : List Item) (why : Halt) (output : Counted) : Type 0 where
+pub record StoryCut (options : PartOptions) (s : Tale) (start : Kept) (items : List Item) (why : Halt) (output : Counted) : Type 0 where
   pub done : List Item
   pub left : List Item
   pub split : items ≡ done ++ left

@@ -8,11 +8,14 @@ ghost use Rattle.cml_stream.specs.Streams.{counted_stream, stream};
 ghost use Rattle.cml_trace.specs.Live.{max_turns};
 
 use crate::check::check_file;
+use crate::draw::draw_file;
 use crate::explain::explain_file;
+use crate::explore::explore_file;
 use crate::fmt::print_file;
 use crate::output::{say, send_text};
 use crate::replay::replay_file;
 use crate::run::run_file;
+use crate::shrink::shrink_file;
 use crate::store::Store;
 use crate::trace::trace;
 use crate::workers::Open;
@@ -30,7 +33,7 @@ use std::thread::Threads;
 /// It reads the input or files of the store, writes what the command says to the output, and reports and what went wrong to the errors.
 /// The status is 0 where all was done; 1 where the arguments, the input, a file or the output are at fault, a write of reports failed, or
 /// the reports that were written are not those of the run; 2 where a text is refused; 3 where a schedule is refused; 4 where a script did
-/// not end within its steps; and 5 where memory ran out or no thread could be started.
+/// not end within its steps; 5 where memory ran out or no thread could be started; and 6 where runs that are judged did not end well.
 pub fn run_command<R, I, O, E, S>(
     rt: &R,
     alloc: Global,
@@ -121,6 +124,11 @@ where
             replay_file(alloc, &options, explains, out, err, store)
         }
         Ok(Answer::Task(Task::Explain(options))) => explain_file(alloc, &options, out, err, store),
+        Ok(Answer::Task(Task::Explore(options))) => {
+            explore_file(alloc, &options, terminal, out, err, store)
+        }
+        Ok(Answer::Task(Task::Shrink(options))) => shrink_file(alloc, &options, out, err, store),
+        Ok(Answer::Task(Task::Draw(options))) => draw_file(alloc, &options, out, err, store),
         Ok(Answer::Help(text)) => send_text(text.as_bytes(), out, err),
         Ok(Answer::Fault(text)) => {
             say(err, text.as_bytes());

@@ -23,7 +23,7 @@ use cml_hub::{Hub, Item, Plan, matches_program};
 use cml_narrative::Narrator;
 use cml_stream::Counting;
 use cml_stream::input_output::{WriteFault, write_out};
-use cml_words::ExplainOptions;
+use cml_words::PartOptions;
 use std::alloc::{AllocError, Global};
 use std::io::Write;
 use thiserror::Error;
@@ -34,13 +34,13 @@ const PIECE: usize = 65_536;
 // The status where the schedule is refused.
 const REFUSED: u8 = 3;
 
-// Why a story is cut off.
+/// Why a command is cut off.
 #[derive(Clone, Copy, Debug, Error)]
-enum Halt {
-    // Out of memory.
+pub enum Halt {
+    /// Out of memory.
     #[error("out of memory")]
     Memory,
-    // A write failed.
+    /// A write failed.
     #[error("a write failed")]
     Write,
 }
@@ -71,7 +71,7 @@ impl From<WriteFault> for Halt {
 /// wrong with either is explained.
 pub fn explain_file<O: Write, E: Write, S: Store>(
     alloc: Global,
-    options: &ExplainOptions<'_>,
+    options: &PartOptions<'_>,
     out: &mut Counting<'_, O>,
     err: &mut Counting<'_, E>,
     store: &mut S,
@@ -94,7 +94,7 @@ pub fn explain_file<O: Write, E: Write, S: Store>(
 fn explain_opened<O: Write, E: Write, S: Store>(
     alloc: Global,
     script: Script,
-    options: &ExplainOptions<'_>,
+    options: &PartOptions<'_>,
     out: &mut Counting<'_, O>,
     err: &mut Counting<'_, E>,
     store: &mut S,
@@ -131,7 +131,7 @@ fn explain_text<O: Write, E: Write>(
     program: Prog,
     subject: &Subject<'_>,
     text: &[u8],
-    options: &ExplainOptions<'_>,
+    options: &PartOptions<'_>,
     out: &mut Counting<'_, O>,
     err: &mut Counting<'_, E>,
 ) -> u8
@@ -153,8 +153,11 @@ fn explain_text<O: Write, E: Write>(
     }
 }
 
-// A hub at the beginning of a run of the program, and the plan that the text is, if that is one of such programs.
-fn begin(alloc: Global, program: Prog, text: &[u8]) -> Result<(Hub, Plan), Refusal>
+/// A hub at the beginning of a run of the program, and the plan that the text is, if that is one of such programs.
+///
+/// # Errors
+/// Why the text is none; or out of memory.
+pub fn begin(alloc: Global, program: Prog, text: &[u8]) -> Result<(Hub, Plan), Refusal>
     ensures ok { IfOk result (λ begun. IsSetUp program text.now begun.0 begun.1) }
     ensures err { IfErr result (IsNotSetUp program text.now) }
 {
@@ -188,7 +191,7 @@ fn explain_items<O: Write, E: Write>(
     subject: &Subject<'_>,
     text: &[u8],
     items: &[Item],
-    options: &ExplainOptions<'_>,
+    options: &PartOptions<'_>,
     out: &mut Counting<'_, O>,
     err: &mut Counting<'_, E>,
 ) -> u8
@@ -290,7 +293,7 @@ fn tell_items<O: Write>(
     hub: &mut Hub,
     subject: &Subject<'_>,
     items: &[Item],
-    options: &ExplainOptions<'_>,
+    options: &PartOptions<'_>,
     out: &mut Counting<'_, O>,
 ) -> Result<usize, Halt>
     requires start { IsAtStart hub.old.course.program hub.old.budget None hub.old }
@@ -317,7 +320,7 @@ fn tell_until<O: Write>(
     narrator: &mut Narrator<'_>,
     piece: &mut Vec<u8>,
     items: &[Item],
-    options: &ExplainOptions<'_>,
+    options: &PartOptions<'_>,
     out: &mut Counting<'_, O>,
 ) -> Result<usize, Halt>
     requires none_out { NoneOut hub.old }
@@ -347,7 +350,7 @@ fn tell_item(
     hub: &mut Hub,
     narrator: &mut Narrator<'_>,
     piece: &mut Vec<u8>,
-    options: &ExplainOptions<'_>,
+    options: &PartOptions<'_>,
     item: Item,
 ) -> Result<bool, AllocError>
     requires none_out { NoneOut hub.old }
@@ -366,7 +369,7 @@ fn tell_item(
 }
 
 // Whether the item of this number is told.
-fn is_asked_for(options: &ExplainOptions<'_>, number: usize) -> bool
+fn is_asked_for(options: &PartOptions<'_>, number: usize) -> bool
     ensures { result ≡ spec.is_asked_for options.now number }
 {
     let number = number as u64;

@@ -4,7 +4,9 @@
 mod check;
 mod close;
 mod command;
+mod draw;
 mod explain;
+mod explore;
 mod file;
 mod fmt;
 mod item;
@@ -16,6 +18,7 @@ mod run;
 mod said;
 mod script;
 mod servers;
+mod shrink;
 mod source;
 mod store;
 mod tell;

@@ -261,9 +261,12 @@ pub fn told_size(alloc: Global) -> Result<Vec<u8>, AllocError>
     Ok(format!(in alloc; "schedule program\n")?.into_bytes())
 }
 
-// What is told of the item of this number, the first that is not allowed where it stands.
+/// What is told of the item of this number, the first that is not allowed where it stands.
+///
+/// # Errors
+/// Out of memory.
 #[inline(never)]
-fn told_item(
+pub fn told_item(
     alloc: Global,
     program: Prog,
     asked: &Asked<'_>,

@@ -19,6 +19,8 @@ mod faults;
 mod gates;
 #[cfg(test)]
 mod limits;
+#[cfg(test)]
+mod many_runs;
 pub mod memory_store;
 #[cfg(test)]
 mod refusals;

@@ -17,6 +17,9 @@ Commands:
   run      Runs a script
   replay   Runs a script by a schedule that was saved
   explain  Says what happens in a run, by a schedule that was saved
+  explore  Runs a script many times, and says how the runs end
+  shrink   Looks for a shorter schedule of a run that ends alike
+  draw     Draws what happens in a run, by a schedule that was saved, as an SVG picture
   help     Print this message or the help of the given subcommand(s)
 
 Options:
@@ -136,6 +139,132 @@ For more information, try '--help'.
     },
     Asked {
         words: "explain x.cml y --to 3 --from 2",
+        output: "",
+        errors: "cannot read x.cml\nx.cml: No such file or directory\n",
+        status: 1,
+    },
+    Asked {
+        words: "explore --help",
+        output: "Runs a script many times, and says how the runs end\n\nUsage: cml explore [OPTIONS] <FILE>\n\nArguments:\n  <FILE>  \n\nOptions:\n      --runs <N>       How many runs, 1 to 1000000 [default: 100]\n      --seed <S>       The seed of the first run; each further one has the next [default: 0]\n      --steps <B>      How many steps each may take, 1 to 1000000000 [default: 1000000]\n      --turns          Draws the order of the threads' turns too\n      --save <PREFIX>  Saves the shortest schedule of each kind of end, as PREFIX-1.schedule and so on\n      --servers <F>    Lets threads that began with function F wait; may be given again\n      --until <WORD>   Stops at the first run of this kind: waits, fault or budget\n  -h, --help           Print help\n",
+        errors: "",
+        status: 0,
+    },
+    Asked {
+        words: "shrink --help",
+        output: "Looks for a shorter schedule of a run that ends alike\n\nUsage: cml shrink [OPTIONS] <FILE> <SCHEDULE>\n\nArguments:\n  <FILE>      \n  <SCHEDULE>  \n\nOptions:\n      --tries <N>  How many replays it may take, 1 to 1000000000 [default: 10000]\n  -h, --help       Print help\n",
+        errors: "",
+        status: 0,
+    },
+    Asked {
+        words: "draw --help",
+        output: "Draws what happens in a run, by a schedule that was saved, as an SVG picture\n\nUsage: cml draw [OPTIONS] <FILE> <SCHEDULE>\n\nArguments:\n  <FILE>      \n  <SCHEDULE>  \n\nOptions:\n      --from <I>  The first item that is drawn, 1 to 1000000000 [default: 1]\n      --to <J>    The last item that is drawn, 1 to 1000000000 [default: all]\n  -h, --help      Print help\n",
+        errors: "",
+        status: 0,
+    },
+    Asked {
+        words: "explore x.cml --runs 0",
+        output: "",
+        errors: "error: invalid value '0' for '--runs <N>': 0 is not in 1..=1000000\n\nFor more information, try '--help'.\n",
+        status: 1,
+    },
+    Asked {
+        words: "explore x.cml --runs 1000001",
+        output: "",
+        errors: "error: invalid value '1000001' for '--runs <N>': 1000001 is not in 1..=1000000\n\nFor more information, try '--help'.\n",
+        status: 1,
+    },
+    Asked {
+        words: "explore x.cml --steps 0",
+        output: "",
+        errors: "error: invalid value '0' for '--steps <B>': 0 is not in 1..=1000000000\n\nFor more information, try '--help'.\n",
+        status: 1,
+    },
+    Asked {
+        words: "explore x.cml --seed 18446744073709551616",
+        output: "",
+        errors: "error: invalid value '18446744073709551616' for '--seed <S>': number too large to fit in target type\n\nFor more information, try '--help'.\n",
+        status: 1,
+    },
+    Asked {
+        words: "explore x.cml --seed 18446744073709551615 --runs 1",
+        output: "",
+        errors: "cannot read x.cml\nx.cml: No such file or directory\n",
+        status: 1,
+    },
+    Asked {
+        words: "explore x.cml --seed 18446744073709551615 --runs 2",
+        output: "",
+        errors: "--runs goes past the last seed, 18446744073709551615\n",
+        status: 1,
+    },
+    Asked {
+        words: "explore x.cml --seed 18446744073709551516",
+        output: "",
+        errors: "cannot read x.cml\nx.cml: No such file or directory\n",
+        status: 1,
+    },
+    Asked {
+        words: "explore x.cml --seed 18446744073709551517",
+        output: "",
+        errors: "--runs goes past the last seed, 18446744073709551615\n",
+        status: 1,
+    },
+    Asked {
+        words: "explore x.cml --until blue --seed 18446744073709551615",
+        output: "",
+        errors: "--until takes waits, fault or budget\n",
+        status: 1,
+    },
+    Asked {
+        words: "explore x.cml --until budget --runs 1000000 --turns --servers f --servers g",
+        output: "",
+        errors: "cannot read x.cml\nx.cml: No such file or directory\n",
+        status: 1,
+    },
+    Asked {
+        words: "explore x-12.schedule --save x",
+        output: "",
+        errors: "--save would replace x-12.schedule\n",
+        status: 1,
+    },
+    Asked {
+        words: "explore x-one.schedule --save x",
+        output: "",
+        errors: "cannot read x-one.schedule\nx-one.schedule: No such file or directory\n",
+        status: 1,
+    },
+    Asked {
+        words: "explore x.cml --explain",
+        output: "",
+        errors: "error: unexpected argument '--explain' found\n\n  tip: to pass '--explain' as a value, use '-- --explain'\n\nUsage: cml explore <FILE>\n\nFor more information, try '--help'.\n",
+        status: 1,
+    },
+    Asked {
+        words: "shrink x.cml",
+        output: "",
+        errors: "error: the following required arguments were not provided:\n  <SCHEDULE>\n\nUsage: cml shrink <FILE> <SCHEDULE>\n\nFor more information, try '--help'.\n",
+        status: 1,
+    },
+    Asked {
+        words: "shrink x.cml y --tries 0",
+        output: "",
+        errors: "error: invalid value '0' for '--tries <N>': 0 is not in 1..=1000000000\n\nFor more information, try '--help'.\n",
+        status: 1,
+    },
+    Asked {
+        words: "shrink x.cml y --tries 1000000000",
+        output: "",
+        errors: "cannot read x.cml\nx.cml: No such file or directory\n",
+        status: 1,
+    },
+    Asked {
+        words: "draw x.cml y --from 0",
+        output: "",
+        errors: "error: invalid value '0' for '--from <I>': 0 is not in 1..=1000000000\n\nFor more information, try '--help'.\n",
+        status: 1,
+    },
+    Asked {
+        words: "draw x.cml y --from 2 --to 1",
         output: "",
         errors: "cannot read x.cml\nx.cml: No such file or directory\n",
         status: 1,

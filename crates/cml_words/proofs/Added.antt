@@ -19,3 +19,7 @@ added_globals old new a adds off was = adds.globals ∙ ap₂ (λ x y. x || y) w
 -- one after another, they are added at once
 pub both_added : (s : Shape) (r q : Rule) → with_more (with_more s r) q ≡ record s { rules = s.rules ++ r ∷ q ∷ [] }
 both_added s r q = ap (λ rules. record s { rules = rules }) (append_assoc s.rules (r ∷ []) (q ∷ []))
+
+pub three_added : (s : Shape) (r q p : Rule) → with_more (with_more (with_more s r) q) p ≡ record s { rules = s.rules ++ r ∷ q ∷ p ∷ [] }
+three_added s r q p =
+    ap (λ rules. record s { rules = rules }) (append_assoc (s.rules ++ r ∷ []) (q ∷ []) (p ∷ []) ∙ append_assoc s.rules (r ∷ []) (q ∷ p ∷ []))

@@ -3,5 +3,6 @@ mod Answers
 mod Entered
 mod Filled
 mod Named
+pub mod Odds
 mod Served
 mod Steps

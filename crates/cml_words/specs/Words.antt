@@ -1,13 +1,14 @@
 -- What the arguments of the command line ask for, as clap reads them.
-use Rattle.std.specs.Prelude.{◌≡◌, ◌≢◌, ◌⊎◌, ◌&&◌, if◌then◌else◌, ℕ, Bool, true, false, not, Option, Some, None, IfSome, IsSomeAnd, List, [], ◌∷◌, ◌++◌, codes, find, map, slice_get, option_map, unwrap_or}
+use Rattle.std.specs.Prelude.{◌≡◌, ◌≢◌, ◌<◌, ◌+◌, ◌^◌, ◌⊎◌, ◌&&◌, if◌then◌else◌, ℕ, Bool, true, false, not, Option, Some, None, IfSome, IsSomeAnd, List, [], ◌∷◌, ◌++◌, codes, find, map, slice_get, option_map, unwrap_or}
 use Rattle.std.specs.List.{list_all}
 use Rattle.std.specs.Int.{IsInRange}
 use Rattle.std.specs.Option.{option_map_or}
+use Rattle.std.specs.Char.{is_ascii_digit}
 use Rattle.std.specs.Str.{bytes_eq}
 use Rattle.std.specs.String.{string_bytes}
 use Rattle.std.specs.Str.Parse.{digits_value, without_leading_plus}
 use Rattle.clap.specs.Takes.{value_passes}
-use Rattle.clap.specs.Words.{App, Shape, Rule, Row, Text, new_app, new_rule, fault_of, Kinds, IsAmong, all_of, first_of, subcommand_of}
+use Rattle.clap.specs.Words.{App, Shape, Rule, Row, Text, new_app, new_rule, fault_of, Kinds, IsAmong, all_of, first_of, subcommand_of, with_subcommand}
 use Rattle.clap.specs.declared.builder.action.ArgAction.TheVariants.{Append, Set, SetTrue}
 use Rattle.clap.specs.declared.builder.value_parser.Reading.{Reading}
 use Rattle.clap.specs.declared.builder.value_parser.Reading.TheVariants.{AsWritten}
@@ -21,11 +22,15 @@ use Rattle.cml_words.specs.declared.Answer.TheVariants as answer
 use Rattle.cml_words.specs.declared.Explain.{Explain}
 use Rattle.cml_words.specs.declared.Explain.TheVariants.{Asked, Off, Unsaid}
 use Rattle.cml_words.specs.declared.EndOptions.{EndOptions}
-use Rattle.cml_words.specs.declared.ExplainOptions.{ExplainOptions}
+use Rattle.cml_words.specs.declared.ExploreOptions.{ExploreOptions}
 use Rattle.cml_words.specs.declared.FileOptions.{FileOptions}
+use Rattle.cml_words.specs.declared.PartOptions.{PartOptions}
 use Rattle.cml_words.specs.declared.ReplayOptions.{ReplayOptions}
 use Rattle.cml_words.specs.declared.RunOptions.{RunOptions}
+use Rattle.cml_words.specs.declared.ShrinkOptions.{ShrinkOptions}
 use Rattle.cml_words.specs.declared.TraceOptions.{TraceOptions}
+use Rattle.cml_words.specs.declared.Until.{Until}
+use Rattle.cml_words.specs.declared.Until.TheVariants.{Budget, Fault, Waits}
 
 -- ---- the commands
 
@@ -52,9 +57,12 @@ any_rule = number_rule 0 18446744073709551615
 abbrev pub count_rule : Text → Rule
 count_rule = number_rule 1 1000000000
 
--- a number of workers, from 1 to 64
+-- a number of workers, from 1 to 64, and one of runs, from 1 to 1,000,000
 abbrev pub workers_rule : Text → Rule
 workers_rule = number_rule 1 64
+
+abbrev pub runs_rule : Text → Rule
+runs_rule = number_rule 1 1000000
 
 -- a flag, `--name`
 abbrev pub flag_rule : Text → Rule
@@ -67,6 +75,10 @@ end_rules = flag_rule (codes "strict") ∷ list_rule (codes "servers") ∷ []
 -- the flags by which a command is asked to explain what is wrong, and not to
 abbrev pub explain_rules : List Rule
 explain_rules = flag_rule (codes "explain") ∷ flag_rule (codes "plain") ∷ []
+
+-- the options by which a command is told what to make of many runs
+abbrev pub finding_rules : List Rule
+finding_rules = option_rule (codes "save") ∷ list_rule (codes "servers") ∷ option_rule (codes "until") ∷ []
 
 -- a command with these arguments
 abbrev pub command_of : Text → List Rule → Shape
@@ -86,8 +98,16 @@ run_command = command_of (codes "run")
 abbrev pub replay_command : Shape
 replay_command = command_of (codes "replay") (file_rule (codes "FILE") ∷ file_rule (codes "SCHEDULE") ∷ count_rule (codes "watch") ∷ end_rules ++ explain_rules)
 
-abbrev pub explain_command : Shape
-explain_command = command_of (codes "explain") (file_rule (codes "FILE") ∷ file_rule (codes "SCHEDULE") ∷ count_rule (codes "from") ∷ count_rule (codes "to") ∷ [])
+-- a command that takes a part of a schedule
+abbrev pub part_command : Text → Shape
+part_command name = command_of name (file_rule (codes "FILE") ∷ file_rule (codes "SCHEDULE") ∷ count_rule (codes "from") ∷ count_rule (codes "to") ∷ [])
+
+abbrev pub explore_command : Shape
+explore_command = command_of (codes "explore")
+    (file_rule (codes "FILE") ∷ runs_rule (codes "runs") ∷ any_rule (codes "seed") ∷ count_rule (codes "steps") ∷ flag_rule (codes "turns") ∷ finding_rules)
+
+abbrev pub shrink_command : Shape
+shrink_command = command_of (codes "shrink") (file_rule (codes "FILE") ∷ file_rule (codes "SCHEDULE") ∷ count_rule (codes "tries") ∷ [])
 
 -- the program, with its commands, of which one must be named
 abbrev pub commands : App
@@ -98,7 +118,10 @@ commands = record {
       ∷ file_command (codes "fmt")
       ∷ run_command
       ∷ replay_command
-      ∷ explain_command
+      ∷ part_command (codes "explain")
+      ∷ explore_command
+      ∷ shrink_command
+      ∷ part_command (codes "draw")
       ∷ [];
 }
 
@@ -137,6 +160,17 @@ IsCount = IsInRange 1 1000000000
 abbrev pub IsWorkers : ℕ → Type 0
 IsWorkers = IsInRange 1 64
 
+abbrev pub IsRuns : ℕ → Type 0
+IsRuns = IsInRange 1 1000000
+
+-- what the word of `--until` means, if anything
+abbrev pub until_named : Text → Option Until
+until_named word =
+    if bytes_eq word (codes "waits") then Some Waits
+    else if bytes_eq word (codes "fault") then Some Fault
+    else if bytes_eq word (codes "budget") then Some Budget
+    else None
+
 -- the options of `trace` are what was given
 pub record IsTrace (given : List Row) (options : TraceOptions) : Type 0 where
   pub live : options.live ≡ is_flagged (codes "live") given
@@ -173,13 +207,32 @@ pub record IsReplay (given : List Row) (options : ReplayOptions) : Type 0 where
   pub explain : options.explain ≡ explanation given
   pub counts : IfSome options.watch IsCount
 
--- and those of `explain`; where no first item was given, the first of all
-pub record IsExplain (given : List Row) (options : ExplainOptions) : Type 0 where
+-- and those of a command that takes a part of a schedule; where no first item was given, the first of all
+pub record IsPart (given : List Row) (options : PartOptions) : Type 0 where
   pub script : first_of (codes "FILE") given ≡ Some options.script.now
   pub schedule : first_of (codes "SCHEDULE") given ≡ Some options.schedule.now
   pub first : options.from ≡ unwrap_or (option_number (codes "from") given) 1
   pub last : options.to ≡ option_number (codes "to") given
   pub counts : IsCount options.from × IfSome options.to IsCount
+
+-- and those of `explore`; where no number of runs was, 100, where no seed was, 0, and where no number of steps was, 1,000,000
+pub record IsExplore (given : List Row) (options : ExploreOptions) : Type 0 where
+  pub script : first_of (codes "FILE") given ≡ Some options.script.now
+  pub runs : options.runs ≡ unwrap_or (option_number (codes "runs") given) 100
+  pub seed : options.seed ≡ unwrap_or (option_number (codes "seed") given) 0
+  pub steps : options.steps ≡ unwrap_or (option_number (codes "steps") given) 1000000
+  pub turns : options.turns ≡ is_flagged (codes "turns") given
+  pub save : option_map (λ start. start.now) options.save ≡ first_of (codes "save") given
+  pub servers : map (λ name. name.now) options.servers.items ≡ option_texts (codes "servers") given
+  pub until : option_map (λ word. word.now) options.until ≡ first_of (codes "until") given
+  pub counts : IsRuns options.runs × IsCount options.steps
+
+-- and those of `shrink`; where no number of replays was given, 10,000
+pub record IsShrink (given : List Row) (options : ShrinkOptions) : Type 0 where
+  pub script : first_of (codes "FILE") given ≡ Some options.script.now
+  pub schedule : first_of (codes "SCHEDULE") given ≡ Some options.schedule.now
+  pub tries : options.tries ≡ unwrap_or (option_number (codes "tries") given) 10000
+  pub counts : IsCount options.tries
 
 -- The command that was named, with the values that it was given, is this one.
 abbrev pub Names : Text × List Row → Task → Type 0
@@ -188,27 +241,66 @@ Names (name, given) (task_of.Check options) = (name ≡ codes "check") × IsFile
 Names (name, given) (task_of.Fmt options) = (name ≡ codes "fmt") × IsFile given options
 Names (name, given) (task_of.Run options) = (name ≡ codes "run") × IsRun given options
 Names (name, given) (task_of.Replay options) = (name ≡ codes "replay") × IsReplay given options
-Names (name, given) (task_of.Explain options) = (name ≡ codes "explain") × IsExplain given options
+Names (name, given) (task_of.Explain options) = (name ≡ codes "explain") × IsPart given options
+Names (name, given) (task_of.Explore options) = (name ≡ codes "explore") × IsExplore given options
+Names (name, given) (task_of.Shrink options) = (name ≡ codes "shrink") × IsShrink given options
+Names (name, given) (task_of.Draw options) = (name ≡ codes "draw") × IsPart given options
 
--- the record would be saved under the name of the script: both are given by the same text
-abbrev pub Replaces : RunOptions → Type 0
-Replaces options = option_map (λ name. name.now) options.record ≡ Some options.file.now
+-- ---- options at odds
+
+-- what this option saves would replace the file of this name: both are given by the same text
+abbrev pub Replaces : Option Text → Text → Type 0
+Replaces saved name = saved ≡ Some name
+
+-- what is said of it
+abbrev pub would_replace : Text → Text → List ℕ
+would_replace option name = option ++ (codes " would replace " ++ (name ++ codes "\n"))
+
+abbrev pub ReplacedOdds : Text → Option Text → Text → List ℕ → Type 0
+ReplacedOdds option saved name told = Replaces saved name × (told ≡ would_replace option name)
 
 -- a trace is to be explained whose lines are answered at once
 abbrev pub ExplainsLive : TraceOptions → Type 0
 ExplainsLive options = (options.live ≡ true) × (options.explain ≡ Asked)
 
--- what is said of a record that would replace this script, and of such a trace
-abbrev pub would_replace : List ℕ → List ℕ
-would_replace name = codes "--record would replace " ++ name ++ codes "\n"
+abbrev pub TraceOdds : TraceOptions → List ℕ → Type 0
+TraceOdds options told = ExplainsLive options × (told ≡ codes "--explain can't be used with --live\n")
 
-abbrev pub live_is_not_explained : List ℕ
-live_is_not_explained = codes "--explain can't be used with --live\n"
+-- the record of a run would replace its script
+abbrev pub RunOdds : RunOptions → List ℕ → Type 0
+RunOdds options told = ReplacedOdds (codes "--record") (option_map (λ name. name.now) options.record) options.file.now told
 
--- the options of the command are at odds, and this says so: its record would replace its script, or a live trace is to be explained
+-- the word of `--until` means nothing
+abbrev pub IsUnknown : Option Text → Type 0
+IsUnknown until = IsSomeAnd until (λ word. until_named word ≡ None)
+
+-- the last of so many runs, the first of which has this seed, would have one that is larger than the last seed, 2^64 - 1
+abbrev pub PassesTheLast : ℕ → ℕ → Type 0
+PassesTheLast seed runs = 2 ^ 64 < seed + runs
+
+-- the name of the file of this number, whose digits these are, where the names begin so
+abbrev pub saved_end : List ℕ → Text
+saved_end digits = codes "-" ++ (digits ++ codes ".schedule")
+
+abbrev pub saved_name : Text → List ℕ → Text
+saved_name start digits = start ++ saved_end digits
+
+-- a file whose name begins so may be saved under this name
+abbrev pub SavesOver : Text → Text → Type 0
+SavesOver start name = (digits : List ℕ) × (list_all is_ascii_digit digits ≡ true) × (name ≡ saved_name start digits)
+
+-- the word of `--until` means nothing, there are fewer seeds than runs, or a file that is saved would replace the script
+abbrev pub ExploreOdds : ExploreOptions → List ℕ → Type 0
+ExploreOdds options told =
+    (IsUnknown (option_map (λ word. word.now) options.until) × (told ≡ codes "--until takes waits, fault or budget\n"))
+    ⊎ (PassesTheLast options.seed options.runs × (told ≡ codes "--runs goes past the last seed, 18446744073709551615\n"))
+    ⊎ (IsSomeAnd options.save (λ start. SavesOver start.now options.script.now) × (told ≡ would_replace (codes "--save") options.script.now))
+
+-- the options of the command are at odds, and this says so
 abbrev pub AreAtOdds : Task → List ℕ → Type 0
-AreAtOdds (task_of.Run options) told = Replaces options × (told ≡ would_replace options.file.now)
-AreAtOdds (task_of.Trace options) told = ExplainsLive options × (told ≡ live_is_not_explained)
+AreAtOdds (task_of.Trace options) told = TraceOdds options told
+AreAtOdds (task_of.Run options) told = RunOdds options told
+AreAtOdds (task_of.Explore options) told = ExploreOdds options told
 AreAtOdds _ told = ⊥
 
 -- clap finds no error in the arguments, and they name this command
@@ -235,6 +327,14 @@ with_explain command = record command { rules = command.rules ++ explain_rules }
 abbrev pub with_end : Shape → Shape
 with_end command = record command { rules = command.rules ++ end_rules }
 
+-- the program, with the commands that make runs again and again, or draw one
+abbrev pub with_others : App → App
+with_others app = with_subcommand (with_subcommand (with_subcommand app explore_command) shrink_command) (part_command (codes "draw"))
+
+-- and what is made of many runs
+abbrev pub with_finding : Shape → Shape
+with_finding command = record command { rules = command.rules ++ finding_rules }
+
 -- the values of an argument are read as they are written
 abbrev pub is_as_written : Reading → Bool
 is_as_written AsWritten = true
@@ -260,10 +360,14 @@ AnswersTask task (answer.Task same) = (same ≡ task) × ((told : List ℕ) → 
 AnswersTask task (answer.Help text) = ⊥
 AnswersTask task (answer.Fault text) = AreAtOdds task (string_bytes text)
 
+-- this is said of options that are at odds, or nothing, and then they are not
+abbrev pub ToldOdds : (List ℕ → Type 0) → Option (List ℕ) → Type 0
+ToldOdds odds (Some told) = odds told
+ToldOdds odds None = (told : List ℕ) → odds told → ⊥
+
 -- what is said of the options of this command, where they are at odds
 abbrev pub AreOdds : Task → Option (List ℕ) → Type 0
-AreOdds task (Some told) = AreAtOdds task told
-AreOdds task None = (told : List ℕ) → AreAtOdds task told → ⊥
+AreOdds task told = ToldOdds (AreAtOdds task) told
 
 -- the answer to an error of this kind
 abbrev pub AnswersError : ErrorKind → Answer → Type 0

@@ -1,7 +1,7 @@
-use Rattle.std.proofs.Common.{rules, ◌≡◌, ◌∙◌, ap₂, codes, true, []}
+use Rattle.std.proofs.Common.{rules, ◌≡◌, ◌∙◌, ap, ap₂, codes, true, []}
 use Rattle.std.proofs.lemmas.Result.{IfOk-weaker}
 use Rattle.clap.specs.Words.{App, app_of, new_app, with_subcommand}
-use Rattle.cml_words.specs.Words.{file_command, replay_command, run_command, trace_command}
+use Rattle.cml_words.specs.Words.{file_command, part_command, replay_command, run_command, trace_command, with_others}
 use Rattle.cml_words.proofs.command.Goals as goal
 
 -- the program without its commands, and with the first of them
@@ -23,6 +23,9 @@ four = with_subcommand three run_command
 abbrev five : App
 five = with_subcommand four replay_command
 
+abbrev six : App
+six = with_subcommand five (part_command (codes "explain"))
+
 pub returns : goal.returns
 returns c =
     let is_none : app_of c.subcommand_required.result ≡ none = search rules in
@@ -35,4 +38,6 @@ returns c =
     c.in_ok-subcommand-4.ensures.shape c.in_ok-run.ensures.globals ∙ ap₂ with_subcommand is_three c.in_ok-run.ensures.shape in
     let is_five : app_of c.in_ok-subcommand-5.field-0 ≡ five =
     c.in_ok-subcommand-5.ensures.shape c.in_ok-replay.ensures.globals ∙ ap₂ with_subcommand is_four c.in_ok-replay.ensures.shape in
-    IfOk-weaker c.subcommand-6.result _ _ (λ command added. added.shape c.in_ok-explain.ensures.globals ∙ ap₂ with_subcommand is_five c.in_ok-explain.ensures.shape) c.subcommand-6.ensures
+    let is_six : app_of c.in_ok-program.program ≡ six =
+    c.in_ok-program.ensures.shape c.in_ok-explain.ensures.globals ∙ ap₂ with_subcommand is_five c.in_ok-explain.ensures.shape in
+    IfOk-weaker c.others.result _ _ (λ command is. is ∙ ap with_others is_six) c.others.ensures

@@ -70,10 +70,11 @@ unreachable-requires-in_default-name c =
     let below = found_of c.in-Some.below.now in
     let complete = named_complete found c.in-Some.name.now below (search rules) c.in-Some.ensures.rows c.requires in
     let other = c.in_default-name in
-    no_other c.in-Some.name.now (rows_of below) complete other.not-trace other.not-check other.not-fmt other.not-run other.not-replay other.not-explain
+    no_other c.in-Some.name.now (rows_of below) complete other.not-trace other.not-check other.not-fmt other.not-run other.not-replay other.not-explain other.not-explore
+    other.not-shrink other.not-draw
 
-pub explain_options-requires : goal.explain_options-requires
-explain_options-requires c =
+pub part_options-requires : goal.part_options-requires
+part_options-requires c =
     let found = subcommand_rows_of c.args.matches.now in
     let below = found_of c.in-Some.below.now in
     named_complete found (codes "explain") below (search rules) c.in-Some.ensures.rows c.requires
@@ -82,4 +83,40 @@ pub returns-in-explain : goal.returns-in-explain
 returns-in-explain c =
     let found = subcommand_rows_of c.args.matches.now in
     let below = found_of c.in-Some.below.now in
-    named_task found (codes "explain") below (task_of.Explain c.explain_options.result) (search rules) c.in-Some.ensures.rows (refl, c.explain_options.ensures)
+    named_task found (codes "explain") below (task_of.Explain c.part_options.result) (search rules) c.in-Some.ensures.rows (refl, c.part_options.ensures)
+
+pub explore_options-requires : goal.explore_options-requires
+explore_options-requires c =
+    let found = subcommand_rows_of c.args.matches.now in
+    let below = found_of c.in-Some.below.now in
+    named_complete found (codes "explore") below (search rules) c.in-Some.ensures.rows c.requires
+
+pub returns-in_ok-explore_options-in-explore : goal.returns-in_ok-explore_options-in-explore
+returns-in_ok-explore_options-in-explore c =
+    let found = subcommand_rows_of c.args.matches.now in
+    let below = found_of c.in-Some.below.now in
+    named_task found (codes "explore") below (task_of.Explore c.in_ok-explore_options-in-explore.field-0) (search rules) c.in-Some.ensures.rows (refl, c.in_ok-explore_options-in-explore.ensures)
+
+pub shrink_options-requires : goal.shrink_options-requires
+shrink_options-requires c =
+    let found = subcommand_rows_of c.args.matches.now in
+    let below = found_of c.in-Some.below.now in
+    named_complete found (codes "shrink") below (search rules) c.in-Some.ensures.rows c.requires
+
+pub returns-in-shrink : goal.returns-in-shrink
+returns-in-shrink c =
+    let found = subcommand_rows_of c.args.matches.now in
+    let below = found_of c.in-Some.below.now in
+    named_task found (codes "shrink") below (task_of.Shrink c.shrink_options.result) (search rules) c.in-Some.ensures.rows (refl, c.shrink_options.ensures)
+
+pub part_options-requires-in-draw : goal.part_options-requires-in-draw
+part_options-requires-in-draw c =
+    let found = subcommand_rows_of c.args.matches.now in
+    let below = found_of c.in-Some.below.now in
+    named_complete found (codes "draw") below (search rules) c.in-Some.ensures.rows c.requires
+
+pub returns-in-draw : goal.returns-in-draw
+returns-in-draw c =
+    let found = subcommand_rows_of c.args.matches.now in
+    let below = found_of c.in-Some.below.now in
+    named_task found (codes "draw") below (task_of.Draw c.part_options-in-draw.result) (search rules) c.in-Some.ensures.rows (refl, c.part_options-in-draw.ensures)

@@ -1,9 +1,9 @@
 use Rattle.std.proofs.Common.{rules, ◌∙◌, ap, subst, map, inl, refl}
 use Rattle.std.specs.String.{string_bytes}
-use Rattle.cml_words.specs.declared.Task.TheVariants.{Trace, Check, Fmt, Run, Replay, Explain}
+use Rattle.cml_words.specs.declared.Task.TheVariants.{Trace, Check, Fmt, Run, Replay, Explain, Explore, Shrink, Draw}
 use Rattle.cml_words.specs.declared.Answer.TheVariants as answer
 use Rattle.cml_words.specs.Words.{IsAnswer}
-use Rattle.cml_host.proofs.CountLemmas.{counted, watch_counted}
+use Rattle.cml_host.proofs.CountLemmas.{counted, explore_counted, explore_seeds, watch_counted}
 use Rattle.cml_host.proofs.command.run_command_counted.Goals as goal
 
 pub run_file-requires-clause-counts : goal.run_file-requires-clause-counts
@@ -93,3 +93,45 @@ replay_file-requires-clause-watch g c =
     let words = map string_bytes c.args.words.now in
     let is = c.in-Ok-Task-Replay.field-0-is ∙ ap answer.Task c.in-Ok-Task-Replay.field-0-0-is in
     watch_counted words c.in-Ok-Task-Replay.options (subst (IsAnswer words) is c.in-Ok-Task-Replay.ensures)
+
+pub explore_file-requires-clause-counts : goal.explore_file-requires-clause-counts
+explore_file-requires-clause-counts g c =
+    let words = map string_bytes c.args.words.now in
+    let is = c.in-Ok-Task-Explore.field-0-is ∙ ap answer.Task c.in-Ok-Task-Explore.field-0-0-is in
+    explore_counted words c.in-Ok-Task-Explore.options (subst (IsAnswer words) is c.in-Ok-Task-Explore.ensures)
+
+pub explore_file-requires-clause-seeds : goal.explore_file-requires-clause-seeds
+explore_file-requires-clause-seeds g c =
+    let words = map string_bytes c.args.words.now in
+    let is = c.in-Ok-Task-Explore.field-0-is ∙ ap answer.Task c.in-Ok-Task-Explore.field-0-0-is in
+    explore_seeds words c.in-Ok-Task-Explore.options (subst (IsAnswer words) is c.in-Ok-Task-Explore.ensures)
+
+pub returns-in-Ok-Task-Explore-clause-ran : goal.returns-in-Ok-Task-Explore-clause-ran
+returns-in-Ok-Task-Explore-clause-ran g c =
+    let words = map string_bytes c.args.words.now in
+    let is = c.in-Ok-Task-Explore.field-0-is ∙ ap answer.Task c.in-Ok-Task-Explore.field-0-0-is in
+    inl (
+      answer.Task (Explore c.in-Ok-Task-Explore.options),
+      subst (IsAnswer words) is c.in-Ok-Task-Explore.ensures,
+      (c.explore_file.ensures.ran, (search rules, c.requires.reads.0, c.requires.reads.1)),
+    )
+
+pub returns-in-Ok-Task-Shrink-clause-ran : goal.returns-in-Ok-Task-Shrink-clause-ran
+returns-in-Ok-Task-Shrink-clause-ran g c =
+    let words = map string_bytes c.args.words.now in
+    let is = c.in-Ok-Task-Shrink.field-0-is ∙ ap answer.Task c.in-Ok-Task-Shrink.field-0-0-is in
+    inl (
+      answer.Task (Shrink c.in-Ok-Task-Shrink.options),
+      subst (IsAnswer words) is c.in-Ok-Task-Shrink.ensures,
+      (c.shrink_file.ensures.ran, (search rules, c.requires.reads.0, c.requires.reads.1), c.shrink_file.ensures.same),
+    )
+
+pub returns-in-Ok-Task-Draw-clause-ran : goal.returns-in-Ok-Task-Draw-clause-ran
+returns-in-Ok-Task-Draw-clause-ran g c =
+    let words = map string_bytes c.args.words.now in
+    let is = c.in-Ok-Task-Draw.field-0-is ∙ ap answer.Task c.in-Ok-Task-Draw.field-0-0-is in
+    inl (
+      answer.Task (Draw c.in-Ok-Task-Draw.options),
+      subst (IsAnswer words) is c.in-Ok-Task-Draw.ensures,
+      (c.draw_file.ensures.ran, (search rules, c.requires.reads.0, c.requires.reads.1), c.draw_file.ensures.same),
+    )

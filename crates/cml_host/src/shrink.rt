@@ -1,0 +1,207 @@
+//! The command `shrink`: a shorter schedule of a script, which ends alike.
+
+ghost use Rattle.std.specs.Prelude.{◌≡◌, IfErr, IfOk, true};
+ghost use Rattle.std.specs.String.{string_bytes};
+ghost use Rattle.cml_check.specs.Sizes.{size_of};
+ghost use Rattle.cml_host.specs.Closed.{plain_asked, script_as_subject};
+ghost use Rattle.cml_host.specs.Replaying.{IsNoHub, IsNoRun, IsNotRun};
+ghost use Rattle.cml_host.specs.Scripts.{plain_script};
+ghost use Rattle.cml_host.specs.Shrunk.{IsShorterBy, IsShorterOf, IsShorterThere, ScheduleShrunk, ScheduleTold, ShrinkRan};
+ghost use Rattle.cml_host.specs.Stores.{IsUnchanged};
+ghost use Rattle.cml_hub.specs.Kept.{IsBudget, FitsSize};
+ghost use Rattle.cml_schedule.specs.Written.{schedule_text};
+ghost use Rattle.cml_shrink.specs.Counts.{counts_line};
+ghost use Rattle.cml_stream.specs.Streams.{counted_stream};
+
+use crate::close::{Asked, ask, explains};
+use crate::output::say;
+use crate::replay::{SCHEDULE_LIMIT, read_plan, told_item, told_size};
+use crate::said::{Refusal, refuse};
+use crate::script::{Script, open_script};
+use crate::store::Store;
+use cml_check::Prog;
+use cml_hub::{Item, Plan, matches_program};
+use cml_schedule::schedule_text;
+use cml_shrink::{ShrinkFault, push_counts, shrink};
+use cml_stream::Counting;
+use cml_stream::input_output::write_out;
+use cml_words::ShrinkOptions;
+use std::alloc::{AllocError, Global};
+use std::io::Write;
+
+// The status where the schedule is refused.
+const REFUSED: u8 = 3;
+
+// What is told of a shorter schedule.
+#[derive(Drop)]
+struct Shorter {
+    schedule: String,
+    counts: Vec<u8>,
+}
+
+/// Tells a shorter schedule of the script that lies under its name for the one that lies under its own, where one ends alike. What is wrong with
+/// either is explained.
+pub fn shrink_file<O: Write, E: Write, S: Store>(
+    alloc: Global,
+    options: &ShrinkOptions<'_>,
+    out: &mut Counting<'_, O>,
+    err: &mut Counting<'_, E>,
+    store: &mut S,
+) -> u8
+    requires fresh { (out.old.calls ≡ 0) × (out.old.failed ≡ 0) × (err.old.calls ≡ 0) × (err.old.failed ≡ 0) }
+    ensures ran { let output = counted_stream (O.contents out.old.stream.now) (O.contents out.new.stream.now) out.new.calls out.new.failed in
+        let errors = counted_stream (E.contents err.old.stream.now) (E.contents err.new.stream.now) err.new.calls err.new.failed in
+        ShrinkRan options.now (S.holds store.old) output errors result }
+    ensures same { IsUnchanged (S.holds store.old) (S.holds store.new) }
+    ensures same_out { out.new.stream.ghost_name ≡ out.old.stream.ghost_name }
+    ensures same_err { err.new.stream.ghost_name ≡ err.old.stream.ghost_name }
+{
+    match open_script(alloc, options.script, true, store) {
+        Ok(script) => shrink_opened(alloc, script, options, out, err, store),
+        Err(why) => refuse(alloc, options.script, true, why, 2, err),
+    }
+}
+
+// Tells a shorter schedule of the script.
+fn shrink_opened<O: Write, E: Write, S: Store>(
+    alloc: Global,
+    script: Script,
+    options: &ShrinkOptions<'_>,
+    out: &mut Counting<'_, O>,
+    err: &mut Counting<'_, E>,
+    store: &mut S,
+) -> u8
+    requires fresh { (out.old.calls ≡ 0) × (out.old.failed ≡ 0) × (err.old.failed ≡ 0) }
+    ensures ran { let output = counted_stream (O.contents out.old.stream.now) (O.contents out.new.stream.now) out.new.calls out.new.failed in
+        let errors = counted_stream (E.contents err.old.stream.now) (E.contents err.new.stream.now) err.new.calls err.new.failed in
+        let s = plain_script script in
+        ScheduleShrunk (script_as_subject options.now.script.now s) s.program options.now.tries options.now.schedule.now (S.holds store.old options.now.schedule.now) output errors result }
+    ensures same { IsUnchanged (S.holds store.old) (S.holds store.new) }
+    ensures same_out { out.new.stream.ghost_name ≡ out.old.stream.ghost_name }
+    ensures same_err { err.new.stream.ghost_name ≡ err.old.stream.ghost_name }
+{
+    let (program, asked) = ask(options.script, script, true, false, Vec::new(alloc));
+    match shorter_there(alloc, program, &asked, options, store) {
+        Ok(shorter) => tell_shorter(&shorter, out, err),
+        Err(why) => refuse(alloc, options.schedule, true, why, REFUSED, err),
+    }
+}
+
+// Tells the shorter schedule.
+fn tell_shorter<O: Write, E: Write>(
+    shorter: &Shorter,
+    out: &mut Counting<'_, O>,
+    err: &mut Counting<'_, E>,
+) -> u8
+    requires fresh { (out.old.failed ≡ 0) × (err.old.failed ≡ 0) }
+    ensures told { let output = counted_stream (O.contents out.old.stream.now) (O.contents out.new.stream.now) out.new.calls out.new.failed in
+        let errors = counted_stream (E.contents err.old.stream.now) (E.contents err.new.stream.now) err.new.calls err.new.failed in
+        ScheduleTold (string_bytes shorter.now.schedule) shorter.now.counts.items output errors result }
+    ensures same_out { out.new.stream.ghost_name ≡ out.old.stream.ghost_name }
+    ensures same_err { err.new.stream.ghost_name ≡ err.old.stream.ghost_name }
+{
+    match write_out(out, shorter.schedule.as_bytes()) {
+        Ok(()) => {
+            say(err, shorter.counts.as_slice());
+            0
+        }
+        Err(_) => {
+            say(err, b"cannot write output\n");
+            1
+        }
+    }
+}
+
+// What is told of the shorter schedule for the one that lies under its name.
+fn shorter_there<S: Store>(
+    alloc: Global,
+    program: Prog,
+    asked: &Asked<'_>,
+    options: &ShrinkOptions<'_>,
+    store: &mut S,
+) -> Result<Shorter, Refusal>
+    ensures ok { IfOk result (IsShorterThere program options.now.tries (S.holds store.old options.now.schedule.now)) }
+    ensures err { IfErr result (IsNotRun (plain_asked asked.now).subject program (S.holds store.old options.now.schedule.now)) }
+    ensures same { IsUnchanged (S.holds store.old) (S.holds store.new) }
+{
+    let text = match store.load(alloc, options.schedule, SCHEDULE_LIMIT) {
+        Ok(text) => text,
+        Err(fault) => {
+            drop(program);
+            return Err(Refusal::from(fault));
+        }
+    };
+    shorter_by(alloc, program, asked, text.as_slice(), options.tries)
+}
+
+// For the one that the text is.
+fn shorter_by(
+    alloc: Global,
+    program: Prog,
+    asked: &Asked<'_>,
+    text: &[u8],
+    tries: u64,
+) -> Result<Shorter, Refusal>
+    ensures ok { IfOk result (IsShorterBy program tries text.now) }
+    ensures err { IfErr result (IsNoRun (plain_asked asked.now).subject program text.now) }
+{
+    match read_plan(alloc, explains(asked), text) {
+        Ok(plan) => shorter_of(alloc, program, asked, text, &plan, tries),
+        Err(why) => {
+            drop(program);
+            Err(why)
+        }
+    }
+}
+
+// For the one of the plan, which this text is.
+fn shorter_of(
+    alloc: Global,
+    program: Prog,
+    asked: &Asked<'_>,
+    text: &[u8],
+    plan: &Plan,
+    tries: u64,
+) -> Result<Shorter, Refusal>
+    requires budget { IsBudget plan.now.budget }
+    ensures size { IfOk result (λ _. FitsSize plan.now.size program) }
+    ensures ok { IfOk result (IsShorterOf program tries plan.now) }
+    ensures err { IfErr result (IsNoHub (plain_asked asked.now).subject program text.now plan.now) }
+{
+    if !matches_program(plan, &program) {
+        drop(program);
+        return Err(Refusal::Wrong(told_size(alloc)?));
+    }
+    let items = plan.items.as_slice();
+    match shrink(alloc, &program, plan.budget, items, tries) {
+        Ok(found) => {
+            let shorter = make_shorter(alloc, &program, plan.budget, items, found.items());
+            drop(program);
+            Ok(shorter?)
+        }
+        Err(ShrinkFault::BadItem(number)) => Err(Refusal::Wrong(told_item(
+            alloc, program, asked, text, plan, number,
+        )?)),
+        Err(ShrinkFault::Memory) => {
+            drop(program);
+            Err(Refusal::Memory)
+        }
+    }
+}
+
+// What is told of these items, which were found for those.
+fn make_shorter(
+    alloc: Global,
+    program: &Prog,
+    budget: u64,
+    old: &[Item],
+    new: &[Item],
+) -> Result<Shorter, AllocError>
+    ensures schedule { IfOk result (λ told. string_bytes told.schedule ≡ schedule_text budget (size_of program.now) new.now) }
+    ensures counts { IfOk result (λ told. told.counts.items ≡ counts_line old.now new.now) }
+{
+    let schedule = schedule_text(alloc, budget, program.size(), new)?;
+    let mut counts = Vec::new(alloc);
+    push_counts(alloc, &mut counts, old, new)?;
+    Ok(Shorter { schedule, counts })
+}
