@@ -17,4 +17,6 @@ mod refusals;
 #[cfg(test)]
 mod scripts;
 #[cfg(test)]
+mod steppings;
+#[cfg(test)]
 mod texts;
