@@ -11,7 +11,7 @@ use Rattle.cml_scan.specs.declared.meet.Meet.{Meet}
 use Rattle.cml_book.specs.Walks.{runs}
 use Rattle.cml_schedule.specs.declared.item.Item.{Item}
 use Rattle.cml_narrative.specs.Whys.{first_running}
-use Rattle.cml_stepper.specs.Picks.{row_numbered, turned_by, last_turned}
+use Rattle.cml_stepper.specs.Picks.{row_numbered, turn_had, last_turned}
 use Rattle.cml_stepper.specs.Questions.{running_from}
 
 -- ---- rows
@@ -71,13 +71,13 @@ or_or : (x y z : Option Tid) → option_or (option_or x y) z ≡ option_or x (op
 or_or None y z = refl
 or_or (Some t) y z = refl
 
-last_turned-push : (items : List Item) (item : Item) → last_turned (items ++ item ∷ []) ≡ option_or (turned_by item) (last_turned items)
-last_turned-push [] item = or_none (turned_by item)
-last_turned-push (i ∷ items) item = ap (λ x. option_or x (turned_by i)) (last_turned-push items item) ∙ or_or (turned_by item) (last_turned items) (turned_by i)
+last_turned-push : (items : List Item) (item : Item) → last_turned (items ++ item ∷ []) ≡ option_or (turn_had item) (last_turned items)
+last_turned-push [] item = or_none (turn_had item)
+last_turned-push (i ∷ items) item = ap (λ x. option_or x (turn_had i)) (last_turned-push items item) ∙ or_or (turn_had item) (last_turned items) (turn_had i)
 
 -- one item less
 turned_at : (items : List Item) (k : ℕ) (d : Item) → k < length items
-    → last_turned (take (length items - k) items) ≡ option_or (turned_by (get_or items (length items - 1 - k) d)) (last_turned (take (length items - (k + 1)) items))
+    → last_turned (take (length items - k) items) ≡ option_or (turn_had (get_or items (length items - 1 - k) d)) (last_turned (take (length items - (k + 1)) items))
 turned_at items k d h =
     let i : ℕ = length items - 1 - k in
     let within : i < length items = omega arith in
@@ -85,16 +85,16 @@ turned_at items k d h =
     let less : length items - (k + 1) ≡ i = omega arith in
     ap (λ n. last_turned (take n items)) more
     ∙ (ap last_turned (take_more items i d within)
-    ∙ (last_turned-push (take i items) (get_or items i d) ∙ ap (λ n. option_or (turned_by (get_or items i d)) (last_turned (take n items))) (sym less)))
+    ∙ (last_turned-push (take i items) (get_or items i d) ∙ ap (λ n. option_or (turn_had (get_or items i d)) (last_turned (take n items))) (sym less)))
 
 pub all_left : (items : List Item) → last_turned (take (length items - 0) items) ≡ last_turned items
 all_left items = ap last_turned (take_all (length items - 0) items (omega arith))
 
-pub turned_here : (items : List Item) (k : ℕ) (d : Item) (t : Tid) → k < length items → Some t ≡ turned_by (get_or items (length items - 1 - k) d)
+pub turned_here : (items : List Item) (k : ℕ) (d : Item) (t : Tid) → k < length items → Some t ≡ turn_had (get_or items (length items - 1 - k) d)
     → last_turned (take (length items - k) items) ≡ Some t
 turned_here items k d t h so = turned_at items k d h ∙ ap (λ x. option_or x (last_turned (take (length items - (k + 1)) items))) (sym so)
 
-pub turned_before : (items : List Item) (k : ℕ) (d : Item) → k < length items → None ≡ turned_by (get_or items (length items - 1 - k) d)
+pub turned_before : (items : List Item) (k : ℕ) (d : Item) → k < length items → None ≡ turn_had (get_or items (length items - 1 - k) d)
     → last_turned (take (length items - (k + 1)) items) ≡ last_turned (take (length items - k) items)
 turned_before items k d h so = sym (turned_at items k d h ∙ ap (λ x. option_or x (last_turned (take (length items - (k + 1)) items))) (sym so))
 

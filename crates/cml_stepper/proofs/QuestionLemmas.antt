@@ -15,7 +15,7 @@ use Rattle.cml_hub.specs.Kept.{Kept}
 use Rattle.cml_hub.specs.Runs.{terminal, ending, next_alarm}
 use Rattle.cml_ending.specs.declared.standing.Spot.{Spot}
 use Rattle.cml_narrative.specs.Tales.{began_in}
-use Rattle.cml_stepper.specs.Questions.{ByHand, listed_limit, row_line, row_lines, more_rows, listed_rows, running_from, turn_lines, is_still, clock_line_of, offers_by, offers_text, ended_text, EndTold, OffersSo, Offers}
+use Rattle.cml_stepper.specs.Questions.{ByHand, listed_limit, offered_line, row_lines, more_rows, listed_rows, running_from, turn_lines, is_still, clock_line_of, offers_by, offers_text, ended_text, TellsEnd, OffersSo, SaysOffers}
 
 -- ---- rows
 
@@ -32,10 +32,10 @@ more_none n rows out h = sym (ap (λ xs. out ++ more_rows n xs) (drop_all 20 row
 
 -- one row more
 pub lines_more : (forms : List PlainSexpr) (w : PlainWorld) (began : List PlainFunction) (first k : ℕ) (rows : List Meet) (d : Meet) (out new all : List ℕ) → k < length rows
-    → new ≡ out ++ row_line forms w began (first + k) (get_or rows k d) → out ++ row_lines forms w began (first + k) (drop k rows) ≡ all
+    → new ≡ out ++ offered_line forms w began (first + k) (get_or rows k d) → out ++ row_lines forms w began (first + k) (drop k rows) ≡ all
     → new ++ row_lines forms w began (first + (k + 1)) (drop (k + 1) rows) ≡ all
 lines_more forms w began first k rows d out new all within is so_far =
-    let line = row_line forms w began (first + k) (get_or rows k d) in
+    let line = offered_line forms w began (first + k) (get_or rows k d) in
     let next : first + k + 1 ≡ first + (k + 1) = omega arith in
     ap (λ o. o ++ row_lines forms w began (first + (k + 1)) (drop (k + 1) rows)) is
     ∙ (append_assoc out line (row_lines forms w began (first + (k + 1)) (drop (k + 1) rows))
@@ -110,11 +110,11 @@ partial_by : (b o : Bool) → Partial ≡ cond b Quiet (cond o Budget Partial) �
 partial_by true o e = cc
 partial_by false o e = refl
 
-pub ended_offers : (s : ByHand) (h : Kept) (told : List ℕ) → Quiet ≡ ending h.budget (run_of h.course) → EndTold s h told → Offers (terminal h.course.world) s h told
-ended_offers s h told is ended = subst (λ b. Offers b s h told) (sym (quiet_by (terminal h.course.world) _ is)) ended
+pub ended_offers : (s : ByHand) (h : Kept) (told : List ℕ) → Quiet ≡ ending h.budget (run_of h.course) → TellsEnd s h told → SaysOffers (terminal h.course.world) s h told
+ended_offers s h told is ended = subst (λ b. SaysOffers b s h told) (sym (quiet_by (terminal h.course.world) _ is)) ended
 
-pub budget_offers : (s : ByHand) (h : Kept) (told : List ℕ) → Budget ≡ ending h.budget (run_of h.course) → OffersSo s h.course told → Offers (terminal h.course.world) s h told
-budget_offers s h told is offers = subst (λ b. Offers b s h told) (sym (budget_by (terminal h.course.world) _ is)) offers
+pub budget_offers : (s : ByHand) (h : Kept) (told : List ℕ) → Budget ≡ ending h.budget (run_of h.course) → OffersSo s h.course told → SaysOffers (terminal h.course.world) s h told
+budget_offers s h told is offers = subst (λ b. SaysOffers b s h told) (sym (budget_by (terminal h.course.world) _ is)) offers
 
-pub partial_offers : (s : ByHand) (h : Kept) (told : List ℕ) → Partial ≡ ending h.budget (run_of h.course) → OffersSo s h.course told → Offers (terminal h.course.world) s h told
-partial_offers s h told is offers = subst (λ b. Offers b s h told) (sym (partial_by (terminal h.course.world) _ is)) offers
+pub partial_offers : (s : ByHand) (h : Kept) (told : List ℕ) → Partial ≡ ending h.budget (run_of h.course) → OffersSo s h.course told → SaysOffers (terminal h.course.world) s h told
+partial_offers s h told is offers = subst (λ b. SaysOffers b s h told) (sym (partial_by (terminal h.course.world) _ is)) offers

@@ -24,9 +24,9 @@ use Rattle.cml_narrative.specs.Tales.{Tale, TellsItem, ToldSo, began_in}
 use Rattle.cml_narrative.specs.Whys.{first_running}
 use Rattle.cml_stepper.specs.declared.line.Typed.{Typed}
 use Rattle.cml_stepper.specs.declared.line.Typed.TheVariants as typed
-use Rattle.cml_stepper.specs.Picks.{row_numbered, next_ready, next_by, only_row, number_past, last_turned, turn_of_number, item_typed}
-use Rattle.cml_stepper.specs.Questions.{ByHand, EndTold, listed_rows}
-use Rattle.cml_stepper.specs.Replies.{marked, printed_by, Goes, Stays, Undoes, UndoesLast, Moves, Does, no_row_line, no_next_line, no_item_line, unfit_line, list_words, list_text}
+use Rattle.cml_stepper.specs.Picks.{row_numbered, next_ready, next_named, only_row, number_past, last_turned, turn_of_number, item_typed}
+use Rattle.cml_stepper.specs.Questions.{ByHand, TellsEnd, listed_rows}
+use Rattle.cml_stepper.specs.Replies.{marked, printed_by, Goes, StaysSaid, Undoes, UndoesLast, TakesNamed, DoneAt, no_row_line, no_next_line, no_item_line, unfit_line, list_words, list_text}
 use Rattle.cml_stepper.proofs.QuestionLemmas.{first_listed}
 
 -- ---- what is said
@@ -160,7 +160,7 @@ only_allowed w item (row ∷ []) alarm still only next e =
     subst (λ i. is_allowed w i ≡ true) (sym (same_Some item (taking w row) e)) (taking_allowed w row has)
 only_allowed w item (row ∷ second ∷ rows) alarm still more next e = absurd cc
 
-next_allowed : (w : PlainWorld) (n : ℕ) (o : Option ℕ) (item : Item) → o ≡ option_or (first_running n (drop n w.threads)) (first_running 0 w.threads) → Some item ≡ next_by w o → is_allowed w item ≡ true
+next_allowed : (w : PlainWorld) (n : ℕ) (o : Option ℕ) (item : Item) → o ≡ option_or (first_running n (drop n w.threads)) (first_running 0 w.threads) → Some item ≡ next_named w o → is_allowed w item ≡ true
 next_allowed w n (Some t) item is e =
     subst (λ i. is_allowed w i ≡ true) (sym (same_Some item (turn_of_number t) e)) (either_runs w n t (first_running n (drop n w.threads)) refl is)
 next_allowed w n None item is e =
@@ -186,17 +186,17 @@ goes_said told text asked said old new n len printed joined =
     joined
     ∙ (ap (λ o. o ++ asked) (printed ∙ ap (λ k. told ++ marked (drop k new.output)) len) ∙ append_assoc told (printed_by old new) asked)
 
-pub stays_as : (old new : Kept) (words other said : List ℕ) → words ≡ other → Stays old new words said → Stays old new other said
-stays_as old new words other said is stays = subst (λ w. Stays old new w said) is stays
+pub stays_as : (old new : Kept) (words other said : List ℕ) → words ≡ other → StaysSaid old new words said → StaysSaid old new other said
+stays_as old new words other said is stays = subst (λ w. StaysSaid old new w said) is stays
 
-pub moves_some : (s : ByHand) (what : Typed) (old new : Kept) (said : List ℕ) (item : Item) (o : Option Item) → Some item ≡ o → Goes s old item new said → Moves s what o old new said
-moves_some s what old new said item o is goes = subst (λ x. Moves s what x old new said) is goes
+pub moves_some : (s : ByHand) (what : Typed) (old new : Kept) (said : List ℕ) (item : Item) (o : Option Item) → Some item ≡ o → Goes s old item new said → TakesNamed s what o old new said
+moves_some s what old new said item o is goes = subst (λ x. TakesNamed s what x old new said) is goes
 
-pub moves_none : (s : ByHand) (what : Typed) (old new : Kept) (words said : List ℕ) (o : Option Item) → None ≡ o → words ≡ unfit_line s.forms old.course.world what → Stays old new words said
-    → Moves s what o old new said
-moves_none s what old new words said o is fits stays = subst (λ x. Moves s what x old new said) is (stays_as old new words (unfit_line s.forms old.course.world what) said fits stays)
+pub moves_none : (s : ByHand) (what : Typed) (old new : Kept) (words said : List ℕ) (o : Option Item) → None ≡ o → words ≡ unfit_line s.forms old.course.world what → StaysSaid old new words said
+    → TakesNamed s what o old new said
+moves_none s what old new words said o is fits stays = subst (λ x. TakesNamed s what x old new said) is (stays_as old new words (unfit_line s.forms old.course.world what) said fits stays)
 
-pub undoes_none : (items : List Item) (s : ByHand) (old new : Kept) (words said : List ℕ) → length items ≡ 0 → words ≡ no_item_line → Stays old new words said → UndoesLast items s old new said
+pub undoes_none : (items : List Item) (s : ByHand) (old new : Kept) (words said : List ℕ) → length items ≡ 0 → words ≡ no_item_line → StaysSaid old new words said → UndoesLast items s old new said
 undoes_none [] s old new words said none is stays = stays_as old new words no_item_line said is stays
 undoes_none (item ∷ items) s old new words said none is stays = absurd (omega arith)
 
@@ -206,32 +206,32 @@ undoes_some (item ∷ items) s old new said some undoes = undoes
 
 -- ---- by what was typed
 
-pub quit_does : (s : ByHand) (what : Typed) (old : Kept) (said : List ℕ) → what ≡ typed.Quit → said ≡ [] → Does s what old true old said
-quit_does s what old said is none = subst (λ x. Does s x old true old said) (sym is) (refl, refl, none)
+pub quit_does : (s : ByHand) (what : Typed) (old : Kept) (said : List ℕ) → what ≡ typed.Quit → said ≡ [] → DoneAt s what old true old said
+quit_does s what old said is none = subst (λ x. DoneAt s x old true old said) (sym is) (refl, refl, none)
 
-pub undo_does : (s : ByHand) (what : Typed) (old new : Kept) (ends : Bool) (said : List ℕ) → what ≡ typed.Undo → ends ≡ false → UndoesLast old.course.items s old new said → Does s what old ends new said
-undo_does s what old new ends said is on undoes = subst (λ x. Does s x old ends new said) (sym is) (on, undoes)
+pub undo_does : (s : ByHand) (what : Typed) (old new : Kept) (ends : Bool) (said : List ℕ) → what ≡ typed.Undo → ends ≡ false → UndoesLast old.course.items s old new said → DoneAt s what old ends new said
+undo_does s what old new ends said is on undoes = subst (λ x. DoneAt s x old ends new said) (sym is) (on, undoes)
 
-pub waits_does : (s : ByHand) (what : Typed) (old new : Kept) (ends : Bool) (told said : List ℕ) → what ≡ typed.Waits → ends ≡ false → EndTold s old told → Stays old new told said → Does s what old ends new said
-waits_does s what old new ends told said is on ended stays = subst (λ x. Does s x old ends new said) (sym is) (on, (told, ended, stays))
+pub waits_does : (s : ByHand) (what : Typed) (old new : Kept) (ends : Bool) (told said : List ℕ) → what ≡ typed.Waits → ends ≡ false → TellsEnd s old told → StaysSaid old new told said → DoneAt s what old ends new said
+waits_does s what old new ends told said is on ended stays = subst (λ x. DoneAt s x old ends new said) (sym is) (on, (told, ended, stays))
 
-pub list_does : (s : ByHand) (what : Typed) (n : ℕ) (old new : Kept) (ends : Bool) (words said : List ℕ) → what ≡ typed.List n → ends ≡ false → words ≡ list_text s.forms old.course n → Stays old new words said
-    → Does s what old ends new said
+pub list_does : (s : ByHand) (what : Typed) (n : ℕ) (old new : Kept) (ends : Bool) (words said : List ℕ) → what ≡ typed.List n → ends ≡ false → words ≡ list_text s.forms old.course n → StaysSaid old new words said
+    → DoneAt s what old ends new said
 list_does s what n old new ends words said is on listed stays =
-    subst (λ x. Does s x old ends new said) (sym is) (on, stays_as old new words (list_text s.forms old.course n) said listed stays)
+    subst (λ x. DoneAt s x old ends new said) (sym is) (on, stays_as old new words (list_text s.forms old.course n) said listed stays)
 
 -- what is done at an answer that may name an item
 abbrev MovesSo : ByHand → Typed → Kept → Kept → List ℕ → Type 0
-MovesSo s what old new said = Moves s what (item_typed old.course.world old.course.items what) old new said
+MovesSo s what old new said = TakesNamed s what (item_typed old.course.world old.course.items what) old new said
 
-pub row_does : (s : ByHand) (what : Typed) (n : ℕ) (old new : Kept) (ends : Bool) (said : List ℕ) → what ≡ typed.Row n → ends ≡ false → MovesSo s what old new said → Does s what old ends new said
-row_does s what n old new ends said is on moves = subst (λ x. Does s x old ends new said) (sym is) (on, subst (λ x. MovesSo s x old new said) is moves)
+pub row_does : (s : ByHand) (what : Typed) (n : ℕ) (old new : Kept) (ends : Bool) (said : List ℕ) → what ≡ typed.Row n → ends ≡ false → MovesSo s what old new said → DoneAt s what old ends new said
+row_does s what n old new ends said is on moves = subst (λ x. DoneAt s x old ends new said) (sym is) (on, subst (λ x. MovesSo s x old new said) is moves)
 
-pub turn_does : (s : ByHand) (what : Typed) (t : Tid) (old new : Kept) (ends : Bool) (said : List ℕ) → what ≡ typed.Turn t → ends ≡ false → MovesSo s what old new said → Does s what old ends new said
-turn_does s what t old new ends said is on moves = subst (λ x. Does s x old ends new said) (sym is) (on, subst (λ x. MovesSo s x old new said) is moves)
+pub turn_does : (s : ByHand) (what : Typed) (t : Tid) (old new : Kept) (ends : Bool) (said : List ℕ) → what ≡ typed.Turn t → ends ≡ false → MovesSo s what old new said → DoneAt s what old ends new said
+turn_does s what t old new ends said is on moves = subst (λ x. DoneAt s x old ends new said) (sym is) (on, subst (λ x. MovesSo s x old new said) is moves)
 
-pub next_does : (s : ByHand) (what : Typed) (old new : Kept) (ends : Bool) (said : List ℕ) → what ≡ typed.Next → ends ≡ false → MovesSo s what old new said → Does s what old ends new said
-next_does s what old new ends said is on moves = subst (λ x. Does s x old ends new said) (sym is) (on, subst (λ x. MovesSo s x old new said) is moves)
+pub next_does : (s : ByHand) (what : Typed) (old new : Kept) (ends : Bool) (said : List ℕ) → what ≡ typed.Next → ends ≡ false → MovesSo s what old new said → DoneAt s what old ends new said
+next_does s what old new ends said is on moves = subst (λ x. DoneAt s x old ends new said) (sym is) (on, subst (λ x. MovesSo s x old new said) is moves)
 
-pub unknown_does : (s : ByHand) (what : Typed) (old new : Kept) (ends : Bool) (said : List ℕ) → what ≡ typed.Unknown → ends ≡ false → MovesSo s what old new said → Does s what old ends new said
-unknown_does s what old new ends said is on moves = subst (λ x. Does s x old ends new said) (sym is) (on, subst (λ x. MovesSo s x old new said) is moves)
+pub unknown_does : (s : ByHand) (what : Typed) (old new : Kept) (ends : Bool) (said : List ℕ) → what ≡ typed.Unknown → ends ≡ false → MovesSo s what old new said → DoneAt s what old ends new said
+unknown_does s what old new ends said is on moves = subst (λ x. DoneAt s x old ends new said) (sym is) (on, subst (λ x. MovesSo s x old new said) is moves)

@@ -9,5 +9,5 @@ abbrev pub script_of : Stepper → ByHand
 script_of s = record { name = s.name.now; text = s.text.now; forms = s.forms.now }
 
 -- it stands where this course does: it knows what its items did
-abbrev pub IsThere : PlainCourse → Stepper → Type 0
-IsThere c s = Knows c s.narrator
+abbrev pub FollowsTo : PlainCourse → Stepper → Type 0
+FollowsTo c s = Knows c s.narrator

@@ -20,16 +20,16 @@ row_numbered w zero = None
 row_numbered w (suc n) = slice_get (scan w) n
 
 -- the thread that had its turn by the item
-abbrev pub turned_by : Item → Option Tid
-turned_by (Turn t) = Some t
-turned_by (Commit row) = None
-turned_by (Exchange row) = None
-turned_by (Clock tick) = None
+abbrev pub turn_had : Item → Option Tid
+turn_had (Turn t) = Some t
+turn_had (Commit row) = None
+turn_had (Exchange row) = None
+turn_had (Clock tick) = None
 
 -- the thread that had the last turn
 abbrev pub last_turned : List Item → Option Tid
 last_turned [] = None
-last_turned (item ∷ items) = option_or (last_turned items) (turned_by item)
+last_turned (item ∷ items) = option_or (last_turned items) (turn_had item)
 
 -- the number that comes after that of a thread, if there is one
 abbrev pub number_past : Option Tid → ℕ
@@ -50,13 +50,13 @@ only_row w [] = option_map Clock (next_alarm w)
 only_row w (row ∷ []) = Some (taking w row)
 only_row w (row ∷ second ∷ rows) = None
 
-abbrev pub next_by : PlainWorld → Option ℕ → Option Item
-next_by w (Some t) = Some (turn_of_number t)
-next_by w None = only_row w (scan w)
+abbrev pub next_named : PlainWorld → Option ℕ → Option Item
+next_named w (Some t) = Some (turn_of_number t)
+next_named w None = only_row w (scan w)
 
 -- what an empty line means: a turn of the thread that is next, where one runs
 abbrev pub next_item : PlainWorld → List Item → Option Item
-next_item w items = next_by w (next_ready w items)
+next_item w items = next_named w (next_ready w items)
 
 -- the item that an answer names, if there is one
 abbrev pub item_typed : PlainWorld → List Item → Typed → Option Item

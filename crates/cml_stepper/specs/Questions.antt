@@ -37,13 +37,13 @@ listed_limit = 20
 -- ---- rows
 
 -- who took from an M-variable last is not told of a row
-abbrev pub nobody : ℕ → Option ℕ
-nobody m = None
+abbrev pub no_taker : ℕ → Option ℕ
+no_taker m = None
 
 -- an event that can be taken, with the state of its object
 abbrev pub event_words_in : List PlainSexpr → PlainWorld → List PlainFunction → Option PlainBase → List ℕ
 event_words_in forms w began None = codes "nothing"
-event_words_in forms w began (Some b) = awaited_words forms w began nobody (leaf b)
+event_words_in forms w began (Some b) = awaited_words forms w began no_taker (leaf b)
 
 -- a thread, and the event at one of its leaves
 abbrev pub party_words : List PlainSexpr → PlainWorld → List PlainFunction → ℕ → ℕ → List ℕ
@@ -53,13 +53,13 @@ abbrev pub offered_words : List PlainSexpr → PlainWorld → List PlainFunction
 offered_words forms w began (Single t n) = party_words forms w began t.0 n
 offered_words forms w began (Pair h i o j) = party_words forms w began h.0 i ++ (codes "; " ++ party_words forms w began o.0 j)
 
-abbrev pub row_line : List PlainSexpr → PlainWorld → List PlainFunction → ℕ → Meet → List ℕ
-row_line forms w began n row = codes "  " ++ (decimal n ++ (codes "  " ++ (offered_words forms w began row ++ 10 ∷ [])))
+abbrev pub offered_line : List PlainSexpr → PlainWorld → List PlainFunction → ℕ → Meet → List ℕ
+offered_line forms w began n row = codes "  " ++ (decimal n ++ (codes "  " ++ (offered_words forms w began row ++ 10 ∷ [])))
 
 -- these rows, of which the first has this number
 abbrev pub row_lines : List PlainSexpr → PlainWorld → List PlainFunction → ℕ → List Meet → List ℕ
 row_lines forms w began n [] = []
-row_lines forms w began n (row ∷ rows) = row_line forms w began n row ++ row_lines forms w began (n + 1) rows
+row_lines forms w began n (row ∷ rows) = offered_line forms w began n row ++ row_lines forms w began (n + 1) rows
 
 -- that there are more rows, the first of which has this number
 abbrev pub more_rows : ℕ → List Meet → List ℕ
@@ -127,18 +127,18 @@ abbrev pub prompt_line : PlainCourse → List ℕ
 prompt_line c = codes "item " ++ (decimal (length c.items + 1) ++ (codes "?" ++ 10 ∷ []))
 
 -- this says how the run has ended
-abbrev pub EndTold : ByHand → Kept → List ℕ → Type 0
-EndTold s h told = (ended : List ℕ) × EndsSo s.name s.text s.forms h ended × (told ≡ ended_text ended)
+abbrev pub TellsEnd : ByHand → Kept → List ℕ → Type 0
+TellsEnd s h told = (ended : List ℕ) × EndsSo s.name s.text s.forms h ended × (told ≡ ended_text ended)
 
 -- This says what can happen. Where two statements leave the same to do, either may be told as the one at which a thread stands.
 abbrev pub OffersSo : ByHand → PlainCourse → List ℕ → Type 0
 OffersSo s c offered = (spots : List (Option Spot)) × AreSpots c spots × (offered ≡ offers_text s c spots)
 
 -- what can happen; or, where nothing can, how the run has ended
-abbrev pub Offers : Bool → ByHand → Kept → List ℕ → Type 0
-Offers true s h offered = EndTold s h offered
-Offers false s h offered = OffersSo s h.course offered
+abbrev pub SaysOffers : Bool → ByHand → Kept → List ℕ → Type 0
+SaysOffers true s h offered = TellsEnd s h offered
+SaysOffers false s h offered = OffersSo s h.course offered
 
 -- the question: what can happen in this hub, or how its run has ended, and the number of the item that comes next
-abbrev pub Asks : ByHand → Kept → List ℕ → Type 0
-Asks s h asked = (offered : List ℕ) × Offers (terminal h.course.world) s h offered × (asked ≡ offered ++ prompt_line h.course)
+abbrev pub IsQuestion : ByHand → Kept → List ℕ → Type 0
+IsQuestion s h asked = (offered : List ℕ) × SaysOffers (terminal h.course.world) s h offered × (asked ≡ offered ++ prompt_line h.course)

@@ -15,10 +15,10 @@ use Rattle.cml_narrative.specs.Tales.{TellsItem, began_in}
 use Rattle.cml_narrative.specs.Whys.{why_words}
 use Rattle.cml_stepper.specs.declared.line.Typed.{Typed}
 use Rattle.cml_stepper.specs.declared.line.Typed.TheVariants as typed
-use Rattle.cml_stepper.specs.Tellings.{told_of}
+use Rattle.cml_stepper.specs.Tellings.{told_by_hand}
 use Rattle.cml_stepper.specs.Typings.{IsTyped}
 use Rattle.cml_stepper.specs.Picks.{item_typed}
-use Rattle.cml_stepper.specs.Questions.{ByHand, Asks, EndTold, listed_rows, prompt_line}
+use Rattle.cml_stepper.specs.Questions.{ByHand, IsQuestion, TellsEnd, listed_rows, prompt_line}
 
 -- what an item added to the output, behind a mark: a print, or the line of a fault
 abbrev pub marked : List ℕ → List ℕ
@@ -33,13 +33,13 @@ pub record Goes (s : ByHand) (old : Kept) (item : Item) (new : Kept) (said : Lis
   pub adds : Adds old.course item new.course
   pub budget : new.budget ≡ old.budget
   pub told : List ℕ
-  pub tells : TellsItem (told_of s.text s.forms) old.course item new.course told
+  pub tells : TellsItem (told_by_hand s.text s.forms) old.course item new.course told
   pub asked : List ℕ
-  pub asks : Asks s new asked
+  pub asks : IsQuestion s new asked
   pub said_is : said ≡ told ++ (printed_by old.course new.course ++ asked)
 
 -- nothing has changed: this was said, and the same item is asked for
-pub record Stays (old new : Kept) (words said : List ℕ) : Type 0 where
+pub record StaysSaid (old new : Kept) (words said : List ℕ) : Type 0 where
   pub same : new ≡ old
   pub said_is : said ≡ words ++ prompt_line old.course
 
@@ -58,7 +58,7 @@ undone_line n = codes "item " ++ (decimal n ++ (codes " is undone" ++ 10 ∷ [])
 pub record Undoes (s : ByHand) (old new : Kept) (said : List ℕ) : Type 0 where
   pub back : LeadsBack old new
   pub asked : List ℕ
-  pub asks : Asks s new asked
+  pub asks : IsQuestion s new asked
   pub said_is : said ≡ undone_line (length old.course.items) ++ asked
 
 abbrev pub no_item_line : List ℕ
@@ -66,7 +66,7 @@ no_item_line = codes "there is no item to undo" ++ 10 ∷ []
 
 -- the same where there are these items; without any there is nothing to undo
 abbrev pub UndoesLast : List Item → ByHand → Kept → Kept → List ℕ → Type 0
-UndoesLast [] s old new said = Stays old new no_item_line said
+UndoesLast [] s old new said = StaysSaid old new no_item_line said
 UndoesLast (item ∷ items) s old new said = Undoes s old new said
 
 -- what can be answered
@@ -99,19 +99,19 @@ list_text forms c zero = no_row_line 0
 list_text forms c (suc n) = list_words forms c (suc n) (drop n (scan c.world))
 
 -- the item that an answer names happened; where it names none, nothing did, and the answer to it says why
-abbrev pub Moves : ByHand → Typed → Option Item → Kept → Kept → List ℕ → Type 0
-Moves s what (Some item) old new said = Goes s old item new said
-Moves s what None old new said = Stays old new (unfit_line s.forms old.course.world what) said
+abbrev pub TakesNamed : ByHand → Typed → Option Item → Kept → Kept → List ℕ → Type 0
+TakesNamed s what (Some item) old new said = Goes s old item new said
+TakesNamed s what None old new said = StaysSaid old new (unfit_line s.forms old.course.world what) said
 
 -- what is done at an answer; it ends where it says so
-abbrev pub Does : ByHand → Typed → Kept → Bool → Kept → List ℕ → Type 0
-Does s typed.Quit old ends new said = (ends ≡ true) × (new ≡ old) × (said ≡ [])
-Does s typed.Undo old ends new said = (ends ≡ false) × UndoesLast old.course.items s old new said
-Does s typed.Waits old ends new said =
-    (ends ≡ false) × ((told : List ℕ) × EndTold s old told × Stays old new told said)
-Does s (typed.List n) old ends new said = (ends ≡ false) × Stays old new (list_text s.forms old.course n) said
-Does s what old ends new said = (ends ≡ false) × Moves s what (item_typed old.course.world old.course.items what) old new said
+abbrev pub DoneAt : ByHand → Typed → Kept → Bool → Kept → List ℕ → Type 0
+DoneAt s typed.Quit old ends new said = (ends ≡ true) × (new ≡ old) × (said ≡ [])
+DoneAt s typed.Undo old ends new said = (ends ≡ false) × UndoesLast old.course.items s old new said
+DoneAt s typed.Waits old ends new said =
+    (ends ≡ false) × ((told : List ℕ) × TellsEnd s old told × StaysSaid old new told said)
+DoneAt s (typed.List n) old ends new said = (ends ≡ false) × StaysSaid old new (list_text s.forms old.course n) said
+DoneAt s what old ends new said = (ends ≡ false) × TakesNamed s what (item_typed old.course.world old.course.items what) old new said
 
 -- the answer to a line
-abbrev pub Answers : ByHand → Kept → List ℕ → Bool → Kept → List ℕ → Type 0
-Answers s old line ends new said = (what : Typed) × IsTyped line what × Does s what old ends new said
+abbrev pub AnswersLine : ByHand → Kept → List ℕ → Bool → Kept → List ℕ → Type 0
+AnswersLine s old line ends new said = (what : Typed) × IsTyped line what × DoneAt s what old ends new said

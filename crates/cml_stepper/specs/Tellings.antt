@@ -5,5 +5,5 @@ use Rattle.cml_text.specs.Forms.{PlainSexpr}
 use Rattle.cml_narrative.specs.Tales.{Tale}
 
 -- the items of a script that has this text and these forms: no number is padded
-abbrev pub told_of : List ℕ → List PlainSexpr → Tale
-told_of text forms = record { text = text; forms = forms; digits = length (decimal 0) }
+abbrev pub told_by_hand : List ℕ → List PlainSexpr → Tale
+told_by_hand text forms = record { text = text; forms = forms; digits = length (decimal 0) }

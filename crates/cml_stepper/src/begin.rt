@@ -2,7 +2,7 @@
 
 ghost use Rattle.std.specs.Prelude.{◌≡◌, IfOk, []};
 ghost use Rattle.cml_hub.specs.Courses.{PlainCourse};
-ghost use Rattle.cml_stepper.specs.Hands.{script_of, IsThere};
+ghost use Rattle.cml_stepper.specs.Hands.{script_of, FollowsTo};
 
 use crate::stepper::Stepper;
 use cml_narrative::Narrator;
@@ -22,7 +22,7 @@ impl<'a> Stepper<'a> {
         forms: &'a [Sexpr],
     ) -> Result<Stepper<'a>, AllocError>
         ensures script { IfOk result (λ s. script_of s ≡ record { name = name.now; text = text.now; forms = forms.now }) }
-        ensures there { IfOk result (λ s. (c : PlainCourse) → c.items ≡ [] → IsThere c s) }
+        ensures there { IfOk result (λ s. (c : PlainCourse) → c.items ≡ [] → FollowsTo c s) }
     {
         let places = statement_places(alloc, text, forms)?;
         let narrator = Narrator::new(alloc, text, forms, 0)?;

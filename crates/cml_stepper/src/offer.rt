@@ -123,7 +123,7 @@ fn push_row_line(
     row: &Meet,
 ) -> Result<(), AllocError>
     ensures { OnOk result (out.new.items ≡ out.old.items
-        ++ spec.row_line forms.now hub.now.course.world (began_in hub.now.course) number row.now) }
+        ++ spec.offered_line forms.now hub.now.course.world (began_in hub.now.course) number row.now) }
 {
     push_numbered(alloc, out, b"  ", number)?;
     out.extend_from_slice(b"  ")?;

@@ -11,7 +11,7 @@ ghost use Rattle.cml_phrase.specs.Spots.{all_places};
 ghost use Rattle.cml_scan.specs.Scan.{scan};
 ghost use Rattle.cml_stepper.specs.Hands.{script_of};
 ghost use Rattle.cml_stepper.specs.Questions as spec;
-ghost use Rattle.cml_stepper.specs.Questions.{Asks, Offers, EndTold, OffersSo};
+ghost use Rattle.cml_stepper.specs.Questions.{IsQuestion, SaysOffers, TellsEnd, OffersSo};
 
 use crate::offer::{LISTED, push_named, push_rows};
 use crate::pick::next_tick;
@@ -224,7 +224,7 @@ impl Stepper<'_> {
 
     /// How the run has ended, or that no thread is left.
     pub(crate) fn ended(&self, alloc: Global, hub: &Hub) -> Result<Vec<u8>, AllocError>
-        ensures { IfOk result (λ told. EndTold (script_of self.now) hub.now told.items) }
+        ensures { IfOk result (λ told. TellsEnd (script_of self.now) hub.now told.items) }
     {
         let words = explain_end(alloc, self.name, self.text, self.forms, hub)?;
         let told = ended_words(alloc, words)?;
@@ -233,7 +233,7 @@ impl Stepper<'_> {
 
     // What can happen; or, where nothing can, how the run has ended.
     fn offered(&self, alloc: Global, hub: &Hub) -> Result<Vec<u8>, AllocError>
-        ensures { IfOk result (λ offered. Offers (terminal hub.now.course.world) (script_of self.now) hub.now offered.items) }
+        ensures { IfOk result (λ offered. SaysOffers (terminal hub.now.course.world) (script_of self.now) hub.now offered.items) }
     {
         match hub.end() {
             End::Quiet => {
@@ -256,7 +256,7 @@ impl Stepper<'_> {
     /// # Errors
     /// Out of memory.
     pub fn ask(&self, alloc: Global, hub: &Hub) -> Result<Vec<u8>, AllocError>
-        ensures { IfOk result (λ asked. Asks (script_of self.now) hub.now asked.items) }
+        ensures { IfOk result (λ asked. IsQuestion (script_of self.now) hub.now asked.items) }
     {
         let mut asked = self.offered(alloc, hub)?;
         push_prompt(alloc, &mut asked, hub)?;

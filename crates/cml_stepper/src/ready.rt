@@ -50,7 +50,7 @@ fn first_from(book: &Book<OfferIndex>, from: u32) -> Option<u32>
 
 // The thread that had its turn by the item.
 fn turned_by(item: &Item) -> Option<Tid>
-    ensures { result ≡ spec.turned_by item.now }
+    ensures { result ≡ spec.turn_had item.now }
 {
     match item {
         Item::Turn(thread) => Some(*thread),

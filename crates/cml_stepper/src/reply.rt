@@ -7,10 +7,10 @@ ghost use Rattle.cml_hub.specs.Runs.{is_allowed};
 ghost use Rattle.cml_narrative.specs.Tales.{TellsItem};
 ghost use Rattle.cml_narrative.specs.Whys.{why_words};
 ghost use Rattle.cml_scan.specs.Scan.{scan};
-ghost use Rattle.cml_stepper.specs.Hands.{script_of, IsThere};
-ghost use Rattle.cml_stepper.specs.Tellings.{told_of};
+ghost use Rattle.cml_stepper.specs.Hands.{script_of, FollowsTo};
+ghost use Rattle.cml_stepper.specs.Tellings.{told_by_hand};
 ghost use Rattle.cml_stepper.specs.Replies as spec;
-ghost use Rattle.cml_stepper.specs.Replies.{Answers, Does, Goes, Stays, Undoes, UndoesLast, Moves};
+ghost use Rattle.cml_stepper.specs.Replies.{AnswersLine, DoneAt, Goes, StaysSaid, Undoes, UndoesLast, TakesNamed};
 ghost use Rattle.cml_stepper.specs.Picks as picks;
 
 use crate::line::{Typed, typed_from};
@@ -44,7 +44,7 @@ const HELP: &[u8] =
 
 // Nothing has changed: these words are said, and the same item is asked for.
 fn stay(alloc: Global, hub: &Hub, words: Vec<u8>) -> Result<Reply, AllocError>
-    ensures stays { IfOk result (λ reply. Stays hub.now hub.now words.items reply.text.items) }
+    ensures stays { IfOk result (λ reply. StaysSaid hub.now hub.now words.items reply.text.items) }
     ensures on { IfOk result (λ reply. reply.ends ≡ false) }
 {
     let mut text = words;
@@ -223,13 +223,13 @@ impl Stepper<'_> {
     // The item happens, which may. Returns its line.
     fn tell(&mut self, alloc: Global, hub: &mut Hub, item: Item) -> Result<Vec<u8>, AllocError>
         requires none_out { NoneOut hub.old }
-        requires there { IsThere hub.old.course self.old }
+        requires there { FollowsTo hub.old.course self.old }
         requires allowed { is_allowed hub.old.course.world item ≡ true }
-        ensures told { IfOk result (λ told. TellsItem (told_of self.old.text.now self.old.forms.now) hub.old.course item hub.new.course told.items) }
+        ensures told { IfOk result (λ told. TellsItem (told_by_hand self.old.text.now self.old.forms.now) hub.old.course item hub.new.course told.items) }
         ensures adds { OnOk result (Adds hub.old.course item hub.new.course) }
         ensures budget { OnOk result (hub.new.budget ≡ hub.old.budget) }
         ensures none_out { NoneOut hub.new }
-        ensures there { OnOk result (IsThere hub.new.course self.new) }
+        ensures there { OnOk result (FollowsTo hub.new.course self.new) }
         ensures script { script_of self.new ≡ script_of self.old }
     {
         let mut told = Vec::new(alloc);
@@ -242,12 +242,12 @@ impl Stepper<'_> {
     // The item happens, which may.
     fn go(&mut self, alloc: Global, hub: &mut Hub, item: Item) -> Result<Reply, AllocError>
         requires none_out { NoneOut hub.old }
-        requires there { IsThere hub.old.course self.old }
+        requires there { FollowsTo hub.old.course self.old }
         requires allowed { is_allowed hub.old.course.world item ≡ true }
         ensures goes { IfOk result (λ reply. Goes (script_of self.old) hub.old item hub.new reply.text.items) }
         ensures on { IfOk result (λ reply. reply.ends ≡ false) }
         ensures none_out { NoneOut hub.new }
-        ensures there { IfOk result (λ reply. IsThere hub.new.course self.new) }
+        ensures there { IfOk result (λ reply. FollowsTo hub.new.course self.new) }
         ensures script { script_of self.new ≡ script_of self.old }
     {
         let before = printed_len(hub);
@@ -264,11 +264,11 @@ impl Stepper<'_> {
     // The item happens that the answer names, if it names one.
     fn go_on(&mut self, alloc: Global, hub: &mut Hub, what: Typed) -> Result<Reply, AllocError>
         requires none_out { NoneOut hub.old }
-        requires there { IsThere hub.old.course self.old }
-        ensures moves { IfOk result (λ reply. Moves (script_of self.old) what (picks.item_typed hub.old.course.world hub.old.course.items what) hub.old hub.new reply.text.items) }
+        requires there { FollowsTo hub.old.course self.old }
+        ensures moves { IfOk result (λ reply. TakesNamed (script_of self.old) what (picks.item_typed hub.old.course.world hub.old.course.items what) hub.old hub.new reply.text.items) }
         ensures on { IfOk result (λ reply. reply.ends ≡ false) }
         ensures none_out { NoneOut hub.new }
-        ensures there { IfOk result (λ reply. IsThere hub.new.course self.new) }
+        ensures there { IfOk result (λ reply. FollowsTo hub.new.course self.new) }
         ensures script { script_of self.new ≡ script_of self.old }
     {
         let named = item_typed(alloc, hub, what)?;
@@ -291,7 +291,7 @@ impl Stepper<'_> {
         ensures undoes { IfOk result (λ reply. Undoes (script_of self.old) hub.old hub.new reply.text.items) }
         ensures on { IfOk result (λ reply. reply.ends ≡ false) }
         ensures none_out { NoneOut hub.new }
-        ensures there { IfOk result (λ reply. IsThere hub.new.course self.new) }
+        ensures there { IfOk result (λ reply. FollowsTo hub.new.course self.new) }
         ensures script { script_of self.new ≡ script_of self.old }
     {
         let told = undone(alloc, hub.schedule().len())?;
@@ -307,11 +307,11 @@ impl Stepper<'_> {
     // The last item is undone, if there is one.
     fn undo_last(&mut self, alloc: Global, hub: &mut Hub) -> Result<Reply, AllocError>
         requires none_out { NoneOut hub.old }
-        requires there { IsThere hub.old.course self.old }
+        requires there { FollowsTo hub.old.course self.old }
         ensures undoes { IfOk result (λ reply. UndoesLast hub.old.course.items (script_of self.old) hub.old hub.new reply.text.items) }
         ensures on { IfOk result (λ reply. reply.ends ≡ false) }
         ensures none_out { NoneOut hub.new }
-        ensures there { IfOk result (λ reply. IsThere hub.new.course self.new) }
+        ensures there { IfOk result (λ reply. FollowsTo hub.new.course self.new) }
         ensures script { script_of self.new ≡ script_of self.old }
     {
         let count = hub.schedule().len();
@@ -327,10 +327,10 @@ impl Stepper<'_> {
     // What is done at an answer.
     fn react(&mut self, alloc: Global, hub: &mut Hub, what: Typed) -> Result<Reply, AllocError>
         requires none_out { NoneOut hub.old }
-        requires there { IsThere hub.old.course self.old }
-        ensures does { IfOk result (λ reply. Does (script_of self.old) what hub.old reply.ends hub.new reply.text.items) }
+        requires there { FollowsTo hub.old.course self.old }
+        ensures does { IfOk result (λ reply. DoneAt (script_of self.old) what hub.old reply.ends hub.new reply.text.items) }
         ensures none_out { NoneOut hub.new }
-        ensures there { IfOk result (λ reply. IsThere hub.new.course self.new) }
+        ensures there { IfOk result (λ reply. FollowsTo hub.new.course self.new) }
         ensures script { script_of self.new ≡ script_of self.old }
     {
         match what {
@@ -378,10 +378,10 @@ impl Stepper<'_> {
     /// Out of memory. The item may have happened.
     pub fn answer(&mut self, alloc: Global, hub: &mut Hub, line: &[u8]) -> Result<Reply, AllocError>
         requires none_out { NoneOut hub.old }
-        requires there { IsThere hub.old.course self.old }
-        ensures answers { IfOk result (λ reply. Answers (script_of self.old) hub.old line.now reply.ends hub.new reply.text.items) }
+        requires there { FollowsTo hub.old.course self.old }
+        ensures answers { IfOk result (λ reply. AnswersLine (script_of self.old) hub.old line.now reply.ends hub.new reply.text.items) }
         ensures none_out { NoneOut hub.new }
-        ensures there { IfOk result (λ reply. IsThere hub.new.course self.new) }
+        ensures there { IfOk result (λ reply. FollowsTo hub.new.course self.new) }
         ensures script { script_of self.new ≡ script_of self.old }
     {
         let what = typed_from(alloc, line)?;

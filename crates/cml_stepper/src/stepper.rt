@@ -3,7 +3,7 @@
 ghost use Rattle.std.specs.Prelude.{◌≡◌, map};
 ghost use Rattle.cml_narrative.specs.Tellers.{tale_of};
 ghost use Rattle.cml_phrase.specs.Spots.{all_places};
-ghost use Rattle.cml_stepper.specs.Tellings.{told_of};
+ghost use Rattle.cml_stepper.specs.Tellings.{told_by_hand};
 
 use cml_narrative::Narrator;
 use cml_phrase::Place;
@@ -19,5 +19,5 @@ pub struct Stepper<'a> {
     pub(crate) places: Vec<Vec<Place>>,
     pub(crate) narrator: Narrator<'a>,
     ghost placed: { map (λ own. own.items) places.items ≡ all_places text.now forms.now },
-    ghost tells: { tale_of narrator ≡ told_of text.now forms.now },
+    ghost tells: { tale_of narrator ≡ told_by_hand text.now forms.now },
 }

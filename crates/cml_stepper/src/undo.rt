@@ -4,7 +4,7 @@ ghost use Rattle.std.specs.Prelude.{◌≡◌, ◌≤◌, ◌∷◌, ◌++◌, I
 ghost use Rattle.cml_hub.specs.Kept.{NoneOut};
 ghost use Rattle.cml_hub.specs.Runs.{is_allowed};
 ghost use Rattle.cml_narrative.specs.Tellers.{tale_of, Knows};
-ghost use Rattle.cml_stepper.specs.Hands.{script_of, IsThere};
+ghost use Rattle.cml_stepper.specs.Hands.{script_of, FollowsTo};
 ghost use Rattle.cml_stepper.specs.Replies.{LeadsBack};
 
 use crate::stepper::Stepper;
@@ -104,7 +104,7 @@ impl Stepper<'_> {
         requires { NoneOut hub.old }
         ensures back { OnOk result (LeadsBack hub.old hub.new) }
         ensures none_out { NoneOut hub.new }
-        ensures there { OnOk result (IsThere hub.new.course self.new) }
+        ensures there { OnOk result (FollowsTo hub.new.course self.new) }
         ensures script { script_of self.new ≡ script_of self.old }
         ensures err { OnErr result (hub.new ≡ hub.old) }
     {

@@ -1,5 +1,5 @@
 use Rattle.std.proofs.Common.{subst}
-use Rattle.cml_stepper.specs.Questions.{ByHand, Asks}
+use Rattle.cml_stepper.specs.Questions.{ByHand, IsQuestion}
 use Rattle.cml_stepper.proofs.ReplyLemmas.{goes_said}
 use Rattle.cml_stepper.proofs.stepper.Stepper.go.Goals as goal
 
@@ -13,6 +13,6 @@ returns-clause-goes c =
       told = c.in_ok-text.text.items;
       tells = t.told;
       asked = asked;
-      asks = subst (λ (s : ByHand). Asks s c.tell.new.hub asked) t.script c.in_ok-question.ensures;
+      asks = subst (λ (s : ByHand). IsQuestion s c.tell.new.hub asked) t.script c.in_ok-question.ensures;
       said_is = goes_said c.in_ok-text.text.items _ asked c.in_ok-said.said.items c.args.hub.now.course c.tell.new.hub.course c.printed_len-before.result c.printed_len-before.ensures c.in_ok-push_printed.ensures c.in_ok-said.ensures;
     }
