@@ -1,7 +1,7 @@
 //! Runs that are gone through by hand: all that is said at each answer, written by hand.
 
 ghost use Rattle.cml_hub.specs.Kept.{NoneOut};
-ghost use Rattle.cml_stepper.specs.Hands.{IsThere};
+ghost use Rattle.cml_stepper.specs.Hands.{FollowsTo};
 
 use crate::making::{MEMORY, forms, program};
 use cml_hub::Hub;
@@ -45,7 +45,7 @@ fn said_to(
     typed: &str,
 ) -> Vec<u8>
     requires none_out { NoneOut hub.old }
-    requires there { IsThere hub.old.course stepper.old }
+    requires there { FollowsTo hub.old.course stepper.old }
 {
     let mut said = stepper.ask(rt.alloc(), hub).expect(rt, MEMORY);
     for line in typed.lines() {
