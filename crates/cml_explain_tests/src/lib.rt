@@ -21,4 +21,6 @@ mod scripts;
 #[cfg(test)]
 mod shrinkings;
 #[cfg(test)]
+mod steppings;
+#[cfg(test)]
 mod texts;
