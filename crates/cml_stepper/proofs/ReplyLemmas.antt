@@ -26,7 +26,7 @@ use Rattle.cml_stepper.specs.declared.line.Typed.{Typed}
 use Rattle.cml_stepper.specs.declared.line.Typed.TheVariants as typed
 use Rattle.cml_stepper.specs.Picks.{row_numbered, next_ready, next_named, only_row, number_past, last_turned, turn_of_number, item_typed}
 use Rattle.cml_stepper.specs.Questions.{ByHand, TellsEnd, listed_rows}
-use Rattle.cml_stepper.specs.Replies.{marked, printed_by, Goes, StaysSaid, Undoes, UndoesLast, TakesNamed, DoneAt, no_row_line, no_next_line, no_item_line, unfit_line, list_words, list_text}
+use Rattle.cml_stepper.specs.Replies.{marked, printed_by, HappensSaid, StaysSaid, Undoes, UndoesLast, TakesNamed, DoneAt, no_row_line, no_next_line, no_item_line, unfit_line, list_words, list_text}
 use Rattle.cml_stepper.proofs.QuestionLemmas.{first_listed}
 
 -- ---- what is said
@@ -189,7 +189,7 @@ goes_said told text asked said old new n len printed joined =
 pub stays_as : (old new : Kept) (words other said : List ℕ) → words ≡ other → StaysSaid old new words said → StaysSaid old new other said
 stays_as old new words other said is stays = subst (λ w. StaysSaid old new w said) is stays
 
-pub moves_some : (s : ByHand) (what : Typed) (old new : Kept) (said : List ℕ) (item : Item) (o : Option Item) → Some item ≡ o → Goes s old item new said → TakesNamed s what o old new said
+pub moves_some : (s : ByHand) (what : Typed) (old new : Kept) (said : List ℕ) (item : Item) (o : Option Item) → Some item ≡ o → HappensSaid s old item new said → TakesNamed s what o old new said
 moves_some s what old new said item o is goes = subst (λ x. TakesNamed s what x old new said) is goes
 
 pub moves_none : (s : ByHand) (what : Typed) (old new : Kept) (words said : List ℕ) (o : Option Item) → None ≡ o → words ≡ unfit_line s.forms old.course.world what → StaysSaid old new words said

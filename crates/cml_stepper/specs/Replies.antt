@@ -29,7 +29,7 @@ abbrev pub printed_by : PlainCourse → PlainCourse → List ℕ
 printed_by old new = marked (drop (length old.output) new.output)
 
 -- The item happened: what it did was said, then what it added to the output, and then what can happen next.
-pub record Goes (s : ByHand) (old : Kept) (item : Item) (new : Kept) (said : List ℕ) : Type 0 where
+pub record HappensSaid (s : ByHand) (old : Kept) (item : Item) (new : Kept) (said : List ℕ) : Type 0 where
   pub adds : Adds old.course item new.course
   pub budget : new.budget ≡ old.budget
   pub told : List ℕ
@@ -100,7 +100,7 @@ list_text forms c (suc n) = list_words forms c (suc n) (drop n (scan c.world))
 
 -- the item that an answer names happened; where it names none, nothing did, and the answer to it says why
 abbrev pub TakesNamed : ByHand → Typed → Option Item → Kept → Kept → List ℕ → Type 0
-TakesNamed s what (Some item) old new said = Goes s old item new said
+TakesNamed s what (Some item) old new said = HappensSaid s old item new said
 TakesNamed s what None old new said = StaysSaid old new (unfit_line s.forms old.course.world what) said
 
 -- what is done at an answer; it ends where it says so

@@ -10,7 +10,7 @@ ghost use Rattle.cml_scan.specs.Scan.{scan};
 ghost use Rattle.cml_stepper.specs.Hands.{script_of, FollowsTo};
 ghost use Rattle.cml_stepper.specs.Tellings.{told_by_hand};
 ghost use Rattle.cml_stepper.specs.Replies as spec;
-ghost use Rattle.cml_stepper.specs.Replies.{AnswersLine, DoneAt, Goes, StaysSaid, Undoes, UndoesLast, TakesNamed};
+ghost use Rattle.cml_stepper.specs.Replies.{AnswersLine, DoneAt, HappensSaid, StaysSaid, Undoes, UndoesLast, TakesNamed};
 ghost use Rattle.cml_stepper.specs.Picks as picks;
 
 use crate::line::{Typed, typed_from};
@@ -244,7 +244,7 @@ impl Stepper<'_> {
         requires none_out { NoneOut hub.old }
         requires there { FollowsTo hub.old.course self.old }
         requires allowed { is_allowed hub.old.course.world item ≡ true }
-        ensures goes { IfOk result (λ reply. Goes (script_of self.old) hub.old item hub.new reply.text.items) }
+        ensures goes { IfOk result (λ reply. HappensSaid (script_of self.old) hub.old item hub.new reply.text.items) }
         ensures on { IfOk result (λ reply. reply.ends ≡ false) }
         ensures none_out { NoneOut hub.new }
         ensures there { IfOk result (λ reply. FollowsTo hub.new.course self.new) }
