@@ -1,5 +1,6 @@
 -- What `draw` did with what lies under its names.
 use Rattle.std.proofs.Common.{◌≡◌, ◌+◌, ◌≤◌, ℕ, suc, List, [], ◌∷◌, ◌++◌, true, take, length, length-append, inl, inr, arith, refl, ap, sym, ◌∙◌, subst}
+use Rattle.std.proofs.lemmas.List.{length-take}
 use Rattle.cml_check.specs.Syntax.{PlainItem}
 use Rattle.cml_draw.specs.Draws.{IsNotDrawn}
 use Rattle.cml_draw.specs.declared.fault.DrawFault.{DrawFault}
@@ -30,7 +31,7 @@ use Rattle.cml_host.proofs.ScriptLemmas.{lies_there, whole_plan}
 -- ---- why there is no picture of these items
 
 length_take : (n : ℕ) (xs : List Item) → length (take n xs) ≤ length xs
-length_take n xs = search rules
+length_take n xs = omega (arith, length-take n xs)
 
 -- the fault speaks of one of the items
 pub fault_of : (tale : Tale) (start : PlainCourse) (items : List Item) (from to : ℕ) (end : PlainCourse) (why : DrawFault) → start.items ≡ [] →

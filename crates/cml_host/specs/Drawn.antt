@@ -1,5 +1,5 @@
 -- The command `draw`: the picture of the schedule of a script.
-use Rattle.std.specs.Prelude.{◌≡◌, ◌⊎◌, ℕ, ◌-◌, ◌≤◌, List, codes, length, take, Option, Some, None, slice_get}
+use Rattle.std.specs.Prelude.{◌≡◌, ◌⊎◌, ℕ, ◌-◌, ◌≤◌, List, codes, length, take, Option, Some, None, slice_get, true}
 use Rattle.cml_check.specs.Syntax.{PlainItem}
 use Rattle.cml_draw.specs.Draws.{Draws, HasUnfit, IsTooLong}
 use Rattle.cml_draw.specs.declared.fault.DrawFault.{DrawFault}
