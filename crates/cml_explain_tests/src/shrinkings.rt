@@ -172,7 +172,7 @@ fn counts_items_and_commits(rt: HostRuntime) {
     );
     let new = scheduled(&rt, "swap 1 0 2 0\n");
     let said = counted(&rt, old.items.as_slice(), new.items.as_slice());
-    assert!(rt; said.as_slice() == b"5 items, 3 commits -> 1 item, 1 commit\n");
+    assert!(rt; said.as_slice() == b"5 items, 3 commits -> 1 item, 1 commit\n".as_slice());
     drop(said);
     drop(new);
     drop(old);
