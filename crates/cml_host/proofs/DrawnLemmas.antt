@@ -1,5 +1,5 @@
 -- What `draw` did with what lies under its names.
-use Rattle.std.proofs.Common.{◌≡◌, ◌+◌, ◌≤◌, ℕ, suc, List, [], ◌∷◌, ◌++◌, true, take, length, length-append, inl, inr, arith, refl, ap, sym, ◌∙◌, subst}
+use Rattle.std.proofs.Common.{◌≡◌, ◌+◌, ◌≤◌, ℕ, List, [], ◌∷◌, true, take, length, length-append, inl, inr, arith, refl, ap, ◌∙◌, subst}
 use Rattle.std.proofs.lemmas.List.{length-take}
 use Rattle.cml_check.specs.Syntax.{PlainItem}
 use Rattle.cml_draw.specs.Draws.{IsNotDrawn}

@@ -1,5 +1,5 @@
 -- What was shown, told and saved of many runs, one thing after another.
-use Rattle.std.proofs.Common.{◌≡◌, ◌∙◌, ◌⊎◌, ◌+◌, ◌++◌, ◌∷◌, [], ℕ, suc, Bool, true, false, List, Option, Some, None, Result, Ok, Err, OnErr, IfErr, IfOk, ◌<◌, get_or, take, drop, drop-cons, length, refl, sym, ap, subst, inl, inr, add-one, add-zero, append-nil, append_assoc, arith}
+use Rattle.std.proofs.Common.{◌≡◌, ◌∙◌, ◌+◌, ◌++◌, ◌∷◌, [], ℕ, suc, Bool, true, false, List, Option, Some, None, Result, Ok, Err, OnErr, ◌<◌, get_or, take, drop, drop-cons, length, refl, sym, ap, subst, inl, inr, add-one, add-zero, append-nil, arith}
 use Rattle.std.specs.Prelude.{slice_get}
 use Rattle.std.specs.Fmt.{decimal}
 use Rattle.std.specs.Option.{option_map_or}
@@ -15,7 +15,7 @@ use Rattle.cml_explore.specs.declared.explored.Asked.{Asked}
 use Rattle.cml_schedule.specs.Written.{schedule_text}
 use Rattle.cml_schedule.specs.declared.item.Item.{Item}
 use Rattle.cml_stream.specs.Counts.{counted}
-use Rattle.cml_stream.specs.Streams.{Counted, Stream, stream, counted_stream, Says, Takes, TakesStart}
+use Rattle.cml_stream.specs.Streams.{Counted, stream, counted_stream, Says, Takes, TakesStart}
 use Rattle.cml_words.specs.Words.{saved_name}
 use Rattle.cml_words.specs.declared.ExploreOptions.{ExploreOptions}
 use Rattle.cml_host.specs.Exploring.{AreSaved, AsksForRuns, ClassesKept, File, FilesKept, IsNotSaved, LeavesAll, MadeAll, MadeErased, MadeTold, NotShown, ProgramExplored, RanOut, RunsTold, ScriptExplored, SomeSaved, StopsErased, StopsShowing, UnsavedTold, erased, erasure, file_of, judged, shortest_of, files_from, saved_start, shown_in_all, shown_at, shown_next, shown_so_far, shown_to}

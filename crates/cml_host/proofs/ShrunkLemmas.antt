@@ -1,5 +1,5 @@
 -- What `shrink` did with what lies under its names.
-use Rattle.std.proofs.Common.{◌≡◌, ◌+◌, ℕ, List, Option, Some, true, take, inl, inr, sym, subst}
+use Rattle.std.proofs.Common.{◌≡◌, ◌+◌, ℕ, List, Option, Some, true, take, inl, inr, subst}
 use Rattle.std.specs.String.{string_bytes}
 use Rattle.cml_check.specs.Sizes.{size_of}
 use Rattle.cml_check.specs.Syntax.{PlainItem}

@@ -14,7 +14,7 @@ use Rattle.cml_words.specs.declared.PartOptions.{PartOptions}
 use Rattle.cml_host.specs.Closed.{PlainSubject, script_as_subject}
 use Rattle.cml_host.specs.Narrated.{IsUnfit, Opens, tale_for}
 use Rattle.cml_host.specs.Replaying.{IsSchedule, IsItemExplained}
-use Rattle.cml_host.specs.Said.{IsText, MemoryRan, RefusedRan}
+use Rattle.cml_host.specs.Said.{IsText, RefusedRan}
 use Rattle.cml_host.specs.Scripts.{PlainScript, IsOpened, NoScriptRan}
 use Rattle.cml_host.specs.Stores.{Content, MayBeRefused}
 use Rattle.cml_host.specs.Written.{TextRan}

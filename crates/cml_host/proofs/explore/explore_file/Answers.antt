@@ -1,7 +1,6 @@
 use Rattle.std.proofs.Common.{rules, inl, inr, true}
 use Rattle.cml_stream.specs.Streams.{counted_stream}
 use Rattle.cml_host.specs.Scripts.{plain_script}
-use Rattle.cml_host.specs.Stores.{Shelf}
 use Rattle.cml_host.proofs.ExploringLemmas.{explored_behind}
 use Rattle.cml_host.proofs.RanLemmas.{not_scripted}
 use Rattle.cml_host.proofs.explore.explore_file.Goals as goal

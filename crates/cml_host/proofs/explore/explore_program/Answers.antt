@@ -4,7 +4,6 @@ use Rattle.cml_host.specs.Exploring.{StopsErased}
 use Rattle.cml_host.specs.Scripts.{plain_script}
 use Rattle.cml_host.specs.Stores.{Shelf}
 use Rattle.cml_host.specs.declared.explain.Halt.{Halt}
-use Rattle.cml_host.specs.declared.explain.Halt.TheVariants.{Memory}
 use Rattle.cml_host.proofs.ExploringLemmas.{ran_out_of_runs, says_first, told_of_made}
 use Rattle.cml_host.proofs.explore.explore_program.Goals as goal
 

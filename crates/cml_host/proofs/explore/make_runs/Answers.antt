@@ -1,4 +1,4 @@
-use Rattle.std.proofs.Common.{rules, ◌≡◌, ◌∙◌, Bool, Err, true, false, subst, arith}
+use Rattle.std.proofs.Common.{rules, ◌≡◌, ◌∙◌, Bool, Err, false, subst, arith}
 use Rattle.cml_explore.specs.Explored.{HasMade}
 use Rattle.cml_host.proofs.ExploringLemmas.{shown_on, stops_next}
 use Rattle.cml_host.proofs.StoryLemmas.{if_err}

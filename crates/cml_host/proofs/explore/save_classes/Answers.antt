@@ -1,4 +1,4 @@
-use Rattle.std.proofs.Common.{rules, ◌≡◌, ◌<◌, Err, arith, get_or, length, refl, slice_index}
+use Rattle.std.proofs.Common.{rules, ◌≡◌, ◌<◌, Err, arith, length, refl}
 use Rattle.cml_explore.specs.ClassViews.{plain_class}
 use Rattle.cml_host.proofs.ExploringLemmas.{saved_next, some_saved}
 use Rattle.cml_host.proofs.StoryLemmas.{if_err}
