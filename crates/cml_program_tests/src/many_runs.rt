@@ -12,7 +12,8 @@ const LOCKS: &str =
     "(fn lock (a b)\n  (let x (sync (mtake a)))\n  (yield)\n  (let y (sync (mtake b))))\n(fn main ()\n  (let a (mvar 0))\n  (let b (mvar 0))\n  (spawn lock a b)\n  (spawn lock b a))";
 
 // What is said of these runs by the seeds 1 and 2.
-const BOTH_LOCKED: &str = "2 runs of a.cml, seeds 1 to 2\n2  quiet, 2 wait   1 output    first: seed 1, 13 items\n       thread 1 lock((mvar 0) (mvar 1)) at 4:3: take M-variable 1, which is empty; last taken by thread 2 lock((mvar 1) (mvar 0))\n       thread 2 lock((mvar 1) (mvar 0)) at 4:3: take M-variable 0, which is empty; last taken by thread 1 lock((mvar 0) (mvar 1))\n";
+const BOTH_LOCKED: &str =
+    "2 runs of a.cml, seeds 1 to 2\n2  quiet, 2 wait   1 output    first: seed 1, 13 items\n       thread 1 lock((mvar 0) (mvar 1)) at 4:3: take M-variable 1, which is empty; last taken by thread 2 lock((mvar 1) (mvar 0))\n       thread 2 lock((mvar 1) (mvar 0)) at 4:3: take M-variable 0, which is empty; last taken by thread 1 lock((mvar 0) (mvar 1))\n";
 
 // The put fails, unless the take comes first.
 const PUT: &str =
@@ -143,7 +144,10 @@ const CASES: &[Case] = &[
     Case {
         name: "a schedule that is as short as it can be",
         words: "shrink a.cml S",
-        files: &[("a.cml", ONE), ("S", "schedule 1 100\nturn 0\nturn 0\nend\n")],
+        files: &[
+            ("a.cml", ONE),
+            ("S", "schedule 1 100\nturn 0\nturn 0\nend\n"),
+        ],
         output: "schedule 2 100 1 1\nturn 0\nturn 0\nend\n",
         errors: "2 items, 0 commits -> 2 items, 0 commits\n",
         status: 0,
@@ -153,10 +157,10 @@ const CASES: &[Case] = &[
         name: "a schedule that goes round",
         words: "shrink a.cml S --tries 9",
         files: &[
-            ("a.cml", "(fn main ()\n  (while true (yield)))"),
+            ("a.cml", "(fn main ()\n  (let x 1)\n  (while true (yield)))"),
             ("S", "schedule 1 100\nturn 0\nturn 0\nturn 0\nend\n"),
         ],
-        output: "schedule 2 100 1 2\nturn 0\nend\n",
+        output: "schedule 2 100 1 3\nturn 0\nend\n",
         errors: "3 items, 0 commits -> 1 item, 0 commits\n",
         status: 0,
         saved: &[],
