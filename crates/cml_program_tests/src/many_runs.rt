@@ -263,7 +263,9 @@ fn a_schedule_of_each_class_is_saved(rt: HostRuntime) -> Result<(), Fail> {
     assert!(rt; other.is_err());
     drop(other);
     let again = left_by(&rt, alloc, "replay a.cml S-1.schedule", "", &mut store)?;
-    assert!(rt; again.output.as_slice() == b"end quiet pending 2\n" && again.status == 0);
+    assert!(rt;
+        again.output.as_slice() == b"end quiet pending 2\n".as_slice() && again.status == 0
+    );
     drop(again);
     drop(store);
     Ok(())
@@ -279,7 +281,7 @@ fn a_save_that_is_refused_is_told(rt: HostRuntime) -> Result<(), Fail> {
     assert!(rt; left.output.as_slice() == BOTH_LOCKED.as_bytes());
     assert!(rt;
         left.errors.as_slice()
-            == b"cannot write S-1.schedule\nS-1.schedule: Read-only file system\n"
+            == b"cannot write S-1.schedule\nS-1.schedule: Read-only file system\n".as_slice()
     );
     assert!(rt; left.status == 1);
     drop(left);
