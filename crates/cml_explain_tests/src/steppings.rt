@@ -49,10 +49,11 @@ fn said_to(
 {
     let mut said = stepper.ask(rt.alloc(), hub).expect(rt, MEMORY);
     for line in typed.lines() {
-        let reply = stepper.answer(rt.alloc(), hub, line.as_bytes()).expect(
-            rt, MEMORY,
-        );
-        said.extend_from_slice(reply.text.as_slice()).expect(rt, MEMORY);
+        let reply = stepper
+            .answer(rt.alloc(), hub, line.as_bytes())
+            .expect(rt, MEMORY);
+        said.extend_from_slice(reply.text.as_slice())
+            .expect(rt, MEMORY);
         if reply.ends {
             break;
         }

@@ -2,7 +2,11 @@
 //! give for these commands.
 
 use crate::run::{Run, gives};
+use std::alloc::Global;
+use std::process::Abort;
+use std::sync::Wait;
 use std::test::Fail;
+use std::thread::Threads;
 
 /// The help of the program.
 pub const HELP: &str =
@@ -251,6 +255,10 @@ For more information, try '--help'.
         errors: "error: invalid value '0' for '--tries <N>': 0 is not in 1..=1000000000\n\nFor more information, try '--help'.\n",
         status: 1,
     },
+];
+
+// More of them.
+const MORE_WORDS: &[Asked] = &[
     Asked {
         words: "shrink x.cml y --tries 1000000000",
         output: "",
@@ -480,9 +488,13 @@ For more information, try '--help'.
     },
 ];
 
-#[test]
-fn words(rt: HostRuntime) -> Result<(), Fail> {
-    for asked in WORDS {
+// Gives the program each of these words.
+fn gives_each(
+    rt: &(impl Abort + Threads + Wait + Sync),
+    alloc: Global,
+    all: &[Asked],
+) -> Result<(), Fail> {
+    for asked in all {
         let run = Run {
             words: asked.words,
             input: "spawn\n",
@@ -490,7 +502,17 @@ fn words(rt: HostRuntime) -> Result<(), Fail> {
             errors: asked.errors,
             status: asked.status,
         };
-        gives(&rt, rt.alloc(), asked.words, run)?;
+        gives(rt, alloc, asked.words, run)?;
     }
     Ok(())
+}
+
+#[test]
+fn words(rt: HostRuntime) -> Result<(), Fail> {
+    gives_each(&rt, rt.alloc(), WORDS)
+}
+
+#[test]
+fn more_words(rt: HostRuntime) -> Result<(), Fail> {
+    gives_each(&rt, rt.alloc(), MORE_WORDS)
 }
