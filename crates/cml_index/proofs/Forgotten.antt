@@ -1,30 +1,12 @@
 -- What was told of a light that is not lit is forgotten, and an empty lane with it.
-use Rattle.std.proofs.Common.{◌≡◌, Bool, true, false, not, ◌||◌, cond, List, [], ◌∷◌, None, refl, ap, sym, subst, ◌∙◌}
+use Rattle.std.proofs.Common.{◌≡◌, Bool, true, false, not, ◌||◌, cond, List, [], ◌∷◌, refl, ap, sym, ◌∙◌}
 use Rattle.std.specs.List.{All}
-use Rattle.std.specs.Map.{lookup}
-use Rattle.std.specs.Option.{option_map_or}
 use Rattle.std.proofs.lemmas.List.Elements.{All-head, All-tail}
 use Rattle.cml_scan.specs.declared.object.Light.{Light}
 use Rattle.cml_scan.specs.Order.{Every}
 use Rattle.cml_scan.specs.Table.{same_light, has_light, lit_after}
 use Rattle.cml_scan.proofs.Telling.{same_light_is, same_light_self}
 use Rattle.cml_scan.proofs.Ordered.{Every-weaker}
-use Rattle.cml_index.specs.declared.slot.Slot.{Slot}
-use Rattle.cml_index.specs.declared.slot.Slot.TheVariants.{Waiters}
-use Rattle.cml_index.specs.Slot.{same_slot}
-use Rattle.cml_index.specs.Posts.{told}
-use Rattle.cml_index.proofs.Walks.{same_slot_is}
-
--- a light that is not lit is told the same without its place
-pub told_without : (old new : List (Slot × Bool)) (l : Light) → ((k : Slot) → lookup (same_slot k) new ≡ cond (same_slot (Waiters l) k) None (lookup (same_slot k) old)) → told old l ≡ false → (m : Light) → told new m ≡ told old m
-told_without old new l find out m = at (same_slot (Waiters l) (Waiters m)) refl
-  where
-    found : (b : Bool) → same_slot (Waiters l) (Waiters m) ≡ b → told new m ≡ option_map_or (λ x. x) (cond b None (lookup (same_slot (Waiters m)) old)) false
-    found b e = ap (λ r. option_map_or (λ (x : Bool). x) r false) (find (Waiters m) ∙ ap (λ c. cond c None (lookup (same_slot (Waiters m)) old)) e)
-
-    at : (b : Bool) → same_slot (Waiters l) (Waiters m) ≡ b → told new m ≡ told old m
-    at true e = found true e ∙ sym (subst (λ s. option_map_or (λ (x : Bool). x) (lookup (same_slot s) old) false ≡ false) (same_slot_is (Waiters l) (Waiters m) e) out)
-    at false e = found false e
 
 or_true : (a b : Bool) → b ≡ true → a || b ≡ true
 or_true true b e = refl

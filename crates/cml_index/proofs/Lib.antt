@@ -14,6 +14,7 @@ mod Forgotten
 mod InPlace
 mod Stood
 mod Spots
+mod Flagged
 mod Objects
 mod OneObject
 mod Seated

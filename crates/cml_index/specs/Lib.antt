@@ -6,5 +6,6 @@ pub mod Slots
 pub mod Live
 pub mod Seats
 pub mod Posts
+pub mod Told
 pub mod Heads
 pub mod Cores

@@ -1,8 +1,6 @@
 //! What was told of lights.
 
-ghost use Rattle.std.specs.Prelude.{◌≡◌, ◌≤◌, ◌+◌, ◌*◌, ◌++◌, Bool, true, false, not, if◌then◌else◌, length, filter, drop, IfOk, OnOk, OnErr, IsTrue, IsOk, is_some};
-ghost use Rattle.std.specs.Map.{lookup};
-ghost use Rattle.cml_value.specs.Group.{scopes, nacks_of};
+ghost use Rattle.std.specs.Prelude.{◌≡◌, ◌≤◌, ◌+◌, ◌*◌, [], true, false, not, if◌then◌else◌, length, filter, OnOk, IsOk};
 ghost use Rattle.cml_scan.specs.declared.object.Light.{Light};
 ghost use Rattle.cml_scan.specs.Light.{lit_by};
 ghost use Rattle.cml_scan.specs.Table.{same_light};
@@ -11,24 +9,45 @@ ghost use Rattle.cml_index.specs.Slot.{same_slot};
 ghost use Rattle.cml_index.specs.Posts as spec;
 ghost use Rattle.cml_index.specs.declared.slot.Slot.TheVariants.{Waiters};
 
-use crate::slot::Slot;
+use crate::told::Told;
 use cml_channel::Tally;
 use cml_scan::{Light, light};
 use cml_value::{Base, BaseKind};
-use indexmap::IndexMap;
 use std::alloc::{AllocError, Global};
+use std::marker::Model;
 
 // What was told last of each light of which something was told, or for which a place is reserved.
-pub(crate) type Flags = IndexMap<Slot, bool>;
+#[derive(Drop)]
+pub(crate) struct Flags {
+    told: Told,
+}
+
+impl Model for Flags {
+    ghost use Rattle.cml_index.specs.Told.{PlainFlags, all_told, flags_code};
+
+    ghost Value = { PlainFlags };
+
+    ghost coded = { flags_code };
+
+    ghost view = { λ x. record { entries = all_told x.told } };
+}
+
+impl Flags {
+    // Nothing was told.
+    pub(crate) fn new(alloc: Global) -> Flags
+        ensures { result.entries ≡ [] }
+    {
+        Flags {
+            told: Told::new(alloc),
+        }
+    }
+}
 
 // Whether the light is lit.
 pub(crate) fn is_lit(flags: &Flags, light: Light) -> bool
     ensures { result ≡ spec.told flags.now.entries light }
 {
-    match flags.get(&Slot::Waiters(light)) {
-        Some(lit) => *lit,
-        None => false,
-    }
+    flags.told.is_lit(light)
 }
 
 // Whether the base event can be taken alone: one light is examined.
@@ -67,12 +86,7 @@ pub(crate) fn reserve(flags: &mut Flags, light: Light) -> Result<(), AllocError>
     ensures there { OnOk result (spec.is_named flags.new.entries (Waiters light) ≡ true) }
     ensures sure { spec.is_named flags.old.entries (Waiters light) ≡ true → IsOk result }
 {
-    let slot = Slot::Waiters(light);
-    if flags.contains_key(&slot) {
-        return Ok(());
-    }
-    flags.insert(slot, false)?;
-    Ok(())
+    flags.told.reserve(light)
 }
 
 // Tells of the light, and returns whether that was new. A light that is told to be lit has its place.
@@ -84,18 +98,10 @@ pub(crate) fn flip(flags: &mut Flags, light: Light, lit: bool) -> bool
         else spec.told flags.old.entries light) }
     ensures kept { spec.KeepsPlaces flags.old.entries flags.new.entries }
 {
-    let slot = Slot::Waiters(light);
-    match flags.get_mut(&slot) {
-        Some(flag) => {
-            let changed = *flag != lit;
-            *flag = lit;
-            changed
-        }
-        None => false,
-    }
+    flags.told.flip(light, lit)
 }
 
-// Forgets what was told of the light, which is not lit.
+// Forgets what was told of the light, which is not lit, if it is a tick. Of others there are no more than objects, and they stay.
 pub(crate) fn forget_light(flags: &mut Flags, light: Light)
     requires { spec.told flags.old.entries light ≡ false }
     ensures told { (m : Light) →
@@ -103,5 +109,7 @@ pub(crate) fn forget_light(flags: &mut Flags, light: Light)
     ensures kept { (k : Slot) → same_slot (Waiters light) k ≡ false →
         spec.is_named flags.new.entries k ≡ spec.is_named flags.old.entries k }
 {
-    flags.swap_remove(&Slot::Waiters(light));
+    if let Light::Alarm(tick) = light {
+        flags.told.forget(tick);
+    }
 }

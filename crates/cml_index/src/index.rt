@@ -8,7 +8,7 @@ ghost use Rattle.cml_scan.specs.Table.{changed, CanChange, IsNackOf, nacks_among
 ghost use Rattle.cml_index.specs.Posts as spec;
 
 use crate::entries::Entries;
-use crate::flags::is_lit_by;
+use crate::flags::{Flags, is_lit_by};
 use crate::lanes::Lanes;
 use crate::live::Live;
 use crate::state::{self, Core};
@@ -16,7 +16,6 @@ use crate::{heads, partners, rows};
 use cml_channel::{Tally, do_meet};
 use cml_scan::{Light, Meet, Place};
 use cml_value::{Group, Tid};
-use indexmap::IndexMap;
 use std::alloc::{AllocError, Global};
 use std::marker::Model;
 
@@ -48,7 +47,7 @@ impl OfferIndex {
         let entries = Entries::new(alloc);
         let lanes = Lanes::new(alloc);
         let live = Live::new(alloc);
-        let flags = IndexMap::new(alloc);
+        let flags = Flags::new(alloc);
         OfferIndex {
             core: Core {
                 entries,

@@ -19,6 +19,7 @@ mod sole;
 mod stand;
 mod state;
 mod table;
+mod told;
 
 pub use cml_channel::Tally;
 pub use index::OfferIndex;
