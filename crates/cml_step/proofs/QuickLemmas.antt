@@ -1,5 +1,5 @@
 -- Calls and returns within a run of steps.
-use Rattle.std.proofs.Common.{◌≡◌, ℕ, zero, suc, ◌+◌, ◌-◌, ◌<◌, Bool, true, false, nat_lt, List, [], ◌∷◌, ◌++◌, length, reverse, refl, ap, sym, ◌∙◌, subst, arith, get_or, Option, Some, None, Result, Ok, Err, slice_get}
+use Rattle.std.proofs.Common.{◌≡◌, ℕ, zero, suc, ◌+◌, ◌-◌, ◌<◌, Bool, true, nat_lt, List, [], ◌∷◌, ◌++◌, length, reverse, refl, ap, sym, ◌∙◌, subst, arith, Some, Ok, slice_get}
 use Rattle.std.specs.Prelude.{if◌then◌else◌}
 use Rattle.std.proofs.lemmas.Bool.Decides.{nat_tests}
 use Rattle.std.proofs.lemmas.List.{reverse-append}
@@ -7,7 +7,6 @@ use Rattle.cml_value.specs.Value.{PlainValue, function, values}
 use Rattle.cml_check.specs.Syntax.{PlainItem}
 use Rattle.cml_check.specs.InOrder.{arities}
 use Rattle.cml_check.specs.Heads.{takes}
-use Rattle.cml_step.specs.declared.call.Wait.{Wait}
 use Rattle.cml_step.specs.declared.call.Wait.TheVariants as wait
 use Rattle.cml_step.specs.declared.call.Call.{Call}
 use Rattle.cml_step.specs.declared.entry.Entry.TheVariants as entry
@@ -20,7 +19,7 @@ use Rattle.cml_step.specs.Variables.{bound}
 use Rattle.cml_step.specs.Machines.{PlainHeld, plain_held, name_count}
 use Rattle.cml_step.specs.Slices.{GoesIn}
 use Rattle.cml_step.specs.Stacks.{CallFits, EachBeneath, term_of}
-use Rattle.cml_step.specs.Steps.{PlainStep, goes_on, fails, ◌>>=◌, is_below_limit, pushed, next}
+use Rattle.cml_step.specs.Steps.{goes_on, fails, ◌>>=◌, is_below_limit, pushed}
 use Rattle.cml_step.specs.Terms.{Program, StackEntry, call, Term, max_entries, call_of}
 use Rattle.cml_step.proofs.AgreeLemmas.{called_agrees}
 use Rattle.cml_step.proofs.SliceLemmas.{goes_more}

@@ -1,5 +1,5 @@
 -- Calls that wait above others for the one that runs.
-use Rattle.std.specs.Prelude.{◌≡◌, ℕ, ◌+◌, ◌<◌, List, [], ◌∷◌, length}
+use Rattle.std.specs.Prelude.{ℕ, ◌+◌, ◌<◌, List, [], ◌∷◌, length}
 use Rattle.cml_check.specs.Syntax.{PlainItem}
 use Rattle.cml_step.specs.declared.call.Call.{Call}
 use Rattle.cml_step.specs.Calls.{entry_of}

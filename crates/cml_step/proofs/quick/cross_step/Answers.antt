@@ -1,7 +1,6 @@
-use Rattle.std.proofs.Common.{◌≡◌, ◌∷◌, ◌∙◌, Some, ap, refl, sym, rules, slice_get}
-use Rattle.cml_value.specs.Value.{unit}
+use Rattle.std.proofs.Common.{◌∷◌, ◌∙◌, ap, sym, rules}
 use Rattle.cml_step.specs.Callers.{calls_on}
-use Rattle.cml_step.specs.Calls.{entry_of, text_of, variables_of}
+use Rattle.cml_step.specs.Calls.{text_of, variables_of}
 use Rattle.cml_step.specs.Steps.{next, delivered}
 use Rattle.cml_step.proofs.CallLemmas.{steps_there, at_end}
 use Rattle.cml_step.proofs.StackLemmas.{fun_at}

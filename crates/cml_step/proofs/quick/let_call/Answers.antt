@@ -1,6 +1,5 @@
-use Rattle.std.proofs.Common.{refl}
 use Rattle.cml_step.specs.declared.call.Call.{Call}
-use Rattle.cml_step.proofs.QuickLemmas.{padded_entry, runs_fits}
+use Rattle.cml_step.proofs.QuickLemmas.{runs_fits}
 use Rattle.cml_step.proofs.quick.let_call.Goals as goal
 
 pub returns-clause-goes : goal.returns-clause-goes

@@ -1,9 +1,9 @@
-use Rattle.std.proofs.Common.{◌≡◌, ◌∷◌, ◌+◌, ◌<◌, List, ap, sym, ◌∙◌, subst, arith}
+use Rattle.std.proofs.Common.{◌∷◌, ◌+◌, ◌<◌, List, sym, subst, arith}
 use Rattle.cml_step.specs.declared.call.Call.{Call}
 use Rattle.cml_step.specs.Callers.{calls_on}
 use Rattle.cml_step.specs.Calls.{entry_of, text_of}
 use Rattle.cml_step.specs.Slices.{GoesIn}
-use Rattle.cml_step.specs.Terms.{Term, StackEntry}
+use Rattle.cml_step.specs.Terms.{StackEntry}
 use Rattle.cml_step.proofs.SliceLemmas.{goes_more}
 use Rattle.cml_step.proofs.QuickLemmas.{goes_then}
 use Rattle.cml_step.proofs.quick.quick_run.Goals as goal

@@ -1,4 +1,4 @@
-use Rattle.std.proofs.Common.{◌≡◌, ◌≤◌, ◌-◌, ℕ, ◌∷◌}
+use Rattle.std.proofs.Common.{◌≤◌, ◌-◌, ℕ, ◌∷◌}
 use Rattle.cml_step.specs.Callers.{calls_on, AllCallsFit, HasRoom}
 use Rattle.cml_step.specs.Calls.{entry_of, text_of}
 use Rattle.cml_step.specs.Slices.{GoesIn}

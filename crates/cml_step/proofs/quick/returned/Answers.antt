@@ -1,4 +1,4 @@
-use Rattle.std.proofs.Common.{◌∷◌, ◌∙◌, [], ap, sym, subst}
+use Rattle.std.proofs.Common.{◌∷◌, ◌∙◌, ap, sym, subst}
 use Rattle.cml_step.specs.Callers.{calls_on, AllCallsFit}
 use Rattle.cml_step.specs.Calls.{entry_of}
 use Rattle.cml_step.specs.Stacks.{CallFits}

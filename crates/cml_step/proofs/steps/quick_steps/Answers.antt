@@ -12,8 +12,8 @@ use Rattle.cml_step.specs.Terms.{Term}
 use Rattle.cml_step.proofs.StackLemmas.{fits_popped, stands_fits, pushed_is, none_over, term_length}
 use Rattle.cml_step.proofs.steps.quick_steps.Goals as goal
 
-pub quick_run-requires-clause-call : goal.quick_run-requires-clause-call
-quick_run-requires-clause-call c =
+pub quick_run-done-requires-clause-call : goal.quick_run-done-requires-clause-call
+quick_run-done-requires-clause-call c =
     let p = c.args.program.now in
     let s = c.stack.inside in
     let hs = s.below in
@@ -54,5 +54,5 @@ returns-in-Some-clause-goes c = λ self.
     c.new-callers.ensures.items
     (c.quick_run-done.ensures.goes self (term_of p hs) (c.room_above-room.ensures (term_of p hs) (term_length p hs ∙ sym c.len-beneath.ensures.len)))))
 
-pub quick_run-requires-clause-callers : goal.quick_run-requires-clause-callers
-quick_run-requires-clause-callers c = subst (AllCallsFit c.args.program.now) (sym c.new-callers.ensures.items) tt
+pub quick_run-done-requires-clause-callers : goal.quick_run-done-requires-clause-callers
+quick_run-done-requires-clause-callers c = subst (AllCallsFit c.args.program.now) (sym c.new-callers.ensures.items) tt

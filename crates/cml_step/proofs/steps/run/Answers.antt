@@ -14,8 +14,8 @@ returns-in_default c =
     record {
       meant =
           c.loop-done.invariant.left
-          ∙ slice_skips (text_of p) c.args.thread.0 c.args.most n c.loop-done.done (term_of p c.loop-done.stack) (term_of p c.quick_steps-quick.new.stack) (c.in_ok-quick.ensures.goes c.args.thread.0) c.in_ok-quick.ensures.within
-          ∙ slice_asks (text_of p) c.args.thread.0 c.args.most (c.loop-done.done + n) (term_of p c.quick_steps-quick.new.stack) (term_of p c.step_or_fault.new.stack) c.in_ok-ask.ask lower c.in_ok-ask.ensures.meant c.in_default.not-Nothing;
+          ∙ slice_skips (text_of p) c.args.thread.0 c.args.most n c.loop-done.done (term_of p c.loop-done.stack) (term_of p c.quick_steps.new.stack) (c.in_ok-quick.ensures.goes c.args.thread.0) c.in_ok-quick.ensures.within
+          ∙ slice_asks (text_of p) c.args.thread.0 c.args.most (c.loop-done.done + n) (term_of p c.quick_steps.new.stack) (term_of p c.step_or_fault.new.stack) c.in_ok-ask.ask lower c.in_ok-ask.ensures.meant c.in_default.not-Nothing;
       fits = c.in_ok-ask.ensures.fits;
       agrees = c.in_ok-ask.ensures.agrees;
     }
@@ -30,9 +30,9 @@ loop-done-preserved c =
       fits = c.in_ok-ask.ensures.fits;
       left =
           c.loop-done.invariant.left
-          ∙ slice_skips (text_of p) c.args.thread.0 c.args.most n c.loop-done.done (term_of p c.loop-done.stack) (term_of p c.quick_steps-quick.new.stack) (c.in_ok-quick.ensures.goes c.args.thread.0) c.in_ok-quick.ensures.within
-          ∙ slice_on (text_of p) c.args.thread.0 c.args.most (c.loop-done.done + n) (term_of p c.quick_steps-quick.new.stack) (term_of p c.step_or_fault.new.stack) lower
-          (subst (λ a. next (text_of p) c.args.thread.0 (term_of p c.quick_steps-quick.new.stack) ≡ asks (plain_ask a) (term_of p c.step_or_fault.new.stack)) c.in-Nothing.is c.in_ok-ask.ensures.meant);
+          ∙ slice_skips (text_of p) c.args.thread.0 c.args.most n c.loop-done.done (term_of p c.loop-done.stack) (term_of p c.quick_steps.new.stack) (c.in_ok-quick.ensures.goes c.args.thread.0) c.in_ok-quick.ensures.within
+          ∙ slice_on (text_of p) c.args.thread.0 c.args.most (c.loop-done.done + n) (term_of p c.quick_steps.new.stack) (term_of p c.step_or_fault.new.stack) lower
+          (subst (λ a. next (text_of p) c.args.thread.0 (term_of p c.quick_steps.new.stack) ≡ asks (plain_ask a) (term_of p c.step_or_fault.new.stack)) c.in-Nothing.is c.in_ok-ask.ensures.meant);
     }
 
 pub returns-then-done-most : goal.returns-then-done-most
@@ -42,8 +42,8 @@ returns-then-done-most c =
     record {
       meant =
           c.loop-done.invariant.left
-          ∙ slice_skips (text_of p) c.args.thread.0 c.args.most n c.loop-done.done (term_of p c.loop-done.stack) (term_of p c.quick_steps-quick.new.stack) (c.in_ok-quick.ensures.goes c.args.thread.0) c.in_ok-quick.ensures.within
-          ∙ slice_over (text_of p) c.args.thread.0 c.args.most (c.loop-done.done + n) (term_of p c.quick_steps-quick.new.stack) (omega (arith, c.if-done-most.true));
+          ∙ slice_skips (text_of p) c.args.thread.0 c.args.most n c.loop-done.done (term_of p c.loop-done.stack) (term_of p c.quick_steps.new.stack) (c.in_ok-quick.ensures.goes c.args.thread.0) c.in_ok-quick.ensures.within
+          ∙ slice_over (text_of p) c.args.thread.0 c.args.most (c.loop-done.done + n) (term_of p c.quick_steps.new.stack) (omega (arith, c.if-done-most.true));
       fits = c.in_ok-quick.ensures.fits;
       agrees = refl;
     }
