@@ -12,7 +12,7 @@ use Rattle.cml_step.specs.declared.call.Call.{Call}
 use Rattle.cml_step.specs.declared.entry.Entry.TheVariants as entry
 use Rattle.cml_step.specs.declared.fault.Fault.TheVariants.{Stack}
 use Rattle.cml_step.specs.Agrees.{all_agree}
-use Rattle.cml_step.specs.Callers.{calls_on, AllCallsFit, LeavesRoom}
+use Rattle.cml_step.specs.Callers.{calls_on, AllCallsFit, HasRoomAbove}
 use Rattle.cml_step.specs.Calls.{entry_for, entry_in, entry_of, statements_at, text_of, wait_of, WaitFits}
 use Rattle.cml_step.specs.Faults.{Found}
 use Rattle.cml_step.specs.Variables.{bound}
@@ -46,11 +46,11 @@ lower : (m n : ℕ) → m < n → nat_lt m n ≡ true
 lower m n h = grind (arith, nat_tests)
 
 -- where there is room, there is room for one more call
-pub below_limit : (p : List (PlainItem ℕ)) (cs : List Call) (room : ℕ) (e : StackEntry) (below : Term) → length cs < room → LeavesRoom room below → is_below_limit (e ∷ calls_on p cs below) ≡ true
+pub below_limit : (p : List (PlainItem ℕ)) (cs : List Call) (room : ℕ) (e : StackEntry) (below : Term) → length cs < room → HasRoomAbove room below → is_below_limit (e ∷ calls_on p cs below) ≡ true
 below_limit p cs room e below h r = lower (length (e ∷ calls_on p cs below)) max_entries (omega (arith, on_length p cs below, r (length cs) h))
 
 -- what is left of the limit
-pub room_left : (room beneath : ℕ) (below : Term) → room ≡ 1023 - beneath → length below ≡ beneath → LeavesRoom room below
+pub room_left : (room beneath : ℕ) (below : Term) → room ≡ 1023 - beneath → length below ≡ beneath → HasRoomAbove room below
 room_left room beneath below r b = λ n h. omega (arith, r, b, h)
 
 put : (e : StackEntry) (below : Term) → is_below_limit below ≡ true → pushed e below ≡ goes_on (e ∷ below)

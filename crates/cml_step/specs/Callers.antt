@@ -16,5 +16,5 @@ AllCallsFit p [] = Unit {0}
 AllCallsFit p (c ∷ cs) = CallFits p c × AllCallsFit p cs
 
 -- there may be a call above these entries, and so many more below it, and one more on top
-abbrev pub LeavesRoom : ℕ → Term → Type 0
-LeavesRoom room below = (n : ℕ) → n < room → length below + n + 1 < max_entries
+abbrev pub HasRoomAbove : ℕ → Term → Type 0
+HasRoomAbove room below = (n : ℕ) → n < room → length below + n + 1 < max_entries

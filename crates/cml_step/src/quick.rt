@@ -11,7 +11,7 @@ ghost use Rattle.cml_step.specs.Agrees.{value_agrees, all_agree};
 ghost use Rattle.cml_step.specs.Variables.{bound};
 ghost use Rattle.cml_step.specs.Terms.{Term};
 ghost use Rattle.cml_step.specs.Calls.{entry_of, call_at, text_of, variables_of, statements_at, WaitFits};
-ghost use Rattle.cml_step.specs.Callers.{calls_on, AllCallsFit, LeavesRoom};
+ghost use Rattle.cml_step.specs.Callers.{calls_on, AllCallsFit, HasRoomAbove};
 ghost use Rattle.cml_step.specs.Steps as steps;
 ghost use Rattle.cml_step.specs.Steps.{goes_on, delivered, is_below_limit};
 ghost use Rattle.cml_step.specs.Slices.{GoesIn};
@@ -102,7 +102,7 @@ fn entered(
     requires call { (CallFits program.now call.old) × (call.old.wait ≡ Wait.Runs) }
     requires waits { WaitFits wait (length f.now.names) (length call.old.slots.items) }
     requires callers { AllCallsFit program.now callers.old.items }
-    ensures goes { result ≡ true → (self : ℕ) (below : Term) → LeavesRoom room below →
+    ensures goes { result ≡ true → (self : ℕ) (below : Term) → HasRoomAbove room below →
         let waiting = call_at f.now next call.old.slots.items wait in
         let effect = plain_call func (exprs_map (name_at f.now.names) es.now) in
         steps.effect_step (text_of program.now) self (variables_of f.now call.old) effect
@@ -222,7 +222,7 @@ fn let_call(
         × (slice_get program.now call.old.func ≡ Some f.now) }
     requires call { (CallFits program.now call.old) × (call.old.wait ≡ Wait.Runs) }
     requires callers { AllCallsFit program.now callers.old.items }
-    ensures goes { result ≡ true → (self : ℕ) (below : Term) → LeavesRoom room below →
+    ensures goes { result ≡ true → (self : ℕ) (below : Term) → HasRoomAbove room below →
         let source = effect (plain_call func (exprs_map (name_at f.now.names) es.now)) in
         steps.source_step (text_of program.now) self (name_at f.now.names slot) source
         (statements_at f.now next) (variables_of f.now call.old)
@@ -263,7 +263,7 @@ fn cross(
         × (slice_get program.now call.old.func ≡ Some f.now) }
     requires call { (CallFits program.now call.old) × (call.old.wait ≡ Wait.Runs) }
     requires callers { AllCallsFit program.now callers.old.items }
-    ensures goes { result ≡ true → (self : ℕ) (below : Term) → LeavesRoom room below →
+    ensures goes { result ≡ true → (self : ℕ) (below : Term) → HasRoomAbove room below →
         let here = statements_at f.now call.old.at in
         let variables = variables_of f.now call.old in
         steps.call_step (text_of program.now) self here variables
@@ -317,7 +317,7 @@ fn cross_step(
 ) -> bool
     requires call { CallFits program.now call.old }
     requires callers { AllCallsFit program.now callers.old.items }
-    ensures goes { result ≡ true → (self : ℕ) (below : Term) → LeavesRoom room below →
+    ensures goes { result ≡ true → (self : ℕ) (below : Term) → HasRoomAbove room below →
         steps.next (text_of program.now) self
         (entry_of program.now call.old ∷ calls_on program.now callers.old.items below)
         ≡ goes_on (entry_of program.now call.new
@@ -339,7 +339,7 @@ fn cross_step(
 
 /// How many calls may wait above this many entries, below one that runs and one more.
 pub(crate) fn room_above(beneath: usize) -> usize
-    ensures { (below : Term) → length below ≡ beneath → LeavesRoom result below }
+    ensures { (below : Term) → length below ≡ beneath → HasRoomAbove result below }
 {
     (MAX_ENTRIES - 1).saturating_sub(beneath)
 }
@@ -359,7 +359,7 @@ pub(crate) fn quick_run(
     ensures fits { CallFits program.now call.new }
     ensures callers { AllCallsFit program.now callers.new.items }
     ensures within { result ≤ most }
-    ensures goes { (self : ℕ) (below : Term) → LeavesRoom room below →
+    ensures goes { (self : ℕ) (below : Term) → HasRoomAbove room below →
         GoesIn (text_of program.now) self result
         (entry_of program.now call.old ∷ calls_on program.now callers.old.items below)
         (entry_of program.now call.new ∷ calls_on program.now callers.new.items below) }
