@@ -255,7 +255,7 @@ pub record IsShrink (given : List Row) (options : ShrinkOptions) : Type 0 where
   pub counts : IsCount options.tries
 
 -- and those of `step`
-pub record IsStep (given : List Row) (options : StepOptions) : Type 0 where
+pub record IsStepping (given : List Row) (options : StepOptions) : Type 0 where
   pub script : first_of (codes "FILE") given ≡ Some options.script.now
   pub record_file : option_map (λ name. name.now) options.record ≡ first_of (codes "record") given
 
@@ -270,7 +270,7 @@ Names (name, given) (task_of.Explain options) = (name ≡ codes "explain") × Is
 Names (name, given) (task_of.Explore options) = (name ≡ codes "explore") × IsExplore given options
 Names (name, given) (task_of.Shrink options) = (name ≡ codes "shrink") × IsShrink given options
 Names (name, given) (task_of.Draw options) = (name ≡ codes "draw") × IsPart given options
-Names (name, given) (task_of.Step options) = (name ≡ codes "step") × IsStep given options
+Names (name, given) (task_of.Step options) = (name ≡ codes "step") × IsStepping given options
 
 -- ---- options at odds
 

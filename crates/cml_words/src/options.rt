@@ -3,7 +3,7 @@
 ghost use Rattle.std.specs.Prelude.{◌≡◌, ◌<◌, ◌-◌, [], true, is_some, map, IfOk, IsSomeAnd, Some};
 ghost use Rattle.std.specs.List.{list_all};
 ghost use Rattle.clap.specs.Words.{first_of, found_of, rows_of, subcommand_rows_of};
-ghost use Rattle.cml_words.specs.Words.{any_rule, commands, end_rules, explain_rules, explanation, explore_command, file_command, flag_rule, is_complete, is_flagged, is_served, option_number, option_texts, part_command, replay_command, run_command, shrink_command, step_command, trace_command, IsEnd, IsExplore, IsFile, IsPart, IsReplay, IsRun, IsShrink, IsStep, IsTrace, Names};
+ghost use Rattle.cml_words.specs.Words.{any_rule, commands, end_rules, explain_rules, explanation, explore_command, file_command, flag_rule, is_complete, is_flagged, is_served, option_number, option_texts, part_command, replay_command, run_command, shrink_command, step_command, trace_command, IsEnd, IsExplore, IsFile, IsPart, IsReplay, IsRun, IsShrink, IsStepping, IsTrace, Names};
 
 use crate::{
     EndOptions, Explain, ExploreOptions, FileOptions, PartOptions, ReplayOptions, RunOptions,
@@ -159,7 +159,7 @@ fn shrink_options<'a>(matches: &ArgMatches<'a>) -> ShrinkOptions<'a>
 // What `step` was given.
 fn step_options<'a>(matches: &ArgMatches<'a>) -> StepOptions<'a>
     requires { list_all (is_served (rows_of (found_of matches.now))) step_command.rules ≡ true }
-    ensures { IsStep (rows_of (found_of matches.now)) result }
+    ensures { IsStepping (rows_of (found_of matches.now)) result }
 {
     StepOptions {
         script: given(matches, "FILE"),
