@@ -10,6 +10,8 @@ mod WorkLemmas
 mod StoryLemmas
 mod ItemLemmas
 mod NarratedLemmas
+mod OpeningLemmas
+mod PictureLemmas
 mod DrawnLemmas
 mod ExploringLemmas
 mod ShrunkLemmas

@@ -12,6 +12,7 @@ pub mod Chosen
 pub mod Running
 pub mod Replaying
 pub mod Narrated
+pub mod Opening
 pub mod Drawn
 pub mod Exploring
 pub mod Shrunk

@@ -125,7 +125,7 @@ where
         }
         Ok(Answer::Task(Task::Explain(options))) => explain_file(alloc, &options, out, err, store),
         Ok(Answer::Task(Task::Explore(options))) => {
-            explore_file(alloc, &options, terminal, out, err, store)
+            explore_file(rt, alloc, &options, terminal, out, err, store)
         }
         Ok(Answer::Task(Task::Shrink(options))) => shrink_file(alloc, &options, out, err, store),
         Ok(Answer::Task(Task::Draw(options))) => draw_file(alloc, &options, out, err, store),

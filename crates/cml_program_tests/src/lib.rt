@@ -23,6 +23,8 @@ mod limits;
 mod many_runs;
 pub mod memory_store;
 #[cfg(test)]
+mod pictures;
+#[cfg(test)]
 mod refusals;
 #[cfg(test)]
 mod replay_cases;

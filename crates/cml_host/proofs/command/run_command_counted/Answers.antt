@@ -3,7 +3,7 @@ use Rattle.std.specs.String.{string_bytes}
 use Rattle.cml_words.specs.declared.Task.TheVariants.{Trace, Check, Fmt, Run, Replay, Explain, Explore, Shrink, Draw}
 use Rattle.cml_words.specs.declared.Answer.TheVariants as answer
 use Rattle.cml_words.specs.Words.{IsAnswer}
-use Rattle.cml_host.proofs.CountLemmas.{counted, explore_counted, explore_seeds, watch_counted}
+use Rattle.cml_host.proofs.CountLemmas.{counted, explore_counted, explore_depth, explore_seeds, watch_counted}
 use Rattle.cml_host.proofs.command.run_command_counted.Goals as goal
 
 pub run_file-requires-clause-counts : goal.run_file-requires-clause-counts
@@ -99,6 +99,12 @@ explore_file-requires-clause-counts g c =
     let words = map string_bytes c.args.words.now in
     let is = c.in-Ok-Task-Explore.field-0-is ∙ ap answer.Task c.in-Ok-Task-Explore.field-0-0-is in
     explore_counted words c.in-Ok-Task-Explore.options (subst (IsAnswer words) is c.in-Ok-Task-Explore.ensures)
+
+pub explore_file-requires-clause-depth : goal.explore_file-requires-clause-depth
+explore_file-requires-clause-depth g c =
+    let words = map string_bytes c.args.words.now in
+    let is = c.in-Ok-Task-Explore.field-0-is ∙ ap answer.Task c.in-Ok-Task-Explore.field-0-0-is in
+    explore_depth words c.in-Ok-Task-Explore.options (subst (IsAnswer words) is c.in-Ok-Task-Explore.ensures)
 
 pub explore_file-requires-clause-seeds : goal.explore_file-requires-clause-seeds
 explore_file-requires-clause-seeds g c =
