@@ -15,3 +15,5 @@ mod PictureLemmas
 mod DrawnLemmas
 mod ExploringLemmas
 mod ShrunkLemmas
+mod TalkLemmas
+mod SteppedLemmas

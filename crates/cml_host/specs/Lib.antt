@@ -16,4 +16,5 @@ pub mod Opening
 pub mod Drawn
 pub mod Exploring
 pub mod Shrunk
+pub mod Stepped
 pub mod Statuses

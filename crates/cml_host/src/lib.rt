@@ -22,6 +22,7 @@ mod script;
 mod servers;
 mod shrink;
 mod source;
+mod step;
 mod store;
 mod tell;
 mod trace;
