@@ -1,5 +1,5 @@
 -- The picture of the run of a hub: its items lead on from the beginning, so each of them can happen.
-use Rattle.std.proofs.Common.{◌≡◌, ◌∙◌, ◌++◌, [], ◌∷◌, ℕ, Bool, true, false, List, Option, Some, None, length, take, option_map, is_some, ap, ap₂, Bor, refl, subst, sym, true≢false}
+use Rattle.std.proofs.Common.{◌≡◌, ◌∙◌, ◌++◌, [], ◌∷◌, ℕ, Bool, true, false, List, Option, Some, None, length, take, option_map, is_some, ap, Bor, refl, subst, sym, true≢false}
 use Rattle.std.proofs.Math.Seq.{take-length}
 use Rattle.cml_check.specs.Syntax.{PlainItem}
 use Rattle.cml_draw.specs.Draws.{HasUnfit, ItemsLead}
@@ -13,7 +13,7 @@ use Rattle.cml_words.specs.declared.RunOptions.{RunOptions}
 use Rattle.cml_host.specs.Closed.{PlainSubject, kept_of, script_as_subject}
 use Rattle.cml_host.specs.Drawn.{AllDrawn}
 use Rattle.cml_host.specs.Narrated.{Opens}
-use Rattle.cml_host.specs.Running.{PlainSaving, PlainWanted, IsPictureFor, IsRunDrawn, IsSayable, saving_of, wanted_of}
+use Rattle.cml_host.specs.Running.{PlainSaving, PlainWanted, IsPictureFor, IsRunDrawn, IsSayable, names_saved, saving_of, wanted_of}
 use Rattle.cml_host.specs.Scripts.{PlainScript}
 use Rattle.cml_host.specs.declared.picture.Picture.{Picture}
 use Rattle.cml_host.specs.declared.picture.Picture.TheVariants as drawing
@@ -93,31 +93,19 @@ sayable (Some w) h drawing.Unasked is = tt
 sayable (Some w) h (drawing.Drawn name made) is = is.2
 sayable (Some w) h drawing.TooMany is = tt
 
-picture_asked : (explains : Bool) (name : Option (List ℕ)) (s : PlainSubject) →
-    wanted_of name (kept_of explains (is_some name) s) ≡ option_map (λ n. record { name = n; subject = s }) name
-picture_asked explains None s = refl
-picture_asked true (Some name) s = refl
-picture_asked false (Some name) s = refl
+kept_so : (explains : Bool) (s : PlainSubject) → kept_of explains true s ≡ Some s
+kept_so true s = refl
+kept_so false s = refl
 
 -- what the arguments ask to be saved
-pub saving_asked : (options : RunOptions) (explains draws : Bool) (s : PlainScript) (kept : Option PlainSubject) (schedule : Option (List ℕ)) (wanted : Option PlainWanted) →
-    draws ≡ is_some options.draw → kept ≡ kept_of explains draws (script_as_subject options.file.now s) → schedule ≡ option_map (λ name. name.now) options.record →
-    wanted ≡ wanted_of (option_map (λ name. name.now) options.draw) kept → record { schedule = schedule; picture = wanted } ≡ saving_of options s
-saving_asked options explains draws s kept schedule wanted asks is named pictured =
-    ap₂ (λ (n : Option (List ℕ)) (w : Option PlainWanted). record { schedule = n; picture = w }) named
-    (pictured
-    ∙ (ap (wanted_of (option_map (λ name. name.now) options.draw)) (is ∙ ap (λ (b : Bool). kept_of explains b subject) (asks ∙ sym (names options.draw)))
-    ∙ picture_asked explains (option_map (λ name. name.now) options.draw) subject)
-    ∙ shown options.draw)
+pub saving_asked : (options : RunOptions) (explains draws : Bool) (s : PlainScript) (kept : Option PlainSubject) →
+    draws ≡ is_some options.draw → kept ≡ kept_of explains draws (script_as_subject options.file.now s) →
+    names_saved (option_map (λ name. name.now) options.record) (option_map (λ name. name.now) options.draw) kept ≡ saving_of options s
+saving_asked options explains draws s kept asks is = ap (λ (w : Option PlainWanted). record { schedule = option_map (λ name. name.now) options.record; picture = w }) (go options.draw asks)
   where
-    subject : PlainSubject
-    subject = script_as_subject options.file.now s
-
-    names : (o : Option (Bor (List ℕ))) → is_some (option_map (λ name. name.now) o) ≡ is_some o
-    names None = refl
-    names (Some name) = refl
-
-    shown : (o : Option (Bor (List ℕ))) → option_map (λ n. record { name = n; subject = subject }) (option_map (λ name. name.now) o)
-        ≡ option_map (λ name. record { name = name.now; subject = subject }) o
-    shown None = refl
-    shown (Some name) = refl
+    go : (o : Option (Bor (List ℕ))) → draws ≡ is_some o →
+        wanted_of (option_map (λ name. name.now) o) kept ≡ option_map (λ name. record { name = name.now; subject = script_as_subject options.file.now s }) o
+    go None off = refl
+    go (Some name) on =
+        ap (wanted_of (Some name.now)) (is ∙ (ap (λ (b : Bool). kept_of explains b (script_as_subject options.file.now s)) on
+        ∙ kept_so explains (script_as_subject options.file.now s)))

@@ -282,6 +282,10 @@ abbrev pub wanted_of : Option (List ℕ) → Option PlainSubject → Option Plai
 wanted_of None kept = None
 wanted_of (Some name) kept = option_map (λ s. record { name = name; subject = s }) kept
 
+-- what is saved under these names, where the script is kept
+abbrev pub names_saved : Option (List ℕ) → Option (List ℕ) → Option PlainSubject → PlainSaving
+names_saved schedule name kept = record { schedule = schedule; picture = wanted_of name kept }
+
 -- the picture of the run of a hub, or none where there is too much to draw
 abbrev pub IsRunDrawn : PlainSubject → Kept → Option (List ℕ) → Type 0
 IsRunDrawn s h (Some drawn) = IsDrawnFrom s h.course.program h.budget h.course.items 1 (length h.course.items) drawn

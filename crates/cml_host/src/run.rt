@@ -3,8 +3,8 @@
 ghost use Rattle.std.specs.Prelude.{◌≡◌, ◌++◌, [], codes, Option, IfErr, IfOk, OnOk, option_map};
 ghost use Rattle.std.specs.String.{string_bytes};
 ghost use Rattle.cml_hub.specs.Kept.{IsAtStart, IsBudget, IsWatch};
-ghost use Rattle.cml_host.specs.Closed.{IsClosing, plain_asked, plain_closing};
-ghost use Rattle.cml_host.specs.Running.{RunRan, OpenedRan, BegunRan, ProgramRan, EndedRan, IsEnded, IsNotEnded, IsMade, IsKept, IsNotKept, IsPictureFor, IsRefusalOf, cannot_save, plain_saving, plain_wanted, unsaved_told};
+ghost use Rattle.cml_host.specs.Closed.{IsClosing, drawn_subject, plain_asked, plain_closing};
+ghost use Rattle.cml_host.specs.Running.{RunRan, OpenedRan, BegunRan, ProgramRan, EndedRan, IsEnded, IsNotEnded, IsMade, IsKept, IsNotKept, IsPictureFor, IsRefusalOf, cannot_save, names_saved, plain_saving, plain_wanted, unsaved_told};
 ghost use Rattle.cml_host.specs.Scripts.{plain_script};
 ghost use Rattle.cml_host.specs.Stores.{Shelf};
 ghost use Rattle.cml_host.specs.declared.reason.Reason.{Reason};
@@ -113,17 +113,28 @@ where
             let draws = options.draw.is_some();
             let strict = options.end.strict;
             let (program, asked) = ask(options.file, script, explains, draws, strict, servers);
-            let picture = wanted_from(&asked, options.draw);
-            let saving = Saving {
-                schedule: options.record,
-                picture,
-            };
+            let saving = saving_for(&asked, options.record, options.draw);
             run_program(rt, alloc, gate, program, &asked, &saving, options, out, err, store)
         }
         Err(why) => {
             drop(script);
             refuse(alloc, options.file, explains, why, 1, err)
         }
+    }
+}
+
+// What is to be saved, under these names.
+fn saving_for<'a>(
+    asked: &'a Asked<'a>,
+    record: Option<&'a str>,
+    draw: Option<&'a str>,
+) -> Saving<'a>
+    ensures { plain_saving result ≡ names_saved (option_map (λ name. name.now) record.entry) (option_map (λ name. name.now) draw.entry) (drawn_subject asked.now) }
+{
+    let picture = wanted_from(asked, draw);
+    Saving {
+        schedule: record,
+        picture,
     }
 }
 
