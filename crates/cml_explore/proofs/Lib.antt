@@ -4,6 +4,10 @@ pub mod DetailLemmas
 pub mod LotLemmas
 pub mod RunLemmas
 pub mod ExploreLemmas
+pub mod MergeLemmas
+pub mod JoinLemmas
+pub mod PartLemmas
+pub mod Crossing
 pub mod SightLemmas
 pub mod AnswerLemmas
 pub mod RankLemmas

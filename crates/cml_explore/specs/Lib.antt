@@ -6,6 +6,7 @@ pub mod Generators
 pub mod Lots
 pub mod Finishes
 pub mod Explored
+pub mod Merges
 pub mod ThreadLines
 pub mod Ranks
 pub mod Words

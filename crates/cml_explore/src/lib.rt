@@ -12,6 +12,7 @@ pub mod law;
 mod lot;
 mod rank;
 mod run;
+mod share;
 mod sight;
 mod tally;
 mod words;
