@@ -1,16 +1,9 @@
--- A program may be shared among threads, and what a thread has made of a part may cross to another. What reaches itself is shown of one layer, given
--- that it holds of what lies in it, and then of all.
-use denote.RattleType.{RattleType}
+-- A program may be shared among threads. What reaches itself is shown of one layer, given that it holds of what lies in it, and then of all.
 use denote.Model.Local.{Parts, rows}
 use denote.Model.Goals.{send, sync, has_of, part_has}
 use denote.Model.Marks.{both_send, both_sync}
 use denote.Param.Send.{IsSend, IsSync, sendable}
-use Rattle.std.specs.contracts.alloc.Global as Global
-use Rattle.std.specs.contracts.impls.GlobalAllocator.TheImpl.{ghosts as heap}
 use Rattle.std.proofs.Crossing.{crosses}
-use Rattle.indexmap.specs.contracts.map.IndexMap as IndexMap
-use Rattle.indexmap.specs.contracts.columns.Columns as Columns
-use Rattle.indexmap.specs.contracts.index_table.IndexTable as IndexTable
 use Rattle.cml_check.specs.contracts.syntax.Expr.TheKnot as expression
 use Rattle.cml_check.specs.contracts.syntax.Expr as Expr
 use Rattle.cml_check.specs.contracts.syntax.Exprs as Exprs
@@ -19,10 +12,6 @@ use Rattle.cml_check.specs.contracts.syntax.Block.TheKnot as statement
 use Rattle.cml_check.specs.contracts.syntax.Block as Block
 use Rattle.cml_check.specs.declared.syntax.Block.TheDeep as statements
 use Rattle.cml_check.specs.contracts.program.Prog as Prog
-use Rattle.cml_explore.specs.contracts.tally.Tally as Tally
-use Rattle.cml_explore.specs.contracts.classes.Classes as Classes
-use Rattle.cml_explore.specs.contracts.explored.Explored as Explored
-use Rattle.cml_explore.specs.contracts.share.Part as Part
 
 -- programs: expressions, and statements over these
 module _ (p : Parts expression.frame) (s : (j : expressions.the_members) → IsSend (rows expression.frame p j)) (y : (j : expressions.the_members) → IsSync (rows expression.frame p j)) where
@@ -66,27 +55,4 @@ block_sync = both_sync statement.frame statement.step statement.sizes statement_
 pub program_sync : IsSync Prog.the_row
 program_sync = search (sendable, crosses, expressions_cross, block_send, block_sync) depth 60 fits 100000
 
--- a map, by its two columns and its places
-columns_send : (K V : RattleType) → IsSend K → IsSend V → IsSend (Columns.the_row K V Global.the_row heap)
-columns_send K V k v = search (sendable, crosses) depth 60 fits 100000
-
-places_send : IsSend (IndexTable.the_row Global.the_row heap)
-places_send = search (sendable, crosses) depth 60 fits 100000
-
-map_send : (K V S H : RattleType) (e : _) (h : _) (b : _) (r : _) → IsSend K → IsSend V → IsSend S → IsSend (IndexMap.the_row K V S Global.the_row H e h b r heap)
-map_send K V S H e h b r k v s = let c = columns_send K V k v in let p = places_send in search (sendable, crosses) depth 60 fits 100000
-
--- what was made of a part
-tally_send : IsSend Tally.the_row
-tally_send = search (sendable, crosses, map_send) depth 60 fits 100000
-
-classes_send : IsSend Classes.the_row
-classes_send = search (sendable, crosses, map_send, tally_send) depth 60 fits 100000
-
-explored_send : IsSend Explored.the_row
-explored_send = search (sendable, crosses, classes_send) depth 60 fits 100000
-
-pub part_send : IsSend Part.the_row
-part_send = search (sendable, crosses, explored_send) depth 60 fits 100000
-
-pub ruleset parts_cross = (sendable, crosses, program_sync, part_send)
+pub ruleset program_crosses = (sendable, crosses, program_sync)

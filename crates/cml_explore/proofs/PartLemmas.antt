@@ -1,6 +1,6 @@
 -- What a part comes to with what was made before.
-use Rattle.std.proofs.Common.{◌≡◌, inr, ℕ, zero, suc, ◌+◌, ◌-◌, ◌*◌, ◌<◌, ◌≤◌, ◌^◌, min, Bool, true, false, if◌then◌else◌, ◌||◌, List, [], ◌∷◌, ◌++◌, map, length, refl, sym, ap, subst, ◌∙◌, arith}
-use Rattle.std.specs.Prelude.{◌==◌, sum_by, Result, Ok, Err, IfOk, slice_index_or}
+use Rattle.std.proofs.Common.{◌≡◌, inr, ℕ, zero, suc, ◌+◌, ◌-◌, ◌*◌, ◌<◌, ◌≤◌, ◌^◌, min, Bool, true, false, if◌then◌else◌, ◌||◌, List, [], ◌∷◌, ◌++◌, map, length, get_or, refl, sym, ap, subst, ◌∙◌, arith}
+use Rattle.std.specs.Prelude.{sum_by, Result, Ok, Err, IfOk}
 use Rattle.std.specs.declared.alloc.AllocError.{AllocError}
 use Rattle.std.specs.List.{list_any, list_all}
 use Rattle.std.proofs.lemmas.List.{append_assoc, length-append, length_push, map-append}
@@ -15,7 +15,7 @@ use Rattle.cml_explore.specs.Details.{alike}
 use Rattle.cml_explore.specs.Classes.{Finish, PlainClass, grown, classed, classed_all, classes_of}
 use Rattle.cml_explore.specs.Finishes.{PlainEnded, is_well, stops, EachEnds}
 use Rattle.cml_explore.specs.Explored.{PlainExplored, gathered, IsExplored, SoFar, HasMade}
-use Rattle.cml_explore.specs.Merges.{parts_merged, runs_of, FitBeside, StopsLast, HasPart, part_asked, IsRound, JoinsPart}
+use Rattle.cml_explore.specs.Merges.{parts_merged, runs_of, FitBeside, StopsLast, HasPart, part_asked, AreInside, AreParts, IsRound, JoinsPart, IsAmidRound}
 use Rattle.cml_explore.proofs.ExploreLemmas.{map_long, as_many, the_parts, same_parts, made_so}
 use Rattle.cml_explore.proofs.MergeLemmas.{merged_is}
 
@@ -158,7 +158,7 @@ below_min a b h = omega (arith, h)
 module _ (p : List (PlainItem ℕ)) (asked : Asked) (so_far : PlainExplored) (round : Round) (is : IsRound asked so_far round) (k : ℕ) (inside : k * round.size < round.left)
     (one : PlainExplored) (here : SoFar p asked one) (many : one.runs ≡ so_far.runs + min (k * round.size) round.left) (part : Result Part AllocError)
     (gave : IfOk part (λ (q : Part). HasPart p (part_asked asked round k) q.stopped q.made)) where
-  own_runs : ℕ
+  abbrev own_runs : ℕ
   own_runs = min round.size (round.left - k * round.size)
 
   at_part : round.first + k * round.size ≡ asked.first + one.runs
@@ -181,7 +181,7 @@ module _ (p : List (PlainItem ℕ)) (asked : Asked) (so_far : PlainExplored) (ro
   fits_if few (Err e) has = tt
 
   -- the runs of the part fit
-  pub part_fits : asked.runs < 2 ^ 64 → IfOk part (λ (q : Part). FitBeside one q.made)
+  part_fits : asked.runs < 2 ^ 64 → IfOk part (λ (q : Part). FitBeside one q.made)
   part_fits few = fits_if few part gave
 
   has_part : (new : PlainExplored) (b : Bool) (j : JoinsPart part one new b) → HasPart p (part_asked asked round k) b j.made.made
@@ -190,7 +190,7 @@ module _ (p : List (PlainItem ℕ)) (asked : Asked) (so_far : PlainExplored) (ro
       (subst (λ (r : Result Part AllocError). IfOk r (λ (q : Part). HasPart p (part_asked asked round k) q.stopped q.made)) j.made_so gave)
 
   -- the round goes on behind the part
-  pub part_on : (new : PlainExplored) (b : Bool) → b ≡ false → JoinsPart part one new b → SoFar p asked new × (new.runs ≡ so_far.runs + min ((k + 1) * round.size) round.left)
+  part_on : (new : PlainExplored) (b : Bool) → b ≡ false → JoinsPart part one new b → SoFar p asked new × (new.runs ≡ so_far.runs + min ((k + 1) * round.size) round.left)
   part_on new b e j =
       let has : HasPart p (part_asked asked round k) false j.made.made = subst (λ (t : Bool). HasPart p (part_asked asked round k) t j.made.made) e (has_part new b j) in
       let runs : new.runs ≡ one.runs + j.made.made.runs = ap (λ (m : PlainExplored). m.runs) j.merged in
@@ -199,7 +199,7 @@ module _ (p : List (PlainItem ℕ)) (asked : Asked) (so_far : PlainExplored) (ro
       (subst (SoFar p asked) (sym j.merged) (joined_on p asked one j.made.made here (round.first + k * round.size) own_runs at_part has.0), omega (arith, runs, own, all))
 
   -- or it ends with it
-  pub part_last : (new : PlainExplored) (b : Bool) → b ≡ true → JoinsPart part one new b → IsExplored p asked new × (so_far.runs < new.runs)
+  part_last : (new : PlainExplored) (b : Bool) → b ≡ true → JoinsPart part one new b → IsExplored p asked new × (so_far.runs < new.runs)
   part_last new b e j =
       let has : HasPart p (part_asked asked round k) true j.made.made = subst (λ (t : Bool). HasPart p (part_asked asked round k) t j.made.made) e (has_part new b j) in
       let runs : new.runs ≡ one.runs + j.made.made.runs = ap (λ (m : PlainExplored). m.runs) j.merged in
@@ -207,12 +207,8 @@ module _ (p : List (PlainItem ℕ)) (asked : Asked) (so_far : PlainExplored) (ro
       let one_more = length_push has.before has.last in
       (subst (IsExplored p asked) (sym j.merged) (joined_last p asked one j.made.made here (round.first + k * round.size) own_runs at_part has in_asked), omega (arith, runs, own, one_more, many))
 
--- the part of this number in the list
-pub part_at : (P : Part → Type 0) (parts : List (Result Part AllocError)) (k : ℕ) (d part : Result Part AllocError) → slice_index_or parts k d ≡ part → IfOk (slice_index_or parts k d) P → IfOk part P
-part_at P parts k d part is has = subst (λ (r : Result Part AllocError). IfOk r P) is has
-
 -- all parts were joined
-pub round_made : (p : List (PlainItem ℕ)) (asked : Asked) (so_far : PlainExplored) (round : Round) (count : ℕ) (made : PlainExplored) → IsRound asked so_far round → 0 < count → 0 < round.left → SoFar p asked made
+round_made : (p : List (PlainItem ℕ)) (asked : Asked) (so_far : PlainExplored) (round : Round) (count : ℕ) (made : PlainExplored) → IsRound asked so_far round → 0 < count → 0 < round.left → SoFar p asked made
     → made.runs ≡ so_far.runs + min (count * round.size) round.left → (so_far.runs < made.runs) × (made.runs ≤ asked.runs)
 round_made p asked so_far round zero made is some left here many = absurd (omega (arith, some))
 round_made p asked so_far round (suc n) made is some left here many =
@@ -220,3 +216,44 @@ round_made p asked so_far round (suc n) made is some left here many =
     let all = is.left in
     let more : (n + 1) * round.size ≡ n * round.size + 1 * round.size = add-mul n 1 round.size in
     (omega (arith, many, size, left, more), omega (arith, many, all))
+
+-- no part has come yet
+pub round_begins : (p : List (PlainItem ℕ)) (asked : Asked) (so_far : PlainExplored) (round : Round) (count : ℕ) (parts all : List (Result Part AllocError)) (made : PlainExplored) → IsRound asked so_far round → AreInside round count
+    → AreParts p asked round count parts → length parts ≡ count → all ≡ parts → SoFar p asked made → made.runs ≡ so_far.runs → IsAmidRound p asked so_far count all 0 made
+round_begins p asked so_far round count parts all made is inside are long same here many = record {
+  round = round;
+  is = is;
+  inside = inside;
+  are = subst (λ l. AreParts p asked round count l) (sym same) are;
+  long = ap length same ∙ long;
+  here = here;
+  many = omega (arith, many);
+}
+
+module _ (p : List (PlainItem ℕ)) (asked : Asked) (so_far : PlainExplored) (count : ℕ) (parts : List (Result Part AllocError)) (k : ℕ) (made : PlainExplored) (amid : IsAmidRound p asked so_far count parts k made)
+    (part : Result Part AllocError) (at : part ≡ get_or parts k part) (lt : k < length parts) where
+  few : k < count
+  few = let long = amid.long in omega (arith, long, lt)
+
+  gave : IfOk part (λ (q : Part). HasPart p (part_asked asked amid.round k) q.stopped q.made)
+  gave = subst (λ (r : Result Part AllocError). IfOk r (λ (q : Part). HasPart p (part_asked asked amid.round k) q.stopped q.made)) (sym at) (amid.are k part few)
+
+  pub next_fits : asked.runs < 2 ^ 64 → IfOk part (λ (q : Part). FitBeside made q.made)
+  next_fits small = part_fits p asked so_far amid.round amid.is k (amid.inside k few) made amid.here amid.many part gave small
+
+  pub next_on : (new : PlainExplored) (b : Bool) → b ≡ false → JoinsPart part made new b → IsAmidRound p asked so_far count parts (k + 1) new
+  next_on new b e j =
+      let on = part_on p asked so_far amid.round amid.is k (amid.inside k few) made amid.here amid.many part gave new b e j in
+      record { round = amid.round; is = amid.is; inside = amid.inside; are = amid.are; long = amid.long; here = on.0; many = on.1 }
+
+  pub next_last : (new : PlainExplored) (b : Bool) → b ≡ true → JoinsPart part made new b → IsExplored p asked new × (so_far.runs < new.runs)
+  next_last new b e j = part_last p asked so_far amid.round amid.is k (amid.inside k few) made amid.here amid.many part gave new b e j
+
+-- all parts have come
+pub round_ends : (p : List (PlainItem ℕ)) (asked : Asked) (so_far : PlainExplored) (count : ℕ) (parts : List (Result Part AllocError)) (k : ℕ) (made : PlainExplored) → IsAmidRound p asked so_far count parts k made → k ≡ length parts → 0 < count
+    → so_far.runs < asked.runs → (so_far.runs < made.runs) × (made.runs ≤ asked.runs)
+round_ends p asked so_far count parts k made amid all some more =
+    let left = amid.is.left in
+    let there : 0 < amid.round.left = omega (arith, left, more) in
+    let same : k ≡ count = all ∙ amid.long in
+    round_made p asked so_far amid.round count made amid.is some there amid.here (subst (λ n. made.runs ≡ so_far.runs + min (n * amid.round.size) amid.round.left) same amid.many)

@@ -1,5 +1,5 @@
 -- The classes of runs that were made in parts, side by side.
-use Rattle.std.specs.Prelude.{ℕ, ◌≡◌, ◌+◌, ◌*◌, ◌-◌, ◌<◌, ◌≤◌, ◌^◌, min, Bool, true, false, ◌&&◌, if◌then◌else◌, List, [], ◌∷◌, ◌++◌, Result, Ok, IfOk, slice_index_or, sum_by}
+use Rattle.std.specs.Prelude.{ℕ, ◌≡◌, ◌+◌, ◌*◌, ◌-◌, ◌<◌, ◌≤◌, ◌^◌, min, Bool, true, false, ◌&&◌, if◌then◌else◌, List, [], ◌∷◌, ◌++◌, Result, Ok, IfOk, length, slice_index_or, sum_by}
 use Rattle.std.specs.List.{fold, list_any}
 use Rattle.std.specs.declared.alloc.AllocError.{AllocError}
 use Rattle.cml_check.specs.Syntax.{PlainItem}
@@ -91,3 +91,13 @@ pub record JoinsPart (part : Result Part AllocError) (old new : PlainExplored) (
   pub made_so : part ≡ Ok made
   pub merged : new ≡ parts_merged old made.made
   pub stopped_so : stopped ≡ made.stopped
+
+-- So many of the parts of a round have come behind what was made before it, and none has a run at which to stop.
+pub record IsAmidRound (p : List (PlainItem ℕ)) (asked : Asked) (so_far : PlainExplored) (count : ℕ) (parts : List (Result Part AllocError)) (k : ℕ) (made : PlainExplored) : Type 0 where
+  pub round : Round
+  pub is : IsRound asked so_far round
+  pub inside : AreInside round count
+  pub are : AreParts p asked round count parts
+  pub long : length parts ≡ count
+  pub here : SoFar p asked made
+  pub many : made.runs ≡ so_far.runs + min (runs_before round k) round.left
