@@ -11,7 +11,7 @@ use Rattle.cml_index.specs.declared.slot.Slot.{Slot}
 use Rattle.cml_index.specs.declared.slot.Slot.TheVariants.{Side, Waiters}
 use Rattle.cml_index.specs.Slot.{same_slot}
 use Rattle.cml_index.specs.declared.told.Told.{Told}
-use Rattle.cml_index.specs.Told.{flag_at, lit_in, numbered, ticking, all_told, IsReserved}
+use Rattle.cml_index.specs.Told.{flag_of, lit_in, flags_from, ticking, all_told, IsReserved}
 use Rattle.cml_index.specs.Posts.{told, is_named, OnlyReserves, KeepsPlaces}
 
 -- a list in which there is none before one that is sought, and one after it
@@ -31,9 +31,9 @@ neither : {K X : Type 0} (test : K → Bool) (xs ys : List (K × X)) → lookup 
 neither test xs ys one two = skip test xs ys one ∙ two
 
 -- among the lights of another kind there is none
-foreign : (k : Slot) (light : ℕ → Light) → ((n : ℕ) → same_slot k (Waiters (light n)) ≡ false) → (n : ℕ) (bs : List Bool) → lookup (same_slot k) (numbered light n bs) ≡ None
+foreign : (k : Slot) (light : ℕ → Light) → ((n : ℕ) → same_slot k (Waiters (light n)) ≡ false) → (n : ℕ) (bs : List Bool) → lookup (same_slot k) (flags_from light n bs) ≡ None
 foreign k light off n [] = refl
-foreign k light off n (b ∷ bs) = ap (λ t. cond t (Some b) (lookup (same_slot k) (numbered light (n + 1) bs))) (off n) ∙ foreign k light off (n + 1) bs
+foreign k light off n (b ∷ bs) = ap (λ t. cond t (Some b) (lookup (same_slot k) (flags_from light (n + 1) bs))) (off n) ∙ foreign k light off (n + 1) bs
 
 no_tick : (k : Slot) → ((n : ℕ) → same_slot k (Waiters (of.Alarm n)) ≡ false) → (es : List (ℕ × Bool)) → lookup (same_slot k) (ticking es) ≡ None
 no_tick k off [] = refl
@@ -46,11 +46,11 @@ is_later : (i n j : ℕ) → i ≡ n + suc j → nat_eq i n ≡ false
 is_later i n j e = grind (arith, nat_tests)
 
 -- among those of its own kind it is at its number
-own : (k : Slot) (light : ℕ → Light) (i : ℕ) → ((n : ℕ) → same_slot k (Waiters (light n)) ≡ nat_eq i n) → (n : ℕ) (bs : List Bool) (j : ℕ) → i ≡ n + j → lookup (same_slot k) (numbered light n bs) ≡ slice_get bs j
+own : (k : Slot) (light : ℕ → Light) (i : ℕ) → ((n : ℕ) → same_slot k (Waiters (light n)) ≡ nat_eq i n) → (n : ℕ) (bs : List Bool) (j : ℕ) → i ≡ n + j → lookup (same_slot k) (flags_from light n bs) ≡ slice_get bs j
 own k light i on n [] j e = refl
-own k light i on n (b ∷ bs) zero e = ap (λ t. cond t (Some b) (lookup (same_slot k) (numbered light (n + 1) bs))) (on n ∙ is_here i n zero e refl)
+own k light i on n (b ∷ bs) zero e = ap (λ t. cond t (Some b) (lookup (same_slot k) (flags_from light (n + 1) bs))) (on n ∙ is_here i n zero e refl)
 own k light i on n (b ∷ bs) (suc j) e =
-    ap (λ t. cond t (Some b) (lookup (same_slot k) (numbered light (n + 1) bs))) (on n ∙ is_later i n j e)
+    ap (λ t. cond t (Some b) (lookup (same_slot k) (flags_from light (n + 1) bs))) (on n ∙ is_later i n j e)
     ∙ own k light i on (n + 1) bs j (omega (arith, e))
 
 own_tick : (k : Slot) (t : ℕ) → ((n : ℕ) → same_slot k (Waiters (of.Alarm n)) ≡ nat_eq t n) → (es : List (ℕ × Bool)) → lookup (same_slot k) (ticking es) ≡ lookup (nat_eq t) es
@@ -76,31 +76,31 @@ abbrev nack : ℕ → Light
 nack n = of.Nack (record { 0 = n })
 
 -- what is kept of a light is what the whole list has of it
-pub found : (x : Told) (l : Light) → lookup (same_slot (Waiters l)) (all_told x) ≡ flag_at x l
+pub found : (x : Told) (l : Light) → lookup (same_slot (Waiters l)) (all_told x) ≡ flag_of x l
 found x l = at l
   where
     a : List (Slot × Bool)
-    a = numbered ivar 0 x.ivars.items
+    a = flags_from ivar 0 x.ivars.items
 
     b : List (Slot × Bool)
-    b = numbered mvar 0 x.mvars.items
+    b = flags_from mvar 0 x.mvars.items
 
     c : List (Slot × Bool)
-    c = numbered mailbox 0 x.mailboxes.items
+    c = flags_from mailbox 0 x.mailboxes.items
 
     d : List (Slot × Bool)
-    d = numbered port 0 x.ports.items
+    d = flags_from port 0 x.ports.items
 
     e : List (Slot × Bool)
-    e = numbered joined 0 x.joins.items
+    e = flags_from joined 0 x.joins.items
 
     f : List (Slot × Bool)
-    f = numbered nack 0 x.nacks.items
+    f = flags_from nack 0 x.nacks.items
 
     g : List (Slot × Bool)
     g = ticking x.ticks.entries
 
-    at : (l : Light) → lookup (same_slot (Waiters l)) (a ++ (b ++ (c ++ (d ++ (e ++ (f ++ g)))))) ≡ flag_at x l
+    at : (l : Light) → lookup (same_slot (Waiters l)) (a ++ (b ++ (c ++ (d ++ (e ++ (f ++ g)))))) ≡ flag_of x l
     at (of.IVar i) =
         let k = Waiters (of.IVar i) in
         let t = same_slot k in
@@ -176,13 +176,13 @@ no_side : (x : Told) (heads : Bool) (object : PairedId) → lookup (same_slot (S
 no_side x heads object =
     let k = Side heads object in
     let t = same_slot k in
-    let f = numbered nack 0 x.nacks.items in
+    let f = flags_from nack 0 x.nacks.items in
     let g = ticking x.ticks.entries in
-    let e = numbered joined 0 x.joins.items in
-    let d = numbered port 0 x.ports.items in
-    let c = numbered mailbox 0 x.mailboxes.items in
-    let b = numbered mvar 0 x.mvars.items in
-    neither t (numbered ivar 0 x.ivars.items) (b ++ (c ++ (d ++ (e ++ (f ++ g))))) (foreign k ivar (λ n. refl) 0 x.ivars.items)
+    let e = flags_from joined 0 x.joins.items in
+    let d = flags_from port 0 x.ports.items in
+    let c = flags_from mailbox 0 x.mailboxes.items in
+    let b = flags_from mvar 0 x.mvars.items in
+    neither t (flags_from ivar 0 x.ivars.items) (b ++ (c ++ (d ++ (e ++ (f ++ g))))) (foreign k ivar (λ n. refl) 0 x.ivars.items)
     (neither t b (c ++ (d ++ (e ++ (f ++ g)))) (foreign k mvar (λ n. refl) 0 x.mvars.items)
     (neither t c (d ++ (e ++ (f ++ g))) (foreign k mailbox (λ n. refl) 0 x.mailboxes.items)
     (neither t d (e ++ (f ++ g)) (foreign k port (λ n. refl) 0 x.ports.items)
@@ -190,14 +190,14 @@ no_side x heads object =
     (neither t f g (foreign k nack (λ n. refl) 0 x.nacks.items) (no_tick k (λ n. refl) x.ticks.entries))))))
 
 -- the whole list, from what is kept
-pub told_is : (x : Told) (l : Light) → told (all_told x) l ≡ lit_in (flag_at x l)
+pub told_is : (x : Told) (l : Light) → told (all_told x) l ≡ lit_in (flag_of x l)
 told_is x l = ap lit_in (found x l)
 
-pub named_is : (x : Told) (l : Light) → is_named (all_told x) (Waiters l) ≡ is_some (flag_at x l)
+pub named_is : (x : Told) (l : Light) → is_named (all_told x) (Waiters l) ≡ is_some (flag_of x l)
 named_is x l = ap is_some (found x l)
 
 -- no light loses its place
-pub keeps : (x y : Told) → ((l : Light) → is_some (flag_at x l) ≡ true → is_some (flag_at y l) ≡ true) → KeepsPlaces (all_told x) (all_told y)
+pub keeps : (x y : Told) → ((l : Light) → is_some (flag_of x l) ≡ true → is_some (flag_of y l) ≡ true) → KeepsPlaces (all_told x) (all_told y)
 keeps x y kept (Waiters l) there = named_is y l ∙ kept l (sym (named_is x l) ∙ there)
 keeps x y kept (Side heads object) there = let no_ : is_named (all_told x) (Side heads object) ≡ false = ap is_some (no_side x heads object) in cc
 
@@ -208,6 +208,6 @@ only_reserves x y kept = record {
 }
 
 -- one tick is forgotten, and each other light has its place as before
-pub forgets : (x y : Told) (l : Light) → ((m : Light) → same_light l m ≡ false → flag_at y m ≡ flag_at x m) → (k : Slot) → same_slot (Waiters l) k ≡ false → is_named (all_told y) k ≡ is_named (all_told x) k
+pub forgets : (x y : Told) (l : Light) → ((m : Light) → same_light l m ≡ false → flag_of y m ≡ flag_of x m) → (k : Slot) → same_slot (Waiters l) k ≡ false → is_named (all_told y) k ≡ is_named (all_told x) k
 forgets x y l same (Waiters m) off = named_is y m ∙ ap is_some (same m (sym (light_eq l m) ∙ off)) ∙ sym (named_is x m)
 forgets x y l same (Side heads object) off = ap is_some (no_side y heads object) ∙ sym (ap is_some (no_side x heads object))

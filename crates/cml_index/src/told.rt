@@ -134,7 +134,7 @@ impl Told {
 
     // Whether the light is lit.
     pub(crate) fn is_lit(&self, light: Light) -> bool
-        ensures { result ≡ spec.lit_in (spec.flag_at self.now light) }
+        ensures { result ≡ spec.lit_in (spec.flag_of self.now light) }
     {
         match light {
             Light::IVar(ivar) => read_in(&self.ivars, ivar.0),
@@ -150,8 +150,8 @@ impl Told {
     // Reserves the place of a light of which nothing was told. What was told of any light stays.
     pub(crate) fn reserve(&mut self, light: Light) -> Result<(), AllocError>
         ensures kept { spec.IsReserved self.old self.new }
-        ensures there { OnOk result (is_some (spec.flag_at self.new light) ≡ true) }
-        ensures sure { is_some (spec.flag_at self.old light) ≡ true → IsOk result }
+        ensures there { OnOk result (is_some (spec.flag_of self.new light) ≡ true) }
+        ensures sure { is_some (spec.flag_of self.old light) ≡ true → IsOk result }
     {
         match light {
             Light::IVar(ivar) => reserve_in(&mut self.ivars, ivar.0),
@@ -166,12 +166,12 @@ impl Told {
 
     // Tells of the light, and returns whether that was new. A light that is told to be lit has its place.
     pub(crate) fn flip(&mut self, light: Light, lit: bool) -> bool
-        requires { lit ≡ true → is_some (spec.flag_at self.old light) ≡ true }
-        ensures told { (m : Light) → spec.lit_in (spec.flag_at self.new m)
-            ≡ (if same_light light m then lit else spec.lit_in (spec.flag_at self.old m)) }
-        ensures changed { result ≡ (if lit then not (spec.lit_in (spec.flag_at self.old light))
-            else spec.lit_in (spec.flag_at self.old light)) }
-        ensures kept { (m : Light) → is_some (spec.flag_at self.old m) ≡ true → is_some (spec.flag_at self.new m) ≡ true }
+        requires { lit ≡ true → is_some (spec.flag_of self.old light) ≡ true }
+        ensures told { (m : Light) → spec.lit_in (spec.flag_of self.new m)
+            ≡ (if same_light light m then lit else spec.lit_in (spec.flag_of self.old m)) }
+        ensures changed { result ≡ (if lit then not (spec.lit_in (spec.flag_of self.old light))
+            else spec.lit_in (spec.flag_of self.old light)) }
+        ensures kept { (m : Light) → is_some (spec.flag_of self.old m) ≡ true → is_some (spec.flag_of self.new m) ≡ true }
     {
         match light {
             Light::IVar(ivar) => flip_in(&mut self.ivars, ivar.0, lit),
@@ -186,10 +186,10 @@ impl Told {
 
     // Forgets what was told of the tick, which is not lit.
     pub(crate) fn forget(&mut self, tick: u64)
-        requires { spec.lit_in (spec.flag_at self.old (Alarm tick)) ≡ false }
-        ensures told { (m : Light) → spec.lit_in (spec.flag_at self.new m) ≡ spec.lit_in (spec.flag_at self.old m) }
+        requires { spec.lit_in (spec.flag_of self.old (Alarm tick)) ≡ false }
+        ensures told { (m : Light) → spec.lit_in (spec.flag_of self.new m) ≡ spec.lit_in (spec.flag_of self.old m) }
         ensures kept { (m : Light) → same_light (Alarm tick) m ≡ false →
-            spec.flag_at self.new m ≡ spec.flag_at self.old m }
+            spec.flag_of self.new m ≡ spec.flag_of self.old m }
     {
         forget_in(&mut self.ticks, tick);
     }

@@ -2,12 +2,12 @@ use Rattle.std.proofs.Common.{◌≡◌, not, cond, ap, sym, subst, ◌∙◌}
 use Rattle.cml_scan.specs.declared.object.Light.{Light}
 use Rattle.cml_scan.specs.Table.{same_light}
 use Rattle.cml_index.specs.declared.slot.Slot.TheVariants.{Waiters}
-use Rattle.cml_index.specs.Told.{PlainFlags, all_told, flag_at, lit_in}
+use Rattle.cml_index.specs.Told.{PlainFlags, all_told, flag_of, lit_in}
 use Rattle.cml_index.specs.Posts as spec
 use Rattle.cml_index.proofs.Flagged.{told_is, named_is, keeps}
 use Rattle.cml_index.proofs.flags.flip.Goals as goal
 
-was : (c : goal.After-flip) → (m : Light) → lit_in (flag_at c.flags.inside.told m) ≡ spec.told c.args.flags.now.entries m
+was : (c : goal.After-flip) → (m : Light) → lit_in (flag_of c.flags.inside.told m) ≡ spec.told c.args.flags.now.entries m
 was c m = sym (told_is c.flags.inside.told m) ∙ ap (λ (v : PlainFlags). spec.told v.entries m) c.flags.view_is
 
 pub flip-requires : goal.flip-requires
