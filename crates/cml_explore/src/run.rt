@@ -92,13 +92,7 @@ fn run_out_by_priority(
 }
 
 // The hub runs to its end in this order.
-fn run_so(
-    alloc: Global,
-    hub: Hub,
-    order: Order,
-    span: usize,
-    seed: u64,
-) -> Result<Hub, AllocError>
+fn run_so(alloc: Global, hub: Hub, order: Order, span: usize, seed: u64) -> Result<Hub, AllocError>
     requires none_out { NoneOut hub }
     requires span { 0 < span }
     ensures { IfOk result (λ new. RunsOut order span seed hub new) }
@@ -148,7 +142,25 @@ fn run_len(alloc: Global, program: &Prog, budget: u64, seed: u64) -> Result<usiz
     Ok(span)
 }
 
-// A span within which the points of the run by this seed are drawn. Where there are none, any is.
+// The same, where there are points. Where there are none, any span is one.
+fn points_len(
+    alloc: Global,
+    program: &Prog,
+    budget: u64,
+    depth: u32,
+    seed: u64,
+) -> Result<usize, AllocError>
+    requires { IsBudget budget }
+    ensures some { IfOk result (λ span. 0 < span) }
+    ensures span { IfOk result (λ span. IsSpan program.now budget (orders.Priority depth) seed span) }
+{
+    if depth <= 1 {
+        return Ok(1);
+    }
+    run_len(alloc, program, budget, seed)
+}
+
+// The span within which the points of the run by this seed are drawn. Where there are none, any is one.
 fn span_of(
     alloc: Global,
     program: &Prog,
@@ -163,9 +175,7 @@ fn span_of(
     match order {
         Order::Queue => Ok(1),
         Order::Lot => Ok(1),
-        Order::Priority(0) => Ok(1),
-        Order::Priority(1) => Ok(1),
-        Order::Priority(_) => run_len(alloc, program, budget, seed),
+        Order::Priority(depth) => points_len(alloc, program, budget, depth, seed),
     }
 }
 
