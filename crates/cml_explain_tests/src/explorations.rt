@@ -1,13 +1,16 @@
 //! What is said of many runs: whole answers, each worked out by hand. What a seed picks was computed apart, by its generator as it is published, and
 //! which run it makes from the text of NOTATION.
 
-ghost use Rattle.std.specs.Prelude.{◌≤◌, ◌+◌, ◌^◌};
+ghost use Rattle.std.specs.Prelude.{◌≤◌, ◌+◌, ◌^◌, IfOk};
 ghost use Rattle.cml_hub.specs.Kept.{IsBudget};
 
 use crate::making::{MEMORY, forms, in_range, program};
-use cml_explore::{Asked, Order, Until, explain_runs, explore};
+use cml_check::Prog;
+use cml_explore::{Asked, Explored, Order, Until, explain_runs, explore};
+use std::alloc::{AllocError, Global};
 use std::process::Abort;
 use std::rt::HostRuntime;
+use std::thread::Threads;
 
 // Runs of a script, and what is said of them.
 struct Case {
@@ -286,6 +289,28 @@ fn asked_by(rt: &impl Abort, case: &Case) -> Asked<'static>
     }
 }
 
+// The same runs, shared among so many threads.
+fn made_beside<R: Threads + Sync>(
+    rt: &R,
+    alloc: Global,
+    program: &Prog,
+    asked: &Asked<'_>,
+    workers: usize,
+) -> Result<Explored, AllocError>
+    requires budget { IsBudget asked.now.budget }
+    requires seeds { asked.now.first + asked.now.runs ≤ 2 ^ 64 }
+    ensures few { IfOk result (λ made. made.runs ≤ asked.now.runs) }
+{
+    let mut made = Explored::new(alloc);
+    'rounds: while made.runs() < asked.runs {
+        let last = made.go_beside(rt, alloc, program, asked, workers)?;
+        if last {
+            return Ok(made);
+        }
+    }
+    Ok(made)
+}
+
 #[test]
 fn tells_of_many_runs(rt: HostRuntime) {
     for case in &CASES {
@@ -310,6 +335,69 @@ fn tells_of_many_runs(rt: HostRuntime) {
         drop(program);
         drop(forms);
     }
+}
+
+#[test]
+fn tells_the_same_by_more_threads(rt: HostRuntime) {
+    for case in &CASES {
+        let forms = forms(&rt, case.script);
+        let program = program(&rt, forms.as_slice());
+        let asked = asked_by(&rt, case);
+        for workers in [1, 2, 4].as_slice() {
+            let made = made_beside(&rt, rt.alloc(), &program, &asked, *workers).expect(&rt, MEMORY);
+            assert!(rt; made.is_well() == case.well, "{}", case.said);
+            let said = explain_runs(
+                rt.alloc(),
+                "a.cml",
+                case.script.as_bytes(),
+                forms.as_slice(),
+                &program,
+                asked,
+                &made,
+            )
+            .expect(&rt, MEMORY);
+            assert!(rt; said.as_slice() == case.said.as_bytes(), "{}", case.said);
+            drop(said);
+            drop(made);
+        }
+        drop(program);
+        drop(forms);
+    }
+}
+
+// More runs than two threads make in a round: the rounds follow one another.
+#[test]
+fn rounds_follow_one_another(rt: HostRuntime) {
+    let forms = forms(&rt, LOCKS);
+    let program = program(&rt, forms.as_slice());
+    let asked = Asked {
+        budget: 100,
+        first: 3,
+        runs: 1100,
+        order: Order::Queue,
+        servers: &[],
+        until: None,
+    };
+    let one = explore(rt.alloc(), &program, asked).expect(&rt, MEMORY);
+    let two = made_beside(&rt, rt.alloc(), &program, &asked, 2).expect(&rt, MEMORY);
+    assert_eq!(rt; two.runs(), 1100);
+    assert_eq!(rt; two.classes().len(), one.classes().len());
+    for number in 0..2 {
+        assert!(rt; number < one.classes().len() && number < two.classes().len());
+        let (one, two) = (
+            one.classes().class(number).tally,
+            two.classes().class(number).tally,
+        );
+        assert_eq!(rt; two.runs(), one.runs());
+        assert_eq!(rt; two.first(), one.first());
+        assert_eq!(rt; two.items(), one.items());
+        assert_eq!(rt; two.outputs(), one.outputs());
+        assert!(rt; two.shortest() == one.shortest());
+    }
+    drop(two);
+    drop(one);
+    drop(program);
+    drop(forms);
 }
 
 #[test]

@@ -18,6 +18,7 @@ use Rattle.cml_explore.specs.declared.explored.Until.{Until}
 use Rattle.cml_explore.specs.declared.order.Order.{Order}
 use Rattle.cml_explore.specs.Finishes.{PlainEnded, is_well, stops, IsEndOf, EndsSoBy, EachEnds, IsSeedRun, finish_of}
 use Rattle.cml_explore.specs.Explored.{PlainExplored, gathered, nothing_made, with_ended, IsExplored, SoFar, HasMade}
+use Rattle.cml_explore.specs.Merges.{StopsLast}
 
 -- one run more, by the seed that follows
 ends_more : (p : List (PlainItem ℕ)) (budget : ℕ) (order : Order) (servers : List ℕ) (seed : ℕ) (es : List PlainEnded) (n : ℕ) (e : PlainEnded) → n ≡ seed + length es
@@ -58,10 +59,10 @@ or_false false = refl
 any_more : (p : PlainEnded → Bool) (es : List PlainEnded) (e : PlainEnded) → p e ≡ false → list_any p es ≡ false → list_any p (es ++ e ∷ []) ≡ false
 any_more p es e h none = list_any-append p es (e ∷ []) ∙ (ap (λ b. b || (p e || false)) none ∙ (or_false (p e) ∙ h))
 
-abbrev the_parts : List PlainClass → ℕ → Bool → PlainExplored
+abbrev pub the_parts : List PlainClass → ℕ → Bool → PlainExplored
 the_parts cs n b = record { classes = cs; runs = n; well = b }
 
-same_parts : (cs ds : List PlainClass) (m n : ℕ) (a b : Bool) → cs ≡ ds → m ≡ n → a ≡ b
+pub same_parts : (cs ds : List PlainClass) (m n : ℕ) (a b : Bool) → cs ≡ ds → m ≡ n → a ≡ b
     → the_parts cs m a ≡ the_parts ds n b
 same_parts cs ds m n a b e f g = cc
 
@@ -141,6 +142,19 @@ module _ (p : List (PlainItem ℕ)) (asked : Asked) (old new : PlainExplored) (e
         ends = so_far.ends ++ e ∷ [];
         each = each_so;
         enough = inr (so_far.ends, e, refl, omega (arith, length_push so_far.ends e, many, h), so_far.none, is_last);
+        gathered_so = all_so;
+      }
+
+  pub stopped_so : stops asked.until e ≡ true → old.runs < asked.runs → StopsLast p asked new
+  stopped_so is_last h =
+      let more : new.runs ≡ old.runs + 1 = ap (λ (m : PlainExplored). m.runs) made in
+      record {
+        before = so_far.ends;
+        last = e;
+        each = each_so;
+        none = so_far.none;
+        stops_there = is_last;
+        few = omega (arith, more, h);
         gathered_so = all_so;
       }
 

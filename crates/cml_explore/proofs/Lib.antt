@@ -6,6 +6,10 @@ pub mod LotLemmas
 pub mod PriorityLemmas
 pub mod RunLemmas
 pub mod ExploreLemmas
+pub mod MergeLemmas
+pub mod JoinLemmas
+pub mod PartLemmas
+pub mod Crossing
 pub mod SightLemmas
 pub mod AnswerLemmas
 pub mod RankLemmas

@@ -8,6 +8,7 @@ pub mod Lots
 pub mod Priorities
 pub mod Finishes
 pub mod Explored
+pub mod Merges
 pub mod ThreadLines
 pub mod Ranks
 pub mod Words

@@ -8,6 +8,7 @@ ghost use Rattle.cml_explore.specs.declared.explored.Asked.{Asked};
 ghost use Rattle.cml_explore.specs.Finishes as spec;
 ghost use Rattle.cml_explore.specs.Finishes.{PlainEnded, IsEndOf, EndsSoBy};
 ghost use Rattle.cml_explore.specs.Explored.{IsExplored, SoFar, HasMade, with_ended};
+ghost use Rattle.cml_explore.specs.Merges.{FitBeside, parts_merged};
 
 use crate::classes::Classes;
 use crate::details::details_of;
@@ -83,7 +84,7 @@ fn stops(until: Option<Until>, fate: Fate) -> bool
 }
 
 // Whether so many runs are all that were asked for.
-fn are_all(made: u64, asked: u64) -> bool
+pub(crate) fn are_all(made: u64, asked: u64) -> bool
     ensures { result ≡ (made == asked) }
 {
     made == asked
@@ -133,7 +134,7 @@ impl Explored {
     }
 
     // One run more, by this seed. Returns whether it is one at which to stop.
-    fn add(
+    pub(crate) fn add(
         &mut self,
         alloc: Global,
         program: &Prog,
@@ -179,6 +180,19 @@ impl Explored {
         }
         let made = self.runs();
         Ok(are_all(made, asked.runs))
+    }
+
+    // The runs of another part, by the seeds that follow.
+    //
+    // On `Err` nothing is known of it: the caller lets it go.
+    pub(crate) fn absorb(&mut self, alloc: Global, later: &Explored) -> Result<(), AllocError>
+        requires { FitBeside self.old later.now }
+        ensures { OnOk result (self.new ≡ parts_merged self.old later.now) }
+    {
+        self.classes.absorb(alloc, &later.classes)?;
+        self.runs += later.runs;
+        self.well = both(self.well, later.well);
+        Ok(())
     }
 
     /// The classes, in the order of their first seeds.

@@ -14,6 +14,7 @@ mod order;
 mod priority;
 mod rank;
 mod run;
+mod share;
 mod sight;
 mod tally;
 mod words;
