@@ -1,7 +1,9 @@
 pub mod ClassLemmas
 pub mod FallLemmas
 pub mod DetailLemmas
+pub mod DrawLemmas
 pub mod LotLemmas
+pub mod PriorityLemmas
 pub mod RunLemmas
 pub mod ExploreLemmas
 pub mod MergeLemmas

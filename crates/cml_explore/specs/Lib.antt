@@ -3,7 +3,9 @@ pub mod FallViews
 pub mod Details
 pub mod Classes
 pub mod Generators
+pub mod Draws
 pub mod Lots
+pub mod Priorities
 pub mod Finishes
 pub mod Explored
 pub mod Merges

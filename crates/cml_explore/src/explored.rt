@@ -13,6 +13,7 @@ ghost use Rattle.cml_explore.specs.Merges.{FitBeside, parts_merged};
 use crate::classes::Classes;
 use crate::details::details_of;
 use crate::finish::{Fate, digest_of, fate_of};
+use crate::order::Order;
 use crate::run::{let_go, seed_run};
 use cml_check::Prog;
 use cml_hub::{End, Hub};
@@ -39,9 +40,8 @@ pub struct Asked<'a> {
     pub first: u64,
     /// How many.
     pub runs: u64,
-    /// Whether it is drawn by lot what happens next, the turns of threads that are ready too. Else these come in order, and rows alone are
-    /// picked.
-    pub turns: bool,
+    /// By what it is settled in each what happens next.
+    pub order: Order,
     /// The numbers of the functions of servers: a thread that began with one of them may wait.
     pub servers: &'a [u32],
     /// The run at which to stop, if at any before all were made.
@@ -144,11 +144,11 @@ impl Explored {
         requires budget { IsBudget asked.now.budget }
         requires few { All (λ c. c.tally.runs < u64.MAX) self.old.classes }
         requires runs { self.old.runs < u64.MAX }
-        ensures added { IfOk result (λ stops. (e : PlainEnded) × EndsSoBy program.now asked.now.budget asked.now.turns asked.now.servers.now seed e
+        ensures added { IfOk result (λ stops. (e : PlainEnded) × EndsSoBy program.now asked.now.budget asked.now.order asked.now.servers.now seed e
             × (self.new ≡ with_ended seed e self.old) × (stops ≡ spec.stops asked.now.until e)) }
         ensures err { OnErr result (self.new ≡ self.old) }
     {
-        let hub = seed_run(alloc, program, asked.budget, asked.turns, seed)?;
+        let hub = seed_run(alloc, program, asked.budget, asked.order, seed)?;
         let added = self.add_hub(alloc, asked, seed, &hub);
         let_go(hub);
         added

@@ -1,6 +1,6 @@
 -- What an expression that is in order makes of values that agree with the program, agrees with it.
-use Rattle.std.specs.Prelude.{ℤ, ◌+ℤ◌, ◌-ℤ◌, ◌*ℤ◌}
-use Rattle.std.proofs.Common.{◌≡◌, ℕ, zero, suc, ◌+◌, Bool, true, false, ◌&&◌, cond, List, [], ◌∷◌, length, refl, ap, sym, ◌∙◌, arith, Result, Ok, Err, IfOk}
+use Rattle.std.specs.Prelude.{ℤ, ◌+ℤ◌, ◌-ℤ◌, ◌*ℤ◌, IfSome}
+use Rattle.std.proofs.Common.{◌≡◌, ℕ, zero, suc, ◌+◌, Bool, true, false, ◌&&◌, cond, List, [], ◌∷◌, length, refl, ap, sym, ◌∙◌, arith, Result, Ok, Err, IfOk, Option, Some, None, subst}
 use Rattle.cml_check.specs.declared.syntax.Constant.{Constant}
 use Rattle.cml_check.specs.declared.syntax.Constant.TheVariants as constant_of
 use Rattle.cml_check.specs.declared.syntax.Unary.{Unary}
@@ -222,6 +222,11 @@ pub answers_count : (n : ℕ) (r : Result (Vec PlainValue Global) Stop) (found :
 answers_count n (Ok vs) (Ok ws) g a = let p : ws ≡ vs.items = cc in ap length (sym p) ∙ a
 answers_count n (Ok vs) (Err e) g a = absurd (cc)
 answers_count n (Err e) found g a = tt
+
+-- an event that was found
+pub offer_agrees : (fs : List ℕ) (r : Option PlainEvent) (found : Found PlainValue) → IfSome r (λ x. found ≡ Ok (event x)) → Agrees fs found → IfSome r (λ x. event_agrees fs x ≡ true)
+offer_agrees fs (Some x) found g a = subst (Agrees fs) g a
+offer_agrees fs None found g a = tt
 
 -- a function that takes as many values as there are
 pub called_agrees : (fs : List ℕ) (f n : ℕ) (vs : List PlainValue) → takes fs f n ≡ true → length vs ≡ n → all_agree fs vs ≡ true →

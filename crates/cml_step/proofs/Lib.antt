@@ -9,6 +9,7 @@ pub mod ForceLemmas
 pub mod StackLemmas
 pub mod SliceLemmas
 pub mod QuietLemmas
+pub mod QuickLemmas
 pub mod AwaitLemmas
 pub mod AnswerLemmas
 pub mod ShortLemmas

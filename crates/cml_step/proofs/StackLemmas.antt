@@ -131,7 +131,7 @@ filled_fits p c d v h g e w s = record {
 pub filled_room : (p : List (PlainItem ℕ)) (c : Call) → CallFits p c → WaitFits c.wait (length c.slots.items) (length c.slots.items)
 filled_room p c h = wait_room c.wait _ _ h.waits
 
-fun_at : (p : List (PlainItem ℕ)) (g : ℕ) (f : PlainItem ℕ) → g < length p → f ≡ get_or p g f → slice_get p g ≡ Some f
+pub fun_at : (p : List (PlainItem ℕ)) (g : ℕ) (f : PlainItem ℕ) → g < length p → f ≡ get_or p g f → slice_get p g ≡ Some f
 fun_at [] g f l e = absurd (omega arith)
 fun_at (x ∷ xs) zero f l e = cc
 fun_at (x ∷ xs) (suc g) f l e = fun_at xs g f (omega arith) e

@@ -18,6 +18,7 @@ pub mod Machines
 pub mod Stacks
 pub mod MachineCodes
 pub mod Shared
+pub mod Callers
 pub mod AskCodes
 pub mod Rans
 pub mod AnswerViews

@@ -1,7 +1,7 @@
 //! A call on the stack of a thread, and what it does in a step.
 
 ghost use Rattle.std.specs.Prelude.{◌≡◌, ℕ, ◌<◌, List, ◌∷◌, length, true, Ok, IfOk, IfErr, IfSome};
-ghost use Rattle.cml_value.specs.Value.{int, thread as plain_thread};
+ghost use Rattle.cml_value.specs.Value.{int, event as plain_event, thread as plain_thread};
 ghost use Rattle.cml_check.specs.Syntax.{Name, act_on_one, act_on_two, call as plain_call, spawn as plain_spawn, name_at, expr_map, exprs_map, effect_map, source_map, value as plain_source_value};
 ghost use Rattle.cml_check.specs.StmtViews.{plain_effect, plain_source};
 ghost use Rattle.cml_check.specs.Names.{AreDistinct};
@@ -10,7 +10,7 @@ ghost use Rattle.cml_check.specs.Layout.{left};
 ghost use Rattle.cml_check.specs.Follows.{Follows, instr_fits};
 ghost use Rattle.cml_check.specs.InstrViews.{plain_instr};
 ghost use Rattle.cml_step.specs.Faults.{ComesTo};
-ghost use Rattle.cml_step.specs.Agrees.{value_agrees, all_agree, ask_agrees};
+ghost use Rattle.cml_step.specs.Agrees.{value_agrees, all_agree, event_agrees, ask_agrees};
 ghost use Rattle.cml_step.specs.Variables.{bound, value_of};
 ghost use Rattle.cml_step.specs.Evaluate as meaning;
 ghost use Rattle.cml_check.specs.Heads.{takes};
@@ -22,10 +22,11 @@ ghost use Rattle.cml_step.specs.Steps as steps;
 ghost use Rattle.cml_step.specs.Steps.{PlainStep};
 
 use crate::ask::Ask;
-use crate::expression::{evaluate, evaluate_all};
+use crate::expression::{evaluate, evaluate_in};
 use crate::fault::Stop;
 use crate::kind::{event_of, ivar_of, mailbox_of, mchan_of, mvar_of, port_of, truth_of};
 use crate::number::{quick_int, quick_truth};
+use crate::offer::quick_event;
 use cml_check::{Act, ActOnOne, ActOnTwo, Effect, Expr, Exprs, Function, Instr, Prog, Source};
 use cml_value::{Event, FnRef, Tid, Value, ValueKind};
 use std::alloc::Global;
@@ -69,7 +70,7 @@ pub(crate) enum Action {
 
 // The value of an expression in a call.
 #[tactic(auto, using(crate::proofs::VariableLemmas::evaluate_named))]
-fn value_in(
+pub(crate) fn value_in(
     alloc: Global,
     program: &Prog,
     f: &Function,
@@ -140,14 +141,15 @@ fn truth_in(
     }
 }
 
-// The values of expressions in a call.
+// The values of expressions in a call, in this list in place of what it has.
 #[tactic(auto, using(crate::proofs::VariableLemmas::all_named))]
-fn values_in(
+pub(crate) fn values_in(
     alloc: Global,
     program: &Prog,
     f: &Function,
     slots: &[Value],
     es: &Exprs,
+    list: Vec<Value>,
 ) -> Result<Vec<Value>, Stop>
     requires fits { exprs_fit (arities program.now) (length f.now.names) es.now ≡ true }
     requires distinct { AreDistinct f.now.names }
@@ -158,12 +160,12 @@ fn values_in(
     ensures agree { IfOk result (λ vs. all_agree (arities program.now) vs.items ≡ true) }
     ensures count { IfOk result (λ vs. length vs.items ≡ exprs_count es.now) }
 {
-    evaluate_all(alloc, slots, es)
+    evaluate_in(alloc, slots, es, list)
 }
 
 // Makes room for a slot: those that were not given a value yet are unit.
 #[tactic(auto, using(crate::proofs::CallLemmas::padded, crate::proofs::CallLemmas::agree_padded))]
-fn pad(slots: &mut Vec<Value>, slot: usize) -> Result<(), Stop>
+pub(crate) fn pad(slots: &mut Vec<Value>, slot: usize) -> Result<(), Stop>
     ensures same { (names : List Name) →
         bound names slots.new.items ≡ bound names slots.old.items }
     ensures agree { (fs : List ℕ) → all_agree fs slots.old.items ≡ true
@@ -296,6 +298,20 @@ pub(crate) fn fill(call: &mut Call, value: Value)
     call.wait = Wait::Runs;
 }
 
+// The event that an expression in a call is, where it can be found so.
+#[tactic(auto, using(crate::proofs::VariableLemmas::evaluate_named))]
+fn event_in(program: &Prog, f: &Function, slots: &[Value], e: &Expr) -> Option<Event>
+    requires fits { expr_fits (arities program.now) (length f.now.names) e.now ≡ true }
+    requires distinct { AreDistinct f.now.names }
+    requires agree { all_agree (arities program.now) slots.now ≡ true }
+    ensures gives { let of = value_of (bound f.now.names slots.now) in
+        IfSome result (λ x.
+        meaning.evaluate of (expr_map (name_at f.now.names) e.now) ≡ Ok (plain_event x)) }
+    ensures agrees { IfSome result (λ x. event_agrees (arities program.now) x ≡ true) }
+{
+    quick_event(slots, e)
+}
+
 // An effect on one value.
 fn effect_on_one(
     alloc: Global,
@@ -316,6 +332,11 @@ fn effect_on_one(
         (waiting ∷ below)) }
     ensures did { ActionAgrees (arities program.now) result }
 {
+    if let ActOnOne::Sync = act {
+        if let Some(event) = event_in(program, f, call.slots.as_slice(), e) {
+            return Ok(Action::Forces(event));
+        }
+    }
     let value = value_in(alloc, program, f, call.slots.as_slice(), e)?;
     match act {
         ActOnOne::Sync => {
@@ -404,7 +425,8 @@ fn call_effect(
         (waiting ∷ below)) }
     ensures did { ActionAgrees (arities program.now) result }
 {
-    let args = values_in(alloc, program, f, call.slots.as_slice(), es)?;
+    let list = Vec::with_capacity(alloc, es.items.len())?;
+    let args = values_in(alloc, program, f, call.slots.as_slice(), es, list)?;
     Ok(Action::Calls(func, args))
 }
 
@@ -428,7 +450,8 @@ fn spawn_effect(
         (waiting ∷ below)) }
     ensures did { ActionAgrees (arities program.now) result }
 {
-    let args = values_in(alloc, program, f, call.slots.as_slice(), es)?;
+    let list = Vec::with_capacity(alloc, es.items.len())?;
+    let args = values_in(alloc, program, f, call.slots.as_slice(), es, list)?;
     let function = FnRef::new(alloc, func, args)?;
     Ok(Action::Asks(Ask::Spawn(function)))
 }

@@ -212,3 +212,22 @@ pub(crate) fn evaluate_all(
     }
     Ok(found)
 }
+
+/// The same, in this list in place of what it has.
+#[tactic(auto, using(crate::proofs::Prefixes::all_start, crate::proofs::Prefixes::all_next, crate::proofs::Prefixes::all_fault))]
+pub(crate) fn evaluate_in(
+    alloc: Global,
+    slots: &[Value],
+    expressions: &Exprs,
+    list: Vec<Value>,
+) -> Result<Vec<Value>, Stop>
+    ensures { let found = spec.evaluate_all (slot_value slots.now) expressions.now in
+        ComesTo (λ vs. vs.items) result found }
+{
+    let mut found = list;
+    found.clear();
+    for e in &expressions.items {
+        found.push(evaluate(alloc, slots, e)?)?;
+    }
+    Ok(found)
+}

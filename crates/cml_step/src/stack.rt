@@ -27,7 +27,7 @@ use std::alloc::Global;
 use std::mem::replace;
 
 // The most entries of a stack.
-const MAX_ENTRIES: usize = 1024;
+pub(crate) const MAX_ENTRIES: usize = 1024;
 
 // The entry on top, if there is room.
 #[tactic(auto, using(crate::proofs::StackLemmas::term_pushed, crate::proofs::StackLemmas::term_length, crate::proofs::StackLemmas::fits_pushed))]
@@ -111,7 +111,7 @@ fn deliver_to_force(
 
 // The value goes to a call that waits for it.
 #[tactic(auto, using(crate::proofs::StackLemmas::filled_fits, crate::proofs::StackLemmas::filled_room))]
-fn deliver_to_call(program: &Prog, call: &mut Call, value: Value)
+pub(crate) fn deliver_to_call(program: &Prog, call: &mut Call, value: Value)
     requires fits { CallFits program.now call.old }
     requires agrees { value_agrees (arities program.now) value ≡ true }
     ensures meant { (below : Term) →

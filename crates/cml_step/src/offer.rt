@@ -1,0 +1,78 @@
+//! Events that are found without a value made of them. `None` says nothing: then the value is to be found in full, where each fault is told.
+
+ghost use Rattle.std.specs.Prelude.{◌≡◌, Ok, IfSome};
+ghost use Rattle.cml_value.specs.Value.{chan, event, leaf};
+ghost use Rattle.cml_value.specs.Views.{plain_base};
+ghost use Rattle.cml_step.specs.Operators.{built};
+ghost use Rattle.cml_step.specs.Variables.{slot_value};
+ghost use Rattle.cml_step.specs.Evaluate.{evaluate};
+
+use crate::number::quick_int;
+use cml_check::{Binary, Expr, ExprKind, Unary};
+use cml_value::{Base, BaseKind, ChanId, Event, EventKind, Value, ValueKind};
+
+// The channel that an expression is, where it is a variable.
+fn channel(slots: &[Value], e: &Expr) -> Option<ChanId>
+    ensures { IfSome result (λ c. evaluate (slot_value slots.now) e.now ≡ Ok (chan c.0)) }
+{
+    match &e.kind {
+        ExprKind::Variable(at) => match slots.get(*at) {
+            Some(value) => match value.kind() {
+                ValueKind::Chan(c) => Some(*c),
+                _ => None,
+            },
+            None => None,
+        },
+        _ => None,
+    }
+}
+
+// The value of an expression, where it is a variable or a number.
+fn message(slots: &[Value], e: &Expr) -> Option<Value>
+    ensures { IfSome result (λ v. evaluate (slot_value slots.now) e.now ≡ Ok v) }
+{
+    match &e.kind {
+        ExprKind::Variable(at) => match slots.get(*at) {
+            Some(value) => match value.copy() {
+                Ok(copy) => Some(copy),
+                Err(_) => None,
+            },
+            None => None,
+        },
+        _ => {
+            let z = quick_int(slots, e)?;
+            Some(Value::new(ValueKind::Int(z)))
+        }
+    }
+}
+
+// The base event, if it is within the limits.
+fn offered(kind: BaseKind) -> Option<Event>
+    ensures { IfSome result (λ e. built (event (leaf (plain_base kind))) ≡ Ok (event e)) }
+{
+    let held = Event::new(EventKind::Leaf(Base::new(kind)));
+    if held.fits() {
+        Some(held)
+    } else {
+        drop(held);
+        None
+    }
+}
+
+/// The event that an expression is, where it is a receive or a send that can be found so and has no fault.
+pub(crate) fn quick_event(slots: &[Value], e: &Expr) -> Option<Event>
+    ensures { IfSome result (λ x. evaluate (slot_value slots.now) e.now ≡ Ok (event x)) }
+{
+    match &e.kind {
+        ExprKind::Unary(Unary::Recv, e) => {
+            let from = channel(slots, e)?;
+            offered(BaseKind::Recv(from))
+        }
+        ExprKind::Binary(Binary::Send, d, e) => {
+            let to = channel(slots, d)?;
+            let what = message(slots, e)?;
+            offered(BaseKind::Send(to, what))
+        }
+        _ => None,
+    }
+}
