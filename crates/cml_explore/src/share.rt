@@ -190,6 +190,7 @@ fn go_round<R: Threads + Sync>(
     ensures more { IfOk result (λ r. so_far.now.runs < r.0.runs) }
     ensures made { IfOk result (λ r. HasMade program.now asked.now r.1 r.0) }
 {
+    let wanted = asked.runs;
     let round = next_round(so_far, asked, workers);
     let count = part_count(round, workers);
     let parts = make_parts(rt, alloc, program, asked, round, count)?;
@@ -203,7 +204,7 @@ fn go_round<R: Threads + Sync>(
         }
     }
     let so_many = made.runs();
-    let last = are_all(so_many, asked.runs);
+    let last = are_all(so_many, wanted);
     Ok((made, last))
 }
 
