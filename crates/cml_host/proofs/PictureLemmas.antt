@@ -2,10 +2,13 @@
 use Rattle.std.proofs.Common.{◌≡◌, ◌∙◌, ◌++◌, [], ◌∷◌, ℕ, Bool, true, false, List, Option, Some, None, length, take, option_map, is_some, ap, Bor, refl, subst, sym, true≢false}
 use Rattle.std.proofs.Math.Seq.{take-length}
 use Rattle.cml_check.specs.Syntax.{PlainItem}
-use Rattle.cml_draw.specs.Draws.{HasUnfit, ItemsLead}
+use Rattle.cml_draw.specs.Draws.{HasUnfit, IsNotDrawn, ItemsLead}
+use Rattle.cml_draw.specs.declared.fault.DrawFault.{DrawFault}
+use Rattle.cml_draw.specs.declared.fault.DrawFault.TheVariants as fault
 use Rattle.cml_hub.specs.Courses.{PlainCourse, run_of}
 use Rattle.cml_hub.specs.Kept.{Kept, IsAtStart}
 use Rattle.cml_hub.specs.Runs.{Run, advance, is_allowed, opening, stands, stands_from}
+use Rattle.cml_narrative.specs.Tales.{Tale}
 use Rattle.cml_schedule.specs.declared.item.Item.{Item}
 use Rattle.cml_step.specs.Calls.{text_of}
 use Rattle.cml_step.specs.Terms.{Program}
@@ -59,6 +62,13 @@ no_unfit budget h items number end opens leads unfit =
     let from : stands p items ≡ stands_from p (Some (run_of h.course)) items = ap (λ (o : Option Run). stands_from p o items) (begins_at h.course.program budget h opens) in
     let nowhere = unfit_nowhere p h.course unfit.done unfit.item unfit.rest end refl unfit.leads unfit.refused in
     some_not_none Run (stands p items) leads (from ∙ ap (stands_from p (Some (run_of h.course))) split ∙ nowhere)
+
+-- so a picture does not fail for an item
+pub no_bad_item : (tale : Tale) (budget : ℕ) (h : Kept) (items : List Item) (to number : ℕ) (end : PlainCourse) (why : DrawFault) → Opens h.course.program budget h →
+    is_some (stands (text_of h.course.program) items) ≡ true → to ≡ length items → why ≡ fault.BadItem number → IsNotDrawn tale h.course items 1 to end why → ⊥
+no_bad_item tale budget h items to number end why opens leads all is not =
+    no_unfit budget h items number end opens leads
+    (subst (λ (n : ℕ). IsNotDrawn tale h.course items 1 n end (fault.BadItem number)) all (subst (λ (w : DrawFault). IsNotDrawn tale h.course items 1 to end w) is not))
 
 -- ---- the hub that begins again
 

@@ -104,7 +104,7 @@ pub fn ask<'a>(
 
 /// What is asked of the end of a run of the script, which is spoken of and not judged.
 pub fn ask_of<'a>(subject: Subject<'a>, servers: Vec<u32>) -> Asked<'a>
-    ensures { plain_asked result ≡ record { subject = Some (plain_subject subject); strict = false; servers = servers.items } }
+    ensures { plain_asked result ≡ record { subject = Some (plain_subject subject.entry); strict = false; servers = servers.items } }
 {
     Asked {
         subject: Some(subject),
