@@ -141,13 +141,7 @@ fn order_asked(turns: bool, priority: Option<u64>) -> Order
 {
     match priority {
         Some(depth) => Order::Priority(depth as u32),
-        None => {
-            if turns {
-                Order::Lot
-            } else {
-                Order::Queue
-            }
-        }
+        None => { if turns { Order::Lot } else { Order::Queue } }
     }
 }
 
@@ -185,7 +179,15 @@ fn explore_program<R: Threads + Sync, O: Write, E: Write, S: Store>(
     ensures same_out { out.new.stream.ghost_name ≡ out.old.stream.ghost_name }
     ensures same_err { err.new.stream.ghost_name ≡ err.old.stream.ghost_name }
 {
-    match explored(rt, alloc, &script.program, asked, options.workers, shows, err) {
+    match explored(
+        rt,
+        alloc,
+        &script.program,
+        asked,
+        options.workers,
+        shows,
+        err,
+    ) {
         Ok(made) => tell_made(alloc, script, options, asked, &made, out, err, store),
         Err(Halt::Memory) => {
             say(err, b"memory\n");

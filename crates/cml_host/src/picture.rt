@@ -79,11 +79,7 @@ pub fn make_picture<'a>(
 
 // What there is to save of this picture.
 #[inline(never)]
-fn make_wanted<'a>(
-    alloc: Global,
-    hub: &Hub,
-    wanted: &Wanted<'a>,
-) -> Result<Picture<'a>, AllocError>
+fn make_wanted<'a>(alloc: Global, hub: &Hub, wanted: &Wanted<'a>) -> Result<Picture<'a>, AllocError>
     ensures { IfOk result (λ picture. IsPictureFor (Some (plain_wanted wanted.now)) hub.now picture) }
 {
     match draw_run(alloc, hub, wanted.subject)? {

@@ -114,7 +114,9 @@ where
             let strict = options.end.strict;
             let (program, asked) = ask(options.file, script, explains, draws, strict, servers);
             let saving = saving_for(&asked, options.record, options.draw);
-            run_program(rt, alloc, gate, program, &asked, &saving, options, out, err, store)
+            run_program(
+                rt, alloc, gate, program, &asked, &saving, options, out, err, store,
+            )
         }
         Err(why) => {
             drop(script);
@@ -167,7 +169,9 @@ where
     ensures same_err { err.new.stream.ghost_name ≡ err.old.stream.ghost_name }
 {
     match Hub::begin(alloc, program, options.steps, options.watch) {
-        Ok(hub) => run_begun(rt, alloc, gate, hub, asked, saving, options, out, err, store),
+        Ok(hub) => run_begun(
+            rt, alloc, gate, hub, asked, saving, options, out, err, store,
+        ),
         Err(back) => {
             drop(back.value);
             say(err, b"memory\n");

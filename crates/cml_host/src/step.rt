@@ -92,9 +92,7 @@ fn step_script<I: Read, O: Write, E: Write, S: Store>(
     match Hub::begin(alloc, program, STEPS, None) {
         Ok(mut hub) => {
             let record = options.record;
-            let status = step_hub(
-                alloc, &mut hub, &subject, record, input, out, err, store,
-            );
+            let status = step_hub(alloc, &mut hub, &subject, record, input, out, err, store);
             let_go(hub);
             status
         }

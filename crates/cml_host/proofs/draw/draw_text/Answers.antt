@@ -27,8 +27,8 @@ returns-in-Err-Refused-clause-ran g c =
     (subst (λ (w : Undrawn). IsUndrawnBy s options c.args.program c.args.text.now w) c.in-Err-Refused.field-0-is c.in-Err-Refused.ensures.err)
     c.refuse.ensures.refused (search rules, c.requires.fresh.0, c.requires.fresh.1)
 
-pub returns-clause-ran : goal.returns-clause-ran
-returns-clause-ran g c =
+pub returns-in-Err-TooMany-clause-ran : goal.returns-in-Err-TooMany-clause-ran
+returns-in-Err-TooMany-clause-ran g c =
     inr (inr (inl (
       subst (λ (w : Undrawn). IsUndrawnBy (plain_subject c.args.subject.now) c.args.options.now c.args.program c.args.text.now w) c.in-Err-TooMany.field-0-is c.in-Err-TooMany.ensures.err,
       c.refuse_long.ensures.said,

@@ -22,6 +22,6 @@ pub returns-in-Ok-clause-err : goal.returns-in-Ok-clause-err
 returns-in-Ok-clause-err g c =
     let old = g.S.Store.holds c.args.store.now in
     subst (λ (why : Refusal). AreNotOpened c.args.script_name.now c.args.schedule_name.now old (Schedule why)) (sym c.from.ensures) (
-    (plain_script c.in-Ok.script, c.in-Ok.ensures.ok),
-    not_held old (g.S.Store.holds c.open_script.new.store) c.args.schedule_name.now c.in-Err-load.fault (c.open_script.ensures.same c.args.schedule_name.now) c.in-Err-load.ensures.refused,
+      (plain_script c.in-Ok.script, c.in-Ok.ensures.ok),
+      not_held old (g.S.Store.holds c.open_script.new.store) c.args.schedule_name.now c.in-Err-load.fault (c.open_script.ensures.same c.args.schedule_name.now) c.in-Err-load.ensures.refused,
     )
