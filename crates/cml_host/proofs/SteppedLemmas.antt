@@ -15,7 +15,7 @@ use Rattle.cml_trace.specs.Live.{max_turns, HasLiveCause}
 use Rattle.cml_trace.specs.declared.fault.TraceFault.{TraceFault}
 use Rattle.cml_words.specs.declared.StepOptions.{StepOptions}
 use Rattle.cml_host.specs.Closed.{PlainSubject, script_as_subject}
-use Rattle.cml_host.specs.Running.{IsKept, IsMade, IsNotKept}
+use Rattle.cml_host.specs.Running.{IsKept, IsMade}
 use Rattle.cml_host.specs.Scripts.{PlainScript}
 use Rattle.cml_host.specs.Stepped.{by_hand, stepped_budget, lines_typed, HubStepped, IsHeld, IsNotHeld, SavedRan, ScriptStepped}
 use Rattle.cml_host.specs.Stores.{Content, Shelf, IsSaved, IsUnchanged}

@@ -1,17 +1,16 @@
 -- Going through a run by hand, turn by turn.
-use Rattle.std.proofs.Common.{◌≡◌, ◌≢◌, ◌⊎◌, inl, inr, ℕ, ◌==◌, ◌<◌, Bool, true, false, cond, List, [], ◌∷◌, ◌++◌, length, Option, Result, Ok, Err, OnErr, IfErr, refl, sym, ap, subst, ◌∙◌, append_assoc, arith}
+use Rattle.std.proofs.Common.{◌≡◌, ◌≢◌, inl, inr, ℕ, ◌==◌, ◌<◌, Bool, true, false, cond, List, [], ◌∷◌, ◌++◌, length, Option, Result, Ok, Err, OnErr, IfErr, refl, sym, ap, subst, ◌∙◌, append_assoc, arith}
 use Rattle.std.specs.Io.KnownBytes.{Keeps, Appends}
 use Rattle.std.specs.Result.{IsErrAnd}
-use Rattle.std.proofs.KnownBytes.{Keeps-refl, Appends-nil, Appends-trans, Appends-kept, Consumes-nil, Consumes-trans, Consumes-kept}
+use Rattle.std.proofs.KnownBytes.{Appends-nil, Appends-trans, Appends-kept, Consumes-nil, Consumes-trans, Consumes-kept}
 use Rattle.std.proofs.lemmas.List.{append-nil}
 use Rattle.std.proofs.lemmas.Bool.Decides.{nat_tests}
-use Rattle.cml_stream.specs.Streams.{Stream, stream, IsSpent, IsUntouched, Supplies, Takes, TakesStart}
+use Rattle.cml_stream.specs.Streams.{Stream, stream, IsSpent, Supplies, Takes, TakesStart}
 use Rattle.cml_stepper.specs.Questions.{ByHand, IsQuestion}
 use Rattle.cml_hub.specs.Kept.{Kept}
-use Rattle.cml_stepper.specs.Replies.{AnswersLine}
 use Rattle.cml_stepper.specs.Sessions.{Session}
-use Rattle.cml_trace.specs.Live.{IsWriteFailure}
-use Rattle.cml_host.specs.Stepped.{begun_line, lines_typed, Leaves, TalksOn, TalksOut, TalkIsCut, IsAnsweredBy, IsUnanswered, IsTurnTaken, IsTurnLost, IsHeld, HasHeldOn, IsCutShort, IsNotHeld}
+use Rattle.cml_trace.specs.Faults.{IsWriteFailure}
+use Rattle.cml_host.specs.Stepped.{lines_typed, Leaves, TalksOn, TalksOut, TalkIsCut, IsAnsweredBy, IsUnanswered, IsTurnTaken, IsTurnLost, IsNotHeld}
 use Rattle.cml_trace.specs.declared.fault.TraceFault.{TraceFault}
 use Rattle.cml_trace.specs.declared.fault.TraceFault.TheVariants as fault
 use Rattle.cml_stepper.proofs.SessionLemmas.{one_line, session_both}

@@ -1,4 +1,4 @@
-use Rattle.std.proofs.Common.{List, ℕ, option_map, refl, subst}
+use Rattle.std.proofs.Common.{◌∙◌, List, ℕ, option_map, refl, subst}
 use Rattle.cml_stream.specs.Streams.{counted_stream, Says}
 use Rattle.cml_host.specs.Closed.{plain_subject}
 use Rattle.cml_host.specs.Stepped.{by_hand}
@@ -23,4 +23,4 @@ returns-in-Err-clause-stepped g c =
     let store : Shelf = record { before = g.S.Store.holds c.args.store.now; after = g.S.Store.holds c.args.store.now } in
     hub_cut (by_hand (plain_subject c.args.subject.now)) c.args.hub.now.course.program (option_map (λ name. name.now) c.args.save_as) c.args.hub.now c.in-Err.why input output errors store
     c.fault_status.result c.in-Err.ensures.err c.in-Err.ensures.cause
-    (subst (λ (t : List ℕ). Says errors t) c.fault_line.ensures (rw c.as_bytes.ensures at c.say.ensures.said)) c.fault_status.ensures (λ name. refl)
+    (subst (λ (t : List ℕ). Says errors t) (c.as_bytes.ensures.value ∙ c.fault_line.ensures) c.say.ensures.said) c.fault_status.ensures (λ name. refl)

@@ -1,4 +1,3 @@
-use Rattle.std.proofs.Common.{rules, inr, refl}
 use Rattle.cml_stream.specs.Streams.{counted_stream}
 use Rattle.cml_host.specs.Closed.{plain_subject}
 use Rattle.cml_host.specs.Scripts.{plain_script}
@@ -7,8 +6,8 @@ use Rattle.cml_host.proofs.RanLemmas.{starts_itself}
 use Rattle.cml_host.proofs.SteppedLemmas.{script_stepped}
 use Rattle.cml_host.proofs.step.step_script.Goals as goal
 
-pub step_hub-requires-clause-start : goal.step_hub-requires-clause-start
-step_hub-requires-clause-start g c κs within = starts_itself c.subject_of-program.result.0 _ _ c.in-Ok.hub c.in-Ok.ensures.ok
+pub step_hub-status-requires-clause-start : goal.step_hub-status-requires-clause-start
+step_hub-status-requires-clause-start g c = starts_itself c.subject_of-program.result.0 _ _ c.in-Ok.hub c.in-Ok.ensures.ok
 
 pub returns-in-Ok-clause-ran : goal.returns-in-Ok-clause-ran
 returns-in-Ok-clause-ran g c =

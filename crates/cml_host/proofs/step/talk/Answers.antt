@@ -1,4 +1,4 @@
-use Rattle.std.proofs.Common.{rules, ◌≡◌, ◌∙◌, ℕ, Bool, true, false, List, [], subst}
+use Rattle.std.proofs.Common.{rules, ◌≡◌, ◌∙◌, ℕ, true, false, List, [], subst}
 use Rattle.std.specs.Result.{IsErrAnd}
 use Rattle.cml_stream.specs.Streams.{stream, TakesStart}
 use Rattle.cml_stepper.specs.Hands.{script_of}
