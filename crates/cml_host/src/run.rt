@@ -128,16 +128,13 @@ where
 // What is to be saved, under these names.
 fn saving_for<'a>(
     asked: &'a Asked<'a>,
-    record: Option<&'a str>,
+    schedule: Option<&'a str>,
     draw: Option<&'a str>,
 ) -> Saving<'a>
-    ensures { plain_saving result ≡ names_saved (option_map (λ name. name.now) record.entry) (option_map (λ name. name.now) draw.entry) (drawn_subject asked.now) }
+    ensures { plain_saving result ≡ names_saved (option_map (λ name. name.now) schedule.entry) (option_map (λ name. name.now) draw.entry) (drawn_subject asked.now) }
 {
     let picture = wanted_from(asked, draw);
-    Saving {
-        schedule: record,
-        picture,
-    }
+    Saving { schedule, picture }
 }
 
 // Runs the program.
