@@ -1,12 +1,16 @@
-//! What is said of many runs: whole answers, each worked out by hand. What a seed picks was computed apart, by its generator as it is published.
+//! What is said of many runs: whole answers, each worked out by hand. What a seed picks was computed apart, by its generator as it is published, and
+//! which run it makes from the text of NOTATION.
 
-ghost use Rattle.std.specs.Prelude.{◌≤◌, ◌+◌, ◌^◌};
+ghost use Rattle.std.specs.Prelude.{◌≤◌, ◌+◌, ◌^◌, IfOk};
 ghost use Rattle.cml_hub.specs.Kept.{IsBudget};
 
 use crate::making::{MEMORY, forms, in_range, program};
-use cml_explore::{Asked, Until, explain_runs, explore};
+use cml_check::Prog;
+use cml_explore::{Asked, Explored, Order, Until, explain_runs, explore};
+use std::alloc::{AllocError, Global};
 use std::process::Abort;
 use std::rt::HostRuntime;
+use std::thread::Threads;
 
 // Runs of a script, and what is said of them.
 struct Case {
@@ -14,7 +18,7 @@ struct Case {
     budget: u64,
     first: u64,
     runs: u64,
-    turns: bool,
+    order: Order,
     servers: &'static [u32],
     until: Option<Until>,
     said: &'static str,
@@ -36,13 +40,13 @@ const GIVES: &str =
 const PUT: &str =
     "(fn taker (m)\n  (sync (mtake m)))\n(fn main ()\n  (let m (mvar 0))\n  (spawn taker m)\n  (mput m 1))";
 
-const CASES: [Case; 12] = [
+const CASES: [Case; 20] = [
     Case {
         script: "(fn main ()\n  (print 1))",
         budget: 100,
         first: 7,
         runs: 1,
-        turns: false,
+        order: Order::Queue,
         servers: &[],
         until: None,
         said: "1 run of a.cml, seed 7\n1  quiet, none waits   1 output    first: seed 7, 2 items\n",
@@ -54,7 +58,7 @@ const CASES: [Case; 12] = [
         budget: 100,
         first: 0,
         runs: 10,
-        turns: false,
+        order: Order::Queue,
         servers: &[],
         until: None,
         said: "10 runs of a.cml, seeds 0 to 9\n6  quiet, 2 wait    1 output    first: seed 1, 13 items\n       thread 1 lock((mvar 0) (mvar 1)) at 4:3: take M-variable 1, which is empty; last taken by thread 2 lock((mvar 1) (mvar 0))\n       thread 2 lock((mvar 1) (mvar 0)) at 4:3: take M-variable 0, which is empty; last taken by thread 1 lock((mvar 0) (mvar 1))\n4  quiet, 1 waits   1 output    first: seed 0, 12 items\n       thread 1 lock((mvar 0) (mvar 1)) at 2:3: take M-variable 0, which is empty; last taken by thread 2 lock((mvar 1) (mvar 0))\n",
@@ -66,7 +70,7 @@ const CASES: [Case; 12] = [
         budget: 100,
         first: 1,
         runs: 2,
-        turns: false,
+        order: Order::Queue,
         servers: &[0],
         until: None,
         said: "2 runs of a.cml, seeds 1 to 2\n2  quiet, 2 wait   1 output    first: seed 1, 13 items\n       thread 1 lock((mvar 0) (mvar 1)) at 4:3: take M-variable 1, which is empty; last taken by thread 2 lock((mvar 1) (mvar 0))\n       thread 2 lock((mvar 1) (mvar 0)) at 4:3: take M-variable 0, which is empty; last taken by thread 1 lock((mvar 0) (mvar 1))\n",
@@ -78,7 +82,7 @@ const CASES: [Case; 12] = [
         budget: 100,
         first: 0,
         runs: 10,
-        turns: false,
+        order: Order::Queue,
         servers: &[],
         until: None,
         said: "10 runs of a.cml, seeds 0 to 9\n10  quiet, 1 waits   2 outputs   first: seed 0, 10 items\n       thread 1 give((chan 0) 1) at 2:3: send 1 on channel 0\n",
@@ -89,7 +93,7 @@ const CASES: [Case; 12] = [
         budget: 100,
         first: 3,
         runs: 10,
-        turns: false,
+        order: Order::Queue,
         servers: &[],
         until: Some(Until::Waits),
         said: "1 run of a.cml, seed 3\n1  quiet, 1 waits   1 output    first: seed 3, 10 items\n       thread 1 give((chan 0) 1) at 2:3: send 1 on channel 0\n",
@@ -100,7 +104,7 @@ const CASES: [Case; 12] = [
         budget: 10,
         first: 0,
         runs: 2,
-        turns: false,
+        order: Order::Queue,
         servers: &[],
         until: Some(Until::Fault),
         said: "2 runs of a.cml, seeds 0 to 1\n2  budget, none waits, 1 runs   1 output    first: seed 0, 6 items\n       thread 1 spin at 2:3 runs\n",
@@ -111,7 +115,7 @@ const CASES: [Case; 12] = [
         budget: 10,
         first: 5,
         runs: 100,
-        turns: false,
+        order: Order::Queue,
         servers: &[],
         until: Some(Until::Budget),
         said: "1 run of a.cml, seed 5\n1  budget, none waits, 1 runs   1 output    first: seed 5, 6 items\n       thread 1 spin at 2:3 runs\n",
@@ -123,7 +127,7 @@ const CASES: [Case; 12] = [
         budget: 100,
         first: 18_446_744_073_709_551_614,
         runs: 2,
-        turns: false,
+        order: Order::Queue,
         servers: &[],
         until: None,
         said: "2 runs of a.cml, seeds 18446744073709551614 to 18446744073709551615\n2  quiet, none waits, 1 fault   1 output    first: seed 18446744073709551614, 1 item\n       thread 0 main at 2:3 ends at a fault: + takes numbers, and was given () and 1\n",
@@ -134,7 +138,7 @@ const CASES: [Case; 12] = [
         budget: 100,
         first: 0,
         runs: 0,
-        turns: false,
+        order: Order::Queue,
         servers: &[],
         until: None,
         said: "0 runs of a.cml, seed 0\n",
@@ -146,7 +150,7 @@ const CASES: [Case; 12] = [
         budget: 100,
         first: 0,
         runs: 10,
-        turns: false,
+        order: Order::Queue,
         servers: &[],
         until: None,
         said: "10 runs of a.cml, seeds 0 to 9\n10  quiet, none waits, 1 fault   1 output    first: seed 0, 6 items\n       thread 0 main at 6:3 ends at a fault: M-variable 0 is full: it can be put only where it is empty\n",
@@ -158,7 +162,7 @@ const CASES: [Case; 12] = [
         budget: 100,
         first: 0,
         runs: 10,
-        turns: true,
+        order: Order::Lot,
         servers: &[],
         until: None,
         said: "10 runs of a.cml, seeds 0 to 9\n7  quiet, none waits, 1 fault   1 output    first: seed 0, 6 items\n       thread 0 main at 6:3 ends at a fault: M-variable 0 is full: it can be put only where it is empty\n3  quiet, none waits            1 output    first: seed 5, 7 items\n",
@@ -169,11 +173,103 @@ const CASES: [Case; 12] = [
         budget: 100,
         first: 0,
         runs: 10,
-        turns: true,
+        order: Order::Lot,
         servers: &[],
         until: None,
         said: "10 runs of a.cml, seeds 0 to 9\n10  quiet, 1 waits   2 outputs   first: seed 0, 10 items\n       thread 2 give((chan 0) 2) at 2:3: send 2 on channel 0\n",
         well: false,
+    },
+    // by lot both have taken one more often
+    Case {
+        script: LOCKS,
+        budget: 100,
+        first: 0,
+        runs: 10,
+        order: Order::Lot,
+        servers: &[],
+        until: None,
+        said: "10 runs of a.cml, seeds 0 to 9\n8  quiet, 2 wait    1 output    first: seed 0, 13 items\n       thread 1 lock((mvar 0) (mvar 1)) at 4:3: take M-variable 1, which is empty; last taken by thread 2 lock((mvar 1) (mvar 0))\n       thread 2 lock((mvar 1) (mvar 0)) at 4:3: take M-variable 0, which is empty; last taken by thread 1 lock((mvar 0) (mvar 1))\n2  quiet, 1 waits   1 output    first: seed 7, 12 items\n       thread 1 lock((mvar 0) (mvar 1)) at 2:3: take M-variable 0, which is empty; last taken by thread 2 lock((mvar 1) (mvar 0))\n",
+        well: false,
+    },
+    // by priorities alone a thread goes on until it waits, or until a row comes before it
+    Case {
+        script: LOCKS,
+        budget: 100,
+        first: 0,
+        runs: 10,
+        order: Order::Priority(1),
+        servers: &[],
+        until: None,
+        said: "10 runs of a.cml, seeds 0 to 9\n9  quiet, 1 waits   1 output    first: seed 1, 12 items\n       thread 2 lock((mvar 1) (mvar 0)) at 2:3: take M-variable 1, which is empty; last taken by thread 1 lock((mvar 0) (mvar 1))\n1  quiet, 2 wait    1 output    first: seed 0, 13 items\n       thread 1 lock((mvar 0) (mvar 1)) at 4:3: take M-variable 1, which is empty; last taken by thread 2 lock((mvar 1) (mvar 0))\n       thread 2 lock((mvar 1) (mvar 0)) at 4:3: take M-variable 0, which is empty; last taken by thread 1 lock((mvar 0) (mvar 1))\n",
+        well: false,
+    },
+    Case {
+        script: LOCKS,
+        budget: 100,
+        first: 0,
+        runs: 10,
+        order: Order::Priority(3),
+        servers: &[],
+        until: None,
+        said: "10 runs of a.cml, seeds 0 to 9\n9  quiet, 1 waits   1 output    first: seed 0, 12 items\n       thread 2 lock((mvar 1) (mvar 0)) at 2:3: take M-variable 1, which is empty; last taken by thread 1 lock((mvar 0) (mvar 1))\n1  quiet, 2 wait    1 output    first: seed 6, 13 items\n       thread 1 lock((mvar 0) (mvar 1)) at 4:3: take M-variable 1, which is empty; last taken by thread 2 lock((mvar 1) (mvar 0))\n       thread 2 lock((mvar 1) (mvar 0)) at 4:3: take M-variable 0, which is empty; last taken by thread 1 lock((mvar 0) (mvar 1))\n",
+        well: false,
+    },
+    // more points than the run has items
+    Case {
+        script: LOCKS,
+        budget: 100,
+        first: 0,
+        runs: 10,
+        order: Order::Priority(64),
+        servers: &[],
+        until: None,
+        said: "10 runs of a.cml, seeds 0 to 9\n5  quiet, 2 wait    1 output    first: seed 0, 13 items\n       thread 1 lock((mvar 0) (mvar 1)) at 4:3: take M-variable 1, which is empty; last taken by thread 2 lock((mvar 1) (mvar 0))\n       thread 2 lock((mvar 1) (mvar 0)) at 4:3: take M-variable 0, which is empty; last taken by thread 1 lock((mvar 0) (mvar 1))\n5  quiet, 1 waits   1 output    first: seed 3, 12 items\n       thread 2 lock((mvar 1) (mvar 0)) at 2:3: take M-variable 1, which is empty; last taken by thread 1 lock((mvar 0) (mvar 1))\n",
+        well: false,
+    },
+    // no points, as where the depth is 1
+    Case {
+        script: PUT,
+        budget: 100,
+        first: 0,
+        runs: 10,
+        order: Order::Priority(0),
+        servers: &[],
+        until: None,
+        said: "10 runs of a.cml, seeds 0 to 9\n5  quiet, none waits, 1 fault   1 output    first: seed 0, 6 items\n       thread 0 main at 6:3 ends at a fault: M-variable 0 is full: it can be put only where it is empty\n5  quiet, none waits            1 output    first: seed 3, 7 items\n",
+        well: false,
+    },
+    Case {
+        script: PUT,
+        budget: 100,
+        first: 0,
+        runs: 10,
+        order: Order::Priority(1),
+        servers: &[],
+        until: None,
+        said: "10 runs of a.cml, seeds 0 to 9\n5  quiet, none waits, 1 fault   1 output    first: seed 0, 6 items\n       thread 0 main at 6:3 ends at a fault: M-variable 0 is full: it can be put only where it is empty\n5  quiet, none waits            1 output    first: seed 3, 7 items\n",
+        well: false,
+    },
+    Case {
+        script: PUT,
+        budget: 100,
+        first: 0,
+        runs: 10,
+        order: Order::Priority(2),
+        servers: &[],
+        until: None,
+        said: "10 runs of a.cml, seeds 0 to 9\n6  quiet, none waits            1 output    first: seed 0, 7 items\n4  quiet, none waits, 1 fault   1 output    first: seed 3, 6 items\n       thread 0 main at 6:3 ends at a fault: M-variable 0 is full: it can be put only where it is empty\n",
+        well: false,
+    },
+    Case {
+        script: PUT,
+        budget: 100,
+        first: 0,
+        runs: 10,
+        order: Order::Priority(64),
+        servers: &[],
+        until: None,
+        said: "10 runs of a.cml, seeds 0 to 9\n10  quiet, none waits   1 output    first: seed 0, 7 items\n",
+        well: true,
     },
 ];
 
@@ -187,10 +283,32 @@ fn asked_by(rt: &impl Abort, case: &Case) -> Asked<'static>
         budget: in_range(rt, case.budget),
         first: case.first,
         runs: case.runs,
-        turns: case.turns,
+        order: case.order,
         servers: case.servers,
         until: case.until,
     }
+}
+
+// The same runs, shared among so many threads.
+fn made_beside<R: Threads + Sync>(
+    rt: &R,
+    alloc: Global,
+    program: &Prog,
+    asked: &Asked<'_>,
+    workers: usize,
+) -> Result<Explored, AllocError>
+    requires budget { IsBudget asked.now.budget }
+    requires seeds { asked.now.first + asked.now.runs ≤ 2 ^ 64 }
+    ensures few { IfOk result (λ made. made.runs ≤ asked.now.runs) }
+{
+    let mut made = Explored::new(alloc);
+    'rounds: while made.runs() < asked.runs {
+        let last = made.go_beside(rt, alloc, program, asked, workers)?;
+        if last {
+            return Ok(made);
+        }
+    }
+    Ok(made)
 }
 
 #[test]
@@ -220,6 +338,69 @@ fn tells_of_many_runs(rt: HostRuntime) {
 }
 
 #[test]
+fn tells_the_same_by_more_threads(rt: HostRuntime) {
+    for case in &CASES {
+        let forms = forms(&rt, case.script);
+        let program = program(&rt, forms.as_slice());
+        let asked = asked_by(&rt, case);
+        for workers in [1, 2, 4].as_slice() {
+            let made = made_beside(&rt, rt.alloc(), &program, &asked, *workers).expect(&rt, MEMORY);
+            assert!(rt; made.is_well() == case.well, "{}", case.said);
+            let said = explain_runs(
+                rt.alloc(),
+                "a.cml",
+                case.script.as_bytes(),
+                forms.as_slice(),
+                &program,
+                asked,
+                &made,
+            )
+            .expect(&rt, MEMORY);
+            assert!(rt; said.as_slice() == case.said.as_bytes(), "{}", case.said);
+            drop(said);
+            drop(made);
+        }
+        drop(program);
+        drop(forms);
+    }
+}
+
+// More runs than two threads make in a round: the rounds follow one another.
+#[test]
+fn rounds_follow_one_another(rt: HostRuntime) {
+    let forms = forms(&rt, LOCKS);
+    let program = program(&rt, forms.as_slice());
+    let asked = Asked {
+        budget: 100,
+        first: 3,
+        runs: 1100,
+        order: Order::Queue,
+        servers: &[],
+        until: None,
+    };
+    let one = explore(rt.alloc(), &program, asked).expect(&rt, MEMORY);
+    let two = made_beside(&rt, rt.alloc(), &program, &asked, 2).expect(&rt, MEMORY);
+    assert_eq!(rt; two.runs(), 1100);
+    assert_eq!(rt; two.classes().len(), one.classes().len());
+    for number in 0..2 {
+        assert!(rt; number < one.classes().len() && number < two.classes().len());
+        let (one, two) = (
+            one.classes().class(number).tally,
+            two.classes().class(number).tally,
+        );
+        assert_eq!(rt; two.runs(), one.runs());
+        assert_eq!(rt; two.first(), one.first());
+        assert_eq!(rt; two.items(), one.items());
+        assert_eq!(rt; two.outputs(), one.outputs());
+        assert!(rt; two.shortest() == one.shortest());
+    }
+    drop(two);
+    drop(one);
+    drop(program);
+    drop(forms);
+}
+
+#[test]
 fn keeps_the_shortest_schedule(rt: HostRuntime) {
     let forms = forms(&rt, LOCKS);
     let program = program(&rt, forms.as_slice());
@@ -227,7 +408,7 @@ fn keeps_the_shortest_schedule(rt: HostRuntime) {
         budget: 100,
         first: 0,
         runs: 10,
-        turns: false,
+        order: Order::Queue,
         servers: &[],
         until: None,
     };

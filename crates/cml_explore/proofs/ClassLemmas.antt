@@ -107,6 +107,11 @@ begins (Ok x) f seed end ks ts new_details new_tallies old same none view known 
     ∙ (classed_new f seed end ks ts same none ∙ ap (classed seed end) (sym view)))
 begins (Err y) f seed end ks ts new_details new_tallies old same none view known told = tt
 
+-- a tally was appended, which is this one
+pub last_is : {A T E : Type 0} (r : Result T E) (old new : List A) (t u : A) → t ≡ u → OnOk r (new ≡ old ++ t ∷ []) → OnOk r (new ≡ old ++ u ∷ [])
+last_is (Ok x) old new t u same more = more ∙ ap (λ v. old ++ v ∷ []) same
+last_is (Err y) old new t u same more = tt
+
 -- there are as many classes as tallies
 pub class_count : {K : Type 0} (f : K → List Detail) (ks : List K) (ts : List PlainTally) → length ks ≡ length ts → length (with_details (map f ks) ts) ≡ length ts
 class_count f [] [] same = refl

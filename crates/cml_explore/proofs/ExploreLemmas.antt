@@ -15,18 +15,20 @@ use Rattle.cml_explore.specs.declared.detail.Detail.{Detail}
 use Rattle.cml_explore.specs.Details.{alike}
 use Rattle.cml_explore.specs.Classes.{Finish, PlainClass, grown, classed, classed_all}
 use Rattle.cml_explore.specs.declared.explored.Until.{Until}
+use Rattle.cml_explore.specs.declared.order.Order.{Order}
 use Rattle.cml_explore.specs.Finishes.{PlainEnded, is_well, stops, IsEndOf, EndsSoBy, EachEnds, IsSeedRun, finish_of}
 use Rattle.cml_explore.specs.Explored.{PlainExplored, gathered, nothing_made, with_ended, IsExplored, SoFar, HasMade}
+use Rattle.cml_explore.specs.Merges.{StopsLast}
 
 -- one run more, by the seed that follows
-ends_more : (p : List (PlainItem ℕ)) (budget : ℕ) (turns : Bool) (servers : List ℕ) (seed : ℕ) (es : List PlainEnded) (n : ℕ) (e : PlainEnded) → n ≡ seed + length es
-    → EachEnds p budget turns servers seed es → EndsSoBy p budget turns servers n e → EachEnds p budget turns servers seed (es ++ e ∷ [])
-ends_more p budget turns servers seed [] n e at each is =
+ends_more : (p : List (PlainItem ℕ)) (budget : ℕ) (order : Order) (servers : List ℕ) (seed : ℕ) (es : List PlainEnded) (n : ℕ) (e : PlainEnded) → n ≡ seed + length es
+    → EachEnds p budget order servers seed es → EndsSoBy p budget order servers n e → EachEnds p budget order servers seed (es ++ e ∷ [])
+ends_more p budget order servers seed [] n e at each is =
     let here : n ≡ seed = omega arith in
-    (subst (λ k. EndsSoBy p budget turns servers k e) here is, tt)
-ends_more p budget turns servers seed (x ∷ es) n e at each is =
+    (subst (λ k. EndsSoBy p budget order servers k e) here is, tt)
+ends_more p budget order servers seed (x ∷ es) n e at each is =
     let next : n ≡ suc seed + length es = omega arith in
-    (each.0, ends_more p budget turns servers (suc seed) es n e next each.1 is)
+    (each.0, ends_more p budget order servers (suc seed) es n e next each.1 is)
 
 classed_more : (seed : ℕ) (es : List Finish) (n : ℕ) (e : Finish) (cs : List PlainClass) → n ≡ seed + length es
     → classed_all seed (es ++ e ∷ []) cs ≡ classed n e (classed_all seed es cs)
@@ -57,10 +59,10 @@ or_false false = refl
 any_more : (p : PlainEnded → Bool) (es : List PlainEnded) (e : PlainEnded) → p e ≡ false → list_any p es ≡ false → list_any p (es ++ e ∷ []) ≡ false
 any_more p es e h none = list_any-append p es (e ∷ []) ∙ (ap (λ b. b || (p e || false)) none ∙ (or_false (p e) ∙ h))
 
-abbrev the_parts : List PlainClass → ℕ → Bool → PlainExplored
+abbrev pub the_parts : List PlainClass → ℕ → Bool → PlainExplored
 the_parts cs n b = record { classes = cs; runs = n; well = b }
 
-same_parts : (cs ds : List PlainClass) (m n : ℕ) (a b : Bool) → cs ≡ ds → m ≡ n → a ≡ b
+pub same_parts : (cs ds : List PlainClass) (m n : ℕ) (a b : Bool) → cs ≡ ds → m ≡ n → a ≡ b
     → the_parts cs m a ≡ the_parts ds n b
 same_parts cs ds m n a b e f g = cc
 
@@ -112,12 +114,12 @@ is_few p asked m made so_far h =
     All-weaker (λ (x : PlainClass). x.tally.runs ≤ length so_far.ends) (λ (x : PlainClass). x.tally.runs < m) (λ x g. omega (arith, g, many, h)) made.classes all
 
 module _ (p : List (PlainItem ℕ)) (asked : Asked) (old new : PlainExplored) (e : PlainEnded) (so_far : SoFar p asked old) (n : ℕ) (at : n ≡ asked.first + old.runs)
-    (is : EndsSoBy p asked.budget asked.turns asked.servers.now n e) (made : new ≡ with_ended n e old) where
+    (is : EndsSoBy p asked.budget asked.order asked.servers.now n e) (made : new ≡ with_ended n e old) where
   at_seed : n ≡ asked.first + length so_far.ends
   at_seed = at ∙ ap (λ k. asked.first + k) (as_many p asked old so_far)
 
-  each_so : EachEnds p asked.budget asked.turns asked.servers.now asked.first (so_far.ends ++ e ∷ [])
-  each_so = ends_more p asked.budget asked.turns asked.servers.now asked.first so_far.ends n e at_seed so_far.each is
+  each_so : EachEnds p asked.budget asked.order asked.servers.now asked.first (so_far.ends ++ e ∷ [])
+  each_so = ends_more p asked.budget asked.order asked.servers.now asked.first so_far.ends n e at_seed so_far.each is
 
   all_so : new ≡ gathered asked.first (so_far.ends ++ e ∷ [])
   all_so =
@@ -143,6 +145,19 @@ module _ (p : List (PlainItem ℕ)) (asked : Asked) (old new : PlainExplored) (e
         gathered_so = all_so;
       }
 
+  pub stopped_so : stops asked.until e ≡ true → old.runs < asked.runs → StopsLast p asked new
+  stopped_so is_last h =
+      let more : new.runs ≡ old.runs + 1 = ap (λ (m : PlainExplored). m.runs) made in
+      record {
+        before = so_far.ends;
+        last = e;
+        each = each_so;
+        none = so_far.none;
+        stops_there = is_last;
+        few = omega (arith, more, h);
+        gathered_so = all_so;
+      }
+
 -- all that were asked for were made
 pub is_done : (p : List (PlainItem ℕ)) (asked : Asked) (made : PlainExplored) → SoFar p asked made → made.runs ≡ asked.runs → IsExplored p asked made
 is_done p asked made so_far h = record {
@@ -158,11 +173,11 @@ made_so true p asked made so_far h is = let same : made.runs ≡ asked.runs = gr
 made_so false p asked made so_far h is = let few : made.runs < asked.runs = grind (arith, nat_tests) in (so_far, few)
 
 -- a run was added, which a hub has made by the seed
-pub added_by : {E : Type 0} (r : Result Bool E) (p : List (PlainItem ℕ)) (budget : ℕ) (turns : Bool) (servers : List ℕ) (until : Option Until) (seed : ℕ) (h : Kept) (old new : PlainExplored) → IsSeedRun p budget turns seed h
+pub added_by : {E : Type 0} (r : Result Bool E) (p : List (PlainItem ℕ)) (budget : ℕ) (order : Order) (servers : List ℕ) (until : Option Until) (seed : ℕ) (h : Kept) (old new : PlainExplored) → IsSeedRun p budget order seed h
     → IfOk r (λ s. (e : PlainEnded) × IsEndOf servers h e × (new ≡ with_ended seed e old) × (s ≡ stops until e))
-    → IfOk r (λ s. (e : PlainEnded) × EndsSoBy p budget turns servers seed e × (new ≡ with_ended seed e old) × (s ≡ stops until e))
-added_by (Ok s) p budget turns servers until seed h old new run is = (is.0, (h, run, is.1), is.2, is.3)
-added_by (Err x) p budget turns servers until seed h old new run is = tt
+    → IfOk r (λ s. (e : PlainEnded) × EndsSoBy p budget order servers seed e × (new ≡ with_ended seed e old) × (s ≡ stops until e))
+added_by (Ok s) p budget order servers until seed h old new run is = (is.0, (h, run, is.1), is.2, is.3)
+added_by (Err x) p budget order servers until seed h old new run is = tt
 
 -- they are at most as many as were asked for
 pub at_most : (p : List (PlainItem ℕ)) (asked : Asked) (made : PlainExplored) → IsExplored p asked made → made.runs ≤ asked.runs

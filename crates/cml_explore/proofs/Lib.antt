@@ -1,9 +1,15 @@
 pub mod ClassLemmas
 pub mod FallLemmas
 pub mod DetailLemmas
+pub mod DrawLemmas
 pub mod LotLemmas
+pub mod PriorityLemmas
 pub mod RunLemmas
 pub mod ExploreLemmas
+pub mod MergeLemmas
+pub mod JoinLemmas
+pub mod PartLemmas
+pub mod Crossing
 pub mod SightLemmas
 pub mod AnswerLemmas
 pub mod RankLemmas

@@ -1,5 +1,5 @@
 -- What is said of many runs.
-use Rattle.std.specs.Prelude.{◌≡◌, ℕ, ◌+◌, ◌-◌, Bool, nat_le, if◌then◌else◌, List, [], ◌∷◌, ◌++◌, codes, Option, MatchOption, slice_get}
+use Rattle.std.specs.Prelude.{◌≡◌, ℕ, ◌+◌, ◌-◌, nat_le, if◌then◌else◌, List, [], ◌∷◌, ◌++◌, codes, Option, MatchOption, slice_get}
 use Rattle.std.specs.Fmt.{decimal}
 use Rattle.cml_text.specs.Forms.{PlainSexpr}
 use Rattle.cml_check.specs.Syntax.{PlainItem}
@@ -10,6 +10,7 @@ use Rattle.cml_phrase.specs.Spots.{all_places}
 use Rattle.cml_ending.specs.declared.standing.Spot.{Spot}
 use Rattle.cml_ending.specs.Lines.{many}
 use Rattle.cml_explore.specs.declared.explored.Asked.{Asked}
+use Rattle.cml_explore.specs.declared.order.Order.{Order}
 use Rattle.cml_explore.specs.declared.words.Widths.{Widths}
 use Rattle.cml_explore.specs.Classes.{PlainClass}
 use Rattle.cml_explore.specs.Finishes.{IsSeedRun}
@@ -29,25 +30,25 @@ pub record AreLeft (places : List (List Place)) (forms : List PlainSexpr) (c : P
   pub lines_are : lines ≡ all_left (sight_of forms places c falls spots) 0 c.world.threads
 
 -- those in the run of a program by a seed
-abbrev pub AreLeftBySeed : List (List Place) → List PlainSexpr → List (PlainItem ℕ) → ℕ → Bool → ℕ → List ℕ → Type 0
-AreLeftBySeed places forms p budget turns seed lines = (h : Kept) × IsSeedRun p budget turns seed h × AreLeft places forms h.course lines
+abbrev pub AreLeftBySeed : List (List Place) → List PlainSexpr → List (PlainItem ℕ) → ℕ → Order → ℕ → List ℕ → Type 0
+AreLeftBySeed places forms p budget order seed lines = (h : Kept) × IsSeedRun p budget order seed h × AreLeft places forms h.course lines
 
 -- what is said of a class: its line, and those of the threads that are left in its first run, or ended at a fault
-abbrev pub ClassSaid : List (List Place) → List PlainSexpr → List (PlainItem ℕ) → ℕ → Bool → Widths → PlainClass → List ℕ → Type 0
-ClassSaid places forms p budget turns w c said =
-    (lines : List ℕ) × AreLeftBySeed places forms p budget turns c.tally.first lines × (said ≡ class_line w c ++ lines)
+abbrev pub ClassSaid : List (List Place) → List PlainSexpr → List (PlainItem ℕ) → ℕ → Order → Widths → PlainClass → List ℕ → Type 0
+ClassSaid places forms p budget order w c said =
+    (lines : List ℕ) × AreLeftBySeed places forms p budget order c.tally.first lines × (said ≡ class_line w c ++ lines)
 
 -- what is said of the class of a rank
-abbrev pub RankSaid : List (List Place) → List PlainSexpr → List (PlainItem ℕ) → ℕ → Bool → Widths → List PlainClass → Rank → List ℕ → Type 0
-RankSaid places forms p budget turns w classes rank said =
-    MatchOption (slice_get classes rank.1) (said ≡ []) (λ c. ClassSaid places forms p budget turns w c said)
+abbrev pub RankSaid : List (List Place) → List PlainSexpr → List (PlainItem ℕ) → ℕ → Order → Widths → List PlainClass → Rank → List ℕ → Type 0
+RankSaid places forms p budget order w classes rank said =
+    MatchOption (slice_get classes rank.1) (said ≡ []) (λ c. ClassSaid places forms p budget order w c said)
 
 -- one after another
-abbrev pub AllSaid : List (List Place) → List PlainSexpr → List (PlainItem ℕ) → ℕ → Bool → Widths → List PlainClass → List Rank → List ℕ → Type 0
-AllSaid places forms p budget turns w classes [] said = said ≡ []
-AllSaid places forms p budget turns w classes (rank ∷ ranks) said =
-    (one : List ℕ) × (more : List ℕ) × RankSaid places forms p budget turns w classes rank one
-    × AllSaid places forms p budget turns w classes ranks more × (said ≡ one ++ more)
+abbrev pub AllSaid : List (List Place) → List PlainSexpr → List (PlainItem ℕ) → ℕ → Order → Widths → List PlainClass → List Rank → List ℕ → Type 0
+AllSaid places forms p budget order w classes [] said = said ≡ []
+AllSaid places forms p budget order w classes (rank ∷ ranks) said =
+    (one : List ℕ) × (more : List ℕ) × RankSaid places forms p budget order w classes rank one
+    × AllSaid places forms p budget order w classes ranks more × (said ≡ one ++ more)
 
 -- the first line: how many runs, of which script, by which seeds
 abbrev pub seeds_words : ℕ → ℕ → List ℕ
@@ -61,7 +62,7 @@ pub record IsToldOfRuns (name text : List ℕ) (forms : List PlainSexpr) (p : Li
   pub ranks : List Rank
   pub ranked : AreRanked made.classes ranks
   pub lines : List ℕ
-  pub all : AllSaid (all_places text forms) forms p asked.budget asked.turns (widths_of made.classes) made.classes ranks lines
+  pub all : AllSaid (all_places text forms) forms p asked.budget asked.order (widths_of made.classes) made.classes ranks lines
   pub said_is : said ≡ runs_line name asked.first made.runs ++ lines
 
 -- ---- what private functions say
@@ -71,5 +72,5 @@ abbrev pub LeftBy : List PlainSexpr → List (List Place) → PlainCourse → Li
 LeftBy forms places c old new = (lines : List ℕ) × AreLeft places forms c lines × (new ≡ old ++ lines)
 
 -- those in the run of a program by a seed
-abbrev pub LeftBySeed : List PlainSexpr → List (List Place) → List (PlainItem ℕ) → ℕ → Bool → ℕ → List ℕ → List ℕ → Type 0
-LeftBySeed forms places p budget turns seed old new = (lines : List ℕ) × AreLeftBySeed places forms p budget turns seed lines × (new ≡ old ++ lines)
+abbrev pub LeftBySeed : List PlainSexpr → List (List Place) → List (PlainItem ℕ) → ℕ → Order → ℕ → List ℕ → List ℕ → Type 0
+LeftBySeed forms places p budget order seed old new = (lines : List ℕ) × AreLeftBySeed places forms p budget order seed lines × (new ≡ old ++ lines)

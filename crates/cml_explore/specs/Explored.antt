@@ -31,14 +31,14 @@ AreEnough until runs ends =
 -- What was asked for was done: these are the classes of the runs that the seeds define, one after another.
 pub record IsExplored (p : List (PlainItem ℕ)) (asked : Asked) (made : PlainExplored) : Type 0 where
   pub ends : List PlainEnded
-  pub each : EachEnds p asked.budget asked.turns asked.servers.now asked.first ends
+  pub each : EachEnds p asked.budget asked.order asked.servers.now asked.first ends
   pub enough : AreEnough asked.until asked.runs ends
   pub gathered_so : made ≡ gathered asked.first ends
 
 -- So far these are the classes of the runs that the first seeds define, none of which is one at which to stop.
 pub record SoFar (p : List (PlainItem ℕ)) (asked : Asked) (made : PlainExplored) : Type 0 where
   pub ends : List PlainEnded
-  pub each : EachEnds p asked.budget asked.turns asked.servers.now asked.first ends
+  pub each : EachEnds p asked.budget asked.order asked.servers.now asked.first ends
   pub none : list_any (stops asked.until) ends ≡ false
   pub gathered_so : made ≡ gathered asked.first ends
 

@@ -18,23 +18,31 @@ use Rattle.cml_explore.specs.declared.finish.Fate.{Fate}
 use Rattle.cml_explore.specs.declared.explored.Until.{Until}
 use Rattle.cml_explore.specs.declared.explored.Until.TheVariants as until
 use Rattle.cml_explore.specs.Generators.{by_generator}
-use Rattle.cml_explore.specs.Lots.{run_by_lot, placed_by_lot, RunsByLot}
+use Rattle.cml_explore.specs.declared.order.Order.{Order}
+use Rattle.cml_explore.specs.declared.order.Order.TheVariants as orders
+use Rattle.cml_explore.specs.Draws.{run_drawn, drawn_at, RunsDrawn}
+use Rattle.cml_explore.specs.Lots.{by_lot}
+use Rattle.cml_explore.specs.Priorities.{PlainPriorities, begun_priorities, by_priority, points_span, run_by_priority}
 use Rattle.cml_explore.specs.declared.detail.Detail.{Detail}
 use Rattle.cml_explore.specs.Details.{AreDetails}
 use Rattle.cml_explore.specs.Classes.{Finish}
 
--- The hub stands, with its generator, where the run ends that the generator of this state makes: threads that are ready have their turns in
--- order, and rows alone are picked; or it is drawn by lot what happens next.
-abbrev pub EndsAt : Program → ℕ → Bool → Lcg → Kept → Lcg → Type 0
-EndsAt p budget false state h last = playing h last ≡ run_by p budget by_generator state
-EndsAt p budget true state h last = placed_by_lot h last ≡ run_by_lot p budget state
+-- The hub stands where the run ends that the generator of this state makes in this order: threads that are ready have their turns one after another,
+-- and rows alone are picked; or it is drawn by lot what happens next; or priorities say it, whose points are drawn within this span.
+abbrev pub EndsWithin : Program → ℕ → Order → ℕ → Lcg → Kept → Type 0
+EndsWithin p budget orders.Queue span state h = (last : Lcg) × (playing h last ≡ run_by p budget by_generator state)
+EndsWithin p budget orders.Lot span state h = (last : Lcg) × (drawn_at h last ≡ run_drawn by_lot p budget state)
+EndsWithin p budget (orders.Priority depth) span state h = (last : PlainPriorities) × (drawn_at h last ≡ run_by_priority p budget depth span state)
 
--- The hub stands where the run of the program by this seed ends; `turns` says whether turns are drawn too.
-pub record IsSeedRun (p : List (PlainItem ℕ)) (budget : ℕ) (turns : Bool) (seed : ℕ) (h : Kept) : Type 0 where
+-- The hub stands where the run ends that the generator of this state makes in this order.
+abbrev pub EndsAt : Program → ℕ → Order → Lcg → Kept → Type 0
+EndsAt p budget order state h = EndsWithin p budget order (points_span p budget state) state h
+
+-- The hub stands where the run of the program by this seed ends, in this order.
+pub record IsSeedRun (p : List (PlainItem ℕ)) (budget : ℕ) (order : Order) (seed : ℕ) (h : Kept) : Type 0 where
   pub program : h.course.program ≡ p
   pub budget_is : h.budget ≡ budget
-  pub last : Lcg
-  pub plays : EndsAt (text_of p) budget turns (seeded seed) h last
+  pub plays : EndsAt (text_of p) budget order (seeded seed) h
 
 -- the details of how the run of a hub ended, which these are, the digest of its output, and its schedule
 abbrev pub finish_of : Kept → List Detail → Finish
@@ -79,24 +87,38 @@ pub record IsEndOf (servers : List ℕ) (h : Kept) (e : PlainEnded) : Type 0 whe
   pub fate_is : e.fate ≡ fate_of servers h
 
 -- the run of the program by this seed ended so
-abbrev pub EndsSoBy : List (PlainItem ℕ) → ℕ → Bool → List ℕ → ℕ → PlainEnded → Type 0
-EndsSoBy p budget turns servers seed e = (h : Kept) × IsSeedRun p budget turns seed h × IsEndOf servers h e
+abbrev pub EndsSoBy : List (PlainItem ℕ) → ℕ → Order → List ℕ → ℕ → PlainEnded → Type 0
+EndsSoBy p budget order servers seed e = (h : Kept) × IsSeedRun p budget order seed h × IsEndOf servers h e
 
 -- the runs by this seed and those that follow it ended so, in turn
-abbrev pub EachEnds : List (PlainItem ℕ) → ℕ → Bool → List ℕ → ℕ → List PlainEnded → Type 0
-EachEnds p budget turns servers seed [] = Unit {0}
-EachEnds p budget turns servers seed (e ∷ es) = EndsSoBy p budget turns servers seed e × EachEnds p budget turns servers (suc seed) es
+abbrev pub EachEnds : List (PlainItem ℕ) → ℕ → Order → List ℕ → ℕ → List PlainEnded → Type 0
+EachEnds p budget order servers seed [] = Unit {0}
+EachEnds p budget order servers seed (e ∷ es) = EndsSoBy p budget order servers seed e × EachEnds p budget order servers (suc seed) es
 
 -- ---- what private functions say
 
 -- the hub has gone on to its end so
-abbrev pub PlaysTo : Bool → Lcg → Kept → Kept → Lcg → Type 0
-PlaysTo false state begun h last = PlaysOut by_generator begun state h last
-PlaysTo true state begun h last = RunsByLot begun state h last
+abbrev pub PlaysTo : Order → ℕ → Lcg → Kept → Kept → Type 0
+PlaysTo orders.Queue span state begun h = (last : Lcg) × PlaysOut by_generator begun state h last
+PlaysTo orders.Lot span state begun h = (last : Lcg) × RunsDrawn by_lot begun state h last
+PlaysTo (orders.Priority depth) span state begun h = (last : PlainPriorities) × RunsDrawn by_priority begun (begun_priorities depth span state) h last
+
+-- the hub has run to its end by priorities that were drawn from this seed on
+abbrev pub PlaysByPriority : ℕ → ℕ → ℕ → Kept → Kept → Type 0
+PlaysByPriority depth span seed begun h = (last : PlainPriorities) × RunsDrawn by_priority begun (begun_priorities depth span (seeded seed)) h last
 
 -- the hub has run to its end by this seed
-pub record RunsOut (turns : Bool) (seed : ℕ) (begun h : Kept) : Type 0 where
+pub record RunsOut (order : Order) (span seed : ℕ) (begun h : Kept) : Type 0 where
   pub program : h.course.program ≡ begun.course.program
   pub budget_is : h.budget ≡ begun.budget
-  pub last : Lcg
-  pub plays : PlaysTo turns (seeded seed) begun h last
+  pub plays : PlaysTo order span (seeded seed) begun h
+
+-- it stands where the run by this seed ends whose points are drawn within this span
+pub record IsRunWithin (p : List (PlainItem ℕ)) (budget : ℕ) (order : Order) (span seed : ℕ) (h : Kept) : Type 0 where
+  pub program : h.course.program ≡ p
+  pub budget_is : h.budget ≡ budget
+  pub plays : EndsWithin (text_of p) budget order span (seeded seed) h
+
+-- a run whose points are drawn within this span is the run by this seed
+abbrev pub IsSpan : List (PlainItem ℕ) → ℕ → Order → ℕ → ℕ → Type 0
+IsSpan p budget order seed span = (h : Kept) → IsRunWithin p budget order span seed h → IsSeedRun p budget order seed h

@@ -17,7 +17,7 @@ pub record IsOneOfClass (p : List (PlainItem ℕ)) (asked : Asked) (runs : ℕ) 
   pub from : asked.first ≤ seed
   pub below : seed < asked.first + runs
   pub hub : Kept
-  pub run : IsSeedRun p asked.budget asked.turns seed hub
+  pub run : IsSeedRun p asked.budget asked.order seed hub
   pub ended : List Detail
   pub are : AreDetails hub ended
   pub same : alike ended details ≡ true

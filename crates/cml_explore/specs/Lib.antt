@@ -3,9 +3,12 @@ pub mod FallViews
 pub mod Details
 pub mod Classes
 pub mod Generators
+pub mod Draws
 pub mod Lots
+pub mod Priorities
 pub mod Finishes
 pub mod Explored
+pub mod Merges
 pub mod ThreadLines
 pub mod Ranks
 pub mod Words

@@ -9,6 +9,7 @@ ghost use Rattle.cml_explore.specs.ClassViews.{plain_class};
 use crate::classes::{Class, Classes};
 use crate::explored::{Asked, Explored};
 use crate::fall::retell;
+use crate::order::Order;
 use crate::rank::{Rank, ranks_of};
 use crate::run::{let_go, seed_run};
 use crate::sight::{Sighted, push_all_left, spots_of};
@@ -26,7 +27,7 @@ struct Scripted<'a> {
     places: &'a [Vec<Place>],
     program: &'a Prog,
     budget: u64,
-    turns: bool,
+    order: Order,
 }
 
 // Appends the lines of the threads that are left in this run, or ended at a fault.
@@ -59,9 +60,9 @@ fn push_seed(
     seed: u64,
 ) -> Result<(), AllocError>
     requires { IsBudget script.now.budget }
-    ensures { OnOk result (LeftBySeed script.now.forms.now (map (λ own. own.items) script.now.places.now) script.now.program.now script.now.budget script.now.turns seed out.old.items out.new.items) }
+    ensures { OnOk result (LeftBySeed script.now.forms.now (map (λ own. own.items) script.now.places.now) script.now.program.now script.now.budget script.now.order seed out.old.items out.new.items) }
 {
-    let hub = seed_run(alloc, script.program, script.budget, script.turns, seed)?;
+    let hub = seed_run(alloc, script.program, script.budget, script.order, seed)?;
     let pushed = push_hub(alloc, out, script, &hub);
     let_go(hub);
     pushed
@@ -76,7 +77,7 @@ fn push_class(
     class: Class<'_>,
 ) -> Result<(), AllocError>
     requires { IsBudget script.now.budget }
-    ensures { OnOk result ((said : List ℕ) × ClassSaid (map (λ own. own.items) script.now.places.now) script.now.forms.now script.now.program.now script.now.budget script.now.turns widths (plain_class class.entry) said
+    ensures { OnOk result ((said : List ℕ) × ClassSaid (map (λ own. own.items) script.now.places.now) script.now.forms.now script.now.program.now script.now.budget script.now.order widths (plain_class class.entry) said
         × (out.new.items ≡ out.old.items ++ said)) }
 {
     push_class_line(alloc, out, widths, class)?;
@@ -93,7 +94,7 @@ fn push_rank(
     rank: Rank,
 ) -> Result<(), AllocError>
     requires { IsBudget script.now.budget }
-    ensures { OnOk result ((said : List ℕ) × RankSaid (map (λ own. own.items) script.now.places.now) script.now.forms.now script.now.program.now script.now.budget script.now.turns widths classes.now rank said
+    ensures { OnOk result ((said : List ℕ) × RankSaid (map (λ own. own.items) script.now.places.now) script.now.forms.now script.now.program.now script.now.budget script.now.order widths classes.now rank said
         × (out.new.items ≡ out.old.items ++ said)) }
 {
     if rank.1 >= classes.len() {
@@ -112,7 +113,7 @@ fn push_ranks(
     ranks: &[Rank],
 ) -> Result<(), AllocError>
     requires { IsBudget script.now.budget }
-    ensures { OnOk result ((said : List ℕ) × AllSaid (map (λ own. own.items) script.now.places.now) script.now.forms.now script.now.program.now script.now.budget script.now.turns widths classes.now ranks.now said
+    ensures { OnOk result ((said : List ℕ) × AllSaid (map (λ own. own.items) script.now.places.now) script.now.forms.now script.now.program.now script.now.budget script.now.order widths classes.now ranks.now said
         × (out.new.items ≡ out.old.items ++ said)) }
 {
     for rank in ranks {
@@ -178,7 +179,7 @@ pub fn explain_runs(
         places: places.as_slice(),
         program,
         budget: asked.budget,
-        turns: asked.turns,
+        order: asked.order,
     };
     let all = made.classes();
     let ranks = ranks_of(alloc, all)?;

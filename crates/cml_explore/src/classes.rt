@@ -1,10 +1,11 @@
 //! Runs in classes of those that ended alike.
 
-ghost use Rattle.std.specs.Prelude.{◌≡◌, ◌<◌, ◌++◌, ◌∷◌, ◌==◌, false, [], OnOk, OnErr, Some, map, length, slice_get};
+ghost use Rattle.std.specs.Prelude.{◌≡◌, ◌<◌, ◌+◌, ◌^◌, ◌++◌, ◌∷◌, ◌==◌, false, [], OnOk, OnErr, Some, map, length, slice_get};
 ghost use Rattle.std.specs.List.{All, list_any};
 ghost use Rattle.cml_explore.specs.Details.{alike};
 ghost use Rattle.cml_explore.specs.Classes as spec;
 ghost use Rattle.cml_explore.specs.ClassViews.{plain_class};
+ghost use Rattle.cml_explore.specs.Merges.{runs_of, class_joined, classes_merged};
 
 use crate::detail::Detail;
 use crate::tally::Tally;
@@ -40,6 +41,24 @@ impl Model for Classes {
     ghost invariant = { λ c. length c.details.keys ≡ length c.tallies.items };
 }
 
+// A class more, of these details, which none has.
+fn push_class(
+    known: &mut IndexSet<Vec<Detail>>,
+    tallies: &mut Vec<Tally>,
+    details: Vec<Detail>,
+    tally: Tally,
+) -> Result<(), AllocError>
+    requires { list_any (λ d. alike details.items d.items) known.old.keys ≡ false }
+    ensures known { OnOk result (map (λ d. d.items) known.new.keys ≡ map (λ d. d.items) known.old.keys ++ details.items ∷ []) }
+    ensures tallies { OnOk result (tallies.new.items ≡ tallies.old.items ++ tally ∷ []) }
+    ensures err { OnErr result ((known.new.keys ≡ known.old.keys) × (tallies.new.items ≡ tallies.old.items)) }
+{
+    tallies.reserve(1)?;
+    known.insert(details)?;
+    tallies.push_reserved(tally);
+    Ok(())
+}
+
 // A class more, of a run by this seed that ended so, as none did before.
 #[inline(never)]
 fn begin_class(
@@ -58,10 +77,7 @@ fn begin_class(
     ensures err { OnErr result ((known.new.keys ≡ known.old.keys) × (tallies.new.items ≡ tallies.old.items)) }
 {
     let tally = Tally::new(alloc, seed, digest, items)?;
-    tallies.reserve(1)?;
-    known.insert(details)?;
-    tallies.push_reserved(tally);
-    Ok(())
+    push_class(known, tallies, details, tally)
 }
 
 impl Classes {
@@ -101,6 +117,36 @@ impl Classes {
             },
             None => unreachable!(),
         }
+    }
+
+    // A class of a later part.
+    //
+    // On `Err` nothing is known of the classes: the caller lets them go.
+    fn absorb_class(&mut self, alloc: Global, class: Class<'_>) -> Result<(), AllocError>
+        requires { All (λ c. c.tally.runs + class.tally.now.runs < 2 ^ 64) self.old }
+        ensures { OnOk result (self.new ≡ class_joined self.old (plain_class class.entry)) }
+    {
+        let details = Vec::from_slice(alloc, class.details)?;
+        match self.details.get_index_of(&details) {
+            Some(known) => self.tallies[known].absorb(alloc, class.tally),
+            None => {
+                let tally = class.tally.copy(alloc)?;
+                push_class(&mut self.details, &mut self.tallies, details, tally)
+            }
+        }
+    }
+
+    // The classes of a later part.
+    //
+    // On `Err` nothing is known of the classes: the caller lets them go.
+    pub(crate) fn absorb(&mut self, alloc: Global, later: &Classes) -> Result<(), AllocError>
+        requires { runs_of self.old + runs_of later.now < 2 ^ 64 }
+        ensures { OnOk result (self.new ≡ classes_merged self.old later.now) }
+    {
+        for number in 0..later.len() {
+            self.absorb_class(alloc, later.class(number))?;
+        }
+        Ok(())
     }
 
     // One run more, by this seed, that ended so.

@@ -8,10 +8,12 @@ ghost use Rattle.cml_explore.specs.declared.explored.Asked.{Asked};
 ghost use Rattle.cml_explore.specs.Finishes as spec;
 ghost use Rattle.cml_explore.specs.Finishes.{PlainEnded, IsEndOf, EndsSoBy};
 ghost use Rattle.cml_explore.specs.Explored.{IsExplored, SoFar, HasMade, with_ended};
+ghost use Rattle.cml_explore.specs.Merges.{FitBeside, parts_merged};
 
 use crate::classes::Classes;
 use crate::details::details_of;
 use crate::finish::{Fate, digest_of, fate_of};
+use crate::order::Order;
 use crate::run::{let_go, seed_run};
 use cml_check::Prog;
 use cml_hub::{End, Hub};
@@ -38,9 +40,8 @@ pub struct Asked<'a> {
     pub first: u64,
     /// How many.
     pub runs: u64,
-    /// Whether it is drawn by lot what happens next, the turns of threads that are ready too. Else these come in order, and rows alone are
-    /// picked.
-    pub turns: bool,
+    /// By what it is settled in each what happens next.
+    pub order: Order,
     /// The numbers of the functions of servers: a thread that began with one of them may wait.
     pub servers: &'a [u32],
     /// The run at which to stop, if at any before all were made.
@@ -83,7 +84,7 @@ fn stops(until: Option<Until>, fate: Fate) -> bool
 }
 
 // Whether so many runs are all that were asked for.
-fn are_all(made: u64, asked: u64) -> bool
+pub(crate) fn are_all(made: u64, asked: u64) -> bool
     ensures { result ≡ (made == asked) }
 {
     made == asked
@@ -133,7 +134,7 @@ impl Explored {
     }
 
     // One run more, by this seed. Returns whether it is one at which to stop.
-    fn add(
+    pub(crate) fn add(
         &mut self,
         alloc: Global,
         program: &Prog,
@@ -143,11 +144,11 @@ impl Explored {
         requires budget { IsBudget asked.now.budget }
         requires few { All (λ c. c.tally.runs < u64.MAX) self.old.classes }
         requires runs { self.old.runs < u64.MAX }
-        ensures added { IfOk result (λ stops. (e : PlainEnded) × EndsSoBy program.now asked.now.budget asked.now.turns asked.now.servers.now seed e
+        ensures added { IfOk result (λ stops. (e : PlainEnded) × EndsSoBy program.now asked.now.budget asked.now.order asked.now.servers.now seed e
             × (self.new ≡ with_ended seed e self.old) × (stops ≡ spec.stops asked.now.until e)) }
         ensures err { OnErr result (self.new ≡ self.old) }
     {
-        let hub = seed_run(alloc, program, asked.budget, asked.turns, seed)?;
+        let hub = seed_run(alloc, program, asked.budget, asked.order, seed)?;
         let added = self.add_hub(alloc, asked, seed, &hub);
         let_go(hub);
         added
@@ -179,6 +180,19 @@ impl Explored {
         }
         let made = self.runs();
         Ok(are_all(made, asked.runs))
+    }
+
+    // The runs of another part, by the seeds that follow.
+    //
+    // On `Err` nothing is known of it: the caller lets it go.
+    pub(crate) fn absorb(&mut self, alloc: Global, later: &Explored) -> Result<(), AllocError>
+        requires { FitBeside self.old later.now }
+        ensures { OnOk result (self.new ≡ parts_merged self.old later.now) }
+    {
+        self.classes.absorb(alloc, &later.classes)?;
+        self.runs += later.runs;
+        self.well = both(self.well, later.well);
+        Ok(())
     }
 
     /// The classes, in the order of their first seeds.

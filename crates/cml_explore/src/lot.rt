@@ -8,7 +8,8 @@ ghost use Rattle.cml_hub.specs.Kept.{NoneOut};
 ghost use Rattle.cml_hub.specs.Playing.{picked, spent, taking};
 ghost use Rattle.cml_hub.specs.Runs as runs;
 ghost use Rattle.cml_explore.specs.Lots as spec;
-ghost use Rattle.cml_explore.specs.Lots.{GoesByLot, RunsByLot};
+ghost use Rattle.cml_explore.specs.Lots.{by_lot};
+ghost use Rattle.cml_explore.specs.Draws.{GoesDrawn, RunsDrawn};
 ghost use Rattle.cml_explore.specs.Generators.{by_generator};
 
 use cml_book::Book;
@@ -31,8 +32,11 @@ fn push_ready(ready: &mut Vec<Tid>, book: &Book<OfferIndex>, thread: Tid) -> Res
     Ok(())
 }
 
-// The threads that run, ascending.
-fn ready_threads(alloc: Global, hub: &Hub) -> Result<Vec<Tid>, AllocError>
+/// The threads that run, ascending.
+///
+/// # Errors
+/// Out of memory.
+pub(crate) fn ready_threads(alloc: Global, hub: &Hub) -> Result<Vec<Tid>, AllocError>
     ensures { IfOk result (λ ready. ready.items ≡ spec.ready_from 0 hub.now.course.world.threads) }
 {
     let mut ready = Vec::new(alloc);
@@ -78,8 +82,8 @@ fn row_item(hub: &Hub, row: Meet) -> Item
     }
 }
 
-// The item that takes a row, which is picked, if there is one.
-fn row_item_by_lot(hub: &Hub, chooser: &mut Seeded) -> Option<Item>
+/// The item that takes a row, which is picked, if there is one.
+pub(crate) fn row_item_by_lot(hub: &Hub, chooser: &mut Seeded) -> Option<Item>
     ensures item { result ≡ (spec.row_by_lot hub.now.course.world chooser.old (picked by_generator chooser.old (scan hub.now.course.world))).0 }
     ensures state { chooser.new ≡ (spec.row_by_lot hub.now.course.world chooser.old (picked by_generator chooser.old (scan hub.now.course.world))).1 }
 {
@@ -89,8 +93,8 @@ fn row_item_by_lot(hub: &Hub, chooser: &mut Seeded) -> Option<Item>
     }
 }
 
-// One where a row can be taken.
-fn row_choices(hub: &Hub) -> usize
+/// One where a row can be taken.
+pub(crate) fn row_choices(hub: &Hub) -> usize
     ensures { result ≡ spec.row_choices (scan hub.now.course.world) }
 {
     no_head_where_no_row();
@@ -101,8 +105,8 @@ fn row_choices(hub: &Hub) -> usize
     }
 }
 
-// The next alarm is the item that comes next, if there is one.
-fn alarm_item(hub: &Hub) -> Option<Item>
+/// The next alarm is the item that comes next, if there is one.
+pub(crate) fn alarm_item(hub: &Hub) -> Option<Item>
     ensures { result ≡ option_map Item.Clock (runs.next_alarm hub.now.course.world) }
 {
     match hub.book().next_alarm() {
@@ -130,7 +134,7 @@ fn next_item(hub: &Hub, ready: &[Tid], chooser: &mut Seeded) -> Option<Item>
 // One item more, as it was drawn.
 fn go(alloc: Global, hub: &mut Hub, chooser: &mut Seeded) -> Result<(), AllocError>
     requires { NoneOut hub.old }
-    ensures ok { OnOk result (GoesByLot hub.old chooser.old hub.new chooser.new) }
+    ensures ok { OnOk result (GoesDrawn by_lot hub.old chooser.old hub.new chooser.new) }
     ensures none_out { NoneOut hub.new }
 {
     let ready = ready_threads(alloc, hub)?;
@@ -143,8 +147,8 @@ fn go(alloc: Global, hub: &mut Hub, chooser: &mut Seeded) -> Result<(), AllocErr
     }
 }
 
-// Whether nothing is left to do, or the budget is used.
-fn is_over(hub: &Hub) -> bool
+/// Whether nothing is left to do, or the budget is used.
+pub(crate) fn is_over(hub: &Hub) -> bool
     ensures { result ≡ runs.over hub.now.budget (run_of hub.now.course) }
 {
     match hub.end() {
@@ -164,7 +168,7 @@ pub(crate) fn run_by_lot(
     chooser: &mut Seeded,
 ) -> Result<(), AllocError>
     requires { NoneOut hub.old }
-    ensures { OnOk result (RunsByLot hub.old chooser.old hub.new chooser.new) }
+    ensures { OnOk result (RunsDrawn by_lot hub.old chooser.old hub.new chooser.new) }
 {
     let mut left = hub.budget();
     'items: while left > 0 {

@@ -1,10 +1,16 @@
 //! One run of a program.
 
-ghost use Rattle.std.specs.Prelude.{true, false, IfOk};
+ghost use Rattle.std.specs.Prelude.{◌≡◌, ◌<◌, IfOk, OnOk};
+ghost use Rattle.cml_step.specs.Calls.{text_of};
+ghost use Rattle.cml_hub.specs.Choices.{seeded};
 ghost use Rattle.cml_hub.specs.Kept.{IsBudget, NoneOut};
-ghost use Rattle.cml_explore.specs.Finishes.{IsSeedRun, RunsOut};
+ghost use Rattle.cml_explore.specs.declared.order.Order.TheVariants as orders;
+ghost use Rattle.cml_explore.specs.Finishes.{IsRunWithin, IsSeedRun, IsSpan, PlaysByPriority, RunsOut};
+ghost use Rattle.cml_explore.specs.Priorities.{points_span};
 
 use crate::lot::run_by_lot;
+use crate::order::Order;
+use crate::priority::{Priorities, run_by_priority};
 use cml_check::Prog;
 use cml_hub::{Hub, Seeded};
 use std::alloc::{AllocError, AllocFailed, Global};
@@ -16,8 +22,8 @@ pub(crate) fn let_go(hub: Hub) {
 }
 
 // The hub runs to its end: ready threads have their turns in order, and rows are picked.
-fn run_out(alloc: Global, mut hub: Hub, seed: u64) -> Result<Hub, AllocError>
-    ensures { IfOk result (λ new. RunsOut false seed hub new) }
+fn run_out(alloc: Global, mut hub: Hub, span: usize, seed: u64) -> Result<Hub, AllocError>
+    ensures { IfOk result (λ new. RunsOut orders.Queue span seed hub new) }
 {
     let mut chooser = Seeded::new(seed);
     let ended = hub.run_alone(alloc, &mut chooser);
@@ -31,9 +37,9 @@ fn run_out(alloc: Global, mut hub: Hub, seed: u64) -> Result<Hub, AllocError>
 }
 
 // The hub runs to its end: what happens next is drawn by lot.
-fn run_out_by_lot(alloc: Global, mut hub: Hub, seed: u64) -> Result<Hub, AllocError>
+fn run_out_by_lot(alloc: Global, mut hub: Hub, span: usize, seed: u64) -> Result<Hub, AllocError>
     requires { NoneOut hub }
-    ensures { IfOk result (λ new. RunsOut true seed hub new) }
+    ensures { IfOk result (λ new. RunsOut orders.Lot span seed hub new) }
 {
     let mut chooser = Seeded::new(seed);
     let ended = run_by_lot(alloc, &mut hub, &mut chooser);
@@ -46,19 +52,134 @@ fn run_out_by_lot(alloc: Global, mut hub: Hub, seed: u64) -> Result<Hub, AllocEr
     }
 }
 
-// The hub runs to its end by one way or the other.
-fn run_so(alloc: Global, hub: Hub, turns: bool, seed: u64) -> Result<Hub, AllocError>
-    requires { NoneOut hub }
-    ensures { IfOk result (λ new. RunsOut turns seed hub new) }
+// The hub runs to its end by priorities, which are drawn now.
+fn play_by_priority(
+    alloc: Global,
+    hub: &mut Hub,
+    depth: u32,
+    span: usize,
+    seed: u64,
+) -> Result<(), AllocError>
+    requires none_out { NoneOut hub.old }
+    requires span { 0 < span }
+    ensures { OnOk result (PlaysByPriority depth span seed hub.old hub.new) }
 {
-    if turns {
-        run_out_by_lot(alloc, hub, seed)
-    } else {
-        run_out(alloc, hub, seed)
+    let mut priorities = Priorities::new(alloc, depth, span, seed)?;
+    run_by_priority(alloc, hub, &mut priorities)
+}
+
+// The hub runs to its end: priorities say what happens next.
+#[inline(never)]
+fn run_out_by_priority(
+    alloc: Global,
+    mut hub: Hub,
+    depth: u32,
+    span: usize,
+    seed: u64,
+) -> Result<Hub, AllocError>
+    requires none_out { NoneOut hub }
+    requires span { 0 < span }
+    ensures { IfOk result (λ new. RunsOut (orders.Priority depth) span seed hub new) }
+{
+    let ended = play_by_priority(alloc, &mut hub, depth, span, seed);
+    match ended {
+        Ok(()) => Ok(hub),
+        Err(_) => {
+            let_go(hub);
+            Err(AllocError)
+        }
     }
 }
 
-/// The run of the program by this seed, to its end; `turns` says whether turns are drawn too.
+// The hub runs to its end in this order.
+fn run_so(alloc: Global, hub: Hub, order: Order, span: usize, seed: u64) -> Result<Hub, AllocError>
+    requires none_out { NoneOut hub }
+    requires span { 0 < span }
+    ensures { IfOk result (λ new. RunsOut order span seed hub new) }
+{
+    match order {
+        Order::Queue => run_out(alloc, hub, span, seed),
+        Order::Lot => run_out_by_lot(alloc, hub, span, seed),
+        Order::Priority(depth) => run_out_by_priority(alloc, hub, depth, span, seed),
+    }
+}
+
+// The run of the program by this seed, to its end; points are drawn within this span.
+fn run_within(
+    alloc: Global,
+    program: &Prog,
+    budget: u64,
+    order: Order,
+    span: usize,
+    seed: u64,
+) -> Result<Hub, AllocError>
+    requires budget { IsBudget budget }
+    requires span { 0 < span }
+    ensures { IfOk result (λ hub. IsRunWithin program.now budget order span seed hub) }
+{
+    let copy = program.copy()?;
+    match Hub::begin(alloc, copy, budget, None) {
+        Ok(hub) => {
+            let _so_far = hub.schedule();
+            run_so(alloc, hub, order, span, seed)
+        }
+        Err(AllocFailed { value }) => {
+            drop(value);
+            Err(AllocError)
+        }
+    }
+}
+
+// One more than the run by this seed has items in which threads have their turns in order.
+#[inline(never)]
+fn run_len(alloc: Global, program: &Prog, budget: u64, seed: u64) -> Result<usize, AllocError>
+    requires { IsBudget budget }
+    ensures { IfOk result (λ span. span ≡ points_span (text_of program.now) budget (seeded seed)) }
+{
+    let hub = run_within(alloc, program, budget, Order::Queue, 1, seed)?;
+    let span = hub.schedule().len() + 1;
+    let_go(hub);
+    Ok(span)
+}
+
+// The same, where there are points. Where there are none, any span is one.
+fn points_len(
+    alloc: Global,
+    program: &Prog,
+    budget: u64,
+    depth: u32,
+    seed: u64,
+) -> Result<usize, AllocError>
+    requires { IsBudget budget }
+    ensures some { IfOk result (λ span. 0 < span) }
+    ensures span { IfOk result (λ span. IsSpan program.now budget (orders.Priority depth) seed span) }
+{
+    if depth <= 1 {
+        return Ok(1);
+    }
+    run_len(alloc, program, budget, seed)
+}
+
+// The span within which the points of the run by this seed are drawn. Where there are none, any is one.
+fn span_of(
+    alloc: Global,
+    program: &Prog,
+    budget: u64,
+    order: Order,
+    seed: u64,
+) -> Result<usize, AllocError>
+    requires { IsBudget budget }
+    ensures some { IfOk result (λ span. 0 < span) }
+    ensures span { IfOk result (λ span. IsSpan program.now budget order seed span) }
+{
+    match order {
+        Order::Queue => Ok(1),
+        Order::Lot => Ok(1),
+        Order::Priority(depth) => points_len(alloc, program, budget, depth, seed),
+    }
+}
+
+/// The run of the program by this seed, to its end, in this order.
 ///
 /// # Errors
 /// Out of memory.
@@ -66,21 +187,12 @@ pub(crate) fn seed_run(
     alloc: Global,
     program: &Prog,
     budget: u64,
-    turns: bool,
+    order: Order,
     seed: u64,
 ) -> Result<Hub, AllocError>
     requires { IsBudget budget }
-    ensures { IfOk result (λ hub. IsSeedRun program.now budget turns seed hub) }
+    ensures { IfOk result (λ hub. IsSeedRun program.now budget order seed hub) }
 {
-    let copy = program.copy()?;
-    match Hub::begin(alloc, copy, budget, None) {
-        Ok(hub) => {
-            let _so_far = hub.schedule();
-            run_so(alloc, hub, turns, seed)
-        }
-        Err(AllocFailed { value }) => {
-            drop(value);
-            Err(AllocError)
-        }
-    }
+    let span = span_of(alloc, program, budget, order, seed)?;
+    run_within(alloc, program, budget, order, span, seed)
 }

@@ -1,10 +1,12 @@
 //! What is kept of runs that ended alike.
 
-ghost use Rattle.std.specs.Prelude.{◌≡◌, ◌<◌, ◌+◌, ℕ, List, IfOk, OnOk, OnErr, length};
+ghost use Rattle.std.specs.Prelude.{◌≡◌, ◌<◌, ◌+◌, ◌^◌, ℕ, List, IfOk, OnOk, OnErr, length};
+ghost use Rattle.std.specs.List.{fold};
 ghost use Rattle.std.specs.Option.{option_map_or};
 ghost use Rattle.cml_explore.specs.declared.detail.Detail.{Detail};
 ghost use Rattle.cml_explore.specs.Classes as spec;
 ghost use Rattle.cml_explore.specs.Classes.{Finish};
+ghost use Rattle.cml_explore.specs.Merges.{both_tallies, tally_alone};
 
 use cml_hub::Item;
 use indexmap::IndexSet;
@@ -36,6 +38,16 @@ impl Model for Tally {
       outputs = t.outputs.keys;
       shortest = t.shortest.items;
     } };
+}
+
+// The digests of more outputs.
+fn add_digests(outputs: &mut IndexSet<[u8; 32]>, more: &[[u8; 32]]) -> Result<(), AllocError>
+    ensures { OnOk result (outputs.new.keys ≡ fold spec.with_digest outputs.old.keys more.now) }
+{
+    for digest in more {
+        outputs.insert(*digest)?;
+    }
+    Ok(())
 }
 
 impl Tally {
@@ -102,6 +114,37 @@ impl Tally {
     {
         let shorter = self.shorter(alloc, items)?;
         self.grow(digest, shorter)
+    }
+
+    // The same, by itself.
+    pub(crate) fn copy(&self, alloc: Global) -> Result<Tally, AllocError>
+        ensures { IfOk result (λ copy. copy ≡ tally_alone self.now) }
+    {
+        let mut outputs = IndexSet::new(alloc);
+        add_digests(&mut outputs, self.outputs.as_slice())?;
+        Ok(Tally {
+            runs: self.runs,
+            first: self.first,
+            items: self.items,
+            outputs,
+            shortest: Vec::from_slice(alloc, self.shortest.as_slice())?,
+        })
+    }
+
+    // The runs of the same class of a later part.
+    //
+    // On `Err` nothing is known of it: the caller lets it go.
+    pub(crate) fn absorb(&mut self, alloc: Global, later: &Tally) -> Result<(), AllocError>
+        requires { self.old.runs + later.now.runs < 2 ^ 64 }
+        ensures { OnOk result (self.new ≡ both_tallies self.old later.now) }
+    {
+        let shorter = self.shorter(alloc, later.shortest())?;
+        add_digests(&mut self.outputs, later.outputs.as_slice())?;
+        if let Some(items) = shorter {
+            self.shortest = items;
+        }
+        self.runs += later.runs;
+        Ok(())
     }
 
     /// How many runs ended so.

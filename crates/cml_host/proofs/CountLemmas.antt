@@ -46,10 +46,17 @@ pub explore_counted : (given : List (List ℕ)) (options : ExploreOptions) → I
 explore_counted given options is =
     some_gives _ (λ named. Names named (Explore options)) _ (λ named names. explore_counts options named.1 names.1) is.0.1
 
+explore_depths : (options : ExploreOptions) (given : _) → IsExplore given options → IfSome options.priority words.IsDepth
+explore_depths options given is = is.counts.3
+
+pub explore_depth : (given : List (List ℕ)) (options : ExploreOptions) → IsAnswer given (answer.Task (Explore options)) → IfSome options.priority words.IsDepth
+explore_depth given options is =
+    some_gives _ (λ named. Names named (Explore options)) _ (λ named names. explore_depths options named.1 names.1) is.0.1
+
 -- there is a seed for each run
 pub explore_seeds : (given : List (List ℕ)) (options : ExploreOptions) → IsAnswer given (answer.Task (Explore options)) → options.seed + options.runs ≤ 2 ^ 64
 explore_seeds given options is = go (cases_lt (2 ^ 64) (options.seed + options.runs))
   where
     go : (2 ^ 64 < options.seed + options.runs) ⊎ (options.seed + options.runs ≤ 2 ^ 64) → options.seed + options.runs ≤ 2 ^ 64
-    go (inl past) = absurd (is.1 (codes "--runs goes past the last seed, 18446744073709551615\n") (inr (inl (past, refl))))
+    go (inl past) = absurd (is.1 (codes "--runs goes past the last seed, 18446744073709551615\n") (inr (inr (inl (past, refl)))))
     go (inr within) = within

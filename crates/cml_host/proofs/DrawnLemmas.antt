@@ -11,22 +11,18 @@ use Rattle.cml_narrative.specs.Tales.{Tale}
 use Rattle.cml_schedule.specs.Plans.{PlainPlan}
 use Rattle.cml_schedule.specs.Reading.{schedule_limit}
 use Rattle.cml_schedule.specs.declared.item.Item.{Item}
-use Rattle.cml_stream.specs.Streams.{Counted, IsIdle, Says}
+use Rattle.cml_stream.specs.Streams.{Counted, IsIdle}
 use Rattle.cml_words.specs.declared.PartOptions.{PartOptions}
 use Rattle.cml_host.specs.Closed.{PlainSubject}
-use Rattle.cml_host.specs.Drawn.{AreDrawn, AreUndrawn, IsDrawnBy, IsDrawnThere, IsFaultOf, IsTooLongBy, IsUndrawnBy, IsUndrawnThere, IsWrongBy, ScheduleDrawn, TellsFault, last_drawn, too_many_told}
+use Rattle.cml_host.specs.Drawn.{AreDrawn, AreUndrawn, IsDrawnBy, IsFaultOf, IsTooLongBy, IsUndrawnBy, IsWrongBy, TellsFault, TextDrawn, last_drawn}
 use Rattle.cml_host.specs.Narrated.{IsSetUp, IsNotSetUp, tale_for}
-use Rattle.cml_host.specs.Said.{RefusalRan, refusal_of}
-use Rattle.cml_host.specs.Stores.{Content, IsLoaded, MayFail}
-use Rattle.cml_host.specs.Written.{TextRan}
+use Rattle.cml_host.specs.Said.{RefusalRan}
 use Rattle.cml_host.specs.declared.draw.Undrawn.{Undrawn}
 use Rattle.cml_host.specs.declared.draw.Undrawn.TheVariants.{Refused, TooMany}
 use Rattle.cml_host.specs.declared.said.Refusal.{Refusal}
 use Rattle.cml_host.specs.declared.said.Refusal.TheVariants as refusal
-use Rattle.cml_host.specs.declared.store.StoreFault.{StoreFault}
-use Rattle.cml_host.specs.declared.store.StoreFault.TheVariants as store_fault
 use Rattle.cml_host.proofs.NarratedLemmas.{whole_unfit}
-use Rattle.cml_host.proofs.ScriptLemmas.{lies_there, whole_plan}
+use Rattle.cml_host.proofs.ScriptLemmas.{whole_plan}
 
 -- ---- why there is no picture of these items
 
@@ -84,49 +80,21 @@ whole_wrong_by : (s : PlainSubject) (options : PartOptions) (p : List (PlainItem
 whole_wrong_by s options p told all found is (inl unfit) = inl (whole_unfit p told all found is unfit)
 whole_wrong_by s options p told all found is (inr wrong) = whole_plan (λ t. IsWrongBy s options p t told) all found is wrong.1.0 (inr wrong)
 
-pub drawn_there : (s : PlainSubject) (options : PartOptions) (p : List (PlainItem ℕ)) (content : Content) (found picture : List ℕ) → IsLoaded content schedule_limit found →
-    IsDrawnBy s options p found picture → IsDrawnThere s options p content picture
-drawn_there s options p content found picture loaded by =
-    lies_there (λ t. IsDrawnBy s options p t picture) (λ all first is drawn. whole_plan (λ t. IsDrawnBy s options p t picture) all first is drawn.1.0 drawn) content found loaded by
-
-pub undrawn_there : (s : PlainSubject) (options : PartOptions) (p : List (PlainItem ℕ)) (content : Content) (found : List ℕ) (why : Undrawn) → IsLoaded content schedule_limit found →
-    IsUndrawnBy s options p found why → IsUndrawnThere s options p content why
-undrawn_there s options p content found (Refused (refusal.Unread reason)) loaded h = absurd h
-undrawn_there s options p content found (Refused (refusal.Wrong told)) loaded h =
-    lies_there (λ t. IsWrongBy s options p t told.items) (whole_wrong_by s options p told.items) content found loaded h
-undrawn_there s options p content found (Refused refusal.Memory) loaded h = tt
-undrawn_there s options p content found TooMany loaded h =
-    lies_there (λ t. IsTooLongBy s options p t) (λ all first is long. whole_plan (λ t. IsTooLongBy s options p t) all first is long.1.0 long) content found loaded h
-
--- the store did not hand over the schedule
-pub not_there : (s : PlainSubject) (options : PartOptions) (p : List (PlainItem ℕ)) (content : Content) (why : StoreFault) → MayFail content why →
-    IsUndrawnThere s options p content (Refused (refusal_of why))
-not_there s options p content (store_fault.Refused why) may = may
-not_there s options p content store_fault.Memory may = tt
+-- what was done with the first bytes was done with the whole
+pub whole_drawn : (options : PartOptions) (s : PlainSubject) (p : List (PlainItem ℕ)) (output errors : Counted) (status : ℕ) (all found : List ℕ) →
+    found ≡ take (schedule_limit + 1) all → TextDrawn options s p found output errors status → TextDrawn options s p all output errors status
+whole_drawn options s p output errors status all found is (inl (picture, by, ran)) =
+    inl (picture, whole_plan (λ t. IsDrawnBy s options p t picture) all found is by.1.0 by, ran)
+whole_drawn options s p output errors status all found is (inr (inl wrong)) =
+    inr (inl (wrong.0, whole_wrong_by s options p wrong.0 all found is wrong.1, wrong.2, wrong.3, wrong.4))
+whole_drawn options s p output errors status all found is (inr (inr (inl long))) =
+    inr (inr (inl (whole_plan (λ t. IsTooLongBy s options p t) all found is long.0.1.0 long.0, long.1, long.2, long.3)))
+whole_drawn options s p output errors status all found is (inr (inr (inr memory))) = inr (inr (inr memory))
 
 -- ---- what was told
 
-pub picture_told : (s : PlainSubject) (options : PartOptions) (p q : List (PlainItem ℕ)) (content : Content) (picture : List ℕ) (output errors : Counted) (status : ℕ) → q ≡ p →
-    IsDrawnThere s options q content picture → TextRan picture output errors status → ScheduleDrawn s options p content output errors status
-picture_told s options p q content picture output errors status same there ran =
-    let here : IsDrawnThere s options p content picture = subst (λ (r : List (PlainItem ℕ)). IsDrawnThere s options r content picture) same there in
-    inl (here.0, here.1, inl (picture, here.2, ran))
-
-pub refusal_told : (s : PlainSubject) (options : PartOptions) (p q : List (PlainItem ℕ)) (content : Content) (why : Refusal) (output errors : Counted) (status : ℕ) → q ≡ p →
-    IsUndrawnThere s options q content (Refused why) → RefusalRan true options.schedule.now why 3 errors status → IsIdle output →
-    ScheduleDrawn s options p content output errors status
-refusal_told s options p q content why output errors status same there said idle =
-    go why (subst (λ (r : List (PlainItem ℕ)). IsUndrawnThere s options r content (Refused why)) same there) said
-  where
-    go : (why : Refusal) → IsUndrawnThere s options p content (Refused why) → RefusalRan true options.schedule.now why 3 errors status →
-        ScheduleDrawn s options p content output errors status
-    go (refusal.Unread reason) may (inl told) = inr (inl (may, (reason, told.0), told.1), idle)
-    go (refusal.Unread reason) may (inr memory) = inr (inr memory, idle)
-    go (refusal.Wrong told) wrong was = inl (wrong.0, wrong.1, inr (inl (told.items, wrong.2, was.0, was.1, idle)))
-    go refusal.Memory any memory = inr (inr memory, idle)
-
-pub too_long_told : (s : PlainSubject) (options : PartOptions) (p q : List (PlainItem ℕ)) (content : Content) (output errors : Counted) → q ≡ p →
-    IsUndrawnThere s options q content TooMany → Says errors too_many_told → IsIdle output → ScheduleDrawn s options p content output errors 1
-too_long_told s options p q content output errors same there said idle =
-    let here : IsUndrawnThere s options p content TooMany = subst (λ (r : List (PlainItem ℕ)). IsUndrawnThere s options r content TooMany) same there in
-    inl (here.0, here.1, inr (inr (here.2, said, refl, idle)))
+pub refusal_told : (options : PartOptions) (s : PlainSubject) (p : List (PlainItem ℕ)) (text : List ℕ) (why : Refusal) (output errors : Counted) (status : ℕ) →
+    IsUndrawnBy s options p text (Refused why) → RefusalRan true options.schedule.now why 3 errors status → IsIdle output → TextDrawn options s p text output errors status
+refusal_told options s p text (refusal.Unread reason) output errors status none said idle = absurd none
+refusal_told options s p text (refusal.Wrong told) output errors status wrong said idle = inr (inl (told.items, wrong, said.0, said.1, idle))
+refusal_told options s p text refusal.Memory output errors status any memory idle = inr (inr (inr (memory, idle)))

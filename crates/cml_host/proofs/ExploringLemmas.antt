@@ -1,11 +1,11 @@
 -- What was shown, told and saved of many runs, one thing after another.
-use Rattle.std.proofs.Common.{◌≡◌, ◌∙◌, ◌+◌, ◌++◌, ◌∷◌, [], ℕ, suc, Bool, true, false, List, Option, Some, None, Result, Ok, Err, OnErr, ◌<◌, get_or, take, drop, drop-cons, length, refl, sym, ap, subst, inl, inr, add-one, add-zero, append-nil, arith}
+use Rattle.std.proofs.Common.{◌≡◌, ◌∙◌, ◌+◌, ◌++◌, ◌∷◌, [], ℕ, suc, Bool, true, false, List, Option, Some, None, Result, Ok, Err, OnErr, ◌<◌, get_or, take, drop, drop-cons, length, refl, sym, ap, subst, inl, inr, add-one, add-zero, append-nil, append_assoc, arith}
 use Rattle.std.specs.Prelude.{slice_get}
 use Rattle.std.specs.Fmt.{decimal}
 use Rattle.std.specs.Option.{option_map_or}
 use Rattle.std.proofs.lemmas.List.{length-take-le, take-append-drop}
 use Rattle.std.proofs.Math.Seq.{take-suc}
-use Rattle.std.proofs.KnownBytes.{Appends-trans}
+use Rattle.std.proofs.KnownBytes.{Appends-nil, Appends-trans}
 use Rattle.std.proofs.Math.Path.{fun_ext}
 use Rattle.cml_check.specs.Sizes.{size_of}
 use Rattle.cml_check.specs.Syntax.{Name, PlainItem}
@@ -18,7 +18,7 @@ use Rattle.cml_stream.specs.Counts.{counted}
 use Rattle.cml_stream.specs.Streams.{Counted, stream, counted_stream, Says, Takes, TakesStart}
 use Rattle.cml_words.specs.Words.{saved_name}
 use Rattle.cml_words.specs.declared.ExploreOptions.{ExploreOptions}
-use Rattle.cml_host.specs.Exploring.{AreSaved, AsksForRuns, ClassesKept, File, FilesKept, IsNotSaved, LeavesAll, MadeAll, MadeErased, MadeTold, NotShown, ProgramExplored, RanOut, RunsTold, ScriptExplored, SomeSaved, StopsErased, StopsShowing, UnsavedTold, erased, erasure, file_of, judged, shortest_of, files_from, saved_start, shown_in_all, shown_at, shown_next, shown_so_far, shown_to}
+use Rattle.cml_host.specs.Exploring.{AreSaved, AsksForRuns, ClassesKept, File, FilesKept, IsNotSaved, LeavesAll, MadeAll, MadeErased, MadeTold, NotShown, ProgramExplored, RanOut, RunsTold, ScriptExplored, ShownFrom, SomeSaved, StopsBehind, StopsErased, StopsShowing, UnsavedTold, erased, erasure, file_of, judged, shortest_of, files_from, saved_start, shown_in_all, shown_at, shown_next, shown_so_far, shown_to}
 use Rattle.cml_host.specs.Running.{unsaved_told}
 use Rattle.cml_host.specs.Scripts.{PlainScript}
 use Rattle.cml_host.specs.Stores.{Content, Shelf, IsReplacedBy, IsSaved, IsUnchanged}
@@ -44,17 +44,51 @@ shown_more true runs n m is = subst (λ (k : ℕ). shown_to runs n ++ shown_at r
 pub nothing_behind : (a b c : Option (List ℕ)) (text : List ℕ) → Takes (stream a b) text → Takes (stream b c) [] → Takes (stream a c) text
 nothing_behind a b c text first none = subst (λ (t : List ℕ). Takes (stream a c) t) (append-nil text) (Appends-trans a b c text [] first none)
 
--- one run more was shown
-pub shown_on : (shows : Bool) (runs n m : ℕ) (a b c : Option (List ℕ)) → m ≡ n + 1 → Takes (stream a b) (shown_so_far shows runs n) → Takes (stream b c) (shown_next shows runs m)
+-- ---- the runs of a round
+
+shown_none_more : (shows : Bool) (runs before : ℕ) (a : Option (List ℕ)) → ShownFrom shows runs before before (stream a a)
+shown_none_more shows runs before a = ([], sym (append-nil (shown_so_far shows runs before)), Appends-nil a)
+
+pub shown_from_none : (shows : Bool) (runs before count : ℕ) (a : Option (List ℕ)) → count ≡ before → ShownFrom shows runs before count (stream a a)
+shown_from_none shows runs before count a is = subst (λ (n : ℕ). ShownFrom shows runs before n (stream a a)) (sym is) (shown_none_more shows runs before a)
+
+-- one more was shown
+pub shown_from_more : (shows : Bool) (runs before n m : ℕ) (a b c : Option (List ℕ)) → m ≡ n + 1 → ShownFrom shows runs before n (stream a b) →
+    Takes (stream b c) (shown_next shows runs m) → ShownFrom shows runs before m (stream a c)
+shown_from_more shows runs before n m a b c is first then = (
+  first.0 ++ shown_next shows runs m,
+  sym (shown_more shows runs n m is) ∙ ap (λ (t : List ℕ). t ++ shown_next shows runs m) first.1 ∙ append_assoc (shown_so_far shows runs before) first.0 (shown_next shows runs m),
+  Appends-trans a b c _ _ first.2 then,
+)
+
+-- or it was not
+pub stops_behind : (why : Halt) (shows : Bool) (runs before n : ℕ) (a b c : Option (List ℕ)) (calls failed : ℕ) → ShownFrom shows runs before n (stream a b) →
+    NotShown (shown_next shows runs (n + 1)) why (counted_stream b c calls failed) → StopsBehind shows runs before why (counted_stream a c calls failed)
+stops_behind Memory shows runs before n a b c calls failed first none = (n, (first.0, first.1, nothing_behind a b c _ first.2 none.0), none.1)
+stops_behind Write shows runs before n a b c calls failed first part = (
+  n + 1,
+  first.0 ++ shown_next shows runs (n + 1),
+  sym (shown_more shows runs n (n + 1) refl) ∙ ap (λ (t : List ℕ). t ++ shown_next shows runs (n + 1)) first.1
+      ∙ append_assoc (shown_so_far shows runs before) first.0 (shown_next shows runs (n + 1)),
+  start_behind a b c _ _ first.2 part.0,
+  part.1,
+)
+
+-- memory ran out before any was shown
+pub stops_at_once : (shows : Bool) (runs before : ℕ) (a : Option (List ℕ)) (calls failed : ℕ) → failed ≡ 0 → StopsBehind shows runs before Memory (counted_stream a a calls failed)
+stops_at_once shows runs before a calls failed fine = (before, shown_none_more shows runs before a, fine)
+
+-- a round was shown, behind the runs so far
+pub shown_on : (shows : Bool) (runs n m : ℕ) (a b c : Option (List ℕ)) → Takes (stream a b) (shown_so_far shows runs n) → ShownFrom shows runs n m (stream b c)
     → Takes (stream a c) (shown_so_far shows runs m)
-shown_on shows runs n m a b c is first then = subst (λ (t : List ℕ). Takes (stream a c) t) (shown_more shows runs n m is) (Appends-trans a b c _ _ first then)
+shown_on shows runs n m a b c first then = subst (λ (t : List ℕ). Takes (stream a c) t) (sym then.1) (Appends-trans a b c _ _ first then.2)
 
 -- or it was not
 pub stops_next : (why : Halt) (shows : Bool) (runs n : ℕ) (a b c : Option (List ℕ)) (calls failed : ℕ) → Takes (stream a b) (shown_so_far shows runs n)
-    → NotShown (shown_next shows runs (n + 1)) why (counted_stream b c calls failed) → StopsShowing shows runs why (counted_stream a c calls failed)
-stops_next Memory shows runs n a b c calls failed first none = (n, nothing_behind a b c _ first none.0, none.1)
-stops_next Write shows runs n a b c calls failed first part =
-    (n + 1, subst (λ (t : List ℕ). TakesStart (stream a c) t) (shown_more shows runs n (n + 1) refl) (start_behind a b c _ _ first part.0), part.1)
+    → StopsBehind shows runs n why (counted_stream b c calls failed) → StopsShowing shows runs why (counted_stream a c calls failed)
+stops_next Memory shows runs n a b c calls failed first stops = (stops.0, shown_on shows runs n stops.0 a b c first stops.1, stops.2)
+stops_next Write shows runs n a b c calls failed first stops =
+    (stops.0, subst (λ (t : List ℕ). TakesStart (stream a c) t) (sym stops.2) (start_behind a b c _ _ first stops.3), stops.4)
 
 -- what is shown was taken away
 pub erased_on : (shows : Bool) (runs n : ℕ) (a b c : Option (List ℕ)) → Takes (stream a b) (shown_so_far shows runs n) → Takes (stream b c) (erased shows)

@@ -10,6 +10,10 @@ mod WorkLemmas
 mod StoryLemmas
 mod ItemLemmas
 mod NarratedLemmas
+mod OpeningLemmas
+mod PictureLemmas
 mod DrawnLemmas
 mod ExploringLemmas
 mod ShrunkLemmas
+mod TalkLemmas
+mod SteppedLemmas

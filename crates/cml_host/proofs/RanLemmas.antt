@@ -1,5 +1,5 @@
 -- What a command did, by what it told of the hub that it had.
-use Rattle.std.proofs.Common.{◌≡◌, ◌∙◌, ◌⊎◌, ℕ, Bool, List, [], ◌++◌, true, Option, Some, None, is_some, Result, Ok, Err, OnOk, IfErr, ap, inl, inr, refl, subst, sym}
+use Rattle.std.proofs.Common.{◌≡◌, ◌∙◌, ◌⊎◌, ℕ, Bool, List, [], ◌++◌, true, Option, Some, None, IsSomeAnd, is_some, Result, Ok, Err, OnOk, IfErr, ap, inl, inr, refl, subst, sym}
 use Rattle.cml_check.specs.Sizes.{size_of}
 use Rattle.cml_check.specs.Syntax.{PlainItem}
 use Rattle.cml_hub.specs.Choices.{seeded}
@@ -19,6 +19,8 @@ use Rattle.std.proofs.KnownBytes.{Appends-trans}
 use Rattle.cml_words.specs.declared.ReplayOptions.{ReplayOptions}
 use Rattle.cml_words.specs.declared.RunOptions.{RunOptions}
 use Rattle.cml_work.specs.Works.{IsWorked, GoesOnFrom}
+use Rattle.cml_host.specs.declared.picture.Picture.{Picture}
+use Rattle.cml_host.specs.declared.picture.Picture.TheVariants as drawing
 use Rattle.cml_host.specs.declared.run.Record.{Record}
 use Rattle.cml_host.specs.declared.said.Refusal.{Refusal}
 use Rattle.cml_host.specs.declared.said.Refusal.TheVariants.{Unread, Wrong, Memory}
@@ -27,7 +29,7 @@ use Rattle.cml_host.specs.declared.workers.Cause.TheVariants as cause
 use Rattle.cml_host.specs.declared.workers.Stopped.{Stopped}
 use Rattle.cml_host.specs.Closed.{PlainAsked, PlainClosing, asked_of, IsClosed, IsClosing, IsHubAt, SaysEnd}
 use Rattle.cml_host.specs.Replaying.{IsHubOf, IsNotRun, OpenedReplayed, ReplayRan, ReplayTold, ScheduleRan}
-use Rattle.cml_host.specs.Running.{HasEnded, record_name, IsRecorded, RecordBroke, EndRan, ReportsAreLive, IsRunBy, IsChosen, Plays, PlaysChosen, ProgramRan, RunRan, BegunRan, OpenedRan, AreToldBy, IsStopped, StopRan, EndedRan, IsEnded, IsNotEnded, IsMade, IsKept, IsNotKept}
+use Rattle.cml_host.specs.Running.{HasEnded, PlainSaving, PlainWanted, IsPictureFor, IsRecorded, PictureKept, PictureRefused, RecordBroke, EndRan, saving_of, unsaved_told, ReportsAreLive, IsRunBy, IsChosen, Plays, PlaysChosen, ProgramRan, RunRan, BegunRan, OpenedRan, AreToldBy, IsStopped, StopRan, EndedRan, IsEnded, IsNotEnded, IsMade, IsKept, IsNotKept}
 use Rattle.cml_host.specs.Servers.{IsNotNumbered, first_unknown, server_numbers, server_names}
 use Rattle.cml_host.specs.Said.{RefusalRan}
 use Rattle.cml_host.specs.Scripts.{PlainScript, IsOpened, IsNotOpened, NoScriptRan}
@@ -191,18 +193,58 @@ not_kept (Err status) explains name h output a b d before broke after failed sto
       refused.0,
     )
 
--- and then how it ended was said
-pub closed_ran : (asked : PlainAsked) (name : Option (List ℕ)) (h : Kept) (closing : PlainClosing) (output : Counted) (a b d : Option (List ℕ)) (before broke after failed : ℕ)
-    (store : Shelf) (status : ℕ) → IsClosing asked h closing → IsEnded name h output (counted_stream a b before broke) store →
-    SaysEnd closing.words (counted_stream b d after failed) → status ≡ closing.status → EndedRan asked name h [] output (counted_stream a d after failed) store status
-closed_ran asked name h closing output a b d before broke after failed store status is ended said ends =
-    inl (inl (closed_hub asked h closing [] output a b d before broke after failed status is ended.0 said ends, ended.1))
+-- it was saved, and then nothing was
+recorded_then : (old mid new : List ℕ → Content) (name : Option (List ℕ)) (schedule : List ℕ) → IsRecorded name schedule (record { before = old; after = mid }) →
+    IsUnchanged mid new → IsRecorded name schedule (record { before = old; after = new })
+recorded_then old mid new None schedule kept same = λ n. same n ∙ kept n
+recorded_then old mid new (Some name) schedule saved same =
+    record {
+      saved = subst (λ (content : Content). IsReplacedBy (old name) content schedule) (sym (same name)) saved.saved;
+      others = λ other differs. same other ∙ saved.others other differs;
+    }
 
-pub not_ended_ran : (asked : PlainAsked) (name : Option (List ℕ)) (h : Kept) (output errors : Counted) (store : Shelf) (status : ℕ) →
-    IsNotEnded (is_some asked.subject) name h output errors store status → EndedRan asked name h [] output errors store status
-not_ended_ran asked name h output errors store status (inl broke) = inl (inr (inl broke))
-not_ended_ran asked name h output errors store status (inr (inl broke, same)) = inl (inr (inr (broke, same)))
-not_ended_ran asked name h output errors store status (inr (inr cut, same)) = inr (cut, same)
+-- and then its picture, and how it ended was said
+pub kept_ran : (asked : PlainAsked) (schedule : Option (List ℕ)) (wanted : Option PlainWanted) (h : Kept) (closing : PlainClosing) (picture : Picture) (output : Counted)
+    (a b d : Option (List ℕ)) (before broke after failed : ℕ) (old mid new : List ℕ → Content) (status : ℕ) → IsClosing asked h closing → IsPictureFor wanted h picture →
+    IsEnded schedule h output (counted_stream a b before broke) (record { before = old; after = mid }) →
+    PictureKept (is_some asked.subject) picture closing (counted_stream b d after failed) (record { before = mid; after = new }) status →
+    EndedRan asked (record { schedule = schedule; picture = wanted }) h [] output (counted_stream a d after failed) (record { before = old; after = new }) status
+kept_ran asked schedule None h closing drawing.Unasked output a b d before broke after failed old mid new status is none ended kept =
+    inl (inl (closed_hub asked h closing [] output a b d before broke after failed status is ended.0 kept.0.0 kept.0.1, (mid, ended.1, kept.1)))
+kept_ran asked schedule None h closing (drawing.Drawn name made) output a b d before broke after failed old mid new status is none ended kept = absurd none
+kept_ran asked schedule None h closing drawing.TooMany output a b d before broke after failed old mid new status is none ended kept = absurd none
+kept_ran asked schedule (Some wanted) h closing drawing.Unasked output a b d before broke after failed old mid new status is made ended kept = absurd made
+kept_ran asked schedule (Some wanted) h closing (drawing.Drawn name drawn) output a b d before broke after failed old mid new status is made ended (inl kept) =
+    inl (inl (
+      closed_hub asked h closing [] output a b d before broke after failed status is ended.0 kept.1.0 kept.1.1,
+      (mid, ended.1, (drawn.bytes.items, made.1, subst (λ (n : List ℕ). IsSaved mid new n drawn.bytes.items) made.0 kept.0)),
+    ))
+kept_ran asked schedule (Some wanted) h closing (drawing.Drawn name drawn) output a b d before broke after failed old mid new status is made ended (inr kept) =
+    inl (inr (inr (inl (
+      ended.0.2,
+      ended.0.3,
+      inr (
+        kept.0.0,
+        subst (λ (n : List ℕ). Says (counted_stream a d after failed) (unsaved_told (is_some asked.subject) n kept.0.0)) made.0
+            (says_behind a b d after failed [] _ ended.0.0 kept.0.1),
+      ),
+      kept.1,
+      recorded_then old mid new schedule (schedule_text h.budget (size_of h.course.program) h.course.items) ended.1 kept.2,
+    ))))
+kept_ran asked schedule (Some wanted) h closing drawing.TooMany output a b d before broke after failed old mid new status is made ended kept =
+    inl (inr (inr (inl (
+      ended.0.2,
+      ended.0.3,
+      inl (made, says_behind a b d after failed [] _ ended.0.0 kept.0),
+      kept.1,
+      recorded_then old mid new schedule (schedule_text h.budget (size_of h.course.program) h.course.items) ended.1 kept.2,
+    ))))
+
+pub not_ended_ran : (asked : PlainAsked) (saving : PlainSaving) (h : Kept) (output errors : Counted) (store : Shelf) (status : ℕ) →
+    IsNotEnded (is_some asked.subject) saving.schedule h output errors store status → EndedRan asked saving h [] output errors store status
+not_ended_ran asked saving h output errors store status (inl broke) = inl (inr (inl broke))
+not_ended_ran asked saving h output errors store status (inr (inl broke, same)) = inl (inr (inr (inr (broke, same))))
+not_ended_ran asked saving h output errors store status (inr (inr cut, same)) = inr (cut, same)
 
 record_broke_behind : (explains : Bool) (name : Option (List ℕ)) (a b d : Option (List ℕ)) (reports : List PlainReport) (text : List ℕ) (output : Counted) (calls failed : ℕ)
     (store : Shelf) (status : ℕ) → Takes (stream a b) (reports_text reports) → RecordBroke explains name [] text output (counted_stream b d calls failed) store status →
@@ -211,21 +253,39 @@ record_broke_behind explains None a b d reports text output calls failed store s
 record_broke_behind explains (Some name) a b d reports text output calls failed store status before broke =
     (broke.0, broke.1, (broke.2.0, says_behind a b d calls failed (reports_text reports) _ before broke.2.1), broke.3, broke.4)
 
+refused_behind : (explains : Bool) (wanted : Option PlainWanted) (p : List (PlainItem ℕ)) (budget : ℕ) (items : List Item) (a b d : Option (List ℕ)) (reports : List PlainReport)
+    (calls failed : ℕ) → Takes (stream a b) (reports_text reports) →
+    IsSomeAnd wanted (λ w. PictureRefused explains w p budget items [] (counted_stream b d calls failed)) →
+    IsSomeAnd wanted (λ w. PictureRefused explains w p budget items (reports_text reports) (counted_stream a d calls failed))
+refused_behind explains None p budget items a b d reports calls failed before refused = absurd refused
+refused_behind explains (Some w) p budget items a b d reports calls failed before (inl long) =
+    inl (long.0, says_behind a b d calls failed (reports_text reports) _ before long.1)
+refused_behind explains (Some w) p budget items a b d reports calls failed before (inr said) =
+    inr (said.0, says_behind a b d calls failed (reports_text reports) _ before said.1)
+
 -- what was told of the output, after the reports that were told before
-pub ended_behind : (asked : PlainAsked) (name : Option (List ℕ)) (h : Kept) (a b d : Option (List ℕ)) (output : Counted) (calls failed : ℕ) (store : Shelf) (status : ℕ) →
-    Takes (stream a b) (reports_text h.reports) → EndedRan asked name h [] output (counted_stream b d calls failed) store status →
-    EndRan asked name h.course.program h.course.items h.reports h.budget (run_of h.course) output (counted_stream a d calls failed) store status
+pub ended_behind : (asked : PlainAsked) (saving : PlainSaving) (h : Kept) (a b d : Option (List ℕ)) (output : Counted) (calls failed : ℕ) (store : Shelf) (status : ℕ) →
+    Takes (stream a b) (reports_text h.reports) → EndedRan asked saving h [] output (counted_stream b d calls failed) store status →
+    EndRan asked saving h.course.program h.course.items h.reports h.budget (run_of h.course) output (counted_stream a d calls failed) store status
     ⊎ (IsCutOff h.reports h.course.output output (counted_stream a d calls failed) status × IsUnchanged store.before store.after)
-ended_behind asked name h a b d output calls failed store status before (inl (inl ((hub, at, closing, is, told, ends), saved))) =
+ended_behind asked saving h a b d output calls failed store status before (inl (inl ((hub, at, closing, is, told, ends), saved))) =
     inl (inl (
       (hub, at, closing, is, with_behind a b d closing.words h.reports (whole_output h.budget (run_of h.course)) output calls failed before told, ends),
       saved,
     ))
-ended_behind asked name h a b d output calls failed store status before (inl (inr (inl broke))) =
-    inl (inr (inl (record_broke_behind (is_some asked.subject) name a b d h.reports (whole_output h.budget (run_of h.course)) output calls failed store status before broke)))
-ended_behind asked name h a b d output calls failed store status before (inl (inr (inr broke))) =
-    inl (inr (inr (output_behind a b d h.reports (whole_output h.budget (run_of h.course)) output calls failed status before broke.0, broke.1)))
-ended_behind asked name h a b d output calls failed store status before (inr cut) =
+ended_behind asked saving h a b d output calls failed store status before (inl (inr (inl broke))) =
+    inl (inr (inl (record_broke_behind (is_some asked.subject) saving.schedule a b d h.reports (whole_output h.budget (run_of h.course)) output calls failed store status before broke)))
+ended_behind asked saving h a b d output calls failed store status before (inl (inr (inr (inl broke)))) =
+    inl (inr (inr (inl (
+      broke.0,
+      broke.1,
+      refused_behind (is_some asked.subject) saving.picture h.course.program h.budget h.course.items a b d h.reports calls failed before broke.2,
+      broke.3,
+      broke.4,
+    ))))
+ended_behind asked saving h a b d output calls failed store status before (inl (inr (inr (inr broke)))) =
+    inl (inr (inr (inr (output_behind a b d h.reports (whole_output h.budget (run_of h.course)) output calls failed status before broke.0, broke.1))))
+ended_behind asked saving h a b d output calls failed store status before (inr cut) =
     inr (cut_behind a b d h.reports h.course.output output calls failed status before cut.0, cut.1)
 
 -- each row of two swaps that the run took from its beginning on is an exchange
@@ -253,20 +313,20 @@ chosen_from : (p : List (PlainItem ℕ)) (budget : ℕ) (seed watch : Option ℕ
 chosen_from p budget None watch begun h begins leads plays = (plays.0, played_from by_first plays.0 p budget watch begun h begins leads plays.1)
 chosen_from p budget (Some seed) watch begun h begins leads plays = played_from by_words (seeded seed) p budget watch begun h begins leads plays
 
-pub ended_ran : (asked : PlainAsked) (p : List (PlainItem ℕ)) (options : RunOptions) (begun h : Kept) (output errors : Counted) (store : Shelf) (status : ℕ) →
+pub ended_ran : (asked : PlainAsked) (saving : PlainSaving) (p : List (PlainItem ℕ)) (options : RunOptions) (begun h : Kept) (output errors : Counted) (store : Shelf) (status : ℕ) →
     IsAtStart p options.steps options.watch begun → stands (text_of begun.course.program) begun.course.items ≡ Some (run_of begun.course) →
     (options.workers ≡ 1 → PlaysChosen options.seed begun h) → IsWorked begun h → IsRunOf h.course.program h.watch h.course.items h.reports (run_of h.course) →
-    (EndRan asked (record_name options) h.course.program h.course.items h.reports h.budget (run_of h.course) output errors store status
+    (EndRan asked saving h.course.program h.course.items h.reports h.budget (run_of h.course) output errors store status
     ⊎ (IsCutOff h.reports h.course.output output errors status × IsUnchanged store.before store.after)) →
-    ProgramRan asked p options output errors store status
-ended_ran asked p options begun h output errors store status begins leads plays worked run (inl ended) =
+    ProgramRan asked saving p options output errors store status
+ended_ran asked saving p options begun h output errors store status begins leads plays worked run (inl ended) =
     let r = run_of h.course in
     let more = worked.goes_on in
     let program : h.course.program ≡ p = more.program ∙ begins.program in
     let budget : h.budget ≡ options.steps = more.budget ∙ begins.budget_is in
     let watch : h.watch ≡ options.watch = more.watch ∙ begins.watch_is in
-    let all = subst (λ (b : ℕ). EndRan asked (record_name options) p h.course.items h.reports b r output errors store status) budget
-    (subst (λ (q : List (PlainItem ℕ)). EndRan asked (record_name options) q h.course.items h.reports h.budget r output errors store status) program ended) in (
+    let all = subst (λ (b : ℕ). EndRan asked saving p h.course.items h.reports b r output errors store status) budget
+    (subst (λ (q : List (PlainItem ℕ)). EndRan asked saving q h.course.items h.reports h.budget r output errors store status) program ended) in (
       h.course.items,
       h.reports,
       r,
@@ -281,7 +341,7 @@ ended_ran asked p options begun h output errors store status begins leads plays 
         λ one. chosen_from p options.steps options.seed options.watch begun h begins leads (plays one),
       ),
     )
-ended_ran asked p options begun h output errors store status begins leads plays worked run (inr cut) =
+ended_ran asked saving p options begun h output errors store status begins leads plays worked run (inr cut) =
     let more = worked.goes_on in (
       h.course.items,
       h.reports,
@@ -303,13 +363,13 @@ stop_behind options h cause.Write a b d output calls failed status part stopped 
 stop_behind options h cause.Foreign a b d output calls failed status live stopped =
     inr (live.0, (live.1.0, live.1.1, live.1.2, says_behind a b d calls failed (reports_text live.1.0) _ live.1.3 stopped.0, stopped.1, stopped.2))
 
-pub stopped_ran : (asked : PlainAsked) (p : List (PlainItem ℕ)) (options : RunOptions) (begun : Kept) (stopped : Stopped) (a b d : Option (List ℕ)) (output : Counted)
+pub stopped_ran : (asked : PlainAsked) (saving : PlainSaving) (p : List (PlainItem ℕ)) (options : RunOptions) (begun : Kept) (stopped : Stopped) (a b d : Option (List ℕ)) (output : Counted)
     (before broke calls failed : ℕ) (store : Shelf) (status : ℕ) → IsAtStart p options.steps options.watch begun →
     IsStopped options begun stopped (counted_stream a b before broke) →
     IsRunOf stopped.hub.course.program stopped.hub.watch stopped.hub.course.items stopped.hub.reports (run_of stopped.hub.course) →
     StopRan stopped.hub stopped.cause output (counted_stream b d calls failed) status → IsUnchanged store.before store.after →
-    ProgramRan asked p options output (counted_stream a d calls failed) store status
-stopped_ran asked p options begun stopped a b d output before broke calls failed store status begins stops run tells same =
+    ProgramRan asked saving p options output (counted_stream a d calls failed) store status
+stopped_ran asked saving p options begun stopped a b d output before broke calls failed store status begins stops run tells same =
     let h = stopped.hub in
     let more = stops.0 in (
       h.course.items,
@@ -323,7 +383,7 @@ stopped_ran asked p options begun stopped a b d output before broke calls failed
     go : IsCutOff stopped.hub.reports stopped.hub.course.output output (counted_stream a d calls failed) status
         ⊎ (ReportsAreLive options × IsForeign stopped.hub.reports output (counted_stream a d calls failed) status) →
         (HasEnded options.steps options.watch stopped.hub.course.items stopped.hub.reports (run_of stopped.hub.course)
-        × EndRan asked (record_name options) p stopped.hub.course.items stopped.hub.reports options.steps
+        × EndRan asked saving p stopped.hub.course.items stopped.hub.reports options.steps
         (run_of stopped.hub.course) output (counted_stream a d calls failed) store status
         × (options.workers ≡ 1 → IsChosen p options.steps options.seed stopped.hub.course.items (run_of stopped.hub.course)))
         ⊎ (IsCutOff stopped.hub.reports stopped.hub.course.output output (counted_stream a d calls failed) status × IsUnchanged store.before store.after)
@@ -353,21 +413,29 @@ broke_behind old mid new explains None reports text output errors status same br
 broke_behind old mid new explains (Some name) reports text output errors status same broke =
     (broke.0, broke.1, broke.2, broke.3, λ n. broke.4 n ∙ same n)
 
-end_behind : (old mid new : List ℕ → Content) (asked : PlainAsked) (name : Option (List ℕ)) (p : List (PlainItem ℕ)) (items : List Item) (reports : List PlainReport)
+end_behind : (old mid new : List ℕ → Content) (asked : PlainAsked) (saving : PlainSaving) (p : List (PlainItem ℕ)) (items : List Item) (reports : List PlainReport)
     (budget : ℕ) (r : Run) (output errors : Counted) (status : ℕ) → IsUnchanged old mid →
-    EndRan asked name p items reports budget r output errors (record { before = mid; after = new }) status →
-    EndRan asked name p items reports budget r output errors (record { before = old; after = new }) status
-end_behind old mid new asked name p items reports budget r output errors status same (inl told) =
-    inl (told.0, recorded_behind old mid new name (schedule_text budget (size_of p) items) same told.1)
-end_behind old mid new asked name p items reports budget r output errors status same (inr (inl broke)) =
-    inr (inl (broke_behind old mid new (is_some asked.subject) name reports (whole_output budget r) output errors status same broke))
-end_behind old mid new asked name p items reports budget r output errors status same (inr (inr broke)) =
-    inr (inr (broke.0, λ n. broke.1 n ∙ same n))
+    EndRan asked saving p items reports budget r output errors (record { before = mid; after = new }) status →
+    EndRan asked saving p items reports budget r output errors (record { before = old; after = new }) status
+end_behind old mid new asked saving p items reports budget r output errors status same (inl told) =
+    inl (told.0, (told.1.0, recorded_behind old mid told.1.0 saving.schedule (schedule_text budget (size_of p) items) same told.1.1, told.1.2))
+end_behind old mid new asked saving p items reports budget r output errors status same (inr (inl broke)) =
+    inr (inl (broke_behind old mid new (is_some asked.subject) saving.schedule reports (whole_output budget r) output errors status same broke))
+end_behind old mid new asked saving p items reports budget r output errors status same (inr (inr (inl broke))) =
+    inr (inr (inl (
+      broke.0,
+      broke.1,
+      broke.2,
+      broke.3,
+      recorded_behind old mid new saving.schedule (schedule_text budget (size_of p) items) same broke.4,
+    )))
+end_behind old mid new asked saving p items reports budget r output errors status same (inr (inr (inr broke))) =
+    inr (inr (inr (broke.0, λ n. broke.1 n ∙ same n)))
 
-program_behind : (old mid new : List ℕ → Content) (asked : PlainAsked) (p : List (PlainItem ℕ)) (options : RunOptions) (output errors : Counted) (status : ℕ) →
-    IsUnchanged old mid → ProgramRan asked p options output errors (record { before = mid; after = new }) status →
-    ProgramRan asked p options output errors (record { before = old; after = new }) status
-program_behind old mid new asked p options output errors status same (items, reports, r, run, exchanges, inl ended) = (
+program_behind : (old mid new : List ℕ → Content) (asked : PlainAsked) (saving : PlainSaving) (p : List (PlainItem ℕ)) (options : RunOptions) (output errors : Counted) (status : ℕ) →
+    IsUnchanged old mid → ProgramRan asked saving p options output errors (record { before = mid; after = new }) status →
+    ProgramRan asked saving p options output errors (record { before = old; after = new }) status
+program_behind old mid new asked saving p options output errors status same (items, reports, r, run, exchanges, inl ended) = (
   items,
   reports,
   r,
@@ -375,28 +443,29 @@ program_behind old mid new asked p options output errors status same (items, rep
   exchanges,
   inl (
     ended.0,
-    end_behind old mid new asked (record_name options) p items reports options.steps r output errors status same ended.1,
+    end_behind old mid new asked saving p items reports options.steps r output errors status same ended.1,
     ended.2,
   ),
 )
-program_behind old mid new asked p options output errors status same (items, reports, r, run, exchanges, inr (inl cut)) =
+program_behind old mid new asked saving p options output errors status same (items, reports, r, run, exchanges, inr (inl cut)) =
     (items, reports, r, run, exchanges, inr (inl (cut.0, λ n. cut.1 n ∙ same n)))
-program_behind old mid new asked p options output errors status same (items, reports, r, run, exchanges, inr (inr live)) =
+program_behind old mid new asked saving p options output errors status same (items, reports, r, run, exchanges, inr (inr live)) =
     (items, reports, r, run, exchanges, inr (inr (live.0, live.1, λ n. live.2 n ∙ same n)))
 
 -- the script was run, with the numbers of its servers
-pub opened_ran : (explains : Bool) (s : PlainScript) (options : RunOptions) (servers : List ℕ) (asked : PlainAsked) (p : List (PlainItem ℕ)) (output errors : Counted)
+pub opened_ran : (explains : Bool) (s : PlainScript) (options : RunOptions) (servers : List ℕ) (asked : PlainAsked) (saving : PlainSaving) (p : List (PlainItem ℕ)) (output errors : Counted)
     (store : Shelf) (status : ℕ) → first_unknown s (server_names options.end) ≡ None → servers ≡ server_numbers s (server_names options.end) → p ≡ s.program →
-    asked ≡ asked_of explains options.file.now s options.end.strict servers → BegunRan asked p options output errors store status →
+    asked ≡ asked_of explains options.file.now s options.end.strict servers → saving ≡ saving_of options s → BegunRan asked saving p options output errors store status →
     OpenedRan explains s options output errors store status
-opened_ran explains s options servers asked p output errors store status known numbered program same (inl ran) =
+opened_ran explains s options servers asked saving p output errors store status known numbered program same saves (inl ran) =
     inl (inl (
       known,
-      subst (λ (a : PlainAsked). ProgramRan a s.program options output errors store status)
+      subst (λ (a : PlainAsked). ProgramRan a (saving_of options s) s.program options output errors store status)
           (same ∙ ap (asked_of explains options.file.now s options.end.strict) numbered)
-          (subst (λ (q : List (PlainItem ℕ)). ProgramRan asked q options output errors store status) program ran),
+          (subst (λ (v : PlainSaving). ProgramRan asked v s.program options output errors store status) saves
+          (subst (λ (q : List (PlainItem ℕ)). ProgramRan asked saving q options output errors store status) program ran)),
     ))
-opened_ran explains s options servers asked p output errors store status known numbered program same (inr memory) = inr memory
+opened_ran explains s options servers asked saving p output errors store status known numbered program same saves (inr memory) = inr memory
 
 pub not_numbered_ran : (explains : Bool) (s : PlainScript) (options : RunOptions) (why : Refusal) (name : List ℕ) (output errors : Counted) (store : Shelf) (status : ℕ) →
     IsNotNumbered s (server_names options.end) why → RefusalRan explains name why 1 errors status → IsIdle output → IsUnchanged store.before store.after →
@@ -411,7 +480,7 @@ pub run_ran : (old mid new : List ℕ → Content) (s : PlainScript) (options : 
     IsUnchanged old mid → IsOpened (old options.file.now) s → OpenedRan explains s options output errors (record { before = mid; after = new }) status →
     RunRan options explains output errors (record { before = old; after = new }) status
 run_ran old mid new s options explains output errors status same opened (inl (inl (known, ran))) =
-    inl (s, opened, inl (known, program_behind old mid new _ s.program options output errors status same ran))
+    inl (s, opened, inl (known, program_behind old mid new _ _ s.program options output errors status same ran))
 run_ran old mid new s options explains output errors status same opened (inl (inr (none, idle, kept))) =
     inl (s, opened, inr (none, idle, λ n. kept n ∙ same n))
 run_ran old mid new s options explains output errors status same opened (inr memory) =

@@ -84,7 +84,7 @@ whole_no_schedule explains all found told is (inl long) = go (all_handed all fou
 whole_no_schedule explains all found told is (inr wrong) =
     whole_plan (λ t. IsNoSchedule explains t told) all found is wrong.0 (inr wrong)
 
-whole_wrong : (subject : Option PlainSubject) (p : List (PlainItem ℕ)) (told all found : List ℕ) → found ≡ take (schedule_limit + 1) all →
+pub whole_wrong : (subject : Option PlainSubject) (p : List (PlainItem ℕ)) (told all found : List ℕ) → found ≡ take (schedule_limit + 1) all →
     IsWrong subject p found told → IsWrong subject p all told
 whole_wrong subject p told all found is (inl wrong) = inl (whole_no_schedule (is_some subject) all found told is wrong)
 whole_wrong subject p told all found is (inr wrong) =

@@ -7,42 +7,37 @@ use Rattle.cml_schedule.specs.Written.{schedule_text}
 use Rattle.cml_schedule.specs.Reading.{schedule_limit}
 use Rattle.cml_stream.specs.Streams.{Counted, IsIdle}
 use Rattle.cml_host.specs.Closed.{PlainSubject}
-use Rattle.cml_host.specs.Replaying.{IsNotRun}
+use Rattle.cml_host.specs.Replaying.{IsNoRun}
 use Rattle.cml_host.specs.Said.{RefusalRan}
-use Rattle.cml_host.specs.Shrunk.{IsShorterBy, IsShorterThere, ScheduleShrunk, ScheduleTold}
-use Rattle.cml_host.specs.Stores.{Content, IsLoaded}
+use Rattle.cml_host.specs.Shrunk.{IsShorterBy, ScheduleTold, TextShrunk}
 use Rattle.cml_host.specs.declared.said.Refusal.{Refusal}
 use Rattle.cml_host.specs.declared.said.Refusal.TheVariants.{Unread, Wrong, Memory}
 use Rattle.cml_host.specs.declared.shrink.Shorter.{Shorter}
-use Rattle.cml_host.proofs.ScriptLemmas.{lies_there, whole_plan}
+use Rattle.cml_host.proofs.ScriptLemmas.{whole_plan, whole_wrong}
 
-whole_shorter : (p : List (PlainItem ℕ)) (tries : ℕ) (told : Shorter) (all found : List ℕ) → found ≡ take (schedule_limit + 1) all → IsShorterBy p tries found told
-    → IsShorterBy p tries all told
-whole_shorter p tries told all found is by = whole_plan (λ t. IsShorterBy p tries t told) all found is by.1.0 by
-
-pub shorter_there : (p : List (PlainItem ℕ)) (tries : ℕ) (content : Content) (found : List ℕ) (told : Shorter) → IsLoaded content schedule_limit found → IsShorterBy p tries found told
-    → IsShorterThere p tries content told
-shorter_there p tries content found told loaded by = lies_there (λ t. IsShorterBy p tries t told) (whole_shorter p tries told) content found loaded by
+-- what was done with the first bytes was done with the whole
+pub whole_shrunk : (tries : ℕ) (s : PlainSubject) (p : List (PlainItem ℕ)) (output errors : Counted) (status : ℕ) (all found : List ℕ) → found ≡ take (schedule_limit + 1) all
+    → TextShrunk tries s p found output errors status → TextShrunk tries s p all output errors status
+whole_shrunk tries s p output errors status all found is (inl told) =
+    whole_plan (λ t. TextShrunk tries s p t output errors status) all found is told.1.0 (inl told)
+whole_shrunk tries s p output errors status all found is (inr (inl wrong)) =
+    inr (inl (wrong.0, whole_wrong (Some s) p wrong.0 all found is wrong.1, wrong.2, wrong.3, wrong.4))
+whole_shrunk tries s p output errors status all found is (inr (inr memory)) = inr (inr memory)
 
 -- a shorter schedule was told
-pub shrunk_told : (s : PlainSubject) (p q : List (PlainItem ℕ)) (tries : ℕ) (name : List ℕ) (content : Content) (told : Shorter) (output errors : Counted) (status : ℕ) → q ≡ p
-    → IsShorterThere q tries content told → ScheduleTold (string_bytes told.schedule) told.counts.items output errors status
-    → ScheduleShrunk s p tries name content output errors status
-shrunk_told s p q tries name content told output errors status same there was =
-    let here : IsShorterThere p tries content told = subst (λ (r : List (PlainItem ℕ)). IsShorterThere r tries content told) same there in
-    let by = here.2 in
+pub shrunk_told : (tries : ℕ) (s : PlainSubject) (p : List (PlainItem ℕ)) (text : List ℕ) (told : Shorter) (output errors : Counted) (status : ℕ) → IsShorterBy p tries text told
+    → ScheduleTold (string_bytes told.schedule) told.counts.items output errors status → TextShrunk tries s p text output errors status
+shrunk_told tries s p text told output errors status by was =
     let of = by.3 in
     let said = subst (λ (t : List ℕ). ScheduleTold t told.counts.items output errors status) of.2 was in
-    inl (here.0, here.1, inl (by.0, by.1, (by.2, (of.0, of.1, subst (λ (t : List ℕ). ScheduleTold (schedule_text by.0.budget (size_of p) of.0.items) t output errors status) of.3 said))))
+    inl (by.0, by.1, (by.2, (of.0, of.1, subst (λ (t : List ℕ). ScheduleTold (schedule_text by.0.budget (size_of p) of.0.items) t output errors status) of.3 said)))
 
 -- or why there is none
-pub not_shrunk : (s : PlainSubject) (p q : List (PlainItem ℕ)) (o : Option PlainSubject) (tries : ℕ) (name : List ℕ) (content : Content) (why : Refusal) (output errors : Counted) (status : ℕ)
-    → q ≡ p → o ≡ Some s → IsNotRun o q content why → RefusalRan true name why 3 errors status → IsIdle output → ScheduleShrunk s p tries name content output errors status
-not_shrunk s p q o tries name content why output errors status same spoken none said idle =
-    go why (subst (λ (r : List (PlainItem ℕ)). IsNotRun (Some s) r content why) same (subst (λ (x : Option PlainSubject). IsNotRun x q content why) spoken none)) said
+pub not_shrunk : (tries : ℕ) (s : PlainSubject) (p : List (PlainItem ℕ)) (o : Option PlainSubject) (text name : List ℕ) (why : Refusal) (output errors : Counted) (status : ℕ)
+    → o ≡ Some s → IsNoRun o p text why → RefusalRan true name why 3 errors status → IsIdle output → TextShrunk tries s p text output errors status
+not_shrunk tries s p o text name why output errors status spoken none said idle = go why (subst (λ (x : Option PlainSubject). IsNoRun x p text why) spoken none) said
   where
-    go : (why : Refusal) → IsNotRun (Some s) p content why → RefusalRan true name why 3 errors status → ScheduleShrunk s p tries name content output errors status
-    go (Unread reason) may (inl told) = inr (inl (may, (reason, told.0), told.1), idle)
-    go (Unread reason) may (inr memory) = inr (inr memory, idle)
-    go (Wrong told) wrong was = inl (wrong.0, wrong.1, inr (told.items, wrong.2, was.0, was.1, idle))
-    go Memory any memory = inr (inr memory, idle)
+    go : (why : Refusal) → IsNoRun (Some s) p text why → RefusalRan true name why 3 errors status → TextShrunk tries s p text output errors status
+    go (Unread reason) never was = absurd never
+    go (Wrong told) wrong was = inr (inl (told.items, wrong, was.0, was.1, idle))
+    go Memory any memory = inr (inr (memory, idle))

@@ -90,6 +90,18 @@ plain_subject s = record { name = s.name.now; text = s.text.items; forms = s.for
 abbrev pub plain_asked : Asked → PlainAsked
 plain_asked a = record { subject = option_map plain_subject a.subject; strict = a.strict; servers = a.servers.items }
 
+-- the script of which a picture can be drawn, where it is kept
+abbrev pub one_kept : Option PlainSubject → Option PlainSubject → Option PlainSubject
+one_kept None other = other
+one_kept (Some s) other = Some s
+
+abbrev pub drawn_subject : Asked → Option PlainSubject
+drawn_subject a = one_kept (option_map plain_subject a.subject) (option_map plain_subject a.drawn)
+
+-- it is kept where it is spoken of or drawn
+abbrev pub kept_of : Bool → Bool → PlainSubject → Option PlainSubject
+kept_of explains draws s = if explains then Some s else (if draws then Some s else None)
+
 abbrev pub plain_closing : Closing → PlainClosing
 plain_closing c = record { status = c.status; words = option_map (λ words. words.items) c.words }
 

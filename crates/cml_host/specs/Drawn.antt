@@ -11,12 +11,12 @@ use Rattle.cml_schedule.specs.declared.item.Item.{Item}
 use Rattle.cml_stream.specs.Streams.{Counted, IsIdle, Says}
 use Rattle.cml_text.specs.Lines.{line}
 use Rattle.cml_words.specs.declared.PartOptions.{PartOptions}
-use Rattle.cml_host.specs.Closed.{PlainSubject, script_as_subject}
+use Rattle.cml_host.specs.Closed.{PlainSubject}
 use Rattle.cml_host.specs.Narrated.{IsUnfit, Opens, tale_for}
 use Rattle.cml_host.specs.Replaying.{IsSchedule, IsItemExplained}
-use Rattle.cml_host.specs.Said.{IsText, RefusedRan}
-use Rattle.cml_host.specs.Scripts.{PlainScript, IsOpened, NoScriptRan}
-use Rattle.cml_host.specs.Stores.{Content, MayBeRefused}
+use Rattle.cml_host.specs.Opening.{Doing, BothRan}
+use Rattle.cml_host.specs.Said.{MemoryRan}
+use Rattle.cml_host.specs.Stores.{Content}
 use Rattle.cml_host.specs.Written.{TextRan}
 use Rattle.cml_host.specs.declared.draw.Undrawn.{Undrawn}
 use Rattle.cml_host.specs.declared.draw.Undrawn.TheVariants.{Refused, TooMany}
@@ -27,11 +27,11 @@ abbrev pub last_drawn : Option ℕ → List Item → ℕ
 last_drawn None items = length items
 last_drawn (Some last) items = last
 
--- this is the picture of the items of this plan that are asked for, from the beginning of a run of the program on
-abbrev pub IsPlanDrawn : PlainSubject → PartOptions → List (PlainItem ℕ) → PlainPlan → List ℕ → Type 0
-IsPlanDrawn s options p plan picture =
-    (start : Kept) × Opens p plan.budget start
-    × ((end : PlainCourse) × Draws (tale_for s (length plan.items)) s.name start.course plan.items options.from (last_drawn options.to plan.items) end picture)
+-- This is the picture of some of these items, from the one number to the other, where they lead from the beginning of a run of the program on
+-- under this budget.
+abbrev pub IsDrawnFrom : PlainSubject → List (PlainItem ℕ) → ℕ → List Item → ℕ → ℕ → List ℕ → Type 0
+IsDrawnFrom s p budget items from to picture =
+    (start : Kept) × Opens p budget start × ((end : PlainCourse) × Draws (tale_for s (length items)) s.name start.course items from to end picture)
 
 -- what is told of the item of this number, counted from 1, which can't happen where the run stands
 abbrev pub IsItemOf : PlainSubject → List ℕ → List Item → PlainCourse → ℕ → List ℕ → Type 0
@@ -45,15 +45,16 @@ IsItemUndrawn s options p text plan told =
     × ((end : PlainCourse) × (number : ℕ) × HasUnfit start.course (take (last_drawn options.to plan.items) plan.items) number end
     × IsItemOf s text plan.items end number told)
 
--- the items that are asked for show too much
-abbrev pub IsPlanTooLong : PlainSubject → PartOptions → List (PlainItem ℕ) → PlainPlan → Type 0
-IsPlanTooLong s options p plan =
-    (start : Kept) × Opens p plan.budget start
-    × ((end : PlainCourse) × IsTooLong (tale_for s (length plan.items)) start.course plan.items options.from (last_drawn options.to plan.items) end)
+-- they show too much
+abbrev pub IsTooLongFrom : PlainSubject → List (PlainItem ℕ) → ℕ → List Item → ℕ → ℕ → Type 0
+IsTooLongFrom s p budget items from to =
+    (start : Kept) × Opens p budget start × ((end : PlainCourse) × IsTooLong (tale_for s (length items)) start.course items from to end)
 
 -- this is the picture of the schedule that the text is
 abbrev pub IsDrawnBy : PlainSubject → PartOptions → List (PlainItem ℕ) → List ℕ → List ℕ → Type 0
-IsDrawnBy s options p text picture = (plan : PlainPlan) × IsSchedule text plan × FitsSize plan.size p × IsPlanDrawn s options p plan picture
+IsDrawnBy s options p text picture =
+    (plan : PlainPlan) × IsSchedule text plan × FitsSize plan.size p
+    × IsDrawnFrom s p plan.budget plan.items options.from (last_drawn options.to plan.items) picture
 
 -- the text is no schedule of the program that can be followed so far, and this tells why
 abbrev pub IsWrongBy : PlainSubject → PartOptions → List (PlainItem ℕ) → List ℕ → List ℕ → Type 0
@@ -62,33 +63,26 @@ IsWrongBy s options p text told =
 
 -- the items of the schedule that the text is show too much
 abbrev pub IsTooLongBy : PlainSubject → PartOptions → List (PlainItem ℕ) → List ℕ → Type 0
-IsTooLongBy s options p text = (plan : PlainPlan) × IsSchedule text plan × FitsSize plan.size p × IsPlanTooLong s options p plan
+IsTooLongBy s options p text =
+    (plan : PlainPlan) × IsSchedule text plan × FitsSize plan.size p
+    × IsTooLongFrom s p plan.budget plan.items options.from (last_drawn options.to plan.items)
 
 -- what is told where the items show too much
 abbrev pub too_many_told : List ℕ
 too_many_told = line (codes "too many items to draw, use --from and --to")
 
 -- The picture of the schedule that this text is was written; or something is wrong with the text, and the errors tell what; or there is too much
--- to draw, and they tell that.
-abbrev pub TextDrawn : PlainSubject → PartOptions → List (PlainItem ℕ) → List ℕ → Counted → Counted → ℕ → Type 0
-TextDrawn s options p text output errors status =
+-- to draw, and they tell that; or memory ran out.
+abbrev pub TextDrawn : PartOptions → Doing
+TextDrawn options s p text output errors status =
     ((picture : List ℕ) × IsDrawnBy s options p text picture × TextRan picture output errors status)
     ⊎ ((told : List ℕ) × IsWrongBy s options p text told × Says errors told × (status ≡ 3) × IsIdle output)
     ⊎ (IsTooLongBy s options p text × Says errors too_many_told × (status ≡ 1) × IsIdle output)
+    ⊎ (MemoryRan errors status × IsIdle output)
 
--- That of the schedule that lies there; or it was not read, or memory ran out.
-abbrev pub ScheduleDrawn : PlainSubject → PartOptions → List (PlainItem ℕ) → Content → Counted → Counted → ℕ → Type 0
-ScheduleDrawn s options p content output errors status =
-    ((text : List ℕ) × IsText content text × TextDrawn s options p text output errors status)
-    ⊎ (RefusedRan true content options.schedule.now errors status × IsIdle output)
-
--- `draw`: the picture was written of the schedule that lies under its name, as one of the script that lies under its own; or no script lies there,
--- which is explained, it was not read, or memory ran out, and nothing was written to the output.
+-- `draw`: the picture was written of the schedule that lies under its name, as one of the script that lies under its own; or one of them was not read.
 abbrev pub DrawRan : PartOptions → (List ℕ → Content) → Counted → Counted → ℕ → Type 0
-DrawRan options held output errors status =
-    ((s : PlainScript) × IsOpened (held options.script.now) s
-    × ScheduleDrawn (script_as_subject options.script.now s) options s.program (held options.schedule.now) output errors status)
-    ⊎ (NoScriptRan true (held options.script.now) options.script.now errors status × IsIdle output)
+DrawRan options held output errors status = BothRan (TextDrawn options) options.script.now options.schedule.now held output errors status
 
 -- ---- what private functions say
 
@@ -125,12 +119,7 @@ IsUndrawnBy s options p text (Refused (refusal.Wrong told)) = IsWrongBy s option
 IsUndrawnBy s options p text (Refused refusal.Memory) = Unit {0}
 IsUndrawnBy s options p text TooMany = IsTooLongBy s options p text
 
--- of the one that lies there
-abbrev pub IsDrawnThere : PlainSubject → PartOptions → List (PlainItem ℕ) → Content → List ℕ → Type 0
-IsDrawnThere s options p content picture = (text : List ℕ) × IsText content text × IsDrawnBy s options p text picture
-
-abbrev pub IsUndrawnThere : PlainSubject → PartOptions → List (PlainItem ℕ) → Content → Undrawn → Type 0
-IsUndrawnThere s options p content (Refused (refusal.Unread why)) = MayBeRefused content
-IsUndrawnThere s options p content (Refused (refusal.Wrong told)) = (text : List ℕ) × IsText content text × IsWrongBy s options p text told.items
-IsUndrawnThere s options p content (Refused refusal.Memory) = Unit {0}
-IsUndrawnThere s options p content TooMany = (text : List ℕ) × IsText content text × IsTooLongBy s options p text
+-- This is the picture of all these items, from one course on to another; or none, where they show too much.
+abbrev pub AllDrawn : PlainSubject → PlainCourse → List Item → PlainCourse → Option (List ℕ) → Type 0
+AllDrawn s start items end (Some picture) = Draws (tale_for s (length items)) s.name start items 1 (length items) end picture
+AllDrawn s start items end None = IsTooLong (tale_for s (length items)) start items 1 (length items) end

@@ -1,5 +1,5 @@
 -- The command `explore`: what is told of many runs of a script, what is shown meanwhile, and what is saved of them.
-use Rattle.std.specs.Prelude.{◌≡◌, ◌⊎◌, ℕ, zero, suc, ◌+◌, ◌-◌, ◌*◌, ◌/◌, ◌==◌, Bool, true, if◌then◌else◌, List, [], ◌∷◌, ◌++◌, map, codes, Option, Some, None, option_and_then, option_map, slice_get}
+use Rattle.std.specs.Prelude.{◌≡◌, ◌⊎◌, ℕ, zero, suc, ◌+◌, ◌-◌, ◌*◌, ◌/◌, ◌<◌, ◌==◌, Bool, true, if◌then◌else◌, List, [], ◌∷◌, ◌++◌, map, codes, Option, Some, None, option_and_then, option_map, slice_get}
 use Rattle.std.specs.Fmt.{decimal}
 use Rattle.std.specs.Option.{option_map_or}
 use Rattle.std.specs.String.{string_bytes}
@@ -11,10 +11,12 @@ use Rattle.cml_explore.specs.Explored.{PlainExplored, IsExplored, HasMade}
 use Rattle.cml_explore.specs.Ranks.{AreInRank}
 use Rattle.cml_explore.specs.declared.explored.Asked.{Asked}
 use Rattle.cml_explore.specs.declared.explored.Until.{Until}
+use Rattle.cml_explore.specs.declared.order.Order.{Order}
+use Rattle.cml_explore.specs.declared.order.Order.TheVariants as by
 use Rattle.cml_explore.specs.declared.explored.Until.TheVariants as stop
 use Rattle.cml_schedule.specs.Written.{schedule_text}
 use Rattle.cml_schedule.specs.declared.item.Item.{Item}
-use Rattle.cml_stream.specs.Streams.{Counted, IsIdle, Says, Takes, TakesStart}
+use Rattle.cml_stream.specs.Streams.{Counted, Stream, IsIdle, Says, Takes, TakesStart}
 use Rattle.cml_text.specs.Lines.{line}
 use Rattle.cml_words.specs.Words.{saved_name, until_named}
 use Rattle.cml_words.specs.declared.ExploreOptions.{ExploreOptions}
@@ -50,12 +52,18 @@ explored_until options = option_map (λ name. name.now) options.until
 abbrev pub explored_servers : ExploreOptions → List Name
 explored_servers options = map (λ name. name.now) options.servers.items
 
+-- By what it is settled in a run what happens next: by priorities, where their depth is given; else by lot, where the turns are to be drawn; and
+-- else threads have their turns one after another.
+abbrev pub order_asked : Bool → Option ℕ → Order
+order_asked turns (Some depth) = by.Priority depth
+order_asked turns None = if turns then by.Lot else by.Queue
+
 -- these runs are those that the arguments ask for, where the functions of servers have these numbers
 pub record AsksForRuns (options : ExploreOptions) (servers : List ℕ) (asked : Asked) : Type 0 where
   pub budget : asked.budget ≡ options.steps
   pub first : asked.first ≡ options.seed
   pub runs : asked.runs ≡ options.runs
-  pub turns : asked.turns ≡ options.turns
+  pub order : asked.order ≡ order_asked options.turns options.priority
   pub servers_are : asked.servers.now ≡ servers
   pub until : asked.until ≡ stop_at (explored_until options)
 
@@ -213,11 +221,23 @@ abbrev pub NotShown : List ℕ → Halt → Counted → Type 0
 NotShown text Memory errors = Takes errors.bytes [] × (errors.counts.failed ≡ 0)
 NotShown text Write errors = TakesStart errors.bytes text × (errors.counts.failed ≡ 1)
 
--- One run more was made and shown.
-pub record MadeOne (p : List (PlainItem ℕ)) (asked : Asked) (shows last : Bool) (old new : PlainExplored) (errors : Counted) : Type 0 where
+-- what was shown of so many runs was followed by what is shown of more
+abbrev pub ShownFrom : Bool → ℕ → ℕ → ℕ → Stream → Type 0
+ShownFrom shows runs before count errors =
+    (more : List ℕ) × (shown_so_far shows runs count ≡ shown_so_far shows runs before ++ more) × Takes errors more
+
+-- or nothing of that was written, or a start of what is shown of some more
+abbrev pub StopsBehind : Bool → ℕ → ℕ → Halt → Counted → Type 0
+StopsBehind shows runs before Memory errors = (count : ℕ) × ShownFrom shows runs before count errors.bytes × (errors.counts.failed ≡ 0)
+StopsBehind shows runs before Write errors =
+    (count : ℕ) × (more : List ℕ) × (shown_so_far shows runs count ≡ shown_so_far shows runs before ++ more)
+    × TakesStart errors.bytes more × (errors.counts.failed ≡ 1)
+
+-- Some runs more were made and shown.
+pub record MadeSome (p : List (PlainItem ℕ)) (asked : Asked) (shows last : Bool) (old new : PlainExplored) (errors : Counted) : Type 0 where
   pub made : HasMade p asked last new
-  pub one : new.runs ≡ old.runs + 1
-  pub takes : Takes errors.bytes (shown_next shows asked.runs new.runs)
+  pub more : old.runs < new.runs
+  pub shown : ShownFrom shows asked.runs old.runs new.runs errors.bytes
   pub fine : errors.counts.failed ≡ 0
 
 -- all that was asked for was made and shown

@@ -12,7 +12,9 @@ pub mod Chosen
 pub mod Running
 pub mod Replaying
 pub mod Narrated
+pub mod Opening
 pub mod Drawn
 pub mod Exploring
 pub mod Shrunk
+pub mod Stepped
 pub mod Statuses

@@ -13,10 +13,10 @@ use Rattle.cml_stream.specs.Streams.{Counted, Stream, IsIdle, Says, Takes, Takes
 use Rattle.cml_text.specs.Forms.{PlainSexpr}
 use Rattle.cml_scan.specs.World.{PlainWorld}
 use Rattle.cml_words.specs.declared.PartOptions.{PartOptions}
-use Rattle.cml_host.specs.Closed.{PlainSubject, IsEndExplained, script_as_subject}
+use Rattle.cml_host.specs.Closed.{PlainSubject, IsEndExplained}
 use Rattle.cml_host.specs.Replaying.{IsSchedule, IsNoSchedule, IsOtherSize, IsItemExplained}
-use Rattle.cml_host.specs.Said.{IsText, MemoryRan, RefusedRan}
-use Rattle.cml_host.specs.Scripts.{PlainScript, IsOpened, NoScriptRan}
+use Rattle.cml_host.specs.Opening.{Doing, BothRan}
+use Rattle.cml_host.specs.Said.{MemoryRan}
 use Rattle.cml_host.specs.Stores.{Content}
 use Rattle.cml_host.specs.Told.{cannot_write}
 use Rattle.cml_host.specs.Written.{TextRan}
@@ -93,26 +93,16 @@ PlanTold s options schedule items start output errors status =
 
 -- The schedule that this text is was told of, from the beginning of a run of the program on; or something is wrong with it, and the errors tell
 -- what; or memory ran out before.
-abbrev pub TextExplained : PlainSubject → PartOptions → List (PlainItem ℕ) → List ℕ → Counted → Counted → ℕ → Type 0
-TextExplained s options p text output errors status =
+abbrev pub TextExplained : PartOptions → Doing
+TextExplained options s p text output errors status =
     ((plan : PlainPlan) × IsSchedule text plan × FitsSize plan.size p
     × ((start : Kept) × Opens p plan.budget start × PlanTold s options text plan.items start output errors status))
     ⊎ ((told : List ℕ) × IsUnfit p text told × Says errors told × (status ≡ 3) × IsIdle output)
     ⊎ (MemoryRan errors status × IsIdle output)
 
--- That of what lies there; or it was not read.
-abbrev pub ScheduleExplained : PlainSubject → PartOptions → List (PlainItem ℕ) → Content → Counted → Counted → ℕ → Type 0
-ScheduleExplained s options p content output errors status =
-    ((text : List ℕ) × IsText content text × TextExplained s options p text output errors status)
-    ⊎ (RefusedRan true content options.schedule.now errors status × IsIdle output)
-
--- `explain`: the schedule that lies under its name was told of, as one of the script that lies under its own; or no script lies there, which is
--- explained, it was not read, or memory ran out, and nothing was written to the output.
+-- `explain`: the schedule that lies under its name was told of, as one of the script that lies under its own; or one of them was not read.
 abbrev pub ExplainRan : PartOptions → (List ℕ → Content) → Counted → Counted → ℕ → Type 0
-ExplainRan options held output errors status =
-    ((s : PlainScript) × IsOpened (held options.script.now) s
-    × ScheduleExplained (script_as_subject options.script.now s) options s.program (held options.schedule.now) output errors status)
-    ⊎ (NoScriptRan true (held options.script.now) options.script.now errors status × IsIdle output)
+ExplainRan options held output errors status = BothRan (TextExplained options) options.script.now options.schedule.now held output errors status
 
 -- ---- what private functions say
 

@@ -1,5 +1,5 @@
 -- The command `run`: what it does with a script.
-use Rattle.std.specs.Prelude.{◌≡◌, ◌≢◌, ◌⊎◌, ℕ, ◌<◌, Bool, List, [], ◌++◌, true, codes, Option, Some, None, is_some, option_map}
+use Rattle.std.specs.Prelude.{◌≡◌, ◌≢◌, ◌⊎◌, ℕ, ◌<◌, Bool, List, [], ◌++◌, true, codes, Option, Some, None, IsSomeAnd, is_some, length, option_map}
 use Rattle.std.specs.String.{string_bytes}
 use Rattle.cml_check.specs.Sizes.{size_of}
 use Rattle.cml_check.specs.Syntax.{PlainItem}
@@ -25,30 +25,64 @@ use Rattle.cml_host.specs.declared.run.Record.{Record}
 use Rattle.cml_host.specs.declared.workers.Cause.{Cause}
 use Rattle.cml_host.specs.declared.workers.Cause.TheVariants as cause
 use Rattle.cml_host.specs.declared.workers.Stopped.{Stopped}
-use Rattle.cml_host.specs.Stores.{Shelf, IsSaved, IsUnchanged}
+use Rattle.cml_host.specs.Stores.{Content, Shelf, IsSaved, IsUnchanged}
 use Rattle.cml_host.specs.Said.{MemoryRan, with_why}
 use Rattle.cml_host.specs.declared.reason.Reason.{Reason}
 use Rattle.cml_host.specs.Scripts.{PlainScript, IsOpened, NoScriptRan}
 use Rattle.cml_host.specs.Servers.{NoFunctionRan, first_unknown, server_numbers, server_names}
 use Rattle.cml_host.specs.Told.{IsRunOf, AllReported, reports_text, whole_output, cannot_write, IsTold, SaysStill, OutputBroke, MemoryBroke, OutputNotTold, IsCutOff, IsForeign}
-use Rattle.cml_host.specs.Closed.{PlainAsked, asked_of, IsClosed}
+use Rattle.cml_host.specs.Closed.{PlainAsked, PlainClosing, PlainSubject, SaysEnd, asked_of, script_as_subject, IsClosed, plain_subject}
+use Rattle.cml_host.specs.Drawn.{IsDrawnFrom, IsTooLongFrom, too_many_told}
+use Rattle.cml_host.specs.declared.picture.Picture.{Picture}
+use Rattle.cml_host.specs.declared.picture.Picture.TheVariants as drawing
+use Rattle.cml_host.specs.declared.picture.Wanted.{Wanted}
+use Rattle.cml_host.specs.declared.run.Saving.{Saving}
 
 -- the run is over under this budget: nothing is left to do, or the budget is used; and no report is due
 abbrev pub HasEnded : ℕ → Option ℕ → List Item → List PlainReport → Run → Type 0
 HasEnded budget watch items reports r = (over budget r ≡ true) × AllReported watch items reports
 
--- the name of the record, if one was asked for
-abbrev pub record_name : RunOptions → Option (List ℕ)
-record_name options = option_map (λ name. name.now) options.record
+-- a picture that is asked for: the name under which it is saved, and the script that is drawn
+pub record PlainWanted : Type 0 where
+  pub name : List ℕ
+  pub subject : PlainSubject
+
+-- what is to be saved of a run: the name of its schedule, and its picture, where they are asked for
+pub record PlainSaving : Type 0 where
+  pub schedule : Option (List ℕ)
+  pub picture : Option PlainWanted
+
+-- what the arguments ask for, of a run of this script
+abbrev pub saving_of : RunOptions → PlainScript → PlainSaving
+saving_of options s = record {
+  schedule = option_map (λ name. name.now) options.record;
+  picture = option_map (λ name. record { name = name.now; subject = script_as_subject options.file.now s }) options.draw;
+}
 
 -- the schedule was saved under the name, or where none was asked for nothing was
 abbrev pub IsRecorded : Option (List ℕ) → List ℕ → Shelf → Type 0
 IsRecorded None schedule store = IsUnchanged store.before store.after
 IsRecorded (Some name) schedule store = IsSaved store.before store.after name schedule
 
--- what is told of a schedule that could not be saved under this name
+-- the same of the picture of these items of a run of the program, from its beginning on under this budget
+abbrev pub IsPictured : Option PlainWanted → List (PlainItem ℕ) → ℕ → List Item → Shelf → Type 0
+IsPictured None p budget items store = IsUnchanged store.before store.after
+IsPictured (Some wanted) p budget items store =
+    (drawn : List ℕ) × IsDrawnFrom wanted.subject p budget items 1 (length items) drawn × IsSaved store.before store.after wanted.name drawn
+
+-- the schedule was saved, and then the picture, where they were asked for
+abbrev pub AllSaved : PlainSaving → List (PlainItem ℕ) → ℕ → List Item → Shelf → Type 0
+AllSaved saving p budget items store =
+    (between : List ℕ → Content) × IsRecorded saving.schedule (schedule_text budget (size_of p) items) (record { before = store.before; after = between })
+    × IsPictured saving.picture p budget items (record { before = between; after = store.after })
+
+-- the line that says that nothing can be saved under this name
+abbrev pub cannot_save : List ℕ → List ℕ
+cannot_save name = line (codes "cannot write " ++ name)
+
+-- what is told of a file that could not be saved under this name
 abbrev pub unsaved_told : Bool → List ℕ → Option Reason → List ℕ
-unsaved_told explains name why = with_why explains name why (line (codes "cannot write " ++ name))
+unsaved_told explains name why = with_why explains name why (cannot_save name)
 
 -- all was told, but the schedule could not be saved: the errors tell that after the reports, and may tell why where it is explained
 abbrev pub RecordBroke : Bool → Option (List ℕ) → List PlainReport → List ℕ → Counted → Counted → Shelf → ℕ → Type 0
@@ -58,12 +92,27 @@ RecordBroke explains (Some name) reports text output errors store status =
     × ((why : Option Reason) × Says errors (reports_text reports ++ unsaved_told explains name why)) × (status ≡ 1)
     × IsUnchanged store.before store.after
 
--- A run that is over was told whole, with how it ended where that was asked for, and its schedule was saved, where that was asked for; or it
--- could not be; or a write of the output failed, and nothing was saved.
-abbrev pub EndRan : PlainAsked → Option (List ℕ) → List (PlainItem ℕ) → List Item → List PlainReport → ℕ → Run → Counted → Counted → Shelf → ℕ → Type 0
-EndRan asked name p items reports budget r output errors store status =
-    (IsClosed asked p items reports budget r output errors status × IsRecorded name (schedule_text budget (size_of p) items) store)
-    ⊎ RecordBroke (is_some asked.subject) name reports (whole_output budget r) output errors store status
+-- why the picture is not saved is told after this: there is too much to draw, or it could not be saved under its name
+abbrev pub PictureRefused : Bool → PlainWanted → List (PlainItem ℕ) → ℕ → List Item → List ℕ → Counted → Type 0
+PictureRefused explains wanted p budget items before errors =
+    (IsTooLongFrom wanted.subject p budget items 1 (length items) × Says errors (before ++ too_many_told))
+    ⊎ ((why : Option Reason) × Says errors (before ++ unsaved_told explains wanted.name why))
+
+-- all was told, and the schedule saved where that was asked for, but the picture was not, and the errors tell why after the reports
+abbrev pub PictureBroke : Bool → PlainSaving → List (PlainItem ℕ) → List Item → List PlainReport → ℕ → Run → Counted → Counted → Shelf → ℕ → Type 0
+PictureBroke explains saving p items reports budget r output errors store status =
+    Takes output.bytes (whole_output budget r) × (output.counts.failed ≡ 0)
+    × IsSomeAnd saving.picture (λ wanted. PictureRefused explains wanted p budget items (reports_text reports) errors) × (status ≡ 1)
+    × IsRecorded saving.schedule (schedule_text budget (size_of p) items) store
+
+-- A run that is over was told whole, with how it ended where that was asked for, and its schedule and its picture were saved, where that was
+-- asked for; or the schedule could not be, and nothing was saved; or the picture could not be; or a write of the output failed, and nothing was
+-- saved.
+abbrev pub EndRan : PlainAsked → PlainSaving → List (PlainItem ℕ) → List Item → List PlainReport → ℕ → Run → Counted → Counted → Shelf → ℕ → Type 0
+EndRan asked saving p items reports budget r output errors store status =
+    (IsClosed asked p items reports budget r output errors status × AllSaved saving p budget items store)
+    ⊎ RecordBroke (is_some asked.subject) saving.schedule reports (whole_output budget r) output errors store status
+    ⊎ PictureBroke (is_some asked.subject) saving p items reports budget r output errors store status
     ⊎ (OutputBroke reports (whole_output budget r) output errors status × IsUnchanged store.before store.after)
 
 -- the reports are written while the program runs: where they are asked for, and more workers than one
@@ -83,11 +132,11 @@ IsChosen p budget (Some seed) items r = IsRunBy p budget by_words (seeded seed) 
 -- The program was run, and each row of two swaps that was taken is an exchange. The run came to its end, and that was told; with one worker
 -- it is the run that the seed chooses. Or it was cut off on the way, and nothing was saved. Where reports are written while the program runs,
 -- there is one more case, in which nothing was saved either: the reports that were written are not all of its own, and the errors tell that.
-abbrev pub ProgramRan : PlainAsked → List (PlainItem ℕ) → RunOptions → Counted → Counted → Shelf → ℕ → Type 0
-ProgramRan asked p options output errors store status =
+abbrev pub ProgramRan : PlainAsked → PlainSaving → List (PlainItem ℕ) → RunOptions → Counted → Counted → Shelf → ℕ → Type 0
+ProgramRan asked saving p options output errors store status =
     (items : List Item) × (reports : List PlainReport) × (r : Run) × IsRunOf p options.watch items reports r × SwapsAreExchanges p [] items
     × ((HasEnded options.steps options.watch items reports r
-    × EndRan asked (record_name options) p items reports options.steps r output errors store status
+    × EndRan asked saving p items reports options.steps r output errors store status
     × (options.workers ≡ 1 → IsChosen p options.steps options.seed items r))
     ⊎ (IsCutOff reports r.output output errors status × IsUnchanged store.before store.after)
     ⊎ (ReportsAreLive options × IsForeign reports output errors status × IsUnchanged store.before store.after))
@@ -97,8 +146,8 @@ ProgramRan asked p options output errors store status =
 abbrev pub ScriptRan : Bool → PlainScript → RunOptions → Counted → Counted → Shelf → ℕ → Type 0
 ScriptRan explains s options output errors store status =
     ((first_unknown s (server_names options.end) ≡ None)
-    × ProgramRan (asked_of explains options.file.now s options.end.strict (server_numbers s (server_names options.end))) s.program options
-    output errors store status)
+    × ProgramRan (asked_of explains options.file.now s options.end.strict (server_numbers s (server_names options.end))) (saving_of options s)
+    s.program options output errors store status)
     ⊎ (NoFunctionRan s (server_names options.end) errors status × IsIdle output × IsUnchanged store.before store.after)
 
 -- `run`: the script that lies under the name was run; or it was not (no script lies there, which may be explained, it was not read, or
@@ -116,9 +165,9 @@ abbrev pub NeverBegan : Counted → Counted → Shelf → ℕ → Type 0
 NeverBegan output errors store status = MemoryRan errors status × IsIdle output × IsUnchanged store.before store.after
 
 -- the program was run, or memory ran out before it began
-abbrev pub BegunRan : PlainAsked → List (PlainItem ℕ) → RunOptions → Counted → Counted → Shelf → ℕ → Type 0
-BegunRan asked p options output errors store status =
-    ProgramRan asked p options output errors store status ⊎ NeverBegan output errors store status
+abbrev pub BegunRan : PlainAsked → PlainSaving → List (PlainItem ℕ) → RunOptions → Counted → Counted → Shelf → ℕ → Type 0
+BegunRan asked saving p options output errors store status =
+    ProgramRan asked saving p options output errors store status ⊎ NeverBegan output errors store status
 
 -- the same of the script
 abbrev pub OpenedRan : Bool → PlainScript → RunOptions → Counted → Counted → Shelf → ℕ → Type 0
@@ -182,10 +231,10 @@ StopRan h cause.Memory output errors status =
 StopRan h cause.Write output errors status = SaysStill errors [] cannot_write × IsIdle output × (status ≡ 1)
 StopRan h cause.Foreign output errors status = Says errors (line (codes "foreign hub")) × IsIdle output × (status ≡ 1)
 
--- a hub that is over was told after these reports, and its schedule saved, as far as that could be
-abbrev pub EndedRan : PlainAsked → Option (List ℕ) → Kept → List PlainReport → Counted → Counted → Shelf → ℕ → Type 0
-EndedRan asked name h reports output errors store status =
-    EndRan asked name h.course.program h.course.items reports h.budget (run_of h.course) output errors store status
+-- a hub that is over was told after these reports, and its schedule and its picture saved, as far as that could be
+abbrev pub EndedRan : PlainAsked → PlainSaving → Kept → List PlainReport → Counted → Counted → Shelf → ℕ → Type 0
+EndedRan asked saving h reports output errors store status =
+    EndRan asked saving h.course.program h.course.items reports h.budget (run_of h.course) output errors store status
     ⊎ ((MemoryBroke reports h.course.output output errors status ⊎ OutputBroke reports h.course.output output errors status)
     × IsUnchanged store.before store.after)
 
@@ -201,18 +250,72 @@ IsNotEnded explains name h output errors store status =
     RecordBroke explains name [] (whole_output h.budget (run_of h.course)) output errors store status
     ⊎ (OutputNotTold [] h.course.output (whole_output h.budget (run_of h.course)) output errors status × IsUnchanged store.before store.after)
 
--- what there is to save of a hub under this name, and what is said where that can't be
+-- what is said where it can't be saved under this name
+abbrev pub IsRefusalOf : List ℕ → Record → Type 0
+IsRefusalOf name made = string_bytes made.refused ≡ cannot_save name
+
+-- what there is to save of the schedule of a hub under this name, and what is said where that can't be
 abbrev pub IsMade : Kept → List ℕ → Record → Type 0
 IsMade h name made =
-    (made.schedule.items ≡ schedule_text h.budget (size_of h.course.program) h.course.items)
-    × (string_bytes made.refused ≡ line (codes "cannot write " ++ name))
+    (made.bytes.items ≡ schedule_text h.budget (size_of h.course.program) h.course.items) × IsRefusalOf name made
 
 -- the record was saved
 abbrev pub IsKept : List ℕ → Record → Counted → Shelf → Type 0
 IsKept name made errors store =
-    IsSaved store.before store.after name made.schedule.items × Takes errors.bytes [] × (errors.counts.failed ≡ 0)
+    IsSaved store.before store.after name made.bytes.items × Takes errors.bytes [] × (errors.counts.failed ≡ 0)
 
 -- or it was refused
 abbrev pub IsNotKept : Bool → List ℕ → Counted → Shelf → ℕ → Type 0
 IsNotKept explains name errors store status =
     IsUnchanged store.before store.after × ((why : Option Reason) × Says errors (unsaved_told explains name why)) × (status ≡ 1)
+
+-- ---- the same of its picture
+
+abbrev pub plain_wanted : Wanted → PlainWanted
+plain_wanted w = record { name = w.name.now; subject = plain_subject w.subject.now }
+
+abbrev pub plain_saving : Saving → PlainSaving
+plain_saving s = record { schedule = option_map (λ name. name.now) s.schedule; picture = option_map plain_wanted s.picture }
+
+-- the picture of this name, where the script is kept
+abbrev pub wanted_of : Option (List ℕ) → Option PlainSubject → Option PlainWanted
+wanted_of None kept = None
+wanted_of (Some name) kept = option_map (λ s. record { name = name; subject = s }) kept
+
+-- what is saved under these names, where the script is kept
+abbrev pub names_saved : Option (List ℕ) → Option (List ℕ) → Option PlainSubject → PlainSaving
+names_saved schedule name kept = record { schedule = schedule; picture = wanted_of name kept }
+
+-- the picture of the run of a hub, or none where there is too much to draw
+abbrev pub IsRunDrawn : PlainSubject → Kept → Option (List ℕ) → Type 0
+IsRunDrawn s h (Some drawn) = IsDrawnFrom s h.course.program h.budget h.course.items 1 (length h.course.items) drawn
+IsRunDrawn s h None = IsTooLongFrom s h.course.program h.budget h.course.items 1 (length h.course.items)
+
+-- what there is to save of the picture that is asked for
+abbrev pub IsPictureFor : Option PlainWanted → Kept → Picture → Type 0
+IsPictureFor None h drawing.Unasked = Unit {0}
+IsPictureFor (Some wanted) h (drawing.Drawn name made) =
+    (name.now ≡ wanted.name) × IsRunDrawn wanted.subject h (Some made.bytes.items) × IsRefusalOf name.now made
+IsPictureFor (Some wanted) h drawing.TooMany = IsRunDrawn wanted.subject h None
+IsPictureFor wanted h other = ⊥
+
+-- it can be said where it can't be saved
+abbrev pub IsSayable : Picture → Type 0
+IsSayable (drawing.Drawn name made) = IsRefusalOf name.now made
+IsSayable other = Unit {0}
+
+-- it was said how the run ended
+abbrev pub ClosesWith : PlainClosing → Counted → ℕ → Type 0
+ClosesWith closing errors status = SaysEnd closing.words errors × (status ≡ closing.status)
+
+-- the same, or it could not be saved under this name, and the errors tell that
+abbrev pub IsDrawnKept : Bool → List ℕ → List ℕ → PlainClosing → Counted → Shelf → ℕ → Type 0
+IsDrawnKept explains name drawn closing errors store status =
+    (IsSaved store.before store.after name drawn × ClosesWith closing errors status)
+    ⊎ (((why : Option Reason) × Says errors (unsaved_told explains name why)) × (status ≡ 1) × IsUnchanged store.before store.after)
+
+-- The picture was saved, where there is one, and then it was said how the run ended; or why it was not.
+abbrev pub PictureKept : Bool → Picture → PlainClosing → Counted → Shelf → ℕ → Type 0
+PictureKept explains drawing.Unasked closing errors store status = ClosesWith closing errors status × IsUnchanged store.before store.after
+PictureKept explains (drawing.Drawn name made) closing errors store status = IsDrawnKept explains name.now made.bytes.items closing errors store status
+PictureKept explains drawing.TooMany closing errors store status = Says errors too_many_told × (status ≡ 1) × IsUnchanged store.before store.after

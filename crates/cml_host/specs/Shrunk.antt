@@ -1,5 +1,5 @@
 -- The command `shrink`: what it makes of the schedule of a script.
-use Rattle.std.specs.Prelude.{◌≡◌, ◌⊎◌, ℕ, true, List, Some}
+use Rattle.std.specs.Prelude.{◌≡◌, ◌⊎◌, ℕ, List, Some}
 use Rattle.std.specs.String.{string_bytes}
 use Rattle.cml_check.specs.Sizes.{size_of}
 use Rattle.cml_check.specs.Syntax.{PlainItem}
@@ -10,10 +10,9 @@ use Rattle.cml_shrink.specs.Counts.{counts_line}
 use Rattle.cml_shrink.specs.Shrinking.{PlainShrunk, IsShrunk}
 use Rattle.cml_stream.specs.Streams.{Counted, IsIdle, Says, Takes, TakesStart}
 use Rattle.cml_words.specs.declared.ShrinkOptions.{ShrinkOptions}
-use Rattle.cml_host.specs.Closed.{PlainSubject, script_as_subject}
 use Rattle.cml_host.specs.Replaying.{IsSchedule, IsWrong}
-use Rattle.cml_host.specs.Said.{IsText, RefusedRan}
-use Rattle.cml_host.specs.Scripts.{PlainScript, IsOpened, NoScriptRan}
+use Rattle.cml_host.specs.Opening.{Doing, BothRan}
+use Rattle.cml_host.specs.Said.{MemoryRan}
 use Rattle.cml_host.specs.Stores.{Content}
 use Rattle.cml_host.specs.Told.{cannot_write}
 use Rattle.cml_host.specs.declared.shrink.Shorter.{Shorter}
@@ -31,21 +30,16 @@ PlanShrunk p tries plan output errors status =
     × ((found : PlainShrunk) × IsShrunk p plan.budget plan.items tries found
     × ScheduleTold (schedule_text plan.budget (size_of p) found.items) (counts_line plan.items found.items) output errors status)
 
--- That of the schedule that lies there; or something is wrong with it, and the errors tell what; or it was not read, or memory ran out.
-abbrev pub ScheduleShrunk : PlainSubject → List (PlainItem ℕ) → ℕ → List ℕ → Content → Counted → Counted → ℕ → Type 0
-ScheduleShrunk s p tries name content output errors status =
-    ((text : List ℕ) × IsText content text
-    × (((plan : PlainPlan) × IsSchedule text plan × PlanShrunk p tries plan output errors status)
-    ⊎ ((told : List ℕ) × IsWrong (Some s) p text told × Says errors told × (status ≡ 3) × IsIdle output)))
-    ⊎ (RefusedRan true content name errors status × IsIdle output)
+-- That of the schedule that this text is; or something is wrong with it, and the errors tell what; or memory ran out.
+abbrev pub TextShrunk : ℕ → Doing
+TextShrunk tries s p text output errors status =
+    ((plan : PlainPlan) × IsSchedule text plan × PlanShrunk p tries plan output errors status)
+    ⊎ ((told : List ℕ) × IsWrong (Some s) p text told × Says errors told × (status ≡ 3) × IsIdle output)
+    ⊎ (MemoryRan errors status × IsIdle output)
 
--- `shrink`: a shorter schedule was told for the one that lies under its name, of the script that lies under its own; or no script lies there, which
--- is explained, it was not read, or memory ran out, and nothing was written to the output.
+-- `shrink`: a shorter schedule was told for the one that lies under its name, of the script that lies under its own; or one of them was not read.
 abbrev pub ShrinkRan : ShrinkOptions → (List ℕ → Content) → Counted → Counted → ℕ → Type 0
-ShrinkRan options held output errors status =
-    ((s : PlainScript) × IsOpened (held options.script.now) s
-    × ScheduleShrunk (script_as_subject options.script.now s) s.program options.tries options.schedule.now (held options.schedule.now) output errors status)
-    ⊎ (NoScriptRan true (held options.script.now) options.script.now errors status × IsIdle output)
+ShrinkRan options held output errors status = BothRan (TextShrunk options.tries) options.script.now options.schedule.now held output errors status
 
 -- ---- what private functions say
 
@@ -58,7 +52,3 @@ IsShorterOf p tries plan told =
 -- for the schedule that this text is
 abbrev pub IsShorterBy : List (PlainItem ℕ) → ℕ → List ℕ → Shorter → Type 0
 IsShorterBy p tries text told = (plan : PlainPlan) × IsSchedule text plan × FitsSize plan.size p × IsShorterOf p tries plan told
-
--- for the one that lies there
-abbrev pub IsShorterThere : List (PlainItem ℕ) → ℕ → Content → Shorter → Type 0
-IsShorterThere p tries content told = (text : List ℕ) × IsText content text × IsShorterBy p tries text told

@@ -1,7 +1,7 @@
 -- What the program does about its arguments, and with which status it ends.
 use Rattle.std.specs.Prelude.{◌≡◌, ◌⊎◌, ℕ, Bool, false, List, codes}
 use Rattle.std.specs.String.{string_bytes}
-use Rattle.cml_words.specs.declared.Task.TheVariants.{Trace, Check, Fmt, Run, Replay, Explain, Explore, Shrink, Draw}
+use Rattle.cml_words.specs.declared.Task.TheVariants.{Trace, Check, Fmt, Run, Replay, Explain, Explore, Shrink, Draw, Step}
 use Rattle.cml_words.specs.declared.Answer.{Answer}
 use Rattle.cml_words.specs.declared.Answer.TheVariants as answer
 use Rattle.cml_words.specs.Words.{IsAnswer, explains}
@@ -18,6 +18,7 @@ use Rattle.cml_host.specs.Narrated.{ExplainRan}
 use Rattle.cml_host.specs.Drawn.{DrawRan}
 use Rattle.cml_host.specs.Exploring.{ExploreRan}
 use Rattle.cml_host.specs.Shrunk.{ShrinkRan}
+use Rattle.cml_host.specs.Stepped.{StepRan}
 use Rattle.cml_host.specs.Traced.{TraceRan}
 use Rattle.cml_host.specs.Written.{TextRan}
 
@@ -35,7 +36,7 @@ abbrev pub SavesNothing : Surroundings → Type 0
 SavesNothing around = IsUnchanged around.store.before around.store.after
 
 -- What was done about the arguments: the command that they name was done; or the text that they ask for was written to the output; or
--- what is wrong with them was written to the errors. Only `run` and `explore` save anything.
+-- what is wrong with them was written to the errors. Only `run`, `explore` and `step` save anything.
 abbrev pub AnswerRan : Answer → Surroundings → ℕ → Type 0
 AnswerRan (answer.Task (Trace options)) around status =
     TraceRan options.live (explains options.explain around.terminal) around.input around.output around.errors status × SavesNothing around
@@ -60,6 +61,7 @@ AnswerRan (answer.Task (Shrink options)) around status =
     ShrinkRan options around.store.before around.output around.errors status × IsIdle around.input × SavesNothing around
 AnswerRan (answer.Task (Draw options)) around status =
     DrawRan options around.store.before around.output around.errors status × IsIdle around.input × SavesNothing around
+AnswerRan (answer.Task (Step options)) around status = StepRan options around.input around.output around.errors around.store status
 AnswerRan (answer.Help text) around status =
     TextRan (string_bytes text) around.output around.errors status × IsIdle around.input × SavesNothing around
 AnswerRan (answer.Fault text) around status =

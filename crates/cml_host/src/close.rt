@@ -1,8 +1,8 @@
 //! How a run is closed that has come to its end: its status, and what is said of that end.
 
-ghost use Rattle.std.specs.Prelude.{◌≡◌, IfOk, is_some};
+ghost use Rattle.std.specs.Prelude.{◌≡◌, IfOk, Some, false, is_some};
 ghost use Rattle.cml_host.specs.Closed as closed;
-ghost use Rattle.cml_host.specs.Closed.{IsClosing, IsEndExplained, SaysEnd, asked_of, script_as_subject, plain_asked, plain_closing, plain_subject};
+ghost use Rattle.cml_host.specs.Closed.{IsClosing, IsEndExplained, SaysEnd, asked_of, drawn_subject, kept_of, script_as_subject, plain_asked, plain_closing, plain_subject};
 ghost use Rattle.cml_host.specs.Scripts.{plain_script};
 ghost use Rattle.cml_host.specs.Told as spec;
 ghost use Rattle.cml_stream.specs.Streams.{counted_stream};
@@ -37,6 +37,8 @@ pub struct Subject<'a> {
 pub struct Asked<'a> {
     /// The script that is spoken of, where the end is explained.
     pub subject: Option<Subject<'a>>,
+    /// The script, where the end is not explained but a picture of the run is drawn.
+    pub drawn: Option<Subject<'a>>,
     /// Whether it is judged strictly.
     pub strict: bool,
     /// The numbers of the functions of servers.
@@ -65,33 +67,51 @@ pub fn subject_of<'a>(name: &'a str, script: Script) -> (Prog, Subject<'a>)
     (program, Subject { name, text, forms })
 }
 
-/// The program of the script, and what is asked of the end of its run. Text and forms are kept only where the end is explained.
+/// The program of the script, and what is asked of the end of its run. Text and forms are kept only where the end is explained, or a picture
+/// of the run is drawn.
 pub fn ask<'a>(
     name: &'a str,
     script: Script,
     explains: bool,
+    draws: bool,
     strict: bool,
     servers: Vec<u32>,
 ) -> (Prog, Asked<'a>)
     ensures program { result.0 ≡ script.program }
     ensures asked { plain_asked result.1 ≡ asked_of explains name.now (plain_script script) strict servers.items }
+    ensures kept { drawn_subject result.1 ≡ kept_of explains draws (script_as_subject name.now (plain_script script)) }
 {
     let Script {
         text,
         forms,
         program,
     } = script;
-    let subject = if explains {
-        Some(Subject { name, text, forms })
+    let (subject, drawn) = if explains {
+        (Some(Subject { name, text, forms }), None)
+    } else if draws {
+        (None, Some(Subject { name, text, forms }))
     } else {
-        None
+        (None, None)
     };
     let asked = Asked {
         subject,
+        drawn,
         strict,
         servers,
     };
     (program, asked)
+}
+
+/// What is asked of the end of a run of the script, which is spoken of and not judged.
+pub fn ask_of<'a>(subject: Subject<'a>, servers: Vec<u32>) -> Asked<'a>
+    ensures { plain_asked result ≡ record { subject = Some (plain_subject subject.entry); strict = false; servers = servers.items } }
+{
+    Asked {
+        subject: Some(subject),
+        drawn: None,
+        strict: false,
+        servers,
+    }
 }
 
 /// Whether what is wrong is explained: where a script is spoken of.

@@ -16,6 +16,7 @@ use crate::output::{say, send_text};
 use crate::replay::replay_file;
 use crate::run::run_file;
 use crate::shrink::shrink_file;
+use crate::step::step_file;
 use crate::store::Store;
 use crate::trace::trace;
 use crate::workers::Open;
@@ -64,7 +65,7 @@ where
 }
 
 /// Runs the command as [`run_command`] does, over streams whose calls are counted, and of which none was called yet. A fault of the input
-/// is told only where a read failed, or 2,097,152 reads came to no end (of a live trace 2^48); a fault of the output only where a write
+/// is told only where a read failed, or 2,097,152 reads came to no end (of a live trace and a run by hand 2^48); a fault of the output only where a write
 /// failed or took nothing; and what is told is written to the errors whole, except where a write of it failed. More workers than one go
 /// through the gate with each slice of a script's thread. Where the errors go to a terminal, what is wrong with a text or a script is
 /// explained, and how a run ended, unless the arguments say otherwise.
@@ -125,10 +126,13 @@ where
         }
         Ok(Answer::Task(Task::Explain(options))) => explain_file(alloc, &options, out, err, store),
         Ok(Answer::Task(Task::Explore(options))) => {
-            explore_file(alloc, &options, terminal, out, err, store)
+            explore_file(rt, alloc, &options, terminal, out, err, store)
         }
         Ok(Answer::Task(Task::Shrink(options))) => shrink_file(alloc, &options, out, err, store),
         Ok(Answer::Task(Task::Draw(options))) => draw_file(alloc, &options, out, err, store),
+        Ok(Answer::Task(Task::Step(options))) => {
+            step_file(alloc, &options, input, out, err, store)
+        }
         Ok(Answer::Help(text)) => send_text(text.as_bytes(), out, err),
         Ok(Answer::Fault(text)) => {
             say(err, text.as_bytes());

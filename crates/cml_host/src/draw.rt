@@ -2,20 +2,18 @@
 
 ghost use Rattle.std.specs.Prelude.{◌≡◌, IfErr, IfOk, None, length};
 ghost use Rattle.cml_hub.specs.Kept.{IsAtStart};
-ghost use Rattle.cml_host.specs.Closed.{plain_subject, script_as_subject};
+ghost use Rattle.cml_host.specs.Closed.{plain_subject};
 ghost use Rattle.cml_host.specs.Drawn as spec;
-ghost use Rattle.cml_host.specs.Drawn.{DrawRan, IsDrawnBy, IsDrawnThere, IsUndrawnBy, IsUndrawnThere, ScheduleDrawn};
-ghost use Rattle.cml_host.specs.Scripts.{plain_script};
+ghost use Rattle.cml_host.specs.Drawn.{DrawRan, IsDrawnBy, IsUndrawnBy, TextDrawn, too_many_told};
 ghost use Rattle.cml_host.specs.Stores.{IsUnchanged};
-ghost use Rattle.cml_stream.specs.Streams.{counted_stream};
+ghost use Rattle.cml_stream.specs.Streams.{counted_stream, Says};
 
-use crate::close::{Subject, subject_of};
+use crate::close::Subject;
 use crate::explain::begin;
 use crate::item::explain_item;
+use crate::opening::{REFUSED, open_both, refuse_opening};
 use crate::output::{say, send_text};
-use crate::replay::SCHEDULE_LIMIT;
 use crate::said::{Refusal, refuse};
-use crate::script::{Script, open_script};
 use crate::store::Store;
 use crate::tell::let_go;
 use cml_check::Prog;
@@ -26,9 +24,6 @@ use cml_words::PartOptions;
 use std::alloc::{AllocError, Global};
 use std::io::Write;
 use thiserror::Error;
-
-// The status where the schedule is refused.
-const REFUSED: u8 = 3;
 
 // Why there is no picture.
 #[derive(Debug, Drop, Error)]
@@ -69,64 +64,57 @@ pub fn draw_file<O: Write, E: Write, S: Store>(
     ensures same_out { out.new.stream.ghost_name ≡ out.old.stream.ghost_name }
     ensures same_err { err.new.stream.ghost_name ≡ err.old.stream.ghost_name }
 {
-    match open_script(alloc, options.script, true, store) {
-        Ok(script) => draw_opened(alloc, script, options, out, err, store),
-        Err(why) => refuse(alloc, options.script, true, why, 2, err),
+    match open_both(alloc, options.script, options.schedule, store) {
+        Ok((program, subject, text)) => draw_text(
+            alloc,
+            program,
+            &subject,
+            text.as_slice(),
+            options,
+            out,
+            err,
+        ),
+        Err(why) => refuse_opening(alloc, options.script, options.schedule, why, err),
     }
 }
 
-// Writes the picture of a schedule of the script.
-fn draw_opened<O: Write, E: Write, S: Store>(
+// Writes the picture of the schedule that the text is.
+fn draw_text<O: Write, E: Write>(
     alloc: Global,
-    script: Script,
+    program: Prog,
+    subject: &Subject<'_>,
+    text: &[u8],
     options: &PartOptions<'_>,
     out: &mut Counting<'_, O>,
     err: &mut Counting<'_, E>,
-    store: &mut S,
 ) -> u8
     requires fresh { (out.old.calls ≡ 0) × (out.old.failed ≡ 0) × (err.old.calls ≡ 0) × (err.old.failed ≡ 0) }
     ensures ran { let output = counted_stream (O.contents out.old.stream.now) (O.contents out.new.stream.now) out.new.calls out.new.failed in
         let errors = counted_stream (E.contents err.old.stream.now) (E.contents err.new.stream.now) err.new.calls err.new.failed in
-        let s = plain_script script in
-        ScheduleDrawn (script_as_subject options.now.script.now s) options.now s.program (S.holds store.old options.now.schedule.now) output errors result }
-    ensures same { IsUnchanged (S.holds store.old) (S.holds store.new) }
+        TextDrawn options.now (plain_subject subject.now) program text.now output errors result }
     ensures same_out { out.new.stream.ghost_name ≡ out.old.stream.ghost_name }
     ensures same_err { err.new.stream.ghost_name ≡ err.old.stream.ghost_name }
 {
-    let (program, subject) = subject_of(options.script, script);
-    match drawn_there(alloc, program, &subject, options, store) {
+    match drawn_by(alloc, program, subject, options, text) {
         Ok(picture) => send_text(picture.as_slice(), out, err),
         Err(Undrawn::Refused(why)) => refuse(alloc, options.schedule, true, why, REFUSED, err),
-        Err(Undrawn::TooMany) => {
-            say(err, b"too many items to draw, use --from and --to\n");
-            1
-        }
+        Err(Undrawn::TooMany) => refuse_long(err),
     }
 }
 
-// The picture of the schedule that lies under its name.
-fn drawn_there<S: Store>(
-    alloc: Global,
-    program: Prog,
-    subject: &Subject<'_>,
-    options: &PartOptions<'_>,
-    store: &mut S,
-) -> Result<Vec<u8>, Undrawn>
-    ensures ok { IfOk result (λ picture. IsDrawnThere (plain_subject subject.now) options.now program (S.holds store.old options.now.schedule.now) picture.items) }
-    ensures err { IfErr result (IsUndrawnThere (plain_subject subject.now) options.now program (S.holds store.old options.now.schedule.now)) }
-    ensures same { IsUnchanged (S.holds store.old) (S.holds store.new) }
+/// Says that there is too much to draw, and returns the status.
+pub fn refuse_long<E: Write>(err: &mut Counting<'_, E>) -> u8
+    requires fresh { err.old.failed ≡ 0 }
+    ensures said { let errors = counted_stream (E.contents err.old.stream.now) (E.contents err.new.stream.now) err.new.calls err.new.failed in
+        Says errors too_many_told }
+    ensures status { result ≡ 1 }
+    ensures same_err { err.new.stream.ghost_name ≡ err.old.stream.ghost_name }
 {
-    let text = match store.load(alloc, options.schedule, SCHEDULE_LIMIT) {
-        Ok(text) => text,
-        Err(fault) => {
-            drop(program);
-            return Err(Undrawn::Refused(Refusal::from(fault)));
-        }
-    };
-    drawn_by(alloc, program, subject, options, text.as_slice())
+    say(err, b"too many items to draw, use --from and --to\n");
+    1
 }
 
-// Of the one that the text is.
+// The picture of the schedule that the text is.
 fn drawn_by(
     alloc: Global,
     program: Prog,

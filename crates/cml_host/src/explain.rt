@@ -2,20 +2,19 @@
 
 ghost use Rattle.std.specs.Prelude.{◌≡◌, ◌+◌, ◌<◌, ◌^◌, [], IfOk, IfErr, OnOk, OnErr, IsTrue, None, length};
 ghost use Rattle.cml_hub.specs.Kept.{IsAtStart, NoneOut};
-ghost use Rattle.cml_host.specs.Closed.{plain_subject, script_as_subject};
+ghost use Rattle.cml_host.specs.Closed.{plain_subject};
 ghost use Rattle.cml_host.specs.Narrated as spec;
-ghost use Rattle.cml_host.specs.Narrated.{ExplainRan, HasToldFirst, IsSetUp, IsNotSetUp, IsTellingOf, PlanTold, ScheduleExplained, Spills, StoryCut, tale_for};
-ghost use Rattle.cml_host.specs.Scripts.{plain_script};
+ghost use Rattle.cml_host.specs.Narrated.{ExplainRan, HasToldFirst, IsSetUp, IsNotSetUp, IsTellingOf, PlanTold, Spills, TextExplained, StoryCut, tale_for};
 ghost use Rattle.cml_host.specs.Stores.{IsUnchanged};
 ghost use Rattle.cml_narrative.specs.Tellers.{Knows, tale_of};
 ghost use Rattle.cml_stream.specs.Streams.{counted_stream, stream, TakesStart};
 
-use crate::close::{Subject, end_words, subject_of};
+use crate::close::{Subject, end_words};
 use crate::item::explain_item;
+use crate::opening::{REFUSED, open_both, refuse_opening};
 use crate::output::{say, send_text};
-use crate::replay::{SCHEDULE_LIMIT, read_plan, told_size};
+use crate::replay::{read_plan, told_size};
 use crate::said::{Refusal, refuse};
-use crate::script::{Script, open_script};
 use crate::store::Store;
 use crate::tell::{hub_is_a_run, let_go};
 use cml_check::Prog;
@@ -30,9 +29,6 @@ use thiserror::Error;
 
 // So many bytes of a story are written at once, or a few more.
 const PIECE: usize = 65_536;
-
-// The status where the schedule is refused.
-const REFUSED: u8 = 3;
 
 /// Why a command is cut off.
 #[derive(Clone, Copy, Debug, Error)]
@@ -84,44 +80,17 @@ pub fn explain_file<O: Write, E: Write, S: Store>(
     ensures same_out { out.new.stream.ghost_name ≡ out.old.stream.ghost_name }
     ensures same_err { err.new.stream.ghost_name ≡ err.old.stream.ghost_name }
 {
-    match open_script(alloc, options.script, true, store) {
-        Ok(script) => explain_opened(alloc, script, options, out, err, store),
-        Err(why) => refuse(alloc, options.script, true, why, 2, err),
-    }
-}
-
-// Tells what happened in the run of the script.
-fn explain_opened<O: Write, E: Write, S: Store>(
-    alloc: Global,
-    script: Script,
-    options: &PartOptions<'_>,
-    out: &mut Counting<'_, O>,
-    err: &mut Counting<'_, E>,
-    store: &mut S,
-) -> u8
-    requires fresh { (out.old.calls ≡ 0) × (out.old.failed ≡ 0) × (err.old.calls ≡ 0) × (err.old.failed ≡ 0) }
-    ensures ran { let output = counted_stream (O.contents out.old.stream.now) (O.contents out.new.stream.now) out.new.calls out.new.failed in
-        let errors = counted_stream (E.contents err.old.stream.now) (E.contents err.new.stream.now) err.new.calls err.new.failed in
-        let s = plain_script script in
-        ScheduleExplained (script_as_subject options.now.script.now s) options.now s.program (S.holds store.old options.now.schedule.now) output errors result }
-    ensures same { IsUnchanged (S.holds store.old) (S.holds store.new) }
-    ensures same_out { out.new.stream.ghost_name ≡ out.old.stream.ghost_name }
-    ensures same_err { err.new.stream.ghost_name ≡ err.old.stream.ghost_name }
-{
-    let (program, subject) = subject_of(options.script, script);
-    match store.load(alloc, options.schedule, SCHEDULE_LIMIT) {
-        Ok(text) => explain_text(alloc, program, &subject, text.as_slice(), options, out, err),
-        Err(fault) => {
-            drop(program);
-            refuse(
-                alloc,
-                options.schedule,
-                true,
-                Refusal::from(fault),
-                REFUSED,
-                err,
-            )
-        }
+    match open_both(alloc, options.script, options.schedule, store) {
+        Ok((program, subject, text)) => explain_text(
+            alloc,
+            program,
+            &subject,
+            text.as_slice(),
+            options,
+            out,
+            err,
+        ),
+        Err(why) => refuse_opening(alloc, options.script, options.schedule, why, err),
     }
 }
 
@@ -138,7 +107,7 @@ fn explain_text<O: Write, E: Write>(
     requires fresh { (out.old.calls ≡ 0) × (out.old.failed ≡ 0) × (err.old.calls ≡ 0) × (err.old.failed ≡ 0) }
     ensures ran { let output = counted_stream (O.contents out.old.stream.now) (O.contents out.new.stream.now) out.new.calls out.new.failed in
         let errors = counted_stream (E.contents err.old.stream.now) (E.contents err.new.stream.now) err.new.calls err.new.failed in
-        spec.TextExplained (plain_subject subject.now) options.now program text.now output errors result }
+        TextExplained options.now (plain_subject subject.now) program text.now output errors result }
     ensures same_out { out.new.stream.ghost_name ≡ out.old.stream.ghost_name }
     ensures same_err { err.new.stream.ghost_name ≡ err.old.stream.ghost_name }
 {

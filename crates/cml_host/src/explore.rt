@@ -1,21 +1,21 @@
 //! The command `explore`: a script runs many times, and it is told how the runs end.
 
-ghost use Rattle.std.specs.Prelude.{◌≡◌, ◌+◌, ◌≤◌, ◌<◌, ◌^◌, [], IfOk, IfErr, OnErr, OnOk, Some, length, option_map, true};
+ghost use Rattle.std.specs.Prelude.{◌≡◌, ◌+◌, ◌≤◌, ◌<◌, ◌^◌, [], IfOk, IfErr, IfSome, OnErr, OnOk, Some, length, option_map, true};
 ghost use Rattle.std.specs.Fmt.{decimal};
 ghost use Rattle.std.specs.List.{All};
 ghost use Rattle.std.specs.String.{string_bytes};
 ghost use Rattle.cml_check.specs.Sizes.{size_of};
 ghost use Rattle.cml_explore.specs.Answers.{IsToldOfRuns};
-ghost use Rattle.cml_explore.specs.Explored.{SoFar};
+ghost use Rattle.cml_explore.specs.Explored.{HasMade, SoFar};
 ghost use Rattle.cml_host.specs.Exploring as spec;
-ghost use Rattle.cml_host.specs.Exploring.{AreSaved, AsksForRuns, ClassesKept, ExploreRan, FilesKept, IsNotSaved, MadeAll, MadeErased, MadeOne, MadeTold, NameRefused, NotShown, ProgramExplored, RunsTold, ScriptExplored, SomeSaved, StopsErased, StopsShowing, UnsavedTold, erased, files_from, judged, saved_start, shown_at, shown_next, stop_at};
+ghost use Rattle.cml_host.specs.Exploring.{AreSaved, AsksForRuns, ClassesKept, ExploreRan, FilesKept, IsNotSaved, MadeAll, MadeErased, MadeSome, MadeTold, NameRefused, NotShown, ProgramExplored, RunsTold, ScriptExplored, ShownFrom, SomeSaved, StopsBehind, StopsErased, StopsShowing, UnsavedTold, erased, files_from, judged, saved_start, shown_at, shown_next, stop_at};
 ghost use Rattle.cml_host.specs.Running as running;
 ghost use Rattle.cml_host.specs.Scripts.{plain_script};
 ghost use Rattle.cml_host.specs.Stores.{Shelf, IsSaved};
 ghost use Rattle.cml_hub.specs.Kept.{IsBudget};
 ghost use Rattle.cml_schedule.specs.Written.{schedule_text};
 ghost use Rattle.cml_stream.specs.Streams.{counted_stream, stream, Takes, TakesStart};
-ghost use Rattle.cml_words.specs.Words.{IsRuns, saved_name};
+ghost use Rattle.cml_words.specs.Words.{IsDepth, IsRuns, saved_name};
 
 use crate::explain::Halt;
 use crate::output::say;
@@ -25,13 +25,14 @@ use crate::script::{Script, open_script};
 use crate::servers::find_servers;
 use crate::store::Store;
 use cml_check::Prog;
-use cml_explore::{Asked, Classes, Explored, Until, explain_runs};
+use cml_explore::{Asked, Classes, Explored, Order, Until, explain_runs};
 use cml_schedule::{Item, schedule_text};
 use cml_stream::Counting;
 use cml_stream::input_output::{WriteFault, write_out};
 use cml_words::{ExploreOptions, Until as Word};
 use std::alloc::{AllocError, Global};
 use std::io::Write;
+use std::thread::Threads;
 use thiserror::Error;
 
 // The status where a run did not end well.
@@ -61,7 +62,8 @@ impl From<AllocError> for Unsaved {
 
 /// Makes the runs of the script that lies under its name that are asked for, tells how they ended, and saves a schedule of each kind of end, where
 /// that is asked for. Where the errors go to a terminal it is shown meanwhile how far it is. What is wrong with the script is explained.
-pub fn explore_file<O: Write, E: Write, S: Store>(
+pub fn explore_file<R: Threads + Sync, O: Write, E: Write, S: Store>(
+    rt: &R,
     alloc: Global,
     options: &ExploreOptions<'_>,
     terminal: bool,
@@ -70,6 +72,7 @@ pub fn explore_file<O: Write, E: Write, S: Store>(
     store: &mut S,
 ) -> u8
     requires counts { IsRuns options.now.runs × IsBudget options.now.steps }
+    requires depth { IfSome options.now.priority IsDepth }
     requires seeds { options.now.seed + options.now.runs ≤ 2 ^ 64 }
     requires fresh { (out.old.calls ≡ 0) × (out.old.failed ≡ 0) × (err.old.calls ≡ 0) × (err.old.failed ≡ 0) }
     ensures ran { let output = counted_stream (O.contents out.old.stream.now) (O.contents out.new.stream.now) out.new.calls out.new.failed in
@@ -80,13 +83,14 @@ pub fn explore_file<O: Write, E: Write, S: Store>(
     ensures same_err { err.new.stream.ghost_name ≡ err.old.stream.ghost_name }
 {
     match open_script(alloc, options.script, true, store) {
-        Ok(script) => explore_opened(alloc, &script, options, terminal, out, err, store),
+        Ok(script) => explore_opened(rt, alloc, &script, options, terminal, out, err, store),
         Err(why) => refuse(alloc, options.script, true, why, 2, err),
     }
 }
 
 // Makes the runs of the script, where it has the functions that are named as those of servers.
-fn explore_opened<O: Write, E: Write, S: Store>(
+fn explore_opened<R: Threads + Sync, O: Write, E: Write, S: Store>(
+    rt: &R,
     alloc: Global,
     script: &Script,
     options: &ExploreOptions<'_>,
@@ -96,6 +100,7 @@ fn explore_opened<O: Write, E: Write, S: Store>(
     store: &mut S,
 ) -> u8
     requires counts { IsRuns options.now.runs × IsBudget options.now.steps }
+    requires depth { IfSome options.now.priority IsDepth }
     requires seeds { options.now.seed + options.now.runs ≤ 2 ^ 64 }
     requires fresh { (out.old.calls ≡ 0) × (out.old.failed ≡ 0) × (err.old.failed ≡ 0) }
     ensures ran { let output = counted_stream (O.contents out.old.stream.now) (O.contents out.new.stream.now) out.new.calls out.new.failed in
@@ -108,7 +113,7 @@ fn explore_opened<O: Write, E: Write, S: Store>(
     match find_servers(alloc, script, options.servers.as_slice()) {
         Ok(servers) => {
             let asked = asked_for(options, servers.as_slice());
-            explore_program(alloc, script, options, &asked, shows, out, err, store)
+            explore_program(rt, alloc, script, options, &asked, shows, out, err, store)
         }
         Err(why) => refuse(alloc, options.script, true, why, 1, err),
     }
@@ -116,15 +121,27 @@ fn explore_opened<O: Write, E: Write, S: Store>(
 
 // What the arguments ask for, where the functions of servers have these numbers.
 fn asked_for<'a>(options: &ExploreOptions<'_>, servers: &'a [u32]) -> Asked<'a>
+    requires depth { IfSome options.now.priority IsDepth }
     ensures { AsksForRuns options.now servers.now result }
 {
     Asked {
         budget: options.steps,
         first: options.seed,
         runs: options.runs,
-        turns: options.turns,
+        order: order_asked(options.turns, options.priority),
         servers,
         until: stop(options.until),
+    }
+}
+
+// By what it is settled what happens next.
+fn order_asked(turns: bool, priority: Option<u64>) -> Order
+    requires depth { IfSome priority IsDepth }
+    ensures { result ≡ spec.order_asked turns priority }
+{
+    match priority {
+        Some(depth) => Order::Priority(depth as u32),
+        None => { if turns { Order::Lot } else { Order::Queue } }
     }
 }
 
@@ -140,7 +157,8 @@ fn stop(word: Option<&str>) -> Option<Until>
 }
 
 // Makes the runs, and tells of them.
-fn explore_program<O: Write, E: Write, S: Store>(
+fn explore_program<R: Threads + Sync, O: Write, E: Write, S: Store>(
+    rt: &R,
     alloc: Global,
     script: &Script,
     options: &ExploreOptions<'_>,
@@ -161,7 +179,15 @@ fn explore_program<O: Write, E: Write, S: Store>(
     ensures same_out { out.new.stream.ghost_name ≡ out.old.stream.ghost_name }
     ensures same_err { err.new.stream.ghost_name ≡ err.old.stream.ghost_name }
 {
-    match explored(alloc, &script.program, asked, shows, err) {
+    match explored(
+        rt,
+        alloc,
+        &script.program,
+        asked,
+        options.workers,
+        shows,
+        err,
+    ) {
         Ok(made) => tell_made(alloc, script, options, asked, &made, out, err, store),
         Err(Halt::Memory) => {
             say(err, b"memory\n");
@@ -172,10 +198,12 @@ fn explore_program<O: Write, E: Write, S: Store>(
 }
 
 // The runs that are asked for. What is shown meanwhile is taken away.
-fn explored<E: Write>(
+fn explored<R: Threads + Sync, E: Write>(
+    rt: &R,
     alloc: Global,
     program: &Prog,
     asked: &Asked<'_>,
+    workers: usize,
     shows: bool,
     err: &mut Counting<'_, E>,
 ) -> Result<Explored, Halt>
@@ -188,7 +216,7 @@ fn explored<E: Write>(
         IfErr result (λ why. StopsErased shows asked.now.runs why errors) }
     ensures same_err { err.new.stream.ghost_name ≡ err.old.stream.ghost_name }
 {
-    match make_runs(alloc, program, asked, shows, err) {
+    match make_runs(rt, alloc, program, asked, workers, shows, err) {
         Ok(made) => {
             erase(shows, err)?;
             Ok(made)
@@ -202,10 +230,12 @@ fn explored<E: Write>(
 }
 
 // Makes one run after another.
-fn make_runs<E: Write>(
+fn make_runs<R: Threads + Sync, E: Write>(
+    rt: &R,
     alloc: Global,
     program: &Prog,
     asked: &Asked<'_>,
+    workers: usize,
     shows: bool,
     err: &mut Counting<'_, E>,
 ) -> Result<Explored, Halt>
@@ -220,7 +250,7 @@ fn make_runs<E: Write>(
 {
     let mut made = Explored::new(alloc);
     'runs: while made.runs() < asked.runs {
-        let last = make_run(alloc, program, asked, shows, &mut made, err)?;
+        let last = make_some(rt, alloc, program, asked, workers, shows, &mut made, err)?;
         if last {
             return Ok(made);
         }
@@ -228,11 +258,13 @@ fn make_runs<E: Write>(
     Ok(made)
 }
 
-// Makes one run more, and shows that. Returns whether it was the last.
-fn make_run<E: Write>(
+// Makes one run more, or with more workers than one some, and shows that. Returns whether these were the last.
+fn make_some<R: Threads + Sync, E: Write>(
+    rt: &R,
     alloc: Global,
     program: &Prog,
     asked: &Asked<'_>,
+    workers: usize,
     shows: bool,
     made: &mut Explored,
     err: &mut Counting<'_, E>,
@@ -243,14 +275,62 @@ fn make_run<E: Write>(
     requires left { made.old.runs < asked.now.runs }
     requires fresh { err.old.failed ≡ 0 }
     ensures ok { let errors = counted_stream (E.contents err.old.stream.now) (E.contents err.new.stream.now) err.new.calls err.new.failed in
-        IfOk result (λ last. MadeOne program.now asked.now shows last made.old made.new errors) }
+        IfOk result (λ last. MadeSome program.now asked.now shows last made.old made.new errors) }
     ensures err { let errors = counted_stream (E.contents err.old.stream.now) (E.contents err.new.stream.now) err.new.calls err.new.failed in
-        IfErr result (λ why. NotShown (shown_next shows asked.now.runs (made.old.runs + 1)) why errors) }
+        IfErr result (λ why. StopsBehind shows asked.now.runs made.old.runs why errors) }
     ensures same_err { err.new.stream.ghost_name ≡ err.old.stream.ghost_name }
 {
-    let last = made.go(alloc, program, asked)?;
-    show_next(alloc, shows, asked.runs, made.runs(), err)?;
+    let before = made.runs();
+    let last = go_on(rt, alloc, program, asked, workers, made)?;
+    let count = made.runs();
+    show_from(alloc, shows, asked.runs, before, count, err)?;
     Ok(last)
+}
+
+// Makes one run more, or with more workers than one some. Returns whether these were the last.
+fn go_on<R: Threads + Sync>(
+    rt: &R,
+    alloc: Global,
+    program: &Prog,
+    asked: &Asked<'_>,
+    workers: usize,
+    made: &mut Explored,
+) -> Result<bool, AllocError>
+    requires budget { IsBudget asked.now.budget }
+    requires seeds { asked.now.first + asked.now.runs ≤ 2 ^ 64 }
+    requires so_far { SoFar program.now asked.now made.old }
+    requires left { made.old.runs < asked.now.runs }
+    ensures more { OnOk result (made.old.runs < made.new.runs) }
+    ensures goes { IfOk result (λ last. HasMade program.now asked.now last made.new) }
+{
+    if workers == 1 {
+        made.go(alloc, program, asked)
+    } else {
+        made.go_beside(rt, alloc, program, asked, workers)
+    }
+}
+
+// Shows that the runs behind the first so many were made, up to that many, where that is shown.
+fn show_from<E: Write>(
+    alloc: Global,
+    shows: bool,
+    runs: u64,
+    before: u64,
+    count: u64,
+    err: &mut Counting<'_, E>,
+) -> Result<(), Halt>
+    requires few { (before ≤ count) × (count ≤ runs) × (runs ≤ 1000000) }
+    requires fresh { err.old.failed ≡ 0 }
+    ensures ok { let errors = stream (E.contents err.old.stream.now) (E.contents err.new.stream.now) in
+        OnOk result (ShownFrom shows runs before count errors × (err.new.failed ≡ 0)) }
+    ensures err { let errors = counted_stream (E.contents err.old.stream.now) (E.contents err.new.stream.now) err.new.calls err.new.failed in
+        IfErr result (λ why. StopsBehind shows runs before why errors) }
+    ensures same_err { err.new.stream.ghost_name ≡ err.old.stream.ghost_name }
+{
+    for made in before..count {
+        show_next(alloc, shows, runs, made + 1, err)?;
+    }
+    Ok(())
 }
 
 // Shows that so many of the runs were made, where that is shown.

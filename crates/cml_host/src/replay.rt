@@ -77,6 +77,7 @@ fn replay_script<O: Write, E: Write, S: Store>(
                 options.script,
                 script,
                 explains,
+                false,
                 options.end.strict,
                 servers,
             );

@@ -3,8 +3,8 @@
 ghost use Rattle.std.specs.Prelude.{◌≡◌, ◌++◌, [], codes, Option, IfErr, IfOk, OnOk, option_map};
 ghost use Rattle.std.specs.String.{string_bytes};
 ghost use Rattle.cml_hub.specs.Kept.{IsAtStart, IsBudget, IsWatch};
-ghost use Rattle.cml_host.specs.Closed.{plain_asked};
-ghost use Rattle.cml_host.specs.Running.{RunRan, OpenedRan, BegunRan, ProgramRan, EndedRan, IsEnded, IsNotEnded, IsMade, IsKept, IsNotKept, unsaved_told};
+ghost use Rattle.cml_host.specs.Closed.{IsClosing, drawn_subject, plain_asked, plain_closing};
+ghost use Rattle.cml_host.specs.Running.{RunRan, OpenedRan, BegunRan, ProgramRan, EndedRan, IsEnded, IsNotEnded, IsMade, IsKept, IsNotKept, IsPictureFor, IsRefusalOf, cannot_save, names_saved, plain_saving, plain_wanted, unsaved_told};
 ghost use Rattle.cml_host.specs.Scripts.{plain_script};
 ghost use Rattle.cml_host.specs.Stores.{Shelf};
 ghost use Rattle.cml_host.specs.declared.reason.Reason.{Reason};
@@ -12,8 +12,9 @@ ghost use Rattle.cml_stream.specs.Streams.{Says, counted_stream};
 ghost use Rattle.cml_text.specs.Lines.{line};
 ghost use Rattle.cml_work.specs.Works.{IsWorkerCount};
 
-use crate::close::{Asked, ask, close, explains, say_end};
+use crate::close::{Asked, Closing, ask, close, explains};
 use crate::output::say;
+use crate::picture::{Picture, Wanted, close_with, make_picture, wanted_from};
 use crate::said::{refuse, with_why};
 use crate::script::{Script, open_script};
 use crate::servers::find_servers;
@@ -30,11 +31,22 @@ use std::io::Write;
 use std::sync::Wait;
 use std::thread::Threads;
 
-// What there is to save of a run, and what is said where that can't be.
+/// What there is to save under a name, and what is said where that can't be.
 #[derive(Drop)]
-struct Record {
-    schedule: Vec<u8>,
-    refused: String,
+pub struct Record {
+    /// What is saved.
+    pub bytes: Vec<u8>,
+    /// What is said.
+    pub refused: String,
+}
+
+/// What is to be saved of a run.
+#[derive(Clone, Copy)]
+pub struct Saving<'a> {
+    /// The name of its schedule, where it is asked for.
+    pub schedule: Option<&'a str>,
+    /// Its picture, where it is asked for.
+    pub picture: Option<Wanted<'a>>,
 }
 
 /// Runs the script that lies under the name, and explains what is wrong with it and how its run ended, where that is asked for.
@@ -98,14 +110,31 @@ where
 {
     match find_servers(alloc, &script, options.end.servers.as_slice()) {
         Ok(servers) => {
-            let (program, asked) = ask(options.file, script, explains, options.end.strict, servers);
-            run_program(rt, alloc, gate, program, &asked, options, out, err, store)
+            let draws = options.draw.is_some();
+            let strict = options.end.strict;
+            let (program, asked) = ask(options.file, script, explains, draws, strict, servers);
+            let saving = saving_for(&asked, options.record, options.draw);
+            run_program(
+                rt, alloc, gate, program, &asked, &saving, options, out, err, store,
+            )
         }
         Err(why) => {
             drop(script);
             refuse(alloc, options.file, explains, why, 1, err)
         }
     }
+}
+
+// What is to be saved, under these names.
+fn saving_for<'a>(
+    asked: &'a Asked<'a>,
+    schedule: Option<&'a str>,
+    draw: Option<&'a str>,
+) -> Saving<'a>
+    ensures { plain_saving result ≡ names_saved (option_map (λ name. name.now) schedule.entry) (option_map (λ name. name.now) draw.entry) (drawn_subject asked.now) }
+{
+    let picture = wanted_from(asked, draw);
+    Saving { schedule, picture }
 }
 
 // Runs the program.
@@ -115,6 +144,7 @@ fn run_program<R, G, O, E, S>(
     gate: &G,
     program: Prog,
     asked: &Asked<'_>,
+    saving: &Saving<'_>,
     options: &RunOptions<'_>,
     out: &mut Counting<'_, O>,
     err: &mut Counting<'_, E>,
@@ -131,12 +161,14 @@ where
     ensures ran { let output = counted_stream (O.contents out.old.stream.now) (O.contents out.new.stream.now) out.new.calls out.new.failed in
         let errors = counted_stream (E.contents err.old.stream.now) (E.contents err.new.stream.now) err.new.calls err.new.failed in
         let shelf : Shelf = record { before = S.holds store.old; after = S.holds store.new } in
-        BegunRan (plain_asked asked.now) program options.now output errors shelf result }
+        BegunRan (plain_asked asked.now) (plain_saving saving.now) program options.now output errors shelf result }
     ensures same_out { out.new.stream.ghost_name ≡ out.old.stream.ghost_name }
     ensures same_err { err.new.stream.ghost_name ≡ err.old.stream.ghost_name }
 {
     match Hub::begin(alloc, program, options.steps, options.watch) {
-        Ok(hub) => run_begun(rt, alloc, gate, hub, asked, options, out, err, store),
+        Ok(hub) => run_begun(
+            rt, alloc, gate, hub, asked, saving, options, out, err, store,
+        ),
         Err(back) => {
             drop(back.value);
             say(err, b"memory\n");
@@ -152,6 +184,7 @@ fn run_begun<R, G, O, E, S>(
     gate: &G,
     hub: Hub,
     asked: &Asked<'_>,
+    saving: &Saving<'_>,
     options: &RunOptions<'_>,
     out: &mut Counting<'_, O>,
     err: &mut Counting<'_, E>,
@@ -169,7 +202,7 @@ where
     ensures ran { let output = counted_stream (O.contents out.old.stream.now) (O.contents out.new.stream.now) out.new.calls out.new.failed in
         let errors = counted_stream (E.contents err.old.stream.now) (E.contents err.new.stream.now) err.new.calls err.new.failed in
         let shelf : Shelf = record { before = S.holds store.old; after = S.holds store.new } in
-        ProgramRan (plain_asked asked.now) hub.course.program options.now output errors shelf result }
+        ProgramRan (plain_asked asked.now) (plain_saving saving.now) hub.course.program options.now output errors shelf result }
     ensures same_out { out.new.stream.ghost_name ≡ out.old.stream.ghost_name }
     ensures same_err { err.new.stream.ghost_name ≡ err.old.stream.ghost_name }
 {
@@ -177,7 +210,7 @@ where
     match run_hub(rt, alloc, gate, hub, options, err) {
         Ok(hub) => {
             hub_is_a_run(&hub);
-            let status = end(alloc, &hub, asked, options.record, out, err, store);
+            let status = end(alloc, &hub, asked, saving, out, err, store);
             let_go(hub);
             status
         }
@@ -190,13 +223,13 @@ where
     }
 }
 
-// Tells the output of a run that is over, whose reports are told, saves its schedule, and says how it ended, where that was asked for. What is
-// said is made before the output is told.
+// Tells the output of a run that is over, whose reports are told, saves its schedule and its picture, and says how it ended, where that was asked
+// for. What is said, and the picture, are made before the output is told.
 fn end<O: Write, E: Write, S: Store>(
     alloc: Global,
     hub: &Hub,
     asked: &Asked<'_>,
-    save_as: Option<&str>,
+    saving: &Saving<'_>,
     out: &mut Counting<'_, O>,
     err: &mut Counting<'_, E>,
     store: &mut S,
@@ -205,17 +238,33 @@ fn end<O: Write, E: Write, S: Store>(
     ensures ran { let output = counted_stream (O.contents out.old.stream.now) (O.contents out.new.stream.now) out.new.calls out.new.failed in
         let errors = counted_stream (E.contents err.old.stream.now) (E.contents err.new.stream.now) err.new.calls err.new.failed in
         let shelf : Shelf = record { before = S.holds store.old; after = S.holds store.new } in
-        EndedRan (plain_asked asked.now) (option_map (λ name. name.now) save_as.entry) hub.now [] output errors shelf result }
+        EndedRan (plain_asked asked.now) (plain_saving saving.now) hub.now [] output errors shelf result }
     ensures same_out { out.new.stream.ghost_name ≡ out.old.stream.ghost_name }
     ensures same_err { err.new.stream.ghost_name ≡ err.old.stream.ghost_name }
 {
-    let Ok(closing) = close(alloc, hub, asked) else {
+    let Ok((closing, picture)) = prepare(alloc, hub, asked, saving) else {
         return cut_output(hub.out(), out, err);
     };
-    match tell_and_save(alloc, hub, explains(asked), save_as, out, err, store) {
-        Ok(()) => say_end(&closing, err),
+    let is_explained = explains(asked);
+    match tell_and_save(alloc, hub, is_explained, saving.schedule, out, err, store) {
+        Ok(()) => close_with(alloc, is_explained, &picture, &closing, err, store),
         Err(status) => status,
     }
+}
+
+// How the run of this hub is closed, and its picture, where it is asked for.
+fn prepare<'a>(
+    alloc: Global,
+    hub: &Hub,
+    asked: &Asked<'_>,
+    saving: &Saving<'a>,
+) -> Result<(Closing, Picture<'a>), AllocError>
+    ensures closing { IfOk result (λ made. IsClosing (plain_asked asked.now) hub.now (plain_closing made.0)) }
+    ensures picture { IfOk result (λ made. IsPictureFor (option_map plain_wanted saving.now.picture) hub.now made.1) }
+{
+    let closing = close(alloc, hub, asked)?;
+    let picture = make_picture(alloc, hub, &saving.picture)?;
+    Ok((closing, picture))
 }
 
 // Tells the output of a run that is over, and saves its schedule, where that was asked for. What is saved is made before the output is told.
@@ -252,17 +301,33 @@ fn tell_and_save<O: Write, E: Write, S: Store>(
     }
 }
 
-// What there is to save.
-fn make_record(alloc: Global, hub: &Hub, name: &str) -> Result<Record, AllocError>
+/// What there is to save of the schedule of this hub, under this name.
+///
+/// # Errors
+/// Out of memory.
+pub fn make_record(alloc: Global, hub: &Hub, name: &str) -> Result<Record, AllocError>
     ensures { IfOk result (IsMade hub.now name.now) }
 {
-    let schedule = hub.write_schedule(alloc)?;
-    let refused = format!(in alloc; "cannot write {name}\n")?;
-    Ok(Record { schedule, refused })
+    let bytes = hub.write_schedule(alloc)?;
+    let refused = refusal_of(alloc, name)?;
+    Ok(Record { bytes, refused })
 }
 
-// Saves the record, or says that it can't be saved.
-fn save_record<E: Write, S: Store>(
+/// What is said where nothing can be saved under this name.
+///
+/// # Errors
+/// Out of memory.
+pub fn refusal_of(alloc: Global, name: &str) -> Result<String, AllocError>
+    ensures { IfOk result (λ line. string_bytes line ≡ cannot_save name.now) }
+{
+    format!(in alloc; "cannot write {name}\n")
+}
+
+/// Saves what there is to save under this name, or says that it can't be saved, and then returns the status.
+///
+/// # Errors
+/// It can't be saved.
+pub fn save_record<E: Write, S: Store>(
     alloc: Global,
     name: &str,
     explains: bool,
@@ -271,7 +336,7 @@ fn save_record<E: Write, S: Store>(
     store: &mut S,
 ) -> Result<(), u8>
     requires fresh { err.old.failed ≡ 0 }
-    requires made { string_bytes made.now.refused ≡ line (codes "cannot write " ++ name.now) }
+    requires made { IsRefusalOf name.now made.now }
     ensures kept { let errors = counted_stream (E.contents err.old.stream.now) (E.contents err.new.stream.now) err.new.calls err.new.failed in
         let shelf : Shelf = record { before = S.holds store.old; after = S.holds store.new } in
         OnOk result (IsKept name.now made.now errors shelf) }
@@ -280,7 +345,7 @@ fn save_record<E: Write, S: Store>(
         IfErr result (IsNotKept explains name.now errors shelf) }
     ensures same_err { err.new.stream.ghost_name ≡ err.old.stream.ghost_name }
 {
-    match store.save(name, made.schedule.as_slice()) {
+    match store.save(name, made.bytes.as_slice()) {
         Ok(()) => Ok(()),
         Err(fault) => Err(refuse_record(alloc, name, explains, made, fault, err)),
     }
@@ -296,7 +361,7 @@ fn refuse_record<E: Write>(
     err: &mut Counting<'_, E>,
 ) -> u8
     requires fresh { err.old.failed ≡ 0 }
-    requires made { string_bytes made.now.refused ≡ line (codes "cannot write " ++ name.now) }
+    requires made { IsRefusalOf name.now made.now }
     ensures said { let errors = counted_stream (E.contents err.old.stream.now) (E.contents err.new.stream.now) err.new.calls err.new.failed in
         (why : Option Reason) × Says errors (unsaved_told explains name.now why) }
     ensures status { result ≡ 1 }

@@ -3,21 +3,20 @@
 ghost use Rattle.std.specs.Prelude.{◌≡◌, IfErr, IfOk, true};
 ghost use Rattle.std.specs.String.{string_bytes};
 ghost use Rattle.cml_check.specs.Sizes.{size_of};
-ghost use Rattle.cml_host.specs.Closed.{plain_asked, script_as_subject};
-ghost use Rattle.cml_host.specs.Replaying.{IsNoHub, IsNoRun, IsNotRun};
-ghost use Rattle.cml_host.specs.Scripts.{plain_script};
-ghost use Rattle.cml_host.specs.Shrunk.{IsShorterBy, IsShorterOf, IsShorterThere, ScheduleShrunk, ScheduleTold, ShrinkRan};
+ghost use Rattle.cml_host.specs.Closed.{plain_asked, plain_subject};
+ghost use Rattle.cml_host.specs.Replaying.{IsNoHub, IsNoRun};
+ghost use Rattle.cml_host.specs.Shrunk.{IsShorterBy, IsShorterOf, ScheduleTold, ShrinkRan, TextShrunk};
 ghost use Rattle.cml_host.specs.Stores.{IsUnchanged};
 ghost use Rattle.cml_hub.specs.Kept.{IsBudget, FitsSize};
 ghost use Rattle.cml_schedule.specs.Written.{schedule_text};
 ghost use Rattle.cml_shrink.specs.Counts.{counts_line};
 ghost use Rattle.cml_stream.specs.Streams.{counted_stream};
 
-use crate::close::{Asked, ask, explains};
+use crate::close::{Asked, Subject, ask_of, explains};
+use crate::opening::{REFUSED, open_both, refuse_opening};
 use crate::output::say;
-use crate::replay::{SCHEDULE_LIMIT, read_plan, told_item, told_size};
+use crate::replay::{read_plan, told_item, told_size};
 use crate::said::{Refusal, refuse};
-use crate::script::{Script, open_script};
 use crate::store::Store;
 use cml_check::Prog;
 use cml_hub::{Item, Plan, matches_program};
@@ -28,9 +27,6 @@ use cml_stream::input_output::write_out;
 use cml_words::ShrinkOptions;
 use std::alloc::{AllocError, Global};
 use std::io::Write;
-
-// The status where the schedule is refused.
-const REFUSED: u8 = 3;
 
 // What is told of a shorter schedule.
 #[derive(Drop)]
@@ -56,32 +52,39 @@ pub fn shrink_file<O: Write, E: Write, S: Store>(
     ensures same_out { out.new.stream.ghost_name ≡ out.old.stream.ghost_name }
     ensures same_err { err.new.stream.ghost_name ≡ err.old.stream.ghost_name }
 {
-    match open_script(alloc, options.script, true, store) {
-        Ok(script) => shrink_opened(alloc, script, options, out, err, store),
-        Err(why) => refuse(alloc, options.script, true, why, 2, err),
+    match open_both(alloc, options.script, options.schedule, store) {
+        Ok((program, subject, text)) => shrink_text(
+            alloc,
+            program,
+            subject,
+            text.as_slice(),
+            options,
+            out,
+            err,
+        ),
+        Err(why) => refuse_opening(alloc, options.script, options.schedule, why, err),
     }
 }
 
-// Tells a shorter schedule of the script.
-fn shrink_opened<O: Write, E: Write, S: Store>(
+// Tells a shorter schedule for the one that the text is.
+fn shrink_text<O: Write, E: Write>(
     alloc: Global,
-    script: Script,
+    program: Prog,
+    subject: Subject<'_>,
+    text: &[u8],
     options: &ShrinkOptions<'_>,
     out: &mut Counting<'_, O>,
     err: &mut Counting<'_, E>,
-    store: &mut S,
 ) -> u8
     requires fresh { (out.old.calls ≡ 0) × (out.old.failed ≡ 0) × (err.old.failed ≡ 0) }
     ensures ran { let output = counted_stream (O.contents out.old.stream.now) (O.contents out.new.stream.now) out.new.calls out.new.failed in
         let errors = counted_stream (E.contents err.old.stream.now) (E.contents err.new.stream.now) err.new.calls err.new.failed in
-        let s = plain_script script in
-        ScheduleShrunk (script_as_subject options.now.script.now s) s.program options.now.tries options.now.schedule.now (S.holds store.old options.now.schedule.now) output errors result }
-    ensures same { IsUnchanged (S.holds store.old) (S.holds store.new) }
+        TextShrunk options.now.tries (plain_subject subject.entry) program text.now output errors result }
     ensures same_out { out.new.stream.ghost_name ≡ out.old.stream.ghost_name }
     ensures same_err { err.new.stream.ghost_name ≡ err.old.stream.ghost_name }
 {
-    let (program, asked) = ask(options.script, script, true, false, Vec::new(alloc));
-    match shorter_there(alloc, program, &asked, options, store) {
+    let asked = ask_of(subject, Vec::new(alloc));
+    match shorter_by(alloc, program, &asked, text, options.tries) {
         Ok(shorter) => tell_shorter(&shorter, out, err),
         Err(why) => refuse(alloc, options.schedule, true, why, REFUSED, err),
     }
@@ -112,29 +115,7 @@ fn tell_shorter<O: Write, E: Write>(
     }
 }
 
-// What is told of the shorter schedule for the one that lies under its name.
-fn shorter_there<S: Store>(
-    alloc: Global,
-    program: Prog,
-    asked: &Asked<'_>,
-    options: &ShrinkOptions<'_>,
-    store: &mut S,
-) -> Result<Shorter, Refusal>
-    ensures ok { IfOk result (IsShorterThere program options.now.tries (S.holds store.old options.now.schedule.now)) }
-    ensures err { IfErr result (IsNotRun (plain_asked asked.now).subject program (S.holds store.old options.now.schedule.now)) }
-    ensures same { IsUnchanged (S.holds store.old) (S.holds store.new) }
-{
-    let text = match store.load(alloc, options.schedule, SCHEDULE_LIMIT) {
-        Ok(text) => text,
-        Err(fault) => {
-            drop(program);
-            return Err(Refusal::from(fault));
-        }
-    };
-    shorter_by(alloc, program, asked, text.as_slice(), options.tries)
-}
-
-// For the one that the text is.
+// What is told of the shorter schedule for the one that the text is.
 fn shorter_by(
     alloc: Global,
     program: Prog,

@@ -139,7 +139,7 @@ fn status_of(end: TraceEnd) -> u8
     }
 }
 
-fn fault_status(fault: TraceFault) -> u8
+pub(crate) fn fault_status(fault: TraceFault) -> u8
     ensures { result ≡ spec.fault_status fault }
 {
     match fault {
@@ -150,7 +150,7 @@ fn fault_status(fault: TraceFault) -> u8
     }
 }
 
-fn fault_line(fault: TraceFault) -> &'static str
+pub(crate) fn fault_line(fault: TraceFault) -> &'static str
     ensures { result.now ≡ spec.trace_fault_line fault }
 {
     match fault {

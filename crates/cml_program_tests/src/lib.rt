@@ -2,6 +2,8 @@
 #![tactic(auto)]
 
 #[cfg(test)]
+mod by_hand;
+#[cfg(test)]
 mod cases;
 #[cfg(test)]
 mod ended;
@@ -22,6 +24,8 @@ mod limits;
 #[cfg(test)]
 mod many_runs;
 pub mod memory_store;
+#[cfg(test)]
+mod pictures;
 #[cfg(test)]
 mod refusals;
 #[cfg(test)]

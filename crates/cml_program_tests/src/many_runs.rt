@@ -52,6 +52,51 @@ const CASES: &[Case] = &[
         saved: &[],
     },
     Case {
+        name: "the same by workers",
+        words: "explore a.cml --seed 18446744073709551614 --runs 2 --workers 64",
+        files: &[("a.cml", "(fn main ()\n  (let x (+ unit 1)))")],
+        output: "2 runs of a.cml, seeds 18446744073709551614 to 18446744073709551615\n2  quiet, none waits, 1 fault   1 output    first: seed 18446744073709551614, 1 item\n       thread 0 main at 2:3 ends at a fault: + takes numbers, and was given () and 1\n",
+        errors: "",
+        status: 6,
+        saved: &[],
+    },
+    Case {
+        name: "two deadlocks by workers",
+        words: "explore a.cml --seed 1 --runs 2 --workers 2",
+        files: &[("a.cml", LOCKS)],
+        output: BOTH_LOCKED,
+        errors: "",
+        status: 6,
+        saved: &[],
+    },
+    Case {
+        name: "by priorities, which change at two points",
+        words: "explore a.cml --runs 10 --steps 100 --priority 3",
+        files: &[("a.cml", LOCKS)],
+        output: "10 runs of a.cml, seeds 0 to 9\n9  quiet, 1 waits   1 output    first: seed 0, 12 items\n       thread 2 lock((mvar 1) (mvar 0)) at 2:3: take M-variable 1, which is empty; last taken by thread 1 lock((mvar 0) (mvar 1))\n1  quiet, 2 wait    1 output    first: seed 6, 13 items\n       thread 1 lock((mvar 0) (mvar 1)) at 4:3: take M-variable 1, which is empty; last taken by thread 2 lock((mvar 1) (mvar 0))\n       thread 2 lock((mvar 1) (mvar 0)) at 4:3: take M-variable 0, which is empty; last taken by thread 1 lock((mvar 0) (mvar 1))\n",
+        errors: "",
+        status: 6,
+        saved: &[],
+    },
+    Case {
+        name: "by priorities, with more points than items",
+        words: "explore a.cml --runs 10 --steps 100 --priority 64",
+        files: &[("a.cml", LOCKS)],
+        output: "10 runs of a.cml, seeds 0 to 9\n5  quiet, 2 wait    1 output    first: seed 0, 13 items\n       thread 1 lock((mvar 0) (mvar 1)) at 4:3: take M-variable 1, which is empty; last taken by thread 2 lock((mvar 1) (mvar 0))\n       thread 2 lock((mvar 1) (mvar 0)) at 4:3: take M-variable 0, which is empty; last taken by thread 1 lock((mvar 0) (mvar 1))\n5  quiet, 1 waits   1 output    first: seed 3, 12 items\n       thread 2 lock((mvar 1) (mvar 0)) at 2:3: take M-variable 1, which is empty; last taken by thread 1 lock((mvar 0) (mvar 1))\n",
+        errors: "",
+        status: 6,
+        saved: &[],
+    },
+    Case {
+        name: "by priorities and by workers",
+        words: "explore a.cml --runs 10 --steps 100 --priority 2 --workers 3",
+        files: &[("a.cml", PUT)],
+        output: "10 runs of a.cml, seeds 0 to 9\n6  quiet, none waits            1 output    first: seed 0, 7 items\n4  quiet, none waits, 1 fault   1 output    first: seed 3, 6 items\n       thread 0 main at 6:3 ends at a fault: M-variable 0 is full: it can be put only where it is empty\n",
+        errors: "",
+        status: 6,
+        saved: &[],
+    },
+    Case {
         name: "two deadlocks",
         words: "explore a.cml --seed 1 --runs 2",
         files: &[("a.cml", LOCKS)],
@@ -271,10 +316,13 @@ fn a_schedule_of_each_class_is_saved(rt: HostRuntime) -> Result<(), Fail> {
     Ok(())
 }
 
+// The same, where another file lies under the name of the one that is saved.
+const TAKEN: &[(&str, &str)] = &[("a.cml", LOCKS), ("S-1.schedule", "what lay there before\n")];
+
 #[test]
 fn a_save_that_is_refused_is_told(rt: HostRuntime) -> Result<(), Fail> {
     let alloc = rt.alloc();
-    let mut store = filled(&rt, alloc, FILES);
+    let mut store = filled(&rt, alloc, TAKEN);
     store.close();
     let line = "explore a.cml --seed 1 --runs 2 --save S";
     let left = left_by(&rt, alloc, line, "", &mut store)?;
@@ -285,6 +333,9 @@ fn a_save_that_is_refused_is_told(rt: HostRuntime) -> Result<(), Fail> {
     );
     assert!(rt; left.status == 1);
     drop(left);
+    let lies = store.load(alloc, "S-1.schedule", 1_000);
+    assert!(rt; matches!(&lies, Ok(bytes) if bytes.as_slice() == b"what lay there before\n".as_slice()));
+    drop(lies);
     drop(store);
     Ok(())
 }

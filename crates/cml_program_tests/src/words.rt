@@ -24,6 +24,7 @@ Commands:
   explore  Runs a script many times, and says how the runs end
   shrink   Looks for a shorter schedule of a run that ends alike
   draw     Draws what happens in a run, by a schedule that was saved, as an SVG picture
+  step     Runs a script by hand: shows what can happen, and asks what does
   help     Print this message or the help of the given subcommand(s)
 
 Options:
@@ -32,7 +33,7 @@ Options:
 
 // The help of `run`.
 const RUN_HELP: &str =
-    "Runs a script\n\nUsage: cml run [OPTIONS] <FILE>\n\nArguments:\n  <FILE>  \n\nOptions:\n      --workers <N>    How many workers run its threads, 1 to 64 [default: 1]\n      --steps <B>      How many steps it may take, 1 to 1000000000 [default: 1000000]\n      --seed <S>       Draws the choices from this number\n      --watch <K>      Reports after every K items of the schedule, 1 to 1000000000\n      --record <FILE>  Saves the schedule of the run\n      --strict         Ends with status 6 where a thread is left waiting, or ended at a fault\n      --servers <F>    Lets threads that began with function F wait; may be given again\n      --explain        Explains what is wrong, and where [default: on a terminal]\n      --plain          Explains nothing, on a terminal too\n  -h, --help           Print help\n";
+    "Runs a script\n\nUsage: cml run [OPTIONS] <FILE>\n\nArguments:\n  <FILE>  \n\nOptions:\n      --workers <N>    How many workers run its threads, 1 to 64 [default: 1]\n      --steps <B>      How many steps it may take, 1 to 1000000000 [default: 1000000]\n      --seed <S>       Draws the choices from this number\n      --watch <K>      Reports after every K items of the schedule, 1 to 1000000000\n      --record <FILE>  Saves the schedule of the run\n      --draw <FILE>    Saves a picture of the run\n      --strict         Ends with status 6 where a thread is left waiting, or ended at a fault\n      --servers <F>    Lets threads that began with function F wait; may be given again\n      --explain        Explains what is wrong, and where [default: on a terminal]\n      --plain          Explains nothing, on a terminal too\n  -h, --help           Print help\n";
 
 // Arguments, what is written to the output and to the errors, and the status.
 struct Asked {
@@ -149,7 +150,7 @@ For more information, try '--help'.
     },
     Asked {
         words: "explore --help",
-        output: "Runs a script many times, and says how the runs end\n\nUsage: cml explore [OPTIONS] <FILE>\n\nArguments:\n  <FILE>  \n\nOptions:\n      --runs <N>       How many runs, 1 to 1000000 [default: 100]\n      --seed <S>       The seed of the first run; each further one has the next [default: 0]\n      --steps <B>      How many steps each may take, 1 to 1000000000 [default: 1000000]\n      --turns          Draws the order of the threads' turns too\n      --save <PREFIX>  Saves the shortest schedule of each kind of end, as PREFIX-1.schedule and so on\n      --servers <F>    Lets threads that began with function F wait; may be given again\n      --until <WORD>   Stops at the first run of this kind: waits, fault or budget\n  -h, --help           Print help\n",
+        output: "Runs a script many times, and says how the runs end\n\nUsage: cml explore [OPTIONS] <FILE>\n\nArguments:\n  <FILE>  \n\nOptions:\n      --runs <N>       How many runs, 1 to 1000000 [default: 100]\n      --seed <S>       The seed of the first run; each further one has the next [default: 0]\n      --steps <B>      How many steps each may take, 1 to 1000000000 [default: 1000000]\n      --workers <N>    How many workers make the runs, 1 to 64 [default: 1]\n      --turns          Draws the order of the threads' turns too\n      --priority <D>   Gives the turns by priorities, which are drawn and change at D - 1 points, 1 to 64\n      --save <PREFIX>  Saves the shortest schedule of each kind of end, as PREFIX-1.schedule and so on\n      --servers <F>    Lets threads that began with function F wait; may be given again\n      --until <WORD>   Stops at the first run of this kind: waits, fault or budget\n  -h, --help           Print help\n",
         errors: "",
         status: 0,
     },
@@ -226,6 +227,60 @@ For more information, try '--help'.
         status: 1,
     },
     Asked {
+        words: "explore x.cml --workers 0",
+        output: "",
+        errors: "error: invalid value '0' for '--workers <N>': 0 is not in 1..=64\n\nFor more information, try '--help'.\n",
+        status: 1,
+    },
+    Asked {
+        words: "explore x.cml --workers 65",
+        output: "",
+        errors: "error: invalid value '65' for '--workers <N>': 65 is not in 1..=64\n\nFor more information, try '--help'.\n",
+        status: 1,
+    },
+    Asked {
+        words: "explore x.cml --workers 64",
+        output: "",
+        errors: "cannot read x.cml\nx.cml: No such file or directory\n",
+        status: 1,
+    },
+    Asked {
+        words: "explore x.cml --priority 0",
+        output: "",
+        errors: "error: invalid value '0' for '--priority <D>': 0 is not in 1..=64\n\nFor more information, try '--help'.\n",
+        status: 1,
+    },
+    Asked {
+        words: "explore x.cml --priority 65",
+        output: "",
+        errors: "error: invalid value '65' for '--priority <D>': 65 is not in 1..=64\n\nFor more information, try '--help'.\n",
+        status: 1,
+    },
+    Asked {
+        words: "explore x.cml --priority 64 --workers 1",
+        output: "",
+        errors: "cannot read x.cml\nx.cml: No such file or directory\n",
+        status: 1,
+    },
+    Asked {
+        words: "explore x.cml --priority 3 --turns",
+        output: "",
+        errors: "--turns can't be used with --priority\n",
+        status: 1,
+    },
+    Asked {
+        words: "explore x.cml --turns --priority 3 --until red",
+        output: "",
+        errors: "--until takes waits, fault or budget\n",
+        status: 1,
+    },
+    Asked {
+        words: "explore x.cml --turns --priority 3 --seed 18446744073709551615",
+        output: "",
+        errors: "--turns can't be used with --priority\n",
+        status: 1,
+    },
+    Asked {
         words: "explore x-12.schedule --save x",
         output: "",
         errors: "--save would replace x-12.schedule\n",
@@ -275,6 +330,48 @@ const MORE_WORDS: &[Asked] = &[
         words: "draw x.cml y --from 2 --to 1",
         output: "",
         errors: "cannot read x.cml\nx.cml: No such file or directory\n",
+        status: 1,
+    },
+    Asked {
+        words: "step --help",
+        output: "Runs a script by hand: shows what can happen, and asks what does\n\nUsage: cml step [OPTIONS] <FILE>\n\nArguments:\n  <FILE>  \n\nOptions:\n      --record <FILE>  Saves the schedule of the run\n  -h, --help           Print help\n",
+        errors: "",
+        status: 0,
+    },
+    Asked {
+        words: "step x.cml --record x.cml",
+        output: "",
+        errors: "--record would replace x.cml\n",
+        status: 1,
+    },
+    Asked {
+        words: "step x.cml --record y",
+        output: "",
+        errors: "cannot read x.cml\nx.cml: No such file or directory\n",
+        status: 1,
+    },
+    Asked {
+        words: "run x.cml --draw x.cml",
+        output: "",
+        errors: "--draw would replace x.cml\n",
+        status: 1,
+    },
+    Asked {
+        words: "run x.cml --draw y --record y",
+        output: "",
+        errors: "--draw would replace y\n",
+        status: 1,
+    },
+    Asked {
+        words: "run x.cml --draw x.cml --record x.cml",
+        output: "",
+        errors: "--record would replace x.cml\n",
+        status: 1,
+    },
+    Asked {
+        words: "run x.cml --draw y --record z",
+        output: "",
+        errors: "cannot read x.cml\n",
         status: 1,
     },
     Asked {

@@ -235,3 +235,30 @@ next_does s what old new ends said is on moves = subst (λ x. DoneAt s x old end
 
 pub unknown_does : (s : ByHand) (what : Typed) (old new : Kept) (ends : Bool) (said : List ℕ) → what ≡ typed.Unknown → ends ≡ false → MovesSo s what old new said → DoneAt s what old ends new said
 unknown_does s what old new ends said is on moves = subst (λ x. DoneAt s x old ends new said) (sym is) (on, subst (λ x. MovesSo s x old new said) is moves)
+
+-- ---- what stays
+
+-- the program and the budget of a hub stay
+abbrev pub KeepsBoth : Kept → Kept → Type 0
+KeepsBoth old new = (new.course.program ≡ old.course.program) × (new.budget ≡ old.budget)
+
+pub same_keeps : (old new : Kept) → new ≡ old → KeepsBoth old new
+same_keeps old new same = (ap (λ (k : Kept). k.course.program) same, ap (λ (k : Kept). k.budget) same)
+
+named_keeps : (s : ByHand) (what : Typed) (o : Option Item) (old new : Kept) (said : List ℕ) → TakesNamed s what o old new said → KeepsBoth old new
+named_keeps s what (Some item) old new said happens = (happens.adds.program, happens.budget)
+named_keeps s what None old new said stays = same_keeps old new stays.same
+
+undo_keeps : (items : List Item) (s : ByHand) (old new : Kept) (said : List ℕ) → UndoesLast items s old new said → KeepsBoth old new
+undo_keeps [] s old new said stays = same_keeps old new stays.same
+undo_keeps (item ∷ items) s old new said undoes = (undoes.back.program, undoes.back.budget)
+
+pub done_keeps : (s : ByHand) (what : Typed) (old new : Kept) (ends : Bool) (said : List ℕ) → DoneAt s what old ends new said → KeepsBoth old new
+done_keeps s typed.Quit old new ends said done = same_keeps old new done.1
+done_keeps s typed.Undo old new ends said done = undo_keeps old.course.items s old new said done.1
+done_keeps s typed.Waits old new ends said done = let stays = done.1.2 in same_keeps old new stays.same
+done_keeps s (typed.List n) old new ends said done = let stays = done.1 in same_keeps old new stays.same
+done_keeps s (typed.Row n) old new ends said done = named_keeps s (typed.Row n) (item_typed old.course.world old.course.items (typed.Row n)) old new said done.1
+done_keeps s (typed.Turn t) old new ends said done = named_keeps s (typed.Turn t) (item_typed old.course.world old.course.items (typed.Turn t)) old new said done.1
+done_keeps s typed.Next old new ends said done = named_keeps s typed.Next (item_typed old.course.world old.course.items typed.Next) old new said done.1
+done_keeps s typed.Unknown old new ends said done = named_keeps s typed.Unknown (item_typed old.course.world old.course.items typed.Unknown) old new said done.1

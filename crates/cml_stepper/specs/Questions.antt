@@ -122,9 +122,13 @@ abbrev pub ended_text : List ℕ → List ℕ
 ended_text [] = codes "all threads have ended" ++ 10 ∷ []
 ended_text (b ∷ bytes) = b ∷ bytes
 
+-- what stands behind the number of the item that comes next; at the first item, how to learn what can be typed
+abbrev pub prompt_mark : ℕ → List ℕ
+prompt_mark n = if n == 1 then codes "? (? says what can be typed)" else codes "?"
+
 -- the number of the item that comes next
 abbrev pub prompt_line : PlainCourse → List ℕ
-prompt_line c = codes "item " ++ (decimal (length c.items + 1) ++ (codes "?" ++ 10 ∷ []))
+prompt_line c = let n = length c.items + 1 in codes "item " ++ (decimal n ++ (prompt_mark n ++ 10 ∷ []))
 
 -- this says how the run has ended
 abbrev pub TellsEnd : ByHand → Kept → List ℕ → Type 0

@@ -28,6 +28,9 @@ use cml_phrase::{Place, push_line, statement_place};
 use cml_scan::Meet;
 use std::alloc::{AllocError, Global};
 
+// What stands behind the number of the first item.
+const FIRST_MARK: &[u8] = b"? (? says what can be typed)";
+
 // Appends where a thread stands, if that is known.
 fn push_standing(alloc: Global, out: &mut Vec<u8>, place: Option<Place>) -> Result<(), AllocError>
     ensures { OnOk result (out.new.items ≡ out.old.items ++ spec.stands_words place) }
@@ -114,12 +117,19 @@ fn ended_words(alloc: Global, words: Vec<u8>) -> Result<Vec<u8>, AllocError>
     Ok(words)
 }
 
+// What stands behind the number of the item that comes next.
+fn prompt_mark(number: u64) -> &'static [u8]
+    ensures { result.now ≡ spec.prompt_mark number }
+{
+    if number == 1 { FIRST_MARK } else { b"?" }
+}
+
 /// Appends the number of the item that comes next in this hub.
 pub(crate) fn push_prompt(alloc: Global, out: &mut Vec<u8>, hub: &Hub) -> Result<(), AllocError>
     ensures { OnOk result (out.new.items ≡ out.old.items ++ spec.prompt_line hub.now.course) }
 {
     let next = hub.schedule().len() as u64 + 1;
-    push_numbered_line(alloc, out, b"item ", next, b"?")
+    push_numbered_line(alloc, out, b"item ", next, prompt_mark(next))
 }
 
 impl Stepper<'_> {

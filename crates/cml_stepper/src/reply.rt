@@ -383,6 +383,8 @@ impl Stepper<'_> {
         ensures none_out { NoneOut hub.new }
         ensures there { IfOk result (λ reply. FollowsTo hub.new.course self.new) }
         ensures script { script_of self.new ≡ script_of self.old }
+        ensures program { IfOk result (λ _. hub.new.course.program ≡ hub.old.course.program) }
+        ensures budget { IfOk result (λ _. hub.new.budget ≡ hub.old.budget) }
     {
         let what = typed_from(alloc, line)?;
         let reply = self.react(alloc, hub, what)?;

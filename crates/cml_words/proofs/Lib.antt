@@ -3,6 +3,6 @@ mod Answers
 mod Entered
 mod Filled
 mod Named
-pub mod Odds
+pub mod OddsLemmas
 mod Served
 mod Steps

@@ -17,7 +17,7 @@ use Rattle.clap.specs.declared.builder.value_parser.Reading.TheVariants.{AsWritt
 use Rattle.clap.specs.declared.builder.value_parser.ValueParser.TheVariants as vp
 use Rattle.clap.proofs.ValueTestLemmas.{Accepts-accepts, accepts-Accepts}
 use Rattle.clap.proofs.WalkLemmas.{both}
-use Rattle.cml_words.specs.Words.{any_rule, count_rule, file_rule, flag_rule, is_as_written, is_flagged, has_first_value, is_served, option_number, number_rule, runs_rule, workers_rule, IsCount, IsRuns, IsWorkers}
+use Rattle.cml_words.specs.Words.{any_rule, count_rule, depth_rule, file_rule, flag_rule, is_as_written, is_flagged, has_first_value, is_served, option_number, number_rule, runs_rule, workers_rule, IsCount, IsDepth, IsRuns, IsWorkers}
 
 pub as_written : (how : Reading) → is_as_written how ≡ true → how ≡ AsWritten
 as_written AsWritten plain = refl
@@ -140,6 +140,9 @@ workers_are_number given id served = ranged_is_number 1 64 (omega arith) given i
 pub runs_are_number : (given : List Row) (id : Text) → is_served given (runs_rule id) ≡ true → is_served given (any_rule id) ≡ true
 runs_are_number given id served = ranged_is_number 1 1000000 (omega arith) given id served
 
+pub depth_is_number : (given : List Row) (id : Text) → is_served given (depth_rule id) ≡ true → is_served given (any_rule id) ≡ true
+depth_is_number given id served = ranged_is_number 1 64 (omega arith) given id served
+
 -- and lies within them
 ranged : (least most : ℕ) (given : List Row) (id : Text) → is_served given (number_rule least most id) ≡ true → IfSome (option_number id given) (IsInRange least most)
 ranged least most given id served =
@@ -154,6 +157,9 @@ few given id served = ranged 1 64 given id served
 
 pub many : (given : List Row) (id : Text) → is_served given (runs_rule id) ≡ true → IfSome (option_number id given) IsRuns
 many given id served = ranged 1 1000000 given id served
+
+pub deep : (given : List Row) (id : Text) → is_served given (depth_rule id) ≡ true → IfSome (option_number id given) IsDepth
+deep given id served = ranged 1 64 given id served
 
 -- the number that `get_one` reads is the one that was given
 pub reads_number : (E : Type 0) (G : List ℕ → Result ℕ E → Type 0) (given : List Row) (id : Text) (r : Option ℕ) → is_served given (any_rule id) ≡ true

@@ -1,5 +1,5 @@
 -- What the arguments of the command line ask for, as clap reads them.
-use Rattle.std.specs.Prelude.{◌≡◌, ◌≢◌, ◌<◌, ◌+◌, ◌^◌, ◌⊎◌, ◌&&◌, if◌then◌else◌, ℕ, Bool, true, false, not, Option, Some, None, IfSome, IsSomeAnd, List, [], ◌∷◌, ◌++◌, codes, find, map, slice_get, option_map, unwrap_or}
+use Rattle.std.specs.Prelude.{◌≡◌, ◌≢◌, ◌<◌, ◌+◌, ◌^◌, ◌⊎◌, ◌&&◌, if◌then◌else◌, ℕ, Bool, true, false, not, Option, Some, None, IfSome, IsSomeAnd, List, [], ◌∷◌, ◌++◌, codes, find, is_some, map, slice_get, option_map, unwrap_or}
 use Rattle.std.specs.List.{list_all}
 use Rattle.std.specs.Int.{IsInRange}
 use Rattle.std.specs.Option.{option_map_or}
@@ -28,6 +28,7 @@ use Rattle.cml_words.specs.declared.PartOptions.{PartOptions}
 use Rattle.cml_words.specs.declared.ReplayOptions.{ReplayOptions}
 use Rattle.cml_words.specs.declared.RunOptions.{RunOptions}
 use Rattle.cml_words.specs.declared.ShrinkOptions.{ShrinkOptions}
+use Rattle.cml_words.specs.declared.StepOptions.{StepOptions}
 use Rattle.cml_words.specs.declared.TraceOptions.{TraceOptions}
 use Rattle.cml_words.specs.declared.Until.{Until}
 use Rattle.cml_words.specs.declared.Until.TheVariants.{Budget, Fault, Waits}
@@ -64,6 +65,10 @@ workers_rule = number_rule 1 64
 abbrev pub runs_rule : Text → Rule
 runs_rule = number_rule 1 1000000
 
+-- a depth of priorities, from 1 to 64
+abbrev pub depth_rule : Text → Rule
+depth_rule = number_rule 1 64
+
 -- a flag, `--name`
 abbrev pub flag_rule : Text → Rule
 flag_rule name = record (new_rule name) { long = Some name; action = Some SetTrue; parser = Some parser.Bool }
@@ -75,6 +80,10 @@ end_rules = flag_rule (codes "strict") ∷ list_rule (codes "servers") ∷ []
 -- the flags by which a command is asked to explain what is wrong, and not to
 abbrev pub explain_rules : List Rule
 explain_rules = flag_rule (codes "explain") ∷ flag_rule (codes "plain") ∷ []
+
+-- the options by which a command is told how the order of the turns comes about
+abbrev pub order_rules : List Rule
+order_rules = flag_rule (codes "turns") ∷ depth_rule (codes "priority") ∷ []
 
 -- the options by which a command is told what to make of many runs
 abbrev pub finding_rules : List Rule
@@ -93,7 +102,7 @@ file_command name = command_of name (file_rule (codes "FILE") ∷ explain_rules)
 
 abbrev pub run_command : Shape
 run_command = command_of (codes "run")
-    (file_rule (codes "FILE") ∷ workers_rule (codes "workers") ∷ count_rule (codes "steps") ∷ any_rule (codes "seed") ∷ count_rule (codes "watch") ∷ option_rule (codes "record") ∷ end_rules ++ explain_rules)
+    (file_rule (codes "FILE") ∷ workers_rule (codes "workers") ∷ count_rule (codes "steps") ∷ any_rule (codes "seed") ∷ count_rule (codes "watch") ∷ option_rule (codes "record") ∷ option_rule (codes "draw") ∷ end_rules ++ explain_rules)
 
 abbrev pub replay_command : Shape
 replay_command = command_of (codes "replay") (file_rule (codes "FILE") ∷ file_rule (codes "SCHEDULE") ∷ count_rule (codes "watch") ∷ end_rules ++ explain_rules)
@@ -104,10 +113,13 @@ part_command name = command_of name (file_rule (codes "FILE") ∷ file_rule (cod
 
 abbrev pub explore_command : Shape
 explore_command = command_of (codes "explore")
-    (file_rule (codes "FILE") ∷ runs_rule (codes "runs") ∷ any_rule (codes "seed") ∷ count_rule (codes "steps") ∷ flag_rule (codes "turns") ∷ finding_rules)
+    (file_rule (codes "FILE") ∷ runs_rule (codes "runs") ∷ any_rule (codes "seed") ∷ count_rule (codes "steps") ∷ workers_rule (codes "workers") ∷ order_rules ++ finding_rules)
 
 abbrev pub shrink_command : Shape
 shrink_command = command_of (codes "shrink") (file_rule (codes "FILE") ∷ file_rule (codes "SCHEDULE") ∷ count_rule (codes "tries") ∷ [])
+
+abbrev pub step_command : Shape
+step_command = command_of (codes "step") (file_rule (codes "FILE") ∷ option_rule (codes "record") ∷ [])
 
 -- the program, with its commands, of which one must be named
 abbrev pub commands : App
@@ -122,6 +134,7 @@ commands = record {
       ∷ explore_command
       ∷ shrink_command
       ∷ part_command (codes "draw")
+      ∷ step_command
       ∷ [];
 }
 
@@ -163,6 +176,9 @@ IsWorkers = IsInRange 1 64
 abbrev pub IsRuns : ℕ → Type 0
 IsRuns = IsInRange 1 1000000
 
+abbrev pub IsDepth : ℕ → Type 0
+IsDepth = IsInRange 1 64
+
 -- what the word of `--until` means, if anything
 abbrev pub until_named : Text → Option Until
 until_named word =
@@ -194,6 +210,7 @@ pub record IsRun (given : List Row) (options : RunOptions) : Type 0 where
   pub seed : options.seed ≡ option_number (codes "seed") given
   pub watch : options.watch ≡ option_number (codes "watch") given
   pub record_file : option_map (λ name. name.now) options.record ≡ first_of (codes "record") given
+  pub draw_file : option_map (λ name. name.now) options.draw ≡ first_of (codes "draw") given
   pub end : IsEnd given options.end
   pub explain : options.explain ≡ explanation given
   pub counts : IsWorkers options.workers × IsCount options.steps × IfSome options.watch IsCount
@@ -215,17 +232,20 @@ pub record IsPart (given : List Row) (options : PartOptions) : Type 0 where
   pub last : options.to ≡ option_number (codes "to") given
   pub counts : IsCount options.from × IfSome options.to IsCount
 
--- and those of `explore`; where no number of runs was, 100, where no seed was, 0, and where no number of steps was, 1,000,000
+-- and those of `explore`; where no number of runs was, 100, where no seed was, 0, where no number of steps was, 1,000,000, and where no number
+-- of workers was, one
 pub record IsExplore (given : List Row) (options : ExploreOptions) : Type 0 where
   pub script : first_of (codes "FILE") given ≡ Some options.script.now
   pub runs : options.runs ≡ unwrap_or (option_number (codes "runs") given) 100
   pub seed : options.seed ≡ unwrap_or (option_number (codes "seed") given) 0
   pub steps : options.steps ≡ unwrap_or (option_number (codes "steps") given) 1000000
+  pub workers : options.workers ≡ unwrap_or (option_number (codes "workers") given) 1
   pub turns : options.turns ≡ is_flagged (codes "turns") given
+  pub priority : options.priority ≡ option_number (codes "priority") given
   pub save : option_map (λ start. start.now) options.save ≡ first_of (codes "save") given
   pub servers : map (λ name. name.now) options.servers.items ≡ option_texts (codes "servers") given
   pub until : option_map (λ word. word.now) options.until ≡ first_of (codes "until") given
-  pub counts : IsRuns options.runs × IsCount options.steps
+  pub counts : IsRuns options.runs × IsCount options.steps × IsWorkers options.workers × IfSome options.priority IsDepth
 
 -- and those of `shrink`; where no number of replays was given, 10,000
 pub record IsShrink (given : List Row) (options : ShrinkOptions) : Type 0 where
@@ -233,6 +253,11 @@ pub record IsShrink (given : List Row) (options : ShrinkOptions) : Type 0 where
   pub schedule : first_of (codes "SCHEDULE") given ≡ Some options.schedule.now
   pub tries : options.tries ≡ unwrap_or (option_number (codes "tries") given) 10000
   pub counts : IsCount options.tries
+
+-- and those of `step`
+pub record IsStepping (given : List Row) (options : StepOptions) : Type 0 where
+  pub script : first_of (codes "FILE") given ≡ Some options.script.now
+  pub record_file : option_map (λ name. name.now) options.record ≡ first_of (codes "record") given
 
 -- The command that was named, with the values that it was given, is this one.
 abbrev pub Names : Text × List Row → Task → Type 0
@@ -245,6 +270,7 @@ Names (name, given) (task_of.Explain options) = (name ≡ codes "explain") × Is
 Names (name, given) (task_of.Explore options) = (name ≡ codes "explore") × IsExplore given options
 Names (name, given) (task_of.Shrink options) = (name ≡ codes "shrink") × IsShrink given options
 Names (name, given) (task_of.Draw options) = (name ≡ codes "draw") × IsPart given options
+Names (name, given) (task_of.Step options) = (name ≡ codes "step") × IsStepping given options
 
 -- ---- options at odds
 
@@ -266,13 +292,29 @@ ExplainsLive options = (options.live ≡ true) × (options.explain ≡ Asked)
 abbrev pub TraceOdds : TraceOptions → List ℕ → Type 0
 TraceOdds options told = ExplainsLive options × (told ≡ codes "--explain can't be used with --live\n")
 
--- the record of a run would replace its script
+-- the record of a run would replace its script, or its picture the script or the record
+abbrev pub record_of : RunOptions → Option Text
+record_of options = option_map (λ name. name.now) options.record
+
+abbrev pub drawn_to : RunOptions → Option Text
+drawn_to options = option_map (λ name. name.now) options.draw
+
+abbrev pub OverRecord : RunOptions → List ℕ → Type 0
+OverRecord options told = IsSomeAnd (record_of options) (λ name. ReplacedOdds (codes "--draw") (drawn_to options) name told)
+
+abbrev pub DrawnOdds : RunOptions → List ℕ → Type 0
+DrawnOdds options told = ReplacedOdds (codes "--draw") (drawn_to options) options.file.now told ⊎ OverRecord options told
+
 abbrev pub RunOdds : RunOptions → List ℕ → Type 0
-RunOdds options told = ReplacedOdds (codes "--record") (option_map (λ name. name.now) options.record) options.file.now told
+RunOdds options told = ReplacedOdds (codes "--record") (record_of options) options.file.now told ⊎ DrawnOdds options told
 
 -- the word of `--until` means nothing
 abbrev pub IsUnknown : Option Text → Type 0
 IsUnknown until = IsSomeAnd until (λ word. until_named word ≡ None)
+
+-- the order of the turns is to be drawn, and to come about by priorities
+abbrev pub OrdersTwice : Bool → Option ℕ → Type 0
+OrdersTwice turns priority = (turns ≡ true) × (is_some priority ≡ true)
 
 -- the last of so many runs, the first of which has this seed, would have one that is larger than the last seed, 2^64 - 1
 abbrev pub PassesTheLast : ℕ → ℕ → Type 0
@@ -289,18 +331,25 @@ saved_name start digits = start ++ saved_end digits
 abbrev pub SavesOver : Text → Text → Type 0
 SavesOver start name = (digits : List ℕ) × (list_all is_ascii_digit digits ≡ true) × (name ≡ saved_name start digits)
 
--- the word of `--until` means nothing, there are fewer seeds than runs, or a file that is saved would replace the script
+-- the word of `--until` means nothing, the order of the turns is asked for in two ways, there are fewer seeds than runs, or a file that is
+-- saved would replace the script
 abbrev pub ExploreOdds : ExploreOptions → List ℕ → Type 0
 ExploreOdds options told =
     (IsUnknown (option_map (λ word. word.now) options.until) × (told ≡ codes "--until takes waits, fault or budget\n"))
+    ⊎ (OrdersTwice options.turns options.priority × (told ≡ codes "--turns can't be used with --priority\n"))
     ⊎ (PassesTheLast options.seed options.runs × (told ≡ codes "--runs goes past the last seed, 18446744073709551615\n"))
     ⊎ (IsSomeAnd options.save (λ start. SavesOver start.now options.script.now) × (told ≡ would_replace (codes "--save") options.script.now))
+
+-- the record of a run by hand would replace its script
+abbrev pub StepOdds : StepOptions → List ℕ → Type 0
+StepOdds options told = ReplacedOdds (codes "--record") (option_map (λ name. name.now) options.record) options.script.now told
 
 -- the options of the command are at odds, and this says so
 abbrev pub AreAtOdds : Task → List ℕ → Type 0
 AreAtOdds (task_of.Trace options) told = TraceOdds options told
 AreAtOdds (task_of.Run options) told = RunOdds options told
 AreAtOdds (task_of.Explore options) told = ExploreOdds options told
+AreAtOdds (task_of.Step options) told = StepOdds options told
 AreAtOdds _ told = ⊥
 
 -- clap finds no error in the arguments, and they name this command
@@ -327,9 +376,14 @@ with_explain command = record command { rules = command.rules ++ explain_rules }
 abbrev pub with_end : Shape → Shape
 with_end command = record command { rules = command.rules ++ end_rules }
 
--- the program, with the commands that make runs again and again, or draw one
+-- the program, with the commands that make a run again and again, or by hand
 abbrev pub with_others : App → App
-with_others app = with_subcommand (with_subcommand (with_subcommand app explore_command) shrink_command) (part_command (codes "draw"))
+with_others app =
+    with_subcommand (with_subcommand (with_subcommand (with_subcommand app explore_command) shrink_command) (part_command (codes "draw"))) step_command
+
+-- and how the order of the turns comes about
+abbrev pub with_order : Shape → Shape
+with_order command = record command { rules = command.rules ++ order_rules }
 
 -- and what is made of many runs
 abbrev pub with_finding : Shape → Shape

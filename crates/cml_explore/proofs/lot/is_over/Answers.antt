@@ -1,5 +1,5 @@
 use Rattle.cml_hub.specs.Courses.{run_of}
-use Rattle.cml_explore.proofs.LotLemmas.{quiet_over, budget_over, partial_over}
+use Rattle.cml_explore.proofs.DrawLemmas.{quiet_over, budget_over, partial_over}
 use Rattle.cml_explore.proofs.lot.is_over.Goals as goal
 
 pub returns-in-Quiet : goal.returns-in-Quiet

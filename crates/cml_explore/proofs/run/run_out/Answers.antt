@@ -8,6 +8,8 @@ pub returns-in-Ok : goal.returns-in-Ok
 returns-in-Ok c = record {
   program = c.run_alone-ended.ensures.more.program;
   budget_is = c.run_alone-ended.ensures.more.budget;
-  last = c.run_alone-ended.new.chooser;
-  plays = subst (λ (s : Lcg). PlaysOut by_generator c.args.hub s c.run_alone-ended.new.self c.run_alone-ended.new.chooser) c.new-chooser.ensures c.in-Ok.ensures.plays;
+  plays = (
+    c.run_alone-ended.new.chooser,
+    subst (λ (s : Lcg). PlaysOut by_generator c.args.hub s c.run_alone-ended.new.self c.run_alone-ended.new.chooser) c.new-chooser.ensures c.in-Ok.ensures.plays,
+  );
 }

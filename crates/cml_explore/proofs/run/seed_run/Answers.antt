@@ -1,6 +1,6 @@
-use Rattle.cml_explore.proofs.RunLemmas.{ran_out_ok}
+use Rattle.cml_explore.proofs.RunLemmas.{seed_ran}
 use Rattle.cml_explore.proofs.run.seed_run.Goals as goal
 
-pub returns-in-Ok : goal.returns-in-Ok
-returns-in-Ok c =
-    ran_out_ok c.run_so.result c.in_ok-copy.copy c.args.program.now c.args.budget c.args.turns c.args.seed c.in-Ok.hub c.in_ok-copy.ensures c.in-Ok.ensures.ok c.schedule-so_far.ensures.leads c.run_so.ensures
+pub returns : goal.returns
+returns c =
+    seed_ran c.run_within.result c.args.program.now c.args.budget c.args.order c.args.seed c.in_ok-span.span c.in_ok-span.ensures.span c.run_within.ensures

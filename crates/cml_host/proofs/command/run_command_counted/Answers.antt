@@ -1,9 +1,9 @@
 use Rattle.std.proofs.Common.{rules, ◌∙◌, ap, subst, map, inl, refl}
 use Rattle.std.specs.String.{string_bytes}
-use Rattle.cml_words.specs.declared.Task.TheVariants.{Trace, Check, Fmt, Run, Replay, Explain, Explore, Shrink, Draw}
+use Rattle.cml_words.specs.declared.Task.TheVariants.{Trace, Check, Fmt, Run, Replay, Explain, Explore, Shrink, Draw, Step}
 use Rattle.cml_words.specs.declared.Answer.TheVariants as answer
 use Rattle.cml_words.specs.Words.{IsAnswer}
-use Rattle.cml_host.proofs.CountLemmas.{counted, explore_counted, explore_seeds, watch_counted}
+use Rattle.cml_host.proofs.CountLemmas.{counted, explore_counted, explore_depth, explore_seeds, watch_counted}
 use Rattle.cml_host.proofs.command.run_command_counted.Goals as goal
 
 pub run_file-requires-clause-counts : goal.run_file-requires-clause-counts
@@ -100,6 +100,12 @@ explore_file-requires-clause-counts g c =
     let is = c.in-Ok-Task-Explore.field-0-is ∙ ap answer.Task c.in-Ok-Task-Explore.field-0-0-is in
     explore_counted words c.in-Ok-Task-Explore.options (subst (IsAnswer words) is c.in-Ok-Task-Explore.ensures)
 
+pub explore_file-requires-clause-depth : goal.explore_file-requires-clause-depth
+explore_file-requires-clause-depth g c =
+    let words = map string_bytes c.args.words.now in
+    let is = c.in-Ok-Task-Explore.field-0-is ∙ ap answer.Task c.in-Ok-Task-Explore.field-0-0-is in
+    explore_depth words c.in-Ok-Task-Explore.options (subst (IsAnswer words) is c.in-Ok-Task-Explore.ensures)
+
 pub explore_file-requires-clause-seeds : goal.explore_file-requires-clause-seeds
 explore_file-requires-clause-seeds g c =
     let words = map string_bytes c.args.words.now in
@@ -135,3 +141,9 @@ returns-in-Ok-Task-Draw-clause-ran g c =
       subst (IsAnswer words) is c.in-Ok-Task-Draw.ensures,
       (c.draw_file.ensures.ran, (search rules, c.requires.reads.0, c.requires.reads.1), c.draw_file.ensures.same),
     )
+
+pub returns-in-Ok-Task-Step-clause-ran : goal.returns-in-Ok-Task-Step-clause-ran
+returns-in-Ok-Task-Step-clause-ran g c =
+    let words = map string_bytes c.args.words.now in
+    let is = c.in-Ok-Task-Step.field-0-is ∙ ap answer.Task c.in-Ok-Task-Step.field-0-0-is in
+    inl (answer.Task (Step c.in-Ok-Task-Step.options), subst (IsAnswer words) is c.in-Ok-Task-Step.ensures, c.step_file.ensures.ran)

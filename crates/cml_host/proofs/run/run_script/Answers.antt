@@ -1,9 +1,11 @@
 use Rattle.std.proofs.Common.{◌≡◌, ◌∙◌, Bor, List, ℕ, None, ap, map, subst}
 use Rattle.cml_stream.specs.Streams.{counted_stream}
-use Rattle.cml_host.specs.Closed.{plain_asked}
+use Rattle.cml_host.specs.Closed.{drawn_subject, plain_asked}
+use Rattle.cml_host.specs.Running.{plain_saving}
 use Rattle.cml_host.specs.Scripts.{plain_script}
 use Rattle.cml_host.specs.Servers.{first_unknown, server_numbers}
 use Rattle.cml_host.specs.Stores.{Shelf}
+use Rattle.cml_host.proofs.PictureLemmas.{saving_asked}
 use Rattle.cml_host.proofs.RanLemmas.{opened_ran}
 use Rattle.cml_host.proofs.run.run_script.Goals as goal
 
@@ -13,7 +15,11 @@ returns-in-Ok-clause-ran g c =
     let errors = counted_stream (g.E.Write.contents c.args.err.now.stream.now) (g.E.Write.contents c.run_program.new.err.stream.now) c.run_program.new.err.calls c.run_program.new.err.failed in
     let store : Shelf = record { before = g.S.Store.holds c.args.store.now; after = g.S.Store.holds c.run_program.new.store } in
     let s = plain_script c.args.script in
-    opened_ran c.args.explains s c.args.options.now c.in-Ok.servers.items (plain_asked c.ask-program.result.1) c.ask-program.result.0 output errors store c.run_program.result
+    let saving = plain_saving c.saving_for-saving.result in
+    opened_ran c.args.explains s c.args.options.now c.in-Ok.servers.items (plain_asked c.ask-program.result.1) saving c.ask-program.result.0 output errors store c.run_program.result
     (subst (λ (ns : List (Bor (List ℕ))). first_unknown s (map (λ name. name.now) ns) ≡ None) c.as_slice.ensures.value c.in-Ok.ensures.known)
     (c.in-Ok.ensures.found ∙ ap (λ (ns : List (Bor (List ℕ))). server_numbers s (map (λ name. name.now) ns)) c.as_slice.ensures.value)
-    c.ask-program.ensures.program c.ask-program.ensures.asked c.run_program.ensures.ran
+    c.ask-program.ensures.program c.ask-program.ensures.asked
+    (c.saving_for-saving.ensures
+    ∙ saving_asked c.args.options.now c.args.explains c.is_some-draws.result s (drawn_subject c.ask-program.result.1) c.is_some-draws.ensures c.ask-program.ensures.kept)
+    c.run_program.ensures.ran

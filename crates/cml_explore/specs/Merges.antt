@@ -1,0 +1,103 @@
+-- The classes of runs that were made in parts, side by side.
+use Rattle.std.specs.Prelude.{ℕ, ◌≡◌, ◌+◌, ◌*◌, ◌-◌, ◌<◌, ◌≤◌, ◌^◌, min, Bool, true, false, ◌&&◌, if◌then◌else◌, List, [], ◌∷◌, ◌++◌, Result, Ok, IfOk, length, slice_index_or, sum_by}
+use Rattle.std.specs.List.{fold, list_any}
+use Rattle.std.specs.declared.alloc.AllocError.{AllocError}
+use Rattle.cml_check.specs.Syntax.{PlainItem}
+use Rattle.cml_explore.specs.declared.explored.Asked.{Asked}
+use Rattle.cml_explore.specs.declared.share.Part.{Part}
+use Rattle.cml_explore.specs.declared.share.Round.{Round}
+use Rattle.cml_explore.specs.Details.{alike}
+use Rattle.cml_explore.specs.Classes.{PlainTally, PlainClass, with_digest, shorter}
+use Rattle.cml_explore.specs.Finishes.{PlainEnded, stops, EachEnds}
+use Rattle.cml_explore.specs.Explored.{PlainExplored, SoFar, gathered}
+
+-- ---- what private functions say
+
+-- what is kept of the runs of a class, where those of the second part came later
+abbrev pub both_tallies : PlainTally → PlainTally → PlainTally
+both_tallies t u = record t { runs = t.runs + u.runs; outputs = fold with_digest t.outputs u.outputs; shortest = shorter t.shortest u.shortest }
+
+-- the same of a class by itself
+abbrev pub tally_alone : PlainTally → PlainTally
+tally_alone t = record t { outputs = fold with_digest [] t.outputs }
+
+-- A class of a later part joins the class of those that ended alike; where there is none, it comes last.
+abbrev pub class_joined : List PlainClass → PlainClass → List PlainClass
+class_joined [] d = record d { tally = tally_alone d.tally } ∷ []
+class_joined (c ∷ cs) d = if alike d.details c.details then record c { tally = both_tallies c.tally d.tally } ∷ cs else c ∷ class_joined cs d
+
+-- the classes of two parts, of which the second came later
+abbrev pub classes_merged : List PlainClass → List PlainClass → List PlainClass
+classes_merged cs ds = fold class_joined cs ds
+
+-- the same of all that is kept
+abbrev pub parts_merged : PlainExplored → PlainExplored → PlainExplored
+parts_merged one other = record {
+  classes = classes_merged one.classes other.classes;
+  runs = one.runs + other.runs;
+  well = one.well && other.well;
+}
+
+-- how many runs the classes have
+abbrev pub runs_of : List PlainClass → ℕ
+runs_of cs = sum_by (λ c. c.tally.runs) cs
+
+-- the runs of both can be counted
+pub record FitBeside (one other : PlainExplored) : Type 0 where
+  pub runs : one.runs + other.runs < 2 ^ 64
+  pub classes : runs_of one.classes + runs_of other.classes < 2 ^ 64
+
+-- Runs by one seed after another, of which the last alone is one at which to stop.
+pub record StopsLast (p : List (PlainItem ℕ)) (asked : Asked) (made : PlainExplored) : Type 0 where
+  pub before : List PlainEnded
+  pub last : PlainEnded
+  pub each : EachEnds p asked.budget asked.order asked.servers.now asked.first (before ++ last ∷ [])
+  pub none : list_any (stops asked.until) before ≡ false
+  pub stops_there : stops asked.until last ≡ true
+  pub few : made.runs ≤ asked.runs
+  pub gathered_so : made ≡ gathered asked.first (before ++ last ∷ [])
+
+-- All runs that were asked for, none of which is one at which to stop; or those up to the first of these.
+abbrev pub HasPart : List (PlainItem ℕ) → Asked → Bool → PlainExplored → Type 0
+HasPart p asked true made = StopsLast p asked made
+HasPart p asked false made = SoFar p asked made × (made.runs ≡ asked.runs)
+
+-- how many runs of a round come before the part of this number
+abbrev pub runs_before : Round → ℕ → ℕ
+runs_before round k = k * round.size
+
+-- What is asked of the part of this number: the seeds that follow those of the parts before it, a part's size of them, or as many as are left.
+abbrev pub part_asked : Asked → Round → ℕ → Asked
+part_asked asked round k = record asked { first = round.first + runs_before round k; runs = min round.size (round.left - runs_before round k) }
+
+-- so many parts are in the round, each of which has a run at least
+abbrev pub AreInside : Round → ℕ → Type 0
+AreInside round count = (k : ℕ) → k < count → runs_before round k < round.left
+
+-- what the parts made, by number
+abbrev pub AreParts : List (PlainItem ℕ) → Asked → Round → ℕ → List (Result Part AllocError) → Type 0
+AreParts p asked round count parts =
+    (k : ℕ) (d : Result Part AllocError) → k < count → IfOk (slice_index_or parts k d) (λ part. HasPart p (part_asked asked round k) part.stopped part.made)
+
+-- the round goes on behind what was made
+pub record IsRound (asked : Asked) (made : PlainExplored) (round : Round) : Type 0 where
+  pub first : round.first ≡ asked.first + made.runs
+  pub left : made.runs + round.left ≡ asked.runs
+  pub size : 0 < round.size
+
+-- the part was made, and this is what it comes to with what was made before
+pub record JoinsPart (part : Result Part AllocError) (old new : PlainExplored) (stopped : Bool) : Type 0 where
+  pub made : Part
+  pub made_so : part ≡ Ok made
+  pub merged : new ≡ parts_merged old made.made
+  pub stopped_so : stopped ≡ made.stopped
+
+-- So many of the parts of a round have come behind what was made before it, and none has a run at which to stop.
+pub record IsAmidRound (p : List (PlainItem ℕ)) (asked : Asked) (so_far : PlainExplored) (count : ℕ) (parts : List (Result Part AllocError)) (k : ℕ) (made : PlainExplored) : Type 0 where
+  pub round : Round
+  pub is : IsRound asked so_far round
+  pub inside : AreInside round count
+  pub are : AreParts p asked round count parts
+  pub long : length parts ≡ count
+  pub here : SoFar p asked made
+  pub many : made.runs ≡ so_far.runs + min (runs_before round k) round.left

@@ -1,0 +1,121 @@
+-- The picture of the run of a hub: its items lead on from the beginning, so each of them can happen.
+use Rattle.std.proofs.Common.{◌≡◌, ◌∙◌, ◌++◌, [], ◌∷◌, ℕ, Bool, true, false, List, Option, Some, None, length, take, option_map, is_some, ap, Bor, refl, subst, sym, true≢false}
+use Rattle.std.proofs.Math.Seq.{take-length}
+use Rattle.cml_check.specs.Syntax.{PlainItem}
+use Rattle.cml_draw.specs.Draws.{HasUnfit, IsNotDrawn, ItemsLead}
+use Rattle.cml_draw.specs.declared.fault.DrawFault.{DrawFault}
+use Rattle.cml_draw.specs.declared.fault.DrawFault.TheVariants as fault
+use Rattle.cml_hub.specs.Courses.{PlainCourse, run_of}
+use Rattle.cml_hub.specs.Kept.{Kept, IsAtStart}
+use Rattle.cml_hub.specs.Runs.{Run, advance, is_allowed, opening, stands, stands_from}
+use Rattle.cml_narrative.specs.Tales.{Tale}
+use Rattle.cml_schedule.specs.declared.item.Item.{Item}
+use Rattle.cml_step.specs.Calls.{text_of}
+use Rattle.cml_step.specs.Terms.{Program}
+use Rattle.cml_words.specs.declared.RunOptions.{RunOptions}
+use Rattle.cml_host.specs.Closed.{PlainSubject, kept_of, script_as_subject}
+use Rattle.cml_host.specs.Drawn.{AllDrawn}
+use Rattle.cml_host.specs.Narrated.{Opens}
+use Rattle.cml_host.specs.Running.{PlainSaving, PlainWanted, IsPictureFor, IsRunDrawn, IsSayable, names_saved, saving_of, wanted_of}
+use Rattle.cml_host.specs.Scripts.{PlainScript}
+use Rattle.cml_host.specs.declared.picture.Picture.{Picture}
+use Rattle.cml_host.specs.declared.picture.Picture.TheVariants as drawing
+use Rattle.cml_host.proofs.RanLemmas.{starts_itself}
+
+-- ---- no item is unfit
+
+-- behind an item that is not allowed nothing leads anywhere
+leads_nowhere : (p : Program) (items : List Item) → stands_from p None items ≡ None
+leads_nowhere p [] = refl
+leads_nowhere p (item ∷ items) = leads_nowhere p items
+
+held_up : (p : Program) (r : Run) (item : Item) (rest : List Item) → is_allowed r.world item ≡ false → stands_from p (Some r) (item ∷ rest) ≡ None
+held_up p r item rest refused = ap (λ (o : Option Run). stands_from p o rest) none ∙ leads_nowhere p rest
+  where
+    none : advance p r item ≡ None
+    none = rw refused refl
+
+unfit_nowhere : (p : Program) (c : PlainCourse) (done : List Item) (item : Item) (rest : List Item) (end : PlainCourse) → text_of c.program ≡ p →
+    ItemsLead c done end → is_allowed end.world item ≡ false → stands_from p (Some (run_of c)) (done ++ item ∷ rest) ≡ None
+unfit_nowhere p c [] item rest end same leads refused =
+    held_up p (run_of c) item rest (ap (λ (d : PlainCourse). is_allowed d.world item) (sym leads) ∙ refused)
+unfit_nowhere p c (first ∷ done) item rest end same (next, adds, leads) refused =
+    let one : advance p (run_of c) first ≡ Some (run_of next) = subst (λ (q : Program). advance q (run_of c) first ≡ Some (run_of next)) same adds.run in
+    let then : text_of next.program ≡ p = ap text_of adds.program ∙ same in
+    ap (λ (o : Option Run). stands_from p o (done ++ item ∷ rest)) one ∙ unfit_nowhere p next done item rest end then leads refused
+
+-- where the run of a program stands at its beginning
+begins_at : (p : List (PlainItem ℕ)) (budget : ℕ) (h : Kept) → Opens p budget h → Some (opening (text_of p)) ≡ Some (run_of h.course)
+begins_at p budget h opens =
+    subst (λ (q : List (PlainItem ℕ)). stands (text_of q) [] ≡ Some (run_of h.course)) opens.start.program
+    (subst (λ (items : List Item). stands (text_of h.course.program) items ≡ Some (run_of h.course)) opens.start.items opens.leads)
+
+some_not_none : (A : Type 0) (o : Option A) → is_some o ≡ true → o ≡ None → ⊥
+some_not_none A o some none = true≢false (sym some ∙ ap is_some none)
+
+-- where all items lead somewhere, none of them is unfit
+pub no_unfit : (budget : ℕ) (h : Kept) (items : List Item) (number : ℕ) (end : PlainCourse) → Opens h.course.program budget h →
+    is_some (stands (text_of h.course.program) items) ≡ true → HasUnfit h.course (take (length items) items) number end → ⊥
+no_unfit budget h items number end opens leads unfit =
+    let p = text_of h.course.program in
+    let split : items ≡ unfit.done ++ unfit.item ∷ unfit.rest = sym (take-length items) ∙ unfit.split in
+    let from : stands p items ≡ stands_from p (Some (run_of h.course)) items = ap (λ (o : Option Run). stands_from p o items) (begins_at h.course.program budget h opens) in
+    let nowhere = unfit_nowhere p h.course unfit.done unfit.item unfit.rest end refl unfit.leads unfit.refused in
+    some_not_none Run (stands p items) leads (from ∙ ap (stands_from p (Some (run_of h.course))) split ∙ nowhere)
+
+-- so a picture does not fail for an item
+pub no_bad_item : (tale : Tale) (budget : ℕ) (h : Kept) (items : List Item) (to number : ℕ) (end : PlainCourse) (why : DrawFault) → Opens h.course.program budget h →
+    is_some (stands (text_of h.course.program) items) ≡ true → to ≡ length items → why ≡ fault.BadItem number → IsNotDrawn tale h.course items 1 to end why → ⊥
+no_bad_item tale budget h items to number end why opens leads all is not =
+    no_unfit budget h items number end opens leads
+    (subst (λ (n : ℕ). IsNotDrawn tale h.course items 1 n end (fault.BadItem number)) all (subst (λ (w : DrawFault). IsNotDrawn tale h.course items 1 to end w) is not))
+
+-- ---- the hub that begins again
+
+-- it is one of its own program
+pub opens_itself : (p : List (PlainItem ℕ)) (budget : ℕ) (h : Kept) → Opens p budget h → Opens h.course.program h.budget h
+opens_itself p budget h opens =
+    record {
+      start = subst (λ (b : ℕ). IsAtStart h.course.program b None h) (sym opens.start.budget_is) (starts_itself p budget None h opens.start);
+      leads = opens.leads;
+    }
+
+pub leads_again : (p : List (PlainItem ℕ)) (budget : ℕ) (h : Kept) (items : List Item) (r : Run) → Opens p budget h → stands (text_of p) items ≡ Some r →
+    is_some (stands (text_of h.course.program) items) ≡ true
+leads_again p budget h items r opens leads =
+    ap is_some (ap (λ (q : List (PlainItem ℕ)). stands (text_of q) items) opens.start.program ∙ leads)
+
+-- what it draws is the picture of the run
+pub run_drawn : (s : PlainSubject) (h again : Kept) (end : PlainCourse) (items : List Item) (drawn : Option (List ℕ)) → items ≡ h.course.items →
+    Opens h.course.program h.budget again → AllDrawn s again.course items end drawn → IsRunDrawn s h drawn
+run_drawn s h again end items (Some picture) same opens all =
+    (again, opens, (end, subst (λ (xs : List Item). AllDrawn s again.course xs end (Some picture)) same all))
+run_drawn s h again end items None same opens all =
+    (again, opens, (end, subst (λ (xs : List Item). AllDrawn s again.course xs end None) same all))
+
+-- ---- what is asked for, and what is said
+
+pub sayable : (wanted : Option PlainWanted) (h : Kept) (made : Picture) → IsPictureFor wanted h made → IsSayable made
+sayable None h drawing.Unasked is = tt
+sayable None h (drawing.Drawn name made) is = absurd is
+sayable None h drawing.TooMany is = tt
+sayable (Some w) h drawing.Unasked is = tt
+sayable (Some w) h (drawing.Drawn name made) is = is.2
+sayable (Some w) h drawing.TooMany is = tt
+
+kept_so : (explains : Bool) (s : PlainSubject) → kept_of explains true s ≡ Some s
+kept_so true s = refl
+kept_so false s = refl
+
+-- what the arguments ask to be saved
+pub saving_asked : (options : RunOptions) (explains draws : Bool) (s : PlainScript) (kept : Option PlainSubject) →
+    draws ≡ is_some options.draw → kept ≡ kept_of explains draws (script_as_subject options.file.now s) →
+    names_saved (option_map (λ name. name.now) options.record) (option_map (λ name. name.now) options.draw) kept ≡ saving_of options s
+saving_asked options explains draws s kept asks is = ap (λ (w : Option PlainWanted). record { schedule = option_map (λ name. name.now) options.record; picture = w }) (go options.draw asks)
+  where
+    go : (o : Option (Bor (List ℕ))) → draws ≡ is_some o →
+        wanted_of (option_map (λ name. name.now) o) kept ≡ option_map (λ name. record { name = name.now; subject = script_as_subject options.file.now s }) o
+    go None off = refl
+    go (Some name) on =
+        ap (wanted_of (Some name.now)) (is ∙ (ap (λ (b : Bool). kept_of explains b (script_as_subject options.file.now s)) on
+        ∙ kept_so explains (script_as_subject options.file.now s)))

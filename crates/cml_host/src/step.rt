@@ -1,0 +1,375 @@
+//! The command `step`: a run that is gone through by hand.
+
+ghost use Rattle.std.specs.Prelude.{◌≡◌, ◌≤◌, ◌∷◌, [], IfOk, IfErr, OnOk, OnErr, IsTrue, None, Some, option_map};
+ghost use Rattle.cml_check.specs.Sizes.{size_of};
+ghost use Rattle.cml_host.specs.Closed.{plain_subject};
+ghost use Rattle.cml_host.specs.Scripts.{plain_script};
+ghost use Rattle.cml_host.specs.Stepped as spec;
+ghost use Rattle.cml_host.specs.Stepped.{HasTalkCause, HubStepped, IsAnsweredBy, IsHeld, IsNotHeld, IsAtHand, IsTurnLost, IsTurnTaken, IsUnanswered, SavedRan, ScriptStepped, StepRan, TalkIsCut, by_hand};
+ghost use Rattle.cml_host.specs.Stores.{Shelf};
+ghost use Rattle.cml_hub.specs.Courses.{run_of};
+ghost use Rattle.cml_hub.specs.Kept.{IsAtStart, NoneOut};
+ghost use Rattle.cml_hub.specs.Runs.{stands};
+ghost use Rattle.cml_schedule.specs.Written.{schedule_text};
+ghost use Rattle.cml_step.specs.Calls.{text_of};
+ghost use Rattle.cml_stepper.specs.Hands.{script_of, FollowsTo};
+ghost use Rattle.cml_stream.specs.Counts.{Calls, counted};
+ghost use Rattle.cml_stream.specs.Streams.{Stream, counted_stream, stream, IsSpent, Supplies, Takes, TakesStart};
+ghost use Rattle.cml_trace.specs.Faults.{IsWriteFailure};
+ghost use Rattle.cml_trace.specs.Live.{max_turns, HasTurnCause, IsFlushed};
+
+use crate::close::{Subject, subject_of};
+use crate::output::say;
+use crate::run::{make_record, save_record};
+use crate::said::refuse;
+use crate::script::{Script, open_script};
+use crate::store::Store;
+use crate::tell::let_go;
+use crate::trace::{fault_line, fault_status};
+use cml_hub::Hub;
+use cml_stepper::Stepper;
+use cml_stream::Counting;
+use cml_stream::input_output::{WriteFault, write_out};
+use cml_trace::{MAX_TURNS, TraceFault};
+use cml_words::StepOptions;
+use std::alloc::{AllocError, Global};
+use std::io::{ErrorKind, Read, Write};
+
+// How many steps the run may take by the schedule that is saved.
+const STEPS: u64 = 1_000_000;
+
+/// Goes through a run of the script that lies under its name, by hand: each question is written and flushed, and a line is read and answered,
+/// up to the one that ends it or the end of the input. Nothing behind that line is read. Then the schedule is saved, where that is asked for.
+pub fn step_file<I: Read, O: Write, E: Write, S: Store>(
+    alloc: Global,
+    options: &StepOptions<'_>,
+    input: &mut Counting<'_, I>,
+    out: &mut Counting<'_, O>,
+    err: &mut Counting<'_, E>,
+    store: &mut S,
+) -> u8
+    requires given { (input.old.calls ≡ 0) × (input.old.failed ≡ 0) }
+    requires fresh { (out.old.calls ≡ 0) × (out.old.failed ≡ 0) × (err.old.calls ≡ 0) × (err.old.failed ≡ 0) }
+    ensures ran { let given = counted_stream (I.remaining input.old.stream.now) (I.remaining input.new.stream.now) input.new.calls input.new.failed in
+        let output = counted_stream (O.contents out.old.stream.now) (O.contents out.new.stream.now) out.new.calls out.new.failed in
+        let errors = counted_stream (E.contents err.old.stream.now) (E.contents err.new.stream.now) err.new.calls err.new.failed in
+        let shelf : Shelf = record { before = S.holds store.old; after = S.holds store.new } in
+        StepRan options.now given output errors shelf result }
+    ensures most { input.new.calls ≤ max_turns }
+    ensures same_in { input.new.stream.ghost_name ≡ input.old.stream.ghost_name }
+    ensures same_out { out.new.stream.ghost_name ≡ out.old.stream.ghost_name }
+    ensures same_err { err.new.stream.ghost_name ≡ err.old.stream.ghost_name }
+{
+    match open_script(alloc, options.script, true, store) {
+        Ok(script) => step_script(alloc, script, options, input, out, err, store),
+        Err(why) => refuse(alloc, options.script, true, why, 2, err),
+    }
+}
+
+// Goes through a run of the script by hand.
+fn step_script<I: Read, O: Write, E: Write, S: Store>(
+    alloc: Global,
+    script: Script,
+    options: &StepOptions<'_>,
+    input: &mut Counting<'_, I>,
+    out: &mut Counting<'_, O>,
+    err: &mut Counting<'_, E>,
+    store: &mut S,
+) -> u8
+    requires given { (input.old.calls ≡ 0) × (input.old.failed ≡ 0) }
+    requires fresh { (out.old.calls ≡ 0) × (out.old.failed ≡ 0) × (err.old.calls ≡ 0) × (err.old.failed ≡ 0) }
+    ensures ran { let given = counted_stream (I.remaining input.old.stream.now) (I.remaining input.new.stream.now) input.new.calls input.new.failed in
+        let output = counted_stream (O.contents out.old.stream.now) (O.contents out.new.stream.now) out.new.calls out.new.failed in
+        let errors = counted_stream (E.contents err.old.stream.now) (E.contents err.new.stream.now) err.new.calls err.new.failed in
+        let shelf : Shelf = record { before = S.holds store.old; after = S.holds store.new } in
+        ScriptStepped options.now (plain_script script) given output errors shelf result }
+    ensures most { input.new.calls ≤ max_turns }
+    ensures same_in { input.new.stream.ghost_name ≡ input.old.stream.ghost_name }
+    ensures same_out { out.new.stream.ghost_name ≡ out.old.stream.ghost_name }
+    ensures same_err { err.new.stream.ghost_name ≡ err.old.stream.ghost_name }
+{
+    let (program, subject) = subject_of(options.script, script);
+    match Hub::begin(alloc, program, STEPS, None) {
+        Ok(mut hub) => {
+            let record = options.record;
+            let status = step_hub(alloc, &mut hub, &subject, record, input, out, err, store);
+            let_go(hub);
+            status
+        }
+        Err(back) => {
+            drop(back.value);
+            say(err, b"memory\n");
+            5
+        }
+    }
+}
+
+// Goes through the run of the hub by hand, and saves its schedule, where that is asked for.
+fn step_hub<I: Read, O: Write, E: Write, S: Store>(
+    alloc: Global,
+    hub: &mut Hub,
+    subject: &Subject<'_>,
+    save_as: Option<&str>,
+    input: &mut Counting<'_, I>,
+    out: &mut Counting<'_, O>,
+    err: &mut Counting<'_, E>,
+    store: &mut S,
+) -> u8
+    requires start { IsAtStart hub.old.course.program spec.stepped_budget None hub.old }
+    requires given { (input.old.calls ≡ 0) × (input.old.failed ≡ 0) }
+    requires fresh { (out.old.failed ≡ 0) × (err.old.calls ≡ 0) × (err.old.failed ≡ 0) }
+    ensures stepped { let given = counted_stream (I.remaining input.old.stream.now) (I.remaining input.new.stream.now) input.new.calls input.new.failed in
+        let output = counted_stream (O.contents out.old.stream.now) (O.contents out.new.stream.now) out.new.calls out.new.failed in
+        let errors = counted_stream (E.contents err.old.stream.now) (E.contents err.new.stream.now) err.new.calls err.new.failed in
+        let shelf : Shelf = record { before = S.holds store.old; after = S.holds store.new } in
+        HubStepped (by_hand (plain_subject subject.now)) hub.old.course.program (option_map (λ name. name.now) save_as.entry) hub.old given output errors shelf result }
+    ensures most { input.new.calls ≤ max_turns }
+    ensures same_in { input.new.stream.ghost_name ≡ input.old.stream.ghost_name }
+    ensures same_out { out.new.stream.ghost_name ≡ out.old.stream.ghost_name }
+    ensures same_err { err.new.stream.ghost_name ≡ err.old.stream.ghost_name }
+{
+    match hold(alloc, hub, subject, input, out) {
+        Ok(()) => save(alloc, hub, save_as, err, store),
+        Err(why) => {
+            say(err, fault_line(why).as_bytes());
+            fault_status(why)
+        }
+    }
+}
+
+// Saves the schedule of the hub, where that is asked for.
+fn save<E: Write, S: Store>(
+    alloc: Global,
+    hub: &Hub,
+    save_as: Option<&str>,
+    err: &mut Counting<'_, E>,
+    store: &mut S,
+) -> u8
+    requires fresh { (err.old.calls ≡ 0) × (err.old.failed ≡ 0) }
+    ensures saved { let errors = counted_stream (E.contents err.old.stream.now) (E.contents err.new.stream.now) err.new.calls err.new.failed in
+        let shelf : Shelf = record { before = S.holds store.old; after = S.holds store.new } in
+        SavedRan (option_map (λ name. name.now) save_as.entry) (schedule_text hub.now.budget (size_of hub.now.course.program) hub.now.course.items) errors shelf result }
+    ensures same_err { err.new.stream.ghost_name ≡ err.old.stream.ghost_name }
+{
+    let Some(name) = save_as else {
+        return 0;
+    };
+    let Ok(made) = make_record(alloc, hub, name) else {
+        say(err, b"memory\n");
+        return 5;
+    };
+    match save_record(alloc, name, true, &made, err, store) {
+        Ok(()) => 0,
+        Err(status) => status,
+    }
+}
+
+// The run of the hub is gone through by hand, from its beginning on.
+fn hold<I: Read, O: Write>(
+    alloc: Global,
+    hub: &mut Hub,
+    subject: &Subject<'_>,
+    input: &mut Counting<'_, I>,
+    out: &mut Counting<'_, O>,
+) -> Result<(), TraceFault>
+    requires start { hub.old.course.items ≡ [] }
+    requires none_out { NoneOut hub.old }
+    requires uncalled { (input.old.calls ≡ 0) × (input.old.failed ≡ 0) × (out.old.failed ≡ 0) }
+    ensures ok { let given = stream (I.remaining input.old.stream.now) (I.remaining input.new.stream.now) in
+        let output = stream (O.contents out.old.stream.now) (O.contents out.new.stream.now) in
+        OnOk result (IsHeld (by_hand (plain_subject subject.now)) hub.old hub.new given output) }
+    ensures err { let given = stream (I.remaining input.old.stream.now) (I.remaining input.new.stream.now) in
+        let output = stream (O.contents out.old.stream.now) (O.contents out.new.stream.now) in
+        IfErr result (IsNotHeld (by_hand (plain_subject subject.now)) hub.old given output) }
+    ensures cause { let reads : Calls = record { calls = input.new.calls; failed = input.new.failed } in
+        let writes : Calls = record { calls = out.new.calls; failed = out.new.failed } in
+        HasTalkCause max_turns result reads writes }
+    ensures leads { OnOk result (stands (text_of hub.new.course.program) hub.new.course.items ≡ Some (run_of hub.new.course)) }
+    ensures most { input.new.calls ≤ max_turns }
+    ensures same { (input.new.stream.ghost_name ≡ input.old.stream.ghost_name) × (out.new.stream.ghost_name ≡ out.old.stream.ghost_name) }
+{
+    let text = subject.text.as_slice();
+    let forms = subject.forms.as_slice();
+    let mut stepper = Stepper::new(alloc, subject.name, text, forms)?;
+    let result = talk(alloc, MAX_TURNS, &mut stepper, hub, input, out);
+    drop(stepper);
+    let _led = hub.schedule();
+    result
+}
+
+// The question is written, and lines are read and answered, up to one at which it ends or the end of the input. The input is asked at most
+// this often.
+fn talk<I: Read, O: Write>(
+    alloc: Global,
+    turns: u64,
+    stepper: &mut Stepper<'_>,
+    hub: &mut Hub,
+    input: &mut Counting<'_, I>,
+    out: &mut Counting<'_, O>,
+) -> Result<(), TraceFault>
+    requires none_out { NoneOut hub.old }
+    requires there { FollowsTo hub.old.course stepper.old }
+    requires turns { turns ≤ max_turns }
+    requires uncalled { (input.old.calls ≡ 0) × (input.old.failed ≡ 0) × (out.old.failed ≡ 0) }
+    ensures ok { let given = stream (I.remaining input.old.stream.now) (I.remaining input.new.stream.now) in
+        let output = stream (O.contents out.old.stream.now) (O.contents out.new.stream.now) in
+        OnOk result (IsHeld (script_of stepper.old) hub.old hub.new given output) }
+    ensures err { let given = stream (I.remaining input.old.stream.now) (I.remaining input.new.stream.now) in
+        let output = stream (O.contents out.old.stream.now) (O.contents out.new.stream.now) in
+        IfErr result (IsNotHeld (script_of stepper.old) hub.old given output) }
+    ensures cause { let reads : Calls = record { calls = input.new.calls; failed = input.new.failed } in
+        let writes : Calls = record { calls = out.new.calls; failed = out.new.failed } in
+        HasTalkCause turns result reads writes }
+    ensures most { input.new.calls ≤ turns }
+    ensures flushed { IsFlushed result out.new.flushed }
+    ensures same { (input.new.stream.ghost_name ≡ input.old.stream.ghost_name) × (out.new.stream.ghost_name ≡ out.old.stream.ghost_name) }
+{
+    let asked = stepper.ask(alloc, hub)?;
+    send(asked.as_slice(), out)?;
+    let mut typed = Vec::new(alloc);
+    for _ in 0..turns {
+        if take_turn(alloc, stepper, hub, &mut typed, input, out)? {
+            return Ok(());
+        }
+    }
+    Err(TraceFault::Turns)
+}
+
+// The input is asked once: a line feed ends the line of which this was typed, and it is answered. Returns whether it is over.
+fn take_turn<I: Read, O: Write>(
+    alloc: Global,
+    stepper: &mut Stepper<'_>,
+    hub: &mut Hub,
+    typed: &mut Vec<u8>,
+    input: &mut Counting<'_, I>,
+    out: &mut Counting<'_, O>,
+) -> Result<bool, TraceFault>
+    requires none_out { NoneOut hub.old }
+    requires there { FollowsTo hub.old.course stepper.old }
+    requires fresh { (input.old.failed ≡ 0) × (out.old.failed ≡ 0) }
+    ensures ok { let given = stream (I.remaining input.old.stream.now) (I.remaining input.new.stream.now) in
+        let output = stream (O.contents out.old.stream.now) (O.contents out.new.stream.now) in
+        IfOk result (λ over. IsTurnTaken (script_of stepper.old) hub.old typed.old.items over typed.new.items hub.new given output) }
+    ensures err { let given = stream (I.remaining input.old.stream.now) (I.remaining input.new.stream.now) in
+        let output = stream (O.contents out.old.stream.now) (O.contents out.new.stream.now) in
+        IfErr result (IsTurnLost (script_of stepper.old) hub.old typed.old.items given output) }
+    ensures asked { input.new.calls ≡ counted input.old.calls }
+    ensures ready { OnOk result (IsAtHand (script_of stepper.old) hub.new stepper.new) }
+    ensures flushed { IsTrue out.old.flushed → IsFlushed result out.new.flushed }
+    ensures cause { HasTurnCause result input.new.failed out.new.failed }
+    ensures same { (input.new.stream.ghost_name ≡ input.old.stream.ghost_name) × (out.new.stream.ghost_name ≡ out.old.stream.ghost_name) }
+{
+    let mut byte = [0u8; 1];
+    match input.read(&mut byte) {
+        Ok(0) => finish(alloc, stepper, hub, typed.as_slice(), out),
+        Ok(_) => type_byte(alloc, stepper, hub, typed, byte[0], out),
+        Err(error) => {
+            if error.kind() == ErrorKind::Interrupted {
+                Ok(false)
+            } else {
+                Err(TraceFault::Read)
+            }
+        }
+    }
+}
+
+// One byte more is typed: at a line feed the line is answered. Returns whether it is over.
+fn type_byte<O: Write>(
+    alloc: Global,
+    stepper: &mut Stepper<'_>,
+    hub: &mut Hub,
+    typed: &mut Vec<u8>,
+    byte: u8,
+    out: &mut Counting<'_, O>,
+) -> Result<bool, TraceFault>
+    requires none_out { NoneOut hub.old }
+    requires there { FollowsTo hub.old.course stepper.old }
+    requires fresh { out.old.failed ≡ 0 }
+    ensures ok { let output = stream (O.contents out.old.stream.now) (O.contents out.new.stream.now) in
+        (given : Stream) → Supplies given (byte ∷ []) → IfOk result (λ over. IsTurnTaken (script_of stepper.old) hub.old typed.old.items over typed.new.items hub.new given output) }
+    ensures err { let output = stream (O.contents out.old.stream.now) (O.contents out.new.stream.now) in
+        (given : Stream) → Supplies given (byte ∷ []) → OnErr result (TalkIsCut (script_of stepper.old) [] hub.old typed.old.items given output) }
+    ensures ready { OnOk result (IsAtHand (script_of stepper.old) hub.new stepper.new) }
+    ensures flushed { IsTrue out.old.flushed → IsFlushed result out.new.flushed }
+    ensures failed { IsWriteFailure result out.new.failed }
+    ensures same_out { out.new.stream.ghost_name ≡ out.old.stream.ghost_name }
+{
+    if byte != b'\n' {
+        typed.extend_from_slice(&[byte])?;
+        return Ok(false);
+    }
+    let ends = reply(alloc, stepper, hub, typed.as_slice(), out)?;
+    typed.clear();
+    Ok(ends)
+}
+
+// The input has ended: what was typed of a line is answered, if something was. It is over.
+fn finish<O: Write>(
+    alloc: Global,
+    stepper: &mut Stepper<'_>,
+    hub: &mut Hub,
+    typed: &[u8],
+    out: &mut Counting<'_, O>,
+) -> Result<bool, TraceFault>
+    requires none_out { NoneOut hub.old }
+    requires there { FollowsTo hub.old.course stepper.old }
+    requires fresh { out.old.failed ≡ 0 }
+    ensures ok { let output = stream (O.contents out.old.stream.now) (O.contents out.new.stream.now) in
+        (given : Stream) → Supplies given [] → IsSpent given → IfOk result (λ over. IsTurnTaken (script_of stepper.old) hub.old typed.now over typed.now hub.new given output) }
+    ensures err { let output = stream (O.contents out.old.stream.now) (O.contents out.new.stream.now) in
+        (given : Stream) → Supplies given [] → OnErr result (TalkIsCut (script_of stepper.old) [] hub.old typed.now given output) }
+    ensures ready { OnOk result (IsAtHand (script_of stepper.old) hub.new stepper.new) }
+    ensures flushed { IsTrue out.old.flushed → IsFlushed result out.new.flushed }
+    ensures failed { IsWriteFailure result out.new.failed }
+    ensures same_out { out.new.stream.ghost_name ≡ out.old.stream.ghost_name }
+{
+    if typed.is_empty() {
+        return Ok(true);
+    }
+    let _ends = reply(alloc, stepper, hub, typed, out)?;
+    Ok(true)
+}
+
+// Answers a line, and writes the answer. Returns whether it is the end.
+fn reply<O: Write>(
+    alloc: Global,
+    stepper: &mut Stepper<'_>,
+    hub: &mut Hub,
+    line: &[u8],
+    out: &mut Counting<'_, O>,
+) -> Result<bool, TraceFault>
+    requires none_out { NoneOut hub.old }
+    requires there { FollowsTo hub.old.course stepper.old }
+    requires fresh { out.old.failed ≡ 0 }
+    ensures ok { let output = stream (O.contents out.old.stream.now) (O.contents out.new.stream.now) in
+        IfOk result (λ ends. IsAnsweredBy (script_of stepper.old) hub.old line.now ends hub.new output) }
+    ensures err { let output = stream (O.contents out.old.stream.now) (O.contents out.new.stream.now) in
+        OnErr result (IsUnanswered (script_of stepper.old) hub.old line.now output) }
+    ensures ready { OnOk result (IsAtHand (script_of stepper.old) hub.new stepper.new) }
+    ensures flushed { OnOk result (IsTrue out.new.flushed) }
+    ensures failed { IsWriteFailure result out.new.failed }
+    ensures same_out { out.new.stream.ghost_name ≡ out.old.stream.ghost_name }
+{
+    let said = stepper.answer(alloc, hub, line)?;
+    send(said.text.as_slice(), out)?;
+    Ok(said.ends)
+}
+
+// Writes a text, and flushes it.
+fn send<O: Write>(text: &[u8], out: &mut Counting<'_, O>) -> Result<(), WriteFault>
+    requires fresh { out.old.failed ≡ 0 }
+    ensures ok { let output = stream (O.contents out.old.stream.now) (O.contents out.new.stream.now) in
+        OnOk result (Takes output text.now) }
+    ensures err { let output = stream (O.contents out.old.stream.now) (O.contents out.new.stream.now) in
+        OnErr result (TakesStart output text.now) }
+    ensures flushed { OnOk result (IsTrue out.new.flushed) }
+    ensures fine { OnOk result (out.new.failed ≡ 0) }
+    ensures failed { OnErr result (out.new.failed ≡ 1) }
+    ensures same_out { out.new.stream.ghost_name ≡ out.old.stream.ghost_name }
+{
+    write_out(out, text)?;
+    match out.flush() {
+        Ok(()) => Ok(()),
+        Err(_) => Err(WriteFault),
+    }
+}
