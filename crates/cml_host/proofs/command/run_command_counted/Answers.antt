@@ -95,19 +95,19 @@ replay_file-requires-clause-watch g c =
     watch_counted words c.in-Ok-Task-Replay.options (subst (IsAnswer words) is c.in-Ok-Task-Replay.ensures)
 
 pub explore_file-requires-clause-counts : goal.explore_file-requires-clause-counts
-explore_file-requires-clause-counts g c =
+explore_file-requires-clause-counts g c κs within =
     let words = map string_bytes c.args.words.now in
     let is = c.in-Ok-Task-Explore.field-0-is ∙ ap answer.Task c.in-Ok-Task-Explore.field-0-0-is in
     explore_counted words c.in-Ok-Task-Explore.options (subst (IsAnswer words) is c.in-Ok-Task-Explore.ensures)
 
 pub explore_file-requires-clause-depth : goal.explore_file-requires-clause-depth
-explore_file-requires-clause-depth g c =
+explore_file-requires-clause-depth g c κs within =
     let words = map string_bytes c.args.words.now in
     let is = c.in-Ok-Task-Explore.field-0-is ∙ ap answer.Task c.in-Ok-Task-Explore.field-0-0-is in
     explore_depth words c.in-Ok-Task-Explore.options (subst (IsAnswer words) is c.in-Ok-Task-Explore.ensures)
 
 pub explore_file-requires-clause-seeds : goal.explore_file-requires-clause-seeds
-explore_file-requires-clause-seeds g c =
+explore_file-requires-clause-seeds g c κs within =
     let words = map string_bytes c.args.words.now in
     let is = c.in-Ok-Task-Explore.field-0-is ∙ ap answer.Task c.in-Ok-Task-Explore.field-0-0-is in
     explore_seeds words c.in-Ok-Task-Explore.options (subst (IsAnswer words) is c.in-Ok-Task-Explore.ensures)
