@@ -35,7 +35,8 @@ struct Session {
 }
 
 // Four philosophers, each of whom takes the left fork and then the right one.
-const PHILOSOPHERS: &str = "; Four philosophers sit round a table, with a fork between two. Each eats twice: takes the left fork and then the right one.\n; The mistake: where each has taken the left one, each waits for the one that the next has.\n(fn phil (i left right)\n  (let meals 0)\n  (while (< meals 2)\n    (sync (mtake left))\n    (sync (mtake right))\n    (set meals (+ meals 1))\n    (mput right unit)\n    (mput left unit))\n  (print (pair i \"is full\")))\n(fn main ()\n  (let a (mvar unit))\n  (let b (mvar unit))\n  (let c (mvar unit))\n  (let d (mvar unit))\n  (spawn phil 0 a b)\n  (spawn phil 1 b c)\n  (spawn phil 2 c d)\n  (spawn phil 3 d a))\n";
+const PHILOSOPHERS: &str =
+    "; Four philosophers sit round a table, with a fork between two. Each eats twice: takes the left fork and then the right one.\n; The mistake: where each has taken the left one, each waits for the one that the next has.\n(fn phil (i left right)\n  (let meals 0)\n  (while (< meals 2)\n    (sync (mtake left))\n    (sync (mtake right))\n    (set meals (+ meals 1))\n    (mput right unit)\n    (mput left unit))\n  (print (pair i \"is full\")))\n(fn main ()\n  (let a (mvar unit))\n  (let b (mvar unit))\n  (let c (mvar unit))\n  (let d (mvar unit))\n  (spawn phil 0 a b)\n  (spawn phil 1 b c)\n  (spawn phil 2 c d)\n  (spawn phil 3 d a))\n";
 
 // The question before the first line.
 const FIRST: &str = "  t 0  thread 0 main at 13:3\nitem 1? (? says what can be typed)\n";
@@ -102,10 +103,7 @@ const DEADLOCK: &[(&str, &str)] = &[
         "",
         "more than one row can be taken: a number takes one\nitem 14?",
     ),
-    (
-        "5",
-        "there is no row 5\nitem 14?",
-    ),
+    ("5", "there is no row 5\nitem 14?"),
     (
         "1",
         "14  commit: thread 1 phil(0 (mvar 0) (mvar 1)) takes () from M-variable 0; nacks fired: none  4 could happen\n  t 1  thread 1 phil(0 (mvar 0) (mvar 1)) at 6:5\n  1  thread 2 phil(1 (mvar 1) (mvar 2)): take M-variable 1, which is full\n  2  thread 3 phil(2 (mvar 2) (mvar 3)): take M-variable 2, which is full\n  3  thread 4 phil(3 (mvar 3) (mvar 0)): take M-variable 3, which is full\nitem 15?",
@@ -150,10 +148,7 @@ const DEADLOCK: &[(&str, &str)] = &[
         "w",
         "4 threads wait, and nothing can happen: a deadlock\n  thread 1 phil(0 (mvar 0) (mvar 1)) at a.cml:7:5, in phil: take M-variable 1, which is empty; last taken by thread 2 phil(1 (mvar 1) (mvar 2))\n  thread 2 phil(1 (mvar 1) (mvar 2)) at a.cml:7:5, in phil: take M-variable 2, which is empty; last taken by thread 3 phil(2 (mvar 2) (mvar 3))\n  thread 3 phil(2 (mvar 2) (mvar 3)) at a.cml:7:5, in phil: take M-variable 3, which is empty; last taken by thread 4 phil(3 (mvar 3) (mvar 0))\n  thread 4 phil(3 (mvar 3) (mvar 0)) at a.cml:7:5, in phil: take M-variable 0, which is empty; last taken by thread 1 phil(0 (mvar 0) (mvar 1))\na ring: 1 -> 2 -> 3 -> 4 -> 1\nitem 22?",
     ),
-    (
-        "1",
-        "there is no row 1\nitem 22?",
-    ),
+    ("1", "there is no row 1\nitem 22?"),
     (
         "u",
         "item 21 is undone\n  t 4  thread 4 phil(3 (mvar 3) (mvar 0)) at 6:5\nitem 21?",
@@ -214,14 +209,12 @@ const DEADLOCK: &[(&str, &str)] = &[
         "",
         "more than one row can be taken: a number takes one\nitem 26?",
     ),
-    (
-        "q",
-        "",
-    ),
+    ("q", ""),
 ];
 
 // What is saved of that: the items that were undone are not among these.
-const SAVED: &str = "schedule 2 1000000 2 16\nturn 0\nturn 0\nturn 0\nturn 0\nturn 0\nturn 0\nturn 0\nturn 0\nturn 1\nturn 0\nturn 2\nturn 3\nturn 4\ncommit 1 0\ncommit 2 0\ncommit 3 0\nturn 3\nturn 1\ncommit 3 0\nturn 2\nturn 3\nturn 3\ncommit 4 0\nturn 3\nturn 4\nend\n";
+const SAVED: &str =
+    "schedule 2 1000000 2 16\nturn 0\nturn 0\nturn 0\nturn 0\nturn 0\nturn 0\nturn 0\nturn 0\nturn 1\nturn 0\nturn 2\nturn 3\nturn 4\ncommit 1 0\ncommit 2 0\ncommit 3 0\nturn 3\nturn 1\ncommit 3 0\nturn 2\nturn 3\nturn 3\ncommit 4 0\nturn 3\nturn 4\nend\n";
 
 // A script of one statement.
 const ONE: &str = "(fn main ()\n  (print 1))";
@@ -360,10 +353,7 @@ fn goes_so(
         "what is left of the input of {name}"
     );
     let wanted = format!(in alloc; "{}{}", session.question, said.as_str())?;
-    assert!(rt;
-        output.as_slice() == wanted.as_bytes(),
-        "output of {name}"
-    );
+    assert!(rt; output.as_slice() == wanted.as_bytes(), "output of {name}");
     assert!(rt;
         errors.as_slice() == session.errors.as_bytes(),
         "errors of {name}"

@@ -317,7 +317,10 @@ fn a_schedule_of_each_class_is_saved(rt: HostRuntime) -> Result<(), Fail> {
 }
 
 // The same, where another file lies under the name of the one that is saved.
-const TAKEN: &[(&str, &str)] = &[("a.cml", LOCKS), ("S-1.schedule", "what lay there before\n")];
+const TAKEN: &[(&str, &str)] = &[
+    ("a.cml", LOCKS),
+    ("S-1.schedule", "what lay there before\n"),
+];
 
 #[test]
 fn a_save_that_is_refused_is_told(rt: HostRuntime) -> Result<(), Fail> {
@@ -334,7 +337,9 @@ fn a_save_that_is_refused_is_told(rt: HostRuntime) -> Result<(), Fail> {
     assert!(rt; left.status == 1);
     drop(left);
     let lies = store.load(alloc, "S-1.schedule", 1_000);
-    assert!(rt; matches!(&lies, Ok(bytes) if bytes.as_slice() == b"what lay there before\n".as_slice()));
+    assert!(rt;
+        matches!(&lies, Ok(bytes) if bytes.as_slice() == b"what lay there before\n".as_slice())
+    );
     drop(lies);
     drop(store);
     Ok(())
