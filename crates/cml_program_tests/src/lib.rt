@@ -2,7 +2,6 @@
 #![tactic(auto)]
 
 #[cfg(test)]
-#[cfg(test)]
 mod cases;
 #[cfg(test)]
 mod ended;
