@@ -60,7 +60,7 @@ impl<K: Source> Register<K> {
         self.objects.len()
     }
 
-    /// One more object, which gets the next number. It takes up the room of one `make`, where it succeeds, and none of a feed.
+    /// Adds an object, which gets the next number. Where it succeeds, the room for one `make` is used up; room for feeds stays.
     ///
     /// # Errors
     /// Out of memory, unless `room` was called before: the object comes back, and nothing changes.
@@ -85,7 +85,7 @@ impl<K: Source> Register<K> {
         self.objects.get(id as usize)
     }
 
-    /// The leaf waits for the object from now on. A wait that is there already stays as it is.
+    /// Has the leaf wait for the object from now on. A wait that is there already stays as it is.
     ///
     /// # Errors
     /// Out of memory: nothing changes.
@@ -99,7 +99,7 @@ impl<K: Source> Register<K> {
         Ok(())
     }
 
-    /// The leaf waits for the object no more. It takes no memory.
+    /// Has the leaf wait for the object no more. It takes no memory.
     pub fn leave(&mut self, id: u32, thread: Tid, leaf: u32)
         ensures waits { RemovesWait ((thread.0, leaf), id) self.old.waits self.new.waits }
         ensures objects { self.new.objects ≡ self.old.objects }

@@ -80,7 +80,7 @@ pub trait Source: Drop {
     fn lit(&self) -> bool
         ensures { result ≡ is_lit (state self.now) };
 
-    /// Whether it is still lit once the want was given its value. A table of communications is told of this beforehand.
+    /// Whether it stays lit after it gave its value to this want. A table of communications is told of this beforehand.
     fn stays_lit_after(&self, want: &Self::Want) -> bool
         requires { IsTrue (is_lit (state self.now)) }
         ensures { result ≡ is_lit (after (state self.now) want.now) };

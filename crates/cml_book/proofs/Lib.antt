@@ -14,6 +14,8 @@ pub mod Commits
 pub mod Syncs
 pub mod Heights
 pub mod Walks
+pub mod Plain
+pub mod AwaitedLights
 pub mod Entered
 pub mod Accepted
 pub mod Runs

@@ -4,7 +4,7 @@ use Rattle.std.specs.Prelude.{slice_get, slice_set}
 use Rattle.std.specs.List.{list_all}
 use Rattle.std.proofs.lemmas.Bool.Decides.{nat_tests}
 use Rattle.cml_book.specs.Sync.{times_named, with_each}
-use Rattle.cml_book.specs.Marks.{is_that, was_each_other, AreClear}
+use Rattle.cml_book.specs.NackMarks.{is_that, was_each_other, AreClear}
 use Rattle.cml_book.proofs.NackLemmas.{times-named, times-other, get-set_same, get-set_other, with_each-other, named_passes}
 
 abbrev marked : List Bool → ℕ → Bool

@@ -157,7 +157,7 @@ runs-step w command.MakeSwap t = (let h : Follows command.MakeSwap w t reply.Swa
 runs-step w command.MakeIVar t = (let h : Follows command.MakeIVar w t reply.IVar (make_ivar w) = unless_if (nat_le max_objects (length w.ivars)) _ _ (λ _. record { stays = refl }) in h.stays)
 runs-step w (command.MakeMVar v) t = (let h : Follows (command.MakeMVar v) w t reply.MVar (make_mvar w v) = unless_if (not (held_fits v)) _ _ (λ _. unless_if (nat_le max_objects (length w.mvars)) _ _ (λ _. record { stays = refl })) in h.stays)
 runs-step w command.MakeMailbox t = (let h : Follows command.MakeMailbox w t reply.Mailbox (make_mailbox w) = unless_if (nat_le max_objects (length w.mailboxes)) _ _ (λ _. record { stays = refl }) in h.stays)
-runs-step w command.MakeMChan t = (let h : Follows command.MakeMChan w t reply.MChan (make_mchan w) = unless_if (nat_le max_objects (length w.mchans)) _ _ (λ _. record { stays = refl }) in h.stays)
+runs-step w command.MakeMChan t = (let h : Follows command.MakeMChan w t reply.Mchan (make_mchan w) = unless_if (nat_le max_objects (length w.mchans)) _ _ (λ _. record { stays = refl }) in h.stays)
 runs-step w (command.MakePort x) t = (let h : Follows (command.MakePort x) w t reply.Port (make_port w x.0) = unless_if (not (nat_lt x.0 (length w.mchans))) _ _ (λ _. unless_if (nat_le max_objects (length w.ports)) _ _ (λ _. record { stays = refl })) in h.stays)
 runs-step w (command.CopyPort p) t = (let h : Follows (command.CopyPort p) w t reply.Port (copy_port w p.0) = unless_if (not (nat_lt p.0 (length w.ports))) _ _ (λ _. unless_if (nat_le max_objects (length w.ports)) _ _ (λ _. record { stays = refl })) in h.stays)
 runs-step w (command.IPut i v) t = (let h : Follows (command.IPut i v) w t (λ _. reply.Done) (iput w i.0 v) = unless_if (not (nat_lt i.0 (length w.ivars))) _ _ (λ _. unless_if (is_full (slice_get w.ivars i.0)) _ _ (λ _. unless_if (not (value_fits v)) _ _ (λ _. record { stays = refl }))) in h.stays)

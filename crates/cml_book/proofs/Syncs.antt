@@ -14,7 +14,7 @@ use Rattle.cml_book.specs.Entering.{entered}
 use Rattle.cml_book.specs.Sync.{sync, sync_refusal, waiting, with_each}
 use Rattle.cml_book.specs.Outcomes.{with_thread}
 use Rattle.cml_book.specs.Commit.{awaited, group_awaited}
-use Rattle.cml_book.specs.Keeping.{lights_in, AreFresh, Room, FitsIn, Keeps}
+use Rattle.cml_book.specs.Keeping.{lights_in, AreFresh, Room, FitsIn, RoomGrows, Keeps}
 use Rattle.cml_book.proofs.Given.{set_back}
 use Rattle.cml_book.proofs.Accepted.{Accepted}
 use Rattle.cml_book.proofs.Entered.{scopes-entered}
@@ -92,3 +92,10 @@ entered_now w w' w'' t flat runs is then_is =
 -- the thread runs again
 pub back_now : (w w' w'' : PlainWorld) (t : ℕ) (flat : PlainGroup) → slice_get w.threads t ≡ Some running → w' ≡ with_thread w t (pending_on flat) → w'' ≡ with_thread w' t running → w'' ≡ w
 back_now w w' w'' t flat runs is again = again ∙ ap (λ (x : PlainWorld). with_thread x t running) is ∙ ap (λ ts. record w { threads = ts }) (set_back w.threads t (pending_on flat) running runs)
+
+-- there is as much room as after it was made
+pub grows_same : (old : Room) (a b a' b' : ℕ) → RoomGrows old (record { lit = a; unlit = b }) → a' ≡ a → b' ≡ b → RoomGrows old (record { lit = a'; unlit = b' })
+grows_same old a b a' b' grows e f = rw (e, f) grows
+
+pub fits_same : (g : PlainGroup) (a b a' b' : ℕ) → FitsIn g (record { lit = a; unlit = b }) → a' ≡ a → b' ≡ b → FitsIn g (record { lit = a'; unlit = b' })
+fits_same g a b a' b' fits e f = rw (e, f) fits

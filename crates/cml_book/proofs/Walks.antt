@@ -8,7 +8,7 @@ use Rattle.cml_value.specs.Group.{PlainGroup, never, leaf, choose, wrap, scope, 
 use Rattle.std.specs.Prelude.{slice_get, slice_set}
 use Rattle.cml_book.specs.Entering.{is_far}
 use Rattle.cml_book.specs.Sync.{with_each}
-use Rattle.cml_book.specs.Marks.{is_that, was_each_other}
+use Rattle.cml_book.specs.NackMarks.{is_that, was_each_other}
 
 -- the base events of all groups of a list
 abbrev pub bases_of_all : PlainGroups → List PlainBase

@@ -36,12 +36,12 @@ wraps_or_none (Some l) = l.wraps
 abbrev pub base_awaited : PlainWorld → ℕ → ℕ → PlainBase
 base_awaited w t n = base_or_unit (slice_get (leaves (group_awaited w t)) n)
 
--- the value in a variable; an empty one has unit
+-- the value in a variable (of an empty one unit, which is never used, since it can't be taken)
 abbrev pub variable_value : Option (Option PlainValue) → PlainValue
 variable_value (Some (Some v)) = v
 variable_value _ = unit
 
--- the first item of a mailbox or a port; an empty one has unit
+-- the first item of a mailbox or a port (of an empty one unit, which is never used)
 abbrev pub first_of : Option (List PlainValue) → PlainValue
 first_of (Some (v ∷ vs)) = v
 first_of _ = unit

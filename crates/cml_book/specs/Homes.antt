@@ -24,12 +24,12 @@ channel_numbers channels = map (λ channel. channel.0) channels
 
 -- a port stands in the list of the channel that is its home, and in no other
 abbrev pub HaveHomes : List (List ℕ) → List ℕ → Type 0
-HaveHomes channels homes = (x p : ℕ) → has_port (ports_at channels x) p ≡ is_home x (slice_get homes p)
+HaveHomes channels port_channels = (x p : ℕ) → has_port (ports_at channels x) p ≡ is_home x (slice_get port_channels p)
 
 -- each of this many ports has its home among these channels
-pub record ArePorts (channels : List PlainMulticast) (homes : List McastId) (ports : ℕ) : Type 0 where
-  pub housed : HaveHomes (ports_of channels) (channel_numbers homes)
-  pub each : length homes ≡ ports
+pub record ArePorts (channels : List PlainMulticast) (port_channels : List McastId) (ports : ℕ) : Type 0 where
+  pub housed : HaveHomes (ports_of channels) (channel_numbers port_channels)
+  pub each : length port_channels ≡ ports
 
 -- one more port can be added to the channel without memory
 abbrev pub has_room : PlainMulticast → Bool

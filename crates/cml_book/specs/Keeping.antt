@@ -1,5 +1,5 @@
 -- What a book keeps at all times.
-use Rattle.std.specs.Prelude.{ℕ, ◌≡◌, ◌+◌, ◌*◌, ◌≤◌, ◌==◌, Bool, true, false, not, List, [], length, All, Option, Some, slice_get, count_by}
+use Rattle.std.specs.Prelude.{ℕ, ◌≡◌, ◌+◌, ◌*◌, ◌≤◌, ◌==◌, Bool, true, false, List, [], length, All, Option, Some, slice_get, count_by}
 use Rattle.std.specs.List.{flat_map, filter_map}
 use Rattle.cml_value.specs.Group.{PlainGroup, bases, scopes, nacks_of, leaf_count}
 use Rattle.cml_group.specs.LaidOut.{max_leaves}
@@ -35,11 +35,6 @@ nack_light k = light.Nack (record { 0 = k })
 -- the lights that these base events look at
 abbrev pub lights_in : List PlainBase → List Light
 lights_in bs = filter_map light_seen bs
-
--- whether the two truth values are the same
-abbrev pub is_so : Bool → Bool → Bool
-is_so true b = b
-is_so false b = not b
 
 -- no more threads, objects and nacks exist than are allowed
 pub record AreFew (threads channels swaps ivars mvars mailboxes mchans ports nacks : ℕ) : Type 0 where

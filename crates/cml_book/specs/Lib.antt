@@ -24,7 +24,7 @@ pub mod Homes
 pub mod Leaving
 pub mod Holding
 pub mod Parties
-pub mod Marks
+pub mod NackMarks
 pub mod Threads
 pub mod Walks
 pub mod Running

@@ -27,7 +27,6 @@ ghost use Rattle.cml_book.specs.Entering.{max_tick};
 use crate::command::{Committed, Resume};
 use crate::fullness::{mailbox_len, nack_state, port_len};
 use crate::holding::NextObjects;
-use crate::lights::Arrival;
 use crate::nacks::make_room;
 use crate::refusal::{Fault, Refusal};
 use crate::state::State;
@@ -50,7 +49,8 @@ pub const MAX_OBJECTS: usize = 65_536;
 pub struct Book<T: Table> {
     pub(crate) state: State,
     pub(crate) table: T,
-    // empty between the calls; their room is for the lights that a commit turns on, and those that it turns off
+    // empty between the calls; their room is for the lights that a commit turns on, and those that it turns off, and for those of which a
+    // wait tells whether they are lit
     lit: Vec<Light>,
     unlit: Vec<Light>,
 }
@@ -94,6 +94,7 @@ impl<T: Table> Book<T> {
     ///
     /// # Errors
     /// Refused where there are 4,096 of them; or memory runs out.
+    #[inline(never)]
     pub fn spawn(&mut self) -> Result<Tid, Fault>
         ensures { Does result (spawned self.old) self.old self.new }
     {
@@ -126,6 +127,7 @@ impl<T: Table> Book<T> {
     ///
     /// # Errors
     /// Refused where there is no such thread, where it does not run, or where there are 65,536 nacks; or memory runs out.
+    #[inline(never)]
     pub fn nack(&mut self, owner: Tid) -> Result<NackId, Fault>
         ensures { Does result (nack_spec.nack self.old owner.0) self.old self.new }
     {
@@ -138,31 +140,35 @@ impl<T: Table> Book<T> {
     /// Refused where there is no such thread or it does not run, where a base or a scope names what does not exist, where the
     /// group has more than 256 leaves, is too deep or has too many nodes, where a tick lies too far, or where a scope's nack is
     /// not fresh, not the thread's, or named twice; the first of these. Or memory runs out.
+    #[inline(never)]
     pub fn sync(&mut self, alloc: Global, thread: Tid, group: &Group) -> Result<(), Fault>
         ensures { Does result (sync_spec.sync self.old thread.0 group.now) self.old self.new }
     {
-        if let Some(why) = self.state.sync_refusal(thread, group) {
+        let standing = self.state.standing(group);
+        if let Some(why) = self.state.sync_refusal(thread, group, standing) {
             return Err(Fault::Refused(why));
         }
-        let arrival = self.state.arrival(alloc, group)?;
-        let Ok(()) = make_room(&mut self.lit, &mut self.unlit, &arrival.flat) else {
-            drop(arrival);
+        let flat = self.state.entered(alloc, group, standing.is_some())?;
+        let Ok(()) = make_room(&mut self.lit, &mut self.unlit, &flat) else {
+            drop(flat);
             return Err(Fault::Memory);
         };
-        let Arrival { flat, lit, unlit } = arrival;
+        self.state
+            .push_awaited(&mut self.lit, &mut self.unlit, &flat);
         let Ok(()) = self.state.wait(thread, flat) else {
-            drop(lit);
-            drop(unlit);
+            self.lit.clear();
+            self.unlit.clear();
             return Err(Fault::Memory);
         };
         let Some(flat) = self.state.waiting(thread) else {
             unreachable!();
         };
         let came = Some((thread, flat.group()));
-        let Ok(()) = self.table.change(alloc, &[], came, &lit, &unlit) else {
+        let told = self.table.change(alloc, &[], came, &self.lit, &self.unlit);
+        self.lit.clear();
+        self.unlit.clear();
+        let Ok(()) = told else {
             self.state.withdraw(thread);
-            drop(lit);
-            drop(unlit);
             return Err(Fault::Memory);
         };
         self.state.enter_nacks(thread);
@@ -173,6 +179,7 @@ impl<T: Table> Book<T> {
     ///
     /// # Errors
     /// Refused where there is no such thread, or where it does not run; or memory runs out.
+    #[inline(never)]
     pub fn end(&mut self, alloc: Global, thread: Tid) -> Result<(), Fault>
         ensures { Does result (end_spec.end self.old thread.0) self.old self.new }
     {
@@ -189,6 +196,7 @@ impl<T: Table> Book<T> {
     ///
     /// # Errors
     /// Refused where the tick is before now, or above 2^62; or memory runs out.
+    #[inline(never)]
     pub fn clock(&mut self, alloc: Global, to: u64) -> Result<(), Fault>
         ensures { Does result (clock_spec.clock self.old to) self.old self.new }
     {
@@ -219,6 +227,18 @@ impl<T: Table> Book<T> {
         if !self.table.has(&row) {
             return Err(Fault::Refused(Refusal::Row));
         }
+        self.commit_known(alloc, row)
+    }
+
+    /// Takes the row, which is known to be in the table, as [`commit`](Book::commit) does: it is not looked for again.
+    ///
+    /// # Errors
+    /// Memory runs out. Over a table whose changes are sure, only where the row reads a variable and leaves its value there.
+    pub fn commit_known(&mut self, alloc: Global, row: Meet) -> Result<Committed, Fault>
+        requires { has_row (scan self.old) row ≡ true }
+        ensures step { Does result (commit_spec.commit self.old row) self.old self.new }
+        ensures sure { IsTrue T.SURE → is_reading self.old row ≡ false → result ≢ Err Fault.Memory }
+    {
         match row {
             Meet::Single { tid, leaf } => self.commit_single(alloc, tid, leaf),
             Meet::Pair {
@@ -234,10 +254,10 @@ impl<T: Table> Book<T> {
     pub fn swaps(&self, row: &Meet) -> bool
         ensures { result ≡ swaps_spec.swaps self.now row.now }
     {
-        if !self.table.has(row) {
+        if !self.state.are_swaps(row) {
             return false;
         }
-        self.state.are_swaps(row)
+        self.table.has(row)
     }
 
     /// The table of the rows that can be taken now.
@@ -363,6 +383,7 @@ impl<T: Table> Book<T> {
         self.state.pending(alloc)
     }
 
+    #[inline(never)]
     fn commit_single(&mut self, alloc: Global, tid: Tid, leaf: u32) -> Result<Committed, Fault>
         requires { has_row (scan self.old) (Meet.Single tid leaf) ≡ true }
         ensures step { Does result (commit_spec.commit self.old (Meet.Single tid leaf)) self.old self.new }
@@ -398,6 +419,7 @@ impl<T: Table> Book<T> {
         })
     }
 
+    #[inline(never)]
     fn commit_pair(
         &mut self,
         alloc: Global,

@@ -100,7 +100,7 @@ pub enum Reply {
     /// A mailbox was made.
     Mailbox(MboxId),
     /// A multicast channel was made.
-    MChan(McastId),
+    Mchan(McastId),
     /// A port was made.
     Port(PortId),
     /// A nack was made.

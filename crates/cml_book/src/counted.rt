@@ -17,7 +17,8 @@ use cml_value::{Base, Group};
 use std::alloc::{AllocError, Global};
 use std::marker::Model;
 
-/// The greatest number of leaves that are looked through for those that wait for a tick.
+/// Up to so many leaves are gone through each time to find those that wait for a tick; where there are more, they are counted once, in a
+/// clock.
 const FEW_LEAVES: usize = 16;
 
 /// A group laid flat. How many of its leaves wait for a tick is found in a time logarithmic in the number of its leaves.

@@ -4,7 +4,7 @@ ghost use Rattle.std.specs.Prelude.{◌≡◌, ◌==◌, ◌+◌, true, not, nat
 ghost use Rattle.std.specs.List.{list_all};
 ghost use Rattle.cml_value.specs.Group.{scopes, nacks_of};
 ghost use Rattle.cml_book.specs.Sync.{times_named, with_each};
-ghost use Rattle.cml_book.specs.Marks.{is_that, was_each_other};
+ghost use Rattle.cml_book.specs.NackMarks.{is_that, was_each_other};
 
 use cml_value::{Group, GroupKind, NackId};
 use std::alloc::{AllocError, Global};
@@ -12,13 +12,13 @@ use std::marker::Model;
 
 /// Marks for the numbers below some number. None of them is set between the calls.
 #[derive(Drop)]
-pub struct Marks {
+pub struct NackMarks {
     marks: Vec<bool>,
 }
 
-impl Model for Marks {
+impl Model for NackMarks {
     ghost use Rattle.std.specs.Prelude.{ℕ, length};
-    ghost use Rattle.cml_book.specs.Marks.{AreClear};
+    ghost use Rattle.cml_book.specs.NackMarks.{AreClear};
 
     ghost Value = { ℕ };
 
@@ -27,11 +27,11 @@ impl Model for Marks {
     ghost invariant = { λ m. AreClear m.marks.items };
 }
 
-impl Marks {
-    pub fn new(alloc: Global) -> Marks
+impl NackMarks {
+    pub fn new(alloc: Global) -> NackMarks
         ensures { result ≡ 0 }
     {
-        Marks {
+        NackMarks {
             marks: Vec::new(alloc),
         }
     }

@@ -17,7 +17,7 @@ use cml_signal::{NackCell, NackFeed};
 use cml_value::NackId;
 use std::alloc::AllocError;
 
-/// Makes room for the lights that a commit of the group and of another such group turns on and off.
+/// Makes room for the lights that a commit of the group and of another such group turns on and off, and for those that its leaves wait for.
 ///
 /// # Errors
 /// Out of memory. What there was room for before, there still is.
@@ -30,10 +30,12 @@ pub fn make_room(
     ensures unlit { unlit.new.items ≡ unlit.old.items }
     ensures fits { OnOk result (lit.old.items ≡ [] → unlit.old.items ≡ [] →
         FitsIn flat.now (record { lit = vec_capacity lit.new; unlit = vec_capacity unlit.new })) }
+    ensures awaited { OnOk result (lit.old.items ≡ [] → unlit.old.items ≡ [] →
+        (leaf_count flat.now ≤ vec_capacity lit.new) × (leaf_count flat.now ≤ vec_capacity unlit.new)) }
     ensures grows { RoomGrows (record { lit = vec_capacity lit.old; unlit = vec_capacity unlit.old })
         (record { lit = vec_capacity lit.new; unlit = vec_capacity unlit.new }) }
 {
-    lit.reserve(2 * flat.flat().scopes().len())?;
+    lit.reserve(2 * flat.flat().scopes().len() + flat.flat().len())?;
     unlit.reserve(2 * flat.flat().len() + 1)
 }
 
@@ -79,12 +81,12 @@ fn settle_one(cells: &mut Register<NackCell>, nack: NackId, is_lost: bool)
     ensures waits { cells.new.waits ≡ cells.old.waits }
 {
     if (nack.0 as usize) < cells.len() {
-        let befalls = if is_lost {
+        let fate = if is_lost {
             NackFeed::Fire
         } else {
             NackFeed::Hold
         };
-        let _ = cells.feed(nack.0, befalls);
+        let _ = cells.feed(nack.0, fate);
     }
 }
 

@@ -18,6 +18,7 @@ impl<T: Table> Book<T> {
     ///
     /// # Errors
     /// Refused where there are 65,536 of them; or memory runs out.
+    #[inline(never)]
     pub fn make_ivar(&mut self) -> Result<IVarId, Fault>
         ensures { Does result (make_spec.make_ivar self.old) self.old self.new }
     {
@@ -29,6 +30,7 @@ impl<T: Table> Book<T> {
     /// # Errors
     /// Refused where the value is too deep or has too many nodes, or where there are 65,536 of them; or memory runs out. The value
     /// comes back.
+    #[inline(never)]
     pub fn make_mvar(
         &mut self,
         alloc: Global,
@@ -43,6 +45,7 @@ impl<T: Table> Book<T> {
     ///
     /// # Errors
     /// Refused where there are 65,536 of them; or memory runs out.
+    #[inline(never)]
     pub fn make_mailbox(&mut self, alloc: Global) -> Result<MboxId, Fault>
         ensures { Does result (make_spec.make_mailbox self.old) self.old self.new }
     {
@@ -53,6 +56,7 @@ impl<T: Table> Book<T> {
     ///
     /// # Errors
     /// Refused where there are 65,536 of them; or memory runs out.
+    #[inline(never)]
     pub fn make_mchan(&mut self, alloc: Global) -> Result<McastId, Fault>
         ensures { Does result (make_spec.make_mchan self.old) self.old self.new }
     {
@@ -63,6 +67,7 @@ impl<T: Table> Book<T> {
     ///
     /// # Errors
     /// Refused where there is no such channel, or where there are 65,536 ports; or memory runs out.
+    #[inline(never)]
     pub fn make_port(&mut self, alloc: Global, channel: McastId) -> Result<PortId, Fault>
         ensures { Does result (port_spec.make_port self.old channel.0) self.old self.new }
     {
@@ -73,6 +78,7 @@ impl<T: Table> Book<T> {
     ///
     /// # Errors
     /// Refused where there is no such port, or where there are 65,536 ports; or memory runs out.
+    #[inline(never)]
     pub fn copy_port(&mut self, alloc: Global, port: PortId) -> Result<PortId, Fault>
         ensures { Does result (port_spec.copy_port self.old port.0) self.old self.new }
     {
@@ -84,6 +90,7 @@ impl<T: Table> Book<T> {
     /// # Errors
     /// Refused where there is no such variable, where it is full, or where the value is too deep or has too many nodes; or memory
     /// runs out. The value comes back.
+    #[inline(never)]
     pub fn iput(&mut self, alloc: Global, ivar: IVarId, value: Value) -> Result<(), Returned<Value>>
         ensures { DoesWith result value (put_spec.iput self.old ivar.0 value) self.old self.new }
     {
@@ -95,6 +102,7 @@ impl<T: Table> Book<T> {
     /// # Errors
     /// Refused where there is no such variable, where it is full, or where the value is too deep or has too many nodes; or memory
     /// runs out. The value comes back.
+    #[inline(never)]
     pub fn mput(&mut self, alloc: Global, mvar: MVarId, value: Value) -> Result<(), Returned<Value>>
         ensures { DoesWith result value (put_spec.mput self.old mvar.0 value) self.old self.new }
     {
@@ -123,6 +131,7 @@ impl<T: Table> Book<T> {
     /// # Errors
     /// Refused where there is no such channel, where the message is too deep or has too many nodes, or where one of the ports has
     /// 65,536 unread messages; or memory runs out. The message comes back, and no port has got it.
+    #[inline(never)]
     pub fn multicast(
         &mut self,
         alloc: Global,

@@ -47,7 +47,7 @@ impl<T: Table> Book<T> {
         ensures { DoesStep result command.MakeMChan self.old self.new }
     {
         match self.make_mchan(alloc) {
-            Ok(channel) => Ok(Reply::MChan(channel)),
+            Ok(channel) => Ok(Reply::Mchan(channel)),
             Err(fault) => refused(fault, Command::MakeMChan),
         }
     }

@@ -31,7 +31,7 @@ use cml_value::{Base, BaseKind, Tid, Value, ValueKind};
 use std::alloc::AllocError;
 
 impl State {
-    /// The thread, which runs, waits on the group from now on. The nacks of its scopes are as they were.
+    /// Has the thread, which runs, wait on the group from now on. The nacks of its scopes are as they were.
     ///
     /// # Errors
     /// Out of memory: nothing changes.
@@ -48,7 +48,7 @@ impl State {
         Ok(())
     }
 
-    /// The thread, which waits, runs from now on. The nacks of its scopes are as they were.
+    /// Has the thread, which waits, run from now on. The nacks of its scopes are as they were.
     pub fn withdraw(&mut self, thread: Tid)
         requires { IsSome (option_and_then flat_of (slice_get self.old.threads thread.0)) }
         ensures { self.new ≡ with_thread self.old thread.0 running }
@@ -57,7 +57,7 @@ impl State {
         drop(flat);
     }
 
-    /// The nacks of the scopes of the group that the thread waits on become live.
+    /// Makes the nacks live that the scopes name of the group on which the thread waits.
     pub fn enter_nacks(&mut self, thread: Tid)
         requires { AreFresh (nacks_of (scopes (group_awaited self.old thread.0))) self.old.nacks }
         ensures { self.new ≡ record self.old { nacks = with_each (nacks_of (scopes (group_awaited self.old thread.0))) live self.old.nacks } }
@@ -101,7 +101,7 @@ impl State {
         place < flat.len() && matches!(flat.leaf(place).kind(), BaseKind::Swap(_, _))
     }
 
-    /// The thread goes on from this leaf of its group, whose nacks are settled.
+    /// Has the thread go on from this leaf of its group, and settles the group's nacks: each fires or is held.
     pub fn go_on(&mut self, thread: Tid, leaf: u32) -> Chosen
         requires { WaitsOn self.old.threads self.old.nacks thread.0 leaf (group_awaited self.old thread.0) }
         ensures world { self.new ≡ released self.old thread.0 leaf }
@@ -189,7 +189,7 @@ fn spare_of<K: Source>(
     }
 }
 
-// Whether the object of this number, which is lit, is still lit once the want was given its value.
+// Whether the object of this number, which is lit, stays lit after it gave its value to this want (a take, a read, a swap).
 fn stays_lit<K: Source>(objects: &Register<K>, id: u32, want: &K::Want) -> bool
     requires { IsTrue (lit_at K.is_lit (map K.state objects.now.objects) id) }
     ensures { result ≡
@@ -201,7 +201,7 @@ fn stays_lit<K: Source>(objects: &Register<K>, id: u32, want: &K::Want) -> bool
     }
 }
 
-// The thread runs from now on. The group that it waited on is returned, and its leaves are counted no more.
+// Has the thread run from now on. Returns the group that it waited on, whose ticks are counted no more.
 fn release(threads: &mut Vec<Thread>, clock: &mut Clock, thread: Tid) -> Flat
     requires waits { IsSome (option_and_then flat_of (slice_get threads.old.items thread.0)) }
     requires counts { Counts threads.old.items clock.old.waited }

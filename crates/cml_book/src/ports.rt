@@ -63,7 +63,7 @@ impl State {
             alloc,
             table,
             &mut self.mchans,
-            &mut self.homes,
+            &mut self.port_channels,
             &mut self.ports,
             channel,
             Port::new(alloc),
@@ -85,10 +85,10 @@ impl State {
             self.new (T.entries table.new) (T.is_lit table.new) }
     {
         let place = port.0 as usize;
-        if place >= self.homes.len() {
+        if place >= self.port_channels.len() {
             return Err(Fault::Refused(Refusal::Object));
         }
-        let home = self.homes[place];
+        let home = self.port_channels[place];
         if self.ports.len() >= MAX_OBJECTS {
             return Err(Fault::Refused(Refusal::Full));
         }
@@ -102,7 +102,7 @@ impl State {
             alloc,
             table,
             &mut self.mchans,
-            &mut self.homes,
+            &mut self.port_channels,
             &mut self.ports,
             home,
             copy,
@@ -112,8 +112,8 @@ impl State {
         Ok(made)
     }
 
-    /// Puts the message after the unread ones of every port of the channel, or of none, and tells the table of those for which it
-    /// is the first.
+    /// Puts the message behind the unread ones in every port of the channel, or in none. Tells the table of the ports for which it is the
+    /// first.
     pub(crate) fn multicast<T: Table>(
         &mut self,
         alloc: Global,
@@ -160,20 +160,20 @@ fn add_port<T: Table>(
     alloc: Global,
     table: &mut T,
     channels: &mut Vec<Multicast>,
-    homes: &mut Vec<McastId>,
+    port_channels: &mut Vec<McastId>,
     ports: &mut Register<Port>,
     channel: McastId,
     port: Port,
 ) -> Result<PortId, AllocError>
     requires there { channel.0 < length channels.old.items }
     requires few { length ports.old.objects < max_objects }
-    requires housed { ArePorts channels.old.items homes.old.items (length ports.old.objects) }
+    requires housed { ArePorts channels.old.items port_channels.old.items (length ports.old.objects) }
     ensures added { AddsPort result channel.0 port.items channels.old.items channels.new.items
         ports.old.objects ports.new.objects }
     ensures told { TurnsOn result
         (newly_lit (not (has_item (Some port.items))) (port_light (length ports.old.objects)))
         (T.entries table.old) (T.entries table.new) (T.is_lit table.old) (T.is_lit table.new) }
-    ensures housed { ArePorts channels.new.items homes.new.items (length ports.new.objects) }
+    ensures housed { ArePorts channels.new.items port_channels.new.items (length ports.new.objects) }
     ensures still { StillFew channels.old.items channels.new.items ports.old ports.new }
 {
     let id = PortId(ports.len() as u32);
@@ -181,7 +181,7 @@ fn add_port<T: Table>(
         drop(port);
         return Err(AllocError);
     };
-    let Ok(()) = homes.reserve(1) else {
+    let Ok(()) = port_channels.reserve(1) else {
         drop(port);
         return Err(AllocError);
     };
@@ -194,7 +194,7 @@ fn add_port<T: Table>(
         return Err(AllocError);
     };
     add_at(channels, channel, id);
-    homes.push_reserved(channel);
+    port_channels.push_reserved(channel);
     let Ok(_) = ports.make(port) else {
         unreachable!();
     };
@@ -212,7 +212,7 @@ fn room_at(channels: &mut Vec<Multicast>, channel: McastId) -> Result<(), AllocE
     found.room()
 }
 
-// One more port of the channel, of a number above those of its others. There is room, so it takes no memory.
+// Adds a port to the channel, with a number above those of its others. There is room, so it takes no memory.
 fn add_at(channels: &mut Vec<Multicast>, channel: McastId, port: PortId)
     requires there { channel.0 < length channels.old.items }
     requires room { HasRoomAt has_room channels.old.items channel.0 }
@@ -256,7 +256,7 @@ fn send<T: Table>(
     Ok(())
 }
 
-// Tells the table that the lights of those of these ports that have no message yet are turned on.
+// Some of these ports have no message yet, and get their first: tells the table that their lights are turned on.
 fn tell_first<T: Table>(
     alloc: Global,
     table: &mut T,
@@ -273,7 +273,7 @@ fn tell_first<T: Table>(
     table.change(alloc, &[], None, &lights, &[])
 }
 
-// The lights of those of these ports that have no message yet.
+// The lights of these ports, but not of those that have a message already.
 fn unlit_ports(
     alloc: Global,
     ports: &Register<Port>,

@@ -15,7 +15,7 @@ ghost use Rattle.cml_book.specs.Walks.{is_running};
 
 use crate::book::{MAX_OBJECTS, MAX_THREADS};
 use crate::fullness::{has_fired, ivar_is_full, mailbox_has_item, mvar_is_full, port_has_item};
-use crate::marks::Marks;
+use crate::marks::NackMarks;
 use crate::refusal::{Fault, Refusal};
 use crate::thread::{Thread, pending_count, pending_threads};
 use cml_base::Register;
@@ -39,10 +39,10 @@ pub struct State {
     pub(crate) mchans: Vec<Multicast>,
     pub(crate) ports: Register<Port>,
     // the channel of each port
-    pub(crate) homes: Vec<McastId>,
+    pub(crate) port_channels: Vec<McastId>,
     pub(crate) nacks: Register<NackCell>,
     // a mark for each nack
-    pub(crate) marks: Marks,
+    pub(crate) marks: NackMarks,
     // the time, and how many leaves of pending threads wait for each tick
     pub(crate) clock: Clock,
 }
@@ -77,7 +77,7 @@ impl Model for State {
         AreFew (length s.threads.items) s.channels s.swaps (length s.ivars.objects) (length s.mvars.objects)
         (length s.mailboxes.objects) (length s.mchans.items) (length s.ports.objects) (length s.nacks.objects)
         × (s.marks ≡ length s.nacks.objects)
-        × ArePorts s.mchans.items s.homes.items (length s.ports.objects)
+        × ArePorts s.mchans.items s.port_channels.items (length s.ports.objects)
         × Counts s.threads.items s.clock.waited
         × AreUntold s.ivars.waits s.mvars.waits s.mailboxes.waits s.ports.waits s.nacks.waits
         × (s.clock.tick ≤ max_tick) };
@@ -99,9 +99,9 @@ impl State {
             mailboxes: Register::new(alloc),
             mchans: Vec::new(alloc),
             ports: Register::new(alloc),
-            homes: Vec::new(alloc),
+            port_channels: Vec::new(alloc),
             nacks: Register::new(alloc),
-            marks: Marks::new(alloc),
+            marks: NackMarks::new(alloc),
             clock: Clock::new(alloc),
         }
     }
@@ -231,7 +231,7 @@ impl State {
         }
     }
 
-    /// The thread, which runs, ends.
+    /// Ends the thread, which runs.
     pub fn end(&mut self, thread: Tid)
         requires { slice_get self.old.threads thread.0 ≡ Some running }
         ensures { self.new ≡ with_thread self.old thread.0 ended }
@@ -239,7 +239,7 @@ impl State {
         put(&mut self.threads, thread, Thread::ended());
     }
 
-    /// The clock moves to this tick, which is at most 2^62.
+    /// Moves the clock to this tick, which is at most 2^62.
     pub fn advance(&mut self, to: u64)
         requires later { self.old.tick ≤ to }
         requires limit { to ≤ max_tick }

@@ -97,7 +97,7 @@ impl Thread {
         }
     }
 
-    /// It runs from now on. Returns the group that it waited on, if it did.
+    /// Has it run from now on. Returns the group that it waited on, if it did.
     pub fn release(&mut self) -> Option<Flat>
         ensures value { result ≡ flat_of self.old }
         ensures runs { self.new ≡ running }

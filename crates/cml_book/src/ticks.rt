@@ -53,7 +53,7 @@ fn count_tick(clock: &mut Clock, base: &Base) -> Result<(), AllocError>
     }
 }
 
-/// The leaves of the group below this number, which were counted, are counted no more. It takes no memory.
+/// Takes the leaves of the group below this number, which were counted, out of the count. It takes no memory.
 pub fn uncount_ticks(clock: &mut Clock, flat: &Flat, past: usize)
     requires past { past ≤ leaf_count flat.now }
     requires counted { (t : ℕ) → times_awaited t (take past (bases flat.now)) ≤ leaves_at clock.old.waited t }
@@ -126,8 +126,8 @@ impl State {
         alarms_at(alloc, &ticks)
     }
 
-    /// Appends the lights of those ticks of the group for which only its own leaves and those of the other group wait. There is room
-    /// for them.
+    /// Appends the lights of the ticks of this group for which nobody else waits: each leaf that waits for them is in this group or in the
+    /// other one. There is room for them.
     pub fn push_left_ticks(&self, lights: &mut Vec<Light>, flat: &Counted, other: Option<&Counted>)
         requires { length lights.old.items + leaf_count flat.now ≤ vec_capacity lights.old }
         ensures lights { lights.new.items ≡ lights.old.items

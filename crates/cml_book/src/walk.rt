@@ -1,13 +1,14 @@
 //! Walks over a group that take no memory, and why a wait on it is refused.
 
-ghost use Rattle.std.specs.Prelude.{◌≡◌, ℕ, Bool, not, nat_lt, length, slice_get};
+ghost use Rattle.std.specs.Prelude.{◌≡◌, ℕ, Bool, true, false, None, IfSome, not, nat_lt, length, slice_get};
 ghost use Rattle.std.specs.List.{list_all};
 ghost use Rattle.cml_value.specs.Value.{PlainBase};
 ghost use Rattle.cml_value.specs.Group.{bases, scopes, nacks_of};
 ghost use Rattle.cml_book.specs.Entering.{is_far};
 ghost use Rattle.cml_book.specs.Sync as spec;
 ghost use Rattle.cml_book.specs.Sync.{base_exists, is_fresh_for};
-ghost use Rattle.cml_book.specs.Walks.{shape_refusal};
+ghost use Rattle.cml_book.specs.Outcomes.{first_if};
+ghost use Rattle.cml_book.specs.Walks.{shape_refusal, enters_as_it_is, IsPlain, IsWhole, IsStanding};
 
 use crate::refusal::Refusal;
 use crate::state::State;
@@ -76,6 +77,33 @@ pub(crate) fn all_nacks<P: NackTest>(test: &P, group: &Group) -> bool
     }
 }
 
+/// Whether a scope is in the group, where all its base events pass. The walk stops at the first that does not.
+#[tactic(auto, using(crate::proofs::Walks::base_steps, crate::proofs::Walks::nack_steps))]
+pub(crate) fn walk_whole<P: BaseTest>(test: &P, group: &Group) -> Option<bool>
+    ensures bases { IfSome result (λ scoped. list_all (P.passes test.now) (bases group.now) ≡ true) }
+    ensures scopes { IfSome result (λ scoped. scoped ≡ false →
+        list_all (λ k. false) (nacks_of (scopes group.now)) ≡ true) }
+{
+    match group.kind() {
+        GroupKind::Never => Some(false),
+        GroupKind::Leaf(b) => { if test.passes(b) { Some(false) } else { None } }
+        GroupKind::Choose(gs) => {
+            let mut scoped = false;
+            for g in gs.iter() {
+                if walk_whole(test, g)? {
+                    scoped = true;
+                }
+            }
+            Some(scoped)
+        }
+        GroupKind::Wrap(g, _) => walk_whole(test, g),
+        GroupKind::Scope(_, g) => {
+            let _scoped = walk_whole(test, g)?;
+            Some(true)
+        }
+    }
+}
+
 impl BaseTest for State {
     ghost passes = { base_exists };
 
@@ -126,6 +154,24 @@ impl BaseTest for Near {
     }
 }
 
+// What exists: a base event must name what does, and enter as it is.
+#[derive(Drop)]
+struct AsItIs<'a> {
+    state: &'a State,
+}
+
+impl<'a> BaseTest for AsItIs<'a> {
+    ghost passes = { λ s b. enters_as_it_is s.state.now b };
+
+    fn passes(&self, base: &Base) -> bool {
+        match base.kind() {
+            BaseKind::After(_) => false,
+            BaseKind::At(t) => *t <= MAX_TICK,
+            _ => BaseTest::passes(self.state, base),
+        }
+    }
+}
+
 // A thread that begins to wait: the nack of a scope must be fresh, and this thread's.
 #[derive(Drop)]
 struct FreshFor<'a> {
@@ -145,14 +191,59 @@ impl<'a> NackTest for FreshFor<'a> {
 }
 
 impl State {
-    /// Why the thread can't wait on the group, if it can't: the first refusal that fits.
-    pub fn sync_refusal(&mut self, thread: Tid, group: &Group) -> Option<Refusal>
-        ensures why { result ≡ spec.sync_refusal self.old thread.0 group.now }
-        ensures same { self.new ≡ self.old }
+    /// Whether the group has a scope, where it is known that it enters as it is and names what exists: one walk says so.
+    pub fn standing(&self, group: &Group) -> Option<bool>
+        ensures { IsStanding self.now group.now result }
     {
-        if let Some(why) = self.shape_refusal(thread, group) {
+        walk_whole(&AsItIs { state: self }, group)
+    }
+
+    // Why the thread can't wait on the group, which enters as it is and has no scope, if it can't.
+    #[tactic(auto, using(crate::proofs::Plain::plain_steps))]
+    fn plain_refusal(&self, thread: Tid, group: &Group) -> Option<Refusal>
+        requires { IsPlain self.now group.now }
+        ensures { result ≡ spec.sync_refusal self.now thread.0 group.now }
+    {
+        if let Some(why) = self.thread_refusal(thread) {
             return Some(why);
         }
+        if !has_few_leaves(group) {
+            return Some(Refusal::Leaves);
+        }
+        if !group.fits() {
+            return Some(Refusal::Deep);
+        }
+        None
+    }
+
+    // The same, where it may have scopes, without the refusal that is only about whose their nacks are.
+    #[tactic(auto, using(crate::proofs::Plain::whole_steps))]
+    fn whole_refusal(&self, thread: Tid, group: &Group) -> Option<Refusal>
+        requires { IsWhole self.now group.now }
+        ensures { result ≡ shape_refusal self.now thread.0 group.now }
+    {
+        if let Some(why) = self.thread_refusal(thread) {
+            return Some(why);
+        }
+        if !all_nacks(self, group) {
+            return Some(Refusal::Object);
+        }
+        if !has_few_leaves(group) {
+            return Some(Refusal::Leaves);
+        }
+        if !group.fits() {
+            return Some(Refusal::Deep);
+        }
+        None
+    }
+
+    // Why the thread can't wait on the group for the nacks of its scopes, all of which exist, if it can't.
+    #[inline(never)]
+    fn nack_refusal(&mut self, thread: Tid, group: &Group) -> Option<Refusal>
+        requires { list_all (λ k. nat_lt k (length self.old.nacks)) (nacks_of (scopes group.now)) ≡ true }
+        ensures why { result ≡ first_if (not (spec.can_enter self.old thread.0 (nacks_of (scopes group.now)))) Refusal.Nack None }
+        ensures same { self.new ≡ self.old }
+    {
         let fresh = FreshFor {
             thread,
             nacks: &self.nacks,
@@ -166,7 +257,40 @@ impl State {
         None
     }
 
-    // The same, without the refusal that is only about the nacks of the scopes.
+    /// Why the thread can't wait on the group, if it can't: the first refusal that fits. How the group stands is known.
+    pub fn sync_refusal(
+        &mut self,
+        thread: Tid,
+        group: &Group,
+        standing: Option<bool>,
+    ) -> Option<Refusal>
+        requires { IsStanding self.old group.now standing }
+        ensures why { result ≡ spec.sync_refusal self.old thread.0 group.now }
+        ensures same { self.new ≡ self.old }
+    {
+        if let Some(false) = standing {
+            return self.plain_refusal(thread, group);
+        }
+        if let Some(why) = self.walked_refusal(thread, group, standing) {
+            return Some(why);
+        }
+        self.nack_refusal(thread, group)
+    }
+
+    // Why the thread can't wait on the group, if it can't, without the refusal that is only about the nacks of the scopes. How the group
+    // stands is known.
+    fn walked_refusal(&self, thread: Tid, group: &Group, standing: Option<bool>) -> Option<Refusal>
+        requires { IsStanding self.now group.now standing }
+        ensures { result ≡ shape_refusal self.now thread.0 group.now }
+    {
+        match standing {
+            Some(_) => self.whole_refusal(thread, group),
+            None => self.shape_refusal(thread, group),
+        }
+    }
+
+    // The same, where nothing is known of the group.
+    #[inline(never)]
     #[tactic(auto, using(crate::proofs::Walks::refusal_steps))]
     fn shape_refusal(&self, thread: Tid, group: &Group) -> Option<Refusal>
         ensures { result ≡ shape_refusal self.now thread.0 group.now }

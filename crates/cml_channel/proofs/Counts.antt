@@ -11,7 +11,7 @@ use Rattle.cml_scan.specs.Order.{before, before_numbers, Every, Ascends}
 use Rattle.cml_scan.proofs.Ordered.{Every-append, Every-filter, Every-passes}
 use Rattle.cml_channel.specs.declared.lane.Bound.{Bound}
 use Rattle.cml_channel.specs.declared.lane.Bound.TheVariants.{Below, UpTo}
-use Rattle.cml_channel.specs.declared.lane.Whom.TheVariants.{Above}
+use Rattle.cml_channel.specs.declared.lane.PartnerThreads.TheVariants.{Above}
 use Rattle.cml_channel.specs.Lanes.{under, is_own, is_others, others, is_of, those, run, with_run}
 
 -- how many offers stand below the bound

@@ -9,8 +9,8 @@ use Rattle.cml_value.specs.Value.{PlainBase, send, recv, swap}
 use Rattle.cml_value.specs.declared.number.Tid.{Tid}
 use Rattle.cml_scan.specs.Scan.{meets, do_meet}
 use Rattle.cml_scan.specs.declared.meet.Place.{Place}
-use Rattle.cml_channel.specs.declared.pairing.Pairing.{Pairing}
-use Rattle.cml_channel.specs.declared.pairing.Pairing.TheVariants.{Channel, Swap}
+use Rattle.cml_channel.specs.declared.pairing.PairedKind.{PairedKind}
+use Rattle.cml_channel.specs.declared.pairing.PairedKind.TheVariants.{Channel, Swap}
 use Rattle.cml_channel.specs.declared.pairing.PairedId.{PairedId}
 use Rattle.cml_channel.specs.declared.pairing.SidePlace.{SidePlace}
 use Rattle.cml_channel.specs.declared.channel.ChannelSide.{ChannelSide}
@@ -18,7 +18,7 @@ use Rattle.cml_channel.specs.declared.swap.SwapSide.{SwapSide}
 use Rattle.cml_channel.specs.contracts.channel.ChannelsPaired.TheImpl.Laws as channel_laws
 use Rattle.cml_channel.specs.contracts.swap.SwapChannelsPaired.TheImpl.Laws as swap_laws
 use Rattle.cml_channel.specs.Lanes.{is_of}
-use Rattle.cml_channel.specs.Pairings.{one_lane, same_object, placed, side_place, leads, leads_by, whom}
+use Rattle.cml_channel.specs.Pairings.{one_lane, same_object, placed, side_place, leads, leads_by, partner_threads}
 use Rattle.cml_channel.specs.Sides as channels
 use Rattle.cml_channel.specs.Swaps as swaps
 
@@ -33,10 +33,10 @@ one n m e = grind (arith, nat_tests)
 pub same_object_is : (a b : PairedId) → same_object a b ≡ true → a ≡ b
 same_object_is a b e = at a.kind a.number b.kind b.number e
   where
-    object : Pairing → ℕ → PairedId
+    object : PairedKind → ℕ → PairedId
     object k n = record { kind = k; number = n }
 
-    at : (k : Pairing) (n : ℕ) (j : Pairing) (m : ℕ) → same_object (object k n) (object j m) ≡ true → object k n ≡ object j m
+    at : (k : PairedKind) (n : ℕ) (j : PairedKind) (m : ℕ) → same_object (object k n) (object j m) ≡ true → object k n ≡ object j m
     at Channel n Channel m e = ap (object Channel) (one n m e)
     at Swap n Swap m e = ap (object Swap) (one n m e)
     at Channel n Swap m e = cc
@@ -45,7 +45,7 @@ same_object_is a b e = at a.kind a.number b.kind b.number e
 pub same_object_self : (a : PairedId) → same_object a a ≡ true
 same_object_self a = at a.kind a.number
   where
-    at : (k : Pairing) (n : ℕ) → same_object (record { kind = k; number = n }) (record { kind = k; number = n }) ≡ true
+    at : (k : PairedKind) (n : ℕ) → same_object (record { kind = k; number = n }) (record { kind = k; number = n }) ≡ true
     at Channel n = same n n refl
     at Swap n = same n n refl
 
@@ -64,7 +64,7 @@ or_false true = refl
 or_false false = refl
 
 -- By the laws of one kind: whether two of its sides meet, the first as the head, by their places.
-module _ {S : Type 0} (kind : Pairing) (key_of : S → ℕ) (is_head : S → Bool) (meet : S → S → Bool) (lane : Bool) (is : one_lane kind ≡ lane)
+module _ {S : Type 0} (kind : PairedKind) (key_of : S → ℕ) (is_head : S → Bool) (meet : S → S → Bool) (lane : Bool) (is : one_lane kind ≡ lane)
     (meeting : (s t : S) → IsTrue (meet s t) ↔ ((key_of s ≡ key_of t) × (IsTrue lane ⊎ (is_head s ≢ is_head t)))) (leading : (s : S) → IsTrue lane → IsTrue (is_head s)) where
   abbrev place_of : S → SidePlace
   place_of s = record { object = record { kind = kind; number = key_of s }; heads = is_head s }
@@ -72,7 +72,7 @@ module _ {S : Type 0} (kind : Pairing) (key_of : S → ℕ) (is_head : S → Boo
   alike : (n m : ℕ) → same_object (record { kind = kind; number = n }) (record { kind = kind; number = m }) ≡ nat_eq n m
   alike n m = at kind
     where
-      at : (k : Pairing) → same_object (record { kind = k; number = n }) (record { kind = k; number = m }) ≡ nat_eq n m
+      at : (k : PairedKind) → same_object (record { kind = k; number = n }) (record { kind = k; number = m }) ≡ nat_eq n m
       at Channel = refl
       at Swap = refl
 
@@ -159,7 +159,7 @@ meets_by_place b c =
 
 -- Whom a head meets: two leaves communicate where the second stands with those whom the first meets, and is of a thread that it meets.
 abbrev pub led_to : Tid → Place → Option SidePlace → Option SidePlace → Bool
-led_to tid q (Some s) t = leads_by (Some s) t && is_of (whom s.object.kind tid) q
+led_to tid q (Some s) t = leads_by (Some s) t && is_of (partner_threads s.object.kind tid) q
 led_to tid q None t = false
 
 pub do_meet_by_place : (tid : Tid) (b : PlainBase) (q : Place) (c : PlainBase) → do_meet tid.0 b q.tid.0 c ≡ led_to tid q (side_place b) (side_place c)
@@ -180,7 +180,7 @@ do_meet_by_place tid b q c = rw (meets_by_place b c, meets_by_place c b) (at (si
         on_ false true e = cc
         on_ false false e = refl
 
-    chosen : (k : Pairing) → not (nat_eq tid.0 q.tid.0) && (not (one_lane k) || nat_lt tid.0 q.tid.0) ≡ is_of (whom k tid) q
+    chosen : (k : PairedKind) → not (nat_eq tid.0 q.tid.0) && (not (one_lane k) || nat_lt tid.0 q.tid.0) ≡ is_of (partner_threads k tid) q
     chosen Channel = both tid.0 q.tid.0
       where
         both : (t u : ℕ) → not (nat_eq t u) && (true || nat_lt t u) ≡ not (nat_eq t u)
@@ -195,6 +195,6 @@ do_meet_by_place tid b q c = rw (meets_by_place b c, meets_by_place c b) (at (si
     at (Some x) None = and_false (not (nat_eq tid.0 q.tid.0))
     at (Some x) (Some y) = led (leads x y) refl
       where
-        led : (b : Bool) → leads x y ≡ b → not (nat_eq tid.0 q.tid.0) && (b && (not (leads y x) || nat_lt tid.0 q.tid.0)) ≡ b && is_of (whom x.object.kind tid) q
+        led : (b : Bool) → leads x y ≡ b → not (nat_eq tid.0 q.tid.0) && (b && (not (leads y x) || nat_lt tid.0 q.tid.0)) ≡ b && is_of (partner_threads x.object.kind tid) q
         led true e = rw (back x y e) (chosen x.object.kind)
         led false e = and_false (not (nat_eq tid.0 q.tid.0))

@@ -2,8 +2,8 @@
 use Rattle.std.specs.Prelude.{ℕ, ◌==◌, Bool, not, nat_lt, nat_le, List, ◌++◌, map, filter}
 use Rattle.cml_value.specs.declared.number.Tid.{Tid}
 use Rattle.cml_scan.specs.declared.meet.Place.{Place}
-use Rattle.cml_channel.specs.declared.lane.Whom.{Whom}
-use Rattle.cml_channel.specs.declared.lane.Whom.TheVariants as of
+use Rattle.cml_channel.specs.declared.lane.PartnerThreads.{PartnerThreads}
+use Rattle.cml_channel.specs.declared.lane.PartnerThreads.TheVariants as of
 use Rattle.cml_channel.specs.declared.lane.Bound.{Bound}
 use Rattle.cml_channel.specs.declared.lane.Bound.TheVariants.{Below, UpTo}
 
@@ -25,13 +25,13 @@ abbrev pub others : Tid → List Place → List Place
 others tid ps = filter (is_others tid) ps
 
 -- the offer is another thread's, or that of a thread above this one
-abbrev pub is_of : Whom → Place → Bool
+abbrev pub is_of : PartnerThreads → Place → Bool
 is_of (of.Others tid) q = is_others tid q
 is_of (of.Above tid) q = nat_lt tid.0 q.tid.0
 
 -- the offers of these, in order
-abbrev pub those : Whom → List Place → List Place
-those whom ps = filter (is_of whom) ps
+abbrev pub those : PartnerThreads → List Place → List Place
+those partner_threads ps = filter (is_of partner_threads) ps
 
 -- these leaves of the thread, as offers
 abbrev pub run : Tid → List ℕ → List Place

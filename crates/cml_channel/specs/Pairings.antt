@@ -4,18 +4,18 @@ use Rattle.std.specs.Bool.{beq}
 use Rattle.std.specs.Option.{option_or}
 use Rattle.cml_value.specs.Value.{PlainValue, PlainBase}
 use Rattle.cml_value.specs.declared.number.Tid.{Tid}
-use Rattle.cml_channel.specs.declared.pairing.Pairing.{Pairing}
-use Rattle.cml_channel.specs.declared.pairing.Pairing.TheVariants.{Channel, Swap}
+use Rattle.cml_channel.specs.declared.pairing.PairedKind.{PairedKind}
+use Rattle.cml_channel.specs.declared.pairing.PairedKind.TheVariants.{Channel, Swap}
 use Rattle.cml_channel.specs.declared.pairing.PairedId.{PairedId}
 use Rattle.cml_channel.specs.declared.pairing.SidePlace.{SidePlace}
 use Rattle.cml_channel.specs.contracts.pairing.PairedIdPartialEq.TheImpl as derived
-use Rattle.cml_channel.specs.declared.lane.Whom.{Whom}
-use Rattle.cml_channel.specs.declared.lane.Whom.TheVariants.{Others, Above}
+use Rattle.cml_channel.specs.declared.lane.PartnerThreads.{PartnerThreads}
+use Rattle.cml_channel.specs.declared.lane.PartnerThreads.TheVariants.{Others, Above}
 use Rattle.cml_channel.specs.Sides as channels
 use Rattle.cml_channel.specs.Swaps as swaps
 
 -- all sides of an object of the kind are alike
-abbrev pub one_lane : Pairing → Bool
+abbrev pub one_lane : PairedKind → Bool
 one_lane Channel = false
 one_lane Swap = true
 
@@ -24,7 +24,7 @@ abbrev pub same_object : PairedId → PairedId → Bool
 same_object = derived.ghosts.eq
 
 -- the place of a side of this kind
-abbrev pub placed : {S : Type 0} → Pairing → (S → ℕ) → (S → Bool) → Option S → Option SidePlace
+abbrev pub placed : {S : Type 0} → PairedKind → (S → ℕ) → (S → Bool) → Option S → Option SidePlace
 placed kind key_of is_head side = option_map (λ s. record { object = record { kind = kind; number = key_of s }; heads = is_head s }) side
 
 -- the place of the side that a base event is, if it is one
@@ -43,8 +43,8 @@ leads_by (Some s) None = false
 leads_by None t = false
 
 -- Whom a head of the thread meets there: the offers of other threads, or, where all sides are alike, of the threads above it.
-abbrev pub whom : Pairing → Tid → Whom
-whom kind tid = if one_lane kind then Above tid else Others tid
+abbrev pub partner_threads : PairedKind → Tid → PartnerThreads
+partner_threads kind tid = if one_lane kind then Above tid else Others tid
 
 -- the two base events are sides of one kind, and meet
 abbrev pub do_meet_in : {S : Type 0} → (S → S → Bool) → Option S → Option S → Bool

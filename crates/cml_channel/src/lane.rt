@@ -15,21 +15,21 @@ use std::marker::Model;
 
 /// Which threads' offers in a lane are looked for.
 #[derive(Clone, Copy)]
-pub enum Whom {
+pub enum PartnerThreads {
     /// Those of other threads than this one.
     Others(Tid),
     /// Those of the threads above this one.
     Above(Tid),
 }
 
-impl Whom {
+impl PartnerThreads {
     /// Whether the offers of this thread are looked for.
     pub fn is(self, other: Tid) -> bool
         ensures { (leaf : ℕ) → result ≡ spec.is_of self (record { tid = other; leaf = leaf }) }
     {
         match self {
-            Whom::Others(tid) => tid.0 != other.0,
-            Whom::Above(tid) => tid.0 < other.0,
+            PartnerThreads::Others(tid) => tid.0 != other.0,
+            PartnerThreads::Above(tid) => tid.0 < other.0,
         }
     }
 }
@@ -119,66 +119,69 @@ impl Lane {
         self.count_under(Bound::Below(tid), tally)
     }
 
-    /// How many offers are of the threads that `whom` names.
-    pub fn others_count(&self, whom: Whom, tally: &mut Tally) -> usize
-        ensures count { result ≡ length (spec.those whom self.now.places) }
+    /// How many offers are of the threads that `partner_threads` names.
+    pub fn others_count(&self, partner_threads: PartnerThreads, tally: &mut Tally) -> usize
+        ensures count { result ≡ length (spec.those partner_threads self.now.places) }
         ensures cost { (digits : ℕ) → length self.now.places < 2 ^ digits →
             tally.new ≤ tally.old + 2 * digits }
     {
+        // Read for the proof alone, which uses what is promised of it.
         let _ = &self.places;
-        match whom {
-            Whom::Others(tid) => {
+        match partner_threads {
+            PartnerThreads::Others(tid) => {
                 let low = self.count_under(Bound::Below(tid), tally);
                 let high = self.count_under(Bound::UpTo(tid), tally);
                 low + (self.len() - high)
             }
-            Whom::Above(tid) => self.len() - self.count_under(Bound::UpTo(tid), tally),
+            PartnerThreads::Above(tid) => self.len() - self.count_under(Bound::UpTo(tid), tally),
         }
     }
 
-    /// The offer at this place among those of the threads that `whom` names.
-    pub fn other(&self, whom: Whom, j: usize, tally: &mut Tally) -> Place
-        requires { j < length (spec.those whom self.now.places) }
-        ensures value { result ≡ slice_index_or (spec.those whom self.now.places) j result }
+    /// The offer at this place among those of the threads that `partner_threads` names.
+    pub fn other(&self, partner_threads: PartnerThreads, j: usize, tally: &mut Tally) -> Place
+        requires { j < length (spec.those partner_threads self.now.places) }
+        ensures value { result ≡ slice_index_or (spec.those partner_threads self.now.places) j result }
         ensures cost { (digits : ℕ) → length self.now.places < 2 ^ digits →
             tally.new ≤ tally.old + (2 * digits + 1) }
     {
+        // Read for the proof alone, which uses what is promised of it.
         let _ = &self.places;
         let _len = self.len();
-        match whom {
-            Whom::Others(tid) => {
+        match partner_threads {
+            PartnerThreads::Others(tid) => {
                 let low = self.count_under(Bound::Below(tid), tally);
                 let high = self.count_under(Bound::UpTo(tid), tally);
                 let k = if j < low { j } else { high + (j - low) };
                 self.look(k, tally)
             }
-            Whom::Above(tid) => {
+            PartnerThreads::Above(tid) => {
                 let high = self.count_under(Bound::UpTo(tid), tally);
                 self.look(high + j, tally)
             }
         }
     }
 
-    /// Whether there is an offer of a thread that `whom` names.
-    pub fn has_other(&self, whom: Whom, tally: &mut Tally) -> bool
-        ensures value { result ≡ list_any (spec.is_of whom) self.now.places }
+    /// Whether there is an offer of a thread that `partner_threads` names.
+    pub fn has_other(&self, partner_threads: PartnerThreads, tally: &mut Tally) -> bool
+        ensures value { result ≡ list_any (spec.is_of partner_threads) self.now.places }
         ensures cost { tally.new ≤ tally.old + 2 }
     {
+        // Read for the proof alone, which uses what is promised of it.
         let _ = &self.places;
         let len = self.len();
         if len == 0 {
             return false;
         }
         let last = self.look(len - 1, tally);
-        match whom {
-            Whom::Others(tid) => {
+        match partner_threads {
+            PartnerThreads::Others(tid) => {
                 let first = self.look(0, tally);
                 if first.tid.0 != tid.0 {
                     return true;
                 }
                 last.tid.0 != tid.0
             }
-            Whom::Above(tid) => tid.0 < last.tid.0,
+            PartnerThreads::Above(tid) => tid.0 < last.tid.0,
         }
     }
 
@@ -252,7 +255,9 @@ fn move_tail_to(places: &mut [Place], tail: usize, at: usize)
     ensures after { (front back : List Place) → places.old ≡ front ++ back → length front ≡ tail →
         places.new ≡ take at front ++ (back ++ drop at front) }
 {
-    places[at..].rotate_left(tail - at);
+    if at < tail {
+        places[at..].rotate_left(tail - at);
+    }
 }
 
 // Takes this many offers away from the place `at` on.
@@ -263,6 +268,8 @@ fn remove_run(places: &mut Vec<Place>, at: usize, count: usize)
     ensures capacity { vec_capacity places.new ≡ vec_capacity places.old }
 {
     let len = places.len();
-    places[at..].rotate_left(count);
+    if at + count < len {
+        places[at..].rotate_left(count);
+    }
     places.truncate(len - count);
 }

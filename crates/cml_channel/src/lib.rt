@@ -8,7 +8,7 @@ mod swap;
 mod tally;
 
 pub use channel::{ChannelSide, Channels};
-pub use lane::{Lane, Whom};
-pub use pairing::{PairedId, Pairing, SidePlace, do_meet, hands, place};
+pub use lane::{Lane, PartnerThreads};
+pub use pairing::{PairedId, PairedKind, SidePlace, do_meet, hands, place};
 pub use swap::{SwapChannels, SwapSide};
 pub use tally::Tally;

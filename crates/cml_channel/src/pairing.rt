@@ -6,14 +6,14 @@ ghost use Rattle.cml_channel.specs.Handed.{handed};
 ghost use Rattle.cml_channel.specs.Pairings as spec;
 
 use crate::channel::Channels;
-use crate::lane::Whom;
+use crate::lane::PartnerThreads;
 use crate::swap::SwapChannels;
 use cml_base::Paired;
 use cml_value::{Base, Tid, Value};
 
 /// A kind of object over which two threads meet.
 #[derive(Clone, Copy, PartialEq, Eq, Hash)]
-pub enum Pairing {
+pub enum PairedKind {
     /// A channel: a sender and a receiver meet.
     Channel,
     /// A swap channel: any two swaps meet.
@@ -24,12 +24,12 @@ pub enum Pairing {
 #[derive(Clone, Copy, PartialEq, Eq, Hash)]
 pub struct PairedId {
     /// Its kind.
-    pub kind: Pairing,
+    pub kind: PairedKind,
     /// Its number among those of its kind.
     pub number: u32,
 }
 
-/// Where an offer stands that two threads can meet by.
+/// Where an offer stands by which a thread can meet another one.
 #[derive(Clone, Copy)]
 pub struct SidePlace {
     /// The object.
@@ -38,31 +38,32 @@ pub struct SidePlace {
     pub heads: bool,
 }
 
-impl Pairing {
+impl PairedKind {
     /// Whether the sides of an object of the kind are alike, so that any two of them meet.
     pub fn one_lane(self) -> bool
         ensures { result ≡ spec.one_lane self }
     {
         match self {
-            Pairing::Channel => Channels::ONE_LANE,
-            Pairing::Swap => SwapChannels::ONE_LANE,
+            PairedKind::Channel => Channels::ONE_LANE,
+            PairedKind::Swap => SwapChannels::ONE_LANE,
         }
     }
 
-    /// Whom an offer of the thread that stands first meets, in the lane of those whom it can meet.
-    pub fn whom(self, tid: Tid) -> Whom
-        ensures { result ≡ spec.whom self tid }
+    /// Which offers of that lane an offer of this thread meets as the head: those of all other threads; where all sides are alike, those of
+    /// the threads above it alone, so that each pair stands once, the lower thread first.
+    pub fn partner_threads(self, tid: Tid) -> PartnerThreads
+        ensures { result ≡ spec.partner_threads self tid }
     {
         if self.one_lane() {
-            Whom::Above(tid)
+            PartnerThreads::Above(tid)
         } else {
-            Whom::Others(tid)
+            PartnerThreads::Others(tid)
         }
     }
 }
 
 // The place of the side that the base event is, if it is one of this kind.
-fn place_in<P: Paired>(kind: Pairing, base: &Base) -> Option<SidePlace>
+fn place_in<P: Paired>(kind: PairedKind, base: &Base) -> Option<SidePlace>
     ensures { result ≡ spec.placed kind P.key_of P.is_head (P.side_of base.now) }
 {
     match P::place(base) {
@@ -78,9 +79,9 @@ fn place_in<P: Paired>(kind: Pairing, base: &Base) -> Option<SidePlace>
 pub fn place(base: &Base) -> Option<SidePlace>
     ensures { result ≡ spec.side_place base.now }
 {
-    match place_in::<Channels>(Pairing::Channel, base) {
+    match place_in::<Channels>(PairedKind::Channel, base) {
         Some(place) => Some(place),
-        None => place_in::<SwapChannels>(Pairing::Swap, base),
+        None => place_in::<SwapChannels>(PairedKind::Swap, base),
     }
 }
 
@@ -94,13 +95,14 @@ impl SidePlace {
     }
 }
 
-/// Whether leaves of the two threads that wait for these communicate, the first as the head.
+/// Whether leaves of the two threads that wait for these base events communicate, the first as the head. It is asked of a row that is
+/// named, as at a commit; partners are looked for in lanes.
 #[tactic(auto, using(crate::proofs::Pairs::do_meet_by_place))]
 pub fn do_meet(head: Tid, first: &Base, other: Tid, second: &Base) -> bool
     ensures { result ≡ do_meet_in_scan head.0 first.now other.0 second.now }
 {
     match (place(first), place(second)) {
-        (Some(s), Some(t)) => s.leads(&t) && s.object.kind.whom(head).is(other),
+        (Some(s), Some(t)) => s.leads(&t) && s.object.kind.partner_threads(head).is(other),
         _ => false,
     }
 }
@@ -123,8 +125,8 @@ pub fn hands(head: Base, other: Base) -> (Value, Value)
 {
     match place(&head) {
         Some(place) => match place.object.kind {
-            Pairing::Channel => hands_in::<Channels>(head, other),
-            Pairing::Swap => hands_in::<SwapChannels>(head, other),
+            PairedKind::Channel => hands_in::<Channels>(head, other),
+            PairedKind::Swap => hands_in::<SwapChannels>(head, other),
         },
         None => unreachable!(),
     }

@@ -108,14 +108,14 @@ act_number act_of.SwapChan = 1
 act_number act_of.IVar = 2
 act_number act_of.MVar = 3
 act_number act_of.Mailbox = 4
-act_number act_of.MChan = 5
+act_number act_of.Mchan = 5
 act_number act_of.Exit = 6
 act_number act_of.Yield = 7
 act_number act_of.OwnThread = 8
 act_number act_of.Now = 9
 
 abbrev pub act_by : ℕ → Act
-act_by n = get_or (act_of.Chan ∷ act_of.SwapChan ∷ act_of.IVar ∷ act_of.MVar ∷ act_of.Mailbox ∷ act_of.MChan ∷ act_of.Exit ∷ act_of.Yield ∷ act_of.OwnThread ∷ act_of.Now ∷ []) n act_of.Chan
+act_by n = get_or (act_of.Chan ∷ act_of.SwapChan ∷ act_of.IVar ∷ act_of.MVar ∷ act_of.Mailbox ∷ act_of.Mchan ∷ act_of.Exit ∷ act_of.Yield ∷ act_of.OwnThread ∷ act_of.Now ∷ []) n act_of.Chan
 
 pub act_back : (x : Act) → act_by (act_number x) ≡ x
 act_back act_of.Chan = refl
@@ -123,7 +123,7 @@ act_back act_of.SwapChan = refl
 act_back act_of.IVar = refl
 act_back act_of.MVar = refl
 act_back act_of.Mailbox = refl
-act_back act_of.MChan = refl
+act_back act_of.Mchan = refl
 act_back act_of.Exit = refl
 act_back act_of.Yield = refl
 act_back act_of.OwnThread = refl

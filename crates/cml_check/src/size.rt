@@ -5,6 +5,6 @@
 pub struct Size {
     /// How many functions it has.
     pub functions: u32,
-    /// How many statements, those of branches and loops with the others. The keyword `do` of a branch is none.
+    /// How many statements it has, those inside branches and loops too. The `do` of a branch is not one.
     pub statements: u32,
 }

@@ -56,7 +56,7 @@ pub enum Act {
     /// An M-variable that is empty.
     MVar,
     Mailbox,
-    MChan,
+    Mchan,
     Exit,
     Yield,
     /// The thread itself.

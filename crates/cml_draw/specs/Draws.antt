@@ -28,7 +28,7 @@ abbrev pub ItemsLead : PlainCourse → List Item → PlainCourse → Type 0
 ItemsLead c [] c' = c' ≡ c
 ItemsLead c (item ∷ items) c' = (next : PlainCourse) × Adds c item next × ItemsLead next items c'
 
--- of these items those before one number and up to another, counted from 1; and those from the one on, up to the other
+-- The items of numbers below `from`; and those from `from` to `to`. Numbers are counted from 1, and no item above `to` is among either.
 abbrev pub items_before : ℕ → ℕ → List Item → List Item
 items_before from to items = take (from - 1) (take to items)
 

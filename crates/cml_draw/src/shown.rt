@@ -18,7 +18,7 @@ use cml_narrative::Narrator;
 use cml_text::Sexpr;
 use std::alloc::Global;
 
-// The first of these, so many.
+// The first `count` of these.
 fn first_of(items: &[Item], count: usize) -> &[Item]
     ensures { result.now ≡ take count items.now }
 {
@@ -29,7 +29,7 @@ fn first_of(items: &[Item], count: usize) -> &[Item]
     }
 }
 
-// Those behind them.
+// Those after the first `count`.
 fn behind(items: &[Item], count: usize) -> &[Item]
     ensures { result.now ≡ drop count items.now }
 {
@@ -155,8 +155,8 @@ fn show_all(
     Ok(())
 }
 
-/// Follows the items up to the last that is shown, and adds what those show that are shown. Returns how many threads there were before
-/// these.
+/// Follows the items up to number `to`, and adds what those from number `from` on show. Returns how many threads there were before item
+/// `from`.
 pub(crate) fn show_range(
     alloc: Global,
     narrator: &mut Narrator<'_>,

@@ -40,9 +40,10 @@ fn drawn(
     picture_of(alloc, name, threads, sheet.marks.as_slice(), height)
 }
 
-/// The picture of the items of a schedule from one number on, up to another, counted from 1, as an SVG 1.1 file of this name. The hub stands
-/// at the beginning of a run of the program of this text and these forms, and follows the items up to the last one that is shown. There are
-/// at most 2,000 rows: one for each item, and two for a swap; what only computes, makes, waits or prints counts none.
+/// The picture of the items of a schedule from one number on, up to another, counted from 1, as an SVG 1.1 file of this name. The hub
+/// stands at the beginning of a run of the program of this text and these forms, and follows the items up to the last one that is shown.
+/// There are at most 2,000 rows: one for each thing that is shown (two for a swap); prints and nacks that fire are not counted. A turn that
+/// only computes, makes an object or waits shows nothing.
 ///
 /// # Errors
 /// An item that can't happen where it stands; more rows; or out of memory.

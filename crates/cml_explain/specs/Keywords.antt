@@ -85,7 +85,7 @@ keyword_entry key.Chan = on_none (codes "chan") Effect
 keyword_entry key.SwapChan = on_none (codes "swapchan") Effect
 keyword_entry key.IVar = on_none (codes "ivar") Effect
 keyword_entry key.Mailbox = on_none (codes "mailbox") Effect
-keyword_entry key.MChan = on_none (codes "mchan") Effect
+keyword_entry key.Mchan = on_none (codes "mchan") Effect
 keyword_entry key.Exit = on_none (codes "exit") Effect
 keyword_entry key.Yield = on_none (codes "yield") Effect
 keyword_entry key.OwnThread = on_none (codes "self") Effect
@@ -106,7 +106,7 @@ every_keyword =
     key.True ∷ key.False ∷ key.Unit ∷ key.Never ∷
     key.Not ∷ key.Fst ∷ key.Snd ∷ key.Always ∷ key.Recv ∷ key.IGet ∷ key.MTake ∷ key.MGet ∷ key.MailRecv ∷ key.PortRecv ∷ key.Join ∷ key.At ∷ key.After ∷
     key.Plus ∷ key.Minus ∷ key.Times ∷ key.Less ∷ key.Equal ∷ key.Pair ∷ key.Send ∷ key.Swap ∷ key.MSwap ∷
-    key.Chan ∷ key.SwapChan ∷ key.IVar ∷ key.Mailbox ∷ key.MChan ∷ key.Exit ∷ key.Yield ∷ key.OwnThread ∷ key.Now ∷
+    key.Chan ∷ key.SwapChan ∷ key.IVar ∷ key.Mailbox ∷ key.Mchan ∷ key.Exit ∷ key.Yield ∷ key.OwnThread ∷ key.Now ∷
     key.Sync ∷ key.Port ∷ key.Copy ∷ key.Print ∷ key.IPut ∷ key.MPut ∷ key.Mail ∷ key.Multicast ∷ []
 
 -- the keyword of this spelling, if there is one

@@ -93,7 +93,7 @@ pub enum Keyword {
     SwapChan,
     IVar,
     Mailbox,
-    MChan,
+    Mchan,
     Exit,
     Yield,
     OwnThread,
@@ -154,7 +154,7 @@ const ALL: [Keyword; 57] = [
     Keyword::SwapChan,
     Keyword::IVar,
     Keyword::Mailbox,
-    Keyword::MChan,
+    Keyword::Mchan,
     Keyword::Exit,
     Keyword::Yield,
     Keyword::OwnThread,
@@ -235,7 +235,7 @@ impl Keyword {
             Keyword::SwapChan => "swapchan",
             Keyword::IVar => "ivar",
             Keyword::Mailbox => "mailbox",
-            Keyword::MChan => "mchan",
+            Keyword::Mchan => "mchan",
             Keyword::Exit => "exit",
             Keyword::Yield => "yield",
             Keyword::OwnThread => "self",
@@ -267,7 +267,7 @@ impl Keyword {
             | Keyword::SwapChan
             | Keyword::IVar
             | Keyword::Mailbox
-            | Keyword::MChan
+            | Keyword::Mchan
             | Keyword::Exit
             | Keyword::Yield
             | Keyword::OwnThread
@@ -354,7 +354,7 @@ impl Keyword {
             | Keyword::SwapChan
             | Keyword::IVar
             | Keyword::Mailbox
-            | Keyword::MChan
+            | Keyword::Mchan
             | Keyword::Exit
             | Keyword::Yield
             | Keyword::OwnThread
@@ -398,7 +398,7 @@ impl Keyword {
             | Keyword::SwapChan
             | Keyword::IVar
             | Keyword::Mailbox
-            | Keyword::MChan
+            | Keyword::Mchan
             | Keyword::Exit
             | Keyword::Yield
             | Keyword::OwnThread
@@ -443,7 +443,7 @@ impl Keyword {
             | Keyword::SwapChan
             | Keyword::IVar
             | Keyword::Mailbox
-            | Keyword::MChan
+            | Keyword::Mchan
             | Keyword::Exit
             | Keyword::Yield
             | Keyword::OwnThread
@@ -546,7 +546,7 @@ impl Keyword {
             | Keyword::SwapChan
             | Keyword::IVar
             | Keyword::Mailbox
-            | Keyword::MChan
+            | Keyword::Mchan
             | Keyword::Exit
             | Keyword::Yield
             | Keyword::OwnThread

@@ -1,9 +1,9 @@
 -- A class of a later part among classes.
 use Rattle.std.proofs.Common.{◌≡◌, ℕ, zero, suc, ◌+◌, ◌<◌, ◌≤◌, Bool, true, false, if◌then◌else◌, ◌||◌, List, [], ◌∷◌, ◌++◌, map, length, take, get_or, set, ◌^◌, Some, refl, sym, ap, subst, ◌∙◌, arith}
-use Rattle.std.specs.Prelude.{position, slice_get, sum_by, Result, Ok, Err, OnOk}
+use Rattle.std.specs.Prelude.{position, slice_get, Result, Ok, Err, OnOk}
 use Rattle.std.proofs.lemmas.List.Quantifiers.{position-Some}
 use Rattle.std.proofs.lemmas.List.Sums.{sum_by-cons}
-use Rattle.std.specs.List.{All, fold, list_any}
+use Rattle.std.specs.List.{All, list_any}
 use Rattle.std.proofs.lemmas.List.Elements.{All-nil, All-cons, All-head, All-tail}
 use Rattle.cml_explore.specs.declared.detail.Detail.{Detail}
 use Rattle.cml_explore.specs.Details.{alike}

@@ -9,6 +9,7 @@ pub mod ExploreLemmas
 pub mod MergeLemmas
 pub mod JoinLemmas
 pub mod PartLemmas
+pub mod PlaceLemmas
 pub mod Crossing
 pub mod SightLemmas
 pub mod AnswerLemmas

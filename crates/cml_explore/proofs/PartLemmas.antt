@@ -1,8 +1,7 @@
 -- What a part comes to with what was made before.
 use Rattle.std.proofs.Common.{◌≡◌, inr, ℕ, zero, suc, ◌+◌, ◌-◌, ◌*◌, ◌<◌, ◌≤◌, ◌^◌, min, Bool, true, false, if◌then◌else◌, ◌||◌, List, [], ◌∷◌, ◌++◌, map, length, get_or, refl, sym, ap, subst, ◌∙◌, arith}
-use Rattle.std.specs.Prelude.{sum_by, Result, Ok, Err, IfOk}
+use Rattle.std.specs.Prelude.{Result, Ok, Err, IfOk}
 use Rattle.std.specs.declared.alloc.AllocError.{AllocError}
-use Rattle.std.specs.List.{list_any, list_all}
 use Rattle.std.proofs.lemmas.List.{append_assoc, length-append, length_push, map-append}
 use Rattle.std.proofs.lemmas.List.Sums.{sum_by-cons}
 use Rattle.std.proofs.Math.Nat.{add-mul}
@@ -14,9 +13,9 @@ use Rattle.cml_explore.specs.declared.share.Round.{Round}
 use Rattle.cml_explore.specs.Details.{alike}
 use Rattle.cml_explore.specs.Classes.{Finish, PlainClass, grown, classed, classed_all, classes_of}
 use Rattle.cml_explore.specs.Finishes.{PlainEnded, is_well, stops, EachEnds}
-use Rattle.cml_explore.specs.Explored.{PlainExplored, gathered, IsExplored, SoFar, HasMade}
+use Rattle.cml_explore.specs.Explored.{PlainExplored, gathered, IsExplored, SoFar}
 use Rattle.cml_explore.specs.Merges.{parts_merged, runs_of, FitBeside, StopsLast, HasPart, part_asked, AreInside, AreParts, IsRound, JoinsPart, IsAmidRound}
-use Rattle.cml_explore.proofs.ExploreLemmas.{map_long, as_many, the_parts, same_parts, made_so}
+use Rattle.cml_explore.proofs.ExploreLemmas.{map_long, as_many, same_parts}
 use Rattle.cml_explore.proofs.MergeLemmas.{merged_is}
 
 -- ---- the runs of the classes are the runs that were made

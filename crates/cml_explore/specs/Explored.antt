@@ -21,7 +21,7 @@ gathered first ends = record {
   well = list_all is_well ends;
 }
 
--- These are enough runs: as many as were asked for, none of which is one at which to stop; or as many up to the first of those.
+-- These are enough runs: as many as were asked for, none of them one at which to stop; or all up to the first at which to stop.
 abbrev pub AreEnough : Option Until → ℕ → List PlainEnded → Type 0
 AreEnough until runs ends =
     ((length ends ≡ runs) × (list_any (stops until) ends ≡ false))

@@ -1,11 +1,12 @@
 -- The classes of runs that were made in parts, side by side.
-use Rattle.std.specs.Prelude.{ℕ, ◌≡◌, ◌+◌, ◌*◌, ◌-◌, ◌<◌, ◌≤◌, ◌^◌, min, Bool, true, false, ◌&&◌, if◌then◌else◌, List, [], ◌∷◌, ◌++◌, Result, Ok, IfOk, length, slice_index_or, sum_by}
-use Rattle.std.specs.List.{fold, list_any}
+use Rattle.std.specs.Prelude.{ℕ, ◌≡◌, ◌+◌, ◌*◌, ◌-◌, ◌<◌, ◌≤◌, ◌^◌, min, Bool, true, false, ◌&&◌, if◌then◌else◌, List, [], ◌∷◌, ◌++◌, Option, Some, Result, Ok, IfOk, length, slice_get, slice_index_or, sum_by}
+use Rattle.std.specs.List.{All, fold, list_any}
 use Rattle.std.specs.declared.alloc.AllocError.{AllocError}
 use Rattle.cml_check.specs.Syntax.{PlainItem}
 use Rattle.cml_explore.specs.declared.explored.Asked.{Asked}
 use Rattle.cml_explore.specs.declared.share.Part.{Part}
 use Rattle.cml_explore.specs.declared.share.Round.{Round}
+use Rattle.cml_explore.specs.declared.share.Taken.{Taken}
 use Rattle.cml_explore.specs.Details.{alike}
 use Rattle.cml_explore.specs.Classes.{PlainTally, PlainClass, with_digest, shorter}
 use Rattle.cml_explore.specs.Finishes.{PlainEnded, stops, EachEnds}
@@ -78,6 +79,19 @@ AreInside round count = (k : ℕ) → k < count → runs_before round k < round.
 abbrev pub AreParts : List (PlainItem ℕ) → Asked → Round → ℕ → List (Result Part AllocError) → Type 0
 AreParts p asked round count parts =
     (k : ℕ) (d : Result Part AllocError) → k < count → IfOk (slice_index_or parts k d) (λ part. HasPart p (part_asked asked round k) part.stopped part.made)
+
+-- a part that a thread has taken: its number is one of so many, and it is what is asked of the part of that number
+abbrev pub IsPartTaken : List (PlainItem ℕ) → Asked → Round → ℕ → Taken → Type 0
+IsPartTaken p asked round count taken = (taken.number < count) × IfOk taken.part (λ part. HasPart p (part_asked asked round taken.number) part.stopped part.made)
+
+-- the parts that a thread has taken
+abbrev pub ArePartsTaken : List (PlainItem ℕ) → Asked → Round → ℕ → List Taken → Type 0
+ArePartsTaken p asked round count taken = All (IsPartTaken p asked round count) taken
+
+-- what lies at a place is the part of its number
+abbrev pub ArePartsPlaced : List (PlainItem ℕ) → Asked → Round → List (Option (Result Part AllocError)) → Type 0
+ArePartsPlaced p asked round places =
+    (k : ℕ) (part : Part) → slice_get places k ≡ Some (Some (Ok part)) → HasPart p (part_asked asked round k) part.stopped part.made
 
 -- the round goes on behind what was made
 pub record IsRound (asked : Asked) (made : PlainExplored) (round : Round) : Type 0 where

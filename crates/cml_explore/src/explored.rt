@@ -34,7 +34,7 @@ pub enum Until {
 /// Which runs are asked for.
 #[derive(Clone, Copy)]
 pub struct Asked<'a> {
-    /// How much of the budget each may use, from 1 to 1,000,000,000.
+    /// The budget: how many steps each may take, from 1 to 1,000,000,000.
     pub budget: u64,
     /// The seed of the first. Each further one has the seed that follows.
     pub first: u64,

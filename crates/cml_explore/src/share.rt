@@ -1,19 +1,29 @@
 //! Runs that are shared among threads.
 
-ghost use Rattle.std.specs.Prelude.{◌≡◌, ◌≤◌, ◌<◌, ◌+◌, ◌^◌, ℕ, length, min, IfOk, OnOk, OnErr};
+ghost use Rattle.std.specs.Prelude.{◌≡◌, ◌≤◌, ◌<◌, ◌+◌, ◌^◌, ℕ, List, None, Some, Ok, length, min, max, IfOk, OnOk, OnErr};
+ghost use Rattle.std.specs.List.{All};
+ghost use Rattle.cml_check.specs.Syntax.{PlainItem};
 ghost use Rattle.cml_hub.specs.Kept.{IsBudget};
 ghost use Rattle.cml_explore.specs.Explored.{SoFar, HasMade};
 ghost use Rattle.cml_explore.specs.Merges as spec;
-ghost use Rattle.cml_explore.specs.Merges.{FitBeside, HasPart, AreInside, AreParts, IsRound, JoinsPart, runs_before};
+ghost use Rattle.cml_explore.specs.declared.explored.Asked.{Asked};
+ghost use Rattle.cml_explore.specs.declared.share.Round.{Round};
+ghost use Rattle.cml_explore.specs.Merges.{FitBeside, HasPart, AreInside, AreParts, ArePartsPlaced, ArePartsTaken, IsPartTaken, IsRound, JoinsPart, runs_before};
 
 use crate::explored::{Asked, Explored, are_all};
 use cml_check::Prog;
 use std::alloc::{AllocError, Global};
+use std::sync::atomic::{AtomicUsize, Ordering};
 use std::thread::{self, Threads};
 
-/// How many runs a thread makes in a round, where no more classes are known than that. What a part leaves are its classes, so it takes no more
-/// memory where it is larger.
-const PART: u64 = 256;
+/// How many runs a round has for each thread at least, where so many are left.
+const LEAST: u64 = 256;
+
+/// How many it has at most, where no more classes are known than that.
+const MOST: u64 = 4096;
+
+/// In how many parts those of one thread are cut. A thread that is slower than another takes fewer of them.
+const PARTS: u64 = 16;
 
 /// Some of the runs that are left, in parts of one size, by the seeds from this one on.
 #[derive(Clone, Copy)]
@@ -30,6 +40,13 @@ struct Part {
     stopped: bool,
 }
 
+// A part by its number in the round, which a thread has taken.
+#[derive(Drop)]
+struct Taken {
+    number: usize,
+    part: Result<Part, AllocError>,
+}
+
 // The lesser of the two.
 fn lesser(one: u64, other: u64) -> u64
     ensures { result ≡ min one other }
@@ -37,19 +54,29 @@ fn lesser(one: u64, other: u64) -> u64
     if other < one { other } else { one }
 }
 
-// How many runs a part has, where so many are left for so many threads and so many classes are known. What is known is copied once a round, so
-// a round has at least as many runs as there are classes.
-fn part_size(left: u64, workers: u64, classes: u64) -> u64
-    requires { (0 < left) × (0 < workers) }
+// The greater of the two.
+fn greater(one: u64, other: u64) -> u64
+    ensures { result ≡ max one other }
+{
+    if one < other { other } else { one }
+}
+
+// How many runs a round has for each thread, where so many were made that have so many classes. What is known is copied once a round, so a
+// round has at least as many runs as there are classes, and grows with the runs that were made.
+fn round_share(made: u64, workers: u64, classes: u64) -> u64
+    requires { 0 < workers }
     ensures { 0 < result }
 {
-    let even = left.div_ceil(workers);
-    let many = classes / workers;
-    if many > PART {
-        lesser(many, even)
-    } else {
-        lesser(PART, even)
-    }
+    let grown = lesser(greater(made / workers, LEAST), MOST);
+    greater(grown, classes / workers)
+}
+
+// How many runs a part has, where so many are left for so many threads, and a round has so many for each.
+fn part_size(left: u64, workers: u64, share: u64) -> u64
+    requires { (0 < left) × (0 < workers) × (0 < share) }
+    ensures { 0 < result }
+{
+    lesser(share, left.div_ceil(workers)).div_ceil(PARTS)
 }
 
 // The round that goes on behind what was made.
@@ -60,10 +87,11 @@ fn next_round(made: &Explored, asked: &Asked<'_>, workers: usize) -> Round
     ensures { IsRound asked.now made.now result }
 {
     let left = asked.runs - made.runs();
+    let share = round_share(made.runs(), workers as u64, made.classes().len() as u64);
     Round {
         first: asked.first + made.runs(),
         left,
-        size: part_size(left, workers as u64, made.classes().len() as u64),
+        size: part_size(left, workers as u64, share),
     }
 }
 
@@ -73,7 +101,8 @@ fn part_count(round: Round, workers: usize) -> usize
     ensures some { 0 < result }
     ensures inside { AreInside round result }
 {
-    lesser(round.left.div_ceil(round.size), workers as u64) as usize
+    let most = (workers as u64).saturating_mul(PARTS);
+    lesser(round.left.div_ceil(round.size), most) as usize
 }
 
 // What is asked of the part of this number.
@@ -131,7 +160,179 @@ fn make_part_of(
     make_part(alloc, program, &own)
 }
 
-// The parts of a round, each by a thread of its own.
+// Makes one part after another: each time the next one that no thread has taken.
+fn take_parts(
+    alloc: Global,
+    program: &Prog,
+    asked: &Asked<'_>,
+    round: Round,
+    count: usize,
+    next: &AtomicUsize,
+) -> Result<Vec<Taken>, AllocError>
+    requires budget { IsBudget asked.now.budget }
+    requires seeds { round.first + round.left ≤ 2 ^ 64 }
+    requires inside { AreInside round count }
+    ensures { IfOk result (λ taken. ArePartsTaken program.now asked.now round count taken.items) }
+{
+    let mut taken = Vec::new(alloc);
+    'taking: for _ in 0..count {
+        let number = next.fetch_add(1, Ordering::SeqCst);
+        if number >= count {
+            return Ok(taken);
+        }
+        let part = make_part_of(alloc, program, asked, round, number);
+        taken.push(Taken { number, part })?;
+    }
+    Ok(taken)
+}
+
+// A place for each part of a round, at which nothing lies.
+fn no_parts(
+    alloc: Global,
+    count: usize,
+) -> Result<Vec<Option<Result<Part, AllocError>>>, AllocError>
+    ensures long { IfOk result (λ places. length places.items ≡ count) }
+    ensures none { IfOk result (λ places. All (λ place. place ≡ None) places.items) }
+{
+    let mut places = Vec::new(alloc);
+    for _ in 0..count {
+        places.push(None)?;
+    }
+    Ok(places)
+}
+
+// Lays a part at the place of its number.
+fn lay(places: &mut Vec<Option<Result<Part, AllocError>>>, taken: Taken)
+    requires { taken.number < length places.old.items }
+    ensures long { length places.new.items ≡ length places.old.items }
+    ensures placed { (p : List (PlainItem ℕ)) (asked : Asked) (round : Round) → IsPartTaken p asked round (length places.old.items) taken
+        → ArePartsPlaced p asked round places.old.items → ArePartsPlaced p asked round places.new.items }
+{
+    let Taken { number, part } = taken;
+    places[number] = Some(part);
+}
+
+// Lays the parts that a thread has taken at the places of their numbers.
+fn lay_taken(
+    program: &Prog,
+    asked: &Asked<'_>,
+    round: Round,
+    places: &mut Vec<Option<Result<Part, AllocError>>>,
+    mut taken: Vec<Taken>,
+)
+    requires taken { ArePartsTaken program.now asked.now round (length places.old.items) taken.items }
+    requires placed { ArePartsPlaced program.now asked.now round places.old.items }
+    ensures long { length places.new.items ≡ length places.old.items }
+    ensures placed { ArePartsPlaced program.now asked.now round places.new.items }
+{
+    'laying: while let Some(one) = taken.pop() {
+        lay(places, one);
+    }
+}
+
+// Lays the parts that the threads have taken at the places of their numbers.
+fn lay_all(
+    program: &Prog,
+    asked: &Asked<'_>,
+    round: Round,
+    places: &mut Vec<Option<Result<Part, AllocError>>>,
+    mut all: Vec<Result<Vec<Taken>, AllocError>>,
+) -> Result<(), AllocError>
+    requires taken { All (λ one. IfOk one (λ taken. ArePartsTaken program.now asked.now round (length places.old.items) taken.items)) all.items }
+    requires placed { ArePartsPlaced program.now asked.now round places.old.items }
+    ensures long { OnOk result (length places.new.items ≡ length places.old.items) }
+    ensures placed { OnOk result (ArePartsPlaced program.now asked.now round places.new.items) }
+{
+    'laying: while let Some(one) = all.pop() {
+        let taken = one?;
+        lay_taken(program, asked, round, places, taken);
+    }
+    Ok(())
+}
+
+// Takes away what lies at the place of this number.
+fn lift(
+    places: &mut Vec<Option<Result<Part, AllocError>>>,
+    number: usize,
+) -> Option<Result<Part, AllocError>>
+    requires { number < length places.old.items }
+    ensures long { length places.new.items ≡ length places.old.items }
+    ensures part { (p : List (PlainItem ℕ)) (asked : Asked) (round : Round) → ArePartsPlaced p asked round places.old.items
+        → (part : Part) → result ≡ Some (Ok part) → HasPart p (spec.part_asked asked round number) part.stopped part.made }
+    ensures placed { (p : List (PlainItem ℕ)) (asked : Asked) (round : Round) → ArePartsPlaced p asked round places.old.items → ArePartsPlaced p asked round places.new.items }
+{
+    places[number].take()
+}
+
+// What lay at the place of this number. Where nothing did, no thread has made the part: it is made now.
+fn found_part(
+    alloc: Global,
+    program: &Prog,
+    asked: &Asked<'_>,
+    round: Round,
+    number: usize,
+    found: Option<Result<Part, AllocError>>,
+) -> Result<Part, AllocError>
+    requires budget { IsBudget asked.now.budget }
+    requires seeds { round.first + round.left ≤ 2 ^ 64 }
+    requires inside { runs_before round number < round.left }
+    requires found { (part : Part) → found ≡ Some (Ok part) → HasPart program.now (spec.part_asked asked.now round number) part.stopped part.made }
+    ensures { IfOk result (λ made. HasPart program.now (spec.part_asked asked.now round number) made.stopped made.made) }
+{
+    match found {
+        Some(part) => part,
+        None => make_part_of(alloc, program, asked, round, number),
+    }
+}
+
+// The parts in the order of their numbers.
+fn in_order(
+    alloc: Global,
+    program: &Prog,
+    asked: &Asked<'_>,
+    round: Round,
+    mut places: Vec<Option<Result<Part, AllocError>>>,
+) -> Result<Vec<Result<Part, AllocError>>, AllocError>
+    requires budget { IsBudget asked.now.budget }
+    requires seeds { round.first + round.left ≤ 2 ^ 64 }
+    requires inside { AreInside round (length places.items) }
+    requires placed { ArePartsPlaced program.now asked.now round places.items }
+    ensures many { IfOk result (λ parts. length parts.items ≡ length places.items) }
+    ensures parts { IfOk result (λ parts. AreParts program.now asked.now round (length places.items) parts.items) }
+{
+    let mut parts = Vec::new(alloc);
+    for number in 0..places.len() {
+        let found = lift(&mut places, number);
+        let part = found_part(alloc, program, asked, round, number, found);
+        parts.push(part)?;
+    }
+    Ok(parts)
+}
+
+// What each of so many threads makes of the parts of a round.
+fn take_all<R: Threads + Sync>(
+    rt: &R,
+    alloc: Global,
+    program: &Prog,
+    asked: &Asked<'_>,
+    round: Round,
+    count: usize,
+    workers: usize,
+) -> Result<Vec<Result<Vec<Taken>, AllocError>>, AllocError>
+    requires budget { IsBudget asked.now.budget }
+    requires seeds { round.first + round.left ≤ 2 ^ 64 }
+    requires inside { AreInside round count }
+    ensures { IfOk result (λ all. All (λ one. IfOk one (λ taken. ArePartsTaken program.now asked.now round count taken.items)) all.items) }
+{
+    let next = AtomicUsize::new(0);
+    let take = |_worker: usize| -> Result<Vec<Taken>, AllocError>
+        requires { IsBudget asked.now.budget × (round.first + round.left ≤ 2 ^ 64) × AreInside round count }
+        ensures { IfOk result (λ taken. ArePartsTaken program.entry.now asked.entry.now round count taken.items) }
+    { take_parts(alloc, program, asked, round, count, &next) };
+    thread::map_indices(rt, alloc, workers, &take)
+}
+
+// The parts of a round, in the order of their numbers, by so many threads, or as many as there are parts.
 fn make_parts<R: Threads + Sync>(
     rt: &R,
     alloc: Global,
@@ -139,6 +340,7 @@ fn make_parts<R: Threads + Sync>(
     asked: &Asked<'_>,
     round: Round,
     count: usize,
+    workers: usize,
 ) -> Result<Vec<Result<Part, AllocError>>, AllocError>
     requires budget { IsBudget asked.now.budget }
     requires seeds { round.first + round.left ≤ 2 ^ 64 }
@@ -146,11 +348,11 @@ fn make_parts<R: Threads + Sync>(
     ensures many { IfOk result (λ parts. length parts.items ≡ count) }
     ensures parts { IfOk result (λ parts. AreParts program.now asked.now round count parts.items) }
 {
-    let make = |part: usize| -> Result<Part, AllocError>
-        requires { IsBudget asked.now.budget × (round.first + round.left ≤ 2 ^ 64) × (runs_before round part < round.left) }
-        ensures { IfOk result (λ made. HasPart program.entry.now (spec.part_asked asked.entry.now round part) made.stopped made.made) }
-    { make_part_of(alloc, program, asked, round, part) };
-    thread::map_indices(rt, alloc, count, &make)
+    let threads = lesser(count as u64, workers as u64) as usize;
+    let all = take_all(rt, alloc, program, asked, round, count, threads)?;
+    let mut places = no_parts(alloc, count)?;
+    lay_all(program, asked, round, &mut places, all)?;
+    in_order(alloc, program, asked, round, places)
 }
 
 // The runs of a part come behind those that were made. Returns whether the last of them is one at which to stop.
@@ -193,7 +395,7 @@ fn go_round<R: Threads + Sync>(
     let wanted = asked.runs;
     let round = next_round(so_far, asked, workers);
     let count = part_count(round, workers);
-    let parts = make_parts(rt, alloc, program, asked, round, count)?;
+    let parts = make_parts(rt, alloc, program, asked, round, count, workers)?;
     let mut made = Explored::new(alloc);
     made.absorb(alloc, so_far)?;
     let all = parts.as_slice();
@@ -213,8 +415,9 @@ impl Explored {
     /// the last: the last of them is one at which to stop, or all were made that were asked for. What is kept is what [`go`](Explored::go) would
     /// have kept, by one run after another: where a thread comes to a run at which to stop, what the threads behind it made is let go.
     ///
-    /// A thread makes 256 runs at a time; as many as each other thread, where fewer are left than that for each; or more, where more classes
-    /// are known. Where no thread can be made, its runs are made in its place.
+    /// For each thread there are 256 runs, or more where more were made before or more classes are known, or fewer where fewer are left. They are
+    /// cut in parts, and each thread takes the next that no other has taken, so a slow one makes fewer. Where no thread can be made, the others
+    /// make its runs.
     ///
     /// # Errors
     /// Out of memory. Nothing has changed then.

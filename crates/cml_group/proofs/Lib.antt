@@ -1,4 +1,5 @@
 pub mod Leaves
+pub mod Listed
 pub mod Heights
 pub mod Lost
 pub mod Places

@@ -1,17 +1,16 @@
 //! A group laid flat.
 
-ghost use Rattle.std.specs.Prelude.{◌≡◌, ◌≤◌, ◌<◌, length, map, filter, slice_get, IfOk, IfErr};
+ghost use Rattle.std.specs.Prelude.{◌≡◌, ◌≤◌, ◌<◌, length, map, filter, slice_get, [], OnOk, IfOk, IfErr};
 ghost use Rattle.std.specs.Vec.{vec_capacity};
 ghost use Rattle.cml_value.specs.Group.{PlainGroup, leaf_count, scopes, nacks_of, lies_outside, lost};
 ghost use Rattle.cml_group.specs.Leaves.{pick, leaf_base, leaf_wraps, numbers};
-ghost use Rattle.cml_group.specs.LaidOut.{IsWithinLimits};
+ghost use Rattle.cml_group.specs.LaidOut.{IsWithinLimits, is_leaf, listed_leaves};
 ghost use Rattle.cml_group.specs.Faults.{Refuses};
 
 use crate::fault::FlatFault;
 use crate::lay::{Branch, Branches, Leaf, lay};
-use crate::limit::{MAX_LEAVES, spend_leaves};
-use cml_value::{Base, FnRef, Group, NackId};
-use smallvec::SmallVec;
+use crate::limit::{MAX_LEAVES, has_few_leaves};
+use cml_value::{Base, FnRef, Group, GroupKind, NackId};
 use std::alloc::{AllocError, Global};
 use std::marker::Model;
 
@@ -19,12 +18,16 @@ use std::marker::Model;
 #[derive(Drop)]
 pub struct Flat {
     group: Group,
+    // none where the group is a base event, which is its one leaf
     leaves: Vec<Leaf>,
     branches: Branches,
     nacks: Vec<NackId>,
+    // the functions of such a leaf: none
+    unwrapped: Vec<FnRef>,
 }
 
 impl Model for Flat {
+    ghost use Rattle.std.specs.Prelude.{◌≡◌, []};
     ghost use Rattle.cml_value.specs.Group.{PlainGroup};
     ghost use Rattle.cml_value.specs.GroupCodes.{group_code};
     ghost use Rattle.cml_group.specs.LaidOut.{IsLaidOut};
@@ -36,7 +39,8 @@ impl Model for Flat {
 
     ghost view = { λ a. a.group };
 
-    ghost invariant = { λ a. IsLaidOut a.group a.leaves.items a.branches.items a.nacks.items (vec_capacity a.nacks) };
+    ghost invariant = { λ a. (IsLaidOut a.group a.leaves.items a.branches.items a.nacks.items (vec_capacity a.nacks))
+        × (a.unwrapped.items ≡ []) };
 }
 
 /// What choosing a leaf leads to.
@@ -75,11 +79,44 @@ fn nacks_in(alloc: Global, branches: &[Branch]) -> Result<Vec<NackId>, AllocErro
     Ok(nacks)
 }
 
+// Whether the group is a base event.
+fn is_leaf(group: &Group) -> bool
+    ensures { result ≡ is_leaf group.now }
+{
+    matches!(group.kind(), GroupKind::Leaf(_))
+}
+
+// How many leaves there is to be room for at first: those of a choice among base events.
+fn first_room(group: &Group) -> usize {
+    match group.kind() {
+        GroupKind::Choose(members) => members.len().min(MAX_LEAVES),
+        _ => 0,
+    }
+}
+
+// Fills the lists, which are empty, with the leaves of the group that are listed and with its scopes.
+fn lay_listed(
+    group: &Group,
+    alloc: Global,
+    leaves: &mut Vec<Leaf>,
+    branches: &mut Branches,
+) -> Result<(), AllocError>
+    requires no_leaves { leaves.old.items ≡ [] }
+    requires no_branches { branches.old.items ≡ [] }
+    ensures leaves { OnOk result (leaves.new.items ≡ listed_leaves group.now) }
+    ensures scopes { OnOk result (branches.new.items ≡ scopes group.now) }
+{
+    if is_leaf(group) {
+        return Ok(());
+    }
+    leaves.reserve(first_room(group))?;
+    lay(group, alloc, leaves, branches)
+}
+
 /// The group laid flat: a thread offers its leaves. All that [`Flat::choose`] will hand out is reserved here.
 ///
-/// The leaves are counted exactly, up to the limit, by a walk over the tree, in which a shared part counts each time that it
-/// stands there. It stops at the first leaf above the limit. So a group with few leaves takes as long as it has nodes, also where these
-/// are more than 65,536.
+/// The leaves are counted exactly, up to the limit, as [`has_few_leaves`] does: a walk over the tree, in which a shared part counts
+/// each time that it stands there. So a group with few leaves takes as long as it has nodes, also where these are more than 65,536.
 ///
 /// # Errors
 /// More than [`MAX_LEAVES`] leaves, then too much depth or too many nodes, then out of memory. Each hands the group back.
@@ -88,15 +125,15 @@ pub fn flatten(alloc: Global, group: Group) -> Result<Flat, FlatFault>
     ensures ok { IfOk result (λ flat. flat ≡ group) }
     ensures err { IfErr result (λ fault. Refuses fault group) }
 {
-    if spend_leaves(&group, MAX_LEAVES).is_none() {
+    if !has_few_leaves(&group) {
         return Err(FlatFault::Leaves(group));
     }
     if !group.fits() {
         return Err(FlatFault::Deep(group));
     }
     let mut leaves = Vec::new(alloc);
-    let mut branches = SmallVec::new(alloc);
-    if lay(&group, alloc, &mut leaves, &mut branches).is_err() {
+    let mut branches = Vec::new(alloc);
+    if lay_listed(&group, alloc, &mut leaves, &mut branches).is_err() {
         return Err(FlatFault::Memory(group));
     }
     match nacks_in(alloc, branches.as_slice()) {
@@ -105,6 +142,7 @@ pub fn flatten(alloc: Global, group: Group) -> Result<Flat, FlatFault>
             leaves,
             branches,
             nacks,
+            unwrapped: Vec::new(alloc),
         }),
         Err(_) => Err(FlatFault::Memory(group)),
     }
@@ -123,6 +161,9 @@ impl Flat {
         ensures len { result ≡ leaf_count self.now }
         ensures few { result ≤ MAX_LEAVES }
     {
+        if is_leaf(&self.group) {
+            return 1;
+        }
         self.leaves.len()
     }
 
@@ -131,7 +172,10 @@ impl Flat {
         requires { n < leaf_count self.now }
         ensures { leaf_base self.now n ≡ Some result.now }
     {
-        &self.leaves[n].base
+        match self.group.kind() {
+            GroupKind::Leaf(base) => base,
+            _ => &self.leaves[n].base,
+        }
     }
 
     /// The functions that the result of the leaf goes through, in the order in which they run: innermost first.
@@ -139,7 +183,10 @@ impl Flat {
         requires { n < leaf_count self.now }
         ensures { leaf_wraps self.now n ≡ Some result.now }
     {
-        &self.leaves[n].wraps
+        match self.group.kind() {
+            GroupKind::Leaf(_) => &self.unwrapped,
+            _ => &self.leaves[n].wraps,
+        }
     }
 
     /// The nacks of all scopes, from the left, an outer one before those in it.
@@ -182,13 +229,20 @@ impl Flat {
         ensures lost { numbers result.lost.items ≡ lost self n }
     {
         let Flat {
-            group: _,
+            group,
             mut leaves,
             branches,
             mut nacks,
+            unwrapped,
         } = self;
         fill(&mut nacks, branches.as_slice(), n);
-        let Leaf { base, wraps } = leaves.swap_remove(n);
+        let Leaf { base, wraps } = match group.into_kind() {
+            GroupKind::Leaf(base) => Leaf {
+                base,
+                wraps: unwrapped,
+            },
+            _ => leaves.swap_remove(n),
+        };
         Chosen {
             base,
             wraps,

@@ -247,8 +247,8 @@ impl Forcing {
         Ok(())
     }
 
-    /// Another owner of the same event being forced. It takes a count for each frame around the place where the forcing goes
-    /// on, whatever is forced already.
+    /// A copy of the event being forced, which shares its parts. Each frame around the place where the forcing goes on gets one more owner;
+    /// what is forced already is not gone through.
     ///
     /// # Errors
     /// Out of memory.
@@ -268,6 +268,21 @@ impl Forcing {
         ensures { IsTrue result ↔ (self.now ≡ other.now) }
     {
         self.part.same(&other.part)
+    }
+
+    /// Another owner of the group that the event was forced to, where nothing is asked for.
+    ///
+    /// # Errors
+    /// Out of memory.
+    pub fn group(&self) -> Result<Group, AllocError>
+        requires { unforced self.now ≡ None }
+        ensures { IfOk result (λ g. event_of g ≡ self.now) }
+    {
+        match &self.part {
+            Part::Whole(group) => group.copy(),
+            // Nothing is asked for, so it is whole.
+            Part::Open(_, _) => Ok(Group::new(GroupKind::Never)),
+        }
     }
 
     /// The group that the event was forced to, where nothing is asked for.

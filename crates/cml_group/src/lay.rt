@@ -4,7 +4,6 @@ ghost use Rattle.std.specs.Prelude.{◌≡◌, ◌≤◌, ◌++◌, map, take, d
 ghost use Rattle.cml_value.specs.Group.{leaves as leaves_of, scopes_from, wrapped_by};
 
 use cml_value::{Base, FnRef, Group, GroupKind, NackId};
-use smallvec::SmallVec;
 use std::alloc::{AllocError, Global};
 use std::marker::Model;
 
@@ -56,18 +55,8 @@ impl Model for Branch {
     ghost view = { λ a. record { nack = a.nack.0; first = a.first; past = a.past } };
 }
 
-impl Default for Branch {
-    fn default() -> Branch {
-        Branch {
-            nack: NackId(0),
-            first: 0,
-            past: 0,
-        }
-    }
-}
-
-/// The branches of a group, of which most groups have few.
-pub type Branches = SmallVec<Branch, 4>;
+/// The branches of a group, of which most groups have none.
+pub type Branches = Vec<Branch>;
 
 // Appends the function to those of each leaf from this number on.
 fn wrap_from(leaves: &mut Vec<Leaf>, first: usize, function: &FnRef) -> Result<(), AllocError>

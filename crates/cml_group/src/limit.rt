@@ -11,7 +11,7 @@ pub const MAX_LEAVES: usize = 256;
 
 // What is left of a budget of leaves after the group, where it is enough.
 #[tactic(auto, using(std::proofs::lemmas::Bool::Decides::nat_tests, crate::proofs::Leaves::counts))]
-pub fn spend_leaves(group: &Group, budget: usize) -> Option<usize>
+fn spend_leaves(group: &Group, budget: usize) -> Option<usize>
     ensures enough { is_some result ≡ nat_le (leaf_count group.now) budget }
     ensures left { IfSome result (λ left. left + leaf_count group.now ≡ budget) }
 {
@@ -30,9 +30,14 @@ pub fn spend_leaves(group: &Group, budget: usize) -> Option<usize>
     }
 }
 
-/// Whether the group has at most [`MAX_LEAVES`] leaves. The walk stops at the first one above, and takes no memory.
+/// Whether the group has at most [`MAX_LEAVES`] leaves. One of no more nodes has no more leaves; else a walk counts them, which
+/// stops at the first one above. It takes no memory.
+#[tactic(auto, using(std::proofs::lemmas::Bool::Decides::nat_tests, crate::proofs::Leaves::within))]
 pub fn has_few_leaves(group: &Group) -> bool
     ensures { result ≡ not (nat_lt max_leaves (leaf_count group.now)) }
 {
+    if group.nodes() <= MAX_LEAVES as u64 {
+        return true;
+    }
     spend_leaves(group, MAX_LEAVES).is_some()
 }

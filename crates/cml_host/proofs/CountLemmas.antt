@@ -3,13 +3,13 @@ use Rattle.std.proofs.Common.{◌⊎◌, ◌+◌, ◌<◌, ◌≤◌, ◌^◌, �
 use Rattle.std.proofs.lemmas.Bool.{cases_lt}
 use Rattle.std.specs.Prelude.{IsSomeAnd}
 use Rattle.cml_hub.specs.Kept.{IsBudget, IsWatch}
-use Rattle.cml_words.specs.Words.{IsAnswer, IsExplore, IsReplay, IsRun, IsRuns, Names}
-use Rattle.cml_words.specs.Words as words
-use Rattle.cml_words.specs.declared.Answer.TheVariants as answer
-use Rattle.cml_words.specs.declared.ExploreOptions.{ExploreOptions}
-use Rattle.cml_words.specs.declared.ReplayOptions.{ReplayOptions}
-use Rattle.cml_words.specs.declared.RunOptions.{RunOptions}
-use Rattle.cml_words.specs.declared.Task.TheVariants.{Explore, Replay, Run}
+use Rattle.cml_arguments.specs.Words.{IsAnswer, IsExplore, IsReplay, IsRun, IsRuns, Names}
+use Rattle.cml_arguments.specs.Words as words
+use Rattle.cml_arguments.specs.declared.Answer.TheVariants as answer
+use Rattle.cml_arguments.specs.declared.ExploreOptions.{ExploreOptions}
+use Rattle.cml_arguments.specs.declared.ReplayOptions.{ReplayOptions}
+use Rattle.cml_arguments.specs.declared.RunOptions.{RunOptions}
+use Rattle.cml_arguments.specs.declared.Task.TheVariants.{Explore, Replay, Run}
 use Rattle.cml_work.specs.Works.{IsWorkerCount}
 
 watched : (watch : Option ℕ) → IfSome watch words.IsCount → IsWatch watch

@@ -12,11 +12,11 @@ use Rattle.cml_schedule.specs.Plans.{PlainPlan}
 use Rattle.cml_schedule.specs.Reading.{schedule_limit}
 use Rattle.cml_schedule.specs.declared.item.Item.{Item}
 use Rattle.cml_stream.specs.Streams.{Counted, IsIdle}
-use Rattle.cml_words.specs.declared.PartOptions.{PartOptions}
+use Rattle.cml_arguments.specs.declared.PartOptions.{PartOptions}
 use Rattle.cml_host.specs.Closed.{PlainSubject}
 use Rattle.cml_host.specs.Drawn.{AreDrawn, AreUndrawn, IsDrawnBy, IsFaultOf, IsTooLongBy, IsUndrawnBy, IsWrongBy, TellsFault, TextDrawn, last_drawn}
 use Rattle.cml_host.specs.Narrated.{IsSetUp, IsNotSetUp, tale_for}
-use Rattle.cml_host.specs.Said.{RefusalRan}
+use Rattle.cml_host.specs.Said.{RefusalOutcome}
 use Rattle.cml_host.specs.declared.draw.Undrawn.{Undrawn}
 use Rattle.cml_host.specs.declared.draw.Undrawn.TheVariants.{Refused, TooMany}
 use Rattle.cml_host.specs.declared.said.Refusal.{Refusal}
@@ -94,7 +94,7 @@ whole_drawn options s p output errors status all found is (inr (inr (inr memory)
 -- ---- what was told
 
 pub refusal_told : (options : PartOptions) (s : PlainSubject) (p : List (PlainItem ℕ)) (text : List ℕ) (why : Refusal) (output errors : Counted) (status : ℕ) →
-    IsUndrawnBy s options p text (Refused why) → RefusalRan true options.schedule.now why 3 errors status → IsIdle output → TextDrawn options s p text output errors status
+    IsUndrawnBy s options p text (Refused why) → RefusalOutcome true options.schedule.now why 3 errors status → IsIdle output → TextDrawn options s p text output errors status
 refusal_told options s p text (refusal.Unread reason) output errors status none said idle = absurd none
 refusal_told options s p text (refusal.Wrong told) output errors status wrong said idle = inr (inl (told.items, wrong, said.0, said.1, idle))
 refusal_told options s p text refusal.Memory output errors status any memory idle = inr (inr (inr (memory, idle)))

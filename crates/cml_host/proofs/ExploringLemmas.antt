@@ -16,8 +16,8 @@ use Rattle.cml_schedule.specs.Written.{schedule_text}
 use Rattle.cml_schedule.specs.declared.item.Item.{Item}
 use Rattle.cml_stream.specs.Counts.{counted}
 use Rattle.cml_stream.specs.Streams.{Counted, stream, counted_stream, Says, Takes, TakesStart}
-use Rattle.cml_words.specs.Words.{saved_name}
-use Rattle.cml_words.specs.declared.ExploreOptions.{ExploreOptions}
+use Rattle.cml_arguments.specs.Words.{saved_name}
+use Rattle.cml_arguments.specs.declared.ExploreOptions.{ExploreOptions}
 use Rattle.cml_host.specs.Exploring.{AreSaved, AsksForRuns, ClassesKept, File, FilesKept, IsNotSaved, LeavesAll, MadeAll, MadeErased, MadeTold, NotShown, ProgramExplored, RanOut, RunsTold, ScriptExplored, ShownFrom, SomeSaved, StopsBehind, StopsErased, StopsShowing, UnsavedTold, erased, erasure, file_of, judged, shortest_of, files_from, saved_start, shown_in_all, shown_at, shown_next, shown_so_far, shown_to}
 use Rattle.cml_host.specs.Running.{unsaved_told}
 use Rattle.cml_host.specs.Scripts.{PlainScript}

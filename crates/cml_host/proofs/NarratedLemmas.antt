@@ -5,11 +5,11 @@ use Rattle.cml_hub.specs.Kept.{Kept}
 use Rattle.cml_schedule.specs.Plans.{PlainPlan}
 use Rattle.cml_schedule.specs.Reading.{schedule_limit}
 use Rattle.cml_stream.specs.Streams.{Counted, IsIdle}
-use Rattle.cml_words.specs.declared.PartOptions.{PartOptions}
+use Rattle.cml_arguments.specs.declared.PartOptions.{PartOptions}
 use Rattle.cml_host.specs.Closed.{PlainSubject}
 use Rattle.cml_host.specs.Narrated.{IsUnfit, PlanTold, TextExplained, IsSetUp, IsNotSetUp}
 use Rattle.cml_host.specs.Replaying.{IsNotRead}
-use Rattle.cml_host.specs.Said.{RefusalRan}
+use Rattle.cml_host.specs.Said.{RefusalOutcome}
 use Rattle.cml_host.specs.declared.said.Refusal.{Refusal}
 use Rattle.cml_host.specs.declared.said.Refusal.TheVariants.{Unread, Wrong, Memory}
 use Rattle.cml_host.proofs.ScriptLemmas.{whole_no_schedule, whole_plan}
@@ -36,7 +36,7 @@ not_read_up p text (Wrong told) none = inl none
 not_read_up p text Memory none = tt
 
 pub text_refused : (s : PlainSubject) (options : PartOptions) (p : List (PlainItem ℕ)) (text name : List ℕ) (why : Refusal) (output errors : Counted) (status : ℕ) →
-    IsNotSetUp p text why → RefusalRan true name why 3 errors status → IsIdle output → TextExplained options s p text output errors status
+    IsNotSetUp p text why → RefusalOutcome true name why 3 errors status → IsIdle output → TextExplained options s p text output errors status
 text_refused s options p text name (Unread reason) output errors status none said idle = absurd none
 text_refused s options p text name (Wrong told) output errors status none said idle = inr (inl (told.items, none, said.0, said.1, idle))
 text_refused s options p text name Memory output errors status none memory idle = inr (inr (memory, idle))

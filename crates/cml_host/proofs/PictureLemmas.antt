@@ -12,7 +12,7 @@ use Rattle.cml_narrative.specs.Tales.{Tale}
 use Rattle.cml_schedule.specs.declared.item.Item.{Item}
 use Rattle.cml_step.specs.Calls.{text_of}
 use Rattle.cml_step.specs.Terms.{Program}
-use Rattle.cml_words.specs.declared.RunOptions.{RunOptions}
+use Rattle.cml_arguments.specs.declared.RunOptions.{RunOptions}
 use Rattle.cml_host.specs.Closed.{PlainSubject, kept_of, script_as_subject}
 use Rattle.cml_host.specs.Drawn.{AllDrawn}
 use Rattle.cml_host.specs.Narrated.{Opens}

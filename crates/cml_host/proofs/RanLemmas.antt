@@ -16,8 +16,8 @@ use Rattle.cml_schedule.specs.declared.item.Item.{Item}
 use Rattle.cml_schedule.specs.Written.{schedule_text}
 use Rattle.cml_stream.specs.Streams.{Counted, stream, counted_stream, Takes, Says, IsIdle}
 use Rattle.std.proofs.KnownBytes.{Appends-trans}
-use Rattle.cml_words.specs.declared.ReplayOptions.{ReplayOptions}
-use Rattle.cml_words.specs.declared.RunOptions.{RunOptions}
+use Rattle.cml_arguments.specs.declared.ReplayOptions.{ReplayOptions}
+use Rattle.cml_arguments.specs.declared.RunOptions.{RunOptions}
 use Rattle.cml_work.specs.Works.{IsWorked, GoesOnFrom}
 use Rattle.cml_host.specs.declared.picture.Picture.{Picture}
 use Rattle.cml_host.specs.declared.picture.Picture.TheVariants as drawing
@@ -28,11 +28,11 @@ use Rattle.cml_host.specs.declared.workers.Cause.{Cause}
 use Rattle.cml_host.specs.declared.workers.Cause.TheVariants as cause
 use Rattle.cml_host.specs.declared.workers.Stopped.{Stopped}
 use Rattle.cml_host.specs.Closed.{PlainAsked, PlainClosing, asked_of, IsClosed, IsClosing, IsHubAt, SaysEnd}
-use Rattle.cml_host.specs.Replaying.{IsHubOf, IsNotRun, OpenedReplayed, ReplayRan, ReplayTold, ScheduleRan}
-use Rattle.cml_host.specs.Running.{HasEnded, PlainSaving, PlainWanted, IsPictureFor, IsRecorded, PictureKept, PictureRefused, RecordBroke, EndRan, saving_of, unsaved_told, ReportsAreLive, IsRunBy, IsChosen, Plays, PlaysChosen, ProgramRan, RunRan, BegunRan, OpenedRan, AreToldBy, IsStopped, StopRan, EndedRan, IsEnded, IsNotEnded, IsMade, IsKept, IsNotKept}
+use Rattle.cml_host.specs.Replaying.{IsHubOf, IsNotRun, OpenedReplayed, ReplayOutcome, ReplayTold, ScheduleOutcome}
+use Rattle.cml_host.specs.Running.{HasEnded, PlainSaving, PlainWanted, IsPictureFor, IsRecorded, PictureKept, PictureRefused, RecordBroke, EndOutcome, saving_of, unsaved_told, ReportsAreLive, IsRunBy, IsChosen, Plays, PlaysChosen, ProgramOutcome, RunOutcome, BegunOutcome, OpenedOutcome, AreToldBy, IsStopped, StopOutcome, EndedOutcome, IsEnded, IsNotEnded, IsMade, IsKept, IsNotKept}
 use Rattle.cml_host.specs.Servers.{IsNotNumbered, first_unknown, server_numbers, server_names}
-use Rattle.cml_host.specs.Said.{RefusalRan}
-use Rattle.cml_host.specs.Scripts.{PlainScript, IsOpened, IsNotOpened, NoScriptRan}
+use Rattle.cml_host.specs.Said.{RefusalOutcome}
+use Rattle.cml_host.specs.Scripts.{PlainScript, IsOpened, IsNotOpened, NoScriptOutcome}
 use Rattle.cml_host.specs.Stores.{Content, Shelf, IsReplacedBy, IsSaved, IsUnchanged}
 use Rattle.cml_host.specs.Told.{IsRunOf, AllReported, reports_text, whole_output, IsTold, IsNotTold, OutputNotTold, IsCutOff, IsForeign}
 use Rattle.cml_host.proofs.TellLemmas.{says_behind, reports_broke, closed_behind, cut_behind, output_behind, with_behind}
@@ -48,7 +48,7 @@ run_is p watch items h program watched items_are run =
 -- ---- scripts
 
 pub not_scripted : (explains : Bool) (content : Content) (name : List ℕ) (why : Refusal) (errors : Counted) (status : ℕ) →
-    IsNotOpened explains name content why → RefusalRan explains name why 2 errors status → NoScriptRan explains content name errors status
+    IsNotOpened explains name content why → RefusalOutcome explains name why 2 errors status → NoScriptOutcome explains content name errors status
 not_scripted explains content name (Unread why) errors status may (inl told) = inr (inl (may, (why, told.0), told.1))
 not_scripted explains content name (Unread why) errors status may (inr memory) = inr (inr memory)
 not_scripted explains content name (Wrong told) errors status wrong said = inl (wrong.0, wrong.1, told.items, wrong.2, said.0, said.1)
@@ -77,8 +77,8 @@ closed_hub asked h closing reports output a b d before broke after failed status
 -- ---- replay
 
 pub not_scheduled : (asked : PlainAsked) (p : List (PlainItem ℕ)) (watch : Option ℕ) (content : Content) (name : List ℕ) (why : Refusal) (output errors : Counted) (status : ℕ) →
-    IsNotRun asked.subject p content why → RefusalRan (is_some asked.subject) name why 3 errors status → IsIdle output →
-    ScheduleRan asked p watch name content output errors status
+    IsNotRun asked.subject p content why → RefusalOutcome (is_some asked.subject) name why 3 errors status → IsIdle output →
+    ScheduleOutcome asked p watch name content output errors status
 not_scheduled asked p watch content name (Unread why) output errors status may (inl told) idle = inr (inl (may, (why, told.0), told.1), idle)
 not_scheduled asked p watch content name (Unread why) output errors status may (inr memory) idle = inr (inr memory, idle)
 not_scheduled asked p watch content name (Wrong told) output errors status wrong said idle =
@@ -96,7 +96,7 @@ closed_of asked p budget items h output errors status program budget_is items_ar
     (subst (λ (q : List (PlainItem ℕ)). IsClosed asked q h.course.items h.reports h.budget (run_of h.course) output errors status) program closed))
 
 pub scheduled : (asked : PlainAsked) (p : List (PlainItem ℕ)) (watch : Option ℕ) (name : List ℕ) (content : Content) (h : Kept) (output errors : Counted) (status : ℕ) →
-    IsHubOf p watch content h → ReplayTold asked h output errors status → ScheduleRan asked p watch name content output errors status
+    IsHubOf p watch content h → ReplayTold asked h output errors status → ScheduleOutcome asked p watch name content output errors status
 scheduled asked p watch name content h output errors status found (run, told) =
     let plan = found.2.0 in
     let made = found.2.3 in
@@ -136,17 +136,17 @@ scheduled asked p watch name content h output errors status found (run, told) =
 pub replayed : (explains : Bool) (s : PlainScript) (options : ReplayOptions) (servers : List ℕ) (asked : PlainAsked) (p : List (PlainItem ℕ)) (content : Content)
     (output errors : Counted) (status : ℕ) → first_unknown s (server_names options.end) ≡ None → servers ≡ server_numbers s (server_names options.end) → p ≡ s.program →
     asked ≡ asked_of explains options.script.now s options.end.strict servers →
-    ScheduleRan asked p options.watch options.schedule.now content output errors status → OpenedReplayed explains s options content output errors status
+    ScheduleOutcome asked p options.watch options.schedule.now content output errors status → OpenedReplayed explains s options content output errors status
 replayed explains s options servers asked p content output errors status known numbered program same ran =
     inl (inl (
       known,
-      subst (λ (a : PlainAsked). ScheduleRan a s.program options.watch options.schedule.now content output errors status)
+      subst (λ (a : PlainAsked). ScheduleOutcome a s.program options.watch options.schedule.now content output errors status)
           (same ∙ ap (asked_of explains options.script.now s options.end.strict) numbered)
-          (subst (λ (q : List (PlainItem ℕ)). ScheduleRan asked q options.watch options.schedule.now content output errors status) program ran),
+          (subst (λ (q : List (PlainItem ℕ)). ScheduleOutcome asked q options.watch options.schedule.now content output errors status) program ran),
     ))
 
 pub not_replayed : (explains : Bool) (s : PlainScript) (options : ReplayOptions) (why : Refusal) (name : List ℕ) (content : Content) (output errors : Counted) (status : ℕ) →
-    IsNotNumbered s (server_names options.end) why → RefusalRan explains name why 1 errors status → IsIdle output → OpenedReplayed explains s options content output errors status
+    IsNotNumbered s (server_names options.end) why → RefusalOutcome explains name why 1 errors status → IsIdle output → OpenedReplayed explains s options content output errors status
 not_replayed explains s options (Unread reason) name content output errors status never said idle = absurd never
 not_replayed explains s options (Wrong told) name content output errors status wrong said idle =
     inl (inr ((wrong.0, wrong.1, subst (λ (ts : List ℕ). Says errors ts) wrong.2 said.0, said.1), idle))
@@ -154,7 +154,7 @@ not_replayed explains s options Memory name content output errors status any mem
 
 pub replay_ran : (explains : Bool) (held : List ℕ → Content) (s : PlainScript) (options : ReplayOptions) (output errors : Counted) (status : ℕ) →
     IsOpened (held options.script.now) s → OpenedReplayed explains s options (held options.schedule.now) output errors status →
-    ReplayRan options explains held output errors status
+    ReplayOutcome options explains held output errors status
 replay_ran explains held s options output errors status opened (inl ran) = inl (s, opened, ran)
 replay_ran explains held s options output errors status opened (inr memory) = inr (inr (inr memory.0), memory.1)
 
@@ -208,7 +208,7 @@ pub kept_ran : (asked : PlainAsked) (schedule : Option (List ℕ)) (wanted : Opt
     (a b d : Option (List ℕ)) (before broke after failed : ℕ) (old mid new : List ℕ → Content) (status : ℕ) → IsClosing asked h closing → IsPictureFor wanted h picture →
     IsEnded schedule h output (counted_stream a b before broke) (record { before = old; after = mid }) →
     PictureKept (is_some asked.subject) picture closing (counted_stream b d after failed) (record { before = mid; after = new }) status →
-    EndedRan asked (record { schedule = schedule; picture = wanted }) h [] output (counted_stream a d after failed) (record { before = old; after = new }) status
+    EndedOutcome asked (record { schedule = schedule; picture = wanted }) h [] output (counted_stream a d after failed) (record { before = old; after = new }) status
 kept_ran asked schedule None h closing drawing.Unasked output a b d before broke after failed old mid new status is none ended kept =
     inl (inl (closed_hub asked h closing [] output a b d before broke after failed status is ended.0 kept.0.0 kept.0.1, (mid, ended.1, kept.1)))
 kept_ran asked schedule None h closing (drawing.Drawn name made) output a b d before broke after failed old mid new status is none ended kept = absurd none
@@ -241,7 +241,7 @@ kept_ran asked schedule (Some wanted) h closing drawing.TooMany output a b d bef
     ))))
 
 pub not_ended_ran : (asked : PlainAsked) (saving : PlainSaving) (h : Kept) (output errors : Counted) (store : Shelf) (status : ℕ) →
-    IsNotEnded (is_some asked.subject) saving.schedule h output errors store status → EndedRan asked saving h [] output errors store status
+    IsNotEnded (is_some asked.subject) saving.schedule h output errors store status → EndedOutcome asked saving h [] output errors store status
 not_ended_ran asked saving h output errors store status (inl broke) = inl (inr (inl broke))
 not_ended_ran asked saving h output errors store status (inr (inl broke, same)) = inl (inr (inr (inr (broke, same))))
 not_ended_ran asked saving h output errors store status (inr (inr cut, same)) = inr (cut, same)
@@ -265,8 +265,8 @@ refused_behind explains (Some w) p budget items a b d reports calls failed befor
 
 -- what was told of the output, after the reports that were told before
 pub ended_behind : (asked : PlainAsked) (saving : PlainSaving) (h : Kept) (a b d : Option (List ℕ)) (output : Counted) (calls failed : ℕ) (store : Shelf) (status : ℕ) →
-    Takes (stream a b) (reports_text h.reports) → EndedRan asked saving h [] output (counted_stream b d calls failed) store status →
-    EndRan asked saving h.course.program h.course.items h.reports h.budget (run_of h.course) output (counted_stream a d calls failed) store status
+    Takes (stream a b) (reports_text h.reports) → EndedOutcome asked saving h [] output (counted_stream b d calls failed) store status →
+    EndOutcome asked saving h.course.program h.course.items h.reports h.budget (run_of h.course) output (counted_stream a d calls failed) store status
     ⊎ (IsCutOff h.reports h.course.output output (counted_stream a d calls failed) status × IsUnchanged store.before store.after)
 ended_behind asked saving h a b d output calls failed store status before (inl (inl ((hub, at, closing, is, told, ends), saved))) =
     inl (inl (
@@ -316,17 +316,17 @@ chosen_from p budget (Some seed) watch begun h begins leads plays = played_from 
 pub ended_ran : (asked : PlainAsked) (saving : PlainSaving) (p : List (PlainItem ℕ)) (options : RunOptions) (begun h : Kept) (output errors : Counted) (store : Shelf) (status : ℕ) →
     IsAtStart p options.steps options.watch begun → stands (text_of begun.course.program) begun.course.items ≡ Some (run_of begun.course) →
     (options.workers ≡ 1 → PlaysChosen options.seed begun h) → IsWorked begun h → IsRunOf h.course.program h.watch h.course.items h.reports (run_of h.course) →
-    (EndRan asked saving h.course.program h.course.items h.reports h.budget (run_of h.course) output errors store status
+    (EndOutcome asked saving h.course.program h.course.items h.reports h.budget (run_of h.course) output errors store status
     ⊎ (IsCutOff h.reports h.course.output output errors status × IsUnchanged store.before store.after)) →
-    ProgramRan asked saving p options output errors store status
+    ProgramOutcome asked saving p options output errors store status
 ended_ran asked saving p options begun h output errors store status begins leads plays worked run (inl ended) =
     let r = run_of h.course in
     let more = worked.goes_on in
     let program : h.course.program ≡ p = more.program ∙ begins.program in
     let budget : h.budget ≡ options.steps = more.budget ∙ begins.budget_is in
     let watch : h.watch ≡ options.watch = more.watch ∙ begins.watch_is in
-    let all = subst (λ (b : ℕ). EndRan asked saving p h.course.items h.reports b r output errors store status) budget
-    (subst (λ (q : List (PlainItem ℕ)). EndRan asked saving q h.course.items h.reports h.budget r output errors store status) program ended) in (
+    let all = subst (λ (b : ℕ). EndOutcome asked saving p h.course.items h.reports b r output errors store status) budget
+    (subst (λ (q : List (PlainItem ℕ)). EndOutcome asked saving q h.course.items h.reports h.budget r output errors store status) program ended) in (
       h.course.items,
       h.reports,
       r,
@@ -353,7 +353,7 @@ ended_ran asked saving p options begun h output errors store status begins leads
 
 -- how a run that was stopped is told, after what was written of its reports
 stop_behind : (options : RunOptions) (h : Kept) (why : Cause) (a b d : Option (List ℕ)) (output : Counted) (calls failed status : ℕ) →
-    AreToldBy options h why (stream a b) → StopRan h why output (counted_stream b d calls failed) status →
+    AreToldBy options h why (stream a b) → StopOutcome h why output (counted_stream b d calls failed) status →
     IsCutOff h.reports h.course.output output (counted_stream a d calls failed) status
     ⊎ (ReportsAreLive options × IsForeign h.reports output (counted_stream a d calls failed) status)
 stop_behind options h cause.Memory a b d output calls failed status before stopped =
@@ -367,8 +367,8 @@ pub stopped_ran : (asked : PlainAsked) (saving : PlainSaving) (p : List (PlainIt
     (before broke calls failed : ℕ) (store : Shelf) (status : ℕ) → IsAtStart p options.steps options.watch begun →
     IsStopped options begun stopped (counted_stream a b before broke) →
     IsRunOf stopped.hub.course.program stopped.hub.watch stopped.hub.course.items stopped.hub.reports (run_of stopped.hub.course) →
-    StopRan stopped.hub stopped.cause output (counted_stream b d calls failed) status → IsUnchanged store.before store.after →
-    ProgramRan asked saving p options output (counted_stream a d calls failed) store status
+    StopOutcome stopped.hub stopped.cause output (counted_stream b d calls failed) status → IsUnchanged store.before store.after →
+    ProgramOutcome asked saving p options output (counted_stream a d calls failed) store status
 stopped_ran asked saving p options begun stopped a b d output before broke calls failed store status begins stops run tells same =
     let h = stopped.hub in
     let more = stops.0 in (
@@ -383,7 +383,7 @@ stopped_ran asked saving p options begun stopped a b d output before broke calls
     go : IsCutOff stopped.hub.reports stopped.hub.course.output output (counted_stream a d calls failed) status
         ⊎ (ReportsAreLive options × IsForeign stopped.hub.reports output (counted_stream a d calls failed) status) →
         (HasEnded options.steps options.watch stopped.hub.course.items stopped.hub.reports (run_of stopped.hub.course)
-        × EndRan asked saving p stopped.hub.course.items stopped.hub.reports options.steps
+        × EndOutcome asked saving p stopped.hub.course.items stopped.hub.reports options.steps
         (run_of stopped.hub.course) output (counted_stream a d calls failed) store status
         × (options.workers ≡ 1 → IsChosen p options.steps options.seed stopped.hub.course.items (run_of stopped.hub.course)))
         ⊎ (IsCutOff stopped.hub.reports stopped.hub.course.output output (counted_stream a d calls failed) status × IsUnchanged store.before store.after)
@@ -415,8 +415,8 @@ broke_behind old mid new explains (Some name) reports text output errors status 
 
 end_behind : (old mid new : List ℕ → Content) (asked : PlainAsked) (saving : PlainSaving) (p : List (PlainItem ℕ)) (items : List Item) (reports : List PlainReport)
     (budget : ℕ) (r : Run) (output errors : Counted) (status : ℕ) → IsUnchanged old mid →
-    EndRan asked saving p items reports budget r output errors (record { before = mid; after = new }) status →
-    EndRan asked saving p items reports budget r output errors (record { before = old; after = new }) status
+    EndOutcome asked saving p items reports budget r output errors (record { before = mid; after = new }) status →
+    EndOutcome asked saving p items reports budget r output errors (record { before = old; after = new }) status
 end_behind old mid new asked saving p items reports budget r output errors status same (inl told) =
     inl (told.0, (told.1.0, recorded_behind old mid told.1.0 saving.schedule (schedule_text budget (size_of p) items) same told.1.1, told.1.2))
 end_behind old mid new asked saving p items reports budget r output errors status same (inr (inl broke)) =
@@ -433,8 +433,8 @@ end_behind old mid new asked saving p items reports budget r output errors statu
     inr (inr (inr (broke.0, λ n. broke.1 n ∙ same n)))
 
 program_behind : (old mid new : List ℕ → Content) (asked : PlainAsked) (saving : PlainSaving) (p : List (PlainItem ℕ)) (options : RunOptions) (output errors : Counted) (status : ℕ) →
-    IsUnchanged old mid → ProgramRan asked saving p options output errors (record { before = mid; after = new }) status →
-    ProgramRan asked saving p options output errors (record { before = old; after = new }) status
+    IsUnchanged old mid → ProgramOutcome asked saving p options output errors (record { before = mid; after = new }) status →
+    ProgramOutcome asked saving p options output errors (record { before = old; after = new }) status
 program_behind old mid new asked saving p options output errors status same (items, reports, r, run, exchanges, inl ended) = (
   items,
   reports,
@@ -455,21 +455,21 @@ program_behind old mid new asked saving p options output errors status same (ite
 -- the script was run, with the numbers of its servers
 pub opened_ran : (explains : Bool) (s : PlainScript) (options : RunOptions) (servers : List ℕ) (asked : PlainAsked) (saving : PlainSaving) (p : List (PlainItem ℕ)) (output errors : Counted)
     (store : Shelf) (status : ℕ) → first_unknown s (server_names options.end) ≡ None → servers ≡ server_numbers s (server_names options.end) → p ≡ s.program →
-    asked ≡ asked_of explains options.file.now s options.end.strict servers → saving ≡ saving_of options s → BegunRan asked saving p options output errors store status →
-    OpenedRan explains s options output errors store status
+    asked ≡ asked_of explains options.file.now s options.end.strict servers → saving ≡ saving_of options s → BegunOutcome asked saving p options output errors store status →
+    OpenedOutcome explains s options output errors store status
 opened_ran explains s options servers asked saving p output errors store status known numbered program same saves (inl ran) =
     inl (inl (
       known,
-      subst (λ (a : PlainAsked). ProgramRan a (saving_of options s) s.program options output errors store status)
+      subst (λ (a : PlainAsked). ProgramOutcome a (saving_of options s) s.program options output errors store status)
           (same ∙ ap (asked_of explains options.file.now s options.end.strict) numbered)
-          (subst (λ (v : PlainSaving). ProgramRan asked v s.program options output errors store status) saves
-          (subst (λ (q : List (PlainItem ℕ)). ProgramRan asked saving q options output errors store status) program ran)),
+          (subst (λ (v : PlainSaving). ProgramOutcome asked v s.program options output errors store status) saves
+          (subst (λ (q : List (PlainItem ℕ)). ProgramOutcome asked saving q options output errors store status) program ran)),
     ))
 opened_ran explains s options servers asked saving p output errors store status known numbered program same saves (inr memory) = inr memory
 
 pub not_numbered_ran : (explains : Bool) (s : PlainScript) (options : RunOptions) (why : Refusal) (name : List ℕ) (output errors : Counted) (store : Shelf) (status : ℕ) →
-    IsNotNumbered s (server_names options.end) why → RefusalRan explains name why 1 errors status → IsIdle output → IsUnchanged store.before store.after →
-    OpenedRan explains s options output errors store status
+    IsNotNumbered s (server_names options.end) why → RefusalOutcome explains name why 1 errors status → IsIdle output → IsUnchanged store.before store.after →
+    OpenedOutcome explains s options output errors store status
 not_numbered_ran explains s options (Unread reason) name output errors store status never said idle same = absurd never
 not_numbered_ran explains s options (Wrong told) name output errors store status wrong said idle same =
     inl (inr ((wrong.0, wrong.1, subst (λ (ts : List ℕ). Says errors ts) wrong.2 said.0, said.1), idle, same))
@@ -477,8 +477,8 @@ not_numbered_ran explains s options Memory name output errors store status any m
 
 -- the script that was opened was run, or memory ran out before
 pub run_ran : (old mid new : List ℕ → Content) (s : PlainScript) (options : RunOptions) (explains : Bool) (output errors : Counted) (status : ℕ) →
-    IsUnchanged old mid → IsOpened (old options.file.now) s → OpenedRan explains s options output errors (record { before = mid; after = new }) status →
-    RunRan options explains output errors (record { before = old; after = new }) status
+    IsUnchanged old mid → IsOpened (old options.file.now) s → OpenedOutcome explains s options output errors (record { before = mid; after = new }) status →
+    RunOutcome options explains output errors (record { before = old; after = new }) status
 run_ran old mid new s options explains output errors status same opened (inl (inl (known, ran))) =
     inl (s, opened, inl (known, program_behind old mid new _ _ s.program options output errors status same ran))
 run_ran old mid new s options explains output errors status same opened (inl (inr (none, idle, kept))) =

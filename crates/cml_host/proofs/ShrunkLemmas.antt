@@ -8,7 +8,7 @@ use Rattle.cml_schedule.specs.Reading.{schedule_limit}
 use Rattle.cml_stream.specs.Streams.{Counted, IsIdle}
 use Rattle.cml_host.specs.Closed.{PlainSubject}
 use Rattle.cml_host.specs.Replaying.{IsNoRun}
-use Rattle.cml_host.specs.Said.{RefusalRan}
+use Rattle.cml_host.specs.Said.{RefusalOutcome}
 use Rattle.cml_host.specs.Shrunk.{IsShorterBy, ScheduleTold, TextShrunk}
 use Rattle.cml_host.specs.declared.said.Refusal.{Refusal}
 use Rattle.cml_host.specs.declared.said.Refusal.TheVariants.{Unread, Wrong, Memory}
@@ -34,10 +34,10 @@ shrunk_told tries s p text told output errors status by was =
 
 -- or why there is none
 pub not_shrunk : (tries : ℕ) (s : PlainSubject) (p : List (PlainItem ℕ)) (o : Option PlainSubject) (text name : List ℕ) (why : Refusal) (output errors : Counted) (status : ℕ)
-    → o ≡ Some s → IsNoRun o p text why → RefusalRan true name why 3 errors status → IsIdle output → TextShrunk tries s p text output errors status
+    → o ≡ Some s → IsNoRun o p text why → RefusalOutcome true name why 3 errors status → IsIdle output → TextShrunk tries s p text output errors status
 not_shrunk tries s p o text name why output errors status spoken none said idle = go why (subst (λ (x : Option PlainSubject). IsNoRun x p text why) spoken none) said
   where
-    go : (why : Refusal) → IsNoRun (Some s) p text why → RefusalRan true name why 3 errors status → TextShrunk tries s p text output errors status
+    go : (why : Refusal) → IsNoRun (Some s) p text why → RefusalOutcome true name why 3 errors status → TextShrunk tries s p text output errors status
     go (Unread reason) never was = absurd never
     go (Wrong told) wrong was = inr (inl (told.items, wrong, was.0, was.1, idle))
     go Memory any memory = inr (inr (memory, idle))

@@ -13,11 +13,11 @@ use Rattle.cml_stepper.specs.Questions.{ByHand}
 use Rattle.cml_stream.specs.Streams.{Counted, Says}
 use Rattle.cml_trace.specs.Live.{max_turns, HasLiveCause}
 use Rattle.cml_trace.specs.declared.fault.TraceFault.{TraceFault}
-use Rattle.cml_words.specs.declared.StepOptions.{StepOptions}
+use Rattle.cml_arguments.specs.declared.StepOptions.{StepOptions}
 use Rattle.cml_host.specs.Closed.{PlainSubject, script_as_subject}
 use Rattle.cml_host.specs.Running.{IsKept, IsMade}
 use Rattle.cml_host.specs.Scripts.{PlainScript}
-use Rattle.cml_host.specs.Stepped.{by_hand, stepped_budget, lines_typed, HubStepped, IsHeld, IsNotHeld, SavedRan, ScriptStepped}
+use Rattle.cml_host.specs.Stepped.{by_hand, stepped_budget, lines_typed, HubStepped, IsHeld, IsNotHeld, SavedOutcome, ScriptStepped}
 use Rattle.cml_host.specs.Stores.{Content, Shelf, IsSaved, IsUnchanged}
 use Rattle.cml_host.specs.Traced.{fault_status, trace_fault_line}
 use Rattle.cml_host.specs.declared.run.Record.{Record}
@@ -26,7 +26,7 @@ use Rattle.cml_host.specs.declared.run.Record.{Record}
 
 -- it was saved
 pub record_kept : (h : Kept) (name : List ℕ) (made : Record) (errors : Counted) (store : Shelf) (status : ℕ) → IsMade h name made → IsKept name made errors store → status ≡ 0
-    → SavedRan (Some name) (schedule_text h.budget (size_of h.course.program) h.course.items) errors store status
+    → SavedOutcome (Some name) (schedule_text h.budget (size_of h.course.program) h.course.items) errors store status
 record_kept h name made errors store status is kept well =
     inl (subst (λ (t : List ℕ). IsSaved store.before store.after name t) is.0 kept.0, kept.1, kept.2, well)
 
@@ -36,19 +36,19 @@ record_kept h name made errors store status is kept well =
 pub hub_held : (s : ByHand) (name : Option (List ℕ)) (start last : Kept) (input output errors : Counted) (store : Shelf) (status : ℕ) → start.budget ≡ stepped_budget
     → IsHeld s start last input.bytes output.bytes → input.counts.failed ≡ 0 → output.counts.failed ≡ 0
     → stands (text_of last.course.program) last.course.items ≡ Some (run_of last.course)
-    → SavedRan name (schedule_text last.budget (size_of last.course.program) last.course.items) errors store status
+    → SavedOutcome name (schedule_text last.budget (size_of last.course.program) last.course.items) errors store status
     → HubStepped s start.course.program name start input output errors store status
 hub_held s name start last input output errors store status budget held read written leads saved =
     let talk = held.2 in
     let kept = session_keeps s start last (lines_typed [] talk.heard) talk.ends talk.told talk.session in
-    let of_budget = subst (λ (b : ℕ). SavedRan name (schedule_text b (size_of last.course.program) last.course.items) errors store status) (kept.1 ∙ budget) saved in
+    let of_budget = subst (λ (b : ℕ). SavedOutcome name (schedule_text b (size_of last.course.program) last.course.items) errors store status) (kept.1 ∙ budget) saved in
     inl (
       last,
       held,
       read,
       written,
       subst (λ (q : List (PlainItem ℕ)). stands (text_of q) last.course.items ≡ Some (run_of last.course)) kept.0 leads,
-      subst (λ (q : List (PlainItem ℕ)). SavedRan name (schedule_text stepped_budget (size_of q) last.course.items) errors store status) kept.0 of_budget,
+      subst (λ (q : List (PlainItem ℕ)). SavedOutcome name (schedule_text stepped_budget (size_of q) last.course.items) errors store status) kept.0 of_budget,
     )
 
 -- it was cut off

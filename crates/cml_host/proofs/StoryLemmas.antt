@@ -10,10 +10,10 @@ use Rattle.cml_hub.specs.Runs.{is_allowed}
 use Rattle.cml_narrative.specs.Tales.{Tale}
 use Rattle.cml_schedule.specs.declared.item.Item.{Item}
 use Rattle.cml_stream.specs.Streams.{Counted, Stream, stream, counted_stream, Takes, TakesStart}
-use Rattle.cml_words.specs.declared.PartOptions.{PartOptions}
+use Rattle.cml_arguments.specs.declared.PartOptions.{PartOptions}
 use Rattle.cml_host.specs.Closed.{PlainSubject}
-use Rattle.cml_host.specs.Narrated.{is_asked_for, TellsWhere, IsStory, StoryBroke, StoryEnds, PlanTold, IsTellingOf, HaltRan, IsHeldUp, HasToldFirst, StoryCut, Spills, EndTold, ItemRefused, tale_for, broken_by}
-use Rattle.cml_host.specs.Written.{TextRan}
+use Rattle.cml_host.specs.Narrated.{is_asked_for, TellsWhere, IsStory, StoryBroke, StoryEnds, PlanTold, IsTellingOf, HaltOutcome, IsHeldUp, HasToldFirst, StoryCut, Spills, EndTold, ItemRefused, tale_for, broken_by}
+use Rattle.cml_host.specs.Written.{TextOutcome}
 use Rattle.cml_host.specs.declared.explain.Halt.{Halt}
 use Rattle.cml_host.specs.declared.explain.Halt.TheVariants.{Memory, Write}
 use Rattle.cml_host.proofs.TellLemmas.{start_behind}
@@ -224,7 +224,7 @@ cut_last options s start items count h piece a b d calls failed more broke told 
 
 -- a text, and then one more, or a prefix of it
 text_behind : (a b d : Option (List ℕ)) (calls failed : ℕ) (story words : List ℕ) (errors : Counted) (status : ℕ) → Takes (stream a b) story →
-    TextRan words (counted_stream b d calls failed) errors status → TextRan (story ++ words) (counted_stream a d calls failed) errors status
+    TextOutcome words (counted_stream b d calls failed) errors status → TextOutcome (story ++ words) (counted_stream a d calls failed) errors status
 text_behind a b d calls failed story words errors status before (inl whole) =
     inl (Appends-trans a b d story words before whole.0, whole.1, whole.2, whole.3)
 text_behind a b d calls failed story words errors status before (inr part) =
@@ -293,7 +293,7 @@ plan_held_up s options schedule items start h count item a b calls failed errors
 
 -- the story was cut off
 broke_off : (written : List ℕ) (why : Halt) (output errors : Counted) (status : ℕ) → TakesStart output.bytes written → output.counts.failed ≡ broken_by why →
-    HaltRan why errors status → StoryBroke written output errors status
+    HaltOutcome why errors status → StoryBroke written output errors status
 broke_off written Memory output errors status takes failed ran = (takes, inr (failed, ran))
 broke_off written Write output errors status takes failed ran = (takes, inl (failed, ran.0, ran.1))
 
@@ -303,7 +303,7 @@ breaks_anywhere s schedule [] count h story output errors status broke = inr bro
 breaks_anywhere s schedule (item ∷ items) count h story output errors status broke = inr broke
 
 pub plan_cut : (s : PlainSubject) (options : PartOptions) (schedule : List ℕ) (items : List Item) (start : Kept) (why : Halt) (output errors : Counted) (status : ℕ) →
-    StoryCut options (tale_for s (length items)) start items why output → HaltRan why errors status → PlanTold s options schedule items start output errors status
+    StoryCut options (tale_for s (length items)) start items why output → HaltOutcome why errors status → PlanTold s options schedule items start output errors status
 plan_cut s options schedule items start why output errors status cut ran = (
   cut.done,
   cut.left,

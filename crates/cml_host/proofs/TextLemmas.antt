@@ -13,7 +13,7 @@ use Rattle.cml_text.specs.Steps.{IsFault}
 use Rattle.cml_text.specs.Texts.{Spells, fault_of}
 use Rattle.cml_host.specs.Checked.{IsChecked, IsShaped}
 use Rattle.cml_host.specs.Formatted.{IsPrinted}
-use Rattle.cml_host.specs.Said.{IsFaulty, FaultRan, FileRan, SaidRan, Told, text_told}
+use Rattle.cml_host.specs.Said.{IsFaulty, FaultOutcome, FileOutcome, SaidOutcome, Told, text_told}
 use Rattle.cml_host.specs.Stores.{Content, unknown, nothing, bytes, IsLoaded, MayFail}
 use Rattle.cml_host.specs.declared.store.StoreFault.{StoreFault}
 use Rattle.cml_host.specs.declared.store.StoreFault.TheVariants as store_fault
@@ -117,7 +117,7 @@ printed_whole explains name all found said is (inr told) = inr (whole_fault expl
 
 pub file_ran : (Says : List ℕ → Said → Type 0) → IsOfWhole Says → (explains : Bool) (name : List ℕ) (content : Content) (found : List ℕ)
     (r : Result Said AllocError) (output errors : Counted) (status : ℕ) →
-    IsLoaded content text_limit found → IfOk r (Says found) → SaidRan r output errors status → FileRan Says explains name content output errors status
+    IsLoaded content text_limit found → IfOk r (Says found) → SaidOutcome r output errors status → FileOutcome Says explains name content output errors status
 file_ran Says whole explains name unknown found (Ok said) output errors status loaded says ran = inl (found, tt, said, says, ran)
 file_ran Says whole explains name nothing found (Ok said) output errors status loaded says ran = absurd loaded
 file_ran Says whole explains name (bytes all) found (Ok said) output errors status loaded says ran =
@@ -126,7 +126,7 @@ file_ran Says whole explains name content found (Err e) output errors status loa
 
 -- the store did not hand over the file
 pub file_refused : (Says : List ℕ → Said → Type 0) (explains : Bool) (name : List ℕ) (content : Content) (fault : StoreFault) (output errors : Counted) (status : ℕ) →
-    MayFail content fault → FaultRan explains name fault errors status → IsIdle output → FileRan Says explains name content output errors status
+    MayFail content fault → FaultOutcome explains name fault errors status → IsIdle output → FileOutcome Says explains name content output errors status
 file_refused Says explains name content (store_fault.Refused why) output errors status may (inl told) idle = inr (inl (may, (why, told.0), told.1), idle)
 file_refused Says explains name content (store_fault.Refused why) output errors status may (inr memory) idle = inr (inr memory, idle)
 file_refused Says explains name content store_fault.Memory output errors status may memory idle = inr (inr memory, idle)

@@ -10,7 +10,7 @@ use Rattle.cml_monitor.specs.Reports.{PlainReport}
 use Rattle.cml_schedule.specs.declared.item.Item.{Item}
 use Rattle.cml_stream.specs.Counts.{counted}
 use Rattle.cml_stream.specs.Streams.{stream, counted_stream, Takes}
-use Rattle.cml_words.specs.declared.RunOptions.{RunOptions}
+use Rattle.cml_arguments.specs.declared.RunOptions.{RunOptions}
 use Rattle.cml_work.specs.Seen.{FaultWrites, failed_after_all}
 use Rattle.cml_work.specs.Works.{IsWorkerCount, GoesOnFrom, IsWorked, Works, WatchFails}
 use Rattle.cml_work.specs.declared.fault.WorkFault.{WorkFault}

@@ -10,14 +10,14 @@ use Rattle.cml_schedule.specs.Plans.{PlainPlan}
 use Rattle.cml_schedule.specs.declared.item.Item.{Item}
 use Rattle.cml_stream.specs.Streams.{Counted, IsIdle, Says}
 use Rattle.cml_text.specs.Lines.{line}
-use Rattle.cml_words.specs.declared.PartOptions.{PartOptions}
+use Rattle.cml_arguments.specs.declared.PartOptions.{PartOptions}
 use Rattle.cml_host.specs.Closed.{PlainSubject}
 use Rattle.cml_host.specs.Narrated.{IsUnfit, Opens, tale_for}
 use Rattle.cml_host.specs.Replaying.{IsSchedule, IsItemExplained}
-use Rattle.cml_host.specs.Opening.{Doing, BothRan}
-use Rattle.cml_host.specs.Said.{MemoryRan}
+use Rattle.cml_host.specs.Opening.{Doing, BothOutcome}
+use Rattle.cml_host.specs.Said.{MemoryOutcome}
 use Rattle.cml_host.specs.Stores.{Content}
-use Rattle.cml_host.specs.Written.{TextRan}
+use Rattle.cml_host.specs.Written.{TextOutcome}
 use Rattle.cml_host.specs.declared.draw.Undrawn.{Undrawn}
 use Rattle.cml_host.specs.declared.draw.Undrawn.TheVariants.{Refused, TooMany}
 use Rattle.cml_host.specs.declared.said.Refusal.TheVariants as refusal
@@ -75,14 +75,14 @@ too_many_told = line (codes "too many items to draw, use --from and --to")
 -- to draw, and they tell that; or memory ran out.
 abbrev pub TextDrawn : PartOptions → Doing
 TextDrawn options s p text output errors status =
-    ((picture : List ℕ) × IsDrawnBy s options p text picture × TextRan picture output errors status)
+    ((picture : List ℕ) × IsDrawnBy s options p text picture × TextOutcome picture output errors status)
     ⊎ ((told : List ℕ) × IsWrongBy s options p text told × Says errors told × (status ≡ 3) × IsIdle output)
     ⊎ (IsTooLongBy s options p text × Says errors too_many_told × (status ≡ 1) × IsIdle output)
-    ⊎ (MemoryRan errors status × IsIdle output)
+    ⊎ (MemoryOutcome errors status × IsIdle output)
 
 -- `draw`: the picture was written of the schedule that lies under its name, as one of the script that lies under its own; or one of them was not read.
-abbrev pub DrawRan : PartOptions → (List ℕ → Content) → Counted → Counted → ℕ → Type 0
-DrawRan options held output errors status = BothRan (TextDrawn options) options.script.now options.schedule.now held output errors status
+abbrev pub DrawOutcome : PartOptions → (List ℕ → Content) → Counted → Counted → ℕ → Type 0
+DrawOutcome options held output errors status = BothOutcome (TextDrawn options) options.script.now options.schedule.now held output errors status
 
 -- ---- what private functions say
 

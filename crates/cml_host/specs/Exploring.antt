@@ -18,14 +18,14 @@ use Rattle.cml_schedule.specs.Written.{schedule_text}
 use Rattle.cml_schedule.specs.declared.item.Item.{Item}
 use Rattle.cml_stream.specs.Streams.{Counted, Stream, IsIdle, Says, Takes, TakesStart}
 use Rattle.cml_text.specs.Lines.{line}
-use Rattle.cml_words.specs.Words.{saved_name, until_named}
-use Rattle.cml_words.specs.declared.ExploreOptions.{ExploreOptions}
-use Rattle.cml_words.specs.declared.Until.TheVariants as word
-use Rattle.cml_words.specs.declared.Until as words
+use Rattle.cml_arguments.specs.Words.{saved_name, until_named}
+use Rattle.cml_arguments.specs.declared.ExploreOptions.{ExploreOptions}
+use Rattle.cml_arguments.specs.declared.Until.TheVariants as word
+use Rattle.cml_arguments.specs.declared.Until as words
 use Rattle.cml_host.specs.Running.{unsaved_told}
-use Rattle.cml_host.specs.Said.{MemoryRan}
-use Rattle.cml_host.specs.Scripts.{PlainScript, IsOpened, NoScriptRan}
-use Rattle.cml_host.specs.Servers.{NoFunctionRan, first_unknown, server_numbers}
+use Rattle.cml_host.specs.Said.{MemoryOutcome}
+use Rattle.cml_host.specs.Scripts.{PlainScript, IsOpened, NoScriptOutcome}
+use Rattle.cml_host.specs.Servers.{NoFunctionOutcome, first_unknown, server_numbers}
 use Rattle.cml_host.specs.Stores.{Content, Shelf, IsSaved, IsUnchanged}
 use Rattle.cml_host.specs.Told.{SaysAfter, cannot_write}
 use Rattle.cml_host.specs.declared.explain.Halt.{Halt}
@@ -190,15 +190,15 @@ abbrev pub ScriptExplored : ExploreOptions → Bool → PlainScript → Counted 
 ScriptExplored options shows s output errors store status =
     ((first_unknown s (explored_servers options) ≡ None)
     × ProgramExplored options shows s (server_numbers s (explored_servers options)) output errors store status)
-    ⊎ (NoFunctionRan s (explored_servers options) errors status × LeavesAll output store)
-    ⊎ (MemoryRan errors status × LeavesAll output store)
+    ⊎ (NoFunctionOutcome s (explored_servers options) errors status × LeavesAll output store)
+    ⊎ (MemoryOutcome errors status × LeavesAll output store)
 
 -- `explore`: the runs of the script that lies under the name were made and told of; how far it is is shown where the errors go to a terminal. Or no
 -- script lies there, which is explained, it was not read, or memory ran out.
-abbrev pub ExploreRan : ExploreOptions → Bool → Counted → Counted → Shelf → ℕ → Type 0
-ExploreRan options terminal output errors store status =
+abbrev pub ExploreOutcome : ExploreOptions → Bool → Counted → Counted → Shelf → ℕ → Type 0
+ExploreOutcome options terminal output errors store status =
     ((s : PlainScript) × IsOpened (store.before options.script.now) s × ScriptExplored options terminal s output errors store status)
-    ⊎ (NoScriptRan true (store.before options.script.now) options.script.now errors status × LeavesAll output store)
+    ⊎ (NoScriptOutcome true (store.before options.script.now) options.script.now errors status × LeavesAll output store)
 
 -- ---- what private functions say
 
@@ -266,11 +266,11 @@ SomeSaved files (unsaved.Refused given why) store =
 
 -- a file of this name could not be saved, and the errors tell that, and why, where it is known; or memory ran out
 abbrev pub NameRefused : Name → Counted → ℕ → Type 0
-NameRefused name errors status = (((why : Option Reason) × Says errors (unsaved_told true name why)) × (status ≡ 1)) ⊎ MemoryRan errors status
+NameRefused name errors status = (((why : Option Reason) × Says errors (unsaved_told true name why)) × (status ≡ 1)) ⊎ MemoryOutcome errors status
 
 -- this was told of files that were not saved
 abbrev pub UnsavedTold : Unsaved → Counted → ℕ → Type 0
-UnsavedTold unsaved.Memory errors status = MemoryRan errors status
+UnsavedTold unsaved.Memory errors status = MemoryOutcome errors status
 UnsavedTold (unsaved.Refused given why) errors status = NameRefused (string_bytes given) errors status
 
 -- what was made was told; or memory ran out before

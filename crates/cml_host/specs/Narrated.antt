@@ -12,14 +12,14 @@ use Rattle.cml_step.specs.Calls.{text_of}
 use Rattle.cml_stream.specs.Streams.{Counted, Stream, IsIdle, Says, Takes, TakesStart}
 use Rattle.cml_text.specs.Forms.{PlainSexpr}
 use Rattle.cml_scan.specs.World.{PlainWorld}
-use Rattle.cml_words.specs.declared.PartOptions.{PartOptions}
+use Rattle.cml_arguments.specs.declared.PartOptions.{PartOptions}
 use Rattle.cml_host.specs.Closed.{PlainSubject, IsEndExplained}
 use Rattle.cml_host.specs.Replaying.{IsSchedule, IsNoSchedule, IsOtherSize, IsItemExplained}
-use Rattle.cml_host.specs.Opening.{Doing, BothRan}
-use Rattle.cml_host.specs.Said.{MemoryRan}
+use Rattle.cml_host.specs.Opening.{Doing, BothOutcome}
+use Rattle.cml_host.specs.Said.{MemoryOutcome}
 use Rattle.cml_host.specs.Stores.{Content}
 use Rattle.cml_host.specs.Told.{cannot_write}
-use Rattle.cml_host.specs.Written.{TextRan}
+use Rattle.cml_host.specs.Written.{TextOutcome}
 use Rattle.cml_host.specs.declared.said.Refusal.{Refusal}
 use Rattle.cml_host.specs.declared.said.Refusal.TheVariants as refusal
 use Rattle.cml_host.specs.declared.explain.Halt.{Halt}
@@ -60,13 +60,13 @@ tale_for s count = record { text = s.text; forms = s.forms; digits = length (dec
 abbrev pub StoryBroke : List ℕ → Counted → Counted → ℕ → Type 0
 StoryBroke story output errors status =
     TakesStart output.bytes story
-    × (((output.counts.failed ≡ 1) × Says errors cannot_write × (status ≡ 1)) ⊎ ((output.counts.failed ≡ 0) × MemoryRan errors status))
+    × (((output.counts.failed ≡ 1) × Says errors cannot_write × (status ≡ 1)) ⊎ ((output.counts.failed ≡ 0) × MemoryOutcome errors status))
 
 -- After a story, where these items are left: where none is, how the run ended was told; else the first of them can't happen where the story
 -- ends, and the errors tell why. Or the story was cut off before.
 abbrev pub StoryEnds : PlainSubject → List ℕ → List Item → ℕ → Kept → List ℕ → Counted → Counted → ℕ → Type 0
 StoryEnds s schedule [] count h story output errors status =
-    ((words : List ℕ) × IsEndExplained s h words × TextRan (story ++ words) output errors status)
+    ((words : List ℕ) × IsEndExplained s h words × TextOutcome (story ++ words) output errors status)
     ⊎ StoryBroke story output errors status
 StoryEnds s schedule (item ∷ items) count h story output errors status =
     ((is_allowed h.course.world item ≡ false) × Takes output.bytes story × (output.counts.failed ≡ 0)
@@ -98,11 +98,11 @@ TextExplained options s p text output errors status =
     ((plan : PlainPlan) × IsSchedule text plan × FitsSize plan.size p
     × ((start : Kept) × Opens p plan.budget start × PlanTold s options text plan.items start output errors status))
     ⊎ ((told : List ℕ) × IsUnfit p text told × Says errors told × (status ≡ 3) × IsIdle output)
-    ⊎ (MemoryRan errors status × IsIdle output)
+    ⊎ (MemoryOutcome errors status × IsIdle output)
 
 -- `explain`: the schedule that lies under its name was told of, as one of the script that lies under its own; or one of them was not read.
-abbrev pub ExplainRan : PartOptions → (List ℕ → Content) → Counted → Counted → ℕ → Type 0
-ExplainRan options held output errors status = BothRan (TextExplained options) options.script.now options.schedule.now held output errors status
+abbrev pub ExplainOutcome : PartOptions → (List ℕ → Content) → Counted → Counted → ℕ → Type 0
+ExplainOutcome options held output errors status = BothOutcome (TextExplained options) options.script.now options.schedule.now held output errors status
 
 -- ---- what private functions say
 
@@ -118,9 +118,9 @@ broken_by Memory = 0
 broken_by Write = 1
 
 -- what is told where this is why
-abbrev pub HaltRan : Halt → Counted → ℕ → Type 0
-HaltRan Memory errors status = MemoryRan errors status
-HaltRan Write errors status = Says errors cannot_write × (status ≡ 1)
+abbrev pub HaltOutcome : Halt → Counted → ℕ → Type 0
+HaltOutcome Memory errors status = MemoryOutcome errors status
+HaltOutcome Write errors status = Says errors cannot_write × (status ≡ 1)
 
 -- a first part of a text was written, and this is left of it
 abbrev pub Spills : Stream → List ℕ → List ℕ → Type 0
@@ -157,13 +157,13 @@ pub record StoryCut (options : PartOptions) (s : Tale) (start : Kept) (items : L
 -- how the run of this hub ended was told, or memory ran out
 abbrev pub EndTold : PlainSubject → Kept → Counted → Counted → ℕ → Type 0
 EndTold s h output errors status =
-    ((words : List ℕ) × IsEndExplained s h words × TextRan words output errors status)
-    ⊎ (Takes output.bytes [] × (output.counts.failed ≡ 0) × MemoryRan errors status)
+    ((words : List ℕ) × IsEndExplained s h words × TextOutcome words output errors status)
+    ⊎ (Takes output.bytes [] × (output.counts.failed ≡ 0) × MemoryOutcome errors status)
 
 -- why this item can't happen was told, or memory ran out
 abbrev pub ItemRefused : List PlainSexpr → List ℕ → PlainWorld → ℕ → Item → Counted → ℕ → Type 0
 ItemRefused forms text w n item errors status =
-    ((told : List ℕ) × IsItemExplained forms text w n item told × Says errors told × (status ≡ 3)) ⊎ MemoryRan errors status
+    ((told : List ℕ) × IsItemExplained forms text w n item told × Says errors told × (status ≡ 3)) ⊎ MemoryOutcome errors status
 
 -- a hub at the beginning of a run of the program, and the plan that the text is
 abbrev pub IsSetUp : List (PlainItem ℕ) → List ℕ → Kept → PlainPlan → Type 0

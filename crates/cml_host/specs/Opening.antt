@@ -4,8 +4,8 @@ use Rattle.cml_check.specs.Syntax.{PlainItem}
 use Rattle.cml_schedule.specs.Reading.{schedule_limit}
 use Rattle.cml_stream.specs.Streams.{Counted, IsIdle}
 use Rattle.cml_host.specs.Closed.{PlainSubject, script_as_subject}
-use Rattle.cml_host.specs.Said.{IsText, RefusedRan, RefusalRan}
-use Rattle.cml_host.specs.Scripts.{PlainScript, IsOpened, IsNotOpened, NoScriptRan}
+use Rattle.cml_host.specs.Said.{IsText, RefusedOutcome, RefusalOutcome}
+use Rattle.cml_host.specs.Scripts.{PlainScript, IsOpened, IsNotOpened, NoScriptOutcome}
 use Rattle.cml_host.specs.Stores.{Content, IsLoaded, MayBeRefused}
 use Rattle.cml_host.specs.declared.opening.NotOpened.{NotOpened}
 use Rattle.cml_host.specs.declared.opening.NotOpened.TheVariants as opening
@@ -19,12 +19,12 @@ Doing = PlainSubject → List (PlainItem ℕ) → List ℕ → Counted → Count
 
 -- It was done with the script and the schedule that lie under these names. Or the schedule was not read, which is explained; or no script lies
 -- there, which is explained, or it was not read; or memory ran out; and nothing was written to the output.
-abbrev pub BothRan : Doing → List ℕ → List ℕ → (List ℕ → Content) → Counted → Counted → ℕ → Type 0
-BothRan Does script_name schedule_name held output errors status =
+abbrev pub BothOutcome : Doing → List ℕ → List ℕ → (List ℕ → Content) → Counted → Counted → ℕ → Type 0
+BothOutcome Does script_name schedule_name held output errors status =
     ((s : PlainScript) × IsOpened (held script_name) s
     × (((text : List ℕ) × IsText (held schedule_name) text × Does (script_as_subject script_name s) s.program text output errors status)
-    ⊎ (RefusedRan true (held schedule_name) schedule_name errors status × IsIdle output)))
-    ⊎ (NoScriptRan true (held script_name) script_name errors status × IsIdle output)
+    ⊎ (RefusedOutcome true (held schedule_name) schedule_name errors status × IsIdle output)))
+    ⊎ (NoScriptOutcome true (held script_name) script_name errors status × IsIdle output)
 
 -- ---- what private functions say
 
@@ -49,6 +49,6 @@ AreNotOpened script_name schedule_name held (opening.Schedule why) =
     ((s : PlainScript) × IsOpened (held script_name) s) × IsNotLoaded (held schedule_name) why
 
 -- how that was said
-abbrev pub NotOpenedRan : List ℕ → List ℕ → NotOpened → Counted → ℕ → Type 0
-NotOpenedRan script_name schedule_name (opening.Script why) errors status = RefusalRan true script_name why 2 errors status
-NotOpenedRan script_name schedule_name (opening.Schedule why) errors status = RefusalRan true schedule_name why 3 errors status
+abbrev pub NotOpenedOutcome : List ℕ → List ℕ → NotOpened → Counted → ℕ → Type 0
+NotOpenedOutcome script_name schedule_name (opening.Script why) errors status = RefusalOutcome true script_name why 2 errors status
+NotOpenedOutcome script_name schedule_name (opening.Schedule why) errors status = RefusalOutcome true schedule_name why 3 errors status

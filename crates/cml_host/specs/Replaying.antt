@@ -17,11 +17,11 @@ use Rattle.cml_text.specs.Faults.{PlainFault}
 use Rattle.cml_text.specs.Forms.{PlainSexpr}
 use Rattle.cml_text.specs.Lines.{line, lines}
 use Rattle.cml_text.specs.Texts.{Spells, fault_of}
-use Rattle.cml_words.specs.declared.ReplayOptions.{ReplayOptions}
+use Rattle.cml_arguments.specs.declared.ReplayOptions.{ReplayOptions}
 use Rattle.cml_host.specs.Stores.{Content, MayBeRefused}
-use Rattle.cml_host.specs.Said.{IsText, MemoryRan, RefusedRan}
-use Rattle.cml_host.specs.Scripts.{PlainScript, IsOpened, NoScriptRan}
-use Rattle.cml_host.specs.Servers.{NoFunctionRan, first_unknown, server_numbers, server_names}
+use Rattle.cml_host.specs.Said.{IsText, MemoryOutcome, RefusedOutcome}
+use Rattle.cml_host.specs.Scripts.{PlainScript, IsOpened, NoScriptOutcome}
+use Rattle.cml_host.specs.Servers.{NoFunctionOutcome, first_unknown, server_numbers, server_names}
 use Rattle.cml_host.specs.Told.{IsRunOf, AllReported, whole_output, IsNotTold}
 use Rattle.cml_host.specs.Closed.{PlainAsked, PlainSubject, asked_of, IsClosed}
 use Rattle.cml_host.specs.declared.said.Refusal.{Refusal}
@@ -89,8 +89,8 @@ IsWrong subject p text told =
 
 -- The program followed the schedule, and where it led was told, with how it ended where that was asked for; or a write failed, or memory ran
 -- out.
-abbrev pub PlanRan : PlainAsked → List (PlainItem ℕ) → Option ℕ → PlainPlan → Counted → Counted → ℕ → Type 0
-PlanRan asked p watch plan output errors status =
+abbrev pub PlanOutcome : PlainAsked → List (PlainItem ℕ) → Option ℕ → PlainPlan → Counted → Counted → ℕ → Type 0
+PlanOutcome asked p watch plan output errors status =
     FitsSize plan.size p
     × ((reports : List PlainReport) × (r : Run) × IsRunOf p watch plan.items reports r × AllReported watch plan.items reports
     × (IsClosed asked p plan.items reports plan.budget r output errors status
@@ -98,30 +98,30 @@ PlanRan asked p watch plan output errors status =
 
 -- The schedule that lies there was followed; or something is wrong with it, and the errors tell what; or it was not read, or memory ran
 -- out.
-abbrev pub ScheduleRan : PlainAsked → List (PlainItem ℕ) → Option ℕ → List ℕ → Content → Counted → Counted → ℕ → Type 0
-ScheduleRan asked p watch name content output errors status =
+abbrev pub ScheduleOutcome : PlainAsked → List (PlainItem ℕ) → Option ℕ → List ℕ → Content → Counted → Counted → ℕ → Type 0
+ScheduleOutcome asked p watch name content output errors status =
     ((text : List ℕ) × IsText content text
-    × (((plan : PlainPlan) × IsSchedule text plan × PlanRan asked p watch plan output errors status)
+    × (((plan : PlainPlan) × IsSchedule text plan × PlanOutcome asked p watch plan output errors status)
     ⊎ ((told : List ℕ) × IsWrong asked.subject p text told × Says errors told × (status ≡ 3) × IsIdle output)))
-    ⊎ (RefusedRan (is_some asked.subject) content name errors status × IsIdle output)
+    ⊎ (RefusedOutcome (is_some asked.subject) content name errors status × IsIdle output)
 
 -- The script was run by the schedule, where it has the functions that are named as those of servers; or it has not, and nothing was written to
 -- the output.
 abbrev pub ScriptReplayed : Bool → PlainScript → ReplayOptions → Content → Counted → Counted → ℕ → Type 0
 ScriptReplayed explains s options content output errors status =
     ((first_unknown s (server_names options.end) ≡ None)
-    × ScheduleRan (asked_of explains options.script.now s options.end.strict (server_numbers s (server_names options.end))) s.program options.watch
+    × ScheduleOutcome (asked_of explains options.script.now s options.end.strict (server_numbers s (server_names options.end))) s.program options.watch
     options.schedule.now content output errors status)
-    ⊎ (NoFunctionRan s (server_names options.end) errors status × IsIdle output)
+    ⊎ (NoFunctionOutcome s (server_names options.end) errors status × IsIdle output)
 
 -- `replay`: the script that lies under its name was run by the schedule that lies under its own, or that schedule was refused; or the
 -- script was not run (no script lies there, which may be explained, it was not read, or memory ran out), and nothing was written to the
 -- output.
-abbrev pub ReplayRan : ReplayOptions → Bool → (List ℕ → Content) → Counted → Counted → ℕ → Type 0
-ReplayRan options explains held output errors status =
+abbrev pub ReplayOutcome : ReplayOptions → Bool → (List ℕ → Content) → Counted → Counted → ℕ → Type 0
+ReplayOutcome options explains held output errors status =
     ((s : PlainScript) × IsOpened (held options.script.now) s
     × ScriptReplayed explains s options (held options.schedule.now) output errors status)
-    ⊎ (NoScriptRan explains (held options.script.now) options.script.now errors status × IsIdle output)
+    ⊎ (NoScriptOutcome explains (held options.script.now) options.script.now errors status × IsIdle output)
 
 -- ---- what private functions say
 
@@ -135,7 +135,7 @@ ReplayTold asked h output errors status =
 -- the script was run by the schedule, or memory ran out before
 abbrev pub OpenedReplayed : Bool → PlainScript → ReplayOptions → Content → Counted → Counted → ℕ → Type 0
 OpenedReplayed explains s options content output errors status =
-    ScriptReplayed explains s options content output errors status ⊎ (MemoryRan errors status × IsIdle output)
+    ScriptReplayed explains s options content output errors status ⊎ (MemoryOutcome errors status × IsIdle output)
 
 -- the program followed the plan of this text, and this hub stands at its end
 abbrev pub IsHubBy : List (PlainItem ℕ) → Option ℕ → List ℕ → Kept → Type 0

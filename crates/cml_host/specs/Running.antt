@@ -16,7 +16,7 @@ use Rattle.cml_schedule.specs.Written.{schedule_text}
 use Rattle.cml_step.specs.Calls.{text_of}
 use Rattle.cml_stream.specs.Streams.{Counted, Stream, IsIdle, Says, Takes, TakesStart}
 use Rattle.cml_text.specs.Lines.{line}
-use Rattle.cml_words.specs.declared.RunOptions.{RunOptions}
+use Rattle.cml_arguments.specs.declared.RunOptions.{RunOptions}
 use Rattle.cml_work.specs.Marks.{BeginsWith}
 use Rattle.cml_work.specs.Works.{GoesOnFrom, IsWorked}
 use Rattle.cml_work.specs.declared.fault.WorkFault.{WorkFault}
@@ -26,10 +26,10 @@ use Rattle.cml_host.specs.declared.workers.Cause.{Cause}
 use Rattle.cml_host.specs.declared.workers.Cause.TheVariants as cause
 use Rattle.cml_host.specs.declared.workers.Stopped.{Stopped}
 use Rattle.cml_host.specs.Stores.{Content, Shelf, IsSaved, IsUnchanged}
-use Rattle.cml_host.specs.Said.{MemoryRan, with_why}
+use Rattle.cml_host.specs.Said.{MemoryOutcome, with_why}
 use Rattle.cml_host.specs.declared.reason.Reason.{Reason}
-use Rattle.cml_host.specs.Scripts.{PlainScript, IsOpened, NoScriptRan}
-use Rattle.cml_host.specs.Servers.{NoFunctionRan, first_unknown, server_numbers, server_names}
+use Rattle.cml_host.specs.Scripts.{PlainScript, IsOpened, NoScriptOutcome}
+use Rattle.cml_host.specs.Servers.{NoFunctionOutcome, first_unknown, server_numbers, server_names}
 use Rattle.cml_host.specs.Told.{IsRunOf, AllReported, reports_text, whole_output, cannot_write, IsTold, SaysStill, OutputBroke, MemoryBroke, OutputNotTold, IsCutOff, IsForeign}
 use Rattle.cml_host.specs.Closed.{PlainAsked, PlainClosing, PlainSubject, SaysEnd, asked_of, script_as_subject, IsClosed, plain_subject}
 use Rattle.cml_host.specs.Drawn.{IsDrawnFrom, IsTooLongFrom, too_many_told}
@@ -108,8 +108,8 @@ PictureBroke explains saving p items reports budget r output errors store status
 -- A run that is over was told whole, with how it ended where that was asked for, and its schedule and its picture were saved, where that was
 -- asked for; or the schedule could not be, and nothing was saved; or the picture could not be; or a write of the output failed, and nothing was
 -- saved.
-abbrev pub EndRan : PlainAsked → PlainSaving → List (PlainItem ℕ) → List Item → List PlainReport → ℕ → Run → Counted → Counted → Shelf → ℕ → Type 0
-EndRan asked saving p items reports budget r output errors store status =
+abbrev pub EndOutcome : PlainAsked → PlainSaving → List (PlainItem ℕ) → List Item → List PlainReport → ℕ → Run → Counted → Counted → Shelf → ℕ → Type 0
+EndOutcome asked saving p items reports budget r output errors store status =
     (IsClosed asked p items reports budget r output errors status × AllSaved saving p budget items store)
     ⊎ RecordBroke (is_some asked.subject) saving.schedule reports (whole_output budget r) output errors store status
     ⊎ PictureBroke (is_some asked.subject) saving p items reports budget r output errors store status
@@ -132,47 +132,47 @@ IsChosen p budget (Some seed) items r = IsRunBy p budget by_words (seeded seed) 
 -- The program was run, and each row of two swaps that was taken is an exchange. The run came to its end, and that was told; with one worker
 -- it is the run that the seed chooses. Or it was cut off on the way, and nothing was saved. Where reports are written while the program runs,
 -- there is one more case, in which nothing was saved either: the reports that were written are not all of its own, and the errors tell that.
-abbrev pub ProgramRan : PlainAsked → PlainSaving → List (PlainItem ℕ) → RunOptions → Counted → Counted → Shelf → ℕ → Type 0
-ProgramRan asked saving p options output errors store status =
+abbrev pub ProgramOutcome : PlainAsked → PlainSaving → List (PlainItem ℕ) → RunOptions → Counted → Counted → Shelf → ℕ → Type 0
+ProgramOutcome asked saving p options output errors store status =
     (items : List Item) × (reports : List PlainReport) × (r : Run) × IsRunOf p options.watch items reports r × SwapsAreExchanges p [] items
     × ((HasEnded options.steps options.watch items reports r
-    × EndRan asked saving p items reports options.steps r output errors store status
+    × EndOutcome asked saving p items reports options.steps r output errors store status
     × (options.workers ≡ 1 → IsChosen p options.steps options.seed items r))
     ⊎ (IsCutOff reports r.output output errors status × IsUnchanged store.before store.after)
     ⊎ (ReportsAreLive options × IsForeign reports output errors status × IsUnchanged store.before store.after))
 
 -- The script was run, where it has the functions that are named as those of servers; or it has not, and nothing was written to the output or
 -- saved.
-abbrev pub ScriptRan : Bool → PlainScript → RunOptions → Counted → Counted → Shelf → ℕ → Type 0
-ScriptRan explains s options output errors store status =
+abbrev pub ScriptOutcome : Bool → PlainScript → RunOptions → Counted → Counted → Shelf → ℕ → Type 0
+ScriptOutcome explains s options output errors store status =
     ((first_unknown s (server_names options.end) ≡ None)
-    × ProgramRan (asked_of explains options.file.now s options.end.strict (server_numbers s (server_names options.end))) (saving_of options s)
+    × ProgramOutcome (asked_of explains options.file.now s options.end.strict (server_numbers s (server_names options.end))) (saving_of options s)
     s.program options output errors store status)
-    ⊎ (NoFunctionRan s (server_names options.end) errors status × IsIdle output × IsUnchanged store.before store.after)
+    ⊎ (NoFunctionOutcome s (server_names options.end) errors status × IsIdle output × IsUnchanged store.before store.after)
 
 -- `run`: the script that lies under the name was run; or it was not (no script lies there, which may be explained, it was not read, or
 -- memory ran out), and nothing was written to the output or saved.
-abbrev pub RunRan : RunOptions → Bool → Counted → Counted → Shelf → ℕ → Type 0
-RunRan options explains output errors store status =
-    ((s : PlainScript) × IsOpened (store.before options.file.now) s × ScriptRan explains s options output errors store status)
-    ⊎ (NoScriptRan explains (store.before options.file.now) options.file.now errors status
+abbrev pub RunOutcome : RunOptions → Bool → Counted → Counted → Shelf → ℕ → Type 0
+RunOutcome options explains output errors store status =
+    ((s : PlainScript) × IsOpened (store.before options.file.now) s × ScriptOutcome explains s options output errors store status)
+    ⊎ (NoScriptOutcome explains (store.before options.file.now) options.file.now errors status
     × IsIdle output × IsUnchanged store.before store.after)
 
 -- ---- what private functions say
 
 -- memory ran out before the program began
 abbrev pub NeverBegan : Counted → Counted → Shelf → ℕ → Type 0
-NeverBegan output errors store status = MemoryRan errors status × IsIdle output × IsUnchanged store.before store.after
+NeverBegan output errors store status = MemoryOutcome errors status × IsIdle output × IsUnchanged store.before store.after
 
 -- the program was run, or memory ran out before it began
-abbrev pub BegunRan : PlainAsked → PlainSaving → List (PlainItem ℕ) → RunOptions → Counted → Counted → Shelf → ℕ → Type 0
-BegunRan asked saving p options output errors store status =
-    ProgramRan asked saving p options output errors store status ⊎ NeverBegan output errors store status
+abbrev pub BegunOutcome : PlainAsked → PlainSaving → List (PlainItem ℕ) → RunOptions → Counted → Counted → Shelf → ℕ → Type 0
+BegunOutcome asked saving p options output errors store status =
+    ProgramOutcome asked saving p options output errors store status ⊎ NeverBegan output errors store status
 
 -- the same of the script
-abbrev pub OpenedRan : Bool → PlainScript → RunOptions → Counted → Counted → Shelf → ℕ → Type 0
-OpenedRan explains s options output errors store status =
-    ScriptRan explains s options output errors store status ⊎ NeverBegan output errors store status
+abbrev pub OpenedOutcome : Bool → PlainScript → RunOptions → Counted → Counted → Shelf → ℕ → Type 0
+OpenedOutcome explains s options output errors store status =
+    ScriptOutcome explains s options output errors store status ⊎ NeverBegan output errors store status
 
 -- The hub has run to its end, and its reports were written to the errors.
 abbrev pub HasRun : Kept → Kept → Counted → Type 0
@@ -225,16 +225,16 @@ IsCounted (fault.Count hub) = ⊥
 IsCounted _ = Unit {0}
 
 -- what is told where the run was stopped for this, after what was written of its reports
-abbrev pub StopRan : Kept → Cause → Counted → Counted → ℕ → Type 0
-StopRan h cause.Memory output errors status =
+abbrev pub StopOutcome : Kept → Cause → Counted → Counted → ℕ → Type 0
+StopOutcome h cause.Memory output errors status =
     MemoryBroke [] h.course.output output errors status ⊎ OutputBroke [] h.course.output output errors status
-StopRan h cause.Write output errors status = SaysStill errors [] cannot_write × IsIdle output × (status ≡ 1)
-StopRan h cause.Foreign output errors status = Says errors (line (codes "foreign hub")) × IsIdle output × (status ≡ 1)
+StopOutcome h cause.Write output errors status = SaysStill errors [] cannot_write × IsIdle output × (status ≡ 1)
+StopOutcome h cause.Foreign output errors status = Says errors (line (codes "foreign hub")) × IsIdle output × (status ≡ 1)
 
 -- a hub that is over was told after these reports, and its schedule and its picture saved, as far as that could be
-abbrev pub EndedRan : PlainAsked → PlainSaving → Kept → List PlainReport → Counted → Counted → Shelf → ℕ → Type 0
-EndedRan asked saving h reports output errors store status =
-    EndRan asked saving h.course.program h.course.items reports h.budget (run_of h.course) output errors store status
+abbrev pub EndedOutcome : PlainAsked → PlainSaving → Kept → List PlainReport → Counted → Counted → Shelf → ℕ → Type 0
+EndedOutcome asked saving h reports output errors store status =
+    EndOutcome asked saving h.course.program h.course.items reports h.budget (run_of h.course) output errors store status
     ⊎ ((MemoryBroke reports h.course.output output errors status ⊎ OutputBroke reports h.course.output output errors status)
     × IsUnchanged store.before store.after)
 

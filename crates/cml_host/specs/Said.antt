@@ -13,7 +13,7 @@ use Rattle.cml_explain.specs.Texts.{text_explained}
 use Rattle.cml_explain.specs.ScriptExplained.{script_explained}
 use Rattle.cml_host.specs.Stores.{Content, unknown, nothing, bytes, MayBeRefused, system_words}
 use Rattle.cml_host.specs.declared.reason.Reason.{Reason}
-use Rattle.cml_host.specs.Written.{TextRan}
+use Rattle.cml_host.specs.Written.{TextOutcome}
 use Rattle.cml_host.specs.declared.said.Said.{Said}
 use Rattle.cml_host.specs.declared.said.Said.TheVariants.{Written, Refused}
 use Rattle.cml_host.specs.declared.store.StoreFault.{StoreFault}
@@ -47,17 +47,17 @@ IsFaulty explains name given (Refused all) =
 
 -- What was said: it was written to the output; or the text was refused.
 abbrev pub IsSaid : Said → Counted → Counted → ℕ → Type 0
-IsSaid (Written all) output errors status = TextRan (string_bytes all) output errors status
+IsSaid (Written all) output errors status = TextOutcome (string_bytes all) output errors status
 IsSaid (Refused all) output errors status = Says errors all.items × (status ≡ 2) × IsIdle output
 
 -- memory ran out
-abbrev pub MemoryRan : Counted → ℕ → Type 0
-MemoryRan errors status = Says errors (line (codes "memory")) × (status ≡ 5)
+abbrev pub MemoryOutcome : Counted → ℕ → Type 0
+MemoryOutcome errors status = Says errors (line (codes "memory")) × (status ≡ 5)
 
 -- the same of a call that may have run out of memory
-abbrev pub SaidRan : Result Said AllocError → Counted → Counted → ℕ → Type 0
-SaidRan (Ok said) output errors status = IsSaid said output errors status
-SaidRan (Err e) output errors status = MemoryRan errors status × IsIdle output
+abbrev pub SaidOutcome : Result Said AllocError → Counted → Counted → ℕ → Type 0
+SaidOutcome (Ok said) output errors status = IsSaid said output errors status
+SaidOutcome (Err e) output errors status = MemoryOutcome errors status × IsIdle output
 
 -- why a file of this name is refused
 abbrev pub reason_line : List ℕ → Reason → List ℕ
@@ -73,9 +73,9 @@ abbrev pub unread_told : Bool → List ℕ → Option Reason → List ℕ
 unread_told explains name why = with_why explains name why (line (codes "cannot read " ++ name))
 
 -- The file of this name was refused, where it may be, for a reason of the store's; or memory ran out.
-abbrev pub RefusedRan : Bool → Content → List ℕ → Counted → ℕ → Type 0
-RefusedRan explains content name errors status =
-    (MayBeRefused content × ((why : Option Reason) × Says errors (unread_told explains name why)) × (status ≡ 1)) ⊎ MemoryRan errors status
+abbrev pub RefusedOutcome : Bool → Content → List ℕ → Counted → ℕ → Type 0
+RefusedOutcome explains content name errors status =
+    (MayBeRefused content × ((why : Option Reason) × Says errors (unread_told explains name why)) × (status ≡ 1)) ⊎ MemoryOutcome errors status
 
 -- This is the whole text that lies there: any text, where it is not known; and none, where nothing lies there.
 abbrev pub IsText : Content → List ℕ → Type 0
@@ -84,10 +84,10 @@ IsText nothing all = ⊥
 IsText (bytes known) all = all ≡ known
 
 -- The text that lies under the name was read, and what the command says of it was said; or the file was refused, or memory ran out.
-abbrev pub FileRan : (List ℕ → Said → Type 0) → Bool → List ℕ → Content → Counted → Counted → ℕ → Type 0
-FileRan Says explains name content output errors status =
+abbrev pub FileOutcome : (List ℕ → Said → Type 0) → Bool → List ℕ → Content → Counted → Counted → ℕ → Type 0
+FileOutcome Says explains name content output errors status =
     ((all : List ℕ) × IsText content all × (said : Said) × Says all said × IsSaid said output errors status)
-    ⊎ (RefusedRan explains content name errors status × IsIdle output)
+    ⊎ (RefusedOutcome explains content name errors status × IsIdle output)
 
 -- what is said of a text with this fault, which is not that memory ran out
 abbrev pub Told : Bool → List ℕ → List ℕ → TextFault → Said → Type 0
@@ -100,13 +100,13 @@ refusal_of (store_fault.Refused why) = refusal.Unread why
 refusal_of store_fault.Memory = refusal.Memory
 
 -- The refusal was said of the file of this name, with this status where it is the text that is wrong.
-abbrev pub RefusalRan : Bool → List ℕ → Refusal → ℕ → Counted → ℕ → Type 0
-RefusalRan explains name (refusal.Unread why) wrong errors status =
-    (Says errors (unread_told explains name why) × (status ≡ 1)) ⊎ MemoryRan errors status
-RefusalRan explains name (refusal.Wrong told) wrong errors status = Says errors told.items × (status ≡ wrong)
-RefusalRan explains name refusal.Memory wrong errors status = MemoryRan errors status
+abbrev pub RefusalOutcome : Bool → List ℕ → Refusal → ℕ → Counted → ℕ → Type 0
+RefusalOutcome explains name (refusal.Unread why) wrong errors status =
+    (Says errors (unread_told explains name why) × (status ≡ 1)) ⊎ MemoryOutcome errors status
+RefusalOutcome explains name (refusal.Wrong told) wrong errors status = Says errors told.items × (status ≡ wrong)
+RefusalOutcome explains name refusal.Memory wrong errors status = MemoryOutcome errors status
 
 -- the same of a fault of the store
-abbrev pub FaultRan : Bool → List ℕ → StoreFault → Counted → ℕ → Type 0
-FaultRan explains name (store_fault.Refused why) errors status = (Says errors (unread_told explains name why) × (status ≡ 1)) ⊎ MemoryRan errors status
-FaultRan explains name store_fault.Memory errors status = MemoryRan errors status
+abbrev pub FaultOutcome : Bool → List ℕ → StoreFault → Counted → ℕ → Type 0
+FaultOutcome explains name (store_fault.Refused why) errors status = (Says errors (unread_told explains name why) × (status ≡ 1)) ⊎ MemoryOutcome errors status
+FaultOutcome explains name store_fault.Memory errors status = MemoryOutcome errors status

@@ -9,7 +9,7 @@ use Rattle.cml_check.specs.Syntax.{PlainItem}
 use Rattle.cml_step.specs.Calls.{text_of}
 use Rattle.cml_stream.specs.Streams.{Counted, Says}
 use Rattle.cml_host.specs.Stores.{Content, MayBeRefused}
-use Rattle.cml_host.specs.Said.{IsText, RefusedRan, text_told, script_told}
+use Rattle.cml_host.specs.Said.{IsText, RefusedOutcome, text_told, script_told}
 use Rattle.cml_host.specs.declared.script.Script.{Script}
 use Rattle.cml_host.specs.declared.said.Refusal.{Refusal}
 use Rattle.cml_host.specs.declared.said.Refusal.TheVariants.{Unread, Wrong, Memory}
@@ -36,10 +36,10 @@ IsNoScript explains name text told =
     × (fault : PlainCheckFault) × (shape forms ≡ Err fault) × (told ≡ script_told explains name text forms fault))
 
 -- The script that lies there was not run: its text is none, and the errors tell why; or it was not read; or memory ran out.
-abbrev pub NoScriptRan : Bool → Content → List ℕ → Counted → ℕ → Type 0
-NoScriptRan explains content name errors status =
+abbrev pub NoScriptOutcome : Bool → Content → List ℕ → Counted → ℕ → Type 0
+NoScriptOutcome explains content name errors status =
     ((text : List ℕ) × IsText content text × (told : List ℕ) × IsNoScript explains name text told × Says errors told × (status ≡ 2))
-    ⊎ RefusedRan explains content name errors status
+    ⊎ RefusedOutcome explains content name errors status
 
 -- ---- what private functions say
 

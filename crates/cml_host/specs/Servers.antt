@@ -6,7 +6,7 @@ use Rattle.cml_check.specs.Syntax.{Name}
 use Rattle.cml_phrase.specs.Names.{function_name}
 use Rattle.cml_stream.specs.Streams.{Counted, Says}
 use Rattle.cml_text.specs.Lines.{line}
-use Rattle.cml_words.specs.declared.EndOptions.{EndOptions}
+use Rattle.cml_arguments.specs.declared.EndOptions.{EndOptions}
 use Rattle.cml_host.specs.Scripts.{PlainScript}
 use Rattle.cml_host.specs.declared.said.Refusal.{Refusal}
 use Rattle.cml_host.specs.declared.said.Refusal.TheVariants.{Unread, Wrong, Memory}
@@ -37,8 +37,8 @@ abbrev pub unknown_line : Name → List ℕ
 unknown_line name = line (codes "no function " ++ name)
 
 -- one of these names is of no function, and the errors tell the first such
-abbrev pub NoFunctionRan : PlainScript → List Name → Counted → ℕ → Type 0
-NoFunctionRan s names errors status =
+abbrev pub NoFunctionOutcome : PlainScript → List Name → Counted → ℕ → Type 0
+NoFunctionOutcome s names errors status =
     (name : Name) × (first_unknown s names ≡ Some name) × Says errors (unknown_line name) × (status ≡ 1)
 
 -- ---- what private functions say

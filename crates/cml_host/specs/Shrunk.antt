@@ -9,10 +9,10 @@ use Rattle.cml_schedule.specs.Written.{schedule_text}
 use Rattle.cml_shrink.specs.Counts.{counts_line}
 use Rattle.cml_shrink.specs.Shrinking.{PlainShrunk, IsShrunk}
 use Rattle.cml_stream.specs.Streams.{Counted, IsIdle, Says, Takes, TakesStart}
-use Rattle.cml_words.specs.declared.ShrinkOptions.{ShrinkOptions}
+use Rattle.cml_arguments.specs.declared.ShrinkOptions.{ShrinkOptions}
 use Rattle.cml_host.specs.Replaying.{IsSchedule, IsWrong}
-use Rattle.cml_host.specs.Opening.{Doing, BothRan}
-use Rattle.cml_host.specs.Said.{MemoryRan}
+use Rattle.cml_host.specs.Opening.{Doing, BothOutcome}
+use Rattle.cml_host.specs.Said.{MemoryOutcome}
 use Rattle.cml_host.specs.Stores.{Content}
 use Rattle.cml_host.specs.Told.{cannot_write}
 use Rattle.cml_host.specs.declared.shrink.Shorter.{Shorter}
@@ -35,11 +35,11 @@ abbrev pub TextShrunk : ℕ → Doing
 TextShrunk tries s p text output errors status =
     ((plan : PlainPlan) × IsSchedule text plan × PlanShrunk p tries plan output errors status)
     ⊎ ((told : List ℕ) × IsWrong (Some s) p text told × Says errors told × (status ≡ 3) × IsIdle output)
-    ⊎ (MemoryRan errors status × IsIdle output)
+    ⊎ (MemoryOutcome errors status × IsIdle output)
 
 -- `shrink`: a shorter schedule was told for the one that lies under its name, of the script that lies under its own; or one of them was not read.
-abbrev pub ShrinkRan : ShrinkOptions → (List ℕ → Content) → Counted → Counted → ℕ → Type 0
-ShrinkRan options held output errors status = BothRan (TextShrunk options.tries) options.script.now options.schedule.now held output errors status
+abbrev pub ShrinkOutcome : ShrinkOptions → (List ℕ → Content) → Counted → Counted → ℕ → Type 0
+ShrinkOutcome options held output errors status = BothOutcome (TextShrunk options.tries) options.script.now options.schedule.now held output errors status
 
 -- ---- what private functions say
 

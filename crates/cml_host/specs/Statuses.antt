@@ -1,26 +1,26 @@
 -- What the program does about its arguments, and with which status it ends.
 use Rattle.std.specs.Prelude.{◌≡◌, ◌⊎◌, ℕ, Bool, false, List, codes}
 use Rattle.std.specs.String.{string_bytes}
-use Rattle.cml_words.specs.declared.Task.TheVariants.{Trace, Check, Fmt, Run, Replay, Explain, Explore, Shrink, Draw, Step}
-use Rattle.cml_words.specs.declared.Answer.{Answer}
-use Rattle.cml_words.specs.declared.Answer.TheVariants as answer
-use Rattle.cml_words.specs.Words.{IsAnswer, explains}
+use Rattle.cml_arguments.specs.declared.Task.TheVariants.{Trace, Check, Fmt, Run, Replay, Explain, Explore, Shrink, Draw, Step}
+use Rattle.cml_arguments.specs.declared.Answer.{Answer}
+use Rattle.cml_arguments.specs.declared.Answer.TheVariants as answer
+use Rattle.cml_arguments.specs.Words.{IsAnswer, explains}
 use Rattle.cml_trace.specs.Replies.{line}
 use Rattle.cml_stream.specs.Counts.{Calls}
 use Rattle.cml_stream.specs.Streams.{Counted, Stream, IsIdle, Says}
 use Rattle.cml_host.specs.Stores.{Shelf, IsUnchanged}
 use Rattle.cml_host.specs.Checked.{IsChecked}
 use Rattle.cml_host.specs.Formatted.{IsPrinted}
-use Rattle.cml_host.specs.Said.{FileRan}
-use Rattle.cml_host.specs.Running.{RunRan}
-use Rattle.cml_host.specs.Replaying.{ReplayRan}
-use Rattle.cml_host.specs.Narrated.{ExplainRan}
-use Rattle.cml_host.specs.Drawn.{DrawRan}
-use Rattle.cml_host.specs.Exploring.{ExploreRan}
-use Rattle.cml_host.specs.Shrunk.{ShrinkRan}
-use Rattle.cml_host.specs.Stepped.{StepRan}
-use Rattle.cml_host.specs.Traced.{TraceRan}
-use Rattle.cml_host.specs.Written.{TextRan}
+use Rattle.cml_host.specs.Said.{FileOutcome}
+use Rattle.cml_host.specs.Running.{RunOutcome}
+use Rattle.cml_host.specs.Replaying.{ReplayOutcome}
+use Rattle.cml_host.specs.Narrated.{ExplainOutcome}
+use Rattle.cml_host.specs.Drawn.{DrawOutcome}
+use Rattle.cml_host.specs.Exploring.{ExploreOutcome}
+use Rattle.cml_host.specs.Shrunk.{ShrinkOutcome}
+use Rattle.cml_host.specs.Stepped.{StepOutcome}
+use Rattle.cml_host.specs.Traced.{TraceOutcome}
+use Rattle.cml_host.specs.Written.{TextOutcome}
 
 -- What stands around a run of the program, before and after: its input, its output, what it writes its errors to, whether that is a
 -- terminal, and its store.
@@ -37,34 +37,34 @@ SavesNothing around = IsUnchanged around.store.before around.store.after
 
 -- What was done about the arguments: the command that they name was done; or the text that they ask for was written to the output; or
 -- what is wrong with them was written to the errors. Only `run`, `explore` and `step` save anything.
-abbrev pub AnswerRan : Answer → Surroundings → ℕ → Type 0
-AnswerRan (answer.Task (Trace options)) around status =
-    TraceRan options.live (explains options.explain around.terminal) around.input around.output around.errors status × SavesNothing around
-AnswerRan (answer.Task (Check options)) around status =
-    FileRan (IsChecked (explains options.explain around.terminal) options.file.now) (explains options.explain around.terminal) options.file.now (around.store.before options.file.now)
+abbrev pub AnswerOutcome : Answer → Surroundings → ℕ → Type 0
+AnswerOutcome (answer.Task (Trace options)) around status =
+    TraceOutcome options.live (explains options.explain around.terminal) around.input around.output around.errors status × SavesNothing around
+AnswerOutcome (answer.Task (Check options)) around status =
+    FileOutcome (IsChecked (explains options.explain around.terminal) options.file.now) (explains options.explain around.terminal) options.file.now (around.store.before options.file.now)
     around.output around.errors status
     × IsIdle around.input × SavesNothing around
-AnswerRan (answer.Task (Fmt options)) around status =
-    FileRan (IsPrinted (explains options.explain around.terminal) options.file.now) (explains options.explain around.terminal) options.file.now (around.store.before options.file.now)
+AnswerOutcome (answer.Task (Fmt options)) around status =
+    FileOutcome (IsPrinted (explains options.explain around.terminal) options.file.now) (explains options.explain around.terminal) options.file.now (around.store.before options.file.now)
     around.output around.errors status
     × IsIdle around.input × SavesNothing around
-AnswerRan (answer.Task (Run options)) around status =
-    RunRan options (explains options.explain around.terminal) around.output around.errors around.store status × IsIdle around.input
-AnswerRan (answer.Task (Replay options)) around status =
-    ReplayRan options (explains options.explain around.terminal) around.store.before around.output around.errors status
+AnswerOutcome (answer.Task (Run options)) around status =
+    RunOutcome options (explains options.explain around.terminal) around.output around.errors around.store status × IsIdle around.input
+AnswerOutcome (answer.Task (Replay options)) around status =
+    ReplayOutcome options (explains options.explain around.terminal) around.store.before around.output around.errors status
     × IsIdle around.input × SavesNothing around
-AnswerRan (answer.Task (Explain options)) around status =
-    ExplainRan options around.store.before around.output around.errors status × IsIdle around.input × SavesNothing around
-AnswerRan (answer.Task (Explore options)) around status =
-    ExploreRan options around.terminal around.output around.errors around.store status × IsIdle around.input
-AnswerRan (answer.Task (Shrink options)) around status =
-    ShrinkRan options around.store.before around.output around.errors status × IsIdle around.input × SavesNothing around
-AnswerRan (answer.Task (Draw options)) around status =
-    DrawRan options around.store.before around.output around.errors status × IsIdle around.input × SavesNothing around
-AnswerRan (answer.Task (Step options)) around status = StepRan options around.input around.output around.errors around.store status
-AnswerRan (answer.Help text) around status =
-    TextRan (string_bytes text) around.output around.errors status × IsIdle around.input × SavesNothing around
-AnswerRan (answer.Fault text) around status =
+AnswerOutcome (answer.Task (Explain options)) around status =
+    ExplainOutcome options around.store.before around.output around.errors status × IsIdle around.input × SavesNothing around
+AnswerOutcome (answer.Task (Explore options)) around status =
+    ExploreOutcome options around.terminal around.output around.errors around.store status × IsIdle around.input
+AnswerOutcome (answer.Task (Shrink options)) around status =
+    ShrinkOutcome options around.store.before around.output around.errors status × IsIdle around.input × SavesNothing around
+AnswerOutcome (answer.Task (Draw options)) around status =
+    DrawOutcome options around.store.before around.output around.errors status × IsIdle around.input × SavesNothing around
+AnswerOutcome (answer.Task (Step options)) around status = StepOutcome options around.input around.output around.errors around.store status
+AnswerOutcome (answer.Help text) around status =
+    TextOutcome (string_bytes text) around.output around.errors status × IsIdle around.input × SavesNothing around
+AnswerOutcome (answer.Fault text) around status =
     Says around.errors (string_bytes text) × (status ≡ 1) × IsIdle around.input × IsIdle around.output × SavesNothing around
 
 -- memory ran out before the arguments were read
@@ -76,7 +76,7 @@ IsOutOfMemory around status =
 -- The arguments were read and what they ask for was done, or memory ran out before.
 abbrev pub Ran : List (List ℕ) → Surroundings → ℕ → Type 0
 Ran words around status =
-    ((what : Answer) × IsAnswer words what × AnswerRan what around status) ⊎ IsOutOfMemory around status
+    ((what : Answer) × IsAnswer words what × AnswerOutcome what around status) ⊎ IsOutOfMemory around status
 
 -- The same of streams whose calls nobody counts, and of errors that go to no terminal: there are counts with which it holds.
 abbrev pub RanOver : List (List ℕ) → Stream → Stream → Stream → Shelf → ℕ → Type 0

@@ -17,11 +17,11 @@ use Rattle.cml_stream.specs.Streams.{Counted, Stream, IsIdle, IsSpent, IsUntouch
 use Rattle.cml_trace.specs.Live.{max_turns, HasLiveCause}
 use Rattle.cml_trace.specs.declared.fault.TraceFault.{TraceFault}
 use Rattle.cml_trace.specs.declared.fault.TraceFault.TheVariants as fault
-use Rattle.cml_words.specs.declared.StepOptions.{StepOptions}
+use Rattle.cml_arguments.specs.declared.StepOptions.{StepOptions}
 use Rattle.cml_host.specs.Closed.{PlainSubject, script_as_subject}
 use Rattle.cml_host.specs.Running.{IsNotKept}
-use Rattle.cml_host.specs.Said.{MemoryRan}
-use Rattle.cml_host.specs.Scripts.{PlainScript, IsOpened, NoScriptRan}
+use Rattle.cml_host.specs.Said.{MemoryOutcome}
+use Rattle.cml_host.specs.Scripts.{PlainScript, IsOpened, NoScriptOutcome}
 use Rattle.cml_host.specs.Stores.{Shelf, IsSaved, IsUnchanged}
 use Rattle.cml_host.specs.Traced.{fault_status, trace_fault_line}
 
@@ -109,12 +109,12 @@ HasTalkCause turns (Ok done) input output = (input.failed ≡ 0) × (output.fail
 HasTalkCause turns (Err why) input output = HasLiveCause turns (Err why) input output
 
 -- The schedule was saved under the name, where one is given; or it could not be, and the errors tell why; or memory ran out.
-abbrev pub SavedRan : Option (List ℕ) → List ℕ → Counted → Shelf → ℕ → Type 0
-SavedRan None schedule errors store status = (status ≡ 0) × IsIdle errors × IsUnchanged store.before store.after
-SavedRan (Some name) schedule errors store status =
+abbrev pub SavedOutcome : Option (List ℕ) → List ℕ → Counted → Shelf → ℕ → Type 0
+SavedOutcome None schedule errors store status = (status ≡ 0) × IsIdle errors × IsUnchanged store.before store.after
+SavedOutcome (Some name) schedule errors store status =
     (IsSaved store.before store.after name schedule × Takes errors.bytes [] × (errors.counts.failed ≡ 0) × (status ≡ 0))
     ⊎ IsNotKept true name errors store status
-    ⊎ (MemoryRan errors status × IsUnchanged store.before store.after)
+    ⊎ (MemoryOutcome errors status × IsUnchanged store.before store.after)
 
 -- The run of the program was gone through to its end, its schedule leads where the hub stood then, and was saved, where that was asked for; or
 -- it was cut off, the errors tell why, and nothing was saved.
@@ -122,7 +122,7 @@ abbrev pub HubStepped : ByHand → List (PlainItem ℕ) → Option (List ℕ) �
 HubStepped s p name start input output errors store status =
     ((last : Kept) × IsHeld s start last input.bytes output.bytes × (input.counts.failed ≡ 0) × (output.counts.failed ≡ 0)
     × (stands (text_of p) last.course.items ≡ Some (run_of last.course))
-    × SavedRan name (schedule_text stepped_budget (size_of p) last.course.items) errors store status)
+    × SavedOutcome name (schedule_text stepped_budget (size_of p) last.course.items) errors store status)
     ⊎ ((why : TraceFault) × IsNotHeld s start input.bytes output.bytes why × HasLiveCause max_turns (Err why) input.counts output.counts
     × Says errors (trace_fault_line why) × (status ≡ fault_status why) × IsUnchanged store.before store.after)
 
@@ -131,14 +131,14 @@ abbrev pub ScriptStepped : StepOptions → PlainScript → Counted → Counted �
 ScriptStepped options s input output errors store status =
     ((start : Kept) × IsAtStart s.program stepped_budget None start
     × HubStepped (by_hand (script_as_subject options.script.now s)) s.program (option_map (λ name. name.now) options.record) start input output errors store status)
-    ⊎ (MemoryRan errors status × IsIdle input × IsIdle output × IsUnchanged store.before store.after)
+    ⊎ (MemoryOutcome errors status × IsIdle input × IsIdle output × IsUnchanged store.before store.after)
 
 -- `step`: the run of the script that lies under the name was gone through by hand; or no script lies there, which is explained, it was not read,
 -- or memory ran out, and nothing was read from the input, written to the output or saved.
-abbrev pub StepRan : StepOptions → Counted → Counted → Counted → Shelf → ℕ → Type 0
-StepRan options input output errors store status =
+abbrev pub StepOutcome : StepOptions → Counted → Counted → Counted → Shelf → ℕ → Type 0
+StepOutcome options input output errors store status =
     ((s : PlainScript) × IsOpened (store.before options.script.now) s × ScriptStepped options s input output errors store status)
-    ⊎ (NoScriptRan true (store.before options.script.now) options.script.now errors status × IsIdle input × IsIdle output × IsUnchanged store.before store.after)
+    ⊎ (NoScriptOutcome true (store.before options.script.now) options.script.now errors status × IsIdle input × IsIdle output × IsUnchanged store.before store.after)
 
 -- ---- what private functions say
 

@@ -40,8 +40,8 @@ IsTold true input errors = (told : List ℕ) × IsExplained input told × Says e
 
 -- The trace on the input was answered, and no call of its streams failed; or not to its end, since a call failed, the input did not end
 -- or memory ran out, and the errors tell of it.
-abbrev pub WholeRan : Bool → Counted → Counted → Counted → ℕ → Type 0
-WholeRan explains input output errors status =
+abbrev pub WholeOutcome : Bool → Counted → Counted → Counted → ℕ → Type 0
+WholeOutcome explains input output errors status =
     ((end : TraceEnd) × IsAnswered input.bytes output.bytes end × HasCause (Ok end) input.counts output.counts
     × (status ≡ status_of end) × IsTold explains input.bytes errors)
     ⊎ ((fault : TraceFault) × IsBroken input.bytes output.bytes fault × HasCause (Err fault) input.counts output.counts
@@ -49,15 +49,15 @@ WholeRan explains input output errors status =
 
 -- The same of a trace of which each line is answered as soon as it was read: where a read failed, or as many turns were taken as may be,
 -- all whole lines that came are answered.
-abbrev pub LiveRan : Counted → Counted → Counted → ℕ → Type 0
-LiveRan input output errors status =
+abbrev pub LiveOutcome : Counted → Counted → Counted → ℕ → Type 0
+LiveOutcome input output errors status =
     ((end : TraceEnd) × IsHeardOut input.bytes output.bytes end × HasLiveCause max_turns (Ok end) input.counts output.counts
     × (status ≡ status_of end) × IsIdle errors)
     ⊎ ((fault : TraceFault) × LiveIsStopped input.bytes output.bytes fault × HasLiveCause max_turns (Err fault) input.counts output.counts
     × (status ≡ fault_status fault) × Says errors (trace_fault_line fault))
 
 -- What the command did: the lines are answered as they come, or the whole trace is, of which the reader is asked only so often.
-abbrev pub TraceRan : Bool → Bool → Counted → Counted → Counted → ℕ → Type 0
-TraceRan true explains input output errors status = LiveRan input output errors status
-TraceRan false explains input output errors status =
-    WholeRan explains input output errors status × (input.counts.calls ≤ most_reads max_input)
+abbrev pub TraceOutcome : Bool → Bool → Counted → Counted → Counted → ℕ → Type 0
+TraceOutcome true explains input output errors status = LiveOutcome input output errors status
+TraceOutcome false explains input output errors status =
+    WholeOutcome explains input output errors status × (input.counts.calls ≤ most_reads max_input)

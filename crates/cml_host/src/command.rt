@@ -20,8 +20,8 @@ use crate::step::step_file;
 use crate::store::Store;
 use crate::trace::trace;
 use crate::workers::Open;
+use cml_arguments::{Answer, Task, read_arguments};
 use cml_stream::Counting;
-use cml_words::{Answer, Task, read_words};
 use cml_work::Gate;
 use std::alloc::{AllocError, Global};
 use std::io::{Read, Write};
@@ -103,7 +103,7 @@ where
     ensures same_out { out.new.stream.ghost_name ≡ out.old.stream.ghost_name }
     ensures same_err { err.new.stream.ghost_name ≡ err.old.stream.ghost_name }
 {
-    match read_words(alloc, words) {
+    match read_arguments(alloc, words) {
         Ok(Answer::Task(Task::Trace(options))) => {
             let explains = options.explain.is_on(terminal);
             trace(alloc, options.live, explains, input, out, err)

@@ -4,7 +4,7 @@ ghost use Rattle.std.specs.Prelude.{◌≡◌, IfErr, IfOk, None, length};
 ghost use Rattle.cml_hub.specs.Kept.{IsAtStart};
 ghost use Rattle.cml_host.specs.Closed.{plain_subject};
 ghost use Rattle.cml_host.specs.Drawn as spec;
-ghost use Rattle.cml_host.specs.Drawn.{DrawRan, IsDrawnBy, IsUndrawnBy, TextDrawn, too_many_told};
+ghost use Rattle.cml_host.specs.Drawn.{DrawOutcome, IsDrawnBy, IsUndrawnBy, TextDrawn, too_many_told};
 ghost use Rattle.cml_host.specs.Stores.{IsUnchanged};
 ghost use Rattle.cml_stream.specs.Streams.{counted_stream, Says};
 
@@ -16,11 +16,11 @@ use crate::output::{say, send_text};
 use crate::said::{Refusal, refuse};
 use crate::store::Store;
 use crate::tell::let_go;
+use cml_arguments::PartOptions;
 use cml_check::Prog;
 use cml_draw::{DrawFault, draw};
 use cml_hub::{Hub, Item};
 use cml_stream::Counting;
-use cml_words::PartOptions;
 use std::alloc::{AllocError, Global};
 use std::io::Write;
 use thiserror::Error;
@@ -59,7 +59,7 @@ pub fn draw_file<O: Write, E: Write, S: Store>(
     requires fresh { (out.old.calls ≡ 0) × (out.old.failed ≡ 0) × (err.old.calls ≡ 0) × (err.old.failed ≡ 0) }
     ensures ran { let output = counted_stream (O.contents out.old.stream.now) (O.contents out.new.stream.now) out.new.calls out.new.failed in
         let errors = counted_stream (E.contents err.old.stream.now) (E.contents err.new.stream.now) err.new.calls err.new.failed in
-        DrawRan options.now (S.holds store.old) output errors result }
+        DrawOutcome options.now (S.holds store.old) output errors result }
     ensures same { IsUnchanged (S.holds store.old) (S.holds store.new) }
     ensures same_out { out.new.stream.ghost_name ≡ out.old.stream.ghost_name }
     ensures same_err { err.new.stream.ghost_name ≡ err.old.stream.ghost_name }

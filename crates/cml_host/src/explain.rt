@@ -4,7 +4,7 @@ ghost use Rattle.std.specs.Prelude.{◌≡◌, ◌+◌, ◌<◌, ◌^◌, [], If
 ghost use Rattle.cml_hub.specs.Kept.{IsAtStart, NoneOut};
 ghost use Rattle.cml_host.specs.Closed.{plain_subject};
 ghost use Rattle.cml_host.specs.Narrated as spec;
-ghost use Rattle.cml_host.specs.Narrated.{ExplainRan, HasToldFirst, IsSetUp, IsNotSetUp, IsTellingOf, PlanTold, Spills, TextExplained, StoryCut, tale_for};
+ghost use Rattle.cml_host.specs.Narrated.{ExplainOutcome, HasToldFirst, IsSetUp, IsNotSetUp, IsTellingOf, PlanTold, Spills, TextExplained, StoryCut, tale_for};
 ghost use Rattle.cml_host.specs.Stores.{IsUnchanged};
 ghost use Rattle.cml_narrative.specs.Tellers.{Knows, tale_of};
 ghost use Rattle.cml_stream.specs.Streams.{counted_stream, stream, TakesStart};
@@ -17,12 +17,12 @@ use crate::replay::{read_plan, told_size};
 use crate::said::{Refusal, refuse};
 use crate::store::Store;
 use crate::tell::{hub_is_a_run, let_go};
+use cml_arguments::PartOptions;
 use cml_check::Prog;
 use cml_hub::{Hub, Item, Plan, matches_program};
 use cml_narrative::Narrator;
 use cml_stream::Counting;
 use cml_stream::input_output::{WriteFault, write_out};
-use cml_words::PartOptions;
 use std::alloc::{AllocError, Global};
 use std::io::Write;
 use thiserror::Error;
@@ -75,7 +75,7 @@ pub fn explain_file<O: Write, E: Write, S: Store>(
     requires fresh { (out.old.calls ≡ 0) × (out.old.failed ≡ 0) × (err.old.calls ≡ 0) × (err.old.failed ≡ 0) }
     ensures ran { let output = counted_stream (O.contents out.old.stream.now) (O.contents out.new.stream.now) out.new.calls out.new.failed in
         let errors = counted_stream (E.contents err.old.stream.now) (E.contents err.new.stream.now) err.new.calls err.new.failed in
-        ExplainRan options.now (S.holds store.old) output errors result }
+        ExplainOutcome options.now (S.holds store.old) output errors result }
     ensures same { IsUnchanged (S.holds store.old) (S.holds store.new) }
     ensures same_out { out.new.stream.ghost_name ≡ out.old.stream.ghost_name }
     ensures same_err { err.new.stream.ghost_name ≡ err.old.stream.ghost_name }
@@ -241,7 +241,7 @@ fn refuse_item<E: Write>(
 fn cut_story<E: Write>(why: Halt, err: &mut Counting<'_, E>) -> u8
     requires fresh { err.old.failed ≡ 0 }
     ensures told { let errors = counted_stream (E.contents err.old.stream.now) (E.contents err.new.stream.now) err.new.calls err.new.failed in
-        spec.HaltRan why errors result }
+        spec.HaltOutcome why errors result }
     ensures same_err { err.new.stream.ghost_name ≡ err.old.stream.ghost_name }
 {
     match why {

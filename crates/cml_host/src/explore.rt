@@ -8,14 +8,14 @@ ghost use Rattle.cml_check.specs.Sizes.{size_of};
 ghost use Rattle.cml_explore.specs.Answers.{IsToldOfRuns};
 ghost use Rattle.cml_explore.specs.Explored.{HasMade, SoFar};
 ghost use Rattle.cml_host.specs.Exploring as spec;
-ghost use Rattle.cml_host.specs.Exploring.{AreSaved, AsksForRuns, ClassesKept, ExploreRan, FilesKept, IsNotSaved, MadeAll, MadeErased, MadeSome, MadeTold, NameRefused, NotShown, ProgramExplored, RunsTold, ScriptExplored, ShownFrom, SomeSaved, StopsBehind, StopsErased, StopsShowing, UnsavedTold, erased, files_from, judged, saved_start, shown_at, shown_next, stop_at};
+ghost use Rattle.cml_host.specs.Exploring.{AreSaved, AsksForRuns, ClassesKept, ExploreOutcome, FilesKept, IsNotSaved, MadeAll, MadeErased, MadeSome, MadeTold, NameRefused, NotShown, ProgramExplored, RunsTold, ScriptExplored, ShownFrom, SomeSaved, StopsBehind, StopsErased, StopsShowing, UnsavedTold, erased, files_from, judged, saved_start, shown_at, shown_next, stop_at};
 ghost use Rattle.cml_host.specs.Running as running;
 ghost use Rattle.cml_host.specs.Scripts.{plain_script};
 ghost use Rattle.cml_host.specs.Stores.{Shelf, IsSaved};
 ghost use Rattle.cml_hub.specs.Kept.{IsBudget};
 ghost use Rattle.cml_schedule.specs.Written.{schedule_text};
 ghost use Rattle.cml_stream.specs.Streams.{counted_stream, stream, Takes, TakesStart};
-ghost use Rattle.cml_words.specs.Words.{IsDepth, IsRuns, saved_name};
+ghost use Rattle.cml_arguments.specs.Words.{IsDepth, IsRuns, saved_name};
 
 use crate::explain::Halt;
 use crate::output::say;
@@ -24,12 +24,12 @@ use crate::said::{refuse, with_why};
 use crate::script::{Script, open_script};
 use crate::servers::find_servers;
 use crate::store::Store;
+use cml_arguments::{ExploreOptions, Until as Word};
 use cml_check::Prog;
 use cml_explore::{Asked, Classes, Explored, Order, Until, explain_runs};
 use cml_schedule::{Item, schedule_text};
 use cml_stream::Counting;
 use cml_stream::input_output::{WriteFault, write_out};
-use cml_words::{ExploreOptions, Until as Word};
 use std::alloc::{AllocError, Global};
 use std::io::Write;
 use std::thread::Threads;
@@ -78,7 +78,7 @@ pub fn explore_file<R: Threads + Sync, O: Write, E: Write, S: Store>(
     ensures ran { let output = counted_stream (O.contents out.old.stream.now) (O.contents out.new.stream.now) out.new.calls out.new.failed in
         let errors = counted_stream (E.contents err.old.stream.now) (E.contents err.new.stream.now) err.new.calls err.new.failed in
         let shelf : Shelf = record { before = S.holds store.old; after = S.holds store.new } in
-        ExploreRan options.now terminal output errors shelf result }
+        ExploreOutcome options.now terminal output errors shelf result }
     ensures same_out { out.new.stream.ghost_name ≡ out.old.stream.ghost_name }
     ensures same_err { err.new.stream.ghost_name ≡ err.old.stream.ghost_name }
 {

@@ -2,7 +2,7 @@
 
 ghost use Rattle.std.specs.Prelude.{◌≡◌, IfErr, IfOk};
 ghost use Rattle.cml_host.specs.Closed.{plain_subject};
-ghost use Rattle.cml_host.specs.Opening.{AreOpened, NotOpenedRan, AreNotOpened};
+ghost use Rattle.cml_host.specs.Opening.{AreOpened, NotOpenedOutcome, AreNotOpened};
 ghost use Rattle.cml_host.specs.Stores.{IsUnchanged};
 ghost use Rattle.cml_stream.specs.Streams.{counted_stream};
 
@@ -71,7 +71,7 @@ pub fn refuse_opening<E: Write>(
 ) -> u8
     requires fresh { err.old.failed ≡ 0 }
     ensures told { let errors = counted_stream (E.contents err.old.stream.now) (E.contents err.new.stream.now) err.new.calls err.new.failed in
-        NotOpenedRan script_name.now schedule_name.now why errors result }
+        NotOpenedOutcome script_name.now schedule_name.now why errors result }
     ensures same_err { err.new.stream.ghost_name ≡ err.old.stream.ghost_name }
 {
     match why {

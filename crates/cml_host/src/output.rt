@@ -1,7 +1,7 @@
 //! Writing to the output, and saying what went wrong.
 
 ghost use Rattle.std.specs.Prelude.{◌≡◌};
-ghost use Rattle.cml_host.specs.Written.{TextRan};
+ghost use Rattle.cml_host.specs.Written.{TextOutcome};
 ghost use Rattle.cml_stream.specs.Streams.{counted_stream, Says};
 
 use cml_stream::Counting;
@@ -17,7 +17,7 @@ pub fn send_text<O: Write, E: Write>(
     requires fresh { (out.old.failed ≡ 0) × (err.old.calls ≡ 0) × (err.old.failed ≡ 0) }
     ensures ran { let output = counted_stream (O.contents out.old.stream.now) (O.contents out.new.stream.now) out.new.calls out.new.failed in
         let errors = counted_stream (E.contents err.old.stream.now) (E.contents err.new.stream.now) err.new.calls err.new.failed in
-        TextRan text.now output errors result }
+        TextOutcome text.now output errors result }
     ensures same_out { out.new.stream.ghost_name ≡ out.old.stream.ghost_name }
     ensures same_err { err.new.stream.ghost_name ≡ err.old.stream.ghost_name }
 {

@@ -4,7 +4,7 @@ ghost use Rattle.std.specs.Prelude.{◌≡◌, IfOk, IfErr, codes, None};
 ghost use Rattle.cml_hub.specs.Kept.{IsBudget, IsWatch, FitsSize, IsFirstBad, IsReplayed};
 ghost use Rattle.cml_host.specs.Closed.{plain_asked};
 ghost use Rattle.cml_host.specs.Scripts.{plain_script};
-ghost use Rattle.cml_host.specs.Replaying.{ReplayRan, ReplayTold, OpenedReplayed, ScheduleRan, IsBadItem, IsHubBy, IsHubOf, IsNoHub, IsNoRun, IsNotRead, IsNotRun, IsSchedule, line_told};
+ghost use Rattle.cml_host.specs.Replaying.{ReplayOutcome, ReplayTold, OpenedReplayed, ScheduleOutcome, IsBadItem, IsHubBy, IsHubOf, IsNoHub, IsNoRun, IsNotRead, IsNotRun, IsSchedule, line_told};
 ghost use Rattle.cml_host.specs.Stores.{IsUnchanged};
 ghost use Rattle.cml_stream.specs.Streams.{counted_stream};
 ghost use Rattle.cml_text.specs.Lines.{line};
@@ -16,11 +16,11 @@ use crate::script::{Script, open_script};
 use crate::servers::find_servers;
 use crate::store::Store;
 use crate::tell::{cut_run, hub_is_a_run, let_go, tell};
+use cml_arguments::ReplayOptions;
 use cml_check::Prog;
 use cml_explain::explain_unfit;
 use cml_hub::{Hub, Plan, ReplayFault, ScheduleFault, matches_program, read_schedule};
 use cml_stream::Counting;
-use cml_words::ReplayOptions;
 use std::alloc::{AllocError, Global};
 use std::io::Write;
 
@@ -41,7 +41,7 @@ pub fn replay_file<O: Write, E: Write, S: Store>(
     requires fresh { (out.old.calls ≡ 0) × (out.old.failed ≡ 0) × (err.old.calls ≡ 0) × (err.old.failed ≡ 0) }
     ensures ran { let output = counted_stream (O.contents out.old.stream.now) (O.contents out.new.stream.now) out.new.calls out.new.failed in
         let errors = counted_stream (E.contents err.old.stream.now) (E.contents err.new.stream.now) err.new.calls err.new.failed in
-        ReplayRan options.now explains (S.holds store.old) output errors result }
+        ReplayOutcome options.now explains (S.holds store.old) output errors result }
     ensures same { IsUnchanged (S.holds store.old) (S.holds store.new) }
     ensures same_out { out.new.stream.ghost_name ≡ out.old.stream.ghost_name }
     ensures same_err { err.new.stream.ghost_name ≡ err.old.stream.ghost_name }
@@ -104,7 +104,7 @@ fn replay_program<O: Write, E: Write, S: Store>(
     requires fresh { (out.old.calls ≡ 0) × (out.old.failed ≡ 0) × (err.old.calls ≡ 0) × (err.old.failed ≡ 0) }
     ensures ran { let output = counted_stream (O.contents out.old.stream.now) (O.contents out.new.stream.now) out.new.calls out.new.failed in
         let errors = counted_stream (E.contents err.old.stream.now) (E.contents err.new.stream.now) err.new.calls err.new.failed in
-        ScheduleRan (plain_asked asked.now) program options.now.watch options.now.schedule.now (S.holds store.old options.now.schedule.now) output errors result }
+        ScheduleOutcome (plain_asked asked.now) program options.now.watch options.now.schedule.now (S.holds store.old options.now.schedule.now) output errors result }
     ensures same { IsUnchanged (S.holds store.old) (S.holds store.new) }
     ensures same_out { out.new.stream.ghost_name ≡ out.old.stream.ghost_name }
     ensures same_err { err.new.stream.ghost_name ≡ err.old.stream.ghost_name }

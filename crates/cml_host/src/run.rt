@@ -4,7 +4,7 @@ ghost use Rattle.std.specs.Prelude.{◌≡◌, ◌++◌, [], codes, Option, IfEr
 ghost use Rattle.std.specs.String.{string_bytes};
 ghost use Rattle.cml_hub.specs.Kept.{IsAtStart, IsBudget, IsWatch};
 ghost use Rattle.cml_host.specs.Closed.{IsClosing, drawn_subject, plain_asked, plain_closing};
-ghost use Rattle.cml_host.specs.Running.{RunRan, OpenedRan, BegunRan, ProgramRan, EndedRan, IsEnded, IsNotEnded, IsMade, IsKept, IsNotKept, IsPictureFor, IsRefusalOf, cannot_save, names_saved, plain_saving, plain_wanted, unsaved_told};
+ghost use Rattle.cml_host.specs.Running.{RunOutcome, OpenedOutcome, BegunOutcome, ProgramOutcome, EndedOutcome, IsEnded, IsNotEnded, IsMade, IsKept, IsNotKept, IsPictureFor, IsRefusalOf, cannot_save, names_saved, plain_saving, plain_wanted, unsaved_told};
 ghost use Rattle.cml_host.specs.Scripts.{plain_script};
 ghost use Rattle.cml_host.specs.Stores.{Shelf};
 ghost use Rattle.cml_host.specs.declared.reason.Reason.{Reason};
@@ -21,10 +21,10 @@ use crate::servers::find_servers;
 use crate::store::{Store, StoreFault};
 use crate::tell::{cut_output, hub_is_a_run, let_go, stop, tell_output};
 use crate::workers::run_hub;
+use cml_arguments::RunOptions;
 use cml_check::Prog;
 use cml_hub::Hub;
 use cml_stream::Counting;
-use cml_words::RunOptions;
 use cml_work::Gate;
 use std::alloc::{AllocError, Global};
 use std::io::Write;
@@ -71,7 +71,7 @@ where
     ensures ran { let output = counted_stream (O.contents out.old.stream.now) (O.contents out.new.stream.now) out.new.calls out.new.failed in
         let errors = counted_stream (E.contents err.old.stream.now) (E.contents err.new.stream.now) err.new.calls err.new.failed in
         let shelf : Shelf = record { before = S.holds store.old; after = S.holds store.new } in
-        RunRan options.now explains output errors shelf result }
+        RunOutcome options.now explains output errors shelf result }
     ensures same_out { out.new.stream.ghost_name ≡ out.old.stream.ghost_name }
     ensures same_err { err.new.stream.ghost_name ≡ err.old.stream.ghost_name }
 {
@@ -104,7 +104,7 @@ where
     ensures ran { let output = counted_stream (O.contents out.old.stream.now) (O.contents out.new.stream.now) out.new.calls out.new.failed in
         let errors = counted_stream (E.contents err.old.stream.now) (E.contents err.new.stream.now) err.new.calls err.new.failed in
         let shelf : Shelf = record { before = S.holds store.old; after = S.holds store.new } in
-        OpenedRan explains (plain_script script) options.now output errors shelf result }
+        OpenedOutcome explains (plain_script script) options.now output errors shelf result }
     ensures same_out { out.new.stream.ghost_name ≡ out.old.stream.ghost_name }
     ensures same_err { err.new.stream.ghost_name ≡ err.old.stream.ghost_name }
 {
@@ -161,7 +161,7 @@ where
     ensures ran { let output = counted_stream (O.contents out.old.stream.now) (O.contents out.new.stream.now) out.new.calls out.new.failed in
         let errors = counted_stream (E.contents err.old.stream.now) (E.contents err.new.stream.now) err.new.calls err.new.failed in
         let shelf : Shelf = record { before = S.holds store.old; after = S.holds store.new } in
-        BegunRan (plain_asked asked.now) (plain_saving saving.now) program options.now output errors shelf result }
+        BegunOutcome (plain_asked asked.now) (plain_saving saving.now) program options.now output errors shelf result }
     ensures same_out { out.new.stream.ghost_name ≡ out.old.stream.ghost_name }
     ensures same_err { err.new.stream.ghost_name ≡ err.old.stream.ghost_name }
 {
@@ -202,7 +202,7 @@ where
     ensures ran { let output = counted_stream (O.contents out.old.stream.now) (O.contents out.new.stream.now) out.new.calls out.new.failed in
         let errors = counted_stream (E.contents err.old.stream.now) (E.contents err.new.stream.now) err.new.calls err.new.failed in
         let shelf : Shelf = record { before = S.holds store.old; after = S.holds store.new } in
-        ProgramRan (plain_asked asked.now) (plain_saving saving.now) hub.course.program options.now output errors shelf result }
+        ProgramOutcome (plain_asked asked.now) (plain_saving saving.now) hub.course.program options.now output errors shelf result }
     ensures same_out { out.new.stream.ghost_name ≡ out.old.stream.ghost_name }
     ensures same_err { err.new.stream.ghost_name ≡ err.old.stream.ghost_name }
 {
@@ -238,7 +238,7 @@ fn end<O: Write, E: Write, S: Store>(
     ensures ran { let output = counted_stream (O.contents out.old.stream.now) (O.contents out.new.stream.now) out.new.calls out.new.failed in
         let errors = counted_stream (E.contents err.old.stream.now) (E.contents err.new.stream.now) err.new.calls err.new.failed in
         let shelf : Shelf = record { before = S.holds store.old; after = S.holds store.new } in
-        EndedRan (plain_asked asked.now) (plain_saving saving.now) hub.now [] output errors shelf result }
+        EndedOutcome (plain_asked asked.now) (plain_saving saving.now) hub.now [] output errors shelf result }
     ensures same_out { out.new.stream.ghost_name ≡ out.old.stream.ghost_name }
     ensures same_err { err.new.stream.ghost_name ≡ err.old.stream.ghost_name }
 {

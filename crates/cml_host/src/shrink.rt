@@ -5,7 +5,7 @@ ghost use Rattle.std.specs.String.{string_bytes};
 ghost use Rattle.cml_check.specs.Sizes.{size_of};
 ghost use Rattle.cml_host.specs.Closed.{plain_asked, plain_subject};
 ghost use Rattle.cml_host.specs.Replaying.{IsNoHub, IsNoRun};
-ghost use Rattle.cml_host.specs.Shrunk.{IsShorterBy, IsShorterOf, ScheduleTold, ShrinkRan, TextShrunk};
+ghost use Rattle.cml_host.specs.Shrunk.{IsShorterBy, IsShorterOf, ScheduleTold, ShrinkOutcome, TextShrunk};
 ghost use Rattle.cml_host.specs.Stores.{IsUnchanged};
 ghost use Rattle.cml_hub.specs.Kept.{IsBudget, FitsSize};
 ghost use Rattle.cml_schedule.specs.Written.{schedule_text};
@@ -18,13 +18,13 @@ use crate::output::say;
 use crate::replay::{read_plan, told_item, told_size};
 use crate::said::{Refusal, refuse};
 use crate::store::Store;
+use cml_arguments::ShrinkOptions;
 use cml_check::Prog;
 use cml_hub::{Item, Plan, matches_program};
 use cml_schedule::schedule_text;
 use cml_shrink::{ShrinkFault, push_counts, shrink};
 use cml_stream::Counting;
 use cml_stream::input_output::write_out;
-use cml_words::ShrinkOptions;
 use std::alloc::{AllocError, Global};
 use std::io::Write;
 
@@ -47,7 +47,7 @@ pub fn shrink_file<O: Write, E: Write, S: Store>(
     requires fresh { (out.old.calls ≡ 0) × (out.old.failed ≡ 0) × (err.old.calls ≡ 0) × (err.old.failed ≡ 0) }
     ensures ran { let output = counted_stream (O.contents out.old.stream.now) (O.contents out.new.stream.now) out.new.calls out.new.failed in
         let errors = counted_stream (E.contents err.old.stream.now) (E.contents err.new.stream.now) err.new.calls err.new.failed in
-        ShrinkRan options.now (S.holds store.old) output errors result }
+        ShrinkOutcome options.now (S.holds store.old) output errors result }
     ensures same { IsUnchanged (S.holds store.old) (S.holds store.new) }
     ensures same_out { out.new.stream.ghost_name ≡ out.old.stream.ghost_name }
     ensures same_err { err.new.stream.ghost_name ≡ err.old.stream.ghost_name }

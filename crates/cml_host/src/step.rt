@@ -5,7 +5,7 @@ ghost use Rattle.cml_check.specs.Sizes.{size_of};
 ghost use Rattle.cml_host.specs.Closed.{plain_subject};
 ghost use Rattle.cml_host.specs.Scripts.{plain_script};
 ghost use Rattle.cml_host.specs.Stepped as spec;
-ghost use Rattle.cml_host.specs.Stepped.{HasTalkCause, HubStepped, IsAnsweredBy, IsHeld, IsNotHeld, IsAtHand, IsTurnLost, IsTurnTaken, IsUnanswered, SavedRan, ScriptStepped, StepRan, TalkIsCut, by_hand};
+ghost use Rattle.cml_host.specs.Stepped.{HasTalkCause, HubStepped, IsAnsweredBy, IsHeld, IsNotHeld, IsAtHand, IsTurnLost, IsTurnTaken, IsUnanswered, SavedOutcome, ScriptStepped, StepOutcome, TalkIsCut, by_hand};
 ghost use Rattle.cml_host.specs.Stores.{Shelf};
 ghost use Rattle.cml_hub.specs.Courses.{run_of};
 ghost use Rattle.cml_hub.specs.Kept.{IsAtStart, NoneOut};
@@ -26,12 +26,12 @@ use crate::script::{Script, open_script};
 use crate::store::Store;
 use crate::tell::let_go;
 use crate::trace::{fault_line, fault_status};
+use cml_arguments::StepOptions;
 use cml_hub::Hub;
 use cml_stepper::Stepper;
 use cml_stream::Counting;
 use cml_stream::input_output::{WriteFault, write_out};
 use cml_trace::{MAX_TURNS, TraceFault};
-use cml_words::StepOptions;
 use std::alloc::{AllocError, Global};
 use std::io::{ErrorKind, Read, Write};
 
@@ -54,7 +54,7 @@ pub fn step_file<I: Read, O: Write, E: Write, S: Store>(
         let output = counted_stream (O.contents out.old.stream.now) (O.contents out.new.stream.now) out.new.calls out.new.failed in
         let errors = counted_stream (E.contents err.old.stream.now) (E.contents err.new.stream.now) err.new.calls err.new.failed in
         let shelf : Shelf = record { before = S.holds store.old; after = S.holds store.new } in
-        StepRan options.now given output errors shelf result }
+        StepOutcome options.now given output errors shelf result }
     ensures most { input.new.calls ≤ max_turns }
     ensures same_in { input.new.stream.ghost_name ≡ input.old.stream.ghost_name }
     ensures same_out { out.new.stream.ghost_name ≡ out.old.stream.ghost_name }
@@ -148,7 +148,7 @@ fn save<E: Write, S: Store>(
     requires fresh { (err.old.calls ≡ 0) × (err.old.failed ≡ 0) }
     ensures saved { let errors = counted_stream (E.contents err.old.stream.now) (E.contents err.new.stream.now) err.new.calls err.new.failed in
         let shelf : Shelf = record { before = S.holds store.old; after = S.holds store.new } in
-        SavedRan (option_map (λ name. name.now) save_as.entry) (schedule_text hub.now.budget (size_of hub.now.course.program) hub.now.course.items) errors shelf result }
+        SavedOutcome (option_map (λ name. name.now) save_as.entry) (schedule_text hub.now.budget (size_of hub.now.course.program) hub.now.course.items) errors shelf result }
     ensures same_err { err.new.stream.ghost_name ≡ err.old.stream.ghost_name }
 {
     let Some(name) = save_as else {

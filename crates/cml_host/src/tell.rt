@@ -4,7 +4,7 @@ ghost use Rattle.std.specs.Prelude.{◌≡◌, ◌⊎◌, ◌++◌, [], IfOk, If
 ghost use Rattle.std.specs.String.{string_bytes};
 ghost use Rattle.cml_hub.specs.Courses.{run_of};
 ghost use Rattle.cml_host.specs.Told as spec;
-ghost use Rattle.cml_host.specs.Running.{StopRan, failed_by};
+ghost use Rattle.cml_host.specs.Running.{StopOutcome, failed_by};
 ghost use Rattle.cml_host.specs.Told.{IsCutOff, IsRunOf, IsTold, IsNotTold, OutputNotTold, SaysStill, MemoryBroke, OutputBroke, whole_output, cannot_write};
 ghost use Rattle.cml_stream.specs.Streams.{counted_stream, stream, Says, Takes, TakesStart};
 
@@ -84,7 +84,7 @@ pub fn stop<O: Write, E: Write>(
     requires fresh { (out.old.calls ≡ 0) × (out.old.failed ≡ 0) × (err.old.failed ≡ failed_by stopped.now.cause) }
     ensures told { let output = counted_stream (O.contents out.old.stream.now) (O.contents out.new.stream.now) out.new.calls out.new.failed in
         let errors = counted_stream (E.contents err.old.stream.now) (E.contents err.new.stream.now) err.new.calls err.new.failed in
-        StopRan stopped.now.hub stopped.now.cause output errors result }
+        StopOutcome stopped.now.hub stopped.now.cause output errors result }
     ensures same_out { out.new.stream.ghost_name ≡ out.old.stream.ghost_name }
     ensures same_err { err.new.stream.ghost_name ≡ err.old.stream.ghost_name }
 {
@@ -102,6 +102,7 @@ pub fn stop<O: Write, E: Write>(
 pub fn hub_is_a_run(hub: &Hub)
     ensures { IsRunOf hub.now.course.program hub.now.watch hub.now.course.items hub.now.reports (run_of hub.now.course) }
 {
+    // Read for the proof alone, which uses what is promised of it.
     let _items = hub.schedule();
     let _reports = hub.reports();
 }

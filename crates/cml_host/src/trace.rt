@@ -2,7 +2,7 @@
 
 ghost use Rattle.std.specs.Prelude.{◌≡◌, ◌≤◌, true, false};
 ghost use Rattle.cml_host.specs.Traced as spec;
-ghost use Rattle.cml_host.specs.Traced.{TraceRan, LiveRan, WholeRan};
+ghost use Rattle.cml_host.specs.Traced.{TraceOutcome, LiveOutcome, WholeOutcome};
 ghost use Rattle.cml_stream.specs.Counts.{most_reads};
 ghost use Rattle.cml_stream.specs.Streams.{counted_stream};
 ghost use Rattle.cml_trace.specs.Answers.{max_input};
@@ -29,7 +29,7 @@ pub fn trace<R: Read, O: Write, E: Write>(
     ensures ran { let given = counted_stream (R.remaining input.old.stream.now) (R.remaining input.new.stream.now) input.new.calls input.new.failed in
         let output = counted_stream (O.contents out.old.stream.now) (O.contents out.new.stream.now) out.new.calls out.new.failed in
         let errors = counted_stream (E.contents err.old.stream.now) (E.contents err.new.stream.now) err.new.calls err.new.failed in
-        TraceRan live explains given output errors result }
+        TraceOutcome live explains given output errors result }
     ensures most { input.new.calls ≤ max_turns }
     ensures same_in { input.new.stream.ghost_name ≡ input.old.stream.ghost_name }
     ensures same_out { out.new.stream.ghost_name ≡ out.old.stream.ghost_name }
@@ -56,7 +56,7 @@ fn trace_live<R: Read, O: Write, E: Write>(
     ensures ran { let given = counted_stream (R.remaining input.old.stream.now) (R.remaining input.new.stream.now) input.new.calls input.new.failed in
         let output = counted_stream (O.contents out.old.stream.now) (O.contents out.new.stream.now) out.new.calls out.new.failed in
         let errors = counted_stream (E.contents err.old.stream.now) (E.contents err.new.stream.now) err.new.calls err.new.failed in
-        LiveRan given output errors result }
+        LiveOutcome given output errors result }
     ensures most { input.new.calls ≤ max_turns }
     ensures same_in { input.new.stream.ghost_name ≡ input.old.stream.ghost_name }
     ensures same_out { out.new.stream.ghost_name ≡ out.old.stream.ghost_name }
@@ -83,7 +83,7 @@ fn trace_whole<R: Read, O: Write, E: Write>(
     ensures ran { let given = counted_stream (R.remaining input.old.stream.now) (R.remaining input.new.stream.now) input.new.calls input.new.failed in
         let output = counted_stream (O.contents out.old.stream.now) (O.contents out.new.stream.now) out.new.calls out.new.failed in
         let errors = counted_stream (E.contents err.old.stream.now) (E.contents err.new.stream.now) err.new.calls err.new.failed in
-        WholeRan false given output errors result }
+        WholeOutcome false given output errors result }
     ensures most { input.new.calls ≤ most_reads max_input }
     ensures same_in { input.new.stream.ghost_name ≡ input.old.stream.ghost_name }
     ensures same_out { out.new.stream.ghost_name ≡ out.old.stream.ghost_name }
@@ -110,7 +110,7 @@ fn trace_explained<R: Read, O: Write, E: Write>(
     ensures ran { let given = counted_stream (R.remaining input.old.stream.now) (R.remaining input.new.stream.now) input.new.calls input.new.failed in
         let output = counted_stream (O.contents out.old.stream.now) (O.contents out.new.stream.now) out.new.calls out.new.failed in
         let errors = counted_stream (E.contents err.old.stream.now) (E.contents err.new.stream.now) err.new.calls err.new.failed in
-        WholeRan true given output errors result }
+        WholeOutcome true given output errors result }
     ensures most { input.new.calls ≤ most_reads max_input }
     ensures same_in { input.new.stream.ghost_name ≡ input.old.stream.ghost_name }
     ensures same_out { out.new.stream.ghost_name ≡ out.old.stream.ghost_name }

@@ -9,10 +9,10 @@ ghost use Rattle.cml_work.specs.Works.{IsWorkerCount, IsWorked, GoesOnFrom};
 
 use crate::reports::send_reports;
 use crate::tell::hub_is_a_run;
+use cml_arguments::RunOptions;
 use cml_hub::{Chooser, First, Hub, Seeded};
 use cml_stream::Counting;
 use cml_value::Tid;
-use cml_words::RunOptions;
 use cml_work::{Gate, WorkFault, run_watched, run_workers};
 use std::alloc::Global;
 use std::fmt;

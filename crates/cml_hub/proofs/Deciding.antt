@@ -11,7 +11,7 @@ use Rattle.cml_book.specs.Walks.{runs}
 use Rattle.cml_schedule.specs.declared.item.Item.{Item}
 use Rattle.cml_schedule.specs.declared.item.Item.TheVariants.{Clock}
 use Rattle.cml_hub.specs.declared.marks.Mark.{Mark}
-use Rattle.cml_hub.specs.Marks.{is_here}
+use Rattle.cml_hub.specs.ReadyQueue.{is_here}
 use Rattle.cml_hub.specs.Runs.{any_runs, is_empty, has_number, is_none, next_alarm, is_allowed, terminal}
 use Rattle.cml_hub.specs.Courses.{Adds}
 use Rattle.cml_hub.specs.Kept.{Kept, Placed}
@@ -69,8 +69,8 @@ tick_allowed w tick alarm idle still =
     (subst (λ o. has_number o tick ≡ true) alarm (number_self tick)) (ap not idle) (empty_is (scan w) still)
 
 -- nothing is left to do
-pub is_terminal : (w : PlainWorld) → None ≡ next_alarm w → any_runs w ≡ false → scan w ≡ [] → terminal w ≡ true
-is_terminal w alarm idle still =
+pub has_nothing_left : (w : PlainWorld) → None ≡ next_alarm w → any_runs w ≡ false → scan w ≡ [] → terminal w ≡ true
+has_nothing_left w alarm idle still =
     all_three (not (any_runs w)) (is_empty (scan w)) (is_none (next_alarm w)) (ap not idle) (empty_is (scan w) still) (subst (λ o. is_none o ≡ true) alarm refl)
 
 -- what follows where it went well

@@ -1,5 +1,6 @@
 -- What the turns did, once one item more has come.
-use Rattle.std.proofs.Common.{◌≡◌, ℕ, ◌+◌, ◌≤◌, cond, List, [], ◌∷◌, ◌++◌, length, map, refl, ap, sym, subst, ◌∙◌, arith, Option, Some, None, Ok, Err, append-nil}
+use Rattle.std.proofs.Common.{◌≡◌, ℕ, ◌+◌, ◌≤◌, cond, List, [], ◌∷◌, ◌++◌, length, map, refl, ap, sym, subst, ◌∙◌, arith, Option, Some, None, Ok, Err, append-nil, Box}
+use Rattle.std.specs.declared.alloc.Global.{Global}
 use Rattle.std.specs.Prelude.{slice_get, option_map, option_and_then, count_by}
 use Rattle.std.specs.List.{filter_map}
 use Rattle.std.proofs.lemmas.List.Elements.{filter_map-append}
@@ -29,8 +30,8 @@ use Rattle.cml_book.specs.End.{end as end_thread}
 use Rattle.cml_schedule.specs.declared.item.Item.{Item}
 use Rattle.cml_schedule.specs.declared.item.Item.TheVariants.{Turn, Meet as Commit, Exchange, Clock}
 use Rattle.cml_hub.specs.declared.done.Done.{Done}
-use Rattle.cml_hub.specs.declared.done.Done.TheVariants.{Goes, Gets, Takes, Begets, Prints, Waits, Ends, Fails}
-use Rattle.cml_hub.specs.Performed.{PlainDone, begets, done, or_fails, performed}
+use Rattle.cml_hub.specs.declared.done.Done.TheVariants.{Goes, Gets, Takes, Spawns, Prints, Waits, Ends, Fails}
+use Rattle.cml_hub.specs.Performed.{PlainDone, spawns, done, or_fails, performed}
 use Rattle.cml_hub.specs.Runs.{Run, main_of, opening, advance, stands, stands_from}
 use Rattle.cml_hub.specs.Dones.{plain_done, function_asked}
 use Rattle.cml_hub.specs.Courses.{PlainCourse, run_of, Leads, TakesRow}
@@ -98,12 +99,12 @@ pub faults_few : (p : Program) (items : List Item) (began : List PlainFunction) 
 faults_few p items began n h = omega (arith, h.counted, count_by-le-length is_fault (deeds p items), deeds_few p (Some (opening p)) items)
 
 -- an ask that is no spawn begets nobody
-not_begot : {R : Type 0} (so : R → PlainDone) (w new : PlainWorld) (t : ℕ) (o : Outcome R) (n : ℕ) (f : PlainFunction) → ((r : R) → so r ≡ begets n f → ⊥) → or_fails w t (done so o) ≡ (new, begets n f) → ⊥
+not_begot : {R : Type 0} (so : R → PlainDone) (w new : PlainWorld) (t : ℕ) (o : Outcome R) (n : ℕ) (f : PlainFunction) → ((r : R) → so r ≡ spawns n f → ⊥) → or_fails w t (done so o) ≡ (new, spawns n f) → ⊥
 not_begot so w new t (Ok next) n f never h = never next.1 (ap (λ (x : PlainWorld × PlainDone). x.1) h)
 not_begot so w new t (Err why) n f never h = let e = ap (λ (x : PlainWorld × PlainDone). x.1) h in cc
 
 -- the thread that begins was asked for
-asked_for : (w new : PlainWorld) (t n : ℕ) (a : PlainAsk) (f : PlainFunction) (m : PlainMachine) → performed w t a ≡ (new, begets n f) → WasAsked (Begets m) a
+asked_for : (w new : PlainWorld) (t n : ℕ) (a : PlainAsk) (f : PlainFunction) (m : Box PlainMachine Global) → performed w t a ≡ (new, spawns n f) → WasAsked (Spawns m) a
 asked_for w new t n (ask.spawn g) f m h = tt
 asked_for w new t n ask.nothing f m h = let e = ap (λ (x : PlainWorld × PlainDone). x.1) h in cc
 asked_for w new t n ask.yield f m h = let e = ap (λ (x : PlainWorld × PlainDone). x.1) h in cc
@@ -130,7 +131,7 @@ pub was_asked : (w new : PlainWorld) (t : ℕ) (a : PlainAsk) (d : Done) → per
 was_asked w new t a Goes h = tt
 was_asked w new t a (Gets v) h = tt
 was_asked w new t a (Takes room) h = tt
-was_asked w new t a (Begets m) h = asked_for w new t m.thread a (function_asked a) m h
+was_asked w new t a (Spawns m) h = asked_for w new t m.value.thread a (function_asked a) m h
 was_asked w new t a Prints h = tt
 was_asked w new t a Waits h = tt
 was_asked w new t a Ends h = tt

@@ -9,9 +9,9 @@ use Rattle.cml_book.specs.Walks.{runs, is_running}
 use Rattle.cml_monitor.specs.Reports.{PlainReport}
 use Rattle.cml_schedule.specs.declared.item.Item.TheVariants.{Turn}
 use Rattle.cml_step.specs.Calls.{text_of}
-use Rattle.cml_hub.specs.declared.done.Gone.{Gone}
+use Rattle.cml_hub.specs.declared.done.AfterTurn.{AfterTurn}
 use Rattle.cml_hub.specs.declared.marks.Mark.{Mark}
-use Rattle.cml_hub.specs.Marks.{is_out}
+use Rattle.cml_hub.specs.ReadyQueue.{is_out}
 use Rattle.cml_step.specs.Terms.{Program}
 use Rattle.cml_hub.specs.Runs.{Run, stands, advance, turned}
 use Rattle.cml_hub.specs.Reports.{IsDueReport}
@@ -52,7 +52,7 @@ turn_runs : (p : Program) (r new : Run) (t : Tid) → advance p r (Turn t) ≡ S
 turn_runs p r new t h = runs_is (slice_get r.world.threads t.0) (taken (is_running r.world t.0) (turned p r t.0) new h)
 
 -- What holds of the hub holds of it after.
-pub given_stands : (h : Kept) (ms : List Mark) (due : Option PlainReport) (t : Tid) (g : Gone) (new : PlainCourse) (q : List Tid) → Stands h ms
+pub given_stands : (h : Kept) (ms : List Mark) (due : Option PlainReport) (t : Tid) (g : AfterTurn) (new : PlainCourse) (q : List Tid) → Stands h ms
     → stands (text_of h.course.program) h.course.items ≡ Some (run_of h.course) → IsDueOf h due → Turns h.course t g new
     → Stands (record { course = new; budget = h.budget; watch = h.watch; out = map is_out (marks_after t.0 g ms); queue = q; reports = with_report h.reports due }) (marks_after t.0 g ms)
 given_stands h ms due t g new q s leads d turns =
@@ -60,7 +60,7 @@ given_stands h ms due t g new q s leads d turns =
     stands_turned (with_due h due) ms t g new q (due_stands h ms due s leads d) (due_none h ms due s d) run turns
 
 -- it has a mark
-pub there_given : (h : Kept) (ms : List Mark) (t : Tid) (g : Gone) (new : PlainCourse) → Stands h ms → Turns h.course t g new → t.0 < length ms
+pub there_given : (h : Kept) (ms : List Mark) (t : Tid) (g : AfterTurn) (new : PlainCourse) → Stands h ms → Turns h.course t g new → t.0 < length ms
 there_given h ms t g new s turns = there_is h.course.world.threads ms t.0 s.placed (turn_runs (text_of h.course.program) (run_of h.course) (run_of new) t turns.adds.run)
 
 abbrev made_by : Option PlainReport → List PlainReport
@@ -72,7 +72,7 @@ made_is xs None = sym (append-nil xs)
 made_is xs (Some r) = refl
 
 -- What has changed is that.
-pub given_so : (course : PlainCourse) (budget : ℕ) (watch : Option ℕ) (reports : List PlainReport) (ms : List Mark) (due : Option PlainReport) (t u : Tid) (g : Gone) (new : PlainCourse) (p q : List Tid)
+pub given_so : (course : PlainCourse) (budget : ℕ) (watch : Option ℕ) (reports : List PlainReport) (ms : List Mark) (due : Option PlainReport) (t u : Tid) (g : AfterTurn) (new : PlainCourse) (p q : List Tid)
     → Turns course t g new → t.0 ≡ u.0
     → Given (record { course = course; budget = budget; watch = watch; out = map is_out ms; queue = p; reports = reports }) u
     (record { course = new; budget = budget; watch = watch; out = map is_out (marks_after t.0 g ms); queue = q; reports = with_report reports due })
@@ -99,13 +99,13 @@ same_kept c d budget watch ms ns p q rs qs e f k g =
     ap (λ x. kept_of x budget watch ms p rs) e
     ∙ (ap (λ x. kept_of d budget watch x p rs) f ∙ (ap (λ x. kept_of d budget watch ns x rs) k ∙ ap (λ x. kept_of d budget watch ns q x) g))
 
-pub kept_stands : (course new : PlainCourse) (budget : ℕ) (watch : Option ℕ) (ms ns : List Mark) (p q : List Tid) (rs qs : List PlainReport) (due : Option PlainReport) (t : Tid) (g : Gone)
+pub kept_stands : (course new : PlainCourse) (budget : ℕ) (watch : Option ℕ) (ms ns : List Mark) (p q : List Tid) (rs qs : List PlainReport) (due : Option PlainReport) (t : Tid) (g : AfterTurn)
     → Stands (kept_of course budget watch ms p rs) ms → stands (text_of course.program) course.items ≡ Some (run_of course)
     → IsDueReport watch (length course.items) (length rs) course.world due → Turns course t g new → ns ≡ marks_after t.0 g ms → qs ≡ with_report rs due
     → Stands (kept_of new budget watch ns q qs) ns
 kept_stands course new budget watch ms ns p q rs qs due t g s leads d turns e f =
     rw (e, f) (given_stands (kept_of course budget watch ms p rs) ms due t g new q s leads d turns)
 
-pub kept_given : (course new : PlainCourse) (budget : ℕ) (watch : Option ℕ) (ms ns : List Mark) (p q : List Tid) (rs qs : List PlainReport) (due : Option PlainReport) (t u : Tid) (g : Gone)
+pub kept_given : (course new : PlainCourse) (budget : ℕ) (watch : Option ℕ) (ms ns : List Mark) (p q : List Tid) (rs qs : List PlainReport) (due : Option PlainReport) (t u : Tid) (g : AfterTurn)
     → Turns course t g new → t.0 ≡ u.0 → ns ≡ marks_after t.0 g ms → qs ≡ with_report rs due → Given (kept_of course budget watch ms p rs) u (kept_of new budget watch ns q qs)
 kept_given course new budget watch ms ns p q rs qs due t u g turns same e f = rw (e, f) (given_so course budget watch rs ms due t u g new p q turns same)

@@ -4,8 +4,8 @@ use Rattle.std.proofs.lemmas.List.{length-map}
 use Rattle.std.specs.Prelude.{slice_get, slice_set}
 use Rattle.cml_value.specs.declared.number.Tid.{Tid}
 use Rattle.cml_hub.specs.declared.marks.Mark.{Mark}
-use Rattle.cml_hub.specs.declared.marks.Mark.TheVariants.{Ready, Out, Away}
-use Rattle.cml_hub.specs.Marks.{home, is_out, is_at, count_of, ready_at, count_outs, those_out, AreMarks}
+use Rattle.cml_hub.specs.declared.marks.Mark.TheVariants.{Ready, Out, NotRunning}
+use Rattle.cml_hub.specs.ReadyQueue.{home, is_out, is_at, count_of, ready_at, count_outs, those_out, AreMarks}
 use Rattle.cml_hub.proofs.MarkLemmas.{count_append, ready_set, outs_set}
 use Rattle.cml_hub.proofs.Queueing.{those_out_more, those_same}
 
@@ -46,26 +46,26 @@ upto_at (suc n) (m ∷ ms) = upto_at n ms
 not_out : (m : Mark) → home m ≡ m → is_out m ≡ false
 not_out Ready e = refl
 not_out Out e = cc
-not_out Away e = refl
+not_out NotRunning e = refl
 
 none_out : (ms : List Mark) → count_outs (map home ms) ≡ 0
 none_out [] = refl
 none_out (Ready ∷ ms) = omega (arith, none_out ms)
 none_out (Out ∷ ms) = omega (arith, none_out ms)
-none_out (Away ∷ ms) = omega (arith, none_out ms)
+none_out (NotRunning ∷ ms) = omega (arith, none_out ms)
 
 pub none_those : (k : ℕ) (ms : List Mark) → count_outs ms ≡ 0 → those_out k (map is_out ms) ≡ []
 none_those k [] h = refl
 none_those k (Ready ∷ ms) h = none_those (suc k) ms (omega (arith, h))
 none_those k (Out ∷ ms) h = absurd (omega (arith, h))
-none_those k (Away ∷ ms) h = none_those (suc k) ms (omega (arith, h))
+none_those k (NotRunning ∷ ms) h = none_those (suc k) ms (omega (arith, h))
 
 -- where none is out nothing changes
 pub all_here : (ms : List Mark) → count_outs ms ≡ 0 → map home ms ≡ ms
 all_here [] h = refl
 all_here (Ready ∷ ms) h = ap (λ xs. Ready ∷ xs) (all_here ms (omega (arith, h)))
 all_here (Out ∷ ms) h = absurd (omega (arith, h))
-all_here (Away ∷ ms) h = ap (λ xs. Away ∷ xs) (all_here ms (omega (arith, h)))
+all_here (NotRunning ∷ ms) h = ap (λ xs. NotRunning ∷ xs) (all_here ms (omega (arith, h)))
 
 -- so far: of the first ones, this many, none is out, those that were come last in the queue; those that are ready stand in it, and there is room
 -- for those that are out
@@ -105,7 +105,7 @@ homing_here first old n queue ms room m h got is = record {
   room_left = h.room_left;
 }
 
-pub home_here : (m : Mark) → (m ≡ Ready) ⊎ (m ≡ Away) → home m ≡ m
+pub home_here : (m : Mark) → (m ≡ Ready) ⊎ (m ≡ NotRunning) → home m ≡ m
 home_here m (inl e) = rw e refl
 home_here m (inr e) = rw e refl
 

@@ -6,24 +6,24 @@ use Rattle.cml_scan.specs.World.{running}
 use Rattle.cml_scan.specs.declared.meet.Meet.{Meet}
 use Rattle.cml_schedule.specs.declared.item.Item.{Item}
 use Rattle.cml_schedule.specs.declared.item.Item.TheVariants.{Turn, Clock}
-use Rattle.cml_hub.specs.declared.done.Gone.{Gone}
+use Rattle.cml_hub.specs.declared.done.AfterTurn.{AfterTurn}
 use Rattle.cml_hub.specs.declared.marks.Mark.{Mark}
-use Rattle.cml_hub.specs.Marks.{is_out}
+use Rattle.cml_hub.specs.ReadyQueue.{is_out}
 use Rattle.cml_hub.specs.Courses.{PlainCourse, Turns, Meets, Ticks}
 use Rattle.cml_hub.specs.Kept.{Kept, Stands, NoneDue}
 use Rattle.cml_hub.specs.Moves.{IsNext, marks_after, PartiesAway, marks_met, AddsItem}
 use Rattle.cml_hub.proofs.Marking.{placed_turn, next_is, placed_met, parties_away}
 use Rattle.cml_hub.proofs.Reporting.{stands_moved}
 
-pub stands_turned : (h : Kept) (ms : List Mark) (t : Tid) (g : Gone) (new : PlainCourse) (q : List Tid) → Stands h ms → NoneDue h → slice_get h.course.world.threads t.0 ≡ Some running → Turns h.course t g new
+pub stands_turned : (h : Kept) (ms : List Mark) (t : Tid) (g : AfterTurn) (new : PlainCourse) (q : List Tid) → Stands h ms → NoneDue h → slice_get h.course.world.threads t.0 ≡ Some running → Turns h.course t g new
     → Stands (record { course = new; budget = h.budget; watch = h.watch; out = map is_out (marks_after t.0 g ms); queue = q; reports = h.reports }) (marks_after t.0 g ms)
 stands_turned h ms t g new q s none run turns =
     stands_moved h ms (marks_after t.0 g ms) (Turn t) new q s none turns.adds (placed_turn h.course.world.threads new.world.threads ms t.0 g s.placed run turns.threads)
 
-pub next_turned : (h : Kept) (ms : List Mark) (t : Tid) (g : Gone) (new : PlainCourse) → Stands h ms → Turns h.course t g new → IsNext g ms
+pub next_turned : (h : Kept) (ms : List Mark) (t : Tid) (g : AfterTurn) (new : PlainCourse) → Stands h ms → Turns h.course t g new → IsNext g ms
 next_turned h ms t g new s turns = next_is h.course.world.threads new.world.threads ms t.0 g s.placed turns.threads
 
-pub moves_turned : (h : Kept) (t : Tid) (g : Gone) (new : PlainCourse) (ms : List Mark) (q : List Tid) → Turns h.course t g new
+pub moves_turned : (h : Kept) (t : Tid) (g : AfterTurn) (new : PlainCourse) (ms : List Mark) (q : List Tid) → Turns h.course t g new
     → AddsItem h (Turn t) (record { course = new; budget = h.budget; watch = h.watch; out = map is_out ms; queue = q; reports = h.reports })
 moves_turned h t g new ms q turns = record { adds = turns.adds; budget = refl; watch = refl; reports = refl; used = turns.used }
 

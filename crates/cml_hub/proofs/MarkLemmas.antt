@@ -5,8 +5,8 @@ use Rattle.std.specs.List.{list_any, remove}
 use Rattle.std.proofs.lemmas.Bool.Decides.{nat_tests}
 use Rattle.cml_value.specs.declared.number.Tid.{Tid}
 use Rattle.cml_hub.specs.declared.marks.Mark.{Mark}
-use Rattle.cml_hub.specs.declared.marks.Mark.TheVariants.{Ready, Out, Away}
-use Rattle.cml_hub.specs.Marks.{is_here, is_at, count_of, readies, outs, ready_at, count_outs, AreMarks}
+use Rattle.cml_hub.specs.declared.marks.Mark.TheVariants.{Ready, Out, NotRunning}
+use Rattle.cml_hub.specs.ReadyQueue.{is_here, is_at, count_of, readies, outs, ready_at, count_outs, AreMarks}
 
 pub at_same : (t : ℕ) → is_at t t ≡ 1
 at_same zero = refl
@@ -62,10 +62,10 @@ marks_add queue ms o t h e lt = record {
   few = omega (arith, e, lt, length-append ms (Ready ∷ []));
 }
 
-pub marks_ready : (queue : List Tid) (ms : List Mark) (o : ℕ) (t : Tid) → AreMarks queue ms o → slice_get ms t.0 ≡ Some Away → AreMarks (queue ++ t ∷ []) (slice_set ms t.0 Ready) o
+pub marks_ready : (queue : List Tid) (ms : List Mark) (o : ℕ) (t : Tid) → AreMarks queue ms o → slice_get ms t.0 ≡ Some NotRunning → AreMarks (queue ++ t ∷ []) (slice_set ms t.0 Ready) o
 marks_ready queue ms o t h e = record {
-  queued = λ u. omega (arith, count_append u queue (t ∷ []), ready_set ms t.0 u Away Ready e, h.queued u);
-  counted = omega (arith, h.counted, outs_set ms t.0 Away Ready e);
+  queued = λ u. omega (arith, count_append u queue (t ∷ []), ready_set ms t.0 u NotRunning Ready e, h.queued u);
+  counted = omega (arith, h.counted, outs_set ms t.0 NotRunning Ready e);
   few = omega (arith, h.few, length-set ms t.0 Ready);
 }
 
@@ -80,11 +80,11 @@ marks_left queue rest ms o i new h e not_ready less = record {
 
 -- who was out, or away, is away
 pub marks_back : (queue : List Tid) (ms : List Mark) (o o2 : ℕ) (i : ℕ) (old : Mark) → AreMarks queue ms o → slice_get ms i ≡ Some old → readies old ≡ 0
-    → o2 + outs old ≡ o → AreMarks queue (slice_set ms i Away) o2
+    → o2 + outs old ≡ o → AreMarks queue (slice_set ms i NotRunning) o2
 marks_back queue ms o o2 i old h e not_ready less = record {
-  queued = λ u. omega (arith, ready_set ms i u old Away e, h.queued u, ap (λ n. n * is_at u i) not_ready);
-  counted = omega (arith, h.counted, less, outs_set ms i old Away e);
-  few = omega (arith, h.few, length-set ms i Away);
+  queued = λ u. omega (arith, ready_set ms i u old NotRunning e, h.queued u, ap (λ n. n * is_at u i) not_ready);
+  counted = omega (arith, h.counted, less, outs_set ms i old NotRunning e);
+  few = omega (arith, h.few, length-set ms i NotRunning);
 }
 
 pub ready_is : (ms : List Mark) (t : ℕ) → slice_get ms t ≡ Some Ready → ready_at ms t ≡ 1
@@ -96,7 +96,7 @@ is_ready : (ms : List Mark) (t : ℕ) → 1 ≤ ready_at ms t → slice_get ms t
 is_ready [] t h = absurd (omega arith)
 is_ready (Ready ∷ ms) zero h = refl
 is_ready (Out ∷ ms) zero h = absurd (omega arith)
-is_ready (Away ∷ ms) zero h = absurd (omega arith)
+is_ready (NotRunning ∷ ms) zero h = absurd (omega arith)
 is_ready (m ∷ ms) (suc t) h = is_ready ms t h
 
 not_ready : (ms : List Mark) (t : ℕ) (m : Mark) → slice_get ms t ≡ Some m → readies m ≡ 0 → ready_at ms t ≡ 0
@@ -132,20 +132,20 @@ none_here : (ms : List Mark) → ((t : ℕ) → 0 ≡ ready_at ms t) → 0 ≡ c
 none_here [] h e = refl
 none_here (Ready ∷ ms) h e = absurd (omega (arith, h 0))
 none_here (Out ∷ ms) h e = absurd (omega arith)
-none_here (Away ∷ ms) h e = none_here ms (λ t. h (suc t)) (omega arith)
+none_here (NotRunning ∷ ms) h e = none_here ms (λ t. h (suc t)) (omega arith)
 
 some_out : (ms : List Mark) → 1 ≤ count_outs ms → list_any is_here ms ≡ true
 some_out [] h = absurd (omega arith)
 some_out (Ready ∷ ms) h = refl
 some_out (Out ∷ ms) h = refl
-some_out (Away ∷ ms) h = some_out ms (omega arith)
+some_out (NotRunning ∷ ms) h = some_out ms (omega arith)
 
 some_ready : (ms : List Mark) (t : ℕ) → 1 ≤ ready_at ms t → list_any is_here ms ≡ true
 some_ready [] t h = absurd (omega arith)
 some_ready (Ready ∷ ms) t h = refl
 some_ready (Out ∷ ms) t h = refl
-some_ready (Away ∷ ms) zero h = absurd (omega arith)
-some_ready (Away ∷ ms) (suc t) h = some_ready ms t h
+some_ready (NotRunning ∷ ms) zero h = absurd (omega arith)
+some_ready (NotRunning ∷ ms) (suc t) h = some_ready ms t h
 
 -- no thread runs where none is in the queue and none is out
 pub idle_empty : (queue : List Tid) (ms : List Mark) (o : ℕ) → AreMarks queue ms o → length queue ≡ 0 → nat_eq o 0 ≡ not (list_any is_here ms)
@@ -161,7 +161,7 @@ pub few_out : (ms : List Mark) → count_outs ms ≤ length ms
 few_out [] = omega arith
 few_out (Ready ∷ ms) = omega (arith, few_out ms)
 few_out (Out ∷ ms) = omega (arith, few_out ms)
-few_out (Away ∷ ms) = omega (arith, few_out ms)
+few_out (NotRunning ∷ ms) = omega (arith, few_out ms)
 
 pub not_empty : (n : ℕ) (b : Bool) → b ≡ nat_eq n 0 → b ≡ false → 0 < n
 not_empty n b e h = grind (arith, nat_tests)

@@ -8,11 +8,11 @@ use Rattle.cml_scan.specs.World.{PlainThread, running, pending_on, ended, PlainW
 use Rattle.cml_scan.specs.declared.meet.Meet.{Meet}
 use Rattle.cml_scan.specs.declared.meet.Meet.TheVariants.{Single, Pair}
 use Rattle.cml_book.specs.Walks.{runs}
-use Rattle.cml_hub.specs.declared.done.Gone.{Gone}
-use Rattle.cml_hub.specs.declared.done.Gone.TheVariants as gone_of
+use Rattle.cml_hub.specs.declared.done.AfterTurn.{AfterTurn}
+use Rattle.cml_hub.specs.declared.done.AfterTurn.TheVariants as gone_of
 use Rattle.cml_hub.specs.declared.marks.Mark.{Mark}
-use Rattle.cml_hub.specs.declared.marks.Mark.TheVariants.{Ready, Out, Away}
-use Rattle.cml_hub.specs.Marks.{is_here, is_out}
+use Rattle.cml_hub.specs.declared.marks.Mark.TheVariants.{Ready, Out, NotRunning}
+use Rattle.cml_hub.specs.ReadyQueue.{is_here, is_out}
 use Rattle.cml_hub.specs.Dones.{ThreadsAfter}
 use Rattle.cml_hub.specs.Courses.{PartiesWait, parties_run}
 use Rattle.cml_hub.specs.Kept.{Placed, is_out_of}
@@ -73,15 +73,15 @@ placed_any [] (m ∷ ms) h = absurd h
 placed_any (t ∷ ts) [] h = absurd h
 placed_any (t ∷ ts) (m ∷ ms) h = rw (h.0, placed_any ts ms h.1) refl
 
-away_is : (m : Mark) → is_here m ≡ false → m ≡ Away
+away_is : (m : Mark) → is_here m ≡ false → m ≡ NotRunning
 away_is Ready h = cc
 away_is Out h = cc
-away_is Away h = refl
+away_is NotRunning h = refl
 
 out_is : (m : Mark) → is_here m ≡ true → m ≢ Ready → m ≡ Out
 out_is Ready h other = absurd (other refl)
 out_is Out h other = refl
-out_is Away h other = cc
+out_is NotRunning h other = cc
 
 running_thread : (t : PlainThread) → runs t ≡ true → t ≡ running
 running_thread running h = refl
@@ -89,7 +89,7 @@ running_thread (pending_on g) h = cc
 running_thread ended h = cc
 
 -- a thread that waits is away
-pub pending_away : (ts : List PlainThread) (ms : List Mark) (i : ℕ) (g : PlainGroup) → Placed ts ms → slice_get ts i ≡ Some (pending_on g) → slice_get ms i ≡ Some Away
+pub pending_away : (ts : List PlainThread) (ms : List Mark) (i : ℕ) (g : PlainGroup) → Placed ts ms → slice_get ts i ≡ Some (pending_on g) → slice_get ms i ≡ Some NotRunning
 pending_away ts ms i g h e =
     let r = mark_of ts ms i (pending_on g) h e in
     r.at ∙ ap (λ m. Some m) (away_is r.mark r.here)
@@ -101,14 +101,14 @@ ready_running ts ms i h e =
     r.at ∙ ap (λ t. Some t) (running_thread r.thread (sym r.here))
 
 -- a turn of a thread
-pub placed_turn : (ts new : List PlainThread) (ms : List Mark) (t : ℕ) (g : Gone) → Placed ts ms → slice_get ts t ≡ Some running → ThreadsAfter t g ts new → Placed new (marks_after t g ms)
+pub placed_turn : (ts new : List PlainThread) (ms : List Mark) (t : ℕ) (g : AfterTurn) → Placed ts ms → slice_get ts t ≡ Some running → ThreadsAfter t g ts new → Placed new (marks_after t g ms)
 placed_turn ts new ms t gone_of.On h run after = subst (λ xs. Placed xs (slice_set ms t Ready)) (sym after) (placed_kept ts ms t running Ready h run refl)
 placed_turn ts new ms t (gone_of.With child) h run after =
     subst (λ xs. Placed xs (slice_set ms t Ready ++ Ready ∷ [])) (sym after.1) (placed_push ts (slice_set ms t Ready) (placed_kept ts ms t running Ready h run refl))
 placed_turn ts new ms t gone_of.Off h run after =
-    subst (λ xs. Placed xs (slice_set ms t Away)) (sym after.2) (placed_set ts ms t after.0 Away h (sym after.1))
+    subst (λ xs. Placed xs (slice_set ms t NotRunning)) (sym after.2) (placed_set ts ms t after.0 NotRunning h (sym after.1))
 
-pub next_is : (ts new : List PlainThread) (ms : List Mark) (t : ℕ) (g : Gone) → Placed ts ms → ThreadsAfter t g ts new → IsNext g ms
+pub next_is : (ts new : List PlainThread) (ms : List Mark) (t : ℕ) (g : AfterTurn) → Placed ts ms → ThreadsAfter t g ts new → IsNext g ms
 next_is ts new ms t gone_of.On h after = tt
 next_is ts new ms t (gone_of.With child) h after = after.0 ∙ sym (placed_length ts ms h)
 next_is ts new ms t gone_of.Off h after = tt
@@ -126,7 +126,7 @@ parties_away w ms (Single t n) h p = pending_away w.threads ms t.0 p.0 h p.1
 parties_away w ms (Pair a i o j) h p = (pending_away w.threads ms a.0 p.0.0 h p.0.1, pending_away w.threads ms o.0 p.1.0 h p.1.1, p.2)
 
 -- the marks of two, one after the other
-pub away_still : (ms : List Mark) (a o : ℕ) → a ≢ o → slice_get ms o ≡ Some Away → slice_get (slice_set ms a Ready) o ≡ Some Away
+pub away_still : (ms : List Mark) (a o : ℕ) → a ≢ o → slice_get ms o ≡ Some NotRunning → slice_get (slice_set ms a Ready) o ≡ Some NotRunning
 away_still ms a o ne h = get_other ms a o Ready ne ∙ h
 
 -- whose slices are out
@@ -161,14 +161,14 @@ back_push old out t h = record {
   others = λ u ne. out_push out u ∙ h.others u ne;
 }
 
-pub takes_back : (ms : List Mark) (t : ℕ) (g : Gone) → TakesBack (map is_out ms) t (map is_out (marks_after t g ms))
+pub takes_back : (ms : List Mark) (t : ℕ) (g : AfterTurn) → TakesBack (map is_out ms) t (map is_out (marks_after t g ms))
 takes_back ms t gone_of.On = set_back ms t Ready refl
 takes_back ms t (gone_of.With child) = rw (map_append is_out (slice_set ms t Ready) (Ready ∷ [])) (back_push (map is_out ms) (map is_out (slice_set ms t Ready)) t (set_back ms t Ready refl))
-takes_back ms t gone_of.Off = set_back ms t Away refl
+takes_back ms t gone_of.Off = set_back ms t NotRunning refl
 
-away_set : (ms : List Mark) (i : ℕ) → slice_get ms i ≡ Some Away → map is_out (slice_set ms i Ready) ≡ map is_out ms
+away_set : (ms : List Mark) (i : ℕ) → slice_get ms i ≡ Some NotRunning → map is_out (slice_set ms i Ready) ≡ map is_out ms
 away_set [] i h = refl
-away_set (m ∷ ms) zero h = let is : m ≡ Away = cc in ap (λ b. b ∷ map is_out ms) (sym (ap is_out is))
+away_set (m ∷ ms) zero h = let is : m ≡ NotRunning = cc in ap (λ b. b ∷ map is_out ms) (sym (ap is_out is))
 away_set (m ∷ ms) (suc i) h = ap (λ bs. is_out m ∷ bs) (away_set ms i h)
 
 -- nobody whose slice is out goes on by a row
@@ -184,17 +184,17 @@ all_out ts ms t h none run =
     out_at ms t r.mark r.at ∙ ap is_out (out_is r.mark r.here other)
 
 -- a thread that was taken out of its place, and is put back
-pub there_away : (ms : List Mark) (t : ℕ) → t < length ms → slice_get (slice_set ms t Away) t ≡ Some Away
+pub there_away : (ms : List Mark) (t : ℕ) → t < length ms → slice_get (slice_set ms t NotRunning) t ≡ Some NotRunning
 there_away [] t h = absurd (omega arith)
 there_away (m ∷ ms) zero h = refl
 there_away (m ∷ ms) (suc t) h = there_away ms t (omega arith)
 
-pub pushed_away : (ms : List Mark) (t : ℕ) → t < length ms → slice_get (slice_set ms t Away ++ Ready ∷ []) t ≡ Some Away
+pub pushed_away : (ms : List Mark) (t : ℕ) → t < length ms → slice_get (slice_set ms t NotRunning ++ Ready ∷ []) t ≡ Some NotRunning
 pushed_away [] t h = absurd (omega arith)
 pushed_away (m ∷ ms) zero h = refl
 pushed_away (m ∷ ms) (suc t) h = pushed_away ms t (omega arith)
 
-pub set_pushed : (ms : List Mark) (t : ℕ) → t < length ms → slice_set (slice_set ms t Away ++ Ready ∷ []) t Ready ≡ slice_set ms t Ready ++ Ready ∷ []
+pub set_pushed : (ms : List Mark) (t : ℕ) → t < length ms → slice_set (slice_set ms t NotRunning ++ Ready ∷ []) t Ready ≡ slice_set ms t Ready ++ Ready ∷ []
 set_pushed [] t h = absurd (omega arith)
 set_pushed (m ∷ ms) zero h = refl
 set_pushed (m ∷ ms) (suc t) h = ap (λ xs. m ∷ xs) (set_pushed ms t (omega arith))

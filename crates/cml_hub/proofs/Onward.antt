@@ -15,7 +15,7 @@ use Rattle.cml_check.specs.Syntax.{PlainItem}
 use Rattle.cml_hub.specs.declared.marks.Mark.{Mark}
 use Rattle.cml_hub.specs.declared.marks.Mark.TheVariants.{Ready, Out}
 use Rattle.cml_value.specs.declared.number.Tid.{Tid}
-use Rattle.cml_hub.specs.Marks.{is_out, left_by}
+use Rattle.cml_hub.specs.ReadyQueue.{is_out, left_by}
 use Rattle.cml_hub.specs.Runs.{any_runs, is_none, next_alarm, terminal, is_allowed}
 use Rattle.cml_hub.specs.Dones.{GoesOn}
 use Rattle.cml_hub.specs.Courses.{PlainCourse, Begins, HasMachine, TakesRow}

@@ -24,14 +24,14 @@ use Rattle.cml_book.specs.MakeObjects.{held_fits}
 use Rattle.cml_book.specs.MakePort.{ports_at, with_port, heard_by}
 use Rattle.cml_book.specs.Sync.{sync_refusal, waiting, group_exists, can_enter}
 use Rattle.cml_book.specs.Entering.{entered, is_far}
-use Rattle.cml_hub.specs.Performed.{PlainDone, gets, begets, waits, ends, fails, done, or_fails, performed}
+use Rattle.cml_hub.specs.Performed.{PlainDone, gets, spawns, waits, ends, fails, done, or_fails, performed}
 use Rattle.cml_hub.specs.Agreeing.{thread_agrees, waits_soon, WorldAgrees}
 use Rattle.cml_hub.proofs.Agreement.{every_set, every_append, entered_agrees, added_agrees, posted_agrees}
 use Rattle.cml_hub.proofs.Soon.{entered_soon}
 
 -- the threads, once this became of thread t
 abbrev pub ThreadsDone : ℕ → PlainDone → List PlainThread → List PlainThread → Type 0
-ThreadsDone t (begets n f) old new = (n ≡ length old) × (new ≡ old ++ running ∷ [])
+ThreadsDone t (spawns n f) old new = (n ≡ length old) × (new ≡ old ++ running ∷ [])
 ThreadsDone t waits old new = (g : PlainGroup) × (new ≡ slice_set old t (pending_on g))
 ThreadsDone t ends old new = new ≡ slice_set old t ended
 ThreadsDone t (fails name) old new = new ≡ slice_set old t ended
@@ -124,7 +124,7 @@ pub performs : (fs : List ℕ) (w : PlainWorld) (t : ℕ) (a : PlainAsk) → Wor
 performs fs w t ask.nothing h e = record { threads = refl; agrees = h }
 performs fs w t ask.yield h e = record { threads = refl; agrees = h }
 performs fs w t (ask.spawn f) h e =
-    one fs w t (λ n. begets n.0 f) (record w { threads = w.threads ++ running ∷ [] }, record { 0 = length w.threads }) h
+    one fs w t (λ n. spawns n.0 f) (record w { threads = w.threads ++ running ∷ [] }, record { 0 = length w.threads }) h
     (record {
       threads = (refl, refl);
       agrees = record {

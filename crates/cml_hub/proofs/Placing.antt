@@ -5,9 +5,9 @@ use Rattle.std.specs.List.{list_any}
 use Rattle.cml_scan.specs.World.{PlainThread, running, pending_on, ended}
 use Rattle.cml_book.specs.Walks.{runs}
 use Rattle.cml_hub.specs.declared.marks.Mark.{Mark}
-use Rattle.cml_hub.specs.declared.marks.Mark.TheVariants.{Ready, Out, Away}
+use Rattle.cml_hub.specs.declared.marks.Mark.TheVariants.{Ready, Out, NotRunning}
 use Rattle.cml_value.specs.declared.number.Tid.{Tid}
-use Rattle.cml_hub.specs.Marks.{is_here, is_out, home, those_out}
+use Rattle.cml_hub.specs.ReadyQueue.{is_here, is_out, home, those_out}
 use Rattle.cml_monitor.specs.Reports.{PlainReport}
 use Rattle.cml_hub.specs.Courses.{PlainCourse}
 use Rattle.cml_hub.specs.Kept.{Kept, Stands, Placed, is_out_of, AllOut, NoneOut}
@@ -30,14 +30,14 @@ none_ready_all_out [] ms p n t h = cc
 none_ready_all_out (x ∷ ts) [] p n t h = absurd p
 none_ready_all_out (x ∷ ts) (Ready ∷ ms) p n zero h = absurd (n 0 refl)
 none_ready_all_out (x ∷ ts) (Out ∷ ms) p n zero h = refl
-none_ready_all_out (x ∷ ts) (Away ∷ ms) p n zero h = let e : x ≡ running = cc in let b : runs x ≡ true = ap runs e in let f : false ≡ runs x = p.0 in cc
+none_ready_all_out (x ∷ ts) (NotRunning ∷ ms) p n zero h = let e : x ≡ running = cc in let b : runs x ≡ true = ap runs e in let f : false ≡ runs x = p.0 in cc
 none_ready_all_out (x ∷ ts) (m ∷ ms) p n (suc t) h = none_ready_all_out ts ms p.1 (λ u. n (suc u)) t h
 
 -- who is out runs
 out_here : (m : Mark) → is_out m ≡ true → is_here m ≡ true
 out_here Ready h = cc
 out_here Out h = refl
-out_here Away h = cc
+out_here NotRunning h = cc
 
 pub out_runs : (ts : List PlainThread) (ms : List Mark) → Placed ts ms → (t : ℕ) → is_out_of (map is_out ms) t ≡ true → slice_get ts t ≡ Some running
 out_runs [] [] p t h = cc
@@ -52,7 +52,7 @@ out_runs (x ∷ ts) (m ∷ ms) p (suc t) h = out_runs ts ms p.1 t h
 here_home : (m : Mark) → is_here (home m) ≡ is_here m
 here_home Ready = refl
 here_home Out = refl
-here_home Away = refl
+here_home NotRunning = refl
 
 placed_home : (ts : List PlainThread) (ms : List Mark) → Placed ts ms → Placed ts (map home ms)
 placed_home [] [] p = tt
@@ -72,7 +72,7 @@ pub none_out_home : (ms : List Mark) (t : ℕ) → is_out_of (map is_out (map ho
 none_out_home [] t = refl
 none_out_home (Ready ∷ ms) zero = refl
 none_out_home (Out ∷ ms) zero = refl
-none_out_home (Away ∷ ms) zero = refl
+none_out_home (NotRunning ∷ ms) zero = refl
 none_out_home (m ∷ ms) (suc t) = none_out_home ms t
 
 -- what holds of the hub holds of it after, and who was out is ready, or nothing has changed

@@ -13,9 +13,9 @@ use Rattle.cml_schedule.specs.declared.item.Item.{Item}
 use Rattle.cml_schedule.specs.declared.item.Item.TheVariants.{Turn, Meet as Commit, Exchange, Clock}
 use Rattle.cml_step.specs.Calls.{text_of}
 use Rattle.cml_step.specs.Terms.{Program}
-use Rattle.cml_hub.specs.declared.done.Gone.{Gone}
-use Rattle.cml_hub.specs.declared.done.Gone.TheVariants as gone_of
-use Rattle.cml_hub.specs.Marks.{left_by, those_out}
+use Rattle.cml_hub.specs.declared.done.AfterTurn.{AfterTurn}
+use Rattle.cml_hub.specs.declared.done.AfterTurn.TheVariants as gone_of
+use Rattle.cml_hub.specs.ReadyQueue.{left_by, those_out}
 use Rattle.cml_hub.specs.Runs.{Run, opening, stands, advance, next_alarm, over}
 use Rattle.cml_hub.specs.Dones.{ThreadsAfter}
 use Rattle.cml_hub.specs.Courses.{PlainCourse, run_of}
@@ -44,7 +44,7 @@ get_set (z ∷ xs) (suc i) x y h = get_set xs i x y h
 tells_running : (w : PlainWorld) (t : ℕ) (x : PlainThread) → slice_get w.threads t ≡ Some x → is_running w t ≡ runs x
 tells_running w t x h = ap (λ o. option_map_or runs o false) h
 
-pub ready_turned : (old new : PlainWorld) (t : Tid) (g : Gone) → slice_get old.threads t.0 ≡ Some running → ThreadsAfter t.0 g old.threads new.threads
+pub ready_turned : (old new : PlainWorld) (t : Tid) (g : AfterTurn) → slice_get old.threads t.0 ≡ Some running → ThreadsAfter t.0 g old.threads new.threads
     → lines_up t g ≡ ready_after old new t
 ready_turned old new t gone_of.On run after =
     let n : nat_eq (length new.threads) (length old.threads) ≡ true = same_count (length old.threads) (length new.threads) (ap length after) in

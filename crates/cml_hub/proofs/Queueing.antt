@@ -5,8 +5,8 @@ use Rattle.std.specs.List.{remove}
 use Rattle.std.proofs.lemmas.Bool.Decides.{nat_tests}
 use Rattle.cml_value.specs.declared.number.Tid.{Tid}
 use Rattle.cml_hub.specs.declared.marks.Mark.{Mark}
-use Rattle.cml_hub.specs.declared.marks.Mark.TheVariants.{Ready, Out, Away}
-use Rattle.cml_hub.specs.Marks.{is_out, is_at, count_of, left_by, those_out}
+use Rattle.cml_hub.specs.declared.marks.Mark.TheVariants.{Ready, Out, NotRunning}
+use Rattle.cml_hub.specs.ReadyQueue.{is_out, is_at, count_of, left_by, those_out}
 use Rattle.cml_hub.proofs.MarkLemmas.{at_same, some_then}
 
 other_is : (t n : ℕ) (b : Bool) → nat_eq n t ≡ b → is_at t n ≡ 0 → b ≡ false
@@ -44,11 +44,11 @@ those_out_more k n [] h = cc
 those_out_more k zero (m ∷ ms) h = let e : m ≡ Out = cc in rw (e, add-zero k) refl
 those_out_more k (suc n) (Ready ∷ ms) h = those_on k n (those_out (suc k) (map is_out (take (suc n) ms))) (those_out (suc k) (map is_out (take n ms))) (those_out_more (suc k) n ms h)
 those_out_more k (suc n) (Out ∷ ms) h = ap (λ xs. record { 0 = k } ∷ xs) (those_on k n (those_out (suc k) (map is_out (take (suc n) ms))) (those_out (suc k) (map is_out (take n ms))) (those_out_more (suc k) n ms h))
-those_out_more k (suc n) (Away ∷ ms) h = those_on k n (those_out (suc k) (map is_out (take (suc n) ms))) (those_out (suc k) (map is_out (take n ms))) (those_out_more (suc k) n ms h)
+those_out_more k (suc n) (NotRunning ∷ ms) h = those_on k n (those_out (suc k) (map is_out (take (suc n) ms))) (those_out (suc k) (map is_out (take n ms))) (those_out_more (suc k) n ms h)
 
 pub those_same : (k n : ℕ) (ms : List Mark) (m : Mark) → slice_get ms n ≡ Some m → is_out m ≡ false → those_out k (map is_out (take (suc n) ms)) ≡ those_out k (map is_out (take n ms))
 those_same k n [] m h e = cc
 those_same k zero (x ∷ ms) m h e = let same : x ≡ m = cc in rw (same, e) refl
 those_same k (suc n) (Ready ∷ ms) m h e = those_same (suc k) n ms m h e
 those_same k (suc n) (Out ∷ ms) m h e = ap (λ xs. record { 0 = k } ∷ xs) (those_same (suc k) n ms m h e)
-those_same k (suc n) (Away ∷ ms) m h e = those_same (suc k) n ms m h e
+those_same k (suc n) (NotRunning ∷ ms) m h e = those_same (suc k) n ms m h e

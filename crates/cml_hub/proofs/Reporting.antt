@@ -9,7 +9,7 @@ use Rattle.cml_schedule.specs.declared.item.Item.{Item}
 use Rattle.cml_step.specs.Terms.{Program}
 use Rattle.cml_step.specs.Calls.{text_of}
 use Rattle.cml_hub.specs.declared.marks.Mark.{Mark}
-use Rattle.cml_hub.specs.Marks.{is_out}
+use Rattle.cml_hub.specs.ReadyQueue.{is_out}
 use Rattle.cml_hub.specs.Runs.{Run, stands}
 use Rattle.cml_hub.specs.Courses.{PlainCourse, run_of, Adds}
 use Rattle.cml_hub.specs.Reports.{report_of, report_at, AreReportsBy, AreReports, IsDue, IsDueReport}

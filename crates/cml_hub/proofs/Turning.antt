@@ -17,7 +17,7 @@ use Rattle.cml_schedule.specs.declared.item.Item.{Item}
 use Rattle.cml_schedule.specs.declared.item.Item.TheVariants.{Turn}
 use Rattle.cml_schedule.specs.Laws.{IsNumber, IsWritable}
 use Rattle.cml_hub.specs.declared.done.Done.{Done}
-use Rattle.cml_hub.specs.declared.done.Done.TheVariants.{Goes, Gets, Takes, Begets, Prints, Waits, Ends, Fails}
+use Rattle.cml_hub.specs.declared.done.Done.TheVariants.{Goes, Gets, Takes, Spawns, Prints, Waits, Ends, Fails}
 use Rattle.cml_hub.specs.Performed.{performed}
 use Rattle.cml_hub.specs.Runs.{term_after, begun, output_of, advance}
 use Rattle.cml_hub.specs.Dones.{plain_done, DoneFits, CanSettle, Settles, children, gone, ThreadsAfter, GoesOn}
@@ -31,7 +31,7 @@ pub can_settle : (p : List (PlainItem ℕ)) (a : PlainAsk) (end : PlainMachine) 
 can_settle p a end Goes f w h = tt
 can_settle p a end (Gets v) f w h = (p, f, w ∙ h.0)
 can_settle p a end (Takes room) f w h = h.1
-can_settle p a end (Begets m) f w h = (p, f, w ∙ h.0)
+can_settle p a end (Spawns m) f w h = (p, f, w ∙ h.0)
 can_settle p a end Prints f w h = (p, f, w ∙ h)
 can_settle p a end Waits f w h = tt
 can_settle p a end Ends f w h = tt
@@ -42,7 +42,7 @@ pub threads_after : (t : ℕ) (a : PlainAsk) (d : Done) (old new : List PlainThr
 threads_after t a Goes old new h = h
 threads_after t a (Gets v) old new h = h
 threads_after t a (Takes room) old new h = h
-threads_after t a (Begets m) old new h = h
+threads_after t a (Spawns m) old new h = h
 threads_after t a Prints old new h = h
 threads_after t a Waits old new h = (pending_on h.0, refl, h.1)
 threads_after t a Ends old new h = (ended, refl, h)
@@ -53,7 +53,7 @@ children_begun : (p : List (PlainItem ℕ)) (a : PlainAsk) (end : PlainMachine) 
 children_begun p a end Goes h = refl
 children_begun p a end (Gets v) h = refl
 children_begun p a end (Takes room) h = refl
-children_begun p a end (Begets m) h = ap (λ term. term ∷ []) h.1.term
+children_begun p a end (Spawns m) h = ap (λ term. term ∷ []) h.1.term
 children_begun p a end Prints h = refl
 children_begun p a end Waits h = refl
 children_begun p a end Ends h = refl
@@ -76,10 +76,10 @@ stands_after : (p : List (PlainItem ℕ)) (t : ℕ) (a : PlainAsk) (end m : Plai
 stands_after p t a end m Goes ts new ms h run e s f done = stays p t ts new ms m h run e s.stands done
 stands_after p t a end m (Gets v) ts new ms h run e s f done = stays p t ts new ms m h run e s.stands done
 stands_after p t a end m (Takes room) ts new ms h run e s f done = stays p t ts new ms m h run e s.stands done
-stands_after p t a end m (Begets child) ts new ms h run e s f done =
+stands_after p t a end m (Spawns child) ts new ms h run e s f done =
     let q : MachinesStand p 0 (slice_set ts t running) (slice_set ms t m) = stand_set p 0 t ts ms running m h (omega (arith, e)) s.stands in
     let r : MachinesStand p 0 ts (slice_set ms t m) = subst (λ us. MachinesStand p 0 us (slice_set ms t m)) (set_same ts t running run) q in
-    rw (done.1) (stand_push p 0 ts (slice_set ms t m) running child r (omega (arith, done.0)) (f.1.fits, f.1.awaits))
+    rw (done.1) (stand_push p 0 ts (slice_set ms t m) running child.value r (omega (arith, done.0)) (f.1.fits, f.1.awaits))
 stands_after p t a end m Prints ts new ms h run e s f done = stays p t ts new ms m h run e s.stands done
 stands_after p t a end m Waits ts new ms h run e s f done = becomes p t (pending_on done.0) ts new ms m h e s.stands done.1
 stands_after p t a end m Ends ts new ms h run e s f done = becomes p t ended ts new ms m h e tt done

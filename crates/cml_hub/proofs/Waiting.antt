@@ -5,8 +5,8 @@ use Rattle.std.specs.List.{list_any}
 use Rattle.std.specs.Prelude.{slice_get, nat_lt, is_some}
 use Rattle.cml_value.specs.declared.number.Tid.{Tid}
 use Rattle.cml_hub.specs.declared.marks.Mark.{Mark}
-use Rattle.cml_hub.specs.declared.marks.Mark.TheVariants.{Ready, Out, Away}
-use Rattle.cml_hub.specs.Marks.{is_out, count_outs}
+use Rattle.cml_hub.specs.declared.marks.Mark.TheVariants.{Ready, Out, NotRunning}
+use Rattle.cml_hub.specs.ReadyQueue.{is_out, count_outs}
 use Rattle.cml_hub.specs.Kept.{is_out_of}
 
 -- where those that are out are none, no thread is out; else one is
@@ -14,13 +14,13 @@ pub none_counted : (ms : List Mark) → count_outs ms ≡ 0 → list_any is_out 
 none_counted [] h = refl
 none_counted (Ready ∷ ms) h = none_counted ms (omega (arith, h))
 none_counted (Out ∷ ms) h = absurd (omega (arith, h))
-none_counted (Away ∷ ms) h = none_counted ms (omega (arith, h))
+none_counted (NotRunning ∷ ms) h = none_counted ms (omega (arith, h))
 
 pub one_counted : (ms : List Mark) → 1 ≤ count_outs ms → list_any is_out ms ≡ true
 one_counted [] h = absurd (omega (arith, h))
 one_counted (Ready ∷ ms) h = one_counted ms (omega (arith, h))
 one_counted (Out ∷ ms) h = refl
-one_counted (Away ∷ ms) h = one_counted ms (omega (arith, h))
+one_counted (NotRunning ∷ ms) h = one_counted ms (omega (arith, h))
 
 -- where no thread is out, a slice of none is; and the other way round
 pub none_any : (ms : List Mark) → list_any is_out ms ≡ false → (t : ℕ) → is_out_of (map is_out ms) t ≡ false
@@ -28,14 +28,14 @@ none_any [] h t = refl
 none_any (Ready ∷ ms) h zero = refl
 none_any (Ready ∷ ms) h (suc t) = none_any ms h t
 none_any (Out ∷ ms) h t = cc
-none_any (Away ∷ ms) h zero = refl
-none_any (Away ∷ ms) h (suc t) = none_any ms h t
+none_any (NotRunning ∷ ms) h zero = refl
+none_any (NotRunning ∷ ms) h (suc t) = none_any ms h t
 
 pub any_none : (ms : List Mark) → ((t : ℕ) → is_out_of (map is_out ms) t ≡ false) → list_any is_out ms ≡ false
 any_none [] h = refl
 any_none (Ready ∷ ms) h = any_none ms (λ t. h (suc t))
 any_none (Out ∷ ms) h = h 0
-any_none (Away ∷ ms) h = any_none ms (λ t. h (suc t))
+any_none (NotRunning ∷ ms) h = any_none ms (λ t. h (suc t))
 
 -- it is asked whether the number of those that are out is above 0
 pub counted_any : (ms : List Mark) (n : ℕ) → n ≡ count_outs ms → nat_lt 0 n ≡ list_any is_out ms

@@ -18,7 +18,7 @@ use Rattle.cml_schedule.specs.Laws.{IsWritable}
 use Rattle.cml_hub.specs.Runs.{Run, main_of, opening, stands, is_allowed, advance}
 use Rattle.cml_hub.specs.Agreeing.{WorldAgrees}
 use Rattle.cml_value.specs.declared.number.Tid.{Tid}
-use Rattle.cml_hub.specs.declared.done.Gone.{Gone}
+use Rattle.cml_hub.specs.declared.done.AfterTurn.{AfterTurn}
 use Rattle.cml_hub.specs.Dones.{GoesOn, AwaitsCommit, ThreadsAfter}
 
 -- the program, the schedule so far, the world, the machine of each thread by its number, the output, and how much of the budget was used
@@ -106,7 +106,7 @@ parties_run (Single t n) ts = slice_set ts t.0 running
 parties_run (Pair h i o j) ts = slice_set (slice_set ts h.0 running) o.0 running
 
 -- a turn of the thread was added
-pub record Turns (old : PlainCourse) (thread : Tid) (gone : Gone) (new : PlainCourse) : Type 0 where
+pub record Turns (old : PlainCourse) (thread : Tid) (gone : AfterTurn) (new : PlainCourse) : Type 0 where
   pub adds : Adds old (Turn thread) new
   pub threads : ThreadsAfter thread.0 gone old.world.threads new.world.threads
   pub used : old.used < new.used

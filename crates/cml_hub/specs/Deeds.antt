@@ -10,7 +10,7 @@ use Rattle.cml_schedule.specs.declared.item.Item.{Item}
 use Rattle.cml_schedule.specs.declared.item.Item.TheVariants.{Turn}
 use Rattle.cml_hub.specs.declared.done.Done.{Done}
 use Rattle.cml_hub.specs.declared.done.Done.TheVariants as done_of
-use Rattle.cml_hub.specs.Performed.{PlainDone, begets, fails, performed}
+use Rattle.cml_hub.specs.Performed.{PlainDone, spawns, fails, performed}
 use Rattle.cml_hub.specs.Runs.{Run, main_of, opening, advance}
 
 -- what the ask of a turn does in this run; no other item asks
@@ -34,7 +34,7 @@ deeds p items = deeds_from p (Some (opening p)) items
 
 -- the function of the thread that begins by it, if one does
 abbrev pub begotten : PlainDone → Option PlainFunction
-begotten (begets n f) = Some f
+begotten (spawns n f) = Some f
 begotten d = None
 
 -- The function with which each thread began, by the thread's number: the first began with `main`, and each other with what the turn by which
@@ -58,6 +58,6 @@ pub record IsKnown (p : Program) (items : List Item) (began : List PlainFunction
 
 -- a thread that begins was asked for
 abbrev pub WasAsked : Done → PlainAsk → Type 0
-WasAsked (done_of.Begets m) (ask.spawn f) = Unit {0}
-WasAsked (done_of.Begets m) a = ⊥
+WasAsked (done_of.Spawns m) (ask.spawn f) = Unit {0}
+WasAsked (done_of.Spawns m) a = ⊥
 WasAsked d a = Unit {0}

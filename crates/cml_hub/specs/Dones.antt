@@ -18,9 +18,9 @@ use Rattle.cml_step.specs.Terms.{call_of}
 use Rattle.cml_book.specs.Walks.{runs}
 use Rattle.cml_hub.specs.declared.done.Done.{Done}
 use Rattle.cml_hub.specs.declared.done.Done.TheVariants as done_of
-use Rattle.cml_hub.specs.declared.done.Gone.{Gone}
-use Rattle.cml_hub.specs.declared.done.Gone.TheVariants as gone_of
-use Rattle.cml_hub.specs.Performed.{PlainDone, goes, gets, begets, prints, waits, ends, fails, spoken}
+use Rattle.cml_hub.specs.declared.done.AfterTurn.{AfterTurn}
+use Rattle.cml_hub.specs.declared.done.AfterTurn.TheVariants as gone_of
+use Rattle.cml_hub.specs.Performed.{PlainDone, goes, gets, spawns, prints, waits, ends, fails, spoken}
 use Rattle.cml_hub.specs.Runs.{term_after, output_of}
 
 -- the function of the thread that is asked for, and the value that is printed; of other asks they mean nothing
@@ -36,8 +36,8 @@ value_asked _ = unit
 abbrev pub plain_done : PlainAsk → Done → PlainDone
 plain_done a done_of.Goes = goes
 plain_done a (done_of.Gets v) = gets (a_value v)
-plain_done a (done_of.Takes room) = gets (a_nack room.nack.0)
-plain_done a (done_of.Begets m) = begets m.thread (function_asked a)
+plain_done a (done_of.Takes room) = gets (a_nack room.value.nack.0)
+plain_done a (done_of.Spawns m) = spawns m.value.thread (function_asked a)
 plain_done a done_of.Prints = prints (line (spoken (value_asked a)))
 plain_done a done_of.Waits = waits
 plain_done a done_of.Ends = ends
@@ -60,8 +60,8 @@ pub record IsChild (p : List (PlainItem ℕ)) (f : PlainFunction) (m : PlainMach
 abbrev pub DoneFits : List (PlainItem ℕ) → PlainAsk → PlainMachine → Done → Type 0
 DoneFits p a end done_of.Goes = await_of a ≡ nothing
 DoneFits p a end (done_of.Gets v) = (await_of a ≡ value) × (value_agrees (arities p) v ≡ true)
-DoneFits p a end (done_of.Takes room) = (await_of a ≡ nack) × IsNackRoom end room
-DoneFits p a end (done_of.Begets m) = (await_of a ≡ value) × IsChild p (function_asked a) m
+DoneFits p a end (done_of.Takes room) = (await_of a ≡ nack) × IsNackRoom end room.value
+DoneFits p a end (done_of.Spawns m) = (await_of a ≡ value) × IsChild p (function_asked a) m.value
 DoneFits p a end done_of.Prints = await_of a ≡ value
 DoneFits p a end done_of.Waits = await_of a ≡ commit
 DoneFits p a end done_of.Ends = Unit {0}
@@ -70,8 +70,8 @@ DoneFits p a end (done_of.Fails name) = Unit {0}
 -- the machine waits for the answer that it gets
 abbrev pub CanSettle : PlainMachine → Done → Type 0
 CanSettle end (done_of.Gets v) = Awaits end (a_value v)
-CanSettle end (done_of.Takes room) = IsNackRoom end room
-CanSettle end (done_of.Begets m) = Awaits end (a_value (thread m.thread))
+CanSettle end (done_of.Takes room) = IsNackRoom end room.value
+CanSettle end (done_of.Spawns m) = Awaits end (a_value (thread m.value.thread))
 CanSettle end done_of.Prints = Awaits end (a_value unit)
 CanSettle end _ = Unit {0}
 
@@ -96,19 +96,19 @@ pub record Settles (p : List (PlainItem ℕ)) (a : PlainAsk) (end : PlainMachine
 
 -- the machines of the threads that begin
 abbrev pub children : Done → List PlainMachine
-children (done_of.Begets m) = m ∷ []
+children (done_of.Spawns m) = m.value ∷ []
 children _ = []
 
 -- whether the thread goes on, and whether another begins
-abbrev pub gone : Done → Gone
-gone (done_of.Begets m) = gone_of.With (record { 0 = m.thread })
+abbrev pub gone : Done → AfterTurn
+gone (done_of.Spawns m) = gone_of.With (record { 0 = m.value.thread })
 gone done_of.Waits = gone_of.Off
 gone done_of.Ends = gone_of.Off
 gone (done_of.Fails name) = gone_of.Off
 gone _ = gone_of.On
 
 -- the threads after a turn of the thread t: it goes on, and another one may have begun; or it runs no more
-abbrev pub ThreadsAfter : ℕ → Gone → List PlainThread → List PlainThread → Type 0
+abbrev pub ThreadsAfter : ℕ → AfterTurn → List PlainThread → List PlainThread → Type 0
 ThreadsAfter t gone_of.On old new = new ≡ old
 ThreadsAfter t (gone_of.With child) old new = (child.0 ≡ length old) × (new ≡ old ++ running ∷ [])
 ThreadsAfter t gone_of.Off old new = (now : PlainThread) × (runs now ≡ false) × (new ≡ slice_set old t now)

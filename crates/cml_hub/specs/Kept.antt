@@ -22,7 +22,7 @@ use Rattle.cml_hub.specs.declared.fault.GiveFault.TheVariants.{Stranger, Memory}
 use Rattle.cml_hub.specs.declared.fault.ReplayFault.{ReplayFault}
 use Rattle.cml_hub.specs.declared.fault.ReplayFault.TheVariants as replay_fault
 use Rattle.cml_hub.specs.declared.marks.Mark.{Mark}
-use Rattle.cml_hub.specs.Marks.{is_here}
+use Rattle.cml_hub.specs.ReadyQueue.{is_here}
 use Rattle.cml_hub.specs.Runs.{Run, any_runs, over, ending, stands, advance}
 use Rattle.cml_hub.specs.Dones.{GoesOn}
 use Rattle.cml_hub.specs.Courses.{PlainCourse, run_of, Adds, Comes, HasMachine, IsOurs}
@@ -94,7 +94,7 @@ pub record IsAtStart (p : List (PlainItem ℕ)) (budget : ℕ) (watch : Option �
   pub none_out : NoneOut h
   pub queue : h.queue ≡ record { 0 = 0 } ∷ []
 
--- Of each of these items, which come after those, this holds where it was added: of the run there, and of the item.
+-- The second list was added after the first, item by item. Each time, `Holds` is so of the run before the item, and of the item.
 abbrev pub EachAdded : List (PlainItem ℕ) → (Run → Item → Type 0) → List Item → List Item → Type 0
 EachAdded p Holds items [] = Unit {0}
 EachAdded p Holds items (item ∷ more) =

@@ -8,7 +8,7 @@ pub mod Settling
 pub mod Deeds
 pub mod Courses
 pub mod CourseCodes
-pub mod Marks
+pub mod ReadyQueue
 pub mod MarkCodes
 pub mod Reports
 pub mod Kept

@@ -4,20 +4,20 @@ use Rattle.std.specs.Coded.{Coded, code_by, coded×, coded_ℕ, coded_list}
 use Rattle.cml_value.specs.declared.number.Tid.{Tid}
 use Rattle.cml_hub.specs.declared.marks.Mark.{Mark}
 use Rattle.cml_hub.specs.declared.marks.Mark.TheVariants as mark
-use Rattle.cml_hub.specs.Marks.{PlainMarks}
+use Rattle.cml_hub.specs.ReadyQueue.{PlainMarks}
 
 abbrev pub mark_number : Mark → ℕ
 mark_number mark.Ready = 0
 mark_number mark.Out = 1
-mark_number mark.Away = 2
+mark_number mark.NotRunning = 2
 
 abbrev pub mark_by : ℕ → Mark
-mark_by n = get_or (mark.Ready ∷ mark.Out ∷ mark.Away ∷ []) n mark.Ready
+mark_by n = get_or (mark.Ready ∷ mark.Out ∷ mark.NotRunning ∷ []) n mark.Ready
 
 pub mark_back : (m : Mark) → mark_by (mark_number m) ≡ m
 mark_back mark.Ready = refl
 mark_back mark.Out = refl
-mark_back mark.Away = refl
+mark_back mark.NotRunning = refl
 
 abbrev pub mark_code : Coded Mark
 mark_code = code_by ℕ coded_ℕ mark_number mark_by mark_back

@@ -7,37 +7,37 @@ use Rattle.cml_monitor.specs.Reports.{PlainReport}
 use Rattle.cml_schedule.specs.declared.item.Item.{Item}
 use Rattle.cml_step.specs.Machines.{PlainMachine}
 use Rattle.cml_value.specs.declared.number.Tid.{Tid}
-use Rattle.cml_hub.specs.declared.done.Gone.{Gone}
-use Rattle.cml_hub.specs.declared.done.Gone.TheVariants as gone_of
+use Rattle.cml_hub.specs.declared.done.AfterTurn.{AfterTurn}
+use Rattle.cml_hub.specs.declared.done.AfterTurn.TheVariants as gone_of
 use Rattle.cml_hub.specs.declared.marks.Mark.{Mark}
 use Rattle.cml_hub.specs.declared.marks.Mark.TheVariants as mark
-use Rattle.cml_hub.specs.Marks.{left_by, those_out}
+use Rattle.cml_hub.specs.ReadyQueue.{left_by, those_out}
 use Rattle.cml_hub.specs.Runs.{any_runs}
 use Rattle.cml_hub.specs.Dones.{GoesOn}
 use Rattle.cml_hub.specs.Courses.{Adds, HasMachine}
 use Rattle.cml_hub.specs.Kept.{Kept, AllOut, NoneOut, NoneDue, IsNoTurn, TellsSwaps, is_out_of}
 
 -- the thread that begins, if one does, has the next number
-abbrev pub IsNext : Gone → List Mark → Type 0
+abbrev pub IsNext : AfterTurn → List Mark → Type 0
 IsNext (gone_of.With child) ms = child.0 ≡ length ms
 IsNext g ms = Unit {0}
 
 -- where the threads are after a turn of the thread t
-abbrev pub marks_after : ℕ → Gone → List Mark → List Mark
+abbrev pub marks_after : ℕ → AfterTurn → List Mark → List Mark
 marks_after t gone_of.On ms = slice_set ms t mark.Ready
 marks_after t (gone_of.With child) ms = slice_set ms t mark.Ready ++ mark.Ready ∷ []
-marks_after t gone_of.Off ms = slice_set ms t mark.Away
+marks_after t gone_of.Off ms = slice_set ms t mark.NotRunning
 
 -- who is ready after a turn of the thread and comes last in the queue
-abbrev pub lines_up : Tid → Gone → List Tid
+abbrev pub lines_up : Tid → AfterTurn → List Tid
 lines_up t gone_of.On = t ∷ []
 lines_up t (gone_of.With child) = child ∷ t ∷ []
 lines_up t gone_of.Off = []
 
 -- the parties of a row do not run; those of a pair are two different threads
 abbrev pub PartiesAway : List Mark → Meet → Type 0
-PartiesAway ms (Single t n) = slice_get ms t.0 ≡ Some mark.Away
-PartiesAway ms (Pair h i o j) = (slice_get ms h.0 ≡ Some mark.Away) × (slice_get ms o.0 ≡ Some mark.Away) × (h.0 ≢ o.0)
+PartiesAway ms (Single t n) = slice_get ms t.0 ≡ Some mark.NotRunning
+PartiesAway ms (Pair h i o j) = (slice_get ms h.0 ≡ Some mark.NotRunning) × (slice_get ms o.0 ≡ Some mark.NotRunning) × (h.0 ≢ o.0)
 
 -- where the threads are after a row
 abbrev pub marks_met : Meet → List Mark → List Mark

@@ -27,7 +27,7 @@ use Rattle.cml_book.specs.End.{end}
 pub data PlainDone : Type 0 where
   goes : PlainDone
   gets : PlainAnswer → PlainDone
-  begets : ℕ → PlainFunction → PlainDone
+  spawns : ℕ → PlainFunction → PlainDone
   prints : List ℕ → PlainDone
   waits : PlainDone
   ends : PlainDone
@@ -52,7 +52,7 @@ spoken v = shown v
 abbrev pub asked : PlainWorld → ℕ → PlainAsk → Outcome PlainDone
 asked w t ask.nothing = Ok (w, goes)
 asked w t ask.yield = Ok (w, gets (a_value unit))
-asked w t (ask.spawn f) = done (λ n. begets n.0 f) (spawn w)
+asked w t (ask.spawn f) = done (λ n. spawns n.0 f) (spawn w)
 asked w t ask.make_chan = done (λ c. gets (a_value (chan c.0))) (make_chan w)
 asked w t ask.make_swap = done (λ s. gets (a_value (swapchan s.0))) (make_swap w)
 asked w t ask.make_ivar = done (λ i. gets (a_value (ivar i.0))) (make_ivar w)

@@ -12,7 +12,7 @@ use Rattle.cml_schedule.specs.declared.item.Item.TheVariants.{Turn, Meet as Comm
 use Rattle.cml_check.specs.Syntax.{PlainItem}
 use Rattle.cml_step.specs.Calls.{text_of}
 use Rattle.cml_step.specs.Terms.{Program}
-use Rattle.cml_hub.specs.Marks.{those_out}
+use Rattle.cml_hub.specs.ReadyQueue.{those_out}
 use Rattle.cml_hub.specs.Runs.{Run, opening, stands, advance, next_alarm, over}
 use Rattle.cml_hub.specs.Courses.{run_of}
 use Rattle.cml_hub.specs.Kept.{Kept, IsAtStart}

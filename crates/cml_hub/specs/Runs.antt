@@ -24,7 +24,7 @@ use Rattle.cml_schedule.specs.declared.item.Item.{Item}
 use Rattle.cml_schedule.specs.declared.item.Item.TheVariants.{Turn, Meet as Commit, Exchange, Clock}
 use Rattle.cml_hub.specs.declared.fault.End.{End}
 use Rattle.cml_hub.specs.declared.fault.End.TheVariants.{Quiet, Budget, Partial}
-use Rattle.cml_hub.specs.Performed.{PlainDone, goes, gets, begets, prints, waits, ends, fails, performed}
+use Rattle.cml_hub.specs.Performed.{PlainDone, goes, gets, spawns, prints, waits, ends, fails, performed}
 
 -- the world, the term of each thread by its number, all that was printed, and how much of the budget was used
 pub record Run : Type 0 where
@@ -50,7 +50,7 @@ opening p = record {
 abbrev pub term_after : Program → Term → PlainDone → Term
 term_after p term goes = term
 term_after p term (gets answer) = after_answer p answer term
-term_after p term (begets n f) = after_answer p (a_value (thread n)) term
+term_after p term (spawns n f) = after_answer p (a_value (thread n)) term
 term_after p term (prints text) = after_answer p (a_value unit) term
 term_after p term waits = term
 term_after p term ends = []
@@ -58,7 +58,7 @@ term_after p term (fails name) = []
 
 -- the terms of the threads that begin by the ask
 abbrev pub begun : Program → PlainDone → List Term
-begun p (begets n f) = (call_of p f ∷ []) ∷ []
+begun p (spawns n f) = (call_of p f ∷ []) ∷ []
 begun p _ = []
 
 -- what the ask adds to the output: what was printed, or the line of the fault

@@ -20,11 +20,11 @@ ghost use Rattle.cml_hub.specs.Reports.{report_of};
 
 use crate::choose::Chooser;
 use crate::deeds::{Deeds, note};
-use crate::done::Gone;
-use crate::perform::{Threads, prepare};
+use crate::done::AfterTurn;
+use crate::perform::{RunBook, prepare};
 use crate::pick::pick_row;
 use crate::settle::{resume_all, settle};
-use crate::turn::{Taken, take_turn};
+use crate::turn::{TurnMade, take_turn};
 use cml_book::{Book, Fault};
 use cml_check::Prog;
 use cml_index::OfferIndex;
@@ -32,18 +32,19 @@ use cml_monitor::Report;
 use cml_scan::law::{no_head_where_no_row, scan_lists_what_is_enabled};
 use cml_scan::{Meet, Table};
 use cml_schedule::Item;
-use cml_step::{Machine, Ran};
+use cml_step::{Ask, Machine, Ran};
 use cml_value::{FnRef, Tid};
 use std::alloc::{AllocError, AllocFailed, Global};
 use std::marker::Model;
 
-// A program, the schedule so far, and where it has led: the threads and objects, the machine of each thread, the output, and how much of the
-// budget was used. The spare is no thread's: each turn uses its lists again. What the turns did is known by the schedule.
+// A program, the schedule so far, and where it has led: the threads and objects, the machine of each thread, the output, and how much of
+// the budget was used. The spare is no thread's: each turn uses its lists again. What the turns did is read off the schedule
+// (`specs/Deeds`).
 #[derive(Drop)]
 pub(crate) struct Course {
     program: Prog,
     items: Vec<Item>,
-    threads: Threads,
+    threads: RunBook,
     machines: Vec<Machine>,
     spare: Machine,
     output: String,
@@ -105,6 +106,7 @@ fn read_numbers(row: Meet)
 {
     match row {
         Meet::Single { tid, leaf } => {
+            // Read for the proof alone, which uses what is promised of it.
             let _numbers = (tid.0, leaf);
         }
         Meet::Pair {
@@ -113,6 +115,7 @@ fn read_numbers(row: Meet)
             other,
             other_leaf,
         } => {
+            // Read for the proof alone, which uses what is promised of it.
             let _numbers = (head.0, head_leaf, other.0, other_leaf);
         }
     }
@@ -230,7 +233,7 @@ impl Course {
     }
 
     // The threads and objects.
-    pub(crate) fn book(&self) -> &Threads
+    pub(crate) fn book(&self) -> &RunBook
         ensures { result.now ≡ self.now.world }
     {
         &self.threads
@@ -280,8 +283,8 @@ impl Course {
         self.machines[thread.0 as usize].same(start)
     }
 
-    // A turn of the thread.
-    pub(crate) fn turn(&mut self, alloc: Global, thread: Tid) -> Result<Gone, AllocError>
+    // Gives the thread a turn.
+    pub(crate) fn turn(&mut self, alloc: Global, thread: Tid) -> Result<AfterTurn, AllocError>
         requires { slice_get self.old.world.threads thread.0 ≡ Some running }
         ensures ok { IfOk result (λ gone. Turns self.old thread gone self.new) }
         ensures err { OnErr result (self.new ≡ self.old) }
@@ -289,6 +292,7 @@ impl Course {
         self.items.reserve(1)?;
         self.machines.reserve(1)?;
         self.deeds.origins.reserve(1)?;
+        let mut ask = Ask::Nothing;
         let taken = take_turn(
             alloc,
             &self.program,
@@ -297,12 +301,9 @@ impl Course {
             thread,
             &mut self.machines[thread.0 as usize],
             &mut self.spare,
+            &mut ask,
         )?;
-        let Taken {
-            ask,
-            steps,
-            prepared,
-        } = taken;
+        let TurnMade { steps, prepared } = taken;
         let gone = prepared.done.gone();
         note(&mut self.deeds, ask, &prepared.done);
         tell(&mut self.output, prepared.line.as_str());
@@ -312,8 +313,8 @@ impl Course {
         Ok(gone)
     }
 
-    // Adds the turn that the slice is.
-    pub(crate) fn give(&mut self, alloc: Global, ran: Ran) -> Result<(Tid, Gone), Ran>
+    // Adds the slice as a turn of its thread.
+    pub(crate) fn give(&mut self, alloc: Global, ran: Ran) -> Result<(Tid, AfterTurn), Ran>
         requires { IsOurs self.old ran }
         ensures ok { IfOk result (λ r. Turns self.old r.0 r.1 self.new × (r.0.0 ≡ ran.start.thread)) }
         ensures err { IfErr result (λ back. (back ≡ ran) × (self.new ≡ self.old)) }
@@ -351,7 +352,7 @@ impl Course {
         Ok((thread, gone))
     }
 
-    // The row is taken, by this item.
+    // Takes the row, as this item.
     pub(crate) fn meet(&mut self, alloc: Global, item: Item, row: Meet) -> Result<(), AllocError>
         requires takes { TakesRow item row }
         requires allowed { spec.is_allowed self.old.world item ≡ true }
@@ -361,7 +362,7 @@ impl Course {
         scan_lists_what_is_enabled();
         read_numbers(row);
         self.items.reserve(1)?;
-        match self.threads.commit(alloc, row) {
+        match self.threads.commit_known(alloc, row) {
             Ok(committed) => {
                 resume_all(&mut self.machines, committed);
                 self.items.push_reserved(item);
@@ -373,7 +374,7 @@ impl Course {
         }
     }
 
-    // The time moves to the next alarm.
+    // Moves the time to the next alarm.
     pub(crate) fn tick(&mut self, alloc: Global, tick: u64) -> Result<(), AllocError>
         requires { spec.is_allowed self.old.world (Item.Clock tick) ≡ true }
         ensures ok { OnOk result (Ticks self.old tick self.new) }
@@ -393,7 +394,7 @@ impl Course {
 }
 
 // The machine that is about to call `main`, alone, and the book in which it begins.
-fn opening(alloc: Global, program: &Prog) -> Result<(Vec<Machine>, Threads), AllocError>
+fn opening(alloc: Global, program: &Prog) -> Result<(Vec<Machine>, RunBook), AllocError>
     ensures { IfOk result (λ r. IsOpening program.now r.0.items r.1) }
 {
     let Ok(main) = FnRef::new(alloc, program.main(), Vec::new(alloc)) else {
@@ -411,7 +412,7 @@ fn opening(alloc: Global, program: &Prog) -> Result<(Vec<Machine>, Threads), All
     }
 }
 
-// What the turns of no item did: thread 0 has begun with `main`, and nobody ended at a fault.
+// What is known before the first item: thread 0 has begun with `main`, and nobody ended at a fault.
 fn no_deeds(alloc: Global, program: &Prog) -> Result<Deeds, AllocError>
     ensures { IfOk result (λ d. IsKnown (text_of program.now) [] d.origins.items d.faults) }
 {

@@ -18,7 +18,7 @@ pub(crate) struct Deeds {
     pub(crate) faults: usize,
 }
 
-// The function of the thread that begins comes after the others, and a fault is counted. It takes no memory.
+// Notes what a turn did: the function of a thread that begins comes after the others, and a fault is counted. It takes no memory.
 pub(crate) fn note(deeds: &mut Deeds, ask: Ask, done: &Done)
     requires asked { WasAsked done.now (plain_ask ask) }
     requires room { vec_len deeds.old.origins < vec_capacity deeds.old.origins }
@@ -27,7 +27,7 @@ pub(crate) fn note(deeds: &mut Deeds, ask: Ask, done: &Done)
     ensures faults { deeds.new.faults ≡ deeds.old.faults + count_by is_fault (plain_done (plain_ask ask) done.now ∷ []) }
 {
     match done {
-        Done::Begets(_) => match ask {
+        Done::Spawns(_) => match ask {
             Ask::Spawn(function) => deeds.origins.push_reserved(function),
             _ => unreachable!(),
         },

@@ -13,10 +13,10 @@ pub(crate) enum Done {
     Goes,
     // It gets this, and goes on.
     Gets(Value),
-    // It gets a fresh nack, and goes on.
-    Takes(NackRoom),
+    // It gets a fresh nack, and goes on. The room lies apart, so that what most turns come to is small.
+    Takes(Box<NackRoom>),
     // This thread begins, and the one that asked goes on with its number.
-    Begets(Machine),
+    Spawns(Box<Machine>),
     // What it prints is printed, and it goes on.
     Prints,
     // It waits.
@@ -29,7 +29,7 @@ pub(crate) enum Done {
 
 // Whether the thread goes on after its turn.
 #[derive(Clone, Copy)]
-pub(crate) enum Gone {
+pub(crate) enum AfterTurn {
     // It goes on.
     On,
     // This thread begins, and it goes on.
@@ -40,13 +40,13 @@ pub(crate) enum Gone {
 
 impl Done {
     // Whether the thread goes on.
-    pub(crate) fn gone(&self) -> Gone
+    pub(crate) fn gone(&self) -> AfterTurn
         ensures { result ≡ gone self.now }
     {
         match self {
-            Done::Begets(child) => Gone::With(child.thread()),
-            Done::Goes | Done::Gets(_) | Done::Takes(_) | Done::Prints => Gone::On,
-            Done::Waits | Done::Ends | Done::Fails(_) => Gone::Off,
+            Done::Spawns(child) => AfterTurn::With(child.thread()),
+            Done::Goes | Done::Gets(_) | Done::Takes(_) | Done::Prints => AfterTurn::On,
+            Done::Waits | Done::Ends | Done::Fails(_) => AfterTurn::Off,
         }
     }
 }

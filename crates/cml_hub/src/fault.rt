@@ -21,7 +21,7 @@ pub enum End {
 pub enum Next {
     /// A slice of this thread.
     Job(Machine),
-    /// Nothing, until a job that is out comes back.
+    /// Nothing, until a slice that is out comes back.
     Wait,
     /// Nothing more: the run has ended.
     Ended,

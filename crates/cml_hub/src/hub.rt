@@ -1,5 +1,5 @@
-//! The hub: it hands out slices of the threads and takes them back, chooses among the communications that are possible, and keeps the
-//! schedule of what happened.
+//! The hub: it hands out the machines of threads that are ready, takes back the slices that were run of them, chooses among the
+//! communications that are possible, and keeps the schedule of what happened.
 
 ghost use Rattle.std.specs.Prelude.{◌≡◌, ◌≢◌, ◌↔◌, ◌++◌, ◌+◌, ◌-◌, ◌*◌, ◌≤◌, ◌<◌, [], Some, IfOk, IfErr, IfSome, OnOk, OnErr, IsTrue, MatchOption, Ok, true, false, length, slice_get};
 ghost use Rattle.std.specs.Option.{option_copied};
@@ -14,15 +14,15 @@ ghost use Rattle.cml_hub.specs.Courses.{run_of, TakesRow, MachineStands, IsOurs}
 ghost use Rattle.cml_hub.specs.Deeds.{origins, fault_count};
 ghost use Rattle.cml_hub.specs.Reports.{AreReports, IsDueReport};
 ghost use Rattle.cml_hub.specs.Kept.{IsBudget, IsWatch, IsAtStart, Continues, Extends, HandsOut, is_ended, NoneDue, NoneOut, AllOut, OnlyRunningOut, NoneOutOrSame, TakesSlice, IsFar, IsOver, IsFollowed, Replays, FitsSize};
-ghost use Rattle.cml_hub.specs.Marks.{left_by};
+ghost use Rattle.cml_hub.specs.ReadyQueue.{left_by};
 ghost use Rattle.cml_hub.specs.Playing.{parties, ready_after, MovesBy, GoesBy, PlaysOut, PlaysSoFar};
 ghost use Rattle.cml_hub.specs.Moves.{IsNext, lines_up, marks_after, PartiesAway, marks_met, AddsItem, TakesBack, Reported, HandedOut, MovedOn, CalledBack, Happens, GoesAlone, with_report};
 
 use crate::choose::Chooser;
 use crate::course::Course;
-use crate::done::Gone;
+use crate::done::AfterTurn;
 use crate::fault::{End, GiveFault, Next, ReplayFault};
-use crate::marks::Marks;
+use crate::marks::ReadyQueue;
 use cml_book::Book;
 use cml_check::Prog;
 use cml_index::OfferIndex;
@@ -40,7 +40,7 @@ use std::marker::Model;
 #[derive(Drop)]
 pub struct Hub {
     course: Course,
-    marks: Marks,
+    marks: ReadyQueue,
     budget: u64,
     watch: Option<u64>,
     reports: Vec<Report>,
@@ -48,7 +48,7 @@ pub struct Hub {
 
 impl Model for Hub {
     ghost use Rattle.std.specs.Prelude.{map};
-    ghost use Rattle.cml_hub.specs.Marks.{is_out};
+    ghost use Rattle.cml_hub.specs.ReadyQueue.{is_out};
     ghost use Rattle.cml_hub.specs.KeptCodes.{kept_code};
     ghost use Rattle.cml_hub.specs.Kept.{Kept, Stands};
 
@@ -75,8 +75,8 @@ impl Model for Hub {
     }) h.marks.marks };
 }
 
-// The thread's mark after its turn. A thread that begins is queued before it.
-fn place(marks: &mut Marks, thread: Tid, gone: Gone)
+// Sets the thread's mark after its turn. A thread that begins is queued before it.
+fn place(marks: &mut ReadyQueue, thread: Tid, gone: AfterTurn)
     requires there { thread.0 < length marks.old.marks }
     requires next { IsNext gone marks.old.marks }
     requires room { 2 ≤ marks.old.room }
@@ -84,19 +84,19 @@ fn place(marks: &mut Marks, thread: Tid, gone: Gone)
     ensures marks { marks.new.marks ≡ marks_after thread.0 gone marks.old.marks }
     ensures queue { marks.new.queue ≡ left_by thread.0 marks.old.queue ++ lines_up thread gone }
 {
-    marks.take_away(thread);
+    marks.set_not_running(thread);
     match gone {
-        Gone::On => marks.make_ready(thread),
-        Gone::With(child) => {
+        AfterTurn::On => marks.make_ready(thread),
+        AfterTurn::With(child) => {
             marks.add(child);
             marks.make_ready(thread);
         }
-        Gone::Off => {}
+        AfterTurn::Off => {}
     }
 }
 
-// The parties of a row are ready, the head first.
-fn place_all(marks: &mut Marks, row: Meet)
+// Makes the parties of a row ready, the head first.
+fn place_all(marks: &mut ReadyQueue, row: Meet)
     requires away { PartiesAway marks.old.marks row }
     requires room { 2 ≤ marks.old.room }
     ensures marks { marks.new.marks ≡ marks_met row marks.old.marks }
@@ -170,7 +170,7 @@ impl Hub {
         ensures err { IfErr result (λ back. back.value ≡ program) }
     {
         let course = Course::begin(alloc, program)?;
-        let mut marks = Marks::new(alloc);
+        let mut marks = ReadyQueue::new(alloc);
         match marks.reserve() {
             Ok(()) => {
                 marks.add(Tid(0));
@@ -195,7 +195,7 @@ impl Hub {
         self.course.program()
     }
 
-    /// How much of the budget a run may use.
+    /// The budget: how many steps the run may take.
     pub fn budget(&self) -> u64
         ensures budget { result ≡ self.now.budget }
         ensures range { IsBudget result }
@@ -211,7 +211,7 @@ impl Hub {
         self.watch
     }
 
-    /// What happened, in order. It leads to where the hub stands: there only threads that run can have a slice out.
+    /// What happened, in order. It leads to where the hub stands. Only a thread that runs there can have a slice out.
     pub fn schedule(&self) -> &[Item]
         ensures items { result.now ≡ self.now.course.items }
         ensures leads { spec.stands (text_of self.now.course.program) self.now.course.items ≡ Some (run_of self.now.course) }
@@ -231,7 +231,7 @@ impl Hub {
     pub fn end(&self) -> End
         ensures { result ≡ spec.ending self.now.budget (run_of self.now.course) }
     {
-        if self.is_terminal() {
+        if self.has_nothing_left() {
             End::Quiet
         } else if u128::from(self.budget) <= self.course.used() {
             End::Budget
@@ -300,7 +300,7 @@ impl Hub {
         self.marks.front().is_some()
     }
 
-    /// Whether a slice is out.
+    /// Whether a slice is out: a machine was handed out, and what it ran has not come back.
     pub fn has_out(&self) -> bool
         ensures { IsTrue result ↔ (NoneOut self.now → ⊥) }
     {
@@ -308,7 +308,7 @@ impl Hub {
     }
 
     // Whether nothing is left to do.
-    fn is_terminal(&self) -> bool
+    fn has_nothing_left(&self) -> bool
         ensures { result ≡ spec.terminal self.now.course.world }
     {
         self.marks.is_idle() && self.course.is_still() && self.course.next_alarm().is_none()
@@ -319,7 +319,7 @@ impl Hub {
         ensures over { result ≡ spec.over self.now.budget (run_of self.now.course) }
         ensures leads { spec.stands (text_of self.now.course.program) self.now.course.items ≡ Some (run_of self.now.course) }
     {
-        u128::from(self.budget) <= self.course.used() || self.is_terminal()
+        u128::from(self.budget) <= self.course.used() || self.has_nothing_left()
     }
 
     // Makes the report that is due.
@@ -346,7 +346,7 @@ impl Hub {
         Ok(Some(machine))
     }
 
-    // A turn of the thread.
+    // Gives the thread a turn.
     fn turn(&mut self, alloc: Global, thread: Tid) -> Result<(), AllocError>
         requires running { slice_get self.old.course.world.threads thread.0 ≡ Some running }
         requires due { NoneDue self.old }
@@ -361,7 +361,7 @@ impl Hub {
         Ok(())
     }
 
-    // The row is taken, by this item.
+    // Takes the row, as this item.
     fn meet(&mut self, alloc: Global, item: Item, row: Meet) -> Result<(), AllocError>
         requires takes { TakesRow item row }
         requires allowed { spec.is_allowed self.old.course.world item ≡ true }
@@ -377,7 +377,7 @@ impl Hub {
         Ok(())
     }
 
-    // The time moves to the next alarm.
+    // Moves the time to the next alarm.
     fn tick(&mut self, alloc: Global, tick: u64) -> Result<(), AllocError>
         requires allowed { spec.is_allowed self.old.course.world (Item.Clock tick) ≡ true }
         requires due { NoneDue self.old }
@@ -426,7 +426,8 @@ impl Hub {
     /// ready is handed out, for [`cml_step::slice`]; the slice is to be given back by [`Hub::give`].
     ///
     /// # Errors
-    /// Out of memory. The items and reports that were made before stay; the chooser's picks for the one that was not made are spent.
+    /// Out of memory. The items and reports that were made before stay. What the chooser picked for the item that was not made is not taken
+    /// back.
     pub fn take<C: Chooser>(&mut self, alloc: Global, chooser: &mut C) -> Result<Next, AllocError>
         ensures more { Extends self.old self.new }
         ensures next { IfOk result (λ next. HandsOut self.old next self.new) }
@@ -499,7 +500,7 @@ impl Hub {
         }
     }
 
-    // The threads whose slices are out are ready again.
+    // Makes the threads whose slices are out ready again.
     fn call_back(&mut self) -> Result<(), AllocError>
         ensures ok { OnOk result (CalledBack self.old self.new) }
         ensures err { OnErr result (self.new ≡ self.old) }
@@ -507,7 +508,7 @@ impl Hub {
         self.marks.call_back()
     }
 
-    // One item more, where no slice is out: a turn of the thread that is ready and comes next; or, where none is, a row or a tick.
+    // Adds an item, where no slice is out: a turn of the first ready thread; or, where none is ready, a row or a tick.
     fn go_alone<C: Chooser>(&mut self, alloc: Global, chooser: &mut C) -> Result<(), AllocError>
         requires none_out { NoneOut self.old }
         requires due { NoneDue self.old }
@@ -527,8 +528,8 @@ impl Hub {
     /// come after those that are ready, in the order of their numbers.
     ///
     /// # Errors
-    /// Out of memory. The items and reports that were made before stay; the chooser's picks for the one that was not made are spent. No
-    /// slice is out then; or those that are out could not be queued, and nothing has changed.
+    /// Out of memory. The items and reports that were made before stay. What the chooser picked for the item that was not made is not taken
+    /// back. No slice is out then; or those that are out could not be queued, and nothing has changed.
     pub fn run_alone<C: Chooser>(
         &mut self,
         alloc: Global,
@@ -549,7 +550,7 @@ impl Hub {
         Ok(self.end())
     }
 
-    // Whether so many steps of the budget were used since that many were.
+    // Whether `steps` steps of the budget were used since the count of the used ones was `begun`.
     fn has_used(&self, begun: u128, steps: u32) -> bool
         ensures { IsTrue result ↔ (steps ≤ self.now.course.used - begun) }
     {
@@ -559,7 +560,8 @@ impl Hub {
     /// Goes on as [`Hub::run_alone`] does, where no slice is out, until so many steps more of the budget are used, or the run is over.
     ///
     /// # Errors
-    /// Out of memory. The items and reports that were made before stay; the chooser's picks for the one that was not made are spent.
+    /// Out of memory. The items and reports that were made before stay. What the chooser picked for the item that was not made is not taken
+    /// back.
     pub fn run_on<C: Chooser>(
         &mut self,
         alloc: Global,
@@ -595,7 +597,7 @@ impl Hub {
         }
     }
 
-    // The item happens, which is allowed now.
+    // Lets the item happen, which is allowed now.
     fn add(&mut self, alloc: Global, item: Item) -> Result<(), AllocError>
         requires allowed { spec.is_allowed self.old.course.world item ≡ true }
         requires due { NoneDue self.old }
@@ -643,8 +645,7 @@ impl Hub {
         Ok(hub)
     }
 
-    /// One item more, where it is allowed now; where it is not, no item comes. The report that is due is made first. Returns whether the item
-    /// came.
+    /// Lets the item happen if it is allowed now; else nothing comes. The report that is due is made first. Returns whether the item came.
     ///
     /// # Errors
     /// Out of memory. No item came; the report may have been made.
@@ -662,7 +663,7 @@ impl Hub {
         Ok(true)
     }
 
-    // The item happens, and the report that is due after it is made.
+    // Lets the item happen, and makes the report that is due after it.
     fn step(&mut self, alloc: Global, item: Item) -> Result<(), AllocError>
         requires allowed { spec.is_allowed self.old.course.world item ≡ true }
         requires due { NoneDue self.old }

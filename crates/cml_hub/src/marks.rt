@@ -3,7 +3,7 @@
 ghost use Rattle.std.specs.Prelude.{◌≡◌, ◌≢◌, ℕ, ◌+◌, ◌-◌, ◌<◌, ◌≤◌, ◌^◌, ◌++◌, ◌∷◌, [], List, not, map, length, MatchOption, Some, OnOk, OnErr, slice_get, slice_set};
 ghost use Rattle.std.specs.List.{list_any};
 ghost use Rattle.std.specs.VecDeque.{deque_len, deque_capacity};
-ghost use Rattle.cml_hub.specs.Marks.{is_at, count_of, ready_at, count_outs, is_here, is_out, home, left_by, those_out};
+ghost use Rattle.cml_hub.specs.ReadyQueue.{is_at, count_of, ready_at, count_outs, is_here, is_out, home, left_by, those_out};
 
 use cml_value::Tid;
 use std::alloc::{AllocError, Global};
@@ -18,24 +18,24 @@ pub(crate) enum Mark {
     // A slice of it was handed out.
     Out,
     // It does not run.
-    Away,
+    NotRunning,
 }
 
 // Where each thread is, by its number, with the queue of those that are ready. How many are out is counted, so that it takes no walk to
 // see whether any thread runs.
 #[derive(Drop)]
-pub(crate) struct Marks {
+pub(crate) struct ReadyQueue {
     queue: VecDeque<Tid>,
     marks: Vec<Mark>,
     outs: usize,
 }
 
-impl Model for Marks {
+impl Model for ReadyQueue {
     ghost use Rattle.std.specs.Prelude.{◌-◌};
     ghost use Rattle.std.specs.Vec.{vec_len, vec_capacity};
     ghost use Rattle.std.specs.VecDeque.{deque_len, deque_capacity};
     ghost use Rattle.cml_hub.specs.MarkCodes.{marks_code};
-    ghost use Rattle.cml_hub.specs.Marks.{PlainMarks, AreMarks};
+    ghost use Rattle.cml_hub.specs.ReadyQueue.{PlainMarks, AreMarks};
 
     ghost Value = { PlainMarks };
 
@@ -68,7 +68,7 @@ fn unqueue(queue: &mut VecDeque<Tid>, thread: Tid)
     unreachable!();
 }
 
-// Those that are out are ready, in the order of their numbers, after the others.
+// Makes those that are out ready, in the order of their numbers, after the others.
 fn queue_outs(queue: &mut VecDeque<Tid>, marks: &mut Vec<Mark>)
     requires few { length marks.old.items ≤ 2 ^ 32 }
     requires queued { (t : ℕ) → count_of t queue.old.items ≡ ready_at marks.old.items t }
@@ -83,18 +83,18 @@ fn queue_outs(queue: &mut VecDeque<Tid>, marks: &mut Vec<Mark>)
                 marks[i] = Mark::Ready;
                 queue.push_back_reserved(Tid(i as u32));
             }
-            Mark::Ready | Mark::Away => {}
+            Mark::Ready | Mark::NotRunning => {}
         }
     }
 }
 
-impl Marks {
+impl ReadyQueue {
     // No thread.
-    pub(crate) fn new(alloc: Global) -> Marks
+    pub(crate) fn new(alloc: Global) -> ReadyQueue
         ensures marks { result.marks ≡ [] }
         ensures queue { result.queue ≡ [] }
     {
-        Marks {
+        ReadyQueue {
             queue: VecDeque::new(alloc),
             marks: Vec::new(alloc),
             outs: 0,
@@ -137,7 +137,7 @@ impl Marks {
         Some(self.queue[0])
     }
 
-    // A new thread is ready, after the others.
+    // Adds a new thread, which is ready, after the others.
     pub(crate) fn add(&mut self, thread: Tid)
         requires next { thread.0 ≡ length self.old.marks }
         requires room { 1 ≤ self.old.room }
@@ -150,9 +150,9 @@ impl Marks {
         self.queue.push_back_reserved(thread);
     }
 
-    // The thread, which was away, is ready, after the others.
+    // Makes the thread ready, after the others; it did not run.
     pub(crate) fn make_ready(&mut self, thread: Tid)
-        requires away { slice_get self.old.marks thread.0 ≡ Some Mark.Away }
+        requires away { slice_get self.old.marks thread.0 ≡ Some Mark.NotRunning }
         requires room { 1 ≤ self.old.room }
         ensures marks { self.new.marks ≡ slice_set self.old.marks thread.0 Mark.Ready }
         ensures queue { self.new.queue ≡ self.old.queue ++ thread ∷ [] }
@@ -162,10 +162,10 @@ impl Marks {
         self.queue.push_back_reserved(thread);
     }
 
-    // The thread is away, wherever it was.
-    pub(crate) fn take_away(&mut self, thread: Tid)
+    // Notes that the thread does not run, wherever it was.
+    pub(crate) fn set_not_running(&mut self, thread: Tid)
         requires { thread.0 < length self.old.marks }
-        ensures marks { self.new.marks ≡ slice_set self.old.marks thread.0 Mark.Away }
+        ensures marks { self.new.marks ≡ slice_set self.old.marks thread.0 Mark.NotRunning }
         ensures queue { self.new.queue ≡ left_by thread.0 self.old.queue }
         ensures room { self.old.room ≤ self.new.room }
         ensures more { self.new.more ≡ self.old.more }
@@ -174,17 +174,17 @@ impl Marks {
         match self.marks[place] {
             Mark::Ready => {
                 unqueue(&mut self.queue, thread);
-                self.marks[place] = Mark::Away;
+                self.marks[place] = Mark::NotRunning;
             }
             Mark::Out => {
                 self.outs -= 1;
-                self.marks[place] = Mark::Away;
+                self.marks[place] = Mark::NotRunning;
             }
-            Mark::Away => {}
+            Mark::NotRunning => {}
         }
     }
 
-    // The thread, which was ready, is out.
+    // Notes that the thread, which was ready, is out.
     pub(crate) fn hand_out(&mut self, thread: Tid)
         requires { slice_get self.old.marks thread.0 ≡ Some Mark.Ready }
         ensures marks { self.new.marks ≡ slice_set self.old.marks thread.0 Mark.Out }
@@ -195,7 +195,7 @@ impl Marks {
         self.outs += 1;
     }
 
-    // The threads that are out are ready, in the order of their numbers, after the others.
+    // Makes the threads that are out ready, in the order of their numbers, after the others.
     pub(crate) fn call_back(&mut self) -> Result<(), AllocError>
         ensures ok { OnOk result (self.new.marks ≡ map home self.old.marks) }
         ensures order { OnOk result (self.new.queue ≡ self.old.queue ++ those_out 0 (map is_out self.old.marks)) }

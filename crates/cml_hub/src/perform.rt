@@ -28,7 +28,7 @@ use cml_value::{FnRef, IVarId, MVarId, MboxId, McastId, Tid, Value, ValueKind};
 use std::alloc::{AllocError, Global};
 
 // The book in which a run's threads and objects are.
-pub(crate) type Threads = Book<OfferIndex>;
+pub(crate) type RunBook = Book<OfferIndex>;
 
 fn gets(kind: ValueKind) -> Done
     ensures { result ≡ Done.Gets (plain_value kind) }
@@ -36,11 +36,12 @@ fn gets(kind: ValueKind) -> Done
     Done::Gets(Value::new(kind))
 }
 
-// A thread that begins with the function.
+// Begins a thread with the function.
+#[inline(never)]
 fn spawn(
     alloc: Global,
     program: &Prog,
-    book: &mut Threads,
+    book: &mut RunBook,
     thread: Tid,
     function: &FnRef,
 ) -> Result<Done, Fault>
@@ -52,25 +53,33 @@ fn spawn(
     let Ok(child) = Machine::start(alloc, program, book.next_thread(), copy) else {
         return Err(Fault::Memory);
     };
+    let Ok(child) = Box::new(alloc, child) else {
+        return Err(Fault::Memory);
+    };
     book.spawn()?;
-    Ok(Done::Begets(child))
+    Ok(Done::Spawns(child))
 }
 
-// A fresh nack, for which there is room in the machine first.
-fn nack(alloc: Global, book: &mut Threads, thread: Tid, end: &Machine) -> Result<Done, Fault>
+// Makes a fresh nack. Room for it in the machine is made first.
+#[inline(never)]
+fn nack(alloc: Global, book: &mut RunBook, thread: Tid, end: &Machine) -> Result<Done, Fault>
     requires { (p : List (PlainItem ℕ)) × Fits p end.now × (top_await (machine_term p end.now) ≡ awaits_nack) }
     ensures done { Performs asks.fresh_nack result (asked book.old thread.0 asks.fresh_nack) book.old book.new }
     ensures fits { IfOk result (λ d. (p : List (PlainItem ℕ)) → IsDone p thread.0 asks.fresh_nack end.now d) }
 {
     let room = end.reserve_nack(alloc, book.next_nack())?;
+    let Ok(room) = Box::new(alloc, room) else {
+        return Err(Fault::Memory);
+    };
     book.nack(thread)?;
     Ok(Done::Takes(room))
 }
 
-// A put of a copy of the value.
+// Puts a copy of the value into the variable.
+#[inline(never)]
 fn iput(
     alloc: Global,
-    book: &mut Threads,
+    book: &mut RunBook,
     thread: Tid,
     ivar: IVarId,
     value: &Value,
@@ -86,7 +95,7 @@ fn iput(
 
 fn mput(
     alloc: Global,
-    book: &mut Threads,
+    book: &mut RunBook,
     thread: Tid,
     mvar: MVarId,
     value: &Value,
@@ -100,10 +109,10 @@ fn mput(
     }
 }
 
-// A copy of the value is sent to the mailbox.
+// Sends a copy of the value to the mailbox.
 fn mail(
     alloc: Global,
-    book: &mut Threads,
+    book: &mut RunBook,
     thread: Tid,
     mailbox: MboxId,
     value: &Value,
@@ -117,9 +126,10 @@ fn mail(
     }
 }
 
+#[inline(never)]
 fn multicast(
     alloc: Global,
-    book: &mut Threads,
+    book: &mut RunBook,
     thread: Tid,
     channel: McastId,
     message: &Value,
@@ -133,10 +143,11 @@ fn multicast(
     }
 }
 
-// An M-variable that is empty or holds a copy of the value.
+// Makes an M-variable that is empty or holds a copy of the value.
+#[inline(never)]
 fn make_mvar(
     alloc: Global,
-    book: &mut Threads,
+    book: &mut RunBook,
     thread: Tid,
     held: &Option<Value>,
 ) -> Result<Done, Fault>
@@ -153,11 +164,11 @@ fn make_mvar(
     }
 }
 
-// What the thread asks is done, or refused.
+// Does what the thread asks, or says why it is refused.
 fn perform(
     alloc: Global,
     program: &Prog,
-    book: &mut Threads,
+    book: &mut RunBook,
     thread: Tid,
     end: &Machine,
     ask: &Ask,
@@ -201,6 +212,7 @@ fn perform(
 }
 
 // The characters of a text, and any other value as it is shown, as a line.
+#[inline(never)]
 fn spoken_line(alloc: Global, value: &Value) -> Result<String, AllocError>
     ensures { IfOk result (λ text. string_bytes text ≡ line_of (spoken value.now)) }
 {
@@ -217,6 +229,7 @@ fn spoken_line(alloc: Global, value: &Value) -> Result<String, AllocError>
 }
 
 // The line of a thread's fault.
+#[inline(never)]
 fn fault_line(alloc: Global, thread: Tid, name: &str) -> Result<String, AllocError>
     ensures { IfOk result (λ text. string_bytes text ≡ line_of (codes "thread" ++ spaced thread.0 ++ codes " fault " ++ name.now)) }
 {
@@ -237,10 +250,11 @@ fn line_ahead(alloc: Global, thread: Tid, ask: &Ask) -> Result<String, AllocErro
     }
 }
 
-// The thread ends, with a fault of this name, whose line is for the output.
+// Ends the thread at a fault of this name, and returns the line for the output.
+#[inline(never)]
 fn fail(
     alloc: Global,
-    book: &mut Threads,
+    book: &mut RunBook,
     output: &mut String,
     thread: Tid,
     name: &'static str,
@@ -265,11 +279,12 @@ fn fail(
     }
 }
 
-// Makes all that the end of a slice asks for, and then does it; where it is refused the thread ends.
+// Makes the line for the output and the room for it, and then does what the slice asked for at its end. Where that is refused the thread
+// ends at a fault.
 pub(crate) fn prepare(
     alloc: Global,
     program: &Prog,
-    book: &mut Threads,
+    book: &mut RunBook,
     output: &mut String,
     thread: Tid,
     end: &Machine,

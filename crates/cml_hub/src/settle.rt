@@ -1,6 +1,6 @@
 //! Machines that are answered.
 
-ghost use Rattle.std.specs.Prelude.{◌≡◌, ◌<◌, length, slice_get, Some};
+ghost use Rattle.std.specs.Prelude.{◌≡◌, ◌<◌, length, option_map, slice_get, Some};
 ghost use Rattle.std.specs.Option.{option_to_list};
 ghost use Rattle.std.specs.Vec.{vec_len, vec_capacity};
 ghost use Rattle.cml_step.specs.Machines.{PlainMachine};
@@ -12,11 +12,11 @@ use cml_book::{Committed, Resume};
 use cml_step::Machine;
 use cml_value::{Tid, Value, ValueKind};
 
-// The machine goes on where it stands, once its ask was done, and the machine of the thread that begins comes.
-fn settle_machine(machine: &mut Machine, done: Done) -> Option<Machine>
+// Answers the machine where it stands, once what it asked was done. Returns the machine of a thread that begins by that.
+fn settle_machine(machine: &mut Machine, done: Done) -> Option<Box<Machine>>
     requires { CanSettle machine.old done }
     ensures machine { SettlesAll machine.old done machine.new }
-    ensures child { option_to_list result ≡ children done }
+    ensures child { option_to_list (option_map (λ b. b.value) result) ≡ children done }
 {
     match done {
         Done::Goes | Done::Waits => None,
@@ -25,10 +25,10 @@ fn settle_machine(machine: &mut Machine, done: Done) -> Option<Machine>
             None
         }
         Done::Takes(room) => {
-            machine.take_nack(room);
+            machine.take_nack(Box::into_inner(room));
             None
         }
-        Done::Begets(child) => {
+        Done::Spawns(child) => {
             machine.take_value(Value::new(ValueKind::Thread(child.thread())));
             Some(child)
         }
@@ -43,7 +43,7 @@ fn settle_machine(machine: &mut Machine, done: Done) -> Option<Machine>
     }
 }
 
-// The machines, once what the thread asked where its machine stands was done.
+// Answers the thread's machine where it stands, once what it asked was done; the machine of a thread that begins comes after the others.
 pub(crate) fn settle(machines: &mut Vec<Machine>, thread: Tid, done: Done)
     requires there { thread.0 < length machines.old.items }
     requires settles { (end : PlainMachine) → slice_get machines.old.items thread.0 ≡ Some end → CanSettle end done }
@@ -53,12 +53,12 @@ pub(crate) fn settle(machines: &mut Vec<Machine>, thread: Tid, done: Done)
 {
     let child = settle_machine(&mut machines[thread.0 as usize], done);
     match child {
-        Some(child) => machines.push_reserved(child),
+        Some(child) => machines.push_reserved(Box::into_inner(child)),
         None => {}
     }
 }
 
-// A party of a row goes on where its machine stands.
+// Lets a party of a row go on where its machine stands.
 fn resume(machines: &mut Vec<Machine>, resume: Resume)
     requires { Resumes machines.old.items resume }
     ensures { Resumed machines.old.items resume machines.new.items }
@@ -77,7 +77,7 @@ fn resume(machines: &mut Vec<Machine>, resume: Resume)
     machines[place].take_commit(value, wraps);
 }
 
-// The parties of a row go on, the head first.
+// Lets the parties of a row go on, the head first.
 pub(crate) fn resume_all(machines: &mut Vec<Machine>, committed: Committed)
     requires { AllResume machines.old.items committed }
     ensures { AllResumed machines.old.items committed machines.new.items }

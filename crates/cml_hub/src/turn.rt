@@ -9,55 +9,52 @@ ghost use Rattle.cml_hub.specs.Dones.{GoesOn};
 ghost use Rattle.cml_hub.specs.Asking.{IsPrepared};
 
 use crate::done::Prepared;
-use crate::perform::{Threads, prepare};
+use crate::perform::{RunBook, prepare};
 use cml_check::Prog;
 use cml_step::{Ask, Machine};
 use cml_value::Tid;
 use std::alloc::{AllocError, Global};
 use std::mem::swap;
 
-// What a turn came to: what the thread asks in the end, how many steps it took, and what becomes of it. The memory for that is there.
+// What a turn came to: how many steps it took, and what becomes of the thread. The memory for that is there.
 #[derive(Drop)]
-pub(crate) struct Taken {
-    pub(crate) ask: Ask,
+pub(crate) struct TurnMade {
     pub(crate) steps: u32,
     pub(crate) prepared: Prepared,
 }
 
-// Runs a slice of the thread's machine where it stands, and makes ready what it asks. The spare lends its lists to what the machine was, which
-// stands in the machine's place again where memory runs out. It holds no value in the end.
+// Runs a slice of the thread's machine where it stands, puts what it asks where nothing was asked yet, and makes that ready. The spare gets
+// a copy of the machine as it was, which takes the machine's place where memory runs out. In the end the spare holds no value.
 pub(crate) fn take_turn(
     alloc: Global,
     program: &Prog,
-    book: &mut Threads,
+    book: &mut RunBook,
     output: &mut String,
     thread: Tid,
     machine: &mut Machine,
     spare: &mut Machine,
-) -> Result<Taken, AllocError>
+    ask: &mut Ask,
+) -> Result<TurnMade, AllocError>
     requires running { slice_get book.old.threads thread.0 ≡ Some running }
     requires goes { GoesOn program.now machine.old }
+    requires nothing { ask.old ≡ Ask.Nothing }
     ensures slice { IfOk result (λ r. IsSlice (record {
       program = program.now;
       start = machine.old;
       end = machine.new;
-      ask = plain_ask r.ask;
+      ask = plain_ask ask.new;
       steps = r.steps;
     })) }
-    ensures done { IfOk result (λ r. IsPrepared program.now thread.0 (plain_ask r.ask) machine.new book.old book.new r.prepared) }
+    ensures done { IfOk result (λ r. IsPrepared program.now thread.0 (plain_ask ask.new) machine.new book.old book.new r.prepared) }
     ensures err { OnErr result ((machine.new ≡ machine.old) × (book.new ≡ book.old)) }
     ensures bytes { string_bytes output.new ≡ string_bytes output.old }
     ensures room { IfOk result (λ r. string_len output.new + length (string_bytes r.prepared.line) ≤ string_capacity output.new) }
 {
-    let (ask, steps) = machine.run_here(alloc, program, spare)?;
-    match prepare(alloc, program, book, output, thread, machine, &ask) {
+    let steps = machine.run_asking(alloc, program, spare, ask)?;
+    match prepare(alloc, program, book, output, thread, machine, ask) {
         Ok(prepared) => {
             spare.rest();
-            Ok(Taken {
-                ask,
-                steps,
-                prepared,
-            })
+            Ok(TurnMade { steps, prepared })
         }
         Err(error) => {
             swap(machine, spare);

@@ -8,8 +8,8 @@ use Rattle.cml_value.specs.declared.number.Tid.{Tid}
 use Rattle.cml_scan.specs.declared.meet.Place.{Place}
 use Rattle.std.proofs.lemmas.List.Folds.{list_any_at}
 use Rattle.cml_scan.specs.Order.{before, before_numbers, Ascends}
-use Rattle.cml_channel.specs.declared.lane.Whom.{Whom}
-use Rattle.cml_channel.specs.declared.lane.Whom.TheVariants.{Others, Above}
+use Rattle.cml_channel.specs.declared.lane.PartnerThreads.{PartnerThreads}
+use Rattle.cml_channel.specs.declared.lane.PartnerThreads.TheVariants.{Others, Above}
 use Rattle.cml_channel.specs.Lanes.{is_others}
 use Rattle.cml_channel.proofs.Counts.{last_above}
 use Rattle.cml_index.proofs.Lit.{at_place}
@@ -81,7 +81,7 @@ pub all_stay : (hs : List Place) → filter (is_beside None) hs ≡ hs
 all_stay [] = refl
 all_stay (h ∷ hs) = ap (λ ps. h ∷ ps) (all_stay hs)
 
-pub none_among : (meets : Tid → Whom) (rs hs : List Place) → length rs ≡ 0 → length (met_among meets rs hs) ≡ 0
+pub none_among : (meets : Tid → PartnerThreads) (rs hs : List Place) → length rs ≡ 0 → length (met_among meets rs hs) ≡ 0
 none_among meets (r ∷ rs) hs e = absurd (omega (arith, e))
 none_among meets [] [] e = refl
 none_among meets [] (h ∷ hs) e = none_among meets [] hs e

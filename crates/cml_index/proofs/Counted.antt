@@ -11,11 +11,11 @@ use Rattle.cml_scan.specs.declared.meet.Place.{Place}
 use Rattle.std.specs.Prelude.{option_map}
 use Rattle.cml_scan.specs.declared.object.Light.{Light}
 use Rattle.cml_scan.specs.Light.{light}
-use Rattle.cml_channel.specs.declared.lane.Whom.TheVariants.{Others, Above}
+use Rattle.cml_channel.specs.declared.lane.PartnerThreads.TheVariants.{Others, Above}
 use Rattle.cml_index.specs.declared.lanes.Lanes.{Lanes}
 use Rattle.cml_index.specs.declared.live.Live.{Live}
 use Rattle.cml_channel.specs.Lanes.{is_own, is_others, is_of}
-use Rattle.cml_channel.specs.Pairings.{one_lane, same_object, side_place, whom}
+use Rattle.cml_channel.specs.Pairings.{one_lane, same_object, side_place, partner_threads}
 use Rattle.cml_channel.specs.declared.pairing.PairedId.{PairedId}
 use Rattle.cml_channel.specs.declared.pairing.SidePlace.{SidePlace}
 use Rattle.cml_channel.proofs.Pairs.{same_object_is, same_object_self}
@@ -74,7 +74,7 @@ once m w (k ∷ ks) apart_ = at (same_object k m) (same_object m k) refl refl (o
     at false false e f h = omega (arith, h)
 
 -- a base event can stand first on an object, and meets the lane of those whom such a one meets, or it stands in no such lane and meets none
-pub by_shape : {P : Type 0} (tid : Tid) (b : PlainBase) → (met_by b tid ≡ None → ((n : PairedId) → is_slot (Side true n) (slot_of b) ≡ false) → P) → ((m : PairedId) → slot_of b ≡ Some (Side true m) → met_by b tid ≡ Some (met_lane m, whom m.kind tid) → P) → P
+pub by_shape : {P : Type 0} (tid : Tid) (b : PlainBase) → (met_by b tid ≡ None → ((n : PairedId) → is_slot (Side true n) (slot_of b) ≡ false) → P) → ((m : PairedId) → slot_of b ≡ Some (Side true m) → met_by b tid ≡ Some (met_lane m, partner_threads m.kind tid) → P) → P
 by_shape {P = P} tid b other head = at (side_place b) refl
   where
     away : (n : PairedId) (m : Option Light) → is_slot (Side true n) (option_map Waiters m) ≡ false
@@ -82,9 +82,9 @@ by_shape {P = P} tid b other head = at (side_place b) refl
     away n (Some l) = refl
 
     two : (s : SidePlace) (h : Bool) → side_place b ≡ Some s → s.heads ≡ h → P
-    two s true e f = head s.object (ap (λ x. slot_by x b) e ∙ ap (λ g. Some (Side g s.object)) f) (ap (λ x. met_at x tid) e ∙ ap (λ g. cond g (Some (met_lane s.object, whom s.object.kind tid)) None) f)
+    two s true e f = head s.object (ap (λ x. slot_by x b) e ∙ ap (λ g. Some (Side g s.object)) f) (ap (λ x. met_at x tid) e ∙ ap (λ g. cond g (Some (met_lane s.object, partner_threads s.object.kind tid)) None) f)
     two s false e f =
-        other (ap (λ x. met_at x tid) e ∙ ap (λ g. cond g (Some (met_lane s.object, whom s.object.kind tid)) None) f)
+        other (ap (λ x. met_at x tid) e ∙ ap (λ g. cond g (Some (met_lane s.object, partner_threads s.object.kind tid)) None) f)
         (λ n. ap (λ x. is_slot (Side true n) (slot_by x b)) e ∙ ap (λ g. is_slot (Side true n) (Some (Side g s.object))) f)
 
     at : (x : Option SidePlace) → side_place b ≡ x → P
@@ -145,7 +145,7 @@ module _ (os : List PlainOffer) (keys : List PairedId) (apart_ : IsDistinct same
 
   -- whether a leaf of the thread that stands first has a partner on the object
   abbrev meets_on : PairedId → PlainOffer → Bool
-  meets_on n x = list_any (is_of (whom n.kind (thread_of x))) (lane_of slot_of (met_lane n) os)
+  meets_on n x = list_any (is_of (partner_threads n.kind (thread_of x))) (lane_of slot_of (met_lane n) os)
 
   -- one leaf is counted once where it has a partner
   pub one_leaf : (x : PlainOffer) → ((n : PairedId) → is_slot (Side true n) (slot_of x.base) ≡ true → list_any (is_own (thread_of x)) (lane_of slot_of (Side true n) os) ≡ true)
@@ -157,7 +157,7 @@ module _ (os : List PlainOffer) (keys : List PairedId) (apart_ : IsDistinct same
           total_zero (λ n. one_if (is_slot (Side true n) (slot_of x.base)) (one_if (meets_on n x) 1)) keys (λ n. ap (λ b. one_if b (one_if (meets_on n x) 1)) (off n))
           ∙ sym (ap (λ b. one_if b 1) (partner_met os (thread_of x) x.leaf x.base ∙ ap (any_by os) none))
 
-      head : (m : PairedId) → slot_of x.base ≡ Some (Side true m) → met_by x.base (thread_of x) ≡ Some (met_lane m, whom m.kind (thread_of x)) → total (λ n. one_if (is_slot (Side true n) (slot_of x.base)) (one_if (meets_on n x) 1)) keys ≡ one_if (has_partner os x) 1
+      head : (m : PairedId) → slot_of x.base ≡ Some (Side true m) → met_by x.base (thread_of x) ≡ Some (met_lane m, partner_threads m.kind (thread_of x)) → total (λ n. one_if (is_slot (Side true n) (slot_of x.base)) (one_if (meets_on n x) 1)) keys ≡ one_if (has_partner os x) 1
       head m is met =
           total_same (λ n. one_if (is_slot (Side true n) (slot_of x.base)) (one_if (meets_on n x) 1)) (λ n. one_if (same_object n m) (one_if (meets_on m x) 1)) keys each
           ∙ once m (one_if (meets_on m x) 1) keys apart_
@@ -190,16 +190,16 @@ module _ (os : List PlainOffer) (keys : List PairedId) (apart_ : IsDistinct same
               pick false = refl
 
   counted : (ys xs : List PlainOffer) → os ≡ ys ++ xs
-      → total (λ n. length (met_among (whom n.kind) (lane_of slot_of (met_lane n) os) (lane_of slot_of (Side true n) xs))) keys ≡ length (filter (has_partner os) xs)
+      → total (λ n. length (met_among (partner_threads n.kind) (lane_of slot_of (met_lane n) os) (lane_of slot_of (Side true n) xs))) keys ≡ length (filter (has_partner os) xs)
   counted ys [] is = total_zero (λ n. 0) keys (λ n. refl)
   counted ys (x ∷ xs) is =
       let here = one_leaf x (λ n e. subst (λ zs. list_any (is_own (thread_of x)) (lane_of slot_of (Side true n) zs) ≡ true) (sym is) (stands ys xs x (Side true n) e)) in
       let rest = counted (ys ++ x ∷ []) xs (is ∙ sym (append_assoc ys (x ∷ []) xs)) in
-      total_add (λ n. length (met_among (whom n.kind) (lane_of slot_of (met_lane n) os) (lane_of slot_of (Side true n) (x ∷ xs)))) (λ n. one_if (is_slot (Side true n) (slot_of x.base)) (one_if (meets_on n x) 1)) (λ n. length (met_among (whom n.kind) (lane_of slot_of (met_lane n) os) (lane_of slot_of (Side true n) xs))) keys
+      total_add (λ n. length (met_among (partner_threads n.kind) (lane_of slot_of (met_lane n) os) (lane_of slot_of (Side true n) (x ∷ xs)))) (λ n. one_if (is_slot (Side true n) (slot_of x.base)) (one_if (meets_on n x) 1)) (λ n. length (met_among (partner_threads n.kind) (lane_of slot_of (met_lane n) os) (lane_of slot_of (Side true n) xs))) keys
       (λ n. step n (is_slot (Side true n) (slot_of x.base)) (meets_on n x) refl (filter (λ o. is_slot (Side true n) (slot_of o.base)) xs))
       ∙ rw (here, rest) (at (has_partner os x) (filter (has_partner os) xs))
     where
-      step : (n : PairedId) (b w : Bool) → meets_on n x ≡ w → (ys : List PlainOffer) → length (met_among (whom n.kind) (lane_of slot_of (met_lane n) os) (map place (cond b (x ∷ ys) ys))) ≡ one_if b (one_if w 1) + length (met_among (whom n.kind) (lane_of slot_of (met_lane n) os) (map place ys))
+      step : (n : PairedId) (b w : Bool) → meets_on n x ≡ w → (ys : List PlainOffer) → length (met_among (partner_threads n.kind) (lane_of slot_of (met_lane n) os) (map place (cond b (x ∷ ys) ys))) ≡ one_if b (one_if w 1) + length (met_among (partner_threads n.kind) (lane_of slot_of (met_lane n) os) (map place ys))
       step n true true e ys = rw e (omega arith)
       step n true false e ys = rw e (omega arith)
       step n false w e ys = omega arith

@@ -5,6 +5,8 @@ mod Going
 pub mod Scopes
 mod Pairs
 mod Receivers
+pub mod Waits
+mod OneLeaf
 mod Seeking
 mod Others
 mod Kept

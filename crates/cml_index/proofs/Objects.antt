@@ -3,8 +3,8 @@ use Rattle.std.proofs.Common.{◌≡◌, ℕ, Bool, true, false, ◌||◌, nat_e
 use Rattle.std.specs.List.{list_any, IsDistinct, AllByRecursion}
 use Rattle.std.proofs.lemmas.List.Folds.{list_any-append}
 use Rattle.cml_channel.specs.Pairings.{same_object}
-use Rattle.cml_channel.specs.declared.pairing.Pairing.{Pairing}
-use Rattle.cml_channel.specs.declared.pairing.Pairing.TheVariants.{Channel, Swap}
+use Rattle.cml_channel.specs.declared.pairing.PairedKind.{PairedKind}
+use Rattle.cml_channel.specs.declared.pairing.PairedKind.TheVariants.{Channel, Swap}
 use Rattle.cml_channel.specs.declared.pairing.PairedId.{PairedId}
 use Rattle.cml_index.specs.declared.live.Live.{Live}
 use Rattle.cml_index.specs.Live.{is_in, objects}
@@ -44,7 +44,7 @@ in_objects live n = at n.kind n.number
     both : (n : PairedId) → list_any (same_object n) (objects live) ≡ (list_any (same_object n) (map channel live.channels.items) || list_any (same_object n) (map swap live.swaps.items))
     both n = list_any-append (same_object n) (map channel live.channels.items) (map swap live.swaps.items)
 
-    at : (k : Pairing) (m : ℕ) → is_in live (record { kind = k; number = m }) ≡ list_any (same_object (record { kind = k; number = m })) (objects live)
+    at : (k : PairedKind) (m : ℕ) → is_in live (record { kind = k; number = m }) ≡ list_any (same_object (record { kind = k; number = m })) (objects live)
     at Channel m = or_false (list_any (λ x. nat_eq m x) live.channels.items) ∙ sym (both (channel m) ∙ ap (λ b. b || list_any (same_object (channel m)) (map swap live.swaps.items)) (own_channels m live.channels.items) ∙ ap (λ b. list_any (λ x. nat_eq m x) live.channels.items || b) (no_swaps m live.swaps.items))
     at Swap m = sym (both (swap m) ∙ ap (λ b. b || list_any (same_object (swap m)) (map swap live.swaps.items)) (no_channels m live.channels.items) ∙ own_swaps m live.swaps.items)
 

@@ -9,9 +9,9 @@ use Rattle.cml_scan.specs.World.{PlainEntry}
 use Rattle.cml_scan.specs.Scan.{PlainOffer, offers_of}
 use Rattle.cml_scan.specs.Order.{place, has_partner, before, before_numbers, Ascends, Every}
 use Rattle.cml_scan.specs.declared.meet.Place.{Place}
-use Rattle.cml_channel.specs.declared.lane.Whom.TheVariants.{Others}
+use Rattle.cml_channel.specs.declared.lane.PartnerThreads.TheVariants.{Others}
 use Rattle.cml_channel.specs.Lanes.{is_own, is_others, is_of}
-use Rattle.cml_channel.specs.Pairings.{same_object, whom}
+use Rattle.cml_channel.specs.Pairings.{same_object, partner_threads}
 use Rattle.cml_channel.specs.declared.pairing.PairedId.{PairedId}
 use Rattle.cml_index.specs.Slot.{met_lane}
 use Rattle.cml_index.specs.declared.slot.Slot.{Slot}
@@ -131,14 +131,14 @@ both_is true false false e = refl
 both_is false b true e = absurd (omega (arith, e))
 both_is false b false e = refl
 
-pub sole : (os : List PlainOffer) (n : PairedId) → IsDistinct same_object (n ∷ []) → counted.AreBoth (n ∷ []) os → map place (filter (has_partner os) os) ≡ heads_on os n
-sole os n apart both = go [] os refl
+pub one_object : (os : List PlainOffer) (n : PairedId) → IsDistinct same_object (n ∷ []) → counted.AreBoth (n ∷ []) os → map place (filter (has_partner os) os) ≡ heads_on os n
+one_object os n apart both = go [] os refl
   where
     tid_of : PlainOffer → Tid
     tid_of x = record { 0 = x.thread }
 
     meets : Place → Bool
-    meets q = list_any (is_of (whom n.kind q.tid)) (lane_of slot_of (met_lane n) os)
+    meets q = list_any (is_of (partner_threads n.kind q.tid)) (lane_of slot_of (met_lane n) os)
 
     step : (x : PlainOffer) (xs : List PlainOffer) (b w p : Bool) → p ≡ b && w → meets (place x) ≡ w → (ys : List PlainOffer) → map place (filter (has_partner os) xs) ≡ filter meets (map place ys)
         → map place (cond p (x ∷ filter (has_partner os) xs) (filter (has_partner os) xs)) ≡ filter meets (map place (cond b (x ∷ ys) ys))

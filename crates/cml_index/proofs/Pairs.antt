@@ -11,10 +11,10 @@ use Rattle.cml_scan.specs.Light.{light}
 use Rattle.cml_scan.specs.Scan.{PlainOffer, do_meet, can_meet, pair, pairs_with}
 use Rattle.cml_scan.specs.Order.{place, has_partner}
 use Rattle.cml_scan.proofs.Found.{offer}
-use Rattle.cml_channel.specs.declared.lane.Whom.{Whom}
+use Rattle.cml_channel.specs.declared.lane.PartnerThreads.{PartnerThreads}
 use Rattle.cml_channel.specs.declared.pairing.SidePlace.{SidePlace}
 use Rattle.cml_channel.specs.Lanes.{is_of, those}
-use Rattle.cml_channel.specs.Pairings.{one_lane, same_object, side_place, leads, whom}
+use Rattle.cml_channel.specs.Pairings.{one_lane, same_object, side_place, leads, partner_threads}
 use Rattle.cml_channel.proofs.Pairs.{led_to, do_meet_by_place}
 use Rattle.cml_index.specs.declared.slot.Slot.{Slot}
 use Rattle.cml_index.specs.declared.slot.Slot.TheVariants.{Waiters}
@@ -22,11 +22,7 @@ use Rattle.cml_index.specs.Slot.{met_lane, slot_by, met_at, met_by}
 use Rattle.cml_index.specs.Slots.{is_slot, lane_of}
 use Rattle.cml_index.specs.Heads.{pair_of}
 use Rattle.cml_index.specs.Posts.{slot_of}
-
--- an offer in this slot is one of those that are meant there
-abbrev pub meets_in : Option (Slot × Whom) → Option Slot → Place → Bool
-meets_in None s q = false
-meets_in (Some m) s q = is_slot m.0 s && is_of m.1 q
+use Rattle.cml_index.specs.Waits.{meets_in}
 
 -- By the law of sides: two leaves communicate, the first as the head, where the second is one of those whom the first meets in its lane.
 pub met_there : (tid : Tid) (b : PlainBase) (q : Place) (c : PlainBase) → do_meet tid.0 b q.tid.0 c ≡ meets_in (met_by b tid) (slot_of c) q
@@ -46,12 +42,12 @@ met_there tid b q c = do_meet_by_place tid b q c ∙ at (side_place b) (side_pla
     away s None = refl
     away s (Some l) = refl
 
-    two : (s t : SidePlace) (h : Bool) → s.heads ≡ h → leads s t && is_of (whom s.object.kind tid) q ≡ meets_in (cond h (Some (met_lane s.object, whom s.object.kind tid)) None) (Some (Rattle.cml_index.specs.declared.slot.Slot.TheVariants.Side t.heads t.object)) q
-    two s t true e = rw e (ap (λ b. b && is_of (whom s.object.kind tid) q) (turned (one_lane s.object.kind) t.heads (same_object s.object t.object)))
+    two : (s t : SidePlace) (h : Bool) → s.heads ≡ h → leads s t && is_of (partner_threads s.object.kind tid) q ≡ meets_in (cond h (Some (met_lane s.object, partner_threads s.object.kind tid)) None) (Some (Rattle.cml_index.specs.declared.slot.Slot.TheVariants.Side t.heads t.object)) q
+    two s t true e = rw e (ap (λ b. b && is_of (partner_threads s.object.kind tid) q) (turned (one_lane s.object.kind) t.heads (same_object s.object t.object)))
     two s t false e = rw e refl
 
-    alone : (s : SidePlace) (h : Bool) (m : Option Light) → false ≡ meets_in (cond h (Some (met_lane s.object, whom s.object.kind tid)) None) (option_map Waiters m) q
-    alone s true m = sym (ap (λ b. b && is_of (whom s.object.kind tid) q) (away s m))
+    alone : (s : SidePlace) (h : Bool) (m : Option Light) → false ≡ meets_in (cond h (Some (met_lane s.object, partner_threads s.object.kind tid)) None) (option_map Waiters m) q
+    alone s true m = sym (ap (λ b. b && is_of (partner_threads s.object.kind tid) q) (away s m))
     alone s false m = refl
 
     at : (x y : Option SidePlace) → led_to tid q x y ≡ meets_in (met_at x tid) (slot_by y c) q
@@ -60,11 +56,11 @@ met_there tid b q c = do_meet_by_place tid b q c ∙ at (side_place b) (side_pla
     at None y = refl
 
 -- the same of a leaf and an offer
-met_offer : (p : Place) (b : PlainBase) (m : Option (Slot × Whom)) → met_by b p.tid ≡ m → (o : PlainOffer) → can_meet (offer p b) o ≡ meets_in m (slot_of o.base) (place o)
+met_offer : (p : Place) (b : PlainBase) (m : Option (Slot × PartnerThreads)) → met_by b p.tid ≡ m → (o : PlainOffer) → can_meet (offer p b) o ≡ meets_in m (slot_of o.base) (place o)
 met_offer p b m e o = met_there p.tid b (place o) o.base ∙ ap (λ x. meets_in x (slot_of o.base) (place o)) e
 
 -- the rows that a leaf begins with others are those with the offers that are meant in the lane that it meets
-pub pairs_there : (p : Place) (b : PlainBase) (k : Slot) (w : Whom) → met_by b p.tid ≡ Some (k, w) → (os : List PlainOffer) → pairs_with os (offer p b) ≡ map (pair_of p) (those w (lane_of slot_of k os))
+pub pairs_there : (p : Place) (b : PlainBase) (k : Slot) (w : PartnerThreads) → met_by b p.tid ≡ Some (k, w) → (os : List PlainOffer) → pairs_with os (offer p b) ≡ map (pair_of p) (those w (lane_of slot_of k os))
 pairs_there p b k w e [] = refl
 pairs_there p b k w e (o ∷ os) =
     ap (λ r. map (pair (offer p b)) (cond r (o ∷ filter (can_meet (offer p b)) os) (filter (can_meet (offer p b)) os))) (met_offer p b (Some (k, w)) e o)
@@ -87,14 +83,14 @@ abbrev pub leaf_with : Tid → ℕ → PlainBase → PlainOffer
 leaf_with tid leaf b = record { thread = tid.0; leaf = leaf; base = b }
 
 -- whether a leaf has a partner, by the lane that it meets
-abbrev pub any_by : List PlainOffer → Option (Slot × Whom) → Bool
+abbrev pub any_by : List PlainOffer → Option (Slot × PartnerThreads) → Bool
 any_by os (Some m) = list_any (is_of m.1) (lane_of slot_of m.0 os)
 any_by os None = false
 
 pub partner_met : (os : List PlainOffer) (tid : Tid) (leaf : ℕ) (b : PlainBase) → has_partner os (leaf_with tid leaf b) ≡ any_by os (met_by b tid)
 partner_met os tid leaf b = there os (met_by b tid) refl
   where
-    there : (os : List PlainOffer) (m : Option (Slot × Whom)) → met_by b tid ≡ m → has_partner os (leaf_with tid leaf b) ≡ any_by os m
+    there : (os : List PlainOffer) (m : Option (Slot × PartnerThreads)) → met_by b tid ≡ m → has_partner os (leaf_with tid leaf b) ≡ any_by os m
     there [] None e = refl
     there [] (Some m) e = refl
     there (o ∷ os) None e = ap (λ r. r || has_partner os (leaf_with tid leaf b)) (met_there tid b (place o) o.base ∙ ap (λ x. meets_in x (slot_of o.base) (place o)) e) ∙ there os None e

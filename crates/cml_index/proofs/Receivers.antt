@@ -13,7 +13,7 @@ use Rattle.cml_scan.specs.Order.{IsSorted, base_at}
 use Rattle.cml_scan.specs.World.{PlainEntry}
 use Rattle.cml_scan.proofs.Found.{singles_at, pairs_at, partners_found}
 use Rattle.cml_scan.proofs.Ordered.{offers_ascend}
-use Rattle.cml_channel.specs.declared.lane.Whom.{Whom}
+use Rattle.cml_channel.specs.declared.lane.PartnerThreads.{PartnerThreads}
 use Rattle.cml_channel.specs.Lanes.{those}
 use Rattle.cml_index.specs.declared.slot.Slot.{Slot}
 use Rattle.cml_index.specs.Slot.{met_by}
@@ -23,28 +23,28 @@ use Rattle.cml_index.specs.Posts.{slot_of, rows_at}
 use Rattle.cml_index.proofs.Pairs.{pairs_there, no_pairs}
 
 -- what meets another cannot be taken alone
-pub met_dark : (told : Light → Bool) (b : PlainBase) (tid : Tid) (m : Slot × Whom) → met_by b tid ≡ Some m → lit_by told b ≡ false
+pub met_dark : (told : Light → Bool) (b : PlainBase) (tid : Tid) (m : Slot × PartnerThreads) → met_by b tid ≡ Some m → lit_by told b ≡ false
 met_dark told (send c v) tid m e = refl
 met_dark told (recv c) tid m e = refl
 met_dark told (swap s v) tid m e = refl
 met_dark told _ tid m e = cc
 
 -- the rows that a leaf begins, by the lane of those whom it meets
-abbrev pub rows_by : (Light → Bool) → List PlainOffer → Place → PlainBase → Option (Slot × Whom) → List Meet
+abbrev pub rows_by : (Light → Bool) → List PlainOffer → Place → PlainBase → Option (Slot × PartnerThreads) → List Meet
 rows_by told os p b (Some m) = map (pair_of p) (those m.1 (lane_of slot_of m.0 os))
 rows_by told os p b None = cond (lit_by told b) (Single p.tid p.leaf ∷ []) []
 
 pub rows_met : (told : Light → Bool) (os : List PlainOffer) (p : Place) (b : PlainBase) → rows_at told os p b ≡ rows_by told os p b (met_by b p.tid)
 rows_met told os p b = at (met_by b p.tid) refl
   where
-    at : (m : Option (Slot × Whom)) → met_by b p.tid ≡ m → rows_at told os p b ≡ rows_by told os p b m
+    at : (m : Option (Slot × PartnerThreads)) → met_by b p.tid ≡ m → rows_at told os p b ≡ rows_by told os p b m
     at (Some m) e = rw (met_dark told b p.tid m e) (pairs_there p b m.0 m.1 e os)
     at None e = rw (no_pairs p b e os) (append-nil _)
 
-pub rows_some : (told : Light → Bool) (os : List PlainOffer) (p : Place) (b : PlainBase) (s : Option (Slot × Whom)) (k : Slot) (w : Whom) → s ≡ met_by b p.tid → s ≡ Some (k, w) → rows_at told os p b ≡ map (pair_of p) (those w (lane_of slot_of k os))
+pub rows_some : (told : Light → Bool) (os : List PlainOffer) (p : Place) (b : PlainBase) (s : Option (Slot × PartnerThreads)) (k : Slot) (w : PartnerThreads) → s ≡ met_by b p.tid → s ≡ Some (k, w) → rows_at told os p b ≡ map (pair_of p) (those w (lane_of slot_of k os))
 rows_some told os p b s k w is some = rows_met told os p b ∙ ap (rows_by told os p b) (sym is ∙ some)
 
-pub rows_none : (told : Light → Bool) (os : List PlainOffer) (p : Place) (b : PlainBase) (s : Option (Slot × Whom)) (lit : Bool) → s ≡ met_by b p.tid → s ≡ None → lit_by told b ≡ lit → rows_at told os p b ≡ cond lit (Single p.tid p.leaf ∷ []) []
+pub rows_none : (told : Light → Bool) (os : List PlainOffer) (p : Place) (b : PlainBase) (s : Option (Slot × PartnerThreads)) (lit : Bool) → s ≡ met_by b p.tid → s ≡ None → lit_by told b ≡ lit → rows_at told os p b ≡ cond lit (Single p.tid p.leaf ∷ []) []
 rows_none told os p b s lit is none e = rows_met told os p b ∙ ap (rows_by told os p b) (sym is ∙ none) ∙ ap (λ r. cond r (Single p.tid p.leaf ∷ []) []) e
 
 -- the rows of a head among sorted threads

@@ -41,6 +41,23 @@ ranked t (e ∷ es) (suc k) d up within = at (nat_lt e.tid.0 t) refl (ranked t e
         let zero_count : count_seats t es ≡ 0 = ap length none in
         record { front = λ in_. let r : k < count_seats t es = rest.front in_ in absurd (omega arith); back = λ out. rw (h, none) (omega arith) }
 
+-- a thread's seat is where those of the threads below it end
+pub its_place : (t : ℕ) (ss : List Seat) (k : ℕ) (d : Seat) → Ascends seat_before ss → k < length ss → (get_or ss k d).tid.0 ≡ t → k ≡ count_seats t ss
+its_place t [] k d up within is = absurd (omega (arith, within))
+its_place t (s ∷ ss) zero d up within is = let none : count_seats t (s ∷ ss) ≤ 0 = (ranked t (s ∷ ss) zero d up within).back (not_below s.tid.0 t is) in omega (arith, none)
+  where
+    not_below : (a b : ℕ) → a ≡ b → nat_lt a b ≡ false
+    not_below a b e = grind (arith, nat_tests)
+its_place t (s ∷ ss) (suc k) d up within is =
+    let low : nat_lt s.tid.0 t ≡ true = subst (λ n. nat_lt s.tid.0 n ≡ true) is (each_after s ss k d up.0 (omega (arith, within))) in
+    let rest : k ≡ count_seats t ss = its_place t ss k d up.1 (omega (arith, within)) is in
+    rw low (omega (arith, rest))
+  where
+    each_after : (s : Seat) (ss : List Seat) (k : ℕ) (d : Seat) → Every (seat_before s) ss → k < length ss → seat_before s (get_or ss k d) ≡ true
+    each_after s [] k d each within = absurd (omega (arith, within))
+    each_after s (x ∷ xs) zero d each within = each.0
+    each_after s (x ∷ xs) (suc k) d each within = each_after s xs k d each.1 (omega (arith, within))
+
 -- those in two lists of seats
 pub seated-append : (xs ys : List Seat) → seated (xs ++ ys) ≡ seated xs ++ seated ys
 seated-append [] ys = refl

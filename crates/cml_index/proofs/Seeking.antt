@@ -17,7 +17,7 @@ use Rattle.cml_index.specs.declared.slot.Slot.{Slot}
 use Rattle.cml_index.specs.declared.heads.HeadKind.TheVariants.{Alone, Met}
 use Rattle.cml_scan.specs.Light.{lit_by}
 use Rattle.cml_index.specs.Heads.{is_sought}
-use Rattle.cml_channel.specs.declared.lane.Whom.{Whom}
+use Rattle.cml_channel.specs.declared.lane.PartnerThreads.{PartnerThreads}
 use Rattle.cml_index.specs.Slot.{met_by}
 use Rattle.cml_index.specs.Posts.{told}
 use Rattle.cml_index.proofs.Parted.{leaves_all, filter_fewer}
@@ -91,7 +91,7 @@ both_fewer f g apart (x ∷ xs) = at (f x) (g x) (apart x) (both_fewer f g apart
 pub never_both : (flags : List (Slot × Bool)) (os : List PlainOffer) (o : PlainOffer) → is_sought Alone flags os o ≡ true → is_sought Met flags os o ≡ false
 never_both flags os o e = partner_met os (record { 0 = o.thread }) o.leaf o.base ∙ at (met_by o.base (record { 0 = o.thread })) refl
   where
-    at : (m : Option (Slot × Whom)) → met_by o.base (record { 0 = o.thread }) ≡ m → any_by os m ≡ false
+    at : (m : Option (Slot × PartnerThreads)) → met_by o.base (record { 0 = o.thread }) ≡ m → any_by os m ≡ false
     at (Some m) f = let dark : lit_by (told flags) o.base ≡ false = met_dark (told flags) o.base (record { 0 = o.thread }) m f in cc
     at None f = refl
 

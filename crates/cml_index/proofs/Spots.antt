@@ -6,7 +6,7 @@ use Rattle.cml_scan.specs.declared.object.Light.TheVariants as of
 use Rattle.cml_scan.proofs.Telling.{light_eq}
 use Rattle.cml_index.specs.declared.slot.Slot.{Slot}
 use Rattle.cml_index.specs.declared.slot.Slot.TheVariants.{Side, Waiters}
-use Rattle.cml_index.specs.declared.slot.Row.TheVariants.{IVars, MVars, Mailboxes, Ports, Joins, Nacks}
+use Rattle.cml_index.specs.declared.slot.LaneKind.TheVariants.{IVars, MVars, Mailboxes, Ports, Joins, Nacks}
 use Rattle.cml_index.specs.declared.slot.Spot.TheVariants.{Listed, Tick}
 use Rattle.cml_index.specs.declared.lanes.Lanes.{Lanes}
 use Rattle.cml_index.specs.Slot.{same_slot}

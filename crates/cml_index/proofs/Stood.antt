@@ -1,18 +1,18 @@
 -- What is done at a stand, done twice.
 use Rattle.std.proofs.Common.{◌≡◌, ◌≤◌, ℕ, suc, Bool, true, false, nat_lt, [], length, Option, is_some, cond, ◌+◌, refl, ap, sym, subst, ◌∙◌, arith}
 use Rattle.cml_value.specs.declared.number.Tid.{Tid}
-use Rattle.cml_index.specs.declared.stand.Stand.{Stand}
+use Rattle.cml_index.specs.declared.stand.LaneState.{LaneState}
 use Rattle.cml_scan.specs.Order.{Ascends}
 use Rattle.cml_index.specs.Stands.{HasCome, HasForgone, HasGone, CountsOneMore, CanCome, joined, after_going, places_in, late_in, going_in, room_in}
 
-pub come_twice : (tid : Tid) (a b c : Option Stand) → HasCome tid a b → HasCome tid b c → HasCome tid a c
+pub come_twice : (tid : Tid) (a b c : Option LaneState) → HasCome tid a b → HasCome tid b c → HasCome tid a c
 come_twice tid a b c x y = record {
   places = y.places ∙ ap (λ ls. joined tid ls (places_in b)) x.late ∙ x.places;
   late = y.late;
   going = y.going ∙ x.going;
 }
 
-pub forgo_twice : (a b c : Option Stand) → HasForgone a b → HasForgone b c → HasForgone a c
+pub forgo_twice : (a b c : Option LaneState) → HasForgone a b → HasForgone b c → HasForgone a c
 forgo_twice a b c x y = record {
   places = y.places ∙ x.places;
   late = y.late;
@@ -20,7 +20,7 @@ forgo_twice a b c x y = record {
   room = y.room ∙ x.room;
 }
 
-pub go_twice : (tid : Tid) (a b c : Option Stand) → HasGone tid a b → HasGone tid b c → HasGone tid a c
+pub go_twice : (tid : Tid) (a b c : Option LaneState) → HasGone tid a b → HasGone tid b c → HasGone tid a c
 go_twice tid a b c x y = record {
   places = y.places ∙ ap (λ n. after_going tid n (places_in b)) x.going ∙ x.places;
   late = y.late ∙ x.late;
@@ -29,7 +29,7 @@ go_twice tid a b c x y = record {
 }
 
 -- where no leaf is to come, none has to
-pub none_comes : (tid : Tid) (s : Option Stand) → late_in s ≡ [] → CanCome tid s
+pub none_comes : (tid : Tid) (s : Option LaneState) → late_in s ≡ [] → CanCome tid s
 none_comes tid s e = record {
   room = let none : length (late_in s) ≡ 0 = ap length e in omega (arith, none);
   new = λ some. let none : length (late_in s) ≡ 0 = ap length e in absurd (omega (arith, none, some));
@@ -37,7 +37,7 @@ none_comes tid s e = record {
 }
 
 -- so many leaves are counted where a stand was made
-pub record IsCountedTo (old new : Option Stand) (n left_ all : ℕ) : Type 0 where
+pub record IsCountedTo (old new : Option LaneState) (n left_ all : ℕ) : Type 0 where
   pub made : is_some new ≡ is_some old
   pub places : places_in new ≡ places_in old
   pub late : late_in new ≡ late_in old
@@ -46,7 +46,7 @@ pub record IsCountedTo (old new : Option Stand) (n left_ all : ℕ) : Type 0 whe
   pub none : is_some old ≡ false → going_in new ≡ 0
   pub going : is_some old ≡ true → going_in new + left_ ≡ all
 
-pub counted_more : (a b c : Option Stand) (n m l all : ℕ) → m ≡ suc l → IsCountedTo a b n m all → CountsOneMore b c → IsCountedTo a c (n + 1) l all
+pub counted_more : (a b c : Option LaneState) (n m l all : ℕ) → m ≡ suc l → IsCountedTo a b n m all → CountsOneMore b c → IsCountedTo a c (n + 1) l all
 counted_more a b c n m l all is x y = record {
   made = y.made ∙ x.made;
   places = y.places ∙ x.places;
@@ -61,7 +61,7 @@ counted_more a b c n m l all is x y = record {
     few true e = let more : going_in c ≡ going_in b + 1 = y.going ∙ ap (λ s. cond s (going_in b + 1) 0) e in omega (arith, more, x.few)
     few false e = let more : going_in c ≡ 0 = y.going ∙ ap (λ s. cond s (going_in b + 1) 0) e in omega (arith, more)
 
-pub counted_same : (a b c : Option Stand) (n m l all : ℕ) → m ≡ l → c ≡ b → IsCountedTo a b n m all → IsCountedTo a c (n + 1) l all
+pub counted_same : (a b c : Option LaneState) (n m l all : ℕ) → m ≡ l → c ≡ b → IsCountedTo a b n m all → IsCountedTo a c (n + 1) l all
 counted_same a b c n m l all is same x = subst (λ s. IsCountedTo a s (n + 1) l all) (sym same) (record {
   made = x.made;
   places = x.places;

@@ -3,8 +3,8 @@ use Rattle.std.specs.Prelude.{ℕ, ◌≡◌, ◌+◌, ◌*◌, ◌<◌, ◌≤�
 use Rattle.std.specs.List.{list_any}
 use Rattle.cml_value.specs.declared.number.Tid.{Tid}
 use Rattle.cml_channel.specs.Lanes.{is_others, is_of}
-use Rattle.cml_channel.specs.Pairings.{whom}
-use Rattle.cml_channel.specs.declared.lane.Whom.{Whom}
+use Rattle.cml_channel.specs.Pairings.{partner_threads}
+use Rattle.cml_channel.specs.declared.lane.PartnerThreads.{PartnerThreads}
 use Rattle.cml_channel.specs.declared.pairing.PairedId.{PairedId}
 use Rattle.cml_index.specs.declared.slot.Slot.TheVariants.{Side}
 use Rattle.cml_index.specs.Slots.{lane_of}
@@ -54,12 +54,12 @@ is_beside (Some tid) q = is_others tid q
 is_beside None q = true
 
 -- the heads that have, among these offers, one of those whom they meet
-abbrev pub met_among : (Tid → Whom) → List Place → List Place → List Place
+abbrev pub met_among : (Tid → PartnerThreads) → List Place → List Place → List Place
 met_among meets others heads = filter (λ q. list_any (is_of (meets q.tid)) others) heads
 
 -- the leaves that can stand first on the object and have a partner there
 abbrev pub heads_on : List PlainOffer → PairedId → List Place
-heads_on os n = met_among (whom n.kind) (lane_of slot_of (met_lane n) os) (lane_of slot_of (Side true n) os)
+heads_on os n = met_among (partner_threads n.kind) (lane_of slot_of (met_lane n) os) (lane_of slot_of (Side true n) os)
 
 -- The place is the one of this number among those that were sought, and at most three looks were made for each of the lane that is not
 -- after it. The last two are the looks before the search and after it.

@@ -8,4 +8,5 @@ pub mod Seats
 pub mod Posts
 pub mod Told
 pub mod Heads
+pub mod Waits
 pub mod Cores

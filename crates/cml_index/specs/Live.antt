@@ -2,8 +2,8 @@
 use Rattle.std.specs.Prelude.{ℕ, ◌≡◌, ◌<◌, Bool, true, false, ◌&&◌, ◌||◌, nat_lt, List, ◌++◌, Option, length, map}
 use Rattle.std.specs.List.{list_any}
 use Rattle.cml_channel.specs.Pairings.{one_lane}
-use Rattle.cml_channel.specs.declared.pairing.Pairing.{Pairing}
-use Rattle.cml_channel.specs.declared.pairing.Pairing.TheVariants.{Channel, Swap}
+use Rattle.cml_channel.specs.declared.pairing.PairedKind.{PairedKind}
+use Rattle.cml_channel.specs.declared.pairing.PairedKind.TheVariants.{Channel, Swap}
 use Rattle.cml_channel.specs.declared.pairing.PairedId.{PairedId}
 use Rattle.cml_index.specs.declared.slot.Slot.{Slot}
 use Rattle.cml_index.specs.declared.slot.Slot.TheVariants.{Side}
@@ -31,7 +31,7 @@ abbrev pub have_side : PairedId → List (Option Slot) → Bool
 have_side n ss = list_any (has_side n) ss
 
 -- the numbers that are kept of the objects of the kind
-abbrev pub kind_numbers : Live → Pairing → PlainNumbers
+abbrev pub kind_numbers : Live → PairedKind → PlainNumbers
 kind_numbers live Channel = live.channels
 kind_numbers live Swap = live.swaps
 

@@ -1,5 +1,5 @@
 -- What the index keeps: the pending threads with their groups, and what it was told of lights.
-use Rattle.std.specs.Prelude.{ℕ, ◌≡◌, ◌++◌, ◌<◌, ◌^◌, Bool, true, false, if◌then◌else◌, List, [], ◌∷◌, Option, Some, None, Result, OnOk, OnErr, map, filter, length, is_some}
+use Rattle.std.specs.Prelude.{ℕ, ◌≡◌, ◌++◌, ◌<◌, ◌^◌, Bool, true, false, if◌then◌else◌, List, [], ◌∷◌, Option, Some, None, Result, OnOk, OnErr, filter, length, is_some}
 use Rattle.std.specs.Option.{option_map_or}
 use Rattle.std.specs.Map.{lookup}
 use Rattle.std.specs.Coded.{Coded, code_by, coded×, coded_list, coded_bool}
@@ -23,14 +23,13 @@ use Rattle.cml_value.specs.declared.number.Tid.{Tid}
 use Rattle.std.specs.Borrow.{Bor}
 use Rattle.cml_scan.specs.declared.object.Light.{Light}
 use Rattle.cml_scan.specs.declared.object.Light.TheVariants.{Nack}
-use Rattle.cml_channel.specs.declared.pairing.Pairing.{Pairing}
-use Rattle.cml_channel.specs.declared.pairing.Pairing.TheVariants.{Channel, Swap}
+use Rattle.cml_channel.specs.declared.pairing.PairedKind.{PairedKind}
+use Rattle.cml_channel.specs.declared.pairing.PairedKind.TheVariants.{Channel, Swap}
 use Rattle.cml_index.specs.declared.slot.Slot.{Slot}
 use Rattle.cml_index.specs.declared.slot.Slot.TheVariants.{Side, Waiters}
 use Rattle.cml_channel.specs.Pairings.{side_place}
 use Rattle.cml_index.specs.Slot.{same_slot, slot_by}
-use Rattle.cml_index.specs.Slots.{slot_in, going_at, lane_of, AreLanes}
-use Rattle.cml_index.specs.declared.slot.Wait.{Wait}
+use Rattle.cml_index.specs.Slots.{going_at, lane_of, AreLanes}
 use Rattle.std.specs.List.{flat_map}
 
 -- the lane of a base event: that of its side, where it is a side of an object over which two threads meet, or that of its light
@@ -41,7 +40,7 @@ slot_of b = slot_by (side_place b) b
 abbrev pub rows_at : (Light → Bool) → List PlainOffer → Place → PlainBase → List Meet
 rows_at told os p b = (if lit_by told b then Single p.tid p.leaf ∷ [] else []) ++ pairs_with os (record { thread = p.tid.0; leaf = p.leaf; base = b })
 
--- what was told of a light, where these were told: any other is unlit
+-- what was told of a light, by these; where nothing was, it is unlit
 abbrev pub told : List (Slot × Bool) → Light → Bool
 told flags l = option_map_or (λ b. b) (lookup (same_slot (Waiters l)) flags) false
 
@@ -53,13 +52,6 @@ pub record PlainIndex : Type 0 where
 -- the leaves of these threads that can be taken alone
 abbrev pub lit_offers : List (Slot × Bool) → List PlainEntry → List PlainOffer
 lit_offers flags entries = filter (λ o. lit_by (told flags) o.base) (offers_of entries)
-
--- what is kept beside a group: its base events, and what its leaves wait for
-pub record IsPost (group : PlainGroup) (kept : List PlainBase) (waits : List Wait) : Type 0 where
-  pub same : kept ≡ bases group
-  pub slots : map slot_in waits ≡ map slot_of (bases group)
-  pub many : length waits ≡ length (bases group)
-  pub small : length (bases group) < 2 ^ 32
 
 -- the nacks of the scopes in these groups
 abbrev pub nacks_in : List PlainEntry → List ℕ
@@ -124,11 +116,11 @@ came_leaves None = 0
 came_leaves (Some c) = length (bases c.1.now)
 
 -- The codes of the above: trees of numbers from which they can be read back. The toolchain asks for them; no rule uses them.
-abbrev pub kind_gv : Pairing → ℕ
+abbrev pub kind_gv : PairedKind → ℕ
 kind_gv Channel = 0
 kind_gv Swap = 1
 
-pub kind_gv_inj : (a b : Pairing) → kind_gv a ≡ kind_gv b → a ≡ b
+pub kind_gv_inj : (a b : PairedKind) → kind_gv a ≡ kind_gv b → a ≡ b
 kind_gv_inj Channel Channel p = refl
 kind_gv_inj Swap Swap p = refl
 kind_gv_inj Channel Swap p = cc

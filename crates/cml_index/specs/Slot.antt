@@ -5,10 +5,10 @@ use Rattle.cml_value.specs.Value.{PlainBase}
 use Rattle.cml_value.specs.declared.number.Tid.{Tid}
 use Rattle.cml_scan.specs.Light.{light}
 use Rattle.cml_scan.specs.contracts.object.LightHash.TheImpl as of_light
-use Rattle.cml_channel.specs.declared.lane.Whom.{Whom}
+use Rattle.cml_channel.specs.declared.lane.PartnerThreads.{PartnerThreads}
 use Rattle.cml_channel.specs.declared.pairing.PairedId.{PairedId}
 use Rattle.cml_channel.specs.declared.pairing.SidePlace.{SidePlace}
-use Rattle.cml_channel.specs.Pairings.{one_lane, side_place, whom}
+use Rattle.cml_channel.specs.Pairings.{one_lane, side_place, partner_threads}
 use Rattle.cml_index.specs.declared.slot.Slot.{Slot}
 use Rattle.cml_index.specs.declared.slot.Slot.TheVariants.{Side, Waiters}
 use Rattle.cml_index.specs.contracts.slot.SlotPartialEq.TheImpl as derived
@@ -30,10 +30,10 @@ slot_by None b = option_map Waiters (light b)
 abbrev pub met_lane : PairedId → Slot
 met_lane object = Side (one_lane object.kind) object
 
-abbrev pub met_at : Option SidePlace → Tid → Option (Slot × Whom)
-met_at (Some side) tid = if side.heads then Some (met_lane side.object, whom side.object.kind tid) else None
+abbrev pub met_at : Option SidePlace → Tid → Option (Slot × PartnerThreads)
+met_at (Some side) tid = if side.heads then Some (met_lane side.object, partner_threads side.object.kind tid) else None
 met_at None tid = None
 
 -- the lane of those whom a base event of the thread meets, where it is a side that can stand first, and which of them
-abbrev pub met_by : PlainBase → Tid → Option (Slot × Whom)
+abbrev pub met_by : PlainBase → Tid → Option (Slot × PartnerThreads)
 met_by b tid = met_at (side_place b) tid

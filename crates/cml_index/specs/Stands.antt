@@ -10,18 +10,18 @@ use Rattle.cml_scan.specs.declared.object.Light.{Light}
 use Rattle.cml_scan.specs.declared.object.Light.TheVariants as of
 use Rattle.cml_scan.specs.Order.{Every, Ascends}
 use Rattle.cml_channel.specs.Lanes.{PlainLane, with_run, others, is_own, is_others}
-use Rattle.cml_channel.specs.declared.pairing.Pairing.{Pairing}
-use Rattle.cml_channel.specs.declared.pairing.Pairing.TheVariants.{Channel, Swap}
+use Rattle.cml_channel.specs.declared.pairing.PairedKind.{PairedKind}
+use Rattle.cml_channel.specs.declared.pairing.PairedKind.TheVariants.{Channel, Swap}
 use Rattle.cml_index.specs.declared.slot.Slot.{Slot}
 use Rattle.cml_index.specs.declared.slot.Slot.TheVariants.{Side, Waiters}
-use Rattle.cml_index.specs.declared.slot.Row.{Row}
-use Rattle.cml_index.specs.declared.slot.Row.TheVariants.{Senders, Receivers, Swappers, Swapped, IVars, MVars, Mailboxes, Ports, Joins, Nacks}
+use Rattle.cml_index.specs.declared.slot.LaneKind.{LaneKind}
+use Rattle.cml_index.specs.declared.slot.LaneKind.TheVariants.{Senders, Receivers, Swappers, Swapped, IVars, MVars, Mailboxes, Ports, Joins, Nacks}
 use Rattle.cml_index.specs.declared.slot.Spot.{Spot}
 use Rattle.cml_index.specs.declared.slot.Spot.TheVariants.{Listed, Tick}
-use Rattle.cml_index.specs.declared.stand.Stand.{Stand}
+use Rattle.cml_index.specs.declared.stand.LaneState.{LaneState}
 use Rattle.cml_index.specs.declared.lanes.Lanes.{Lanes}
 use Rattle.cml_index.specs.contracts.lanes.Lanes.{the_row}
-use Rattle.cml_index.specs.contracts.stand.Stand.{the_row as stand_row}
+use Rattle.cml_index.specs.contracts.stand.LaneState.{the_row as stand_row}
 use Rattle.std.specs.contracts.vec.Vec as vec
 use Rattle.std.specs.contracts.alloc.Global as global
 use Rattle.std.specs.contracts.impls.GlobalAllocator.TheImpl.{ghosts}
@@ -36,16 +36,16 @@ abbrev pub after_going : Tid → ℕ → List Place → List Place
 after_going tid going ps = if nat_lt 0 going then others tid ps else ps
 
 -- What stands at a place where a stand was made or not: the offers, the leaves that are to come, how many are to go, and the room.
-abbrev pub places_in : Option Stand → List Place
+abbrev pub places_in : Option LaneState → List Place
 places_in s = option_map_or (λ s. s.lane.places) s []
 
-abbrev pub late_in : Option Stand → List ℕ
+abbrev pub late_in : Option LaneState → List ℕ
 late_in s = option_map_or (λ s. s.late.items) s []
 
-abbrev pub going_in : Option Stand → ℕ
+abbrev pub going_in : Option LaneState → ℕ
 going_in s = option_map_or (λ s. s.going) s 0
 
-abbrev pub room_in : Option Stand → ℕ
+abbrev pub room_in : Option LaneState → ℕ
 room_in s = option_map_or (λ s. s.lane.room) s 0
 
 -- the offers in a lane, if there is one
@@ -53,26 +53,26 @@ abbrev pub of_lane : Option PlainLane → List Place
 of_lane l = option_map_or (λ l. l.places) l []
 
 -- the same offers stand there, and the same leaves are to come and to go; and there is no less room
-pub record IsAlike (new old : Option Stand) : Type 0 where
+pub record IsAlike (new old : Option LaneState) : Type 0 where
   pub places : places_in new ≡ places_in old
   pub late : late_in new ≡ late_in old
   pub going : going_in new ≡ going_in old
   pub room : room_in old ≤ room_in new
 
 -- the same offers stand there, and the same leaves are to come and to go
-pub record IsLike (new old : Option Stand) : Type 0 where
+pub record IsLike (new old : Option LaneState) : Type 0 where
   pub places : places_in new ≡ places_in old
   pub late : late_in new ≡ late_in old
   pub going : going_in new ≡ going_in old
 
 -- nobody stands there, or is to come or to go
-pub record IsEmpty (s : Option Stand) : Type 0 where
+pub record IsEmpty (s : Option LaneState) : Type 0 where
   pub places : places_in s ≡ []
   pub late : late_in s ≡ []
   pub going : going_in s ≡ 0
 
 -- the leaf is to come, and there is room for all that are
-pub record IsNoted {A E : Type 0} (result : Result A E) (leaf : ℕ) (old new : Option Stand) : Type 0 where
+pub record IsNoted {A E : Type 0} (result : Result A E) (leaf : ℕ) (old new : Option LaneState) : Type 0 where
   pub places : places_in new ≡ places_in old
   pub going : going_in new ≡ going_in old
   pub kept : room_in old ≤ room_in new
@@ -81,32 +81,32 @@ pub record IsNoted {A E : Type 0} (result : Result A E) (leaf : ℕ) (old new : 
   pub none : OnErr result (late_in new ≡ late_in old)
 
 -- the leaves that are to come can: they ascend, there is room for them, and no other of the thread is there
-pub record CanCome (tid : Tid) (s : Option Stand) : Type 0 where
+pub record CanCome (tid : Tid) (s : Option LaneState) : Type 0 where
   pub room : length (late_in s) ≤ room_in s
   pub new : 0 < length (late_in s) → Every (is_others tid) (places_in s)
   pub ascend : Ascends nat_lt (late_in s)
 
-pub record HasCome (tid : Tid) (old new : Option Stand) : Type 0 where
+pub record HasCome (tid : Tid) (old new : Option LaneState) : Type 0 where
   pub places : places_in new ≡ joined tid (late_in old) (places_in old)
   pub late : late_in new ≡ []
   pub going : going_in new ≡ going_in old
 
 -- if any leaf is to come, the lane has fewer offers than two to the power of this number of binary digits
-abbrev pub ComesWithin : ℕ → Option Stand → Type 0
+abbrev pub ComesWithin : ℕ → Option LaneState → Type 0
 ComesWithin digits s = 0 < length (late_in s) → length (places_in s) < 2 ^ digits
 
 -- the same, if any is to go
-abbrev pub GoesWithin : ℕ → Option Stand → Type 0
+abbrev pub GoesWithin : ℕ → Option LaneState → Type 0
 GoesWithin digits s = 0 < going_in s → length (places_in s) < 2 ^ digits
 
-pub record HasForgone (old new : Option Stand) : Type 0 where
+pub record HasForgone (old new : Option LaneState) : Type 0 where
   pub places : places_in new ≡ places_in old
   pub late : late_in new ≡ []
   pub going : going_in new ≡ going_in old
   pub room : room_in new ≡ room_in old
 
 -- one more is to go, if the stand was made
-pub record CountsOneMore (old new : Option Stand) : Type 0 where
+pub record CountsOneMore (old new : Option LaneState) : Type 0 where
   pub places : places_in new ≡ places_in old
   pub late : late_in new ≡ late_in old
   pub made : is_some new ≡ is_some old
@@ -114,17 +114,17 @@ pub record CountsOneMore (old new : Option Stand) : Type 0 where
   pub room : room_in new ≡ room_in old
 
 -- the leaves that are to go, if there are any, are all of the thread
-abbrev pub CanGo : Tid → Option Stand → Type 0
+abbrev pub CanGo : Tid → Option LaneState → Type 0
 CanGo tid s = 0 < going_in s → going_in s ≡ length (filter (is_own tid) (places_in s))
 
-pub record HasGone (tid : Tid) (old new : Option Stand) : Type 0 where
+pub record HasGone (tid : Tid) (old new : Option LaneState) : Type 0 where
   pub places : places_in new ≡ after_going tid (going_in old) (places_in old)
   pub late : late_in new ≡ late_in old
   pub going : going_in new ≡ 0
   pub room : room_in old ≤ room_in new
 
 -- where the lane of a slot is kept
-abbrev pub side_row : Pairing → Bool → Row
+abbrev pub side_row : PairedKind → Bool → LaneKind
 side_row Channel true = Senders
 side_row Channel false = Receivers
 side_row Swap true = Swappers
@@ -144,7 +144,7 @@ spot_of (Side heads object) = Listed (side_row object.kind heads) object.number
 spot_of (Waiters l) = light_spot l
 
 -- the lanes of one kind
-abbrev pub lanes_in : Lanes → Row → Vec Stand Global
+abbrev pub lanes_in : Lanes → LaneKind → Vec LaneState Global
 lanes_in x Senders = x.senders
 lanes_in x Receivers = x.receivers
 lanes_in x Swappers = x.swappers
@@ -156,7 +156,7 @@ lanes_in x Ports = x.ports
 lanes_in x Joins = x.joins
 lanes_in x Nacks = x.nacks
 
-abbrev pub with_row : Lanes → Row → Vec Stand Global → Lanes
+abbrev pub with_row : Lanes → LaneKind → Vec LaneState Global → Lanes
 with_row x Senders v = record x { senders = v }
 with_row x Receivers v = record x { receivers = v }
 with_row x Swappers v = record x { swappers = v }
@@ -169,13 +169,13 @@ with_row x Joins v = record x { joins = v }
 with_row x Nacks v = record x { nacks = v }
 
 -- the lanes of one kind are lent
-abbrev pub LendsRow : MutBor Lanes → Row → MutBor (Vec Stand Global) → Fml
+abbrev pub LendsRow : MutBor Lanes → LaneKind → MutBor (Vec LaneState Global) → Fml
 LendsRow s row r = Lends the_row (vec.the_row stand_row global.the_row ghosts) s r (with_row s.now row)
 
 -- what is kept at a spot, if it was made
-abbrev pub stand_in : Lanes → Spot → Option Stand
+abbrev pub stand_in : Lanes → Spot → Option LaneState
 stand_in x (Listed row number) = slice_get (lanes_in x row).items number
 stand_in x (Tick tick) = get (λ a b. a == b) x.ticks tick
 
-abbrev pub stand_at : Lanes → Slot → Option Stand
+abbrev pub stand_at : Lanes → Slot → Option LaneState
 stand_at x k = stand_in x (spot_of k)

@@ -20,7 +20,7 @@ flag_of x (of.Joined t) = slice_get x.joins.items t.0
 flag_of x (of.Nack k) = slice_get x.nacks.items k.0
 flag_of x (of.Alarm t) = get (λ a b. a == b) x.ticks t
 
--- what was told, where something was: another light is unlit
+-- what was told of a light; where nothing was, it is unlit
 abbrev pub lit_in : Option Bool → Bool
 lit_in flag = option_map_or (λ b. b) flag false
 

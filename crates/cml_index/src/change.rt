@@ -12,14 +12,14 @@ ghost use Rattle.cml_index.specs.Slots.{HaveDigits};
 use crate::entry::Entry;
 use crate::flags::forget_light;
 use crate::nacks::reserve_lights;
-use crate::state::Core;
+use crate::state::IndexState;
 use cml_channel::Tally;
 use cml_scan::Light;
 use cml_value::{Group, Tid};
 use std::alloc::{AllocError, Global};
 
-impl Core {
-    // Tells the same of these lights. It takes no memory.
+impl IndexState {
+    // Tells of all these lights that they are lit, or that they are not. It takes no memory.
     fn tell_all(&mut self, lights: &[Light], lit: bool, tally: &mut Tally)
         requires indexed { IsIndexed self.old }
         requires there { lit ≡ true → spec.HavePlaces self.old.flags.entries lights.now }
@@ -35,7 +35,7 @@ impl Core {
         }
     }
 
-    // Tells of the lights, which have their places where they are told to be lit, and then the threads go. It takes no memory.
+    // Tells of the lights, and then takes out the threads that go. Lights that are told to be lit have their places. It takes no memory.
     fn tell_and_leave(&mut self, gone: &[Tid], lit: &[Light], unlit: &[Light], tally: &mut Tally)
         requires indexed { IsIndexed self.old }
         requires there { AreThere self.old.entries.items gone.now }
@@ -53,8 +53,8 @@ impl Core {
         self.leave_all(gone, tally);
     }
 
-    // Forgets a light that was told to be unlit, if it is a tick, of which there is no end: it loses its place, and its lane is removed if
-    // nobody stands in it.
+    // Forgets a light that was told to be unlit, if it is that of a tick. (There is no end of ticks, so they are not kept.) Its place goes,
+    // and its lane too if nobody stands in it.
     fn forget(&mut self, light: Light)
         requires indexed { IsIndexed self.old }
         requires idle { IsAtRest self.old }
@@ -89,7 +89,7 @@ impl Core {
         }
     }
 
-    // A change in which no thread comes.
+    // Makes a change in which no thread comes.
     pub(crate) fn leave_only(
         &mut self,
         gone: &[Tid],
@@ -115,7 +115,7 @@ impl Core {
         Ok(())
     }
 
-    // A change in which the thread comes, with its group.
+    // Makes a change in which the thread comes, with its group.
     pub(crate) fn leave_and_come(
         &mut self,
         alloc: Global,
@@ -138,7 +138,7 @@ impl Core {
             + (self.old.leaves + 2 * length (bases comer.entry.1.now)) * (digits + 2)
             + (length lit.now + length unlit.now)) }
     {
-        let entry = Entry::new(alloc, comer.0, comer.1)?;
+        let entry = self.entry(alloc, comer.0, comer.1)?;
         let Ok(()) = self.make_ready(alloc, &entry, lit) else {
             drop(entry);
             return Err(AllocError);

@@ -6,7 +6,7 @@ ghost use Rattle.cml_scan.specs.declared.meet.Place.{Place};
 ghost use Rattle.cml_scan.specs.Order.{Ascends, before};
 ghost use Rattle.cml_scan.specs.Scan.{offers_of};
 ghost use Rattle.cml_channel.specs.Lanes.{is_others};
-ghost use Rattle.cml_channel.specs.declared.lane.Whom.TheVariants.{Others, Above};
+ghost use Rattle.cml_channel.specs.declared.lane.PartnerThreads.TheVariants.{Others, Above};
 ghost use Rattle.cml_index.specs.declared.heads.HeadKind.TheVariants.{Met};
 ghost use Rattle.cml_index.specs.declared.slot.Slot.TheVariants.{Side};
 ghost use Rattle.cml_index.specs.Slots.{lane_at};
@@ -15,8 +15,8 @@ ghost use Rattle.cml_index.specs.Posts as spec;
 ghost use Rattle.cml_index.specs.Cores.{IsIndexed};
 
 use crate::slot::Slot;
-use crate::state::Core;
-use cml_channel::{Lane, PairedId, Tally, Whom};
+use crate::state::IndexState;
+use cml_channel::{Lane, PairedId, PartnerThreads, Tally};
 use cml_value::Tid;
 
 // The thread of all offers in the lane, if they are of one thread alone: two looks.
@@ -36,7 +36,7 @@ pub(crate) fn only_thread(lane: &Lane, tally: &mut Tally) -> Option<Tid>
     }
 }
 
-// How many of the heads have an offer of another thread among the others.
+// How many offers in the lane of heads can meet an offer of another thread in the other lane.
 fn count_among(heads: &Lane, others: &Lane, tally: &mut Tally) -> usize
     requires sorted { Ascends before others.now.places }
     ensures count { result ≡ length (met_among Others others.now.places heads.now.places) }
@@ -47,13 +47,13 @@ fn count_among(heads: &Lane, others: &Lane, tally: &mut Tally) -> usize
         return 0;
     }
     match only_thread(others, tally) {
-        Some(tid) => heads.others_count(Whom::Others(tid), tally),
+        Some(tid) => heads.others_count(PartnerThreads::Others(tid), tally),
         None => heads.len(),
     }
 }
 
-// How many of the heads have an offer of another thread in the lane of this slot.
-fn count_beside(core: &Core, heads: &Lane, slot: Slot, tally: &mut Tally) -> usize
+// The same, where the other lane is that of this slot.
+fn count_beside(core: &IndexState, heads: &Lane, slot: Slot, tally: &mut Tally) -> usize
     requires { Ascends before (lane_at core.now.lanes slot) }
     ensures count { result
         ≡ length (met_among Others (lane_at core.now.lanes slot) heads.now.places) }
@@ -66,7 +66,7 @@ fn count_beside(core: &Core, heads: &Lane, slot: Slot, tally: &mut Tally) -> usi
     }
 }
 
-// How many of the offers have one of a thread above their own beside them in the lane: one look at the last, and a search.
+// How many offers on a swap channel are heads: the lane also has an offer of a higher thread. One look at the last, and a search.
 fn count_below(lane: &Lane, tally: &mut Tally) -> usize
     requires { Ascends before lane.now.places }
     ensures count { result ≡ length (met_among Above lane.now.places lane.now.places) }
@@ -81,7 +81,7 @@ fn count_below(lane: &Lane, tally: &mut Tally) -> usize
 }
 
 // How many leaves on the object have a partner that they head.
-fn count_on(core: &Core, object: PairedId, tally: &mut Tally) -> usize
+fn count_on(core: &IndexState, object: PairedId, tally: &mut Tally) -> usize
     requires { IsIndexed core.now }
     ensures count { result ≡ length (heads_on (offers_of core.now.entries.items) object) }
     ensures cost { tally.new ≤ tally.old
@@ -109,13 +109,14 @@ fn count_on(core: &Core, object: PairedId, tally: &mut Tally) -> usize
 }
 
 // How many leaves have a partner.
-pub(crate) fn count_met(core: &Core, tally: &mut Tally) -> usize
+pub(crate) fn count_met(core: &IndexState, tally: &mut Tally) -> usize
     requires { IsIndexed core.now }
     ensures count { result
         ≡ length (filter (is_sought Met core.now.flags.entries (offers_of core.now.entries.items))
         (offers_of core.now.entries.items)) }
     ensures cost { tally.new ≤ tally.old + 3 * length (offers_of core.now.entries.items) }
 {
+    // Read for the proof alone, which uses what is promised of it.
     let _leaves = core.leaves;
     let mut count = 0;
     for i in 0..core.live.len() {

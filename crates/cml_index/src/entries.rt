@@ -54,11 +54,15 @@ impl Model for Entries {
     ghost invariant = { λ x. AreSeats x.seats.items x.pending };
 }
 
-// How many of these seats are of threads below this one.
+// How many of these seats are of threads below this one. Where each thread below it has a seat, its own is at its number.
 fn seats_below(seats: &[Seat], tid: Tid) -> usize
     requires { Ascends spec.seat_before seats.now }
     ensures { result ≡ spec.count_seats tid.0 seats.now }
 {
+    let own = tid.0 as usize;
+    if has_seat(seats, own, tid) {
+        return own;
+    }
     let mut low = 0;
     let mut high = seats.len();
     while low < high {
@@ -87,6 +91,7 @@ impl Entries {
     pub(crate) fn seats(&self) -> &[Seat]
         ensures { spec.seated result.now ≡ self.now.items }
     {
+        // Read for the proof alone, which uses what is promised of it.
         let _pending = self.pending;
         self.seats.as_slice()
     }
@@ -95,6 +100,7 @@ impl Entries {
     pub(crate) fn get(&self, tid: Tid) -> Option<&Entry>
         ensures { spec.IsEntryOf tid self.now.items result }
     {
+        // Read for the proof alone, which uses what is promised of it.
         let _pending = self.pending;
         let at = seats_below(&self.seats, tid);
         if at >= self.seats.len() {

@@ -1,35 +1,40 @@
 //! A pending thread, and what the index keeps of its group.
 
-ghost use Rattle.std.specs.Prelude.{◌≡◌, ◌≤◌, ◌<◌, ◌^◌, length, map, IfOk};
-ghost use Rattle.cml_value.specs.Group.{bases};
+ghost use Rattle.std.specs.Prelude.{◌≡◌, ◌≤◌, ◌<◌, ◌^◌, ◌++◌, [], length, map, IfOk};
+ghost use Rattle.cml_value.specs.Group.{bases, scopes, nacks_of, never};
 ghost use Rattle.cml_index.specs.Posts.{slot_of};
 ghost use Rattle.cml_index.specs.Slots.{slot_in};
+ghost use Rattle.cml_index.specs.Waits.{leaf_wait};
 
 use crate::slot::Wait;
-use cml_scan::{Place, leaf_bases};
-use cml_value::{Base, Group, Tid};
+use cml_scan::Place;
+use cml_value::{Group, GroupKind, Tid};
 use std::alloc::{AllocError, Global};
 use std::marker::Model;
+use std::mem::replace;
 
 // A pending thread, with its group.
 #[derive(Drop)]
-struct Post {
+struct PendingThread {
     tid: Tid,
     group: Group,
-    bases: Vec<Base>,
     waits: Vec<Wait>,
+    // the nacks of the group's scopes
+    nacks: Vec<u32>,
 }
 
 // A pending thread, with its group. It is 8 bytes long, since all entries after it are moved when one comes or goes.
 #[derive(Drop)]
 pub(crate) struct Entry {
-    post: Box<Post>,
+    post: Box<PendingThread>,
 }
 
 impl Model for Entry {
     ghost use Rattle.cml_scan.specs.World.{PlainEntry};
     ghost use Rattle.cml_scan.specs.Codes.{entry_code};
-    ghost use Rattle.cml_index.specs.Posts.{IsPost};
+    ghost use Rattle.cml_index.specs.Waits.{IsPost};
+    ghost use Rattle.cml_value.specs.Group.{scopes, nacks_of};
+    ghost use Rattle.std.specs.Prelude.{◌≡◌};
 
     ghost Value = { PlainEntry };
 
@@ -37,7 +42,8 @@ impl Model for Entry {
 
     ghost view = { λ e. record { thread = e.post.value.tid.0; group = e.post.value.group } };
 
-    ghost invariant = { λ e. IsPost e.post.value.group e.post.value.bases.items e.post.value.waits.items };
+    ghost invariant = { λ e. (IsPost e.post.value.group e.post.value.waits.items)
+        × (e.post.value.nacks.items ≡ nacks_of (scopes e.post.value.group)) };
 }
 
 // How many leaves there are, as the number of a leaf. There is no memory for a list in which the number is too large for one.
@@ -47,16 +53,43 @@ fn number(count: usize) -> Result<u32, AllocError>
     u32::try_from(count).map_err(|_| AllocError)
 }
 
-// What leaves of these base events wait for.
-fn waits_of(alloc: Global, bases: &[Base]) -> Result<Vec<Wait>, AllocError>
-    ensures { IfOk result (λ waits. (map slot_in waits.items ≡ map slot_of bases.now)
-        × (length waits.items ≡ length bases.now)) }
+// Appends what the group's leaves wait for, and the nacks of its scopes. Where memory runs out, what was appended until then stays.
+#[tactic(auto, using(crate::proofs::Waits::wait_steps, crate::proofs::Scopes::nack_steps))]
+fn push_waits(all: &mut Vec<Wait>, nacks: &mut Vec<u32>, group: &Group) -> Result<(), AllocError>
+    ensures waits { IfOk result (λ _. all.new.items ≡ all.old.items ++ map leaf_wait (bases group.now)) }
+    ensures nacks { IfOk result (λ _. nacks.new.items ≡ nacks.old.items ++ nacks_of (scopes group.now)) }
 {
-    let mut waits = Vec::new(alloc);
-    for base in bases {
-        waits.push(Wait::of(base))?;
+    match group.kind() {
+        GroupKind::Never => Ok(()),
+        GroupKind::Leaf(b) => {
+            all.push(Wait::of(b))?;
+            Ok(())
+        }
+        GroupKind::Choose(members) => {
+            for member in members.iter() {
+                push_waits(all, nacks, member)?;
+            }
+            Ok(())
+        }
+        GroupKind::Wrap(inner, _) => push_waits(all, nacks, inner),
+        GroupKind::Scope(nack, inner) => {
+            nacks.push(nack.0)?;
+            push_waits(all, nacks, inner)
+        }
     }
-    Ok(waits)
+}
+
+// A copy of the group, and what its leaves wait for and the nacks of its scopes in these lists, which were empty.
+fn renewed(waits: &mut Vec<Wait>, nacks: &mut Vec<u32>, group: &Group) -> Result<Group, AllocError>
+    requires empty { (waits.old.items ≡ []) × (nacks.old.items ≡ []) }
+    ensures nacks { IfOk result (λ _. nacks.new.items ≡ nacks_of (scopes group.now)) }
+    ensures waits { IfOk result (λ _. waits.new.items ≡ map leaf_wait (bases group.now)) }
+    ensures small { IfOk result (λ _. length waits.new.items < 2 ^ 32) }
+    ensures group { IfOk result (λ copy. copy ≡ group.now) }
+{
+    push_waits(waits, nacks, group)?;
+    let _count = number(waits.len())?;
+    group.copy()
 }
 
 impl Entry {
@@ -64,19 +97,47 @@ impl Entry {
     pub(crate) fn new(alloc: Global, tid: Tid, group: &Group) -> Result<Entry, AllocError>
         ensures { IfOk result (λ e. e ≡ record { thread = tid.0; group = group.now }) }
     {
-        let bases = leaf_bases(alloc, group)?;
-        let _count = number(bases.len())?;
-        let waits = waits_of(alloc, &bases)?;
-        let group = group.copy()?;
-        let post = Post {
+        let (mut waits, mut nacks) = (Vec::new(alloc), Vec::new(alloc));
+        let group = renewed(&mut waits, &mut nacks, group)?;
+        let post = PendingThread {
             tid,
             group,
-            bases,
             waits,
+            nacks,
         };
         Ok(Entry {
             post: Box::new(alloc, post)?,
         })
+    }
+
+    // Becomes the entry of this thread, with a copy of the group, in the lists that it has. Where memory runs out it holds no group.
+    pub(crate) fn renew(&mut self, tid: Tid, group: &Group) -> Result<(), AllocError>
+        ensures { IfOk result (λ _. self.new ≡ record { thread = tid.0; group = group.now }) }
+    {
+        self.rest();
+        let post = &mut *self.post;
+        post.tid = tid;
+        match renewed(&mut post.waits, &mut post.nacks, group) {
+            Ok(copy) => {
+                drop(replace(&mut post.group, copy));
+                Ok(())
+            }
+            Err(error) => {
+                post.waits.clear();
+                post.nacks.clear();
+                Err(error)
+            }
+        }
+    }
+
+    // Lets the group go, and keeps its lists.
+    pub(crate) fn rest(&mut self)
+        ensures { self.new ≡ record { thread = self.old.thread; group = never } }
+    {
+        let post = &mut *self.post;
+        post.group = Group::new(GroupKind::Never);
+        post.waits.clear();
+        post.nacks.clear();
     }
 
     pub(crate) fn tid(&self) -> Tid
@@ -85,38 +146,33 @@ impl Entry {
         self.post.tid
     }
 
-    pub(crate) fn group(&self) -> &Group
-        ensures { result.now ≡ self.now.group }
-    {
-        &self.post.group
-    }
-
     // The place of the leaf.
     pub(crate) fn place(&self, leaf: usize) -> Place
         requires { leaf < length (bases self.now.group) }
         ensures { result ≡ record { tid = record { 0 = self.now.thread }; leaf = leaf } }
     {
-        let _bases = &self.post.bases;
+        // Read for the proof alone, which uses what is promised of it.
+        let _waits = &self.post.waits;
         Place {
             tid: self.post.tid,
             leaf: leaf as u32,
         }
     }
 
-    // The base events of the leaves, from the left.
-    pub(crate) fn bases(&self) -> &[Base]
-        ensures { result.now ≡ bases self.now.group }
+    // The nacks of the group's scopes.
+    pub(crate) fn nacks(&self) -> &[u32]
+        ensures { result.now ≡ nacks_of (scopes self.now.group) }
     {
-        &self.post.bases
+        &self.post.nacks
     }
 
     // What the leaves wait for, from the left.
     pub(crate) fn waits(&self) -> &[Wait]
+        ensures same { result.now ≡ map leaf_wait (bases self.now.group) }
         ensures slots { map slot_in result.now ≡ map slot_of (bases self.now.group) }
         ensures many { length result.now ≡ length (bases self.now.group) }
         ensures small { length result.now < 4294967296 }
     {
-        let _bases = &self.post.bases;
         &self.post.waits
     }
 }

@@ -2,21 +2,21 @@
 
 ghost use Rattle.std.specs.Prelude.{◌≡◌, ◌≤◌, ◌+◌, ◌*◌, [], true, false, not, if◌then◌else◌, length, filter, OnOk, IsOk};
 ghost use Rattle.cml_scan.specs.declared.object.Light.{Light};
-ghost use Rattle.cml_scan.specs.Light.{lit_by};
 ghost use Rattle.cml_scan.specs.Table.{same_light};
 ghost use Rattle.cml_index.specs.declared.slot.Slot.{Slot};
 ghost use Rattle.cml_index.specs.Slot.{same_slot};
 ghost use Rattle.cml_index.specs.Posts as spec;
+ghost use Rattle.cml_index.specs.Waits.{lit_wait};
 ghost use Rattle.cml_index.specs.declared.slot.Slot.TheVariants.{Waiters};
 
+use crate::slot::{Slot, Wait};
 use crate::told::Told;
 use cml_channel::Tally;
-use cml_scan::{Light, light};
-use cml_value::{Base, BaseKind};
+use cml_scan::Light;
 use std::alloc::{AllocError, Global};
 use std::marker::Model;
 
-// What was told last of each light of which something was told, or for which a place is reserved.
+// For each light that was told of, or for which a place is reserved: what was told last.
 #[derive(Drop)]
 pub(crate) struct Flags {
     told: Told,
@@ -50,30 +50,32 @@ pub(crate) fn is_lit(flags: &Flags, light: Light) -> bool
     flags.told.is_lit(light)
 }
 
-// Whether the base event can be taken alone: one light is examined.
-pub(crate) fn is_lit_by(flags: &Flags, base: &Base, tally: &mut Tally) -> bool
-    ensures value { result ≡ lit_by (spec.told flags.now.entries) base.now }
+// Whether a leaf that waits for this can be taken alone: one light is examined.
+#[inline(always)]
+pub(crate) fn is_lit_by(flags: &Flags, wait: Wait, tally: &mut Tally) -> bool
+    ensures value { result ≡ lit_wait (spec.told flags.now.entries) wait }
     ensures cost { tally.new ≤ tally.old + 1 }
 {
     tally.add();
-    match base.kind() {
-        BaseKind::Always(_) => true,
-        _ => match light(base) {
-            Some(l) => is_lit(flags, l),
-            None => false,
+    match wait {
+        Wait::Always => true,
+        Wait::Never => false,
+        Wait::In(slot) => match slot {
+            Slot::Side { .. } => false,
+            Slot::Waiters(light) => is_lit(flags, light),
         },
     }
 }
 
-// How many of these base events can be taken alone: each is looked at, and its light.
-pub(crate) fn count_lit(flags: &Flags, bases: &[Base], tally: &mut Tally) -> usize
-    ensures count { result ≡ length (filter (lit_by (spec.told flags.now.entries)) bases.now) }
-    ensures cost { tally.new ≤ tally.old + 2 * length bases.now }
+// How many of these leaves can be taken alone: each is looked at, and its light.
+pub(crate) fn count_lit(flags: &Flags, waits: &[Wait], tally: &mut Tally) -> usize
+    ensures count { result ≡ length (filter (lit_wait (spec.told flags.now.entries)) waits.now) }
+    ensures cost { tally.new ≤ tally.old + 2 * length waits.now }
 {
     let mut count = 0;
-    for base in bases {
+    for wait in waits {
         tally.add();
-        if is_lit_by(flags, base, tally) {
+        if is_lit_by(flags, *wait, tally) {
             count += 1;
         }
     }
@@ -101,7 +103,8 @@ pub(crate) fn flip(flags: &mut Flags, light: Light, lit: bool) -> bool
     flags.told.flip(light, lit)
 }
 
-// Forgets what was told of the light, which is not lit, if it is a tick. Of others there are no more than objects, and they stay.
+// Forgets what was told of the light, which is not lit, if it is a tick. Those of other lights are no more than there are objects, and they
+// stay.
 pub(crate) fn forget_light(flags: &mut Flags, light: Light)
     requires { spec.told flags.old.entries light ≡ false }
     ensures told { (m : Light) →

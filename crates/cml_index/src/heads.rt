@@ -9,18 +9,20 @@ ghost use Rattle.cml_channel.specs.Lanes.{is_of};
 ghost use Rattle.cml_index.specs.declared.heads.HeadKind.TheVariants.{Met};
 ghost use Rattle.cml_index.specs.Slots.{lane_of};
 ghost use Rattle.cml_index.specs.Heads.{is_sought, IsSought, EndsThere};
+ghost use Rattle.cml_value.specs.Value.{PlainBase};
+ghost use Rattle.cml_index.specs.Waits.{leaf_wait};
 ghost use Rattle.cml_index.specs.Posts as spec;
 ghost use Rattle.cml_index.specs.Cores.{IsIndexed};
 
 use crate::counts::count_met;
 use crate::entry::Entry;
 use crate::flags::is_lit_by;
-use crate::slot::{Slot, met_by};
-use crate::sole::head_on;
-use crate::state::Core;
-use cml_channel::{Tally, Whom};
+use crate::one_object::head_on;
+use crate::slot::{Slot, Wait, met_by};
+use crate::state::IndexState;
+use cml_channel::{PartnerThreads, Tally};
 use cml_scan::Place;
-use cml_value::{Base, Tid};
+use cml_value::Tid;
 
 // Which leaves are sought.
 #[derive(Clone, Copy)]
@@ -36,53 +38,59 @@ pub(crate) enum HeadKind {
 enum Sought {
     // The leaf at this place.
     Found(Place),
-    // This many more are to be passed over.
+    // It is none of these leaves: this many more are to be passed over.
     Left(usize),
 }
 
-// Whether there is an offer in the lane of those that are meant.
-fn has_other(core: &Core, slot: Slot, whom: Whom, tally: &mut Tally) -> bool
+// Whether the lane has an offer of a thread that is meant (`partner_threads`).
+fn has_other(
+    core: &IndexState,
+    slot: Slot,
+    partner_threads: PartnerThreads,
+    tally: &mut Tally,
+) -> bool
     requires { IsIndexed core.now }
-    ensures value { result ≡ list_any (is_of whom)
+    ensures value { result ≡ list_any (is_of partner_threads)
         (lane_of spec.slot_of slot (offers_of core.now.entries.items)) }
     ensures cost { tally.new ≤ tally.old + 2 }
 {
     match core.lanes.lane(slot) {
-        Some(lane) => lane.has_other(whom, tally),
+        Some(lane) => lane.has_other(partner_threads, tally),
         None => false,
     }
 }
 
-// Whether a leaf of the thread that waits for this has a partner.
-fn is_met(core: &Core, tid: Tid, base: &Base, tally: &mut Tally) -> bool
+// Whether a leaf of the thread that waits for this has a partner, whatever its base event is.
+fn is_met(core: &IndexState, tid: Tid, wait: Wait, tally: &mut Tally) -> bool
     requires { IsIndexed core.now }
-    ensures value { (leaf : ℕ) → result ≡ has_partner (offers_of core.now.entries.items)
-        (record { thread = tid.0; leaf = leaf; base = base.now }) }
+    ensures value { (b : PlainBase) → leaf_wait b ≡ wait → (leaf : ℕ) → result
+        ≡ has_partner (offers_of core.now.entries.items)
+        (record { thread = tid.0; leaf = leaf; base = b }) }
     ensures cost { tally.new ≤ tally.old + 2 }
 {
-    match met_by(base, tid) {
-        Some((slot, whom)) => has_other(core, slot, whom, tally),
+    match met_by(wait, tid) {
+        Some((slot, partner_threads)) => has_other(core, slot, partner_threads, tally),
         None => false,
     }
 }
 
 // Whether a leaf of the thread that waits for this is one of those that are sought: it is looked at, and its light or two offers.
-fn is_head(core: &Core, kind: HeadKind, tid: Tid, base: &Base, tally: &mut Tally) -> bool
+fn is_head(core: &IndexState, kind: HeadKind, tid: Tid, wait: Wait, tally: &mut Tally) -> bool
     requires { IsIndexed core.now }
-    ensures value { (leaf : ℕ) → result
+    ensures value { (b : PlainBase) → leaf_wait b ≡ wait → (leaf : ℕ) → result
         ≡ is_sought kind core.now.flags.entries (offers_of core.now.entries.items)
-        (record { thread = tid.0; leaf = leaf; base = base.now }) }
+        (record { thread = tid.0; leaf = leaf; base = b }) }
     ensures cost { tally.new ≤ tally.old + 3 }
 {
     tally.add();
     match kind {
-        HeadKind::Alone => is_lit_by(&core.flags, base, tally),
-        HeadKind::Met => is_met(core, tid, base, tally),
+        HeadKind::Alone => is_lit_by(&core.flags, wait, tally),
+        HeadKind::Met => is_met(core, tid, wait, tally),
     }
 }
 
 // Passes over this many of the leaves of the thread that are sought.
-fn seek_in(core: &Core, kind: HeadKind, entry: &Entry, k: usize, tally: &mut Tally) -> Sought
+fn seek_in(core: &IndexState, kind: HeadKind, entry: &Entry, k: usize, tally: &mut Tally) -> Sought
     requires { IsIndexed core.now }
     ensures value { IsSought result k
         (filter (is_sought kind core.now.flags.entries (offers_of core.now.entries.items))
@@ -91,8 +99,8 @@ fn seek_in(core: &Core, kind: HeadKind, entry: &Entry, k: usize, tally: &mut Tal
     ensures early { EndsThere result entry.now tally.old tally.new }
 {
     let mut left = k;
-    for (leaf, base) in entry.bases().iter().enumerate() {
-        if is_head(core, kind, entry.tid(), base, tally) {
+    for (leaf, wait) in entry.waits().iter().enumerate() {
+        if is_head(core, kind, entry.tid(), *wait, tally) {
             if left == 0 {
                 return Sought::Found(entry.place(leaf));
             }
@@ -103,7 +111,7 @@ fn seek_in(core: &Core, kind: HeadKind, entry: &Entry, k: usize, tally: &mut Tal
 }
 
 // The leaf at this place among those that are sought.
-fn seek(core: &Core, kind: HeadKind, k: usize, tally: &mut Tally) -> Place
+fn seek(core: &IndexState, kind: HeadKind, k: usize, tally: &mut Tally) -> Place
     requires indexed { IsIndexed core.now }
     requires within { k < length (filter
         (is_sought kind core.now.flags.entries (offers_of core.now.entries.items))
@@ -129,7 +137,7 @@ fn seek(core: &Core, kind: HeadKind, k: usize, tally: &mut Tally) -> Place
 }
 
 // The leaf at this place among those that have a partner. Where all stand on one object, it is found in its lane.
-fn head_met(core: &Core, k: usize, tally: &mut Tally) -> Place
+fn head_met(core: &IndexState, k: usize, tally: &mut Tally) -> Place
     requires indexed { IsIndexed core.now }
     requires within { k < length (filter
         (is_sought Met core.now.flags.entries (offers_of core.now.entries.items))
@@ -149,18 +157,19 @@ fn head_met(core: &Core, k: usize, tally: &mut Tally) -> Place
 }
 
 // How many heads there are.
-pub(crate) fn head_count(core: &Core, tally: &mut Tally) -> usize
+pub(crate) fn head_count(core: &IndexState, tally: &mut Tally) -> usize
     requires { IsIndexed core.now }
     ensures count { result ≡ length (heads_of
         (scan_of core.now.entries.items (spec.told core.now.flags.entries))) }
     ensures cost { tally.new ≤ tally.old + 3 * length (offers_of core.now.entries.items) }
 {
+    // Read for the proof alone, which uses what is promised of it.
     let _leaves = core.leaves;
     core.lit + count_met(core, tally)
 }
 
 // The head at this place in their order.
-pub(crate) fn head(core: &Core, k: usize, tally: &mut Tally) -> Place
+pub(crate) fn head(core: &IndexState, k: usize, tally: &mut Tally) -> Place
     requires indexed { IsIndexed core.now }
     requires within { k < length (heads_of
         (scan_of core.now.entries.items (spec.told core.now.flags.entries))) }

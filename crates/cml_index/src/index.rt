@@ -11,19 +11,20 @@ use crate::entries::Entries;
 use crate::flags::{Flags, is_lit_by};
 use crate::lanes::Lanes;
 use crate::live::Live;
-use crate::state::{self, Core};
+use crate::slot::do_meet;
+use crate::state::{self, IndexState};
 use crate::{heads, partners, rows};
-use cml_channel::{Tally, do_meet};
+use cml_channel::Tally;
 use cml_scan::{Light, Meet, Place};
 use cml_value::{Group, Tid};
 use std::alloc::{AllocError, Global};
 use std::marker::Model;
 
-/// A table of communications that keeps no list of rows: two lanes of offers for each channel, one for each swap channel, one of those
-/// who wait for each light, and the pending groups. How long a change takes does not depend on how many rows there are.
+/// A table of communications that keeps no list of rows. It keeps two lanes of offers for each channel, one for each swap channel, one for
+/// each light (the leaves that wait for it), and the pending groups. How long a change takes does not depend on how many rows there are.
 #[derive(Drop)]
 pub struct OfferIndex {
-    core: Core,
+    core: IndexState,
 }
 
 impl Model for OfferIndex {
@@ -49,19 +50,20 @@ impl OfferIndex {
         let live = Live::new(alloc);
         let flags = Flags::new(alloc);
         OfferIndex {
-            core: Core {
+            core: IndexState {
                 entries,
                 lanes,
                 live,
                 flags,
                 leaves: 0,
                 lit: 0,
+                spares: Vec::new(alloc),
             },
         }
     }
 
-    /// Makes a change, and counts what it looks at: at most `digits + 2` for each leaf of the threads that go and of the one that
-    /// comes, and one for each light, where each lane before the change is shorter than two to the power of `digits`.
+    /// Makes a change, and adds to the tally how many offers and lights it looks at. Where each lane before it is shorter than 2^d, that is
+    /// at most d + 2 for each leaf of the threads that go and of the one that comes, and one for each light.
     ///
     /// # Errors
     /// Out of memory: nothing was told.
@@ -99,8 +101,8 @@ impl OfferIndex {
             (base_at place (offers_of self.now.entries)) }
         ensures cost { tally.new ≤ tally.old + 2 }
     {
-        match state::base_at(&self.core.entries, place, tally) {
-            Some(base) => is_lit_by(&self.core.flags, base, tally),
+        match state::wait_at(&self.core.entries, place, tally) {
+            Some(wait) => is_lit_by(&self.core.flags, wait, tally),
             None => false,
         }
     }
@@ -112,10 +114,10 @@ impl OfferIndex {
             (base_at other (offers_of self.now.entries)) }
         ensures cost { tally.new ≤ tally.old + 2 }
     {
-        let first = state::base_at(&self.core.entries, head, tally);
-        let second = state::base_at(&self.core.entries, other, tally);
+        let first = state::wait_at(&self.core.entries, head, tally);
+        let second = state::wait_at(&self.core.entries, other, tally);
         match (first, second) {
-            (Some(b), Some(c)) => do_meet(head.tid, b, other.tid, c),
+            (Some(v), Some(w)) => do_meet(head.tid, v, other.tid, w),
             _ => false,
         }
     }
@@ -126,6 +128,7 @@ impl OfferIndex {
             ≡ has_row (scan_of self.now.entries (spec.told self.now.flags)) row.now }
         ensures cost { tally.new ≤ tally.old + 2 }
     {
+        // Read for the proof alone, which uses what is promised of it.
         let _ = &self.core;
         match *row {
             Meet::Single { tid, leaf } => self.is_lit_at(Place { tid, leaf }, tally),

@@ -11,9 +11,9 @@ ghost use Rattle.cml_index.specs.Slots as spec;
 ghost use Rattle.cml_index.specs.Stands as stands;
 ghost use Rattle.cml_index.specs.Slots.{slot_in};
 
-use crate::slot::{Row, Slot, Spot, Wait};
+use crate::slot::{LaneKind, Slot, Spot, Wait};
 use crate::stand::{
-    Stand, Ticks, come_in, come_tick, count_in, count_tick, forget_tick, forgo_in, forgo_tick,
+    LaneState, Ticks, come_in, come_tick, count_in, count_tick, forget_tick, forgo_in, forgo_tick,
     go_in, go_tick, make_in, make_tick, note_in, note_tick,
 };
 use cml_channel::{Lane, Tally};
@@ -26,16 +26,16 @@ use std::alloc::{AllocError, Global};
 // the ticks, of which there is no end, in a map. All sides of a swap channel are alike, so nobody stands in its second list.
 #[derive(Drop)]
 pub(crate) struct Lanes {
-    pub(crate) senders: Vec<Stand>,
-    pub(crate) receivers: Vec<Stand>,
-    pub(crate) swappers: Vec<Stand>,
-    pub(crate) swapped: Vec<Stand>,
-    pub(crate) ivars: Vec<Stand>,
-    pub(crate) mvars: Vec<Stand>,
-    pub(crate) mailboxes: Vec<Stand>,
-    pub(crate) ports: Vec<Stand>,
-    pub(crate) joins: Vec<Stand>,
-    pub(crate) nacks: Vec<Stand>,
+    pub(crate) senders: Vec<LaneState>,
+    pub(crate) receivers: Vec<LaneState>,
+    pub(crate) swappers: Vec<LaneState>,
+    pub(crate) swapped: Vec<LaneState>,
+    pub(crate) ivars: Vec<LaneState>,
+    pub(crate) mvars: Vec<LaneState>,
+    pub(crate) mailboxes: Vec<LaneState>,
+    pub(crate) ports: Vec<LaneState>,
+    pub(crate) joins: Vec<LaneState>,
+    pub(crate) nacks: Vec<LaneState>,
     pub(crate) ticks: Ticks,
 }
 
@@ -62,44 +62,44 @@ impl Lanes {
     }
 
     // The lanes of one kind.
-    fn row(&self, row: Row) -> &Vec<Stand>
+    fn row(&self, row: LaneKind) -> &Vec<LaneState>
         ensures { result.now ≡ stands.lanes_in self.now row }
     {
         match row {
-            Row::Senders => &self.senders,
-            Row::Receivers => &self.receivers,
-            Row::Swappers => &self.swappers,
-            Row::Swapped => &self.swapped,
-            Row::IVars => &self.ivars,
-            Row::MVars => &self.mvars,
-            Row::Mailboxes => &self.mailboxes,
-            Row::Ports => &self.ports,
-            Row::Joins => &self.joins,
-            Row::Nacks => &self.nacks,
+            LaneKind::Senders => &self.senders,
+            LaneKind::Receivers => &self.receivers,
+            LaneKind::Swappers => &self.swappers,
+            LaneKind::Swapped => &self.swapped,
+            LaneKind::IVars => &self.ivars,
+            LaneKind::MVars => &self.mvars,
+            LaneKind::Mailboxes => &self.mailboxes,
+            LaneKind::Ports => &self.ports,
+            LaneKind::Joins => &self.joins,
+            LaneKind::Nacks => &self.nacks,
         }
     }
 
     // The lanes of one kind, to change them.
-    fn row_mut(&mut self, row: Row) -> &mut Vec<Stand>
+    fn row_mut(&mut self, row: LaneKind) -> &mut Vec<LaneState>
         ensures* writes_back { sem 𝓛 (LendsRow self.entry row result) }
         ensures value { result.now ≡ stands.lanes_in self.old row }
     {
         match row {
-            Row::Senders => &mut self.senders,
-            Row::Receivers => &mut self.receivers,
-            Row::Swappers => &mut self.swappers,
-            Row::Swapped => &mut self.swapped,
-            Row::IVars => &mut self.ivars,
-            Row::MVars => &mut self.mvars,
-            Row::Mailboxes => &mut self.mailboxes,
-            Row::Ports => &mut self.ports,
-            Row::Joins => &mut self.joins,
-            Row::Nacks => &mut self.nacks,
+            LaneKind::Senders => &mut self.senders,
+            LaneKind::Receivers => &mut self.receivers,
+            LaneKind::Swappers => &mut self.swappers,
+            LaneKind::Swapped => &mut self.swapped,
+            LaneKind::IVars => &mut self.ivars,
+            LaneKind::MVars => &mut self.mvars,
+            LaneKind::Mailboxes => &mut self.mailboxes,
+            LaneKind::Ports => &mut self.ports,
+            LaneKind::Joins => &mut self.joins,
+            LaneKind::Nacks => &mut self.nacks,
         }
     }
 
     // What stands in the slot, if it was made.
-    pub(crate) fn stand(&self, slot: Slot) -> Option<&Stand>
+    pub(crate) fn stand(&self, slot: Slot) -> Option<&LaneState>
         ensures { option_copied result ≡ stands.stand_at self.now slot }
     {
         match slot.spot() {
@@ -139,7 +139,7 @@ impl Lanes {
         }
     }
 
-    // The leaf is to come to the lane, which was made.
+    // Notes at the lane, which was made, that the leaf is to come.
     fn note(&mut self, slot: Slot, leaf: u32) -> Result<(), AllocError>
         requires { is_some (stands.stand_at self.old slot) ≡ true }
         ensures here { stands.IsNoted result leaf (stands.stand_at self.old slot) (stands.stand_at self.new slot) }
@@ -152,7 +152,7 @@ impl Lanes {
         }
     }
 
-    // The leaf is to come to the lane, if there is one.
+    // Notes that the leaf is to come to the lane, if it waits in one.
     fn note_of(&mut self, alloc: Global, slot: Option<Slot>, leaf: u32) -> Result<(), AllocError>
         ensures same { (k : Slot) → spec.lane_at self.new k ≡ spec.lane_at self.old k }
         ensures going { (k : Slot) → spec.going_at self.new k ≡ spec.going_at self.old k }
@@ -173,7 +173,7 @@ impl Lanes {
         }
     }
 
-    // The leaves that were to come to the lane come.
+    // Puts into the lane the leaves that were noted there.
     fn come_at(&mut self, slot: Slot, tid: Tid, tally: &mut Tally)
         requires { stands.CanCome tid (stands.stand_at self.old slot) }
         ensures here { stands.HasCome tid (stands.stand_at self.old slot) (stands.stand_at self.new slot) }
@@ -190,7 +190,7 @@ impl Lanes {
         }
     }
 
-    // No leaf is to come to the lane.
+    // Forgets the leaves that were noted at the lane.
     fn forgo_at(&mut self, slot: Slot)
         ensures here { stands.HasForgone (stands.stand_at self.old slot) (stands.stand_at self.new slot) }
         ensures elsewhere { (k : Slot) → same_slot k slot ≡ false →
@@ -202,7 +202,7 @@ impl Lanes {
         }
     }
 
-    // One more leaf is to go from the lane, if it was made.
+    // Counts at the lane, if it was made, one more leaf that is to go.
     fn count_at(&mut self, slot: Slot)
         requires { stands.going_in (stands.stand_at self.old slot) < 18446744073709551615 }
         ensures here { stands.CountsOneMore (stands.stand_at self.old slot) (stands.stand_at self.new slot) }
@@ -215,7 +215,7 @@ impl Lanes {
         }
     }
 
-    // The leaves that were to go from the lane go.
+    // Takes out of the lane the leaves that were counted there.
     fn go_at(&mut self, slot: Slot, tid: Tid, tally: &mut Tally)
         requires { stands.CanGo tid (stands.stand_at self.old slot) }
         ensures here { stands.HasGone tid (stands.stand_at self.old slot) (stands.stand_at self.new slot) }
@@ -230,7 +230,7 @@ impl Lanes {
         }
     }
 
-    // The leaves that were to come to the lane, if there is one, come.
+    // Puts the noted leaves into the lane, if there is one.
     fn come_of(&mut self, slot: Option<Slot>, tid: Tid, tally: &mut Tally)
         requires { (k : Slot) → spec.is_slot k slot ≡ true → stands.CanCome tid (stands.stand_at self.old k) }
         ensures here { (k : Slot) → spec.is_slot k slot ≡ true →
@@ -245,7 +245,7 @@ impl Lanes {
         }
     }
 
-    // No leaf is to come to the lane, if there is one.
+    // Forgets the noted leaves of the lane, if there is one.
     fn forgo_of(&mut self, slot: Option<Slot>)
         ensures here { (k : Slot) → spec.is_slot k slot ≡ true →
             stands.HasForgone (stands.stand_at self.old k) (stands.stand_at self.new k) }
@@ -257,7 +257,7 @@ impl Lanes {
         }
     }
 
-    // One more leaf is to go from the lane, if there is one.
+    // Counts one more leaf that is to go from the lane, if there is one.
     fn count_of(&mut self, slot: Option<Slot>)
         requires { (k : Slot) → spec.is_slot k slot ≡ true → stands.going_in (stands.stand_at self.old k) < 18446744073709551615 }
         ensures here { (k : Slot) → spec.is_slot k slot ≡ true →
@@ -270,7 +270,7 @@ impl Lanes {
         }
     }
 
-    // The leaves that were to go from the lane, if there is one, go.
+    // Takes the counted leaves out of the lane, if there is one.
     fn go_of(&mut self, slot: Option<Slot>, tid: Tid, tally: &mut Tally)
         requires { (k : Slot) → spec.is_slot k slot ≡ true → stands.CanGo tid (stands.stand_at self.old k) }
         ensures here { (k : Slot) → spec.is_slot k slot ≡ true →
@@ -316,7 +316,7 @@ impl Lanes {
         Ok(())
     }
 
-    // These leaves of the thread, which were noted, come to their lanes.
+    // Puts these leaves of the thread, which were noted, into their lanes.
     pub(crate) fn come(&mut self, tid: Tid, waits: &[Wait], tally: &mut Tally)
         requires late { (k : Slot) → spec.late_at self.old k
             ≡ spec.slot_leaves k 0 (map slot_in waits.now) }
@@ -335,7 +335,7 @@ impl Lanes {
         }
     }
 
-    // None of these leaves is to come.
+    // Forgets these leaves, which were noted.
     fn forgo(&mut self, waits: &[Wait])
         requires { (k : Slot) → spec.has_slot k (map slot_in waits.now) ≡ false → spec.late_at self.old k ≡ [] }
         ensures same { (k : Slot) → spec.lane_at self.new k ≡ spec.lane_at self.old k }
@@ -347,7 +347,7 @@ impl Lanes {
         }
     }
 
-    // Makes room for these leaves, and notes that they are to come. Out of memory none is.
+    // Makes room for these leaves, and notes that they are to come. Out of memory: none is noted.
     pub(crate) fn make_room(&mut self, alloc: Global, waits: &[Wait]) -> Result<(), AllocError>
         requires small { length waits.now < 4294967296 }
         requires idle { (k : Slot) → spec.late_at self.old k ≡ [] }
@@ -384,7 +384,7 @@ impl Lanes {
         }
     }
 
-    // These leaves of the thread, which are all its offers, go from their lanes.
+    // Takes these leaves of the thread, which are all its offers, out of their lanes.
     pub(crate) fn go(&mut self, tid: Tid, waits: &[Wait], tally: &mut Tally)
         requires idle { (k : Slot) → spec.going_at self.old k ≡ 0 }
         requires all { (k : Slot) → length (spec.slot_leaves k 0 (map slot_in waits.now))

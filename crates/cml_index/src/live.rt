@@ -11,7 +11,7 @@ ghost use Rattle.cml_index.specs.Live as spec;
 use crate::lanes::Lanes;
 use crate::numbers::Numbers;
 use crate::slot::{Slot, Wait};
-use cml_channel::{PairedId, Pairing};
+use cml_channel::{PairedId, PairedKind};
 use std::alloc::{AllocError, Global};
 
 // These objects, by their numbers.
@@ -21,7 +21,7 @@ pub(crate) struct Live {
     pub(crate) swaps: Numbers,
 }
 
-// Whether two offers on the object may meet. Where no offer can stand first there, the lane of the others is not sought.
+// Whether two offers on the object may meet. Where its first lane has no head, the other lane is not looked up.
 fn is_live(lanes: &Lanes, object: PairedId) -> bool
     ensures { result ≡ spec.is_live lanes.now object }
 {
@@ -65,25 +65,35 @@ impl Live {
     {
         if i < self.channels.len() {
             PairedId {
-                kind: Pairing::Channel,
+                kind: PairedKind::Channel,
                 number: self.channels.at(i),
             }
         } else {
             PairedId {
-                kind: Pairing::Swap,
+                kind: PairedKind::Swap,
                 number: self.swaps.at(i - self.channels.len()),
             }
         }
     }
 
-    // Gives the object a place, so that it can be put in.
+    // Whether the object is in.
+    fn has(&self, object: PairedId) -> bool
+        ensures { result ≡ spec.is_in self.now object }
+    {
+        match object.kind {
+            PairedKind::Channel => self.channels.has(object.number),
+            PairedKind::Swap => self.swaps.has(object.number),
+        }
+    }
+
+    // Reserves a place for the object, so that it can be put in.
     fn make(&mut self, object: PairedId) -> Result<(), AllocError>
         ensures same { spec.IsAsLive self.old self.new }
         ensures there { OnOk result (spec.HasPlace self.new object) }
     {
         match object.kind {
-            Pairing::Channel => self.channels.make(object.number),
-            Pairing::Swap => self.swaps.make(object.number),
+            PairedKind::Channel => self.channels.make(object.number),
+            PairedKind::Swap => self.swaps.make(object.number),
         }
     }
 
@@ -95,12 +105,12 @@ impl Live {
         ensures places { (n : PairedId) → spec.HasPlace self.old n → spec.HasPlace self.new n }
     {
         match object.kind {
-            Pairing::Channel => self.channels.cut(object.number),
-            Pairing::Swap => self.swaps.cut(object.number),
+            PairedKind::Channel => self.channels.cut(object.number),
+            PairedKind::Swap => self.swaps.cut(object.number),
         }
     }
 
-    // Puts the object in, which has a place.
+    // Puts the object in; its place is reserved.
     fn put_in(&mut self, object: PairedId)
         requires { spec.HasPlace self.old object }
         ensures here { spec.is_in self.new object ≡ true }
@@ -109,12 +119,12 @@ impl Live {
         ensures places { (n : PairedId) → spec.HasPlace self.old n → spec.HasPlace self.new n }
     {
         match object.kind {
-            Pairing::Channel => self.channels.put(object.number),
-            Pairing::Swap => self.swaps.put(object.number),
+            PairedKind::Channel => self.channels.put(object.number),
+            PairedKind::Swap => self.swaps.put(object.number),
         }
     }
 
-    // Takes the object out where it is no longer live.
+    // Takes the object out where it is no longer live. For one that is not in, no lane is looked up.
     fn cut(&mut self, lanes: &Lanes, object: PairedId)
         ensures here { spec.is_in self.new object
             ≡ (spec.is_in self.old object && spec.is_live lanes.now object) }
@@ -122,12 +132,12 @@ impl Live {
             spec.is_in self.new n ≡ spec.is_in self.old n }
         ensures places { (n : PairedId) → spec.HasPlace self.old n → spec.HasPlace self.new n }
     {
-        if !is_live(lanes, object) {
+        if self.has(object) && !is_live(lanes, object) {
             self.take_out(object);
         }
     }
 
-    // Puts the object in, which has a place, where it is live.
+    // Puts the object in where it is live; its place is reserved.
     fn add(&mut self, lanes: &Lanes, object: PairedId)
         requires { spec.HasPlace self.old object }
         ensures here { spec.is_in self.new object
@@ -141,7 +151,7 @@ impl Live {
         }
     }
 
-    // Takes the object of which the slot is a side out where it is no longer live.
+    // The same for the object of which the slot is a side: takes it out where it is no longer live.
     fn cut_at(&mut self, lanes: &Lanes, slot: Option<Slot>)
         ensures here { (n : PairedId) → spec.has_side n slot ≡ true → spec.is_in self.new n
             ≡ (spec.is_in self.old n && spec.is_live lanes.now n) }
@@ -154,7 +164,7 @@ impl Live {
         }
     }
 
-    // Puts the object of which the slot is a side in, which has a place, where it is live.
+    // The same for the object of which the slot is a side: puts it in where it is live.
     fn add_at(&mut self, lanes: &Lanes, slot: Option<Slot>)
         requires { (n : PairedId) → spec.has_side n slot ≡ true → spec.HasPlace self.old n }
         ensures here { (n : PairedId) → spec.has_side n slot ≡ true → spec.is_in self.new n
@@ -168,7 +178,7 @@ impl Live {
         }
     }
 
-    // Gives a place to the object of which the slot is a side.
+    // Reserves a place for the object of which the slot is a side.
     fn make_at(&mut self, slot: Option<Slot>) -> Result<(), AllocError>
         ensures same { spec.IsAsLive self.old self.new }
         ensures there { OnOk result ((n : PairedId) → spec.has_side n slot ≡ true → spec.HasPlace self.new n) }
@@ -179,7 +189,7 @@ impl Live {
         }
     }
 
-    // Gives each object of which one of these leaves is a side a place.
+    // Reserves a place for each object of which one of these leaves is a side.
     pub(crate) fn make_all(&mut self, waits: &[Wait]) -> Result<(), AllocError>
         ensures same { spec.IsAsLive self.old self.new }
         ensures there { OnOk result ((n : PairedId) →

@@ -57,8 +57,19 @@ impl Numbers {
         requires { i < length self.now.items }
         ensures { slice_get self.now.items i ≡ Some result }
     {
+        // Read for the proof alone, which uses what is promised of it.
         let _count = self.count;
         self.order[i]
+    }
+
+    // Whether the number is in.
+    pub(crate) fn has(&self, number: u32) -> bool
+        ensures { result ≡ spec.has self.now number }
+    {
+        if number as usize >= self.places.len() {
+            return false;
+        }
+        (self.places[number as usize] as usize) < self.count
     }
 
     // Gives the number a place, and each one below it.

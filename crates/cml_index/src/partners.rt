@@ -4,58 +4,69 @@ ghost use Rattle.std.specs.Prelude.{◌≡◌, ◌≤◌, ◌<◌, ◌+◌, ◌*
 ghost use Rattle.cml_scan.specs.Scan.{scan_of, partners_of, offers_of};
 ghost use Rattle.cml_channel.specs.Lanes.{those};
 ghost use Rattle.cml_index.specs.Slots.{lane_of};
+ghost use Rattle.cml_index.specs.Waits.{rows_wait};
 ghost use Rattle.cml_index.specs.Posts as spec;
 ghost use Rattle.cml_index.specs.Cores.{IsIndexed};
 
 use crate::flags::is_lit_by;
-use crate::slot::{Slot, met_by};
-use crate::state::{Core, base_at};
-use cml_channel::{Tally, Whom};
+use crate::slot::{Slot, Wait, met_by};
+use crate::state::{IndexState, wait_at};
+use cml_channel::{PartnerThreads, Tally};
 use cml_scan::{Meet, Place};
-use cml_value::Base;
 
-// How many offers in the lane are of those that are meant.
-fn others_count(core: &Core, slot: Slot, whom: Whom, tally: &mut Tally) -> usize
+// How many offers in the lane are of threads that are meant (`partner_threads`).
+fn others_count(
+    core: &IndexState,
+    slot: Slot,
+    partner_threads: PartnerThreads,
+    tally: &mut Tally,
+) -> usize
     requires { IsIndexed core.now }
-    ensures count { result ≡ length (those whom
+    ensures count { result ≡ length (those partner_threads
         (lane_of spec.slot_of slot (offers_of core.now.entries.items))) }
     ensures cost { (digits : ℕ) → spec.HasDigits core.now.entries.items digits →
         tally.new ≤ tally.old + 2 * digits }
 {
     match core.lanes.lane(slot) {
-        Some(lane) => lane.others_count(whom, tally),
+        Some(lane) => lane.others_count(partner_threads, tally),
         None => 0,
     }
 }
 
-// The offer at this place among those in the lane that are meant.
-fn other_at(core: &Core, slot: Slot, whom: Whom, j: usize, tally: &mut Tally) -> Place
+// The offer at this place among those in the lane that are of threads that are meant.
+fn other_at(
+    core: &IndexState,
+    slot: Slot,
+    partner_threads: PartnerThreads,
+    j: usize,
+    tally: &mut Tally,
+) -> Place
     requires indexed { IsIndexed core.now }
-    requires within { j < length (those whom
+    requires within { j < length (those partner_threads
         (lane_of spec.slot_of slot (offers_of core.now.entries.items))) }
-    ensures value { slice_get (those whom (lane_of spec.slot_of slot
+    ensures value { slice_get (those partner_threads (lane_of spec.slot_of slot
         (offers_of core.now.entries.items))) j ≡ Some result }
     ensures cost { (digits : ℕ) → spec.HasDigits core.now.entries.items digits →
         tally.new ≤ tally.old + (2 * digits + 1) }
 {
     match core.lanes.lane(slot) {
-        Some(lane) => lane.other(whom, j, tally),
+        Some(lane) => lane.other(partner_threads, j, tally),
         None => unreachable!(),
     }
 }
 
-// How many rows the leaf, which waits for this, begins.
-fn count_at(core: &Core, head: Place, base: &Base, tally: &mut Tally) -> usize
+// How many rows begin with the leaf, which waits for this.
+fn count_at(core: &IndexState, head: Place, wait: Wait, tally: &mut Tally) -> usize
     requires { IsIndexed core.now }
-    ensures count { result ≡ length (spec.rows_at (spec.told core.now.flags.entries)
-        (offers_of core.now.entries.items) head base.now) }
+    ensures count { result ≡ length (rows_wait (spec.told core.now.flags.entries)
+        (offers_of core.now.entries.items) head wait) }
     ensures cost { (digits : ℕ) → spec.HasDigits core.now.entries.items digits →
         tally.new ≤ tally.old + (2 * digits + 1) }
 {
-    match met_by(base, head.tid) {
-        Some((slot, whom)) => others_count(core, slot, whom, tally),
+    match met_by(wait, head.tid) {
+        Some((slot, partner_threads)) => others_count(core, slot, partner_threads, tally),
         None => {
-            if is_lit_by(&core.flags, base, tally) {
+            if is_lit_by(&core.flags, wait, tally) {
                 1
             } else {
                 0
@@ -64,19 +75,19 @@ fn count_at(core: &Core, head: Place, base: &Base, tally: &mut Tally) -> usize
     }
 }
 
-// The row at this place among those that the leaf, which waits for this, begins.
-fn row_at(core: &Core, head: Place, base: &Base, j: usize, tally: &mut Tally) -> Meet
+// The row at this place among those that begin with the leaf, which waits for this.
+fn row_at(core: &IndexState, head: Place, wait: Wait, j: usize, tally: &mut Tally) -> Meet
     requires indexed { IsIndexed core.now }
-    requires within { j < length (spec.rows_at (spec.told core.now.flags.entries)
-        (offers_of core.now.entries.items) head base.now) }
-    ensures value { slice_get (spec.rows_at (spec.told core.now.flags.entries)
-        (offers_of core.now.entries.items) head base.now) j ≡ Some result }
+    requires within { j < length (rows_wait (spec.told core.now.flags.entries)
+        (offers_of core.now.entries.items) head wait) }
+    ensures value { slice_get (rows_wait (spec.told core.now.flags.entries)
+        (offers_of core.now.entries.items) head wait) j ≡ Some result }
     ensures cost { (digits : ℕ) → spec.HasDigits core.now.entries.items digits →
         tally.new ≤ tally.old + (2 * digits + 1) }
 {
-    match met_by(base, head.tid) {
-        Some((slot, whom)) => {
-            let other = other_at(core, slot, whom, j, tally);
+    match met_by(wait, head.tid) {
+        Some((slot, partner_threads)) => {
+            let other = other_at(core, slot, partner_threads, j, tally);
             Meet::Pair {
                 head: head.tid,
                 head_leaf: head.leaf,
@@ -92,21 +103,21 @@ fn row_at(core: &Core, head: Place, base: &Base, j: usize, tally: &mut Tally) ->
 }
 
 // How many rows begin with the head.
-pub(crate) fn partner_count(core: &Core, head: Place, tally: &mut Tally) -> usize
+pub(crate) fn partner_count(core: &IndexState, head: Place, tally: &mut Tally) -> usize
     requires { IsIndexed core.now }
     ensures count { result ≡ length (partners_of
         (scan_of core.now.entries.items (spec.told core.now.flags.entries)) head) }
     ensures cost { (digits : ℕ) → spec.HasDigits core.now.entries.items digits →
         tally.new ≤ tally.old + (2 * digits + 2) }
 {
-    match base_at(&core.entries, head, tally) {
-        Some(base) => count_at(core, head, base, tally),
+    match wait_at(&core.entries, head, tally) {
+        Some(wait) => count_at(core, head, wait, tally),
         None => 0,
     }
 }
 
 // The row at this place among those that begin with the head.
-pub(crate) fn partner(core: &Core, head: Place, j: usize, tally: &mut Tally) -> Meet
+pub(crate) fn partner(core: &IndexState, head: Place, j: usize, tally: &mut Tally) -> Meet
     requires indexed { IsIndexed core.now }
     requires within { j < length (partners_of
         (scan_of core.now.entries.items (spec.told core.now.flags.entries)) head) }
@@ -115,8 +126,8 @@ pub(crate) fn partner(core: &Core, head: Place, j: usize, tally: &mut Tally) -> 
     ensures cost { (digits : ℕ) → spec.HasDigits core.now.entries.items digits →
         tally.new ≤ tally.old + (2 * digits + 2) }
 {
-    match base_at(&core.entries, head, tally) {
-        Some(base) => row_at(core, head, base, j, tally),
+    match wait_at(&core.entries, head, tally) {
+        Some(wait) => row_at(core, head, wait, j, tally),
         None => unreachable!(),
     }
 }

@@ -9,30 +9,38 @@ ghost use Rattle.cml_scan.specs.Scan.{single, pairs_with, offers_of, leaves_from
 ghost use Rattle.cml_channel.specs.Lanes.{those};
 ghost use Rattle.cml_index.specs.Heads.{pair_of, offer_at};
 ghost use Rattle.cml_index.specs.Slots.{lane_of};
+ghost use Rattle.cml_value.specs.Value.{PlainBase};
+ghost use Rattle.cml_index.specs.Waits.{leaf_wait};
 ghost use Rattle.cml_index.specs.Posts as spec;
 ghost use Rattle.cml_index.specs.Cores.{IsIndexed};
 
 use crate::entry::Entry;
 use crate::flags::is_lit_by;
 use crate::heads::head_count;
-use crate::slot::{Slot, met_by};
-use crate::state::Core;
-use cml_channel::{Lane, Tally, Whom};
+use crate::slot::{Slot, Wait, met_by};
+use crate::state::IndexState;
+use cml_channel::{Lane, PartnerThreads, Tally};
 use cml_scan::{Meet, Place};
-use cml_value::Base;
 use std::alloc::{AllocError, Global};
 
-// The offer at this place among those in the lane that are meant, where this many are not: two looks.
-pub(crate) fn other_in(lane: &Lane, whom: Whom, own: usize, j: usize, tally: &mut Tally) -> Place
+// The offer at this place among those in the lane that are of threads that are meant, where this many are not: two looks.
+pub(crate) fn other_in(
+    lane: &Lane,
+    partner_threads: PartnerThreads,
+    own: usize,
+    j: usize,
+    tally: &mut Tally,
+) -> Place
     requires sorted { Ascends before lane.now.places }
-    requires own { own + length (those whom lane.now.places) ≡ length lane.now.places }
-    requires within { j < length (those whom lane.now.places) }
-    ensures value { result ≡ slice_index_or (those whom lane.now.places) j result }
+    requires own { own + length (those partner_threads lane.now.places) ≡ length lane.now.places }
+    requires within { j < length (those partner_threads lane.now.places) }
+    ensures value { result ≡ slice_index_or (those partner_threads lane.now.places) j result }
     ensures cost { tally.new ≤ tally.old + 2 }
 {
+    // Read for the proof alone, which uses what is promised of it.
     let _len = lane.len();
-    match whom {
-        Whom::Others(tid) => {
+    match partner_threads {
+        PartnerThreads::Others(tid) => {
             let place = lane.look(j, tally);
             if place.tid.0 < tid.0 {
                 place
@@ -40,26 +48,26 @@ pub(crate) fn other_in(lane: &Lane, whom: Whom, own: usize, j: usize, tally: &mu
                 lane.look(j + own, tally)
             }
         }
-        Whom::Above(_) => lane.look(own + j, tally),
+        PartnerThreads::Above(_) => lane.look(own + j, tally),
     }
 }
 
-// Appends the rows of the head with those offers in the lane that are meant.
+// Appends the rows of the head with the offers in the lane that are of threads that are meant.
 fn push_lane(
     rows: &mut Vec<Meet>,
     head: Place,
     lane: &Lane,
-    whom: Whom,
+    partner_threads: PartnerThreads,
     tally: &mut Tally,
 ) -> Result<(), AllocError>
     requires { Ascends before lane.now.places }
     ensures { IfOk result (λ _. rows.new.items
-        ≡ rows.old.items ++ map (pair_of head) (those whom lane.now.places)) }
+        ≡ rows.old.items ++ map (pair_of head) (those partner_threads lane.now.places)) }
 {
-    let count = lane.others_count(whom, tally);
+    let count = lane.others_count(partner_threads, tally);
     let own = lane.len() - count;
     for j in 0..count {
-        let other = other_in(lane, whom, own, j, tally);
+        let other = other_in(lane, partner_threads, own, j, tally);
         rows.push(Meet::Pair {
             head: head.tid,
             head_leaf: head.leaf,
@@ -70,47 +78,47 @@ fn push_lane(
     Ok(())
 }
 
-// Appends the rows of the head with those offers in the lane of this slot that are meant.
+// The same, where the lane is that of this slot.
 fn push_slot(
     rows: &mut Vec<Meet>,
-    core: &Core,
+    core: &IndexState,
     slot: Slot,
-    whom: Whom,
+    partner_threads: PartnerThreads,
     head: Place,
     tally: &mut Tally,
 ) -> Result<(), AllocError>
     requires { IsIndexed core.now }
     ensures { IfOk result (λ _. rows.new.items ≡ rows.old.items
-        ++ map (pair_of head) (those whom (lane_of spec.slot_of slot (offers_of core.now.entries.items)))) }
+        ++ map (pair_of head) (those partner_threads (lane_of spec.slot_of slot (offers_of core.now.entries.items)))) }
 {
     match core.lanes.lane(slot) {
-        Some(lane) => push_lane(rows, head, lane, whom, tally),
+        Some(lane) => push_lane(rows, head, lane, partner_threads, tally),
         None => Ok(()),
     }
 }
 
-// Appends the rows that the leaf begins with others, where it waits for this.
+// Appends the rows of two that begin with the leaf, which waits for this, whatever its base event is.
 fn push_pairs(
     rows: &mut Vec<Meet>,
-    core: &Core,
+    core: &IndexState,
     head: Place,
-    base: &Base,
+    wait: Wait,
     tally: &mut Tally,
 ) -> Result<(), AllocError>
     requires { IsIndexed core.now }
-    ensures { IfOk result (λ _. rows.new.items
-        ≡ rows.old.items ++ pairs_with (offers_of core.now.entries.items) (offer_at head base.now)) }
+    ensures { (b : PlainBase) → leaf_wait b ≡ wait → IfOk result (λ _. rows.new.items
+        ≡ rows.old.items ++ pairs_with (offers_of core.now.entries.items) (offer_at head b)) }
 {
-    match met_by(base, head.tid) {
-        Some((slot, whom)) => push_slot(rows, core, slot, whom, head, tally),
+    match met_by(wait, head.tid) {
+        Some((slot, partner_threads)) => push_slot(rows, core, slot, partner_threads, head, tally),
         None => Ok(()),
     }
 }
 
-// Appends the rows of the thread's leaves with others.
+// Appends the rows of two that begin with the thread's leaves.
 fn push_pairs_of(
     rows: &mut Vec<Meet>,
-    core: &Core,
+    core: &IndexState,
     entry: &Entry,
     tally: &mut Tally,
 ) -> Result<(), AllocError>
@@ -119,9 +127,9 @@ fn push_pairs_of(
         ++ flat_map (pairs_with (offers_of core.now.entries.items))
         (leaves_from entry.now.thread 0 (bases entry.now.group))) }
 {
-    for (leaf, base) in entry.bases().iter().enumerate() {
+    for (leaf, wait) in entry.waits().iter().enumerate() {
         tally.add();
-        push_pairs(rows, core, entry.place(leaf), base, tally)?;
+        push_pairs(rows, core, entry.place(leaf), *wait, tally)?;
     }
     Ok(())
 }
@@ -129,7 +137,7 @@ fn push_pairs_of(
 // Appends the rows of those of the thread's leaves that can be taken alone.
 fn push_singles_of(
     rows: &mut Vec<Meet>,
-    core: &Core,
+    core: &IndexState,
     entry: &Entry,
     tally: &mut Tally,
 ) -> Result<(), AllocError>
@@ -137,9 +145,9 @@ fn push_singles_of(
         ++ map single (filter (λ o. lit_by (spec.told core.now.flags.entries) o.base)
         (leaves_from entry.now.thread 0 (bases entry.now.group)))) }
 {
-    for (leaf, base) in entry.bases().iter().enumerate() {
+    for (leaf, wait) in entry.waits().iter().enumerate() {
         tally.add();
-        if is_lit_by(&core.flags, base, tally) {
+        if is_lit_by(&core.flags, *wait, tally) {
             let place = entry.place(leaf);
             rows.push(Meet::Single {
                 tid: place.tid,
@@ -153,13 +161,14 @@ fn push_singles_of(
 // All rows, in order. Where there is no head, no leaf is looked at except two offers of each object over which two threads may meet.
 pub(crate) fn all_rows(
     alloc: Global,
-    core: &Core,
+    core: &IndexState,
     tally: &mut Tally,
 ) -> Result<Vec<Meet>, AllocError>
     requires { IsIndexed core.now }
     ensures { IfOk result (λ rows. rows.items
         ≡ scan_of core.now.entries.items (spec.told core.now.flags.entries)) }
 {
+    // Read for the proof alone, which uses what is promised of it.
     let _leaves = core.leaves;
     if head_count(core, tally) == 0 {
         return Ok(Vec::new(alloc));

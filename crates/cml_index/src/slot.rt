@@ -1,12 +1,12 @@
 //! The lanes in which offers stand.
 
-ghost use Rattle.std.specs.Prelude.{◌≡◌, length, map};
-ghost use Rattle.cml_index.specs.Slot as spec;
+ghost use Rattle.std.specs.Prelude.{◌≡◌, ℕ, length, map};
 ghost use Rattle.cml_index.specs.Posts.{slot_of};
 ghost use Rattle.cml_index.specs.Stands.{side_row, light_spot, spot_of};
 ghost use Rattle.cml_index.specs.Slots.{is_slot, slot_leaves, slot_in};
+ghost use Rattle.cml_index.specs.Waits.{leaf_wait, met_slot, met_wait, meets_in};
 
-use cml_channel::{PairedId, Pairing, Whom, place};
+use cml_channel::{PairedId, PairedKind, PartnerThreads, place};
 use cml_scan::{Light, light};
 use cml_value::{Base, BaseKind, Tid};
 use std::hash::{Hash, Hasher};
@@ -28,7 +28,8 @@ impl Hash for Slot {
 
     ghost respects_eq = { told_alike };
 
-    // Of lanes only those of lights stand in a map. A side is written as one number, and its kind is left to the comparison.
+    // No map has a lane as its key now: the lanes of ticks alone stand in a map, by their tick. A side is written as one number, and its
+    // kind is left to the comparison.
     fn hash<H: Hasher>(&self, state: &mut H) {
         match self {
             Slot::Side { heads, object } => {
@@ -50,7 +51,7 @@ pub(crate) enum Wait {
 impl Wait {
     // What a leaf of the base event waits for.
     pub(crate) fn of(base: &Base) -> Wait
-        ensures { slot_in result ≡ slot_of base.now }
+        ensures { result ≡ leaf_wait base.now }
     {
         match Slot::of(base) {
             Some(slot) => Wait::In(slot),
@@ -72,12 +73,13 @@ impl Wait {
     }
 }
 
-// The kinds of lanes that are kept by a number.
+// The kinds of lanes that are kept by a number. (`LaneKind` is here one list of such lanes, and no row of a table.)
 #[derive(Clone, Copy)]
-pub(crate) enum Row {
+pub(crate) enum LaneKind {
     Senders,
     Receivers,
     Swappers,
+    // The second list of swap channels: nobody ever stands in it, since all sides are alike.
     Swapped,
     IVars,
     MVars,
@@ -90,17 +92,29 @@ pub(crate) enum Row {
 // Where a lane is kept: at a number among those of its kind, or under its tick.
 #[derive(Clone, Copy)]
 pub(crate) enum Spot {
-    Listed { row: Row, number: u32 },
+    Listed { row: LaneKind, number: u32 },
     Tick(u64),
 }
 
-// The row of one side of an object of the kind.
-fn row_of(kind: Pairing, heads: bool) -> Row
+// In which list the lanes of one side of the objects of this kind are.
+fn lane_kind_of(kind: PairedKind, heads: bool) -> LaneKind
     ensures { result ≡ side_row kind heads }
 {
     match kind {
-        Pairing::Channel => { if heads { Row::Senders } else { Row::Receivers } }
-        Pairing::Swap => { if heads { Row::Swappers } else { Row::Swapped } }
+        PairedKind::Channel => {
+            if heads {
+                LaneKind::Senders
+            } else {
+                LaneKind::Receivers
+            }
+        }
+        PairedKind::Swap => {
+            if heads {
+                LaneKind::Swappers
+            } else {
+                LaneKind::Swapped
+            }
+        }
     }
 }
 
@@ -109,12 +123,12 @@ fn spot_of_light(light: Light) -> Spot
     ensures { result ≡ light_spot light }
 {
     let (row, number) = match light {
-        Light::IVar(ivar) => (Row::IVars, ivar.0),
-        Light::MVar(mvar) => (Row::MVars, mvar.0),
-        Light::Mbox(mailbox) => (Row::Mailboxes, mailbox.0),
-        Light::Port(port) => (Row::Ports, port.0),
-        Light::Joined(thread) => (Row::Joins, thread.0),
-        Light::Nack(nack) => (Row::Nacks, nack.0),
+        Light::IVar(ivar) => (LaneKind::IVars, ivar.0),
+        Light::MVar(mvar) => (LaneKind::MVars, mvar.0),
+        Light::Mbox(mailbox) => (LaneKind::Mailboxes, mailbox.0),
+        Light::Port(port) => (LaneKind::Ports, port.0),
+        Light::Joined(thread) => (LaneKind::Joins, thread.0),
+        Light::Nack(nack) => (LaneKind::Nacks, nack.0),
         Light::Alarm(tick) => return Spot::Tick(tick),
     };
     Spot::Listed { row, number }
@@ -127,7 +141,7 @@ impl Slot {
     {
         match self {
             Slot::Side { heads, object } => Spot::Listed {
-                row: row_of(object.kind, heads),
+                row: lane_kind_of(object.kind, heads),
                 number: object.number,
             },
             Slot::Waiters(light) => spot_of_light(light),
@@ -174,23 +188,45 @@ pub(crate) fn count_in(waits: &[Wait], slot: Slot) -> usize
     count
 }
 
-// The lane of those whom an offer of the thread for this base event meets, where it can stand first, and which of them.
-pub(crate) fn met_by(base: &Base, tid: Tid) -> Option<(Slot, Whom)>
-    ensures { result ≡ spec.met_by base.now tid }
+// The same for an offer of the thread in this lane.
+fn met_from(slot: Slot, tid: Tid) -> Option<(Slot, PartnerThreads)>
+    ensures { result ≡ met_slot slot tid }
 {
-    match place(base) {
-        Some(side) => {
-            if side.heads {
-                let object = side.object;
+    match slot {
+        Slot::Side { heads, object } => {
+            if heads {
                 let slot = Slot::Side {
                     heads: object.kind.one_lane(),
                     object,
                 };
-                Some((slot, object.kind.whom(tid)))
+                Some((slot, object.kind.partner_threads(tid)))
             } else {
                 None
             }
         }
-        None => None,
+        Slot::Waiters(_) => None,
+    }
+}
+
+// Where the partners of a leaf of the thread are that waits for this, if it can be a head: the lane, and which of those in it. It
+// decides which rows a run is offered.
+pub(crate) fn met_by(wait: Wait, tid: Tid) -> Option<(Slot, PartnerThreads)>
+    ensures { result ≡ met_wait wait tid }
+{
+    match wait {
+        Wait::Always => None,
+        Wait::Never => None,
+        Wait::In(slot) => met_from(slot, tid),
+    }
+}
+
+// Whether leaves of the two threads that wait for these communicate, the first as the head.
+pub(crate) fn do_meet(head: Tid, first: Wait, other: Tid, second: Wait) -> bool
+    ensures { (leaf : ℕ) → result
+        ≡ meets_in (met_wait first head) (slot_in second) (record { tid = other; leaf = leaf }) }
+{
+    match met_by(first, head) {
+        Some((slot, partner_threads)) => stands_in(second, slot) && partner_threads.is(other),
+        None => false,
     }
 }

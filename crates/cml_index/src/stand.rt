@@ -11,26 +11,26 @@ use cml_value::Tid;
 use indexmap::IndexMap;
 use std::alloc::{AllocError, Global};
 
-// The offers of one side of an object, or of those who wait for one light; and of the thread of which it is told now the leaves that
-// are to come there, and how many are to go from there.
+// The offers of one side of an object, or of those who wait for one light. During a change: `late`, the leaves of the coming thread that
+// are still to be put here, and `going`, how many leaves of a going thread are still to be taken out.
 #[derive(Drop)]
-pub(crate) struct Stand {
+pub(crate) struct LaneState {
     pub(crate) lane: Lane,
     pub(crate) late: Vec<u32>,
     pub(crate) going: usize,
 }
 
 // The stands of the ticks.
-pub(crate) type Ticks = IndexMap<u64, Stand>;
+pub(crate) type Ticks = IndexMap<u64, LaneState>;
 
-impl Stand {
+impl LaneState {
     // Nobody stands there.
-    pub(crate) fn new(alloc: Global) -> Stand
+    pub(crate) fn new(alloc: Global) -> LaneState
         ensures lane { result.lane.places ≡ [] }
         ensures late { result.late.items ≡ [] }
         ensures going { result.going ≡ 0 }
     {
-        Stand {
+        LaneState {
             lane: Lane::new(alloc),
             late: Vec::new(alloc),
             going: 0,
@@ -51,7 +51,7 @@ impl Stand {
         Ok(())
     }
 
-    // The leaves that were to come come.
+    // Puts in the leaves that were noted.
     pub(crate) fn come(&mut self, tid: Tid, tally: &mut Tally)
         requires room { length self.old.late.items ≤ self.old.lane.room }
         requires new { 0 < length self.old.late.items → Every (is_others tid) self.old.lane.places }
@@ -70,7 +70,7 @@ impl Stand {
         }
     }
 
-    // No leaf is to come.
+    // Forgets the leaves that were noted.
     pub(crate) fn forgo(&mut self)
         ensures lane { self.new.lane ≡ self.old.lane }
         ensures late { self.new.late.items ≡ [] }
@@ -79,7 +79,7 @@ impl Stand {
         self.late.clear();
     }
 
-    // One more leaf is to go.
+    // Counts one more leaf that is to be taken out.
     pub(crate) fn count(&mut self)
         requires { self.old.going < 18446744073709551615 }
         ensures lane { self.new.lane ≡ self.old.lane }
@@ -89,7 +89,7 @@ impl Stand {
         self.going += 1;
     }
 
-    // The leaves that were to go, which are all of the thread, go.
+    // Takes out the leaves that were counted, which are all that the thread has here.
     pub(crate) fn go(&mut self, tid: Tid, tally: &mut Tally)
         requires { 0 < self.old.going →
             self.old.going ≡ length (filter (is_own tid) self.old.lane.places) }
@@ -110,18 +110,22 @@ impl Stand {
 }
 
 // Makes the stands up to this one. Those that are made are empty.
-pub(crate) fn make_in(row: &mut Vec<Stand>, alloc: Global, number: usize) -> Result<(), AllocError>
+pub(crate) fn make_in(
+    row: &mut Vec<LaneState>,
+    alloc: Global,
+    number: usize,
+) -> Result<(), AllocError>
     ensures same { (i : ℕ) → spec.IsAlike (slice_get row.new.items i) (slice_get row.old.items i) }
     ensures there { OnOk result (number < length row.new.items) }
 {
     while row.len() <= number {
-        row.push(Stand::new(alloc))?;
+        row.push(LaneState::new(alloc))?;
     }
     Ok(())
 }
 
 // The leaf is to come to this stand, which was made.
-pub(crate) fn note_in(row: &mut Vec<Stand>, number: usize, leaf: u32) -> Result<(), AllocError>
+pub(crate) fn note_in(row: &mut Vec<LaneState>, number: usize, leaf: u32) -> Result<(), AllocError>
     requires { number < length row.old.items }
     ensures here { spec.IsNoted result leaf (slice_get row.old.items number) (slice_get row.new.items number) }
     ensures elsewhere { (i : ℕ) → i ≢ number → slice_get row.new.items i ≡ slice_get row.old.items i }
@@ -130,8 +134,8 @@ pub(crate) fn note_in(row: &mut Vec<Stand>, number: usize, leaf: u32) -> Result<
     stand.note(leaf)
 }
 
-// The leaves that were to come to this stand come.
-pub(crate) fn come_in(row: &mut Vec<Stand>, number: usize, tid: Tid, tally: &mut Tally)
+// The same as `LaneState::come`, at this number.
+pub(crate) fn come_in(row: &mut Vec<LaneState>, number: usize, tid: Tid, tally: &mut Tally)
     requires { spec.CanCome tid (slice_get row.old.items number) }
     ensures here { spec.HasCome tid (slice_get row.old.items number) (slice_get row.new.items number) }
     ensures elsewhere { (i : ℕ) → i ≢ number → slice_get row.new.items i ≡ slice_get row.old.items i }
@@ -144,8 +148,8 @@ pub(crate) fn come_in(row: &mut Vec<Stand>, number: usize, tid: Tid, tally: &mut
     }
 }
 
-// No leaf is to come to this stand.
-pub(crate) fn forgo_in(row: &mut Vec<Stand>, number: usize)
+// The same as `LaneState::forgo`, at this number.
+pub(crate) fn forgo_in(row: &mut Vec<LaneState>, number: usize)
     ensures here { spec.HasForgone (slice_get row.old.items number) (slice_get row.new.items number) }
     ensures elsewhere { (i : ℕ) → i ≢ number → slice_get row.new.items i ≡ slice_get row.old.items i }
 {
@@ -156,7 +160,7 @@ pub(crate) fn forgo_in(row: &mut Vec<Stand>, number: usize)
 }
 
 // One more leaf is to go from this stand, if it was made.
-pub(crate) fn count_in(row: &mut Vec<Stand>, number: usize)
+pub(crate) fn count_in(row: &mut Vec<LaneState>, number: usize)
     requires { spec.going_in (slice_get row.old.items number) < 18446744073709551615 }
     ensures here { spec.CountsOneMore (slice_get row.old.items number) (slice_get row.new.items number) }
     ensures elsewhere { (i : ℕ) → i ≢ number → slice_get row.new.items i ≡ slice_get row.old.items i }
@@ -168,7 +172,7 @@ pub(crate) fn count_in(row: &mut Vec<Stand>, number: usize)
 }
 
 // The leaves that were to go from this stand go.
-pub(crate) fn go_in(row: &mut Vec<Stand>, number: usize, tid: Tid, tally: &mut Tally)
+pub(crate) fn go_in(row: &mut Vec<LaneState>, number: usize, tid: Tid, tally: &mut Tally)
     requires { spec.CanGo tid (slice_get row.old.items number) }
     ensures here { spec.HasGone tid (slice_get row.old.items number) (slice_get row.new.items number) }
     ensures elsewhere { (i : ℕ) → i ≢ number → slice_get row.new.items i ≡ slice_get row.old.items i }
@@ -253,7 +257,7 @@ pub(crate) fn make_tick(ticks: &mut Ticks, alloc: Global, tick: u64) -> Result<(
     if ticks.contains_key(&tick) {
         return Ok(());
     }
-    ticks.insert(tick, Stand::new(alloc))?;
+    ticks.insert(tick, LaneState::new(alloc))?;
     Ok(())
 }
 

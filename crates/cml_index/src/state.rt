@@ -1,11 +1,10 @@
 //! The fields of the index, and the steps of a change.
 
-ghost use Rattle.std.specs.Prelude.{◌≡◌, ◌≢◌, ◌≤◌, ◌<◌, ◌+◌, ◌*◌, [], ◌∷◌, ℕ, true, if◌then◌else◌, length, map, All, slice_get, OnOk, OnErr};
+ghost use Rattle.std.specs.Prelude.{◌≡◌, ◌≢◌, ◌≤◌, ◌<◌, ◌+◌, ◌*◌, [], ◌∷◌, ℕ, true, if◌then◌else◌, length, map, All, slice_get, option_map, OnOk, OnErr, IfOk};
 ghost use Rattle.cml_value.specs.Group.{bases};
 ghost use Rattle.cml_scan.specs.declared.object.Light.{Light};
 ghost use Rattle.cml_scan.specs.Scan.{offers_of};
-ghost use Rattle.std.specs.Option.{option_copied};
-ghost use Rattle.cml_scan.specs.Order.{base_at as scan_base_at};
+ghost use Rattle.cml_scan.specs.Order.{base_at};
 ghost use Rattle.cml_scan.specs.Table.{without, IsThere, same_light};
 ghost use Rattle.cml_index.specs.Posts as spec;
 ghost use Rattle.cml_index.specs.Cores.{IsIndexed, IsAtRest, AreThere, IsSame, IsStill, HasCome, HasFreed, HasRoom};
@@ -15,6 +14,7 @@ ghost use Rattle.cml_value.specs.Group.{scopes, nacks_of};
 ghost use Rattle.cml_scan.specs.Order.{Every};
 ghost use Rattle.cml_index.specs.declared.slot.Slot.TheVariants.{Waiters};
 ghost use Rattle.cml_index.specs.Slots.{HaveDigits};
+ghost use Rattle.cml_index.specs.Waits.{leaf_wait};
 
 use crate::entries::Entries;
 use crate::entry::Entry;
@@ -22,25 +22,39 @@ use crate::flags::{Flags, count_lit, flip};
 use crate::lanes::Lanes;
 use crate::live::Live;
 use crate::nacks::reserve_nacks;
-use crate::slot::Slot;
+use crate::slot::{Slot, Wait};
 use cml_channel::Tally;
 use cml_scan::{Light, Place};
-use cml_value::{Base, Tid};
+use cml_value::{Group, Tid};
 use std::alloc::{AllocError, Global};
 
 // The pending threads, ascending; the lanes of their offers; the objects over which two threads may meet; what was told of lights;
 // and how many leaves there are, and how many of them can be taken alone.
 #[derive(Drop)]
-pub(crate) struct Core {
+pub(crate) struct IndexState {
     pub(crate) entries: Entries,
     pub(crate) lanes: Lanes,
     pub(crate) live: Live,
     pub(crate) flags: Flags,
     pub(crate) leaves: usize,
     pub(crate) lit: usize,
+    // entries of threads that have gone, whose lists serve the next that come; they hold no group
+    pub(crate) spares: Vec<Entry>,
 }
 
-impl Core {
+// How many entries of threads that have gone are kept.
+const SPARES: usize = 64;
+
+// Keeps the entry for the next thread that comes, where there is room.
+fn keep(spares: &mut Vec<Entry>, entry: Entry) {
+    let mut entry = entry;
+    if spares.len() < spares.capacity() {
+        entry.rest();
+        spares.push_reserved(entry);
+    }
+}
+
+impl IndexState {
     // The thread goes, and its offers with it. It takes no memory.
     pub(crate) fn leave(&mut self, tid: Tid, tally: &mut Tally)
         requires indexed { IsIndexed self.old }
@@ -54,12 +68,12 @@ impl Core {
         ensures freed { HasFreed self.old self.new }
     {
         let entry = self.entries.take(tid);
-        let lit = count_lit(&self.flags, entry.bases(), tally);
+        let lit = count_lit(&self.flags, entry.waits(), tally);
         self.lit -= lit;
-        self.leaves -= entry.bases().len();
+        self.leaves -= entry.waits().len();
         self.lanes.go(tid, entry.waits(), tally);
         self.live.cut_all(&self.lanes, entry.waits());
-        drop(entry);
+        keep(&mut self.spares, entry);
     }
 
     // These threads go. It takes no memory.
@@ -79,9 +93,32 @@ impl Core {
         }
     }
 
+    // The thread with a copy of the group, in the lists of one that has gone, if one is kept.
+    pub(crate) fn entry(
+        &mut self,
+        alloc: Global,
+        tid: Tid,
+        group: &Group,
+    ) -> Result<Entry, AllocError>
+        requires { IsIndexed self.old }
+        ensures entry { IfOk result (λ e. e ≡ record { thread = tid.0; group = group.now }) }
+        ensures indexed { IsIndexed self.new }
+        ensures same { IsSame self.old self.new }
+        ensures lanes { self.new.lanes ≡ self.old.lanes }
+        ensures flags { self.new.flags ≡ self.old.flags }
+    {
+        if self.spares.capacity() == 0 {
+            self.spares.reserve(SPARES)?;
+        }
+        match self.spares.pop() {
+            Some(spare) => renewed(spare, tid, group),
+            None => Entry::new(alloc, tid, group),
+        }
+    }
+
     // Makes room for a thread that will come: its seat, the places of its objects, and a place among the lights for each nack of its
     // scopes. Nothing was told.
-    fn make_places(&mut self, alloc: Global, entry: &Entry) -> Result<(), AllocError>
+    fn make_places(&mut self, entry: &Entry) -> Result<(), AllocError>
         requires indexed { IsIndexed self.old }
         ensures indexed { IsIndexed self.new }
         ensures same { IsSame self.old self.new }
@@ -95,16 +132,16 @@ impl Core {
         ensures named { OnOk result (Every (λ k. spec.is_named self.new.flags.entries (spec.slot_of_nack k))
             (nacks_of (scopes entry.now.group))) }
     {
-        if self.leaves.checked_add(entry.bases().len()).is_none() {
+        if self.leaves.checked_add(entry.waits().len()).is_none() {
             return Err(AllocError);
         }
         self.entries.reserve()?;
         self.live.make_all(entry.waits())?;
-        reserve_nacks(&mut self.flags, alloc, entry.group())
+        reserve_nacks(&mut self.flags, entry.nacks())
     }
 
-    // Makes room for a thread that will come, and notes which leaves are to come to which lanes. Out of memory, which is returned also where
-    // the leaves would be too many to count, none is, and nothing was told.
+    // Makes room for a thread that will come, and notes which leaves are to come to which lanes. Out of memory (or too many leaves to
+    // count): no leaf is noted, and nothing was told.
     pub(crate) fn make_room(&mut self, alloc: Global, entry: &Entry) -> Result<(), AllocError>
         requires indexed { IsIndexed self.old }
         requires idle { IsAtRest self.old }
@@ -114,7 +151,7 @@ impl Core {
         ensures room { OnOk result (HasRoom self.new entry.now.group) }
         ensures idle { OnErr result (IsAtRest self.new) }
     {
-        self.make_places(alloc, entry)?;
+        self.make_places(entry)?;
         self.lanes.make_room(alloc, entry.waits())
     }
 
@@ -152,8 +189,8 @@ impl Core {
         ensures cost { (digits : ℕ) → HaveDigits self.old.lanes digits →
             tally.new ≤ tally.old + length (bases entry.group) * (digits + 2) }
     {
-        let lit = count_lit(&self.flags, entry.bases(), tally);
-        self.leaves += entry.bases().len();
+        let lit = count_lit(&self.flags, entry.waits(), tally);
+        self.leaves += entry.waits().len();
         self.lit += lit;
         self.lanes.come(entry.tid(), entry.waits(), tally);
         self.live.add_all(&self.lanes, entry.waits());
@@ -161,18 +198,35 @@ impl Core {
     }
 }
 
+// The entry for this thread and this group.
+fn renewed(entry: Entry, tid: Tid, group: &Group) -> Result<Entry, AllocError>
+    ensures { IfOk result (λ e. e ≡ record { thread = tid.0; group = group.now }) }
+{
+    let mut entry = entry;
+    match entry.renew(tid, group) {
+        Ok(()) => Ok(entry),
+        Err(error) => {
+            drop(entry);
+            Err(error)
+        }
+    }
+}
+
 // What the leaf at the place waits for, if one of these threads has it: one look.
-pub(crate) fn base_at<'a>(entries: &'a Entries, place: Place, tally: &mut Tally) -> Option<&'a Base>
-    ensures value { option_copied result ≡ scan_base_at place (offers_of entries.now.items) }
+pub(crate) fn wait_at(entries: &Entries, place: Place, tally: &mut Tally) -> Option<Wait>
+    ensures value { result ≡ option_map leaf_wait (base_at place (offers_of entries.now.items)) }
     ensures cost { tally.new ≤ tally.old + 1 }
 {
     let entry = entries.get(place.tid)?;
     tally.add();
-    nth(entry.bases(), place.leaf)
+    nth(entry.waits(), place.leaf)
 }
 
-fn nth(bases: &[Base], leaf: u32) -> Option<&Base>
-    ensures { option_copied result ≡ slice_get bases.now leaf }
+fn nth(waits: &[Wait], leaf: u32) -> Option<Wait>
+    ensures { result ≡ slice_get waits.now leaf }
 {
-    bases.get(leaf as usize)
+    match waits.get(leaf as usize) {
+        Some(wait) => Some(*wait),
+        None => None,
+    }
 }

@@ -1,4 +1,4 @@
-//! What was told last of lights, by the numbers of their objects.
+//! What the book told last of each light (whether it is lit), by the number of its object.
 
 ghost use Rattle.indexmap.specs.IndexMap.{get};
 ghost use Rattle.std.specs.Prelude.{◌≡◌, ◌≢◌, ◌==◌, ℕ, [], true, false, not, if◌then◌else◌, None, is_some, length, slice_get, OnOk, IsOk};
@@ -24,7 +24,7 @@ pub(crate) struct Told {
     pub(crate) ticks: IndexMap<u64, bool>,
 }
 
-// What was told last of this one: another is unlit.
+// What was told last of the object of this number; where nothing was, it is unlit.
 fn read_in(list: &Vec<bool>, number: u32) -> bool
     ensures { result ≡ spec.lit_in (slice_get list.now.items number) }
 {
@@ -34,7 +34,7 @@ fn read_in(list: &Vec<bool>, number: u32) -> bool
     }
 }
 
-// Reserves the place of this one. What was told of any stays.
+// Makes the list long enough to have this number. What was told of the others stays.
 fn reserve_in(list: &mut Vec<bool>, number: u32) -> Result<(), AllocError>
     ensures kept { spec.AreReserved list.old.items list.new.items }
     ensures there { OnOk result (is_some (slice_get list.new.items number) ≡ true) }
@@ -46,7 +46,7 @@ fn reserve_in(list: &mut Vec<bool>, number: u32) -> Result<(), AllocError>
     Ok(())
 }
 
-// Tells of this one, and returns whether that was new.
+// Sets whether the object of this number is lit, and returns whether that has changed.
 fn flip_in(list: &mut Vec<bool>, number: u32, lit: bool) -> bool
     requires { lit ≡ true → is_some (slice_get list.old.items number) ≡ true }
     ensures here { spec.lit_in (slice_get list.new.items number) ≡ lit }
@@ -64,7 +64,7 @@ fn flip_in(list: &mut Vec<bool>, number: u32, lit: bool) -> bool
     changed
 }
 
-// What was told last of the tick: another is unlit.
+// What was told last of the tick; where nothing was, it is unlit.
 fn read_tick(ticks: &IndexMap<u64, bool>, tick: u64) -> bool
     ensures { result ≡ spec.lit_in (get (λ a b. a == b) ticks.now tick) }
 {
@@ -74,7 +74,7 @@ fn read_tick(ticks: &IndexMap<u64, bool>, tick: u64) -> bool
     }
 }
 
-// Reserves the place of the tick. What was told of any stays.
+// Reserves the place of the tick. What was told of the others stays.
 fn reserve_tick(ticks: &mut IndexMap<u64, bool>, tick: u64) -> Result<(), AllocError>
     ensures told { (t : ℕ) → spec.lit_in (get (λ a b. a == b) ticks.new t) ≡ spec.lit_in (get (λ a b. a == b) ticks.old t) }
     ensures named { (t : ℕ) → is_some (get (λ a b. a == b) ticks.old t) ≡ true → is_some (get (λ a b. a == b) ticks.new t) ≡ true }
@@ -88,7 +88,7 @@ fn reserve_tick(ticks: &mut IndexMap<u64, bool>, tick: u64) -> Result<(), AllocE
     Ok(())
 }
 
-// Tells of the tick, and returns whether that was new.
+// Sets whether the tick is lit, and returns whether that has changed.
 fn flip_tick(ticks: &mut IndexMap<u64, bool>, tick: u64, lit: bool) -> bool
     requires { lit ≡ true → is_some (get (λ a b. a == b) ticks.old tick) ≡ true }
     ensures here { spec.lit_in (get (λ a b. a == b) ticks.new tick) ≡ lit }

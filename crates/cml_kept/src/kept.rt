@@ -230,7 +230,7 @@ fn is_untold(lit: &[Light], unlit: &[Light], light: Light) -> bool
     !has_light(lit, light) && !has_light(unlit, light)
 }
 
-// The lights that are lit after these were turned on and off: those of the old ones of which nothing was told, and those turned on.
+// The lights that are lit afterwards: the old ones that are neither turned on nor off now, and those that are turned on.
 fn lit_after(
     alloc: Global,
     old: &[Light],

@@ -1,7 +1,7 @@
 //! Lanes of the offers that wait on one side of a channel.
 
 use crate::making::MEMORY;
-use cml_channel::{Lane, Tally, Whom};
+use cml_channel::{Lane, PartnerThreads, Tally};
 use cml_scan::Place;
 use cml_value::Tid;
 use std::process::Abort;
@@ -36,9 +36,9 @@ fn offers_come(rt: HostRuntime) {
     lane.reserve(2).expect(&rt, MEMORY);
     lane.come(Tid(5), &[0, 3], &mut tally);
     shows(&rt, &lane, &OFFERS);
-    assert!(rt; lane.others_count(Whom::Others(Tid(5)), &mut tally) == 0);
-    assert!(rt; !lane.has_other(Whom::Others(Tid(5)), &mut tally));
-    assert!(rt; lane.has_other(Whom::Others(Tid(4)), &mut tally));
+    assert!(rt; lane.others_count(PartnerThreads::Others(Tid(5)), &mut tally) == 0);
+    assert!(rt; !lane.has_other(PartnerThreads::Others(Tid(5)), &mut tally));
+    assert!(rt; lane.has_other(PartnerThreads::Others(Tid(4)), &mut tally));
     drop(tally);
     drop(lane);
 }

@@ -81,7 +81,7 @@ fn same_reply(one: &Reply, other: &Reply) -> bool {
         (Reply::IVar(x), Reply::IVar(y)) => x == y,
         (Reply::MVar(x), Reply::MVar(y)) => x == y,
         (Reply::Mailbox(x), Reply::Mailbox(y)) => x == y,
-        (Reply::MChan(x), Reply::MChan(y)) => x == y,
+        (Reply::Mchan(x), Reply::Mchan(y)) => x == y,
         (Reply::Port(x), Reply::Port(y)) => x == y,
         (Reply::Nack(x), Reply::Nack(y)) => x == y,
         (Reply::Done, Reply::Done) => true,

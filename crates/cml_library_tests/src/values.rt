@@ -355,8 +355,8 @@ fn parts_of_a_function(rt: HostRuntime) {
 fn parts_of_a_pair(rt: HostRuntime) {
     match value(&rt, "(pair 7 (event never))").into_kind() {
         ValueKind::Pair(parts) => {
-            assert!(rt; matches!(parts.0.kind(), ValueKind::Int(7)));
-            assert!(rt; matches!(parts.1.kind(), ValueKind::Event(_)));
+            assert!(rt; matches!(parts.first().kind(), ValueKind::Int(7)));
+            assert!(rt; matches!(parts.second().kind(), ValueKind::Event(_)));
             drop(parts);
         }
         other => {

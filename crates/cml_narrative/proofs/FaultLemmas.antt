@@ -8,7 +8,7 @@ use Rattle.cml_step.specs.Terms.{Program, Term}
 use Rattle.cml_schedule.specs.declared.item.Item.{Item}
 use Rattle.cml_schedule.specs.declared.item.Item.TheVariants.{Turn}
 use Rattle.cml_value.specs.declared.number.Tid.{Tid}
-use Rattle.cml_hub.specs.Performed.{PlainDone, goes, gets, begets, prints, waits, ends, fails, performed}
+use Rattle.cml_hub.specs.Performed.{PlainDone, goes, gets, spawns, prints, waits, ends, fails, performed}
 use Rattle.cml_hub.specs.Runs.{Run, opening, advance, is_allowed, turned, turned_by, stands, stands_from, output_of}
 use Rattle.cml_narrative.specs.Tales.{did_words, turn_words}
 use Rattle.cml_hub.specs.Deeds.{deed, after_deed, deeds_from, deeds, is_fault, fault_count}
@@ -75,7 +75,7 @@ pub words_are : (K : List ℕ → List ℕ) (words asked : List ℕ) (awaited : 
 words_are K words asked awaited None t n m printed old output failed is more len out did fault = did (is ∙ no_more n m more)
 words_are K words asked awaited (Some goes) t n m printed old output failed is more len out did fault = did (is ∙ no_more n m more)
 words_are K words asked awaited (Some (gets a)) t n m printed old output failed is more len out did fault = did (is ∙ no_more n m more)
-words_are K words asked awaited (Some (begets k f)) t n m printed old output failed is more len out did fault = did (is ∙ no_more n m more)
+words_are K words asked awaited (Some (spawns k f)) t n m printed old output failed is more len out did fault = did (is ∙ no_more n m more)
 words_are K words asked awaited (Some (prints text)) t n m printed old output failed is more len out did fault = did (is ∙ no_more n m more)
 words_are K words asked awaited (Some waits) t n m printed old output failed is more len out did fault = did (is ∙ no_more n m more)
 words_are K words asked awaited (Some ends) t n m printed old output failed is more len out did fault = did (is ∙ no_more n m more)

@@ -27,7 +27,7 @@ abbrev mutual
   branches_of_all (groups_and g gs) = branches g ++ branches_of_all gs
 
 mutual
-  -- The group can synchronize by this base event, and this follows (chapter 3). No rule has a never, which offers nothing.
+  -- The group can synchronize by this base event, and this follows (chapter 3). There is no rule for never: it offers nothing.
   pub data Offers : PlainGroup → PlainBase → Sequel → Type 0 where
     -- sync: a thread that waits on a base event waits for just that; nothing is done with its result, and no nack fires
     itself : (b : PlainBase) → Offers (leaf b) b (record { wraps = []; fired = [] })

@@ -17,7 +17,7 @@ pub record PlainOffer : Type 0 where
   pub leaf : ℕ
   pub base : PlainBase
 
--- the leaves of one thread that have these bases, of which the first has this number
+-- the leaves of one thread with these base events, numbered from this number on
 abbrev pub leaves_from : ℕ → ℕ → List PlainBase → List PlainOffer
 leaves_from thread leaf [] = []
 leaves_from thread leaf (b ∷ bs) = record { thread = thread; leaf = leaf; base = b } ∷ leaves_from thread (leaf + 1) bs
@@ -82,7 +82,7 @@ rows_of is_lit offers = map single (filter (λ o. is_lit o.base) offers) ++ flat
 abbrev pub scan : PlainWorld → List Meet
 scan w = rows_of (lit w) (offers_of (pending w))
 
--- the scan of these pending threads, where this is told of the lights
+-- the same of these pending threads, where `told` says which lights are lit
 abbrev pub scan_of : List PlainEntry → (Light → Bool) → List Meet
 scan_of entries told = rows_of (lit_by told) (offers_of entries)
 

@@ -8,7 +8,7 @@ ghost use Rattle.cml_scan.specs.Scan as spec;
 use cml_value::Tid;
 use std::alloc::AllocError;
 
-/// A communication that is possible now.
+/// A row: a communication that is possible now.
 #[derive(Clone, Copy, PartialEq, Eq)]
 pub enum Meet {
     /// This leaf alone.

@@ -72,9 +72,10 @@ fn find(alloc: Global, goal: &Goal<'_>, given: &[Item], tries: u64) -> Result<Se
     Ok(search)
 }
 
-/// A schedule of the program that ends as the given one does: it can be followed from the start, it is no longer, and no single item, and no single thread's
-/// items from some point on, can be left out of it, unless all tries were used. A try is a replay of a schedule that is no longer than the shortest so far;
-/// the given one is replayed once more at first. Turns of one thread are put together where that makes no difference to how the run ends.
+/// A schedule of the program that ends as the given one does: it can be followed from the start, it is not longer than the given one, and
+/// no single item, and no single thread's items from some point on, can be left out of it, unless all tries were used. A try is a replay of
+/// a schedule that is not longer than the shortest so far; the given one is replayed once more at first. Turns of one thread are put
+/// together where that makes no difference to how the run ends.
 ///
 /// It takes at most so many times as long as a replay of the given schedule, and memory for two copies of it beside what a replay takes.
 ///

@@ -63,7 +63,7 @@ impl Clock {
         self.waited.get(&tick).copied().unwrap_or(0)
     }
 
-    /// One more leaf waits for the tick.
+    /// Counts one more leaf that waits for the tick.
     ///
     /// # Errors
     /// Out of memory, where no leaf waited for it: nothing changes.
@@ -79,7 +79,7 @@ impl Clock {
         Ok(())
     }
 
-    /// One leaf waits for the tick no more. It takes no memory.
+    /// Counts one leaf less that waits for the tick. It takes no memory.
     pub fn leave(&mut self, tick: u64)
         ensures waited { RemovesLeaf tick self.old.waited self.new.waited }
         ensures now { self.new.tick ≡ self.old.tick }
@@ -93,7 +93,8 @@ impl Clock {
         }
     }
 
-    /// The ticks that come when the clock moves to this time, ascending: those for which waits are enabled then and were not before.
+    /// The ticks that come when the clock moves to this time, ascending: those for which leaves wait, after the time now, and up to the new
+    /// one and with it.
     ///
     /// # Errors
     /// Out of memory.
@@ -113,7 +114,7 @@ impl Clock {
         Ok(ticks)
     }
 
-    /// The clock moves on. It takes no memory.
+    /// Moves the clock on. It takes no memory.
     pub fn advance(&mut self, to: u64)
         requires { self.old.tick ≤ to }
         ensures now { self.new.tick ≡ to }

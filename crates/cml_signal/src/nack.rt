@@ -90,7 +90,7 @@ impl NackCell {
         }
     }
 
-    /// A pending group has its branch from now on.
+    /// Makes it live: a pending group has its branch from now on.
     ///
     /// # Errors
     /// It is not fresh; nothing changes.
@@ -106,7 +106,7 @@ impl NackCell {
         }
     }
 
-    /// An event outside its branch was chosen.
+    /// Fires it: an event outside its branch was chosen.
     ///
     /// # Errors
     /// It is not live; nothing changes.
@@ -122,7 +122,7 @@ impl NackCell {
         }
     }
 
-    /// An event inside its branch was chosen.
+    /// Holds it: an event inside its branch was chosen.
     ///
     /// # Errors
     /// It is not live; nothing changes.

@@ -16,14 +16,14 @@ use Rattle.cml_step.specs.Callers.{calls_on, AllCallsFit, HasRoomAbove}
 use Rattle.cml_step.specs.Calls.{entry_for, entry_in, entry_of, statements_at, text_of, wait_of, WaitFits}
 use Rattle.cml_step.specs.Faults.{Found}
 use Rattle.cml_step.specs.Variables.{bound}
-use Rattle.cml_step.specs.Machines.{PlainHeld, plain_held, name_count}
+use Rattle.cml_step.specs.Machines.{PlainHeld, plain_held, wraps, AreWrapsOf, name_count}
 use Rattle.cml_step.specs.Slices.{GoesIn}
-use Rattle.cml_step.specs.Stacks.{CallFits, EachBeneath, term_of}
-use Rattle.cml_step.specs.Steps.{goes_on, fails, ◌>>=◌, is_below_limit, pushed}
+use Rattle.cml_step.specs.Stacks.{CallFits, EachBeneath, StackFits, term_of}
+use Rattle.cml_step.specs.Steps.{goes_on, fails, ◌>>=◌, is_below_limit, pushed, next, delivered}
 use Rattle.cml_step.specs.Terms.{Program, StackEntry, call, Term, max_entries, call_of}
 use Rattle.cml_step.proofs.AgreeLemmas.{called_agrees}
 use Rattle.cml_step.proofs.SliceLemmas.{goes_more}
-use Rattle.cml_step.proofs.StackLemmas.{begun, begun_fits, term_pushed, beneath_pushed}
+use Rattle.cml_step.proofs.StackLemmas.{begun, begun_fits, term_pushed, pushed_is, fits_popped, beneath_pushed, beneath_popped}
 
 -- one more call on top
 pub on_pushed : (p : List (PlainItem ℕ)) (cs : List Call) (c : Call) (below : Term) → calls_on p (cs ++ c ∷ []) below ≡ entry_of p c ∷ calls_on p cs below
@@ -111,3 +111,18 @@ pub laid_fits : (p : List (PlainItem ℕ)) (left : List Call) (c : Call) (hs : L
 laid_fits p left c hs h =
     let f : CallFits p c × AllCallsFit p (reverse left) = subst (AllCallsFit p) (reverse-append left (c ∷ [])) h.1 in
     (beneath_pushed p hs (plain_held (entry.Call c)) h.0 f.0, f.1)
+
+-- wraps of which no function is left, over a call: their value goes to it
+pub under_wraps : (p : List (PlainItem ℕ)) (hs : List PlainHeld) (c : Call) (v : PlainValue) → StackFits p ((hs ++ plain_held (entry.Call c) ∷ []) ++ wraps [] v ∷ []) →
+    EachBeneath p hs × CallFits p c × AreWrapsOf p [] v
+under_wraps p hs c v h =
+    let r = fits_popped p (hs ++ plain_held (entry.Call c) ∷ []) (wraps [] v) h in
+    let s = beneath_popped p hs (plain_held (entry.Call c)) r.0 in (s.0, s.1, r.1)
+
+pub value_through : (p : List (PlainItem ℕ)) (self : ℕ) (hs all : List PlainHeld) (c d : Call) (v : PlainValue) → all ≡ (hs ++ plain_held (entry.Call c) ∷ []) ++ wraps [] v ∷ [] →
+    ((below : Term) → delivered v (entry_of p c ∷ below) ≡ goes_on (entry_of p d ∷ below)) → next (text_of p) self (term_of p all) ≡ goes_on (term_of p (hs ++ plain_held (entry.Call d) ∷ []))
+value_through p self hs all c d v is goes =
+    ap (λ t. next (text_of p) self t) (pushed_is p (hs ++ plain_held (entry.Call c) ∷ []) all (wraps [] v) is)
+    ∙ ap (λ t. delivered v t) (term_pushed p hs (plain_held (entry.Call c)))
+    ∙ goes (term_of p hs)
+    ∙ ap goes_on (sym (term_pushed p hs (plain_held (entry.Call d))))

@@ -1,6 +1,6 @@
 -- A slice that a machine ran.
 use Rattle.std.proofs.Common.{◌≡◌, ◌≤◌, ℕ, List, true, refl, subst, Result, Ok, Err}
-use Rattle.std.specs.Prelude.{IfOk}
+use Rattle.std.specs.Prelude.{IfOk, OnOk}
 use Rattle.cml_check.specs.Syntax.{PlainItem}
 use Rattle.cml_check.specs.InOrder.{arities}
 use Rattle.cml_step.specs.declared.ask.Ask.{Ask}
@@ -18,12 +18,12 @@ use Rattle.cml_step.proofs.ShortLemmas.{sliced_short, short_few}
 use Rattle.cml_step.proofs.SliceLemmas.{slice_counts}
 
 -- the machine's stack has become this one
-pub slice_made : {E : Type 0} (p : List (PlainItem ℕ)) (m : PlainMachine) (es : List PlainHeld) (r : Result (Ask × ℕ) E) → Fits p m → top_await (machine_term p m) ≡ await.nothing →
-    IfOk r (λ x. sliced (text_of p) m.thread (machine_term p m) ≡ record { ask = plain_ask x.0; end = term_of p es; steps = x.1 }) →
-    IfOk r (λ x. StackFits p es) → IfOk r (λ x. ask_agrees (arities p) (plain_ask x.0) ≡ true) →
-    IfOk r (λ x. IsSlice (record { program = p; start = m; end = record { thread = m.thread; stack = es }; ask = plain_ask x.0; steps = x.1 }))
-slice_made p m es (Err e) fits waits meant held agrees = tt
-slice_made p m es (Ok x) fits waits meant held agrees =
+pub slice_made : {E : Type 0} (p : List (PlainItem ℕ)) (m : PlainMachine) (es : List PlainHeld) (r : Result ℕ E) (a : Ask) → Fits p m → top_await (machine_term p m) ≡ await.nothing →
+    IfOk r (λ n. sliced (text_of p) m.thread (machine_term p m) ≡ record { ask = plain_ask a; end = term_of p es; steps = n }) →
+    OnOk r (StackFits p es) → OnOk r (ask_agrees (arities p) (plain_ask a) ≡ true) →
+    IfOk r (λ n. IsSlice (record { program = p; start = m; end = record { thread = m.thread; stack = es }; ask = plain_ask a; steps = n }))
+slice_made p m es (Err e) a fits waits meant held agrees = tt
+slice_made p m es (Ok n) a fits waits meant held agrees =
     let counts = slice_counts (text_of p) m.thread 999 0 (machine_term p m) in
     record {
       meant = meant;

@@ -82,7 +82,7 @@ act_short self act_of.SwapChan t h = asked_short t h
 act_short self act_of.IVar t h = asked_short t h
 act_short self act_of.MVar t h = asked_short t h
 act_short self act_of.Mailbox t h = asked_short t h
-act_short self act_of.MChan t h = asked_short t h
+act_short self act_of.Mchan t h = asked_short t h
 act_short self act_of.Yield t h = asked_short t h
 act_short self act_of.Now t h = asked_short t h
 

@@ -1,5 +1,5 @@
 -- A slice, step by step.
-use Rattle.std.proofs.Common.{◌≡◌, ℕ, zero, suc, ◌+◌, ◌-◌, ◌<◌, ◌≤◌, [], refl, ap, subst, ◌∙◌, arith}
+use Rattle.std.proofs.Common.{◌≡◌, ℕ, zero, suc, ◌+◌, ◌-◌, ◌<◌, ◌≤◌, [], refl, ap, sym, subst, ◌∙◌, arith}
 use Rattle.cml_step.specs.declared.fault.Fault.{Fault}
 use Rattle.cml_step.specs.declared.ask.Ask.{Ask}
 use Rattle.cml_step.specs.declared.ask.Ask.TheVariants as asks_of
@@ -39,8 +39,11 @@ pub slice_fails : (p : Program) (self k n : ℕ) (t : Term) (why : Fault) → n 
     sliced_from p self (k - n) n t ≡ record { ask = ask.fault why; end = []; steps = n + 1 }
 slice_fails p self k n t why h e = ap (λ m. sliced_from p self m n t) (fewer k n h) ∙ one_step p self (k - (n + 1)) n t (fails why) e
 
-pub slice_over : (p : Program) (self k n : ℕ) (t : Term) → k ≤ n → sliced_from p self (k - n) n t ≡ record { ask = ask.nothing; end = t; steps = n }
-slice_over p self k n t h = let e : k - n ≡ 0 = omega (arith, h) in ap (λ m. sliced_from p self m n t) e ∙ no_step p self n t
+pub slice_over : (p : Program) (self k n : ℕ) (t : Term) (a : Ask) → k ≤ n → a ≡ asks_of.Nothing → sliced_from p self (k - n) n t ≡ record { ask = plain_ask a; end = t; steps = n }
+slice_over p self k n t a h g =
+    let e : k - n ≡ 0 = omega (arith, h) in
+    let as_asked : (b : Ask) → PlainSlice = λ b. record { ask = plain_ask b; end = t; steps = n } in
+    ap (λ m. sliced_from p self m n t) e ∙ no_step p self n t ∙ ap as_asked (sym g)
 
 -- one more step goes on
 pub goes_more : (p : Program) (self n : ℕ) (t u v : Term) → GoesIn p self n t u → next p self u ≡ goes_on v → GoesIn p self (n + 1) t v

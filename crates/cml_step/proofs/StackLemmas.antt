@@ -18,7 +18,7 @@ use Rattle.cml_check.specs.InOrder.{arities}
 use Rattle.cml_step.specs.Agrees.{function_agrees, values_count}
 use Rattle.cml_step.specs.Calls.{WaitFits}
 use Rattle.cml_check.specs.Names.{AreDistinct}
-use Rattle.cml_step.specs.Agrees.{value_agrees, all_agree}
+use Rattle.cml_step.specs.Agrees.{value_agrees, all_agree, ask_agrees}
 use Rattle.cml_step.specs.Steps.{PlainStep, filled, delivered, goes_on, asks, next, wraps_step, pushed}
 use Rattle.cml_step.specs.Terms.{runs}
 use Rattle.cml_step.specs.Forced.{with_argument}
@@ -35,9 +35,11 @@ use Rattle.cml_step.specs.Agrees.{functions_agree}
 use Rattle.cml_step.specs.Machines.{PlainHeld, plain_held, held_entry, held_on, HeldFits, HeldFitsBeneath, name_count}
 use Rattle.cml_step.specs.declared.entry.Entry.{Entry}
 use Rattle.cml_step.specs.Shared.{topped, called}
-use Rattle.cml_step.specs.Stacks.{CallFits, WrapsFit, term_of, EachBeneath, StackFits, IsStep, IsDelivered, EntryStands}
+use Rattle.cml_step.specs.Stacks.{CallFits, WrapsFit, term_of, EachBeneath, StackFits, IsStep, StepFits, IsDelivered, EntryStands}
 use Rattle.cml_step.specs.Asks.{PlainAsk}
 use Rattle.cml_step.specs.declared.ask.Ask.{Ask}
+use Rattle.cml_step.specs.declared.ask.Ask.TheVariants as asks_of
+use Rattle.cml_step.specs.AskViews.{plain_ask}
 use Rattle.cml_step.specs.declared.fault.Stop.{Stop}
 use Rattle.cml_step.specs.declared.fault.Stop.TheVariants as stop
 
@@ -252,35 +254,42 @@ call_dropped below (Some c) hs h lifted e = (top_and_rest below hs (plain_held (
 pub stands_on : (p : List (PlainItem ℕ)) (es hs : List PlainHeld) (h : PlainHeld) (a : PlainAsk) (step : PlainStep) → es ≡ hs ++ h ∷ [] → step ≡ asks a (held_entry p h ∷ term_of p hs) → step ≡ asks a (term_of p es)
 stands_on p es hs h a step e m = m ∙ ap (asks a) (sym (pushed_is p hs es h e))
 
-pub stands_under : (p : List (PlainItem ℕ)) (es new hs : List PlainHeld) (h : PlainHeld) (e : StackEntry) (r : Result Ask Stop) (step : PlainStep) → es ≡ hs ++ h ∷ [] →
-    step ≡ pushed e (held_entry p h ∷ term_of p hs) → IsStep p r (pushed e (term_of p es)) new → IsStep p r step new
-stands_under p es new hs h e r step q m i = subst (λ (s : PlainStep). IsStep p r s new) (ap (pushed e) (pushed_is p hs es h q) ∙ sym m) i
-
-pub same_step : (p : List (PlainItem ℕ)) (new : List PlainHeld) (r : Result Ask Stop) (step other : PlainStep) → step ≡ other → IsStep p r other new → IsStep p r step new
-same_step p new r step other m i = subst (λ (s : PlainStep). IsStep p r s new) (sym m) i
+-- that entry has put another on top, and asks nothing
+pub stands_under : (p : List (PlainItem ℕ)) (es new hs : List PlainHeld) (h : PlainHeld) (e : StackEntry) (r : Result (Unit {0}) Stop) (a : Ask) (step : PlainStep) → es ≡ hs ++ h ∷ [] →
+    step ≡ pushed e (held_entry p h ∷ term_of p hs) → a ≡ asks_of.Nothing → IsStep p r asks_of.Nothing (pushed e (term_of p es)) new → IsStep p r a step new
+stands_under p es new hs h e r a step q m n i =
+    subst (λ (b : Ask). IsStep p r b step new) (sym n) (subst (λ (s : PlainStep). IsStep p r asks_of.Nothing s new) (ap (pushed e) (pushed_is p hs es h q) ∙ sym m) i)
 
 -- a step that could not be taken
-pub moved_failed : (p : List (PlainItem ℕ)) (e : Stop) (new : StackEntry) (below : Term) (step : PlainStep) (es : List PlainHeld) → MovesTo p (Err e) new below step → IsStep p (Err e) step es
-moved_failed p (stop.Fault why) new below step es h = h
-moved_failed p stop.Memory new below step es h = tt
-
-pub delivered_failed : (p : List (PlainItem ℕ)) (e : Stop) (new : StackEntry) (below : Term) (step : PlainStep) (es : List PlainHeld) → IsDelivered (Err e) new below step → IsStep p (Err e) step es
-delivered_failed p (stop.Fault why) new below step es h = h
-delivered_failed p stop.Memory new below step es h = tt
+pub moved_failed : (p : List (PlainItem ℕ)) (e : Stop) (new : StackEntry) (below : Term) (a : Ask) (step : PlainStep) (es : List PlainHeld) → MovesTo p (Err e) new below step → IsStep p (Err e) a step es
+moved_failed p (stop.Fault why) new below a step es h = h
+moved_failed p stop.Memory new below a step es h = tt
 
 -- a value that was delivered to the entry on top
 pub delivered_on : (p : List (PlainItem ℕ)) (old new hs : List PlainHeld) (h g : PlainHeld) (v : PlainValue) → old ≡ hs ++ h ∷ [] → new ≡ hs ++ g ∷ [] →
     delivered v (held_entry p h ∷ term_of p hs) ≡ goes_on (held_entry p g ∷ term_of p hs) → delivered v (term_of p old) ≡ goes_on (term_of p new)
 delivered_on p old new hs h g v e f s = ap (delivered v) (pushed_is p hs old h e) ∙ s ∙ ap goes_on (sym (pushed_is p hs new g f))
 
+-- the same, where it could be at fault
+pub delivered_step : (p : List (PlainItem ℕ)) (old new hs : List PlainHeld) (h g : PlainHeld) (v : PlainValue) (r : Result (Unit {0}) Stop) (a : Ask) → old ≡ hs ++ h ∷ [] → new ≡ hs ++ g ∷ [] → a ≡ asks_of.Nothing →
+    IsDelivered r (held_entry p g) (term_of p hs) (delivered v (held_entry p h ∷ term_of p hs)) → IsStep p r a (delivered v (term_of p old)) new
+delivered_step p old new hs h g v (Ok done) a e f n s = delivered_on p old new hs h g v e f s ∙ ap (λ b. asks (plain_ask b) (term_of p new)) (sym n)
+delivered_step p old new hs h g v (Err (stop.Fault why)) a e f n s = ap (delivered v) (pushed_is p hs old h e) ∙ s
+delivered_step p old new hs h g v (Err stop.Memory) a e f n s = tt
+
+pub delivered_fits : (p : List (PlainItem ℕ)) (new hs : List PlainHeld) (g : PlainHeld) (r : Result (Unit {0}) Stop) (a : Ask) → new ≡ hs ++ g ∷ [] → a ≡ asks_of.Nothing → EachBeneath p hs →
+    IfOk r (λ _. HeldFits p g) → StepFits p r a new
+delivered_fits p new hs g (Ok done) a f n b s = (stands_fits p new hs g f b s, ap (λ b. ask_agrees (arities p) (plain_ask b)) n)
+delivered_fits p new hs g (Err e) a f n b s = tt
+
 -- how many entries there are below the one on top
 pub count_under : (p : List (PlainItem ℕ)) (old hs : List PlainHeld) (h : PlainHeld) (n : ℕ) → old ≡ hs ++ h ∷ [] → n ≡ length old → length (term_of p hs) + 1 ≡ n
 count_under p old hs h n e l = let m = ap length e in omega (arith, term_length p hs, length-append hs (h ∷ []), m, l)
 
 -- an error that is passed on
-pub same_error : (p : List (PlainItem ℕ)) (r : Result Ask Stop) (e : Stop) (step : PlainStep) (es : List PlainHeld) → IsErrAnd r (λ x. x ≡ e) → IsStep p (Err e) step es → IsStep p r step es
-same_error p (Ok a) e step es h i = absurd h
-same_error p (Err x) e step es h i = subst (λ (y : Stop). IsStep p (Err y) step es) (sym h) i
+pub same_error : (p : List (PlainItem ℕ)) (r : Result (Unit {0}) Stop) (e : Stop) (a : Ask) (step : PlainStep) (es : List PlainHeld) → IsErrAnd r (λ x. x ≡ e) → IsStep p (Err e) a step es → IsStep p r a step es
+same_error p (Ok done) e a step es h i = absurd h
+same_error p (Err x) e a step es h i = subst (λ (y : Stop). IsStep p (Err y) a step es) (sym h) i
 
 -- the top one was lifted from below
 pub dropped_lifted : {E : Type 0} (below : List PlainHeld) (own : Option Call) (over : Option Entry) (old new : List PlainHeld) (r : Result (Unit {0}) E) → topped (called below own) over ≡ old →

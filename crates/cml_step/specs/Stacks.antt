@@ -44,14 +44,14 @@ abbrev pub StackFits : List (PlainItem ℕ) → List PlainHeld → Type 0
 StackFits p hs = AllHeldFit p hs
 
 -- what a step of the machine came to
-abbrev pub IsStep : List (PlainItem ℕ) → Result Ask Stop → PlainStep → List PlainHeld → Type 0
-IsStep p (Ok a) step es = step ≡ asks (plain_ask a) (term_of p es)
-IsStep p (Err (stop.Fault why)) step es = step ≡ fails why
-IsStep p (Err stop.Memory) step es = Unit {0}
+abbrev pub IsStep : List (PlainItem ℕ) → Result (Unit {0}) Stop → Ask → PlainStep → List PlainHeld → Type 0
+IsStep p (Ok done) a step es = step ≡ asks (plain_ask a) (term_of p es)
+IsStep p (Err (stop.Fault why)) a step es = step ≡ fails why
+IsStep p (Err stop.Memory) a step es = Unit {0}
 
-abbrev pub StepFits : List (PlainItem ℕ) → Result Ask Stop → List PlainHeld → Type 0
-StepFits p (Ok a) es = StackFits p es × (ask_agrees (arities p) (plain_ask a) ≡ true)
-StepFits p (Err e) es = Unit {0}
+abbrev pub StepFits : List (PlainItem ℕ) → Result (Unit {0}) Stop → Ask → List PlainHeld → Type 0
+StepFits p (Ok done) a es = StackFits p es × (ask_agrees (arities p) (plain_ask a) ≡ true)
+StepFits p (Err e) a es = Unit {0}
 
 -- what delivering a value came to, where the entry on top stands for the entry `new` then
 abbrev pub IsDelivered : Result (Unit {0}) Stop → StackEntry → Term → PlainStep → Type 0

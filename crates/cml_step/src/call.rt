@@ -100,6 +100,25 @@ fn number_in(program: &Prog, f: &Function, slots: &[Value], e: &Expr) -> Option<
     quick_int(slots, e)
 }
 
+// The same, as a value.
+#[inline(always)]
+pub(crate) fn number_value_in(
+    program: &Prog,
+    f: &Function,
+    slots: &[Value],
+    e: &Expr,
+) -> Option<Value>
+    requires fits { expr_fits (arities program.now) (length f.now.names) e.now ≡ true }
+    requires distinct { AreDistinct f.now.names }
+    ensures gives { let of = value_of (bound f.now.names slots.now) in
+        IfSome result (λ v.
+        meaning.evaluate of (expr_map (name_at f.now.names) e.now) ≡ Ok v) }
+    ensures agrees { IfSome result (λ v. value_agrees (arities program.now) v ≡ true) }
+{
+    let z = number_in(program, f, slots, e)?;
+    Some(Value::new(ValueKind::Int(z)))
+}
+
 // Whether a test holds in a call, found from its value.
 #[inline(never)]
 #[tactic(auto, using(crate::proofs::CallLemmas::tested, crate::proofs::CallLemmas::not_tested))]
@@ -121,6 +140,7 @@ fn truth_in_full(
 }
 
 // Whether a test holds in a call.
+#[inline(always)]
 #[tactic(auto, using(crate::proofs::CallLemmas::tested, crate::proofs::VariableLemmas::evaluate_named))]
 fn truth_in(
     alloc: Global,
@@ -164,8 +184,9 @@ pub(crate) fn values_in(
 }
 
 // Makes room for a slot: those that were not given a value yet are unit.
+#[inline(never)]
 #[tactic(auto, using(crate::proofs::CallLemmas::padded, crate::proofs::CallLemmas::agree_padded))]
-pub(crate) fn pad(slots: &mut Vec<Value>, slot: usize) -> Result<(), Stop>
+fn pad_in_full(slots: &mut Vec<Value>, slot: usize) -> Result<(), Stop>
     ensures same { (names : List Name) →
         bound names slots.new.items ≡ bound names slots.old.items }
     ensures agree { (fs : List ℕ) → all_agree fs slots.old.items ≡ true
@@ -179,7 +200,23 @@ pub(crate) fn pad(slots: &mut Vec<Value>, slot: usize) -> Result<(), Stop>
     Ok(())
 }
 
-// The instruction sets a variable to the value of an expression, whatever it is, and goes on at `next`.
+// The same, where most often the room is there.
+#[inline(always)]
+pub(crate) fn pad(slots: &mut Vec<Value>, slot: usize) -> Result<(), Stop>
+    ensures same { (names : List Name) →
+        bound names slots.new.items ≡ bound names slots.old.items }
+    ensures agree { (fs : List ℕ) → all_agree fs slots.old.items ≡ true
+        → all_agree fs slots.new.items ≡ true }
+    ensures room { IfOk result (λ _. slot < length slots.new.items) }
+    ensures memory { IfErr result (λ e. e ≡ Stop.Memory) }
+{
+    if slot < slots.len() {
+        return Ok(());
+    }
+    pad_in_full(slots, slot)
+}
+
+// Sets a variable to the value of an expression, whatever that is, and goes on at `next`.
 #[inline(never)]
 #[tactic(auto, using(crate::proofs::VariableLemmas::bound_set, crate::proofs::CallLemmas::agree_set))]
 fn assign_in_full(
@@ -210,7 +247,8 @@ fn assign_in_full(
     Ok(())
 }
 
-/// The instruction sets a variable to the value of an expression, and goes on at `next`.
+/// Sets a variable to the value of an expression, and goes on at `next`.
+#[inline(always)]
 #[tactic(auto, using(crate::proofs::VariableLemmas::bound_set, crate::proofs::CallLemmas::agree_set))]
 pub(crate) fn assign(
     alloc: Global,
@@ -243,7 +281,8 @@ pub(crate) fn assign(
     assign_in_full(alloc, program, f, slot, e, next, call)
 }
 
-/// The instruction goes on at the first of two places where its test holds, else at the second.
+/// Goes on at the first of two places where the test holds, else at the second.
+#[inline(always)]
 pub(crate) fn choose(
     alloc: Global,
     program: &Prog,
@@ -282,7 +321,7 @@ fn went_on(stepped: Result<(), Stop>) -> Result<Action, Stop>
     }
 }
 
-/// The value comes that the call waits for.
+/// Gives the call the value for which it waits.
 pub(crate) fn fill(call: &mut Call, value: Value)
     requires waits { WaitFits call.old.wait (length call.old.slots.items)
         (length call.old.slots.items) }
@@ -470,7 +509,7 @@ fn effect_alone(act: Act) -> Action
         Act::IVar => Action::Asks(Ask::MakeIVar),
         Act::MVar => Action::Asks(Ask::MakeMVar(None)),
         Act::Mailbox => Action::Asks(Ask::MakeMailbox),
-        Act::MChan => Action::Asks(Ask::MakeMchan),
+        Act::Mchan => Action::Asks(Ask::MakeMchan),
         Act::Exit => Action::Ends,
         Act::Yield => Action::Asks(Ask::Yield),
         Act::Now => Action::Asks(Ask::Now),

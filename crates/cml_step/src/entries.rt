@@ -213,7 +213,7 @@ impl Model for Stack {
     ghost invariant = { λ a. a.over ≡ None → a.call ≡ None → a.below ≡ [] };
 }
 
-// The entry becomes the same as the other, if there is one.
+// Makes the entry a copy of the other, if there is one.
 fn copy_over_into(
     alloc: Global,
     mine: &mut Option<Entry>,
@@ -235,7 +235,7 @@ fn copy_over_into(
     }
 }
 
-// The call becomes the same as the other, if there is one, in the lists that it has.
+// Makes the call a copy of the other, if there is one, in the lists that it has.
 fn copy_call_into(
     alloc: Global,
     mine: &mut Option<Call>,
@@ -390,7 +390,7 @@ fn call_count(call: &Option<Call>) -> usize
     }
 }
 
-// The call, if there is one, holds no value from now on.
+// Drops the values of the call, if there is one.
 fn empty(call: &mut Option<Call>)
     ensures { HoldsNoValue (called [] call.new) }
 {
@@ -501,7 +501,7 @@ impl Stack {
         lift(alloc, &mut self.over, &mut self.call, &mut self.below)
     }
 
-    /// The same entries, whose values have one more owner each.
+    /// A copy of the entries; it shares the parts of their values.
     pub fn copy(&self, alloc: Global) -> Result<Stack, AllocError>
         ensures { IfOk result (λ copy. copy ≡ self.now) }
     {
@@ -512,7 +512,7 @@ impl Stack {
         }
     }
 
-    /// Becomes the same as the other, in the lists that its call has.
+    /// Makes this stack a copy of the other, in the lists that its call has.
     pub fn copy_from(&mut self, alloc: Global, other: &Stack) -> Result<(), AllocError>
         ensures { IfOk result (λ _. self.new ≡ other.now) }
     {

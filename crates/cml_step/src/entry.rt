@@ -30,7 +30,7 @@ pub(crate) enum Entry {
     Wraps(Wraps),
 }
 
-/// Other owners of these values.
+/// Copies of these values, which share their parts with them.
 pub(crate) fn copies(alloc: Global, values: &[Value]) -> Result<Vec<Value>, AllocError>
     ensures { IfOk result (λ vs. vs.items ≡ values.now) }
 {
@@ -41,7 +41,7 @@ pub(crate) fn copies(alloc: Global, values: &[Value]) -> Result<Vec<Value>, Allo
     Ok(copies)
 }
 
-// Other owners of these functions.
+// Copies of these functions, which share their parts with them.
 fn functions(alloc: Global, functions: &[FnRef]) -> Result<Vec<FnRef>, AllocError>
     ensures { IfOk result (λ fs. fs.items ≡ functions.now) }
 {
@@ -69,7 +69,7 @@ pub(crate) fn begin(alloc: Global, function: &FnRef) -> Result<Call, AllocError>
     })
 }
 
-/// The same call, whose values have one more owner each.
+/// A copy of the call; it shares the parts of its values.
 pub(crate) fn copy_call(alloc: Global, call: &Call) -> Result<Call, AllocError>
     ensures { IfOk result (λ copy. plain_held (Entry.Call copy) ≡ plain_held (Entry.Call call.now)) }
 {
@@ -82,7 +82,7 @@ pub(crate) fn copy_call(alloc: Global, call: &Call) -> Result<Call, AllocError>
     })
 }
 
-// Puts other owners of these values into the list.
+// Puts copies of these values into the list, which share their parts with them.
 fn renew_slots(slots: &mut Vec<Value>, values: &[Value]) -> Result<(), AllocError>
     ensures { IfOk result (λ _. slots.new.items ≡ values.now) }
 {
@@ -93,7 +93,7 @@ fn renew_slots(slots: &mut Vec<Value>, values: &[Value]) -> Result<(), AllocErro
     Ok(())
 }
 
-/// The call becomes the same as the other, in the lists that it has.
+/// Makes this call a copy of the other, in the lists that it has.
 pub(crate) fn renew_call(own: &mut Call, call: &Call) -> Result<(), AllocError>
     ensures { IfOk result (λ _. plain_held (Entry.Call own.new)
         ≡ plain_held (Entry.Call call.now)) }
@@ -105,7 +105,7 @@ pub(crate) fn renew_call(own: &mut Call, call: &Call) -> Result<(), AllocError>
     renew_slots(&mut own.slots, call.slots.as_slice())
 }
 
-/// The same entry, whose values have one more owner each.
+/// A copy of the entry; it shares the parts of its values.
 pub(crate) fn copy_entry(alloc: Global, entry: &Entry) -> Result<Entry, AllocError>
     ensures { IfOk result (λ copy. plain_held copy ≡ plain_held entry.now) }
 {

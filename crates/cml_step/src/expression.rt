@@ -227,7 +227,10 @@ pub(crate) fn evaluate_in(
     let mut found = list;
     found.clear();
     for e in &expressions.items {
-        found.push(evaluate(alloc, slots, e)?)?;
+        match quick_int(slots, e) {
+            Some(z) => found.push(Value::new(ValueKind::Int(z)))?,
+            None => found.push(evaluate(alloc, slots, e)?)?,
+        }
     }
     Ok(found)
 }

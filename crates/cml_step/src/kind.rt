@@ -29,7 +29,7 @@ pub(crate) fn truth_of(value: &Value) -> Result<bool, Stop>
     }
 }
 
-/// Another owner of the event that a value is.
+/// A copy of the event that a value is; it shares its parts.
 pub(crate) fn event_of(value: &Value) -> Result<Event, Stop>
     ensures { ComesTo (λ e. e) result (spec.as_event value.now) }
 {
@@ -39,22 +39,22 @@ pub(crate) fn event_of(value: &Value) -> Result<Event, Stop>
     }
 }
 
-/// Another owner of the first part of the pair that a value is.
+/// A copy of the first part of the pair that a value is; it shares its parts.
 pub(crate) fn first_of(value: &Value) -> Result<Value, Stop>
     ensures { ComesTo (λ v. v) result (spec.first_part value.now) }
 {
     match value.kind() {
-        ValueKind::Pair(p) => Ok(p.0.copy()?),
+        ValueKind::Pair(p) => Ok(p.first().copy()?),
         _ => Err(Stop::Fault(Fault::Kind)),
     }
 }
 
-/// Another owner of the second part of the pair that a value is.
+/// A copy of the second part of the pair that a value is; it shares its parts.
 pub(crate) fn second_of(value: &Value) -> Result<Value, Stop>
     ensures { ComesTo (λ v. v) result (spec.second_part value.now) }
 {
     match value.kind() {
-        ValueKind::Pair(p) => Ok(p.1.copy()?),
+        ValueKind::Pair(p) => Ok(p.second().copy()?),
         _ => Err(Stop::Fault(Fault::Kind)),
     }
 }

@@ -1,6 +1,6 @@
 //! A thread of a script.
 
-ghost use Rattle.std.specs.Prelude.{◌≡◌, ℕ, List, [], ◌∷◌, true, IfOk, IfErr, OnErr, ◌↔◌, IsTrue};
+ghost use Rattle.std.specs.Prelude.{◌≡◌, ℕ, List, [], ◌∷◌, true, IfOk, IfErr, OnOk, OnErr, ◌↔◌, IsTrue};
 ghost use Rattle.cml_check.specs.Syntax.{PlainItem};
 ghost use Rattle.cml_check.specs.InOrder.{InOrder, arities};
 ghost use Rattle.cml_step.specs.Agrees.{answer_agrees, function_agrees};
@@ -31,7 +31,7 @@ use std::alloc::{AllocError, AllocFailed, Global};
 use std::marker::Model;
 use std::mem::swap;
 
-/// A thread of a script: its number and its stack. What the stack means, a checked program says.
+/// A thread of a script: its number and its stack. The stack has a meaning only together with a checked program.
 #[derive(Drop)]
 pub struct Machine {
     thread: Tid,
@@ -49,7 +49,7 @@ impl Model for Machine {
     ghost view = { λ a. record { thread = a.thread.0; stack = a.stack } };
 }
 
-// The value goes to the call on top, which waits for it.
+// Gives the value to the call on top, which waits for it.
 fn give_value(stack: &mut Stack, value: Value)
     requires { (p : List (PlainItem ℕ)) × StackFits p stack.old
         × (top_await (term_of p stack.old) ≡ answers.value) }
@@ -105,6 +105,7 @@ impl Machine {
             top_await (machine_term program.now m) ≡ answers.nothing) }
         ensures err { IfErr result (λ back. back.value ≡ function) }
     {
+        // Read for the proof alone, which uses what is promised of it.
         let _count = program.functions();
         match begin(alloc, &function) {
             Ok(call) => {
@@ -158,11 +159,21 @@ impl Machine {
     {
         let mut machine = self.copy(alloc)?;
         let thread = machine.thread;
-        let _ran = run(alloc, thread, program, &mut machine.stack, steps)?;
+        let mut asked = Ask::Nothing;
+        let _ran = run(
+            alloc,
+            thread,
+            program,
+            &mut machine.stack,
+            steps,
+            &mut asked,
+        )?;
+        drop(asked);
         Ok(machine)
     }
 
-    /// The same thread at the same place. It takes a count for each value of the call on top and of what stands over it, whatever stands below.
+    /// A copy. The values of the call on top, and of what stands over it, get one more owner each; all that stands below is shared as one,
+    /// however much it is.
     ///
     /// # Errors
     /// Out of memory.
@@ -175,7 +186,7 @@ impl Machine {
         })
     }
 
-    // Becomes the same as the other, in the lists that it has.
+    // Makes this machine a copy of the other, in the lists that it has.
     fn copy_from(&mut self, alloc: Global, other: &Machine) -> Result<(), AllocError>
         ensures { IfOk result (λ _. self.new ≡ other.now) }
     {
@@ -183,8 +194,7 @@ impl Machine {
         self.stack.copy_from(alloc, &other.stack)
     }
 
-    /// Lets go the values that a machine holds which is used no more but as a spare of others ([`run_here`](Machine::run_here)). It takes no
-    /// memory.
+    /// Drops the values of a machine that from now on is only the spare of others ([`run_here`](Machine::run_here)). It takes no memory.
     pub fn rest(&mut self)
         ensures values { HoldsNoValue self.new.stack }
         ensures thread { self.new.thread ≡ self.old.thread }
@@ -192,7 +202,7 @@ impl Machine {
         self.stack.rest();
     }
 
-    /// The thread ends. It takes no memory.
+    /// Ends the thread. It takes no memory.
     pub fn stop(&mut self)
         ensures { self.new ≡ record { thread = self.old.thread; stack = [] } }
     {
@@ -207,24 +217,74 @@ impl Machine {
             && same_entries(Walk::through(&self.stack), Walk::through(&other.stack))
     }
 
-    // A slice of steps: what is asked in the end, and how many they were.
-    pub(crate) fn run(&mut self, alloc: Global, program: &Prog) -> Result<(Ask, u32), AllocError>
+    // A slice of steps: how many they were. What is asked in the end is put where nothing was asked yet.
+    pub(crate) fn run(
+        &mut self,
+        alloc: Global,
+        program: &Prog,
+        asked: &mut Ask,
+    ) -> Result<u32, AllocError>
         requires fits { Fits program.now self.old }
         requires awaits { top_await (machine_term program.now self.old) ≡ answers.nothing }
-        ensures { IfOk result (λ r. IsSlice (record {
+        requires nothing { asked.old ≡ Ask.Nothing }
+        ensures { IfOk result (λ steps. IsSlice (record {
           program = program.now;
           start = self.old;
           end = self.new;
-          ask = plain_ask r.0;
-          steps = r.1;
+          ask = plain_ask asked.new;
+          steps = steps;
         })) }
     {
-        run(alloc, self.thread, program, &mut self.stack, MAX_STEPS)
+        run(
+            alloc,
+            self.thread,
+            program,
+            &mut self.stack,
+            MAX_STEPS,
+            asked,
+        )
+    }
+
+    /// Runs a slice of the thread where it stands, as [`run_here`](Machine::run_here) does, and puts what the thread asks in the end where
+    /// nothing was asked yet. Returns how many steps there were.
+    ///
+    /// # Errors
+    /// Out of memory; the machine is as it was, and nothing is asked.
+    pub fn run_asking(
+        &mut self,
+        alloc: Global,
+        program: &Prog,
+        spare: &mut Machine,
+        asked: &mut Ask,
+    ) -> Result<u32, AllocError>
+        requires fits { Fits program.now self.old }
+        requires awaits { top_await (machine_term program.now self.old) ≡ answers.nothing }
+        requires nothing { asked.old ≡ Ask.Nothing }
+        ensures meant { IfOk result (λ steps. IsSlice (record {
+          program = program.now;
+          start = self.old;
+          end = self.new;
+          ask = plain_ask asked.new;
+          steps = steps;
+        })) }
+        ensures spare { OnOk result (spare.new ≡ self.old) }
+        ensures err { OnErr result (self.new ≡ self.old) }
+        ensures err_ask { OnErr result (asked.new ≡ Ask.Nothing) }
+    {
+        spare.copy_from(alloc, self)?;
+        match self.run(alloc, program, asked) {
+            Ok(steps) => Ok(steps),
+            Err(error) => {
+                swap(self, spare);
+                *asked = Ask::Nothing;
+                Err(error)
+            }
+        }
     }
 
     /// Runs a slice of the thread where it stands: its steps up to the first that asks, ends or is at fault, and at most
-    /// [`MAX_STEPS`](crate::MAX_STEPS). Returns what the thread asks in the end, and how many steps there were. The spare becomes what the
-    /// machine was before; what it was itself does not matter, and its lists are used again.
+    /// [`MAX_STEPS`](crate::MAX_STEPS). Returns what the thread asks in the end, and how many steps there were. The spare becomes a copy of
+    /// the machine as it was before. What the spare was does not matter; its lists are used again.
     ///
     /// # Errors
     /// Out of memory; the machine is as it was.
@@ -246,14 +306,9 @@ impl Machine {
         ensures spare { IfOk result (λ _. spare.new ≡ self.old) }
         ensures err { OnErr result (self.new ≡ self.old) }
     {
-        spare.copy_from(alloc, self)?;
-        match self.run(alloc, program) {
-            Ok(did) => Ok(did),
-            Err(error) => {
-                swap(self, spare);
-                Err(error)
-            }
-        }
+        let mut asked = Ask::Nothing;
+        let steps = self.run_asking(alloc, program, spare, &mut asked)?;
+        Ok((asked, steps))
     }
 
     /// Room for the answer of this nack, so that [`answered_nack`](Machine::answered_nack) takes no memory.
@@ -279,7 +334,7 @@ impl Machine {
         Ok(NackRoom { nack, call, below })
     }
 
-    /// The thread is answered by the nack that there is room for. It takes no memory.
+    /// Answers the thread by the nack that there is room for. It takes no memory.
     pub fn take_nack(&mut self, room: NackRoom)
         requires { IsNackRoom self.old room }
         ensures machine { self.new ≡ nack_given room self.old }
@@ -294,7 +349,7 @@ impl Machine {
         self.stack = Stack::calling(room.call, room.below);
     }
 
-    /// The value comes that the thread waits for. It takes no memory.
+    /// Gives the thread the value for which it waits. It takes no memory.
     pub fn take_value(&mut self, value: Value)
         requires { Awaits self.old (a_value value) }
         ensures meant { (p : List (PlainItem ℕ)) → Fits p self.old → machine_term p self.new
@@ -309,8 +364,8 @@ impl Machine {
         give_value(&mut self.stack, value);
     }
 
-    /// The event of the thread was committed: the value of its leaf comes, and the functions of the wraps that it goes through, the innermost
-    /// first. It takes no memory.
+    /// Answers the thread, whose event was committed, by the value of its leaf, and the functions of the wraps through which that goes, the
+    /// innermost first. It takes no memory.
     pub fn take_commit(&mut self, value: Value, wraps: Vec<FnRef>)
         requires { Awaits self.old (a_commit value wraps.items) }
         ensures meant { (p : List (PlainItem ℕ)) → Fits p self.old → machine_term p self.new

@@ -83,6 +83,7 @@ fn part_int(slots: &[Value], e: &Expr) -> Option<i64>
 }
 
 /// The number that an expression is, where it can be found so and has no fault.
+#[inline(always)]
 pub(crate) fn quick_int(slots: &[Value], e: &Expr) -> Option<i64>
     ensures { IfSome result (λ z. evaluate (slot_value slots.now) e.now ≡ Ok (int z)) }
 {
@@ -101,8 +102,9 @@ pub(crate) fn quick_int(slots: &[Value], e: &Expr) -> Option<i64>
     }
 }
 
-/// The truth value that an expression is, where it can be found so and has no fault.
-pub(crate) fn quick_truth(slots: &[Value], e: &Expr) -> Option<bool>
+// The truth value that an expression is, where it is a test of two numbers, or written so.
+#[inline(always)]
+fn plain_truth(slots: &[Value], e: &Expr) -> Option<bool>
     ensures { IfSome result (λ b. evaluate (slot_value slots.now) e.now ≡ Ok (truth b)) }
 {
     match &e.kind {
@@ -114,12 +116,33 @@ pub(crate) fn quick_truth(slots: &[Value], e: &Expr) -> Option<bool>
             }
             _ => None,
         },
-        ExprKind::Unary(Unary::Not, e) => {
-            let b = quick_truth(slots, e)?;
-            Some(!b)
-        }
         ExprKind::Constant(Constant::True) => Some(true),
         ExprKind::Constant(Constant::False) => Some(false),
         _ => None,
+    }
+}
+
+// The same, where `not` stands before it, however often.
+#[inline(never)]
+fn deep_truth(slots: &[Value], e: &Expr) -> Option<bool>
+    ensures { IfSome result (λ b. evaluate (slot_value slots.now) e.now ≡ Ok (truth b)) }
+{
+    match &e.kind {
+        ExprKind::Unary(Unary::Not, e) => {
+            let b = deep_truth(slots, e)?;
+            Some(!b)
+        }
+        _ => plain_truth(slots, e),
+    }
+}
+
+/// The truth value that an expression is, where it can be found so and has no fault.
+#[inline(always)]
+pub(crate) fn quick_truth(slots: &[Value], e: &Expr) -> Option<bool>
+    ensures { IfSome result (λ b. evaluate (slot_value slots.now) e.now ≡ Ok (truth b)) }
+{
+    match &e.kind {
+        ExprKind::Unary(_, _) => deep_truth(slots, e),
+        _ => plain_truth(slots, e),
     }
 }

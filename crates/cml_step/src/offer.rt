@@ -1,7 +1,7 @@
 //! Events that are found without a value made of them. `None` says nothing: then the value is to be found in full, where each fault is told.
 
 ghost use Rattle.std.specs.Prelude.{◌≡◌, Ok, IfSome};
-ghost use Rattle.cml_value.specs.Value.{chan, event, leaf};
+ghost use Rattle.cml_value.specs.Value.{chan, mailbox, mvar, event, leaf};
 ghost use Rattle.cml_value.specs.Views.{plain_base};
 ghost use Rattle.cml_step.specs.Operators.{built};
 ghost use Rattle.cml_step.specs.Variables.{slot_value};
@@ -9,7 +9,7 @@ ghost use Rattle.cml_step.specs.Evaluate.{evaluate};
 
 use crate::number::quick_int;
 use cml_check::{Binary, Expr, ExprKind, Unary};
-use cml_value::{Base, BaseKind, ChanId, Event, EventKind, Value, ValueKind};
+use cml_value::{Base, BaseKind, ChanId, Event, EventKind, MVarId, MboxId, Value, ValueKind};
 
 // The channel that an expression is, where it is a variable.
 fn channel(slots: &[Value], e: &Expr) -> Option<ChanId>
@@ -19,6 +19,38 @@ fn channel(slots: &[Value], e: &Expr) -> Option<ChanId>
         ExprKind::Variable(at) => match slots.get(*at) {
             Some(value) => match value.kind() {
                 ValueKind::Chan(c) => Some(*c),
+                _ => None,
+            },
+            None => None,
+        },
+        _ => None,
+    }
+}
+
+// The mailbox that an expression is, where it is a variable.
+fn mailbox_in(slots: &[Value], e: &Expr) -> Option<MboxId>
+    ensures { IfSome result (λ o. evaluate (slot_value slots.now) e.now ≡ Ok (mailbox o.0)) }
+{
+    match &e.kind {
+        ExprKind::Variable(at) => match slots.get(*at) {
+            Some(value) => match value.kind() {
+                ValueKind::Mailbox(o) => Some(*o),
+                _ => None,
+            },
+            None => None,
+        },
+        _ => None,
+    }
+}
+
+// The M-variable that an expression is, where it is a variable.
+fn variable_in(slots: &[Value], e: &Expr) -> Option<MVarId>
+    ensures { IfSome result (λ o. evaluate (slot_value slots.now) e.now ≡ Ok (mvar o.0)) }
+{
+    match &e.kind {
+        ExprKind::Variable(at) => match slots.get(*at) {
+            Some(value) => match value.kind() {
+                ValueKind::MVar(o) => Some(*o),
                 _ => None,
             },
             None => None,
@@ -59,7 +91,7 @@ fn offered(kind: BaseKind) -> Option<Event>
     }
 }
 
-/// The event that an expression is, where it is a receive or a send that can be found so and has no fault.
+/// The event that an expression is, where it is a receive, a send or a take that can be found so and has no fault.
 pub(crate) fn quick_event(slots: &[Value], e: &Expr) -> Option<Event>
     ensures { IfSome result (λ x. evaluate (slot_value slots.now) e.now ≡ Ok (event x)) }
 {
@@ -67,6 +99,14 @@ pub(crate) fn quick_event(slots: &[Value], e: &Expr) -> Option<Event>
         ExprKind::Unary(Unary::Recv, e) => {
             let from = channel(slots, e)?;
             offered(BaseKind::Recv(from))
+        }
+        ExprKind::Unary(Unary::MailRecv, e) => {
+            let from = mailbox_in(slots, e)?;
+            offered(BaseKind::MailRecv(from))
+        }
+        ExprKind::Unary(Unary::MTake, e) => {
+            let from = variable_in(slots, e)?;
+            offered(BaseKind::MTake(from))
         }
         ExprKind::Binary(Binary::Send, d, e) => {
             let to = channel(slots, d)?;

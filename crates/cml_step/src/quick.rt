@@ -17,7 +17,7 @@ ghost use Rattle.cml_step.specs.Steps.{goes_on, delivered, is_below_limit};
 ghost use Rattle.cml_step.specs.Slices.{GoesIn};
 ghost use Rattle.cml_step.specs.Stacks.{CallFits};
 
-use crate::call::{Call, Wait, pad, value_in, values_in};
+use crate::call::{Call, Wait, number_value_in, pad, value_in, values_in};
 use crate::fault::Stop;
 use crate::quiet::quiet_run;
 use crate::stack::{MAX_ENTRIES, deliver_to_call};
@@ -194,6 +194,9 @@ fn gave_back(
 {
     if callers.is_empty() {
         return false;
+    }
+    if let Some(value) = number_value_in(program, f, call.slots.as_slice(), e) {
+        return returned(program, value, call, callers, idle);
     }
     match value_in(alloc, program, f, call.slots.as_slice(), e) {
         Ok(value) => returned(program, value, call, callers, idle),

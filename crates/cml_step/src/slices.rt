@@ -40,6 +40,7 @@ pub fn run_slice(alloc: Global, program: &Prog, machine: &Machine) -> Result<Sli
     })) }
 {
     let mut end = machine.copy(alloc)?;
-    let (ask, steps) = end.run(alloc, program)?;
+    let mut ask = Ask::Nothing;
+    let steps = end.run(alloc, program, &mut ask)?;
     Ok(Slice { end, ask, steps })
 }

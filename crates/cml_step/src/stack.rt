@@ -31,17 +31,17 @@ pub(crate) const MAX_ENTRIES: usize = 1024;
 
 // The entry on top, if there is room.
 #[tactic(auto, using(crate::proofs::StackLemmas::term_pushed, crate::proofs::StackLemmas::term_length, crate::proofs::StackLemmas::fits_pushed))]
-fn push(alloc: Global, entry: Entry, below: &mut Stack) -> Result<Ask, Stop>
-    ensures meant { (p : List (PlainItem ℕ)) → IsStep p result
+fn push(alloc: Global, entry: Entry, below: &mut Stack) -> Result<(), Stop>
+    ensures meant { (p : List (PlainItem ℕ)) → IsStep p result Ask.Nothing
         (steps.pushed (entry_view p entry) (term_of p below.old)) below.new }
     ensures fits { (p : List (PlainItem ℕ)) → EntryFits p entry
-        → EachBeneath p below.old → StepFits p result below.new }
+        → EachBeneath p below.old → StepFits p result Ask.Nothing below.new }
 {
     if below.len() >= MAX_ENTRIES {
         return Err(Stop::Fault(Fault::Stack));
     }
     below.push(alloc, entry)?;
-    Ok(Ask::Nothing)
+    Ok(())
 }
 
 // A call of the function with these values, on top.
@@ -53,15 +53,15 @@ fn push_call(
     func: u32,
     args: Vec<Value>,
     below: &mut Stack,
-) -> Result<Ask, Stop>
+) -> Result<(), Stop>
     requires agrees { let f = function func (values args.items) in
         function_agrees (arities program.now) 0 f ≡ true }
     requires beneath { EachBeneath program.now below.old }
     ensures meant { let f = function func (values args.items) in
         let entry = call_of (text_of program.now) f in
-        IsStep program.now result
+        IsStep program.now result Ask.Nothing
         (steps.pushed entry (term_of program.now below.old)) below.new }
-    ensures fits { StepFits program.now result below.new }
+    ensures fits { StepFits program.now result Ask.Nothing below.new }
 {
     let call = Call {
         func,
@@ -73,7 +73,7 @@ fn push_call(
     push(alloc, Entry::Call(call), below)
 }
 
-// The event that a guard's function returned takes its place.
+// Puts the event that a guard's function returned in the guard's place.
 #[inline(never)]
 #[tactic(auto, using(crate::proofs::ForceLemmas::replaced_agrees, crate::proofs::AgreeLemmas::event_of_agrees))]
 fn deliver_to_force(
@@ -109,7 +109,7 @@ fn deliver_to_force(
     }
 }
 
-// The value goes to a call that waits for it.
+// Gives the value to a call that waits for it.
 #[tactic(auto, using(crate::proofs::StackLemmas::filled_fits, crate::proofs::StackLemmas::filled_room))]
 pub(crate) fn deliver_to_call(program: &Prog, call: &mut Call, value: Value)
     requires fits { CallFits program.now call.old }
@@ -119,11 +119,12 @@ pub(crate) fn deliver_to_call(program: &Prog, call: &mut Call, value: Value)
         ≡ steps.goes_on (entry_of program.now call.new ∷ below) }
     ensures fits { CallFits program.now call.new }
 {
+    // Read for the proof alone, which uses what is promised of it.
     let _f = program.function(call.func);
     fill(call, value);
 }
 
-// The value is delivered to an entry that waits for it.
+// Delivers the value to an entry that waits for it.
 #[inline(never)]
 fn deliver_to(alloc: Global, program: &Prog, entry: &mut Entry, value: Value) -> Result<(), Stop>
     requires fits { BeneathFits program.now entry.old }
@@ -146,71 +147,96 @@ fn deliver_to(alloc: Global, program: &Prog, entry: &mut Entry, value: Value) ->
     }
 }
 
-// The value is delivered to what waits on top.
-fn deliver(alloc: Global, program: &Prog, value: Value, stack: &mut Stack) -> Result<Ask, Stop>
+// Delivers the value to what waits on top.
+fn deliver(
+    alloc: Global,
+    program: &Prog,
+    value: Value,
+    stack: &mut Stack,
+    asked: &mut Ask,
+) -> Result<(), Stop>
     requires agrees { value_agrees (arities program.now) value ≡ true }
     requires beneath { EachBeneath program.now stack.old }
-    ensures meant { IsStep program.now result
+    requires nothing { asked.old ≡ Ask.Nothing }
+    ensures meant { IsStep program.now result asked.new
         (steps.delivered value (term_of program.now stack.old)) stack.new }
-    ensures fits { StepFits program.now result stack.new }
+    ensures fits { StepFits program.now result asked.new stack.new }
 {
     if let Some(entry) = &mut stack.over {
-        deliver_to(alloc, program, entry, value)?;
-        return Ok(Ask::Nothing);
+        return deliver_to(alloc, program, entry, value);
     }
     if let Some(call) = &mut stack.call {
         deliver_to_call(program, call, value);
-        return Ok(Ask::Nothing);
+        return Ok(());
     }
     drop(value);
-    Ok(Ask::End)
+    *asked = Ask::End;
+    Ok(())
 }
 
-// The event is to be forced, on top.
+// Puts the event on top, to be forced.
 #[inline(never)]
-fn push_force(alloc: Global, program: &Prog, event: Event, stack: &mut Stack) -> Result<Ask, Stop>
+fn push_force(alloc: Global, program: &Prog, event: Event, stack: &mut Stack) -> Result<(), Stop>
     requires agrees { event_agrees (arities program.now) event ≡ true }
     requires beneath { EachBeneath program.now stack.old }
-    ensures meant { IsStep program.now result
+    ensures meant { IsStep program.now result Ask.Nothing
         (steps.pushed (force event false) (term_of program.now stack.old)) stack.new }
-    ensures fits { StepFits program.now result stack.new }
+    ensures fits { StepFits program.now result Ask.Nothing stack.new }
 {
     let forcing = Forcing::start(alloc, event)?;
     push(alloc, Entry::Force(forcing, false), stack)
 }
 
-// The entry on top goes, and the value is delivered to what waits beneath.
+// Takes the entry on top off, and delivers the value to what waits beneath.
 #[inline(never)]
-fn leave(alloc: Global, program: &Prog, value: Value, stack: &mut Stack) -> Result<Ask, Stop>
+fn leave(
+    alloc: Global,
+    program: &Prog,
+    value: Value,
+    stack: &mut Stack,
+    asked: &mut Ask,
+) -> Result<(), Stop>
     requires agrees { value_agrees (arities program.now) value ≡ true }
     requires stands { TopStands program.now (Action.Returns value) stack.old }
+    requires nothing { asked.old ≡ Ask.Nothing }
     ensures meant { (hs : List PlainHeld) (h : PlainHeld) → stack.old ≡ hs ++ h ∷ [] →
-        IsStep program.now result (steps.delivered value (term_of program.now hs)) stack.new }
-    ensures fits { StepFits program.now result stack.new }
+        IsStep program.now result asked.new (steps.delivered value (term_of program.now hs)) stack.new }
+    ensures fits { StepFits program.now result asked.new stack.new }
 {
     stack.drop_top(alloc)?;
-    deliver(alloc, program, value, stack)
+    deliver(alloc, program, value, stack, asked)
 }
 
-// What comes of what the entry on top did.
-fn after(alloc: Global, program: &Prog, did: Action, stack: &mut Stack) -> Result<Ask, Stop>
+// Does to the stack what the entry on top did. What that asks, if it does, is put where nothing was asked yet.
+fn after(
+    alloc: Global,
+    program: &Prog,
+    did: Action,
+    stack: &mut Stack,
+    asked: &mut Ask,
+) -> Result<(), Stop>
     requires stands { TopStands program.now did stack.old }
     requires did { ActionAgrees (arities program.now) (Ok did) }
+    requires nothing { asked.old ≡ Ask.Nothing }
     ensures meant { (hs : List PlainHeld) (h : PlainHeld) (step : PlainStep) →
         stack.old ≡ hs ++ h ∷ []
         → MovesTo program.now (Ok did) (held_entry program.now h) (term_of program.now hs) step
-        → IsStep program.now result step stack.new }
-    ensures fits { StepFits program.now result stack.new }
+        → IsStep program.now result asked.new step stack.new }
+    ensures fits { StepFits program.now result asked.new stack.new }
 {
     match did {
-        Action::Goes => Ok(Ask::Nothing),
-        Action::Asks(ask) => Ok(ask),
+        Action::Goes => Ok(()),
+        Action::Asks(ask) => {
+            *asked = ask;
+            Ok(())
+        }
         Action::Forces(event) => push_force(alloc, program, event, stack),
         Action::Calls(func, args) => push_call(alloc, program, func, args, stack),
-        Action::Returns(value) => leave(alloc, program, value, stack),
+        Action::Returns(value) => leave(alloc, program, value, stack, asked),
         Action::Ends => {
             stack.clear();
-            Ok(Ask::End)
+            *asked = Ask::End;
+            Ok(())
         }
     }
 }
@@ -235,14 +261,13 @@ fn step_of_call(alloc: Global, thread: Tid, program: &Prog, call: &mut Call) -> 
 
 // The group that the event was forced to, of which the event is kept.
 #[tactic(auto, using(crate::proofs::ForceLemmas::group_of_event))]
-fn group_ready(alloc: Global, forcing: &Forcing) -> Result<Group, Stop>
+fn group_ready(forcing: &Forcing) -> Result<Group, Stop>
     requires { unforced forcing.now ≡ None }
     ensures group { IfOk result (λ g. g ≡ group_of forcing.now) }
     ensures event { IfOk result (λ g. plain_event_of g ≡ forcing.now) }
     ensures memory { IfErr result (λ e. e ≡ Stop.Memory) }
 {
-    let copy = forcing.copy(alloc)?;
-    Ok(copy.finish())
+    Ok(forcing.group()?)
 }
 
 // What an event that is being forced does in its step, where this many entries are on the stack.
@@ -279,7 +304,7 @@ fn step_of_force(
             Ok(Action::Asks(Ask::Nack))
         }
         Next::Ready => {
-            let group = group_ready(alloc, forcing)?;
+            let group = group_ready(forcing)?;
             *asked = true;
             Ok(Action::Asks(Ask::Sync(group)))
         }
@@ -335,31 +360,42 @@ fn step_of_entry(
     }
 }
 
-/// One step of a thread. The entry on top takes it where it stands.
+// Nothing is on the stack: the thread has ended.
+fn ended(asked: &mut Ask) -> Result<(), Stop>
+    ensures end { asked.new ≡ Ask.End }
+    ensures ok { result ≡ Ok tt }
+{
+    *asked = Ask::End;
+    Ok(())
+}
+
+/// One step of a thread. The entry on top takes it where it stands. What it asks, if it does, is put where nothing was asked yet.
 pub(crate) fn step(
     alloc: Global,
     thread: Tid,
     program: &Prog,
     stack: &mut Stack,
-) -> Result<Ask, Stop>
-    requires { StackFits program.now stack.old }
-    ensures meant { IsStep program.now result
+    asked: &mut Ask,
+) -> Result<(), Stop>
+    requires fits { StackFits program.now stack.old }
+    requires nothing { asked.old ≡ Ask.Nothing }
+    ensures meant { IsStep program.now result asked.new
         (steps.next (text_of program.now) thread.0 (term_of program.now stack.old))
         stack.new }
-    ensures fits { StepFits program.now result stack.new }
+    ensures fits { StepFits program.now result asked.new stack.new }
 {
     let entries = stack.len();
     match &mut stack.over {
         Some(entry) => {
             let did = step_of_entry(alloc, thread, program, entry, entries)?;
-            after(alloc, program, did, stack)
+            after(alloc, program, did, stack, asked)
         }
         None => match &mut stack.call {
             Some(call) => {
                 let did = step_of_call(alloc, thread, program, call)?;
-                after(alloc, program, did, stack)
+                after(alloc, program, did, stack, asked)
             }
-            None => Ok(Ask::End),
+            None => ended(asked),
         },
     }
 }

@@ -1,6 +1,6 @@
 //! Slices of a thread's steps.
 
-ghost use Rattle.std.specs.Prelude.{◌≡◌, ◌≤◌, ℕ, List, [], true, IfOk};
+ghost use Rattle.std.specs.Prelude.{◌≡◌, ◌≤◌, ℕ, List, [], ◌∷◌, ◌++◌, true, false, Some, None, IfOk, OnOk, IfSome};
 ghost use Rattle.cml_check.specs.Syntax.{PlainItem};
 ghost use Rattle.cml_check.specs.InOrder.{arities};
 ghost use Rattle.cml_step.specs.AskViews.{plain_ask};
@@ -9,17 +9,19 @@ ghost use Rattle.cml_step.specs.Steps.{next, asks};
 ghost use Rattle.cml_step.specs.Slices.{sliced_from, GoesIn};
 ghost use Rattle.cml_step.specs.Calls.{text_of};
 ghost use Rattle.cml_step.specs.Callers.{calls_on, AllCallsFit};
+ghost use Rattle.cml_step.specs.Machines.{PlainHeld, wraps as plain_wraps};
+ghost use Rattle.cml_step.specs.Shared.{topped};
 ghost use Rattle.cml_step.specs.Stacks.{term_of, EachBeneath, StackFits};
 
 use crate::ask::Ask;
 use crate::call::Call;
 use crate::entries::{Frames, Stack};
-use crate::entry::Entry;
+use crate::entry::{Entry, Wraps};
 use crate::fault::{Fault, Stop};
 use crate::quick::{quick_run, room_above};
-use crate::stack::step;
+use crate::stack::{deliver_to_call, step};
 use cml_check::Prog;
-use cml_value::Tid;
+use cml_value::{Tid, Value, ValueKind};
 use std::alloc::{AllocError, Global};
 use std::mem::replace;
 
@@ -32,28 +34,42 @@ fn step_or_fault(
     thread: Tid,
     program: &Prog,
     stack: &mut Stack,
-) -> Result<Ask, AllocError>
-    requires { StackFits program.now stack.old }
-    ensures meant { IfOk result (λ a.
+    asked: &mut Ask,
+) -> Result<(), AllocError>
+    requires fits { StackFits program.now stack.old }
+    requires nothing { asked.old ≡ Ask.Nothing }
+    ensures meant { OnOk result (
         next (text_of program.now) thread.0 (term_of program.now stack.old)
-        ≡ asks (plain_ask a) (term_of program.now stack.new)) }
-    ensures fits { IfOk result (λ _. StackFits program.now stack.new) }
-    ensures agrees { IfOk result (λ a. ask_agrees (arities program.now) (plain_ask a) ≡ true) }
+        ≡ asks (plain_ask asked.new) (term_of program.now stack.new)) }
+    ensures fits { OnOk result (StackFits program.now stack.new) }
+    ensures agrees { OnOk result (ask_agrees (arities program.now) (plain_ask asked.new) ≡ true) }
 {
-    match step(alloc, thread, program, stack) {
-        Ok(ask) => Ok(ask),
+    match step(alloc, thread, program, stack, asked) {
+        Ok(()) => Ok(()),
         Err(Stop::Memory) => Err(AllocError),
-        Err(Stop::Fault(fault)) => Ok(failed(fault, stack)),
+        Err(Stop::Fault(fault)) => {
+            failed(fault, stack, asked);
+            Ok(())
+        }
     }
 }
 
 // The fault ends the thread: nothing is on its stack.
-fn failed(fault: Fault, stack: &mut Stack) -> Ask
-    ensures ask { result ≡ Ask.Fault fault }
+#[inline(never)]
+fn failed(fault: Fault, stack: &mut Stack, asked: &mut Ask)
+    ensures ask { asked.new ≡ Ask.Fault fault }
     ensures stack { stack.new ≡ [] }
 {
     stack.clear();
-    Ask::Fault(fault)
+    *asked = Ask::Fault(fault);
+}
+
+// Whether nothing is asked.
+fn asks_nothing(ask: &Ask) -> bool
+    ensures nothing { result ≡ true → ask.now ≡ Ask.Nothing }
+    ensures something { result ≡ false → ask.now ≡ Ask.Nothing → ⊥ }
+{
+    matches!(ask, Ask::Nothing)
 }
 
 // Puts these calls, of which the last is the top one, among the entries below.
@@ -101,8 +117,66 @@ fn quick_steps(
     Ok(0)
 }
 
-/// Takes at most this many steps of the thread, up to the first that asks, ends or is at fault. Returns what it asks, and how many
-/// steps there were.
+// Whether these are wraps of which no function is left.
+fn are_done(over: &Option<Entry>) -> bool
+    ensures { result ≡ true → (w : Wraps) → over.now ≡ Some (Entry.Wraps w)
+        → w.left.items ≡ [] }
+{
+    match over {
+        Some(Entry::Wraps(wraps)) => {
+            let count = wraps.left.as_slice().len();
+            count == 0
+        }
+        _ => false,
+    }
+}
+
+// The value of wraps of which no function is left. Else nothing has changed.
+fn value_of_wraps(over: &mut Option<Entry>) -> Option<Value>
+    ensures gives { IfSome result (λ v. (hs : List PlainHeld) →
+        topped hs over.old ≡ hs ++ plain_wraps [] v ∷ []) }
+    ensures stays { result ≡ None → over.new ≡ over.old }
+{
+    if !are_done(over) {
+        return None;
+    }
+    match over {
+        Some(Entry::Wraps(wraps)) => {
+            let value = replace(&mut wraps.value, Value::new(ValueKind::Unit));
+            Some(value)
+        }
+        _ => None,
+    }
+}
+
+// Nothing stands there any more.
+fn clear(over: &mut Option<Entry>)
+    ensures { over.new ≡ None }
+{
+    *over = None;
+}
+
+// Where wraps of which no function is left stand over a call, their value is delivered to it. Returns how many steps that was.
+fn deliver_wrapped(program: &Prog, stack: &mut Stack) -> u32
+    requires { StackFits program.now stack.old }
+    ensures fits { StackFits program.now stack.new }
+    ensures within { result ≤ 1 }
+    ensures goes { (self : ℕ) → GoesIn (text_of program.now) self result
+        (term_of program.now stack.old) (term_of program.now stack.new) }
+{
+    let Some(call) = &mut stack.call else {
+        return 0;
+    };
+    let Some(value) = value_of_wraps(&mut stack.over) else {
+        return 0;
+    };
+    clear(&mut stack.over);
+    deliver_to_call(program, call, value);
+    1
+}
+
+/// Takes at most this many steps of the thread, up to the first that asks, ends or is at fault. Returns how many steps there were. What it
+/// asks is put where nothing was asked yet.
 #[tactic(auto, using(crate::proofs::SliceLemmas::slice_on, crate::proofs::SliceLemmas::slice_asks, crate::proofs::SliceLemmas::slice_over))]
 pub(crate) fn run(
     alloc: Global,
@@ -110,30 +184,33 @@ pub(crate) fn run(
     program: &Prog,
     stack: &mut Stack,
     most: u32,
-) -> Result<(Ask, u32), AllocError>
-    requires { StackFits program.now stack.old }
-    ensures meant { IfOk result (λ r.
+    asked: &mut Ask,
+) -> Result<u32, AllocError>
+    requires fits { StackFits program.now stack.old }
+    requires nothing { asked.old ≡ Ask.Nothing }
+    ensures meant { IfOk result (λ steps.
         sliced_from (text_of program.now) thread.0 most 0 (term_of program.now stack.old)
         ≡ record {
-          ask = plain_ask r.0;
+          ask = plain_ask asked.new;
           end = term_of program.now stack.new;
-          steps = r.1;
+          steps = steps;
         }) }
-    ensures fits { IfOk result (λ r. StackFits program.now stack.new) }
-    ensures agrees { IfOk result (λ r.
-        ask_agrees (arities program.now) (plain_ask r.0) ≡ true) }
+    ensures fits { OnOk result (StackFits program.now stack.new) }
+    ensures agrees { OnOk result (ask_agrees (arities program.now) (plain_ask asked.new) ≡ true) }
 {
     let mut done = 0u32;
     while done < most {
+        done += deliver_wrapped(program, stack);
         let quick = quick_steps(alloc, program, stack, most - done)?;
         done += quick;
         if done == most {
-            return Ok((Ask::Nothing, done));
+            return Ok(done);
         }
-        match step_or_fault(alloc, thread, program, stack)? {
-            Ask::Nothing => done += 1,
-            ask => return Ok((ask, done + 1)),
+        step_or_fault(alloc, thread, program, stack, asked)?;
+        done += 1;
+        if !asks_nothing(asked) {
+            return Ok(done);
         }
     }
-    Ok((Ask::Nothing, done))
+    Ok(done)
 }

@@ -8,7 +8,7 @@ use Rattle.cml_text.specs.Forms.{PlainSexpr}
 use Rattle.cml_text.specs.Faults.{PlainFault}
 use Rattle.cml_text.specs.Texts.{Spells, fault_of}
 use Rattle.cml_text.specs.Laws.{SpelledOrFaulty}
-use Rattle.cml_trace.specs.declared.order.Order.{Order}
+use Rattle.cml_trace.specs.declared.order.Request.{Request}
 use Rattle.cml_trace.specs.declared.fault.TraceEnd.{TraceEnd}
 use Rattle.cml_trace.specs.declared.fault.TraceEnd.TheVariants.{Done, Bad}
 use Rattle.cml_trace.specs.Orders.{AsksFor, IsBad, order_of}
@@ -16,11 +16,11 @@ use Rattle.cml_trace.specs.Replies.{reply_text}
 use Rattle.cml_trace.specs.Answers.{answer_to, after_order, bad_line, Answers}
 
 -- what a line asks for, or that it is bad
-asked_or_bad : (first : List ℕ) (forms : List PlainSexpr) → Spells first forms → (o : Option Order) → order_of forms ≡ o → ((what : Order) × AsksFor first what) ⊎ IsBad first
+asked_or_bad : (first : List ℕ) (forms : List PlainSexpr) → Spells first forms → (o : Option Request) → order_of forms ≡ o → ((what : Request) × AsksFor first what) ⊎ IsBad first
 asked_or_bad first forms spells (Some what) e = inl (what, (forms, spells, e))
 asked_or_bad first forms spells None e = inr (inr (forms, spells, e))
 
-asks_or_bad : SpelledOrFaulty → (first : List ℕ) → (o : Option PlainFault) → fault_of first ≡ o → ((what : Order) × AsksFor first what) ⊎ IsBad first
+asks_or_bad : SpelledOrFaulty → (first : List ℕ) → (o : Option PlainFault) → fault_of first ≡ o → ((what : Request) × AsksFor first what) ⊎ IsBad first
 asks_or_bad law first (Some fault) e = inr (inl (fault, e))
 asks_or_bad law first None e = let read = law first e in asked_or_bad first read.0 read.1 (order_of read.0) refl
 
@@ -31,7 +31,7 @@ pub record HasAnswer (n : ℕ) (w : PlainWorld) (all : List (List ℕ)) : Type 0
   pub answered : Answers n w all text end
 
 has_answer_of : (n : ℕ) (w : PlainWorld) (first : List ℕ) (behind : List (List ℕ)) → ((m : ℕ) (v : PlainWorld) → HasAnswer m v behind) →
-    ((what : Order) × AsksFor first what) ⊎ IsBad first → HasAnswer n w (first ∷ behind)
+    ((what : Request) × AsksFor first what) ⊎ IsBad first → HasAnswer n w (first ∷ behind)
 has_answer_of n w first behind next (inl asked) =
     let rest = next (n + 1) (after_order asked.0 w) in
     record { text = answer_to asked.0 w ++ rest.text; end = rest.end; answered = inl (asked.0, rest.text, asked.1, refl, rest.answered) }

@@ -1,7 +1,7 @@
 -- Commands that were gathered, line by line.
 use Rattle.std.proofs.Common.{◌≡◌, ℕ, ◌+◌, List, [], ◌∷◌, ◌++◌, length, refl, ap, sym, ◌∙◌, inl, inr, append_assoc, length-append, arith}
 use Rattle.cml_book.specs.declared.command.Command.{Command}
-use Rattle.cml_trace.specs.declared.order.Order.TheVariants as order
+use Rattle.cml_trace.specs.declared.order.Request.TheVariants as order
 use Rattle.cml_trace.specs.declared.batch.Stop.TheVariants.{Rows, Bad, End, Memory}
 use Rattle.cml_trace.specs.Lines.{TraceLines}
 use Rattle.cml_trace.specs.Orders.{AsksFor, IsBad}

@@ -4,7 +4,7 @@ use Rattle.cml_scan.specs.World.{PlainWorld}
 use Rattle.cml_scan.specs.Scan.{scan}
 use Rattle.cml_book.specs.declared.command.Command.{Command}
 use Rattle.cml_book.specs.Step.{step, world_after}
-use Rattle.cml_trace.specs.declared.order.Order.TheVariants as order
+use Rattle.cml_trace.specs.declared.order.Request.TheVariants as order
 use Rattle.cml_trace.specs.declared.fault.TraceEnd.{TraceEnd}
 use Rattle.cml_trace.specs.declared.fault.TraceEnd.TheVariants.{Done, Bad}
 use Rattle.cml_trace.specs.Orders.{AsksFor}

@@ -28,8 +28,8 @@ use Rattle.cml_trace.specs.declared.fault.TraceEnd.{TraceEnd}
 use Rattle.cml_trace.specs.declared.fault.TraceEnd.TheVariants.{TooLong}
 use Rattle.cml_trace.specs.declared.fault.TraceFault.{TraceFault}
 use Rattle.cml_trace.specs.declared.fault.TraceFault.TheVariants.{Memory}
-use Rattle.cml_trace.specs.declared.order.Order.{Order}
-use Rattle.cml_trace.specs.declared.order.Order.TheVariants as order
+use Rattle.cml_trace.specs.declared.order.Request.{Request}
+use Rattle.cml_trace.specs.declared.order.Request.TheVariants as order
 use Rattle.cml_trace.specs.Orders.{AsksFor, IsBad}
 use Rattle.cml_trace.specs.Replies.{line}
 use Rattle.cml_trace.specs.Answers.{after_order, max_input}
@@ -52,7 +52,7 @@ refused_keeps w command.MakeSwap why e = answered_keeps reply.Swap w (make_swap 
 refused_keeps w command.MakeIVar why e = answered_keeps reply.IVar w (make_ivar w) why (λ r. refl) e
 refused_keeps w (command.MakeMVar v) why e = answered_keeps reply.MVar w (make_mvar w v) why (λ r. refl) e
 refused_keeps w command.MakeMailbox why e = answered_keeps reply.Mailbox w (make_mailbox w) why (λ r. refl) e
-refused_keeps w command.MakeMChan why e = answered_keeps reply.MChan w (make_mchan w) why (λ r. refl) e
+refused_keeps w command.MakeMChan why e = answered_keeps reply.Mchan w (make_mchan w) why (λ r. refl) e
 refused_keeps w (command.MakePort x) why e = answered_keeps reply.Port w (make_port w x.0) why (λ r. refl) e
 refused_keeps w (command.CopyPort p) why e = answered_keeps reply.Port w (copy_port w p.0) why (λ r. refl) e
 refused_keeps w (command.IPut i v) why e = answered_keeps (λ _. reply.Done) w (iput w i.0 v) why (λ r. refl) e
@@ -72,7 +72,7 @@ pub record Telling (w : PlainWorld) (all : TraceLines) (v : PlainWorld) (here : 
   pub whole : new ≡ old ++ told
 
 -- one line more
-pub Telling-on : (w : PlainWorld) (all : TraceLines) (v u : PlainWorld) (here next : TraceLines) (old mid new : List ℕ) (n : ℕ) (first : List ℕ) (what : Order) →
+pub Telling-on : (w : PlainWorld) (all : TraceLines) (v u : PlainWorld) (here next : TraceLines) (old mid new : List ℕ) (n : ℕ) (first : List ℕ) (what : Request) →
     Telling w all v here old mid → n ≡ here.number → here.left ≡ first ∷ next.left → next.number ≡ here.number + 1 → AsksFor first what → u ≡ after_order what v →
     new ≡ mid ++ told_of n v what → Telling w all u next old new
 Telling-on w all v u here next old mid new n first what t number is count asks stands more =

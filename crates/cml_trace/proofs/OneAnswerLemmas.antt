@@ -4,7 +4,7 @@ use Rattle.std.proofs.lemmas.Bool.Decides.{nat_tests}
 use Rattle.cml_scan.specs.World.{PlainWorld}
 use Rattle.cml_book.specs.Step.{empty_world}
 use Rattle.cml_text.specs.Laws.{SpelledOrFaulty, SpelledHasNoFault, SpellsOneAtMost}
-use Rattle.cml_trace.specs.declared.order.Order.{Order}
+use Rattle.cml_trace.specs.declared.order.Request.{Request}
 use Rattle.cml_trace.specs.declared.fault.TraceEnd.{TraceEnd}
 use Rattle.cml_trace.specs.declared.fault.TraceEnd.TheVariants.{TooLong}
 use Rattle.cml_trace.specs.Orders.{AsksFor, IsBad, order_of}
@@ -13,13 +13,13 @@ use Rattle.cml_trace.specs.Answers.{answer_to, after_order, trace_lines, Answers
 use Rattle.cml_trace.specs.Laws.{OneAnswer, HasOneAnswer}
 use Rattle.cml_trace.proofs.AnswerLemmas.{has_answer}
 
-pub asks_one : SpellsOneAtMost → (first : List ℕ) (a b : Order) → AsksFor first a → AsksFor first b → a ≡ b
+pub asks_one : SpellsOneAtMost → (first : List ℕ) (a b : Request) → AsksFor first a → AsksFor first b → a ≡ b
 asks_one once first a b x y =
     let same : order_of x.0 ≡ order_of y.0 = ap order_of (once first x.0 y.0 x.1 y.1) in
     let there : Some a ≡ Some b = sym x.2 ∙ same ∙ y.2 in
     cc
 
-pub asks_not_bad : SpellsOneAtMost → SpelledHasNoFault → (first : List ℕ) (a : Order) → AsksFor first a → IsBad first → ⊥
+pub asks_not_bad : SpellsOneAtMost → SpelledHasNoFault → (first : List ℕ) (a : Request) → AsksFor first a → IsBad first → ⊥
 asks_not_bad once faultless first a x (inl f) =
     let clash : None ≡ Some f.0 = sym (faultless first x.0 x.1) ∙ f.1 in cc
 asks_not_bad once faultless first a x (inr y) =
@@ -36,7 +36,7 @@ pub answers_one : SpellsOneAtMost → SpelledHasNoFault → (n : ℕ) (w : Plain
 answers_one once faultless n w [] text other end way x y = record { texts = y.0 ∙ sym x.0; ends = y.1 ∙ sym x.1 }
 answers_one once faultless n w (first ∷ behind) text other end way (inl x) (inl y) =
     let same : y.0 ≡ x.0 = asks_one once first y.0 x.0 y.2 x.2 in
-    let moved : Answers (n + 1) (after_order x.0 w) behind y.1 way = subst (λ (o : Order). Answers (n + 1) (after_order o w) behind y.1 way) same y.4 in
+    let moved : Answers (n + 1) (after_order x.0 w) behind y.1 way = subst (λ (o : Request). Answers (n + 1) (after_order o w) behind y.1 way) same y.4 in
     let next = answers_one once faultless (n + 1) (after_order x.0 w) behind x.1 y.1 end way x.4 moved in
     record {
       texts = y.3 ∙ ap (λ o. answer_to o w ++ y.1) same ∙ ap (λ t. answer_to x.0 w ++ t) next.texts ∙ sym x.3;

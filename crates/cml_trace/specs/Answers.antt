@@ -4,8 +4,8 @@ use Rattle.std.specs.List.{slice_split}
 use Rattle.cml_scan.specs.World.{PlainWorld}
 use Rattle.cml_scan.specs.Scan.{scan}
 use Rattle.cml_book.specs.Step.{step, empty_world}
-use Rattle.cml_trace.specs.declared.order.Order.{Order}
-use Rattle.cml_trace.specs.declared.order.Order.TheVariants as order
+use Rattle.cml_trace.specs.declared.order.Request.{Request}
+use Rattle.cml_trace.specs.declared.order.Request.TheVariants as order
 use Rattle.cml_trace.specs.declared.fault.TraceEnd.{TraceEnd}
 use Rattle.cml_trace.specs.declared.fault.TraceEnd.TheVariants.{Done, Bad, TooLong}
 use Rattle.cml_trace.specs.Orders.{AsksFor, IsBad}
@@ -16,13 +16,13 @@ abbrev pub trace_lines : List ℕ → List (List ℕ)
 trace_lines input = slice_split (λ b. b == 10) input
 
 -- The answer to an order in this world: nothing where there is nothing to do, all rows that are enabled, or the reply to its command.
-abbrev pub answer_to : Order → PlainWorld → List ℕ
+abbrev pub answer_to : Request → PlainWorld → List ℕ
 answer_to order.Skip w = []
 answer_to order.Rows w = rows_text (scan w)
 answer_to (order.Do c) w = reply_text (step w c).1
 
 -- the world after an order
-abbrev pub after_order : Order → PlainWorld → PlainWorld
+abbrev pub after_order : Request → PlainWorld → PlainWorld
 after_order order.Skip w = w
 after_order order.Rows w = w
 after_order (order.Do c) w = (step w c).0
@@ -36,7 +36,7 @@ bad_line n = line (codes "bad" ++ spaced n)
 abbrev pub Answers : ℕ → PlainWorld → List (List ℕ) → List ℕ → TraceEnd → Type 0
 Answers n w [] text end = (text ≡ []) × (end ≡ Done)
 Answers n w (first ∷ behind) text end =
-    ((what : Order) × (rest : List ℕ) × AsksFor first what × (text ≡ answer_to what w ++ rest)
+    ((what : Request) × (rest : List ℕ) × AsksFor first what × (text ≡ answer_to what w ++ rest)
     × Answers (n + 1) (after_order what w) behind rest end)
     ⊎ (IsBad first × (text ≡ bad_line n) × (end ≡ Bad n))
 
@@ -44,7 +44,7 @@ Answers n w (first ∷ behind) text end =
 abbrev pub AreDone : PlainWorld → List (List ℕ) → List ℕ → PlainWorld → Type 0
 AreDone w [] text v = (text ≡ []) × (v ≡ w)
 AreDone w (first ∷ behind) text v =
-    (what : Order) × (rest : List ℕ) × AsksFor first what × (text ≡ answer_to what w ++ rest) × AreDone (after_order what w) behind rest v
+    (what : Request) × (rest : List ℕ) × AsksFor first what × (text ≡ answer_to what w ++ rest) × AreDone (after_order what w) behind rest v
 
 -- the most bytes of a trace
 abbrev pub max_input : ℕ

@@ -1,7 +1,7 @@
 -- Commands that are done by one call: those of the lines up to one that asks for something else.
 use Rattle.std.specs.Prelude.{◌≡◌, ◌⊎◌, ℕ, ◌+◌, List, [], ◌∷◌, ◌++◌, length}
 use Rattle.cml_book.specs.declared.command.Command.{Command}
-use Rattle.cml_trace.specs.declared.order.Order.TheVariants as order
+use Rattle.cml_trace.specs.declared.order.Request.TheVariants as order
 use Rattle.cml_trace.specs.declared.batch.Stop.{Stop}
 use Rattle.cml_trace.specs.declared.batch.Stop.TheVariants.{Rows, Bad, End, Memory}
 use Rattle.cml_trace.specs.Lines.{TraceLines}

@@ -8,8 +8,8 @@ use Rattle.cml_book.specs.declared.command.Reply.TheVariants as reply
 use Rattle.cml_book.specs.declared.refusal.Refusal.{Refusal}
 use Rattle.cml_book.specs.Step.{step, empty_world}
 use Rattle.cml_refused.specs.Whys.{why_of}
-use Rattle.cml_trace.specs.declared.order.Order.{Order}
-use Rattle.cml_trace.specs.declared.order.Order.TheVariants as order
+use Rattle.cml_trace.specs.declared.order.Request.{Request}
+use Rattle.cml_trace.specs.declared.order.Request.TheVariants as order
 use Rattle.cml_trace.specs.Orders.{AsksFor, IsBad}
 use Rattle.cml_trace.specs.Replies.{line, spaced}
 use Rattle.cml_trace.specs.Answers.{after_order, trace_lines, max_input}
@@ -31,7 +31,7 @@ told_of_refusal n w c (Some why) = line_said n (why_of w c why)
 told_of_refusal n w c None = []
 
 -- what is told of the order of a line
-abbrev pub told_of : ℕ → PlainWorld → Order → List ℕ
+abbrev pub told_of : ℕ → PlainWorld → Request → List ℕ
 told_of n w (order.Do c) = told_of_refusal n w c (refusal_in (step w c).1)
 told_of n w _ = []
 
@@ -40,7 +40,7 @@ told_of n w _ = []
 abbrev pub Explains : ℕ → PlainWorld → List (List ℕ) → List ℕ → Type 0
 Explains n w [] text = text ≡ []
 Explains n w (first ∷ behind) text =
-    ((what : Order) × (rest : List ℕ) × AsksFor first what × (text ≡ told_of n w what ++ rest) × Explains (n + 1) (after_order what w) behind rest)
+    ((what : Request) × (rest : List ℕ) × AsksFor first what × (text ≡ told_of n w what ++ rest) × Explains (n + 1) (after_order what w) behind rest)
     ⊎ ((why : List ℕ) × IsBad first × IsBadFor first why × (text ≡ line_said n why))
 
 -- what is told of a trace that is too long

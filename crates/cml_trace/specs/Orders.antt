@@ -12,8 +12,8 @@ use Rattle.cml_text.specs.Forms.{PlainSexpr}
 use Rattle.cml_text.specs.Texts.{Spells, fault_of}
 use Rattle.cml_trace.specs.declared.keyword.Keyword.{Keyword}
 use Rattle.cml_trace.specs.declared.keyword.Keyword.TheVariants as keyword
-use Rattle.cml_trace.specs.declared.order.Order.{Order}
-use Rattle.cml_trace.specs.declared.order.Order.TheVariants as order
+use Rattle.cml_trace.specs.declared.order.Request.{Request}
+use Rattle.cml_trace.specs.declared.order.Request.TheVariants as order
 use Rattle.cml_trace.specs.Keywords.{head_of}
 use Rattle.cml_trace.specs.Given.{both}
 use Rattle.cml_value.specs.Value.{PlainValue}
@@ -106,22 +106,22 @@ command_by keyword.Multicast forms = giving_by keyword.Multicast forms
 command_by keyword forms = making_by keyword forms
 
 -- the rows are asked for by their keyword alone, with no form after it
-abbrev pub rows_by : List PlainSexpr → Option Order
+abbrev pub rows_by : List PlainSexpr → Option Request
 rows_by [] = Some order.Rows
 rows_by (form ∷ forms) = None
 
 -- what these forms after their keyword ask for, if they ask for anything: the rows, or a command
-abbrev pub order_by : Keyword → List PlainSexpr → Option Order
+abbrev pub order_by : Keyword → List PlainSexpr → Option Request
 order_by keyword.Rows forms = rows_by forms
 order_by keyword forms = option_map order.Do (command_by keyword forms)
 
 -- what the forms of a line ask for, if they ask for anything: a line without forms asks for nothing to be done
-abbrev pub order_of : List PlainSexpr → Option Order
+abbrev pub order_of : List PlainSexpr → Option Request
 order_of [] = Some order.Skip
 order_of (form ∷ forms) = option_and_then (λ head. order_by head.0 head.1) (head_of (form ∷ forms))
 
 -- the line spells forms that ask for this
-abbrev pub AsksFor : List ℕ → Order → Type 0
+abbrev pub AsksFor : List ℕ → Request → Type 0
 AsksFor line what = (forms : List PlainSexpr) × Spells line forms × (order_of forms ≡ Some what)
 
 -- the line has a fault as a text, or it has forms, and they are neither `rows` nor a command

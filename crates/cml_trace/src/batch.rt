@@ -3,7 +3,7 @@
 ghost use Rattle.cml_trace.specs.Batches.{Gathers};
 
 use crate::line::{Lines, order_from};
-use crate::order::Order;
+use crate::order::Request;
 use cml_book::Command;
 use std::alloc::{AllocError, Global};
 
@@ -36,14 +36,14 @@ pub fn gather(alloc: Global, lines: &mut Lines<'_>) -> Batch
     let mut commands = Vec::new(alloc);
     while let Some((number, line)) = lines.next() {
         let stop = match order_from(alloc, line) {
-            Ok(Some(Order::Skip)) => continue,
-            Ok(Some(Order::Do(command))) => {
+            Ok(Some(Request::Skip)) => continue,
+            Ok(Some(Request::Do(command))) => {
                 if commands.push(command).is_ok() {
                     continue;
                 }
                 Stop::Memory
             }
-            Ok(Some(Order::Rows)) => Stop::Rows,
+            Ok(Some(Request::Rows)) => Stop::Rows,
             Ok(None) => Stop::Bad(number),
             Err(AllocError) => Stop::Memory,
         };

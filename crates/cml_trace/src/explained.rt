@@ -5,7 +5,7 @@ ghost use Rattle.std.specs.String.{string_bytes};
 ghost use Rattle.cml_book.specs.declared.command.Command.{Command};
 ghost use Rattle.cml_book.specs.Step.{step, empty_world};
 ghost use Rattle.cml_refused.specs.Whys.{why_of};
-ghost use Rattle.cml_trace.specs.declared.order.Order.TheVariants as order;
+ghost use Rattle.cml_trace.specs.declared.order.Request.TheVariants as order;
 ghost use Rattle.cml_trace.specs.Answers.{after_order, trace_lines, max_input};
 ghost use Rattle.cml_trace.specs.Explained as spec;
 ghost use Rattle.cml_trace.specs.Explained.{Explains, line_said, told_of};
@@ -14,7 +14,7 @@ ghost use Rattle.cml_trace.specs.Bads.{IsBadFor};
 
 use crate::bad::push_bad;
 use crate::line::{Lines, order_from};
-use crate::order::Order;
+use crate::order::Request;
 use cml_book::{Book, Command, Refusal, Reply};
 use cml_index::OfferIndex;
 use cml_refused::push_why;
@@ -58,15 +58,15 @@ fn do_order<T: Table>(
     text: &mut String,
     number: u64,
     line: &[u8],
-    order: Order,
+    order: Request,
 ) -> Result<(), AllocError>
     requires { AsksFor line.now order }
     ensures world { OnOk result (book.new ≡ after_order order book.old) }
     ensures told { OnOk result (string_bytes text.new ≡ string_bytes text.old ++ told_of number book.old order) }
 {
     match order {
-        Order::Do(command) => do_command(alloc, book, text, number, line, command),
-        Order::Rows | Order::Skip => Ok(()),
+        Request::Do(command) => do_command(alloc, book, text, number, line, command),
+        Request::Rows | Request::Skip => Ok(()),
     }
 }
 
@@ -160,7 +160,7 @@ fn command_again(alloc: Global, line: &[u8]) -> Result<Command, AllocError>
     spells_one_at_most();
     spelled_has_no_fault();
     match order_from(alloc, line)? {
-        Some(Order::Do(command)) => Ok(command),
+        Some(Request::Do(command)) => Ok(command),
         _ => unreachable!(),
     }
 }

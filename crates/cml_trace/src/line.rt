@@ -5,7 +5,7 @@ ghost use Rattle.cml_trace.specs.Answers.{trace_lines};
 ghost use Rattle.cml_trace.specs.Lines.{HasNoFeed, lines_behind, room_of};
 ghost use Rattle.cml_trace.specs.Orders.{AsksFor, IsBad};
 
-use crate::order::{Order, order_of};
+use crate::order::{Request, order_of};
 use cml_text::{TextFault, read};
 use std::alloc::{AllocError, Global};
 use std::marker::Model;
@@ -64,7 +64,7 @@ impl<'a> Lines<'a> {
 }
 
 /// What the line asks for; `None` where it is bad.
-pub fn order_from(alloc: Global, line: &[u8]) -> Result<Option<Order>, AllocError>
+pub fn order_from(alloc: Global, line: &[u8]) -> Result<Option<Request>, AllocError>
     ensures { IfOk result (λ order. MatchOption order (IsBad line.now) (AsksFor line.now)) }
 {
     match read(alloc, line) {

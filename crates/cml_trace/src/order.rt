@@ -14,7 +14,7 @@ use std::alloc::{AllocError, Global};
 
 /// What a line asks for.
 #[derive(Drop)]
-pub enum Order {
+pub enum Request {
     /// Nothing: it has no forms.
     Skip,
     /// The rows.
@@ -24,11 +24,11 @@ pub enum Order {
 }
 
 /// What the forms of a line ask for, if they ask for anything.
-pub fn order_of(alloc: Global, forms: &[Sexpr]) -> Result<Option<Order>, AllocError>
+pub fn order_of(alloc: Global, forms: &[Sexpr]) -> Result<Option<Request>, AllocError>
     ensures { IfOk result (λ order. order ≡ spec.order_of forms.now) }
 {
     if forms.is_empty() {
-        return Ok(Some(Order::Skip));
+        return Ok(Some(Request::Skip));
     }
     match head_of(forms) {
         Some((keyword, behind)) => order_by(alloc, keyword, behind),
@@ -37,18 +37,18 @@ pub fn order_of(alloc: Global, forms: &[Sexpr]) -> Result<Option<Order>, AllocEr
 }
 
 // What the forms after this keyword ask for.
-fn order_by(alloc: Global, keyword: Keyword, forms: &[Sexpr]) -> Result<Option<Order>, AllocError>
+fn order_by(alloc: Global, keyword: Keyword, forms: &[Sexpr]) -> Result<Option<Request>, AllocError>
     ensures { IfOk result (λ order. order ≡ spec.order_by keyword forms.now) }
 {
     if keyword == Keyword::Rows {
         return Ok(if forms.is_empty() {
-            Some(Order::Rows)
+            Some(Request::Rows)
         } else {
             None
         });
     }
     match command_by(alloc, keyword, forms)? {
-        Some(command) => Ok(Some(Order::Do(command))),
+        Some(command) => Ok(Some(Request::Do(command))),
         None => Ok(None),
     }
 }

@@ -55,7 +55,7 @@ fn push_reply(alloc: Global, text: &mut String, reply: &Reply) -> Result<(), All
         Reply::IVar(variable) => writeln!(text, "ivar {}", variable.0),
         Reply::MVar(variable) => writeln!(text, "mvar {}", variable.0),
         Reply::Mailbox(mailbox) => writeln!(text, "mailbox {}", mailbox.0),
-        Reply::MChan(channel) => writeln!(text, "mchan {}", channel.0),
+        Reply::Mchan(channel) => writeln!(text, "mchan {}", channel.0),
         Reply::Port(port) => writeln!(text, "port {}", port.0),
         Reply::Nack(nack) => writeln!(text, "nack {}", nack.0),
         Reply::Done => text.push_str("ok\n"),

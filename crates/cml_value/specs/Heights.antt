@@ -5,7 +5,7 @@ use Rattle.cml_value.specs.Value.{PlainBase, always, send, swap, mswap, PlainEve
 
 abbrev mutual
   pub value_height : PlainValue → ℕ
-  value_height (pair a b) = max (value_height a + 1) (value_height b + 1)
+  value_height (pair a b) = max (value_height a + 1) (value_height b + 1) + 1
   value_height (event e) = event_height e + 1
   value_height _ = 0
 

@@ -125,6 +125,13 @@ impl Group {
         &self.kind
     }
 
+    /// What the group is, taken out of it.
+    pub fn into_kind(self) -> GroupKind
+        ensures { plain_group result ≡ self }
+    {
+        self.kind
+    }
+
     /// Another owner of the same group.
     ///
     /// # Errors

@@ -1,6 +1,6 @@
 //! The values, functions, events and forced groups of Concurrent ML.
 //!
-//! All of them are immutable. What may be large is shared, so a copy costs a count and no walk.
+//! All of them are immutable. What may be large is shared, so a copy adds one owner, and goes through no parts.
 #![tactic(auto)]
 
 mod group;
@@ -11,4 +11,4 @@ mod value;
 pub use group::{Group, GroupKind};
 pub use number::{ChanId, IVarId, MVarId, MboxId, McastId, NackId, PortId, SwapId, Tid};
 pub use value::limits::{MAX_DEPTH, MAX_NODES};
-pub use value::{Base, BaseKind, Event, EventKind, FnRef, Value, ValueKind};
+pub use value::{Base, BaseKind, Both, Event, EventKind, FnRef, Value, ValueKind};

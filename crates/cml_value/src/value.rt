@@ -15,12 +15,11 @@ use std::alloc::{AllocError, AllocFailed, Global};
 use std::marker::Model;
 use std::sync::{Arc, ArcStr};
 
-/// A value of a program. It is immutable, and its copies share what is large. Its depth and its nodes are kept with it.
+/// A value of a program. It is immutable, and its copies share what is large. Its depth and its nodes are kept with what has parts.
 #[cycle(value)]
 #[derive(Drop)]
 pub struct Value {
     kind: ValueKind,
-    size: Size,
 }
 
 /// What a value is.
@@ -36,7 +35,7 @@ pub enum ValueKind {
     /// A text.
     Text(ArcStr),
     /// A pair.
-    Pair(Arc<(Value, Value)>),
+    Pair(Arc<Both>),
     /// A thread.
     Thread(Tid),
     /// A channel.
@@ -55,6 +54,15 @@ pub enum ValueKind {
     Port(PortId),
     /// An event.
     Event(Arc<Event>),
+}
+
+/// The two values of a pair. Its depth and its nodes are kept with them.
+#[cycle(value)]
+#[derive(Drop)]
+pub struct Both {
+    first: Value,
+    second: Value,
+    size: Size,
 }
 
 /// A function by its number, with the values that it has captured: its first arguments.
@@ -158,10 +166,56 @@ impl Model for Value {
 
     ghost view = { λ a. plain_value a.kind };
 
-    ghost invariant = { λ a. (a.size.depth ≡ kept (value_depth (plain_value a.kind)))
-        × (a.size.nodes ≡ kept (value_nodes (plain_value a.kind))) };
-
     ghost size = { value_height };
+}
+
+impl Model for Both {
+    ghost use Rattle.std.specs.Prelude.{◌≡◌, ◌+◌, max};
+    ghost use Rattle.std.specs.Coded.{coded×};
+    ghost use Rattle.cml_value.specs.Value.{PlainValue, pair};
+    ghost use Rattle.cml_value.specs.Codes.{value_code};
+    ghost use Rattle.cml_value.specs.Sizes.{kept};
+    ghost use Rattle.cml_value.specs.Limits.{value_depth, value_nodes};
+    ghost use Rattle.cml_value.specs.Heights.{value_height};
+
+    ghost Value = { PlainValue × PlainValue };
+
+    ghost coded = { coded× value_code value_code };
+
+    ghost view = { λ a. (a.first, a.second) };
+
+    ghost invariant = { λ a. (a.size.depth ≡ kept (value_depth (pair a.first a.second)))
+        × (a.size.nodes ≡ kept (value_nodes (pair a.first a.second))) };
+
+    ghost size = { λ p. max (value_height p.0 + 1) (value_height p.1 + 1) };
+}
+
+impl Both {
+    ghost use Rattle.cml_value.specs.Value.{pair};
+    ghost use Rattle.cml_value.specs.Limits.{value_depth, value_nodes};
+    ghost use Rattle.cml_value.specs.Sizes.{kept};
+
+    /// The first.
+    pub fn first(&self) -> &Value
+        ensures { result.now ≡ self.now.0 }
+    {
+        &self.first
+    }
+
+    /// The second.
+    pub fn second(&self) -> &Value
+        ensures { result.now ≡ self.now.1 }
+    {
+        &self.second
+    }
+
+    // What is kept with the two.
+    pub(crate) fn size(&self) -> Size
+        ensures depth { result.depth ≡ kept (value_depth (pair self.now.0 self.now.1)) }
+        ensures nodes { result.nodes ≡ kept (value_nodes (pair self.now.0 self.now.1)) }
+    {
+        self.size
+    }
 }
 
 impl Model for FnRef {
@@ -240,8 +294,7 @@ impl Value {
     pub fn new(kind: ValueKind) -> Value
         ensures { result ≡ plain_value kind }
     {
-        let size = kind.size();
-        Value { kind, size }
+        Value { kind }
     }
 
     /// The text as a value.
@@ -267,9 +320,20 @@ impl Value {
         ensures ok { IfOk result (λ v. v ≡ pair first second) }
         ensures err { IfErr result (λ back. back.value ≡ (first, second)) }
     {
-        match Arc::new(alloc, (first, second)) {
+        let size = first.size().and(second.size()).under_one();
+        let both = Both {
+            first,
+            second,
+            size,
+        };
+        match Arc::new(alloc, both) {
             Ok(both) => Ok(Value::new(ValueKind::Pair(both))),
-            Err(back) => Err(back),
+            Err(back) => {
+                let Both { first, second, .. } = back.value;
+                Err(AllocFailed {
+                    value: (first, second),
+                })
+            }
         }
     }
 
@@ -301,7 +365,7 @@ impl Value {
         self.kind
     }
 
-    /// Another owner of the same value.
+    /// A copy of the value, which shares its parts.
     ///
     /// # Errors
     /// Out of memory: no more owners can be counted.
@@ -309,10 +373,7 @@ impl Value {
         ensures { IfOk result (λ v. v ≡ self.now) }
     {
         let kind = self.kind.copy()?;
-        Ok(Value {
-            kind,
-            size: self.size,
-        })
+        Ok(Value { kind })
     }
 }
 
@@ -374,7 +435,7 @@ impl FnRef {
         &self.args.all
     }
 
-    /// Another owner of the same function.
+    /// A copy of the function, which shares its parts.
     ///
     /// # Errors
     /// Out of memory: no more owners can be counted.
@@ -411,7 +472,7 @@ impl Base {
         self.kind
     }
 
-    /// Another owner of the same base event.
+    /// A copy of the base event, which shares its parts.
     ///
     /// # Errors
     /// Out of memory: no more owners can be counted.
@@ -500,7 +561,7 @@ impl Event {
         &self.kind
     }
 
-    /// Another owner of the same event.
+    /// A copy of the event, which shares its parts.
     ///
     /// # Errors
     /// Out of memory: no more owners can be counted.

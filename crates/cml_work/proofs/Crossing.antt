@@ -27,12 +27,14 @@ use Rattle.cml_check.specs.contracts.program.Prog as Prog
 module _ (p : Parts value.frame) (s : (j : values.the_members) → IsSend (rows value.frame p j)) (y : (j : values.the_members) → IsSync (rows value.frame p j)) where
   sends : (i : values.the_members) → IsSend (rows value.frame (value.step p) i)
   sends values.member-Base = has_of value.frame send (value.step p) values.member-Base (part_has send (value.view-Base p) (search (sendable, crosses) depth 60 fits 100000))
+  sends values.member-Both = has_of value.frame send (value.step p) values.member-Both (part_has send (value.view-Both p) (search (sendable, crosses) depth 60 fits 100000))
   sends values.member-Event = has_of value.frame send (value.step p) values.member-Event (part_has send (value.view-Event p) (search (sendable, crosses) depth 60 fits 100000))
   sends values.member-FnRef = has_of value.frame send (value.step p) values.member-FnRef (part_has send (value.view-FnRef p) (search (sendable, crosses) depth 60 fits 100000))
   sends values.member-Value = has_of value.frame send (value.step p) values.member-Value (part_has send (value.view-Value p) (search (sendable, crosses) depth 60 fits 100000))
 
   syncs : (i : values.the_members) → IsSync (rows value.frame (value.step p) i)
   syncs values.member-Base = has_of value.frame sync (value.step p) values.member-Base (part_has sync (value.view-Base p) (search (sendable, crosses) depth 60 fits 100000))
+  syncs values.member-Both = has_of value.frame sync (value.step p) values.member-Both (part_has sync (value.view-Both p) (search (sendable, crosses) depth 60 fits 100000))
   syncs values.member-Event = has_of value.frame sync (value.step p) values.member-Event (part_has sync (value.view-Event p) (search (sendable, crosses) depth 60 fits 100000))
   syncs values.member-FnRef = has_of value.frame sync (value.step p) values.member-FnRef (part_has sync (value.view-FnRef p) (search (sendable, crosses) depth 60 fits 100000))
   syncs values.member-Value = has_of value.frame sync (value.step p) values.member-Value (part_has sync (value.view-Value p) (search (sendable, crosses) depth 60 fits 100000))

@@ -58,7 +58,7 @@ entries_send : IsSend Entries.the_row
 entries_send = search (sendable, crosses, entry_send) depth 60 fits 100000
 
 index_send : IsSend OfferIndex.the_row
-index_send = search (sendable, crosses, entries_send, map_send) depth 60 fits 100000
+index_send = search (sendable, crosses, entry_send, entries_send, map_send) depth 60 fits 100000
 
 -- the book
 clock_send : IsSend Clock.the_row

@@ -18,7 +18,7 @@ pub trait Gate {
     /// Whether it was told that a slice of this thread begins.
     ghost told: { Self → ℕ → Type 0 };
 
-    /// A slice of this thread begins.
+    /// Is told that a slice of this thread begins.
     fn enter(&self, thread: Tid)
         ensures { told self.now thread.0 };
 }
@@ -80,7 +80,7 @@ pub trait Desk {
         self.next(rt, alloc)
     }
 
-    /// From now on no job is handed out. It may wait.
+    /// Has no job handed out from now on. It may wait.
     fn stop<R: Wait>(&self, rt: &R)
         ensures { stopped self.now };
 }

@@ -97,7 +97,7 @@ fn take_job<C: Chooser>(alloc: Global, hub: &mut Hub, chooser: &mut C) -> Result
 }
 
 impl<O: Opening, C: Chooser + Drop> Locked<O, C> {
-    // The hub with the chooser, and the keeper, who knows of no report yet; the workers run.
+    // The hub with the chooser, and the keeper's mark, which stands for no report yet; the workers run.
     pub(crate) fn new(hub: Hub, chooser: C, keeper: Mark) -> Locked<O, C>
         requires hub { opening_of hub ≡ O.opening }
         requires keeper { IsKeeper O.board [] keeper }
@@ -147,7 +147,7 @@ impl<O: Opening, C: Chooser + Drop> Locked<O, C> {
         take_job(alloc, &mut self.hub, &mut self.chooser)
     }
 
-    // A slice of the program comes back: the hub's `give`. The program is not compared.
+    // Takes back a slice of the program, as the hub's `give` does. The program is not compared.
     pub(crate) fn give(&mut self, alloc: Global, ran: Ran) -> Result<(), GiveFault>
         requires { ran.program ≡ O.opening.program }
         ensures hub { TakesSlice self.old.hub ran result self.new.hub }
@@ -174,7 +174,7 @@ impl<O: Opening, C: Chooser + Drop> Locked<O, C> {
         !self.is_stopped && !self.waiters.are_wanted() && !self.hub.has_out()
     }
 
-    // Turns are run in place, until some thousand steps are used.
+    // Runs turns in place, until some thousand steps are used.
     fn run_here(&mut self, alloc: Global) -> Result<(), AllocError>
         requires { NoneOut self.old.hub }
         ensures flags { HaveOneState self.old self.new }
@@ -225,14 +225,14 @@ impl<O: Opening, C: Chooser + Drop> Locked<O, C> {
         self.waiters.has_wanted() && self.hub.has_ready()
     }
 
-    // A worker waits.
+    // Notes that a worker waits.
     pub(crate) fn wait(&mut self)
         ensures { self.new ≡ self.old }
     {
         self.waiters.wait();
     }
 
-    // A worker that waited was woken.
+    // Notes that a worker that waited was woken.
     pub(crate) fn wake(&mut self)
         ensures { self.new ≡ self.old }
     {
@@ -249,14 +249,14 @@ impl<O: Opening, C: Chooser + Drop> Locked<O, C> {
         told < self.told
     }
 
-    // The workers are to stop.
+    // Has the workers stop.
     pub(crate) fn stop(&mut self)
         ensures { self.new ≡ record self.old { is_stopped = true } }
     {
         self.is_stopped = true;
     }
 
-    // All workers have ended.
+    // Notes that all workers have ended.
     pub(crate) fn close(&mut self)
         ensures { self.new ≡ record self.old { is_done = true } }
     {
@@ -277,7 +277,7 @@ impl<O: Opening, C: Chooser + Drop> Locked<O, C> {
         }
     }
 
-    // A mark for the watcher, who is shown what the keeper knows.
+    // A mark for the watcher, which is shown all that the keeper's mark stands for.
     pub(crate) fn mark(&mut self, board: &Board) -> Mark
         requires { board.now.table.shared.table_id ≡ O.board }
         ensures held { self.new ≡ self.old }
@@ -286,7 +286,7 @@ impl<O: Opening, C: Chooser + Drop> Locked<O, C> {
         show(board, &mut self.keeper)
     }
 
-    // The watcher's mark comes back: the hub's reports begin with what it was shown. It gets one that is shown all reports.
+    // Takes the watcher's mark back: the hub's reports begin with what it was shown. Returns one that is shown all reports.
     pub(crate) fn tell<R: Wait>(&mut self, rt: &R, board: &Board, mark: Mark) -> Mark
         requires board { board.now.table.shared.table_id ≡ O.board }
         requires mark { WasShown O.board (shown_of mark) mark }

@@ -82,7 +82,7 @@ impl<O: Opening, C: Chooser + Drop> Shared<O, C> {
         self.locked.lock(rt).mark(&self.board)
     }
 
-    // All workers have ended.
+    // Notes that all workers have ended.
     pub(crate) fn close<R: Wait>(&self, rt: &R) {
         self.locked.lock(rt).close();
         self.watcher.notify_all();
@@ -116,7 +116,7 @@ impl<O: Opening, C: Chooser + Drop> Shared<O, C> {
         unreachable!()
     }
 
-    // A worker waits until it is woken.
+    // Has a worker wait until it is woken.
     fn rest<'a, R: Wait>(
         &'a self,
         rt: &R,
@@ -169,7 +169,7 @@ impl<O: Opening, C: Chooser + Drop> Shared<O, C> {
 impl<O: Opening, C: Chooser + Drop> Desk for Shared<O, C> {
     ghost hands = { λ shared program machine. (program ≡ O.opening.program) × GoesOn program machine };
 
-    // What was said under the lock, no fact that lasts shows; it is said where the lock's value is lent.
+    // No fact that lasts shows what was said under the lock: it is said where the lock's value is lent.
     ghost over = { λ shared. Unit {0} };
 
     ghost lacks = { λ shared. Unit {0} };

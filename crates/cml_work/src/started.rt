@@ -14,7 +14,7 @@ impl Started {
         Started { count: 0 }
     }
 
-    // One more, which has this handle.
+    // Counts one more, which has this handle.
     pub(crate) fn add<T>(&mut self, handle: &JoinHandle<T>) {
         let _ = handle;
         self.count = self.count.saturating_add(1);

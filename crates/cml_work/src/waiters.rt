@@ -1,4 +1,4 @@
-//! Which workers wait, and whether more of them than one pay.
+//! Which workers wait, and whether more than one of them is of use.
 //!
 //! To wake a worker takes a call of the system, and what two workers have under the lock in turn goes to and fro between two processors. Both
 //! together cost about as much as a slice of a hundred steps. So where slices are short one worker runs them all, and the others wait.
@@ -10,7 +10,7 @@ use cml_schedule::Item;
 // Of how many slices the mean is taken, about.
 const SPAN: u64 = 16;
 
-// How many steps a slice has in the mean where more workers than one pay.
+// From how many steps a slice on, in the mean, more than one worker is of use.
 const LONG: u64 = 128;
 
 // How many steps the slices before the first are taken to have had: as many as there may be.
@@ -50,28 +50,28 @@ impl Waiters {
         }
     }
 
-    // A worker waits.
+    // Notes that a worker waits.
     pub(crate) fn wait(&mut self)
         ensures { self.new.steps ≡ self.old.steps }
     {
         self.count = self.count.saturating_add(1);
     }
 
-    // It has been woken.
+    // Notes that one has been woken.
     pub(crate) fn wake(&mut self)
         ensures { self.new.steps ≡ self.old.steps }
     {
         self.count = self.count.saturating_sub(1);
     }
 
-    // A slice of so many steps came back.
+    // Notes a slice of so many steps that came back.
     pub(crate) fn measure(&mut self, steps: u32)
         ensures { self.new.count ≡ self.old.count }
     {
         self.steps = (self.steps - self.steps / SPAN).saturating_add(u64::from(steps));
     }
 
-    // So many turns in place used so many steps: their mean counts as much as that of all slices before.
+    // Notes turns that were run in place, so many, with so many steps: their mean counts as much as that of all slices before.
     pub(crate) fn measure_turns(&mut self, used: u128, turns: usize)
         ensures { self.new.count ≡ self.old.count }
     {
@@ -82,14 +82,14 @@ impl Waiters {
         self.steps = (self.steps / 2).saturating_add(SPAN / 2 * mean);
     }
 
-    // Whether slices are so long that more workers than one pay.
+    // Whether slices are so long that more than one worker is of use.
     pub(crate) fn are_wanted(&self) -> bool
         ensures { IsTrue result ↔ (128 * 16 ≤ self.now.steps) }
     {
         LONG * SPAN <= self.steps
     }
 
-    // Whether a worker waits that would pay.
+    // Whether a worker waits that would be of use.
     pub(crate) fn has_wanted(&self) -> bool
         ensures { IsTrue result ↔ (0 < self.now.count) × (128 * 16 ≤ self.now.steps) }
     {

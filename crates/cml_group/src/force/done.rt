@@ -155,18 +155,21 @@ impl Done {
         same_pieces(&[], &self.pieces, &[], &other.pieces)
     }
 
-    /// All the groups, and then these, in one list.
+    /// All the groups, and then these, in one list. Where there are no others, it is the list of these.
     ///
     /// # Errors
     /// Out of memory.
-    pub fn all_with(&self, alloc: Global, more: &[Group]) -> Result<Vec<Group>, AllocError>
-        ensures { IfOk result (λ all. all.items ≡ self.now ++ more.now) }
+    pub fn all_with(&self, alloc: Global, more: Vec<Group>) -> Result<Vec<Group>, AllocError>
+        ensures { IfOk result (λ all. all.items ≡ self.now ++ more.items) }
     {
+        if self.pieces.is_empty() {
+            return Ok(more);
+        }
         let mut all = Vec::new(alloc);
         for piece in &self.pieces {
             add_copies(&mut all, piece)?;
         }
-        add_copies(&mut all, more)?;
+        add_copies(&mut all, &more)?;
         Ok(all)
     }
 

@@ -1,6 +1,6 @@
 //! An event, forced up to a guard or a withNack.
 
-ghost use Rattle.std.specs.Prelude.{◌≡◌, ◌↔◌, IsTrue, ℕ, ◌++◌, drop, Option, Some, IfOk};
+ghost use Rattle.std.specs.Prelude.{◌≡◌, ◌↔◌, IsTrue, ℕ, true, false, ◌++◌, ◌∷◌, [], drop, map, Option, Some, IfOk};
 ghost use Rattle.cml_value.specs.Value.{wrap, scope, choose, events};
 ghost use Rattle.cml_group.specs.Force.{event_of};
 ghost use Rattle.cml_group.specs.Frames.{framed, plug, choice};
@@ -169,12 +169,42 @@ pub fn force(event: &Event, alloc: Global) -> Result<Part, AllocError>
         EventKind::Never => Ok(Part::Whole(Group::new(GroupKind::Never))),
         EventKind::Leaf(b) => Ok(Part::Whole(Group::new(GroupKind::Leaf(b.copy()?)))),
         EventKind::Choose(members) => {
-            force_members(alloc, &Done::new(alloc), members, 0, Vec::new(alloc))
+            let gained = Vec::with_capacity(alloc, first_room(members))?;
+            force_members(alloc, &Done::new(alloc), members, 0, gained)
         }
         EventKind::Wrap(e, f) => force(e, alloc)?.wrap(alloc, f),
         EventKind::Guard(f) => Ok(Part::Open(Vec::new(alloc), Hole::Guard(f.copy()?))),
         EventKind::WithNack(f) => Ok(Part::Open(Vec::new(alloc), Hole::WithNack(f.copy()?))),
         EventKind::Scope(k, e) => force(e, alloc)?.scope(alloc, *k),
+    }
+}
+
+// How many members there is to be room for at first: all, where the first is a base event, since then most are.
+fn first_room(members: &[Event]) -> usize {
+    match members.first() {
+        Some(first) => {
+            if matches!(first.kind(), EventKind::Leaf(_)) {
+                members.len()
+            } else {
+                0
+            }
+        }
+        None => 0,
+    }
+}
+
+// Whether the event is a base event, as most members of most choices are; it is then appended, as a group.
+fn add_leaf(gained: &mut Vec<Group>, event: &Event) -> Result<bool, AllocError>
+    ensures leaf { IfOk result (λ is. is ≡ true →
+        map event_of gained.new.items ≡ map event_of gained.old.items ++ event.now ∷ []) }
+    ensures other { IfOk result (λ is. is ≡ false → gained.new.items ≡ gained.old.items) }
+{
+    match event.kind() {
+        EventKind::Leaf(b) => {
+            gained.push(Group::new(GroupKind::Leaf(b.copy()?)))?;
+            Ok(true)
+        }
+        _ => Ok(false),
     }
 }
 
@@ -194,7 +224,11 @@ fn force_members(
 {
     let mut gained = gained;
     for i in next..members.len() {
-        match force(&members[i], alloc)? {
+        let member = &members[i];
+        if add_leaf(&mut gained, member)? {
+            continue;
+        }
+        match force(member, alloc)? {
             Part::Whole(group) => gained.push(group)?,
             Part::Open(mut frames, hole) => {
                 let done = done.with(alloc, gained)?;
@@ -204,7 +238,7 @@ fn force_members(
             }
         }
     }
-    let all = done.all_with(alloc, &gained)?;
+    let all = done.all_with(alloc, gained)?;
     Ok(Part::Whole(Group::choose(alloc, all)?))
 }
 

@@ -18,7 +18,8 @@ impl Value {
     pub fn depth(&self) -> u64
         ensures { result ≡ min (value_depth self.now) u64.MAX }
     {
-        self.size.depth
+        let size = self.size();
+        size.depth
     }
 
     /// The number of nodes, where a part that is shared counts as often as it stands there. It is kept with the value,
@@ -26,7 +27,8 @@ impl Value {
     pub fn nodes(&self) -> u64
         ensures { result ≡ min (value_nodes self.now) u64.MAX }
     {
-        self.size.nodes
+        let size = self.size();
+        size.nodes
     }
 
     /// Whether the depth is at most [`MAX_DEPTH`] and the nodes are at most [`MAX_NODES`]. It looks at no part.
@@ -34,7 +36,8 @@ impl Value {
     pub fn fits(&self) -> bool
         ensures { result ≡ value_fits self.now }
     {
-        self.size.spend(MAX_DEPTH, MAX_NODES).is_some()
+        let size = self.size();
+        size.spend(MAX_DEPTH, MAX_NODES).is_some()
     }
 }
 

@@ -17,7 +17,7 @@ impl Value {
             ValueKind::Text(x) =>
                 matches!(&other.kind, ValueKind::Text(y) if x.as_str() == y.as_str()),
             ValueKind::Pair(p) =>
-                matches!(&other.kind, ValueKind::Pair(q) if p.0.same(&q.0) && p.1.same(&q.1)),
+                matches!(&other.kind, ValueKind::Pair(q) if p.first().same(q.first()) && p.second().same(q.second())),
             ValueKind::Thread(x) => matches!(&other.kind, ValueKind::Thread(y) if x.0 == y.0),
             ValueKind::Chan(x) => matches!(&other.kind, ValueKind::Chan(y) if x.0 == y.0),
             ValueKind::Swap(x) => matches!(&other.kind, ValueKind::Swap(y) if x.0 == y.0),

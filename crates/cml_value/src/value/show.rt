@@ -32,9 +32,9 @@ impl Value {
             ValueKind::Text(s) => push_literal(out, s.as_str()),
             ValueKind::Pair(p) => {
                 out.push_str("(pair ")?;
-                p.0.show_to(out)?;
+                p.first().show_to(out)?;
                 out.push_str(" ")?;
-                p.1.show_to(out)?;
+                p.second().show_to(out)?;
                 out.push_str(")")
             }
             ValueKind::Thread(t) => push_number(out, "thread", t.0),

@@ -15,7 +15,7 @@ impl Value {
         ensures depth { result.depth ≡ kept (value_depth self.now) }
         ensures nodes { result.nodes ≡ kept (value_nodes self.now) }
     {
-        self.size
+        self.kind.size()
     }
 }
 
@@ -26,7 +26,7 @@ impl ValueKind {
         ensures nodes { result.nodes ≡ kept (value_nodes (plain_value self.now)) }
     {
         match self {
-            ValueKind::Pair(p) => p.0.size().and(p.1.size()).under_one(),
+            ValueKind::Pair(p) => p.size(),
             ValueKind::Event(e) => Event::size(e),
             _ => Size::one(),
         }

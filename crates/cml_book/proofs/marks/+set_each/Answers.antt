@@ -3,7 +3,7 @@ use Rattle.cml_value.specs.Group.{choose, groups, scopes, nacks_of}
 use Rattle.cml_value.specs.GroupViews.{plain_group}
 use Rattle.cml_book.proofs.Heights.{member_falls}
 use Rattle.cml_book.specs.Sync.{with_each}
-use Rattle.cml_book.specs.Marks.{was_each_other}
+use Rattle.cml_book.specs.NackMarks.{was_each_other}
 use Rattle.cml_book.proofs.Walks.{nacks_of_all, set_goes_on, other_goes_on, other_fails, other_holds}
 use Rattle.cml_book.proofs.marks.+set_each.Goals as goal
 use Rattle.cml_book.proofs.marks.+set_each.Goals.{then-not-set_each, else-not-set_each}

@@ -2,7 +2,7 @@ use Rattle.std.proofs.Common.{◌≡◌, ◌&&◌, drop}
 use Rattle.cml_value.specs.Group.{groups}
 use Rattle.cml_value.specs.GroupHeights.{group_height}
 use Rattle.cml_book.specs.Sync.{with_each}
-use Rattle.cml_book.specs.Marks.{was_each_other}
+use Rattle.cml_book.specs.NackMarks.{was_each_other}
 use Rattle.cml_book.proofs.Walks.{nacks_of_all}
 use Rattle.cml_book.proofs.marks.+set_each.Given as goal
 

@@ -1,5 +1,5 @@
 use Rattle.std.proofs.Common.{◌≡◌, ◌-◌, length}
-use Rattle.cml_explore.specs.Priorities.{Numbers, numbers_drawn}
+use Rattle.cml_explore.specs.Priorities.{numbers_drawn}
 use Rattle.cml_explore.proofs.priority.draw.Given as goal
 
 -- so many are left to be drawn

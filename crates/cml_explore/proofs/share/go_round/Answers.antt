@@ -1,4 +1,4 @@
-use Rattle.std.proofs.Common.{◌≡◌, ◌∙◌, ap, length, arith}
+use Rattle.std.proofs.Common.{◌∙◌, ap, arith}
 use Rattle.std.specs.Prelude.{◌==◌}
 use Rattle.cml_explore.proofs.ExploreLemmas.{made_so}
 use Rattle.cml_explore.proofs.PartLemmas.{copy_fits, copied, round_begins, next_fits, next_on, next_last, round_ends}

@@ -1,4 +1,4 @@
-use Rattle.std.proofs.Common.{◌≡◌, ◌+◌, ◌≤◌, ◌∙◌, sym, ap, refl, arith}
+use Rattle.std.proofs.Common.{◌≡◌, ◌+◌, ◌∙◌, sym, ap, arith}
 use Rattle.cml_explore.specs.Explored.{PlainExplored}
 use Rattle.cml_explore.proofs.ExploreLemmas.{is_few, goes_on, stopped_so}
 use Rattle.cml_explore.proofs.share.make_part.Goals as goal

@@ -1,8 +1,8 @@
 use Rattle.std.proofs.Common.{rules, ◌∙◌, ap, subst, map, inl, refl}
 use Rattle.std.specs.String.{string_bytes}
-use Rattle.cml_words.specs.declared.Task.TheVariants.{Trace, Check, Fmt, Run, Replay, Explain, Explore, Shrink, Draw, Step}
-use Rattle.cml_words.specs.declared.Answer.TheVariants as answer
-use Rattle.cml_words.specs.Words.{IsAnswer}
+use Rattle.cml_arguments.specs.declared.Task.TheVariants.{Trace, Check, Fmt, Run, Replay, Explain, Explore, Shrink, Draw, Step}
+use Rattle.cml_arguments.specs.declared.Answer.TheVariants as answer
+use Rattle.cml_arguments.specs.Words.{IsAnswer}
 use Rattle.cml_host.proofs.CountLemmas.{counted, explore_counted, explore_depth, explore_seeds, watch_counted}
 use Rattle.cml_host.proofs.command.run_command_counted.Goals as goal
 

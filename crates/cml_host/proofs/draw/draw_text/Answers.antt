@@ -2,7 +2,7 @@ use Rattle.std.proofs.Common.{rules, List, ℕ, inl, inr, subst}
 use Rattle.cml_stream.specs.Streams.{counted_stream}
 use Rattle.cml_host.specs.Closed.{plain_subject}
 use Rattle.cml_host.specs.Drawn.{IsUndrawnBy}
-use Rattle.cml_host.specs.Written.{TextRan}
+use Rattle.cml_host.specs.Written.{TextOutcome}
 use Rattle.cml_host.specs.declared.draw.Undrawn.{Undrawn}
 use Rattle.cml_host.proofs.DrawnLemmas.{refusal_told}
 use Rattle.cml_host.proofs.draw.draw_text.Goals as goal
@@ -14,7 +14,7 @@ returns-in-Ok-clause-ran g c =
     inl (
       c.in-Ok.picture.items,
       c.in-Ok.ensures.ok,
-      subst (λ (ts : List ℕ). TextRan ts output errors c.send_text.result) c.as_slice.ensures.value c.send_text.ensures.ran,
+      subst (λ (ts : List ℕ). TextOutcome ts output errors c.send_text.result) c.as_slice.ensures.value c.send_text.ensures.ran,
     )
 
 pub returns-in-Err-Refused-clause-ran : goal.returns-in-Err-Refused-clause-ran

@@ -1,6 +1,6 @@
 use Rattle.std.proofs.Common.{List, ℕ, inl, subst}
 use Rattle.cml_stream.specs.Streams.{counted_stream}
-use Rattle.cml_host.specs.Written.{TextRan}
+use Rattle.cml_host.specs.Written.{TextOutcome}
 use Rattle.cml_host.proofs.explain.tell_end.Goals as goal
 
 pub returns-in-Ok-clause-told : goal.returns-in-Ok-clause-told
@@ -10,5 +10,5 @@ returns-in-Ok-clause-told g c =
     inl (
       c.in-Ok.words.items,
       c.in-Ok.ensures,
-      subst (λ (ts : List ℕ). TextRan ts output errors c.send_text.result) c.as_slice.ensures.value c.send_text.ensures.ran,
+      subst (λ (ts : List ℕ). TextOutcome ts output errors c.send_text.result) c.as_slice.ensures.value c.send_text.ensures.ran,
     )

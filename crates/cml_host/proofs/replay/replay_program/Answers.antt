@@ -1,7 +1,7 @@
 use Rattle.std.proofs.Common.{rules, Bool, subst}
 use Rattle.cml_stream.specs.Streams.{counted_stream}
 use Rattle.cml_host.specs.Closed.{plain_asked}
-use Rattle.cml_host.specs.Said.{RefusalRan}
+use Rattle.cml_host.specs.Said.{RefusalOutcome}
 use Rattle.cml_host.proofs.RanLemmas.{not_scheduled, scheduled}
 use Rattle.cml_host.proofs.replay.replay_program.Goals as goal
 
@@ -21,5 +21,5 @@ returns-in-Err-clause-ran g c =
     let name = c.args.options.now.schedule.now in
     not_scheduled (plain_asked c.args.asked.now) c.args.program c.args.options.now.watch (g.S.Store.holds c.args.store.now name) name c.in-Err.why output errors c.refuse.result
     c.in-Err.ensures.err
-    (subst (λ (e : Bool). RefusalRan e name c.in-Err.why 3 errors c.refuse.result) c.explains.ensures c.refuse.ensures.refused)
+    (subst (λ (e : Bool). RefusalOutcome e name c.in-Err.why 3 errors c.refuse.result) c.explains.ensures c.refuse.ensures.refused)
     (search rules, c.requires.fresh.0, c.requires.fresh.1)

@@ -2,7 +2,7 @@ use Rattle.std.proofs.Common.{List, ℕ, inl, subst}
 use Rattle.cml_check.specs.Syntax.{PlainItem}
 use Rattle.cml_stream.specs.Streams.{counted_stream}
 use Rattle.cml_host.specs.Closed.{plain_asked}
-use Rattle.cml_host.specs.Running.{ProgramRan, plain_saving}
+use Rattle.cml_host.specs.Running.{ProgramOutcome, plain_saving}
 use Rattle.cml_host.specs.Stores.{Shelf}
 use Rattle.cml_host.proofs.RanLemmas.{starts_itself}
 use Rattle.cml_host.proofs.run.run_program.Goals as goal
@@ -15,4 +15,4 @@ returns-in-Ok-clause-ran g c =
     let output = counted_stream (g.O.Write.contents c.args.out.now.stream.now) (g.O.Write.contents c.run_begun.new.out.stream.now) c.run_begun.new.out.calls c.run_begun.new.out.failed in
     let errors = counted_stream (g.E.Write.contents c.args.err.now.stream.now) (g.E.Write.contents c.run_begun.new.err.stream.now) c.run_begun.new.err.calls c.run_begun.new.err.failed in
     let store : Shelf = record { before = g.S.Store.holds c.args.store.now; after = g.S.Store.holds c.run_begun.new.store } in
-    inl (subst (λ (p : List (PlainItem ℕ)). ProgramRan (plain_asked c.args.asked.now) (plain_saving c.args.saving.now) p c.args.options.now output errors store c.run_begun.result) c.in-Ok.ensures.ok.program c.run_begun.ensures.ran)
+    inl (subst (λ (p : List (PlainItem ℕ)). ProgramOutcome (plain_asked c.args.asked.now) (plain_saving c.args.saving.now) p c.args.options.now output errors store c.run_begun.result) c.in-Ok.ensures.ok.program c.run_begun.ensures.ran)

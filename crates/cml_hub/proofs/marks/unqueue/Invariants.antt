@@ -1,5 +1,5 @@
 use Rattle.std.proofs.Common.{◌≡◌, take}
-use Rattle.cml_hub.specs.Marks.{count_of}
+use Rattle.cml_hub.specs.ReadyQueue.{count_of}
 use Rattle.cml_hub.proofs.marks.unqueue.Given as goal
 
 abbrev pub invariant-loop-i : goal.invariant-loop-i

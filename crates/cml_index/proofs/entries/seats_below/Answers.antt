@@ -2,7 +2,8 @@ use Rattle.std.proofs.Common.{◌≡◌, ◌≤◌, ◌<◌, ◌+◌, ◌-◌, �
 use Rattle.cml_index.specs.declared.entries.Seat.{Seat}
 use Rattle.cml_index.specs.Seats as spec
 use Rattle.cml_index.proofs.Parted.{lt_is, ge_is, filter_fewer}
-use Rattle.cml_index.proofs.Seated.{ranked}
+use Rattle.cml_index.proofs.Seated.{ranked, its_place}
+use Rattle.cml_index.proofs.OwnSeat.{no_seat}
 use Rattle.cml_index.proofs.entries.seats_below.Goals as goal
 
 pub loop-low-init : goal.loop-low-init
@@ -26,3 +27,6 @@ loop-low-preserved c =
     let at = ranked c.args.tid.0 ss middle seen c.requires (omega arith) in
     let is_out : nat_lt (get_or ss middle seen).tid.0 c.args.tid.0 ≡ false = ge_is _ c.args.tid.0 c.if-seats-middle.false in
     record { low = c.loop-low.invariant.low; high = at.back is_out; within = omega arith }
+
+pub returns-then-has_seat : goal.returns-then-has_seat
+returns-then-has_seat c = let there = c.has_seat.ensures.0 c.if-has_seat.true in its_place c.args.tid.0 c.args.seats.now c.args.tid.0 no_seat c.requires there.0 (there.1 no_seat)

@@ -9,7 +9,7 @@ use Rattle.cml_index.specs.declared.slot.Slot.TheVariants.{Side}
 use Rattle.cml_index.specs.Posts.{slot_of}
 use Rattle.cml_index.specs.Live.{objects}
 use Rattle.cml_index.proofs.Counted.{AreBoth, both_kept}
-use Rattle.cml_index.proofs.OneObject.{sole, one_key, behind_lift}
+use Rattle.cml_index.proofs.OneObject.{one_object, one_key, behind_lift}
 use Rattle.cml_index.proofs.heads.head_met.Goals as goal
 
 pub head_on-requires-clause-within : goal.head_on-requires-clause-within
@@ -19,7 +19,7 @@ head_on-requires-clause-within c =
     let n = c.at.result in
     let both = both_kept c.args.core.now.lanes c.args.core.now.live os c.requires.indexed.sides c.requires.indexed.placed in
     let is = one_key keys n (omega (arith, c.len.ensures.count, c.if-len-eq1.true)) c.at.ensures in
-    let whole = sole os n (subst (IsDistinct same_object) is c.len.ensures.once) (subst (λ ks. AreBoth ks os) is both) in
+    let whole = one_object os n (subst (IsDistinct same_object) is c.len.ensures.once) (subst (λ ks. AreBoth ks os) is both) in
     let many = ap length whole in
     let long = length-map (filter (has_partner os) os) place in
     omega (arith, many, long, c.requires.within)
@@ -31,7 +31,7 @@ returns-then-len-eq1-clause-value c =
     let n = c.at.result in
     let both = both_kept c.args.core.now.lanes c.args.core.now.live os c.requires.indexed.sides c.requires.indexed.placed in
     let is = one_key keys n (omega (arith, c.len.ensures.count, c.if-len-eq1.true)) c.at.ensures in
-    let whole = sole os n (subst (IsDistinct same_object) is c.len.ensures.once) (subst (λ ks. AreBoth ks os) is both) in
+    let whole = one_object os n (subst (IsDistinct same_object) is c.len.ensures.once) (subst (λ ks. AreBoth ks os) is both) in
     ap (λ ps. slice_get ps c.args.k) whole ∙ c.head_on.ensures.found.value
 
 pub returns-then-len-eq1-clause-early : goal.returns-then-len-eq1-clause-early

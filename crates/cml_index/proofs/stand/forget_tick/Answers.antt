@@ -1,17 +1,17 @@
 use Rattle.std.proofs.Common.{◌≡◌, ℕ, Bool, true, false, nat_eq, Option, None, refl, ap, cond, sym, subst, ◌∙◌, arith}
 use Rattle.std.proofs.lemmas.Bool.Decides.{nat_tests}
 use Rattle.indexmap.specs.IndexMap.{get}
-use Rattle.cml_index.specs.declared.stand.Stand.{Stand}
+use Rattle.cml_index.specs.declared.stand.LaneState.{LaneState}
 use Rattle.cml_index.specs.Stands.{IsLike, IsEmpty}
 use Rattle.cml_index.proofs.stand.forget_tick.Goals as goal
 
 same_number : (a b : ℕ) → nat_eq a b ≡ true → a ≡ b
 same_number a b e = grind (arith, nat_tests)
 
-like : (s : Option Stand) → IsLike s s
+like : (s : Option LaneState) → IsLike s s
 like s = record { places = refl; late = refl; going = refl }
 
-empty : (s : Option Stand) → IsEmpty s → IsLike None s
+empty : (s : Option LaneState) → IsEmpty s → IsLike None s
 empty s e = record { places = sym e.places; late = sym e.late; going = sym e.going }
 
 pub returns : goal.returns

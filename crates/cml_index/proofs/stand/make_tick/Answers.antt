@@ -1,14 +1,14 @@
 use Rattle.std.proofs.Common.{rules, ◌≡◌, ℕ, Bool, true, false, nat_eq, Option, Some, None, refl, sym, subst, arith}
 use Rattle.std.proofs.lemmas.Bool.Decides.{nat_tests}
 use Rattle.indexmap.specs.IndexMap.{get}
-use Rattle.cml_index.specs.declared.stand.Stand.{Stand}
+use Rattle.cml_index.specs.declared.stand.LaneState.{LaneState}
 use Rattle.cml_index.specs.Stands.{IsAlike}
 use Rattle.cml_index.proofs.stand.make_tick.Goals as goal
 
 same_number : (a b : ℕ) → nat_eq a b ≡ true → a ≡ b
 same_number a b e = grind (arith, nat_tests)
 
-alike : (s : Option Stand) → IsAlike s s
+alike : (s : Option LaneState) → IsAlike s s
 alike s = record { places = refl; late = refl; going = refl; room = omega arith }
 
 pub returns-clause-same : goal.returns-clause-same

@@ -6,4 +6,4 @@ use Rattle.cml_step.proofs.slices.run_slice.Goals as goal
 
 pub returns : goal.returns
 returns c =
-    subst (λ (m : PlainMachine). IsSlice (record { program = c.args.program.now; start = m; end = c.run.new.self; ask = plain_ask c.in_ok-ask.ask; steps = c.in_ok-ask.steps })) c.in_ok-end.ensures c.in_ok-ask.ensures
+    subst (λ (m : PlainMachine). IsSlice (record { program = c.args.program.now; start = m; end = c.run.new.self; ask = plain_ask c.run.new.asked; steps = c.in_ok-steps.steps })) c.in_ok-end.ensures c.in_ok-steps.ensures

@@ -12,4 +12,4 @@ deliver-requires-clause-beneath c =
 pub returns-clause-meant : goal.returns-clause-meant
 returns-clause-meant c = λ hs h e.
     let p = c.args.program.now in
-    subst (λ (x : List PlainHeld). IsStep p c.deliver.result (delivered c.args.value (term_of p x)) c.deliver.new.stack) (c.in_ok-drop_top.ensures hs h e) c.deliver.ensures.meant
+    subst (λ (x : List PlainHeld). IsStep p c.deliver.result c.deliver.new.asked (delivered c.args.value (term_of p x)) c.deliver.new.stack) (c.in_ok-drop_top.ensures hs h e) c.deliver.ensures.meant

@@ -1,4 +1,7 @@
-use Rattle.std.proofs.Common.{◌≡◌, ◌<◌, ◌+◌, ◌∙◌, refl, subst, arith}
+use Rattle.std.proofs.Common.{◌≡◌, ◌<◌, ◌≤◌, ◌+◌, ◌-◌, ◌∙◌, ap, subst, arith}
+use Rattle.cml_check.specs.InOrder.{arities}
+use Rattle.cml_step.specs.declared.ask.Ask.{Ask}
+use Rattle.cml_step.specs.Agrees.{ask_agrees}
 use Rattle.cml_step.specs.AskViews.{plain_ask}
 use Rattle.cml_step.specs.Steps.{next, asks}
 use Rattle.cml_step.specs.Calls.{text_of}
@@ -6,44 +9,55 @@ use Rattle.cml_step.specs.Stacks.{term_of}
 use Rattle.cml_step.proofs.SliceLemmas.{slice_on, slice_asks, slice_over, slice_skips}
 use Rattle.cml_step.proofs.steps.run.Goals as goal
 
-pub returns-in_default : goal.returns-in_default
-returns-in_default c =
+pub returns-then-done-most : goal.returns-then-done-most
+returns-then-done-most c =
     let p = c.args.program.now in
+    let w = c.deliver_wrapped-done.result in
     let n = c.in_ok-quick.quick in
-    let lower : c.loop-done.done + n < c.args.most = omega (arith, c.in_ok-quick.ensures.within, c.loop-done-test.true, c.if-done-most.false) in
+    let first : w ≤ c.args.most - c.loop-done.done = omega (arith, c.deliver_wrapped-done.ensures.within, c.loop-done-test.true) in
     record {
       meant =
           c.loop-done.invariant.left
-          ∙ slice_skips (text_of p) c.args.thread.0 c.args.most n c.loop-done.done (term_of p c.loop-done.stack) (term_of p c.quick_steps.new.stack) (c.in_ok-quick.ensures.goes c.args.thread.0) c.in_ok-quick.ensures.within
-          ∙ slice_asks (text_of p) c.args.thread.0 c.args.most (c.loop-done.done + n) (term_of p c.quick_steps.new.stack) (term_of p c.step_or_fault.new.stack) c.in_ok-ask.ask lower c.in_ok-ask.ensures.meant c.in_default.not-Nothing;
-      fits = c.in_ok-ask.ensures.fits;
-      agrees = c.in_ok-ask.ensures.agrees;
+          ∙ slice_skips (text_of p) c.args.thread.0 c.args.most w c.loop-done.done (term_of p c.loop-done.stack) (term_of p c.deliver_wrapped-done.new.stack) (c.deliver_wrapped-done.ensures.goes c.args.thread.0) first
+          ∙ slice_skips (text_of p) c.args.thread.0 c.args.most n (c.loop-done.done + w) (term_of p c.deliver_wrapped-done.new.stack) (term_of p c.quick_steps.new.stack) (c.in_ok-quick.ensures.goes c.args.thread.0) c.in_ok-quick.ensures.within
+          ∙ slice_over (text_of p) c.args.thread.0 c.args.most (c.loop-done.done + w + n) (term_of p c.quick_steps.new.stack) c.loop-done.asked (omega (arith, c.if-done-most.true)) c.loop-done.invariant.nothing;
+      fits = c.in_ok-quick.ensures.fits;
+      agrees = ap (λ (a : Ask). ask_agrees (arities p) (plain_ask a)) c.loop-done.invariant.nothing;
+    }
+
+pub returns-then-not-asks_nothing : goal.returns-then-not-asks_nothing
+returns-then-not-asks_nothing c =
+    let p = c.args.program.now in
+    let w = c.deliver_wrapped-done.result in
+    let n = c.in_ok-quick.quick in
+    let first : w ≤ c.args.most - c.loop-done.done = omega (arith, c.deliver_wrapped-done.ensures.within, c.loop-done-test.true) in
+    let lower : c.loop-done.done + w + n < c.args.most = omega (arith, first, c.in_ok-quick.ensures.within, c.loop-done-test.true, c.if-done-most.false) in
+    record {
+      meant =
+          c.loop-done.invariant.left
+          ∙ slice_skips (text_of p) c.args.thread.0 c.args.most w c.loop-done.done (term_of p c.loop-done.stack) (term_of p c.deliver_wrapped-done.new.stack) (c.deliver_wrapped-done.ensures.goes c.args.thread.0) first
+          ∙ slice_skips (text_of p) c.args.thread.0 c.args.most n (c.loop-done.done + w) (term_of p c.deliver_wrapped-done.new.stack) (term_of p c.quick_steps.new.stack) (c.in_ok-quick.ensures.goes c.args.thread.0) c.in_ok-quick.ensures.within
+          ∙ slice_asks (text_of p) c.args.thread.0 c.args.most (c.loop-done.done + w + n) (term_of p c.quick_steps.new.stack) (term_of p c.step_or_fault.new.stack) c.step_or_fault.new.asked lower c.in_ok-step_or_fault.ensures.meant (c.asks_nothing.ensures.something c.if-not-asks_nothing.true);
+      fits = c.in_ok-step_or_fault.ensures.fits;
+      agrees = c.in_ok-step_or_fault.ensures.agrees;
     }
 
 pub loop-done-preserved : goal.loop-done-preserved
 loop-done-preserved c =
     let p = c.args.program.now in
+    let w = c.deliver_wrapped-done.result in
     let n = c.in_ok-quick.quick in
-    let lower : c.loop-done.done + n < c.args.most = omega (arith, c.in_ok-quick.ensures.within, c.loop-done-test.true, c.if-done-most.false) in
+    let first : w ≤ c.args.most - c.loop-done.done = omega (arith, c.deliver_wrapped-done.ensures.within, c.loop-done-test.true) in
+    let lower : c.loop-done.done + w + n < c.args.most = omega (arith, first, c.in_ok-quick.ensures.within, c.loop-done-test.true, c.if-done-most.false) in
+    let none = c.asks_nothing.ensures.nothing c.if-not-asks_nothing.false in
     record {
       within = omega (arith, lower);
-      fits = c.in_ok-ask.ensures.fits;
+      fits = c.in_ok-step_or_fault.ensures.fits;
+      nothing = none;
       left =
           c.loop-done.invariant.left
-          ∙ slice_skips (text_of p) c.args.thread.0 c.args.most n c.loop-done.done (term_of p c.loop-done.stack) (term_of p c.quick_steps.new.stack) (c.in_ok-quick.ensures.goes c.args.thread.0) c.in_ok-quick.ensures.within
-          ∙ slice_on (text_of p) c.args.thread.0 c.args.most (c.loop-done.done + n) (term_of p c.quick_steps.new.stack) (term_of p c.step_or_fault.new.stack) lower
-          (subst (λ a. next (text_of p) c.args.thread.0 (term_of p c.quick_steps.new.stack) ≡ asks (plain_ask a) (term_of p c.step_or_fault.new.stack)) c.in-Nothing.is c.in_ok-ask.ensures.meant);
-    }
-
-pub returns-then-done-most : goal.returns-then-done-most
-returns-then-done-most c =
-    let p = c.args.program.now in
-    let n = c.in_ok-quick.quick in
-    record {
-      meant =
-          c.loop-done.invariant.left
-          ∙ slice_skips (text_of p) c.args.thread.0 c.args.most n c.loop-done.done (term_of p c.loop-done.stack) (term_of p c.quick_steps.new.stack) (c.in_ok-quick.ensures.goes c.args.thread.0) c.in_ok-quick.ensures.within
-          ∙ slice_over (text_of p) c.args.thread.0 c.args.most (c.loop-done.done + n) (term_of p c.quick_steps.new.stack) (omega (arith, c.if-done-most.true));
-      fits = c.in_ok-quick.ensures.fits;
-      agrees = refl;
+          ∙ slice_skips (text_of p) c.args.thread.0 c.args.most w c.loop-done.done (term_of p c.loop-done.stack) (term_of p c.deliver_wrapped-done.new.stack) (c.deliver_wrapped-done.ensures.goes c.args.thread.0) first
+          ∙ slice_skips (text_of p) c.args.thread.0 c.args.most n (c.loop-done.done + w) (term_of p c.deliver_wrapped-done.new.stack) (term_of p c.quick_steps.new.stack) (c.in_ok-quick.ensures.goes c.args.thread.0) c.in_ok-quick.ensures.within
+          ∙ slice_on (text_of p) c.args.thread.0 c.args.most (c.loop-done.done + w + n) (term_of p c.quick_steps.new.stack) (term_of p c.step_or_fault.new.stack) lower
+          (subst (λ (a : Ask). next (text_of p) c.args.thread.0 (term_of p c.quick_steps.new.stack) ≡ asks (plain_ask a) (term_of p c.step_or_fault.new.stack)) none c.in_ok-step_or_fault.ensures.meant);
     }

@@ -1,6 +1,6 @@
 use Rattle.std.proofs.Common.{rules, ◌≡◌, ◌++◌, ◌∷◌, [], List, subst, sym}
 use Rattle.cml_book.specs.declared.command.Command.{Command}
-use Rattle.cml_trace.specs.declared.order.Order.TheVariants as order
+use Rattle.cml_trace.specs.declared.order.Request.TheVariants as order
 use Rattle.cml_trace.specs.Orders.{AsksFor}
 use Rattle.cml_trace.proofs.BatchLemmas.{Gathering, Gathering-skip, Gathering-more}
 use Rattle.cml_trace.proofs.batch.gather.Goals as goal

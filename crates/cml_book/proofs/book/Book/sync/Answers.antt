@@ -1,15 +1,18 @@
-use Rattle.std.proofs.Common.{rules, ◌≡◌, Bool, List, None, sym, ◌∙◌, ap, refl, arith, subst}
+use Rattle.std.proofs.Common.{rules, ◌≡◌, Bool, not, List, None, sym, ◌∙◌, ap, refl, arith, subst}
 use Rattle.cml_value.specs.Group.{bases}
 use Rattle.cml_scan.specs.World.{PlainWorld, PlainEntry}
 use Rattle.cml_scan.specs.Light.{light_of}
 use Rattle.cml_scan.specs.declared.object.Light.{Light}
 use Rattle.cml_book.specs.Sync.{sync_refusal, waiting}
 use Rattle.cml_book.specs.Keeping.{lights_in, Room, Keeps}
+use Rattle.cml_book.specs.Walks.{IsWhole}
 use Rattle.cml_book.proofs.Pendings.{running_is_new}
 use Rattle.cml_book.proofs.Accepted.{accepted}
 use Rattle.cml_book.proofs.Commits.{flat_is, found}
 use Rattle.cml_book.proofs.Keepings.{keeps_same, keeps_roomier}
-use Rattle.cml_book.proofs.Syncs.{sync_refused, sync_accepted, apart_of, enters_flat, keeps_arrives, waits_now, fresh_now, entered_now, back_now}
+use Rattle.cml_book.proofs.Syncs.{sync_refused, sync_accepted, apart_of, enters_flat, keeps_arrives, waits_now, fresh_now, entered_now, back_now, fits_same, grows_same}
+use Rattle.cml_book.proofs.AwaitedLights.{split_all}
+use Rattle.cml_book.proofs.Plain.{standing_stays}
 use Rattle.cml_book.proofs.book.Book.sync.Goals as goal
 
 keeps_again : {v w : PlainWorld} {es : List PlainEntry} {told : Light → Bool} {room : Room} → w ≡ v → Keeps v es told room → Keeps w es told room
@@ -29,18 +32,23 @@ returns-in_default-wait g c =
     let none : sync_refusal c.self.inside.state c.args.thread.0 c.args.group.now ≡ None = sym c.sync_refusal.ensures.why ∙ c.in_default.is in
     (rw (← c.self.view_is) (rw (sync_accepted c.self.inside.state c.args.thread.0 c.args.group.now none) refl), c.in_default-wait.ensures.err ∙ c.sync_refusal.ensures.same ∙ c.self.view_is)
 
+pub entered-requires-clause-stays : goal.entered-requires-clause-stays
+entered-requires-clause-stays g c = λ is.
+    let whole = standing_stays c.self.inside.state c.args.group.now c.standing-standing.result c.standing-standing.ensures (sym c.is_some.ensures ∙ is) in
+    subst (λ (x : PlainWorld). IsWhole x c.args.group.now) (sym c.sync_refusal.ensures.same) whole
+
 pub unreachable-requires : goal.unreachable-requires
 unreachable-requires g c =
     let w = c.sync_refusal.new.self in
     let same = c.sync_refusal.ensures.same in
     let none : sync_refusal w c.args.thread.0 c.args.group.now ≡ None = ap (λ (x : PlainWorld). sync_refusal x c.args.thread.0 c.args.group.now) same ∙ sym c.sync_refusal.ensures.why ∙ c.in_default.is in
     let a = accepted w c.args.thread.0 c.args.group.now none in
-    let flat = c.in_ok-arrival.arrival.flat in
+    let flat = c.in_ok-flat.flat in
     let waits = waits_now w c.wait.new.self c.args.thread.0 flat a.thread_runs c.in-Ok-wait.ensures.ok in
     found c.waiting.result c.wait.new.self c.args.thread.0 flat c.waiting.ensures waits c.in_default-waiting.is
 
-pub change-requires : goal.change-requires
-change-requires g c = record {
+pub change-told-requires : goal.change-told-requires
+change-told-requires g c = record {
   ready = record {
     there = search rules;
     once = search rules;
@@ -53,30 +61,34 @@ change-requires g c = record {
         rw (k.told_groups) (running_is_new c.args.thread.0 0 c.args.thread.0 w.threads (omega arith) a.thread_runs);
     apart =
         let w = c.sync_refusal.new.self in
-        let flat = c.in_ok-arrival.arrival.flat in
-        apart_of (light_of w) (lights_in (bases flat)) _ _ (c.deref.ensures.value ∙ c.in_ok-arrival.ensures.lit) (c.deref-2.ensures.value ∙ c.in_ok-arrival.ensures.unlit);
+        let flat = c.in_ok-flat.flat in
+        let on = split_all (light_of w) (lights_in (bases flat)) _ c.push_awaited.new.lit.items c.deref.result.now (c.make_room.ensures.lit ∙ c.self.invariant.1) c.push_awaited.ensures.lit c.deref.ensures.value in
+        let off = split_all (λ l. not (light_of w l)) (lights_in (bases flat)) _ c.push_awaited.new.unlit.items c.deref-2.result.now (c.make_room.ensures.unlit ∙ c.self.invariant.2) c.push_awaited.ensures.unlit c.deref-2.ensures.value in
+        apart_of (light_of w) (lights_in (bases flat)) _ _ on off;
   };
 }
 
-pub invariant_of-self-in_default-change : goal.invariant_of-self-in_default-change
-invariant_of-self-in_default-change g c =
+pub invariant_of-self-in_default-told : goal.invariant_of-self-in_default-told
+invariant_of-self-in_default-told g c =
     let w = c.sync_refusal.new.self in
     let same = c.sync_refusal.ensures.same in
     let none : sync_refusal w c.args.thread.0 c.args.group.now ≡ None = ap (λ (x : PlainWorld). sync_refusal x c.args.thread.0 c.args.group.now) same ∙ sym c.sync_refusal.ensures.why ∙ c.in_default.is in
     let a = accepted w c.args.thread.0 c.args.group.now none in
     let k = keeps_again same c.self.invariant.0 in
-    let flat = c.in_ok-arrival.arrival.flat in
+    let flat = c.in_ok-flat.flat in
     let world = back_now w c.wait.new.self c.withdraw.new.self c.args.thread.0 flat a.thread_runs c.in-Ok-wait.ensures.ok c.withdraw.ensures in
-    let again = keeps_same w (g.T.Table.entries c.self.inside.table) (g.T.Table.is_lit c.self.inside.table) _ (g.T.Table.entries c.change.new.self) (g.T.Table.is_lit c.change.new.self) c.in_default-change.ensures.err c.in_default-change.ensures.err_lit k in
-    (rw world (keeps_roomier w (g.T.Table.entries c.change.new.self) (g.T.Table.is_lit c.change.new.self) _ _ c.make_room.ensures.grows again), c.make_room.ensures.lit ∙ c.self.invariant.1, c.make_room.ensures.unlit ∙ c.self.invariant.2)
+    let again = keeps_same w (g.T.Table.entries c.self.inside.table) (g.T.Table.is_lit c.self.inside.table) _ (g.T.Table.entries c.change-told.new.self) (g.T.Table.is_lit c.change-told.new.self) c.in_default-told.ensures.err c.in_default-told.ensures.err_lit k in
+    let size_on = c.clear-2.ensures.capacity ∙ c.push_awaited.ensures.room.0 in
+    let size_off = c.clear-3.ensures.capacity ∙ c.push_awaited.ensures.room.1 in
+    (rw world (keeps_roomier w (g.T.Table.entries c.change-told.new.self) (g.T.Table.is_lit c.change-told.new.self) _ _ (grows_same _ _ _ _ _ c.make_room.ensures.grows size_on size_off) again), c.clear-2.ensures.items, c.clear-3.ensures.items)
 
-pub returns-in_default-change : goal.returns-in_default-change
-returns-in_default-change g c =
+pub returns-in_default-told : goal.returns-in_default-told
+returns-in_default-told g c =
     let w = c.sync_refusal.new.self in
     let same = c.sync_refusal.ensures.same in
     let none : sync_refusal w c.args.thread.0 c.args.group.now ≡ None = ap (λ (x : PlainWorld). sync_refusal x c.args.thread.0 c.args.group.now) same ∙ sym c.sync_refusal.ensures.why ∙ c.in_default.is in
     let a = accepted w c.args.thread.0 c.args.group.now none in
-    let flat = c.in_ok-arrival.arrival.flat in
+    let flat = c.in_ok-flat.flat in
     let world = back_now w c.wait.new.self c.withdraw.new.self c.args.thread.0 flat a.thread_runs c.in-Ok-wait.ensures.ok c.withdraw.ensures in
     (rw (← c.self.view_is, ← same) (rw (sync_accepted w c.args.thread.0 c.args.group.now none) refl), world ∙ same ∙ c.self.view_is)
 
@@ -86,8 +98,8 @@ enter_nacks-requires g c =
     let same = c.sync_refusal.ensures.same in
     let none : sync_refusal w c.args.thread.0 c.args.group.now ≡ None = ap (λ (x : PlainWorld). sync_refusal x c.args.thread.0 c.args.group.now) same ∙ sym c.sync_refusal.ensures.why ∙ c.in_default.is in
     let a = accepted w c.args.thread.0 c.args.group.now none in
-    let flat = c.in_ok-arrival.arrival.flat in
-    fresh_now w c.wait.new.self c.args.thread.0 flat a.thread_runs c.in-Ok-wait.ensures.ok (enters_flat w c.args.thread.0 c.args.group.now flat a c.in_ok-arrival.ensures.flat)
+    let flat = c.in_ok-flat.flat in
+    fresh_now w c.wait.new.self c.args.thread.0 flat a.thread_runs c.in-Ok-wait.ensures.ok (enters_flat w c.args.thread.0 c.args.group.now flat a c.in_ok-flat.ensures)
 
 pub invariant_of-self-2 : goal.invariant_of-self-2
 invariant_of-self-2 g c =
@@ -96,15 +108,19 @@ invariant_of-self-2 g c =
     let none : sync_refusal w c.args.thread.0 c.args.group.now ≡ None = ap (λ (x : PlainWorld). sync_refusal x c.args.thread.0 c.args.group.now) same ∙ sym c.sync_refusal.ensures.why ∙ c.in_default.is in
     let a = accepted w c.args.thread.0 c.args.group.now none in
     let k = keeps_again same c.self.invariant.0 in
-    let flat = c.in_ok-arrival.arrival.flat in
+    let flat = c.in_ok-flat.flat in
     let waits = waits_now w c.wait.new.self c.args.thread.0 flat a.thread_runs c.in-Ok-wait.ensures.ok in
     let is = flat_is c.waiting.result c.in-Some-waiting.flat c.wait.new.self c.args.thread.0 flat c.waiting.ensures waits c.in-Some-waiting.is in
     let world = entered_now w c.wait.new.self c.enter_nacks.new.self c.args.thread.0 flat a.thread_runs c.in-Ok-wait.ensures.ok c.enter_nacks.ensures in
+    let on = split_all (light_of w) (lights_in (bases flat)) _ c.push_awaited.new.lit.items c.deref.result.now (c.make_room.ensures.lit ∙ c.self.invariant.1) c.push_awaited.ensures.lit c.deref.ensures.value in
+    let off = split_all (λ l. not (light_of w l)) (lights_in (bases flat)) _ c.push_awaited.new.unlit.items c.deref-2.result.now (c.make_room.ensures.unlit ∙ c.self.invariant.2) c.push_awaited.ensures.unlit c.deref-2.ensures.value in
+    let size_on = c.clear-2.ensures.capacity ∙ c.push_awaited.ensures.room.0 in
+    let size_off = c.clear-3.ensures.capacity ∙ c.push_awaited.ensures.room.1 in
     let kept = keeps_arrives w (g.T.Table.entries c.self.inside.table) (g.T.Table.is_lit c.self.inside.table) _ c.args.thread.0 c.args.group.now flat _
-    (g.T.Table.entries c.change.new.self) (g.T.Table.is_lit c.change.new.self) c.deref.result.now c.deref-2.result.now c.group.result.now
-    k a c.in_ok-arrival.ensures.flat (c.in-Ok.ensures.fits c.self.invariant.1 c.self.invariant.2) c.make_room.ensures.grows
-    (c.group.ensures ∙ is) c.in-Ok-change.ensures.ok c.in-Ok-change.ensures.ok_lit (c.deref.ensures.value ∙ c.in_ok-arrival.ensures.lit) (c.deref-2.ensures.value ∙ c.in_ok-arrival.ensures.unlit) in
-    (rw world kept, c.make_room.ensures.lit ∙ c.self.invariant.1, c.make_room.ensures.unlit ∙ c.self.invariant.2)
+    (g.T.Table.entries c.change-told.new.self) (g.T.Table.is_lit c.change-told.new.self) c.deref.result.now c.deref-2.result.now c.group.result.now
+    k a c.in_ok-flat.ensures (fits_same flat _ _ _ _ (c.in-Ok.ensures.fits c.self.invariant.1 c.self.invariant.2) size_on size_off) (grows_same _ _ _ _ _ c.make_room.ensures.grows size_on size_off)
+    (c.group.ensures ∙ is) c.in-Ok-told.ensures.ok c.in-Ok-told.ensures.ok_lit on off in
+    (rw world kept, c.clear-2.ensures.items, c.clear-3.ensures.items)
 
 pub returns : goal.returns
 returns g c =
@@ -112,7 +128,7 @@ returns g c =
     let same = c.sync_refusal.ensures.same in
     let none : sync_refusal w c.args.thread.0 c.args.group.now ≡ None = ap (λ (x : PlainWorld). sync_refusal x c.args.thread.0 c.args.group.now) same ∙ sym c.sync_refusal.ensures.why ∙ c.in_default.is in
     let a = accepted w c.args.thread.0 c.args.group.now none in
-    let flat = c.in_ok-arrival.arrival.flat in
+    let flat = c.in_ok-flat.flat in
     let world = entered_now w c.wait.new.self c.enter_nacks.new.self c.args.thread.0 flat a.thread_runs c.in-Ok-wait.ensures.ok c.enter_nacks.ensures in
-    let new = world ∙ ap (waiting w c.args.thread.0) c.in_ok-arrival.ensures.flat in
+    let new = world ∙ ap (waiting w c.args.thread.0) c.in_ok-flat.ensures in
     rw (← c.self.view_is, ← same, new) (sync_accepted w c.args.thread.0 c.args.group.now none)

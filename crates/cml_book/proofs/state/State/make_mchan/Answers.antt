@@ -27,7 +27,7 @@ invariant_of-self-2 c =
         few_nacks = few.few_nacks;
       },
       c.self.invariant.1,
-      ports_stay s.mchans.items c.push_reserved.new.self.items s.homes.items _ c.self.invariant.2 more,
+      ports_stay s.mchans.items c.push_reserved.new.self.items s.port_channels.items _ c.self.invariant.2 more,
       c.self.invariant.3,
       c.self.invariant.4,
       c.self.invariant.5,

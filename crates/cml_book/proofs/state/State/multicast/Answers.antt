@@ -16,7 +16,7 @@ send-requires g c =
     let s = c.self.inside in
     let there : c.args.channel.0 < length s.mchans.items = omega (arith, c.if-place-len.false, c.len.ensures) in
     let found = found_there s.mchans.items c.args.channel.0 c.index.result.now there c.index.ensures in
-    record { there = each_below s.mchans.items c.args.channel.0 _ c.index.result.now found (ports_below s.mchans.items s.homes.items _ c.args.channel.0 c.self.invariant.2) }
+    record { there = each_below s.mchans.items c.args.channel.0 _ c.index.result.now found (ports_below s.mchans.items s.port_channels.items _ c.args.channel.0 c.self.invariant.2) }
 
 pub returns-in-Err-clause-step : goal.returns-in-Err-clause-step
 returns-in-Err-clause-step g c =
@@ -47,6 +47,6 @@ returns-clause-kept g c =
     let ids = ports_found s.mchans.items c.args.channel.0 c.index.result.now (found_there s.mchans.items c.args.channel.0 c.index.result.now there c.index.ensures) in
     let count = queue_count s.ports.objects in
     let below : (p : ℕ) → has_port (port_numbers c.index.result.now.ports) p ≡ true → p < length (queues_of s.ports.objects)
-    = λ p k. (let b = ports_below s.mchans.items s.homes.items _ c.args.channel.0 c.self.invariant.2 p (rw ids k) in omega (arith, b, count)) in
+    = λ p k. (let b = ports_below s.mchans.items s.port_channels.items _ c.args.channel.0 c.self.invariant.2 p (rw ids k) in omega (arith, b, count)) in
     rw (← c.self.view_is, c.in_default.ensures.ok) (stays_kept _ _ _ _ _ _ refl refl c.in_default.ensures.told.entries
     (multicast_true (the_view s) _ _ (port_numbers c.index.result.now.ports) c.args.message below c.in_default.ensures.told.ok))

@@ -1,4 +1,3 @@
-use Rattle.std.proofs.Common.{arith}
 use Rattle.cml_explore.specs.ClassViews.{plain_class}
 use Rattle.cml_explore.proofs.JoinLemmas.{leaves_room, joined_next}
 use Rattle.cml_explore.proofs.classes.Classes.absorb.Goals as goal

@@ -9,13 +9,19 @@ use Rattle.cml_hub.proofs.RowLemmas.{row_there}
 use Rattle.cml_hub.proofs.Meeting.{MayTake, takes_there, committed_is, commit_refused, parties_wait, all_resume, met_leads, met_so}
 use Rattle.cml_hub.proofs.course.Course.meet.Goals as goal
 
+pub commit_known-requires : goal.commit_known-requires
+commit_known-requires c =
+    let s = c.self.inside in
+    let ok : is_allowed s.threads c.args.item ≡ true = rw (← c.self.view_is) at c.requires.allowed in
+    takes_there s.threads c.args.item c.args.row c.requires.takes ok
+
 pub resume_all-requires : goal.resume_all-requires
 resume_all-requires c =
     let s = c.self.inside in
     let k : PlainCourse = record { program = s.program; items = s.items.items; world = s.threads; machines = s.machines.items; output = string_bytes s.output; used = s.used } in
     let ok : is_allowed s.threads c.args.item ≡ true = rw (← c.self.view_is) at c.requires.allowed in
     let has = takes_there s.threads c.args.item c.args.row c.requires.takes ok in
-    let is = committed_is s.threads c.commit.new.self c.args.row c.in-Ok.committed c.in-Ok.ensures.step has in
+    let is = committed_is s.threads c.commit_known.new.self c.args.row c.in-Ok.committed c.in-Ok.ensures.step has in
     let parties = parties_wait s.threads c.args.row ((c.scan_lists_what_is_enabled.ensures s.threads c.args.row).0 (row_there (scan s.threads) c.args.row has)) in
     rw (is.1) (all_resume k c.args.row c.self.invariant.0 parties)
 
@@ -25,7 +31,7 @@ invariant_of-self-in-Ok c =
     let k : PlainCourse = record { program = s.program; items = s.items.items; world = s.threads; machines = s.machines.items; output = string_bytes s.output; used = s.used } in
     let ok : is_allowed s.threads c.args.item ≡ true = rw (← c.self.view_is) at c.requires.allowed in
     let has = takes_there s.threads c.args.item c.args.row c.requires.takes ok in
-    let is = committed_is s.threads c.commit.new.self c.args.row c.in-Ok.committed c.in-Ok.ensures.step has in
+    let is = committed_is s.threads c.commit_known.new.self c.args.row c.in-Ok.committed c.in-Ok.ensures.step has in
     let parties = parties_wait s.threads c.args.row ((c.scan_lists_what_is_enabled.ensures s.threads c.args.row).0 (row_there (scan s.threads) c.args.row has)) in
     let may : MayTake s.threads c.args.item c.args.row = record { takes = c.requires.takes; allowed = ok; parties = parties; numbers = c.read_numbers.ensures } in
     let all = rw (is.1) at c.resume_all.ensures in (
@@ -39,7 +45,7 @@ returns-in-Ok-clause-ok c =
     let k : PlainCourse = record { program = s.program; items = s.items.items; world = s.threads; machines = s.machines.items; output = string_bytes s.output; used = s.used } in
     let ok : is_allowed s.threads c.args.item ≡ true = rw (← c.self.view_is) at c.requires.allowed in
     let has = takes_there s.threads c.args.item c.args.row c.requires.takes ok in
-    let is = committed_is s.threads c.commit.new.self c.args.row c.in-Ok.committed c.in-Ok.ensures.step has in
+    let is = committed_is s.threads c.commit_known.new.self c.args.row c.in-Ok.committed c.in-Ok.ensures.step has in
     let parties = parties_wait s.threads c.args.row ((c.scan_lists_what_is_enabled.ensures s.threads c.args.row).0 (row_there (scan s.threads) c.args.row has)) in
     let may : MayTake s.threads c.args.item c.args.row = record { takes = c.requires.takes; allowed = ok; parties = parties; numbers = c.read_numbers.ensures } in
     let all = rw (is.1) at c.resume_all.ensures in

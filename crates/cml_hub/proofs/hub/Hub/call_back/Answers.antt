@@ -1,5 +1,5 @@
 use Rattle.std.proofs.Common.{map}
-use Rattle.cml_hub.specs.Marks.{is_out}
+use Rattle.cml_hub.specs.ReadyQueue.{is_out}
 use Rattle.cml_hub.specs.Kept.{Kept}
 use Rattle.cml_hub.proofs.Placing.{stands_called, called_so}
 use Rattle.cml_hub.proofs.hub.Hub.call_back.Goals as goal

@@ -1,5 +1,5 @@
 use Rattle.std.proofs.Common.{map, refl}
-use Rattle.cml_hub.specs.Marks.{is_out}
+use Rattle.cml_hub.specs.ReadyQueue.{is_out}
 use Rattle.cml_hub.specs.Kept.{Kept}
 use Rattle.cml_hub.proofs.Marking.{all_out, ready_running}
 use Rattle.cml_hub.proofs.Onward.{stands_handed, handed_out}

@@ -1,5 +1,5 @@
 use Rattle.std.proofs.Common.{◌++◌, ◌∙◌, ap, map}
-use Rattle.cml_hub.specs.Marks.{is_out}
+use Rattle.cml_hub.specs.ReadyQueue.{is_out}
 use Rattle.cml_hub.specs.Kept.{Kept, NoneDue}
 use Rattle.cml_hub.proofs.Marking.{out_met}
 use Rattle.cml_hub.proofs.Keeping.{stands_met, away_met, moves_met}

@@ -1,5 +1,5 @@
 use Rattle.std.proofs.Common.{length, map, Some}
-use Rattle.cml_hub.specs.Marks.{is_out}
+use Rattle.cml_hub.specs.ReadyQueue.{is_out}
 use Rattle.cml_hub.specs.Kept.{Kept, NoneDue}
 use Rattle.cml_hub.specs.Reports.{IsDueReport}
 use Rattle.cml_hub.proofs.Reporting.{stands_reported, reported_one, reported_none}

@@ -1,4 +1,4 @@
-use Rattle.std.proofs.Common.{inl, inr, sym}
+use Rattle.std.proofs.Common.{sym}
 use Rattle.cml_hub.proofs.Going.{alone_continues, continues_self, continues_more, continues_reported, still_continues, none_out_reported, none_out_same}
 use Rattle.cml_hub.proofs.hub.Hub.run_on.Goals as goal
 

@@ -1,5 +1,5 @@
 use Rattle.std.proofs.Common.{map, refl}
-use Rattle.cml_hub.specs.Marks.{is_out}
+use Rattle.cml_hub.specs.ReadyQueue.{is_out}
 use Rattle.cml_hub.specs.Kept.{Kept, NoneDue}
 use Rattle.cml_hub.proofs.Keeping.{stands_ticked, moves_ticked}
 use Rattle.cml_hub.proofs.hub.Hub.tick.Goals as goal

@@ -1,7 +1,7 @@
 use Rattle.std.proofs.Common.{◌≡◌, ◌++◌, ◌∙◌, ap, map, Some}
 use Rattle.std.specs.Prelude.{slice_get}
 use Rattle.cml_scan.specs.World.{running}
-use Rattle.cml_hub.specs.Marks.{is_out, left_by}
+use Rattle.cml_hub.specs.ReadyQueue.{is_out, left_by}
 use Rattle.cml_hub.specs.Kept.{Kept, NoneDue}
 use Rattle.cml_hub.proofs.Marking.{there_is, takes_back}
 use Rattle.cml_hub.proofs.Keeping.{stands_turned, next_turned, moves_turned}

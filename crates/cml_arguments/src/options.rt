@@ -1,0 +1,231 @@
+//! The command that the arguments name, with what they give it.
+
+ghost use Rattle.std.specs.Prelude.{◌≡◌, ◌<◌, ◌-◌, [], true, is_some, map, IfOk, IsSomeAnd, Some};
+ghost use Rattle.std.specs.List.{list_all};
+ghost use Rattle.clap.specs.Words.{first_of, found_of, rows_of, subcommand_rows_of};
+ghost use Rattle.cml_arguments.specs.Words.{any_rule, commands, end_rules, explain_rules, explanation, explore_command, file_command, flag_rule, is_complete, is_flagged, is_served, option_number, option_texts, part_command, replay_command, run_command, shrink_command, step_command, trace_command, IsEnd, IsExplore, IsFile, IsPart, IsReplay, IsRun, IsShrink, IsStepping, IsTrace, Names};
+
+use crate::{
+    EndOptions, Explain, ExploreOptions, FileOptions, PartOptions, ReplayOptions, RunOptions,
+    ShrinkOptions, StepOptions, Task, TraceOptions,
+};
+use clap::ArgMatches;
+use std::alloc::{AllocError, Global};
+
+// How many steps a script may take where no number is given.
+const DEFAULT_STEPS: u64 = 1_000_000;
+
+// How many runs are made where no number is given.
+const DEFAULT_RUNS: u64 = 100;
+
+// How many replays a search may take where no number is given.
+const DEFAULT_TRIES: u64 = 10_000;
+
+/// The command that the arguments named, with what it was given.
+///
+/// # Errors
+/// Out of memory.
+pub fn task_of<'a>(alloc: Global, matches: &ArgMatches<'a>) -> Result<Task<'a>, AllocError>
+    requires { is_complete commands (subcommand_rows_of matches.now) ≡ true }
+    ensures { IfOk result (λ task. IsSomeAnd (subcommand_rows_of matches.now) (λ named. Names named task)) }
+{
+    let Some((name, below)) = matches.subcommand() else {
+        unreachable!()
+    };
+    match name {
+        "trace" => Ok(Task::Trace(trace_options(below))),
+        "check" => Ok(Task::Check(file_options(below))),
+        "fmt" => Ok(Task::Fmt(file_options(below))),
+        "run" => Ok(Task::Run(run_options(alloc, below)?)),
+        "replay" => Ok(Task::Replay(replay_options(alloc, below)?)),
+        "explain" => Ok(Task::Explain(part_options(below))),
+        "explore" => Ok(Task::Explore(explore_options(alloc, below)?)),
+        "shrink" => Ok(Task::Shrink(shrink_options(below))),
+        "draw" => Ok(Task::Draw(part_options(below))),
+        "step" => Ok(Task::Step(step_options(below))),
+        _ => unreachable!(),
+    }
+}
+
+// What `trace` was given.
+fn trace_options(matches: &ArgMatches<'_>) -> TraceOptions
+    requires { list_all (is_served (rows_of (found_of matches.now))) trace_command.rules ≡ true }
+    ensures { IsTrace (rows_of (found_of matches.now)) result }
+{
+    TraceOptions {
+        live: flag(matches, "live"),
+        explain: explain_option(matches),
+    }
+}
+
+// What a command was given that takes a file alone.
+fn file_options<'a>(matches: &ArgMatches<'a>) -> FileOptions<'a>
+    requires { list_all (is_served (rows_of (found_of matches.now))) (file_command []).rules ≡ true }
+    ensures { IsFile (rows_of (found_of matches.now)) result }
+{
+    FileOptions {
+        file: given(matches, "FILE"),
+        explain: explain_option(matches),
+    }
+}
+
+// What `run` was given.
+fn run_options<'a>(alloc: Global, matches: &ArgMatches<'a>) -> Result<RunOptions<'a>, AllocError>
+    requires { list_all (is_served (rows_of (found_of matches.now))) run_command.rules ≡ true }
+    ensures { IfOk result (IsRun (rows_of (found_of matches.now))) }
+{
+    let end = end_options(alloc, matches)?;
+    Ok(RunOptions {
+        file: given(matches, "FILE"),
+        workers: number(matches, "workers").unwrap_or(1) as usize,
+        steps: number(matches, "steps").unwrap_or(DEFAULT_STEPS),
+        seed: number(matches, "seed"),
+        watch: number(matches, "watch"),
+        record: matches.get_str("record"),
+        draw: matches.get_str("draw"),
+        end,
+        explain: explain_option(matches),
+    })
+}
+
+// What `replay` was given.
+fn replay_options<'a>(
+    alloc: Global,
+    matches: &ArgMatches<'a>,
+) -> Result<ReplayOptions<'a>, AllocError>
+    requires { list_all (is_served (rows_of (found_of matches.now))) replay_command.rules ≡ true }
+    ensures { IfOk result (IsReplay (rows_of (found_of matches.now))) }
+{
+    let end = end_options(alloc, matches)?;
+    Ok(ReplayOptions {
+        script: given(matches, "FILE"),
+        schedule: given(matches, "SCHEDULE"),
+        watch: number(matches, "watch"),
+        end,
+        explain: explain_option(matches),
+    })
+}
+
+// What a command was given that takes a part of a schedule.
+fn part_options<'a>(matches: &ArgMatches<'a>) -> PartOptions<'a>
+    requires { list_all (is_served (rows_of (found_of matches.now))) (part_command []).rules ≡ true }
+    ensures { IsPart (rows_of (found_of matches.now)) result }
+{
+    let schedule = given(matches, "SCHEDULE");
+    PartOptions {
+        script: given(matches, "FILE"),
+        schedule,
+        from: number(matches, "from").unwrap_or(1),
+        to: number(matches, "to"),
+    }
+}
+
+// What `explore` was given.
+fn explore_options<'a>(
+    alloc: Global,
+    matches: &ArgMatches<'a>,
+) -> Result<ExploreOptions<'a>, AllocError>
+    requires { list_all (is_served (rows_of (found_of matches.now))) explore_command.rules ≡ true }
+    ensures { IfOk result (IsExplore (rows_of (found_of matches.now))) }
+{
+    let servers = texts(alloc, matches, "servers")?;
+    Ok(ExploreOptions {
+        script: given(matches, "FILE"),
+        runs: number(matches, "runs").unwrap_or(DEFAULT_RUNS),
+        seed: number(matches, "seed").unwrap_or(0),
+        steps: number(matches, "steps").unwrap_or(DEFAULT_STEPS),
+        workers: number(matches, "workers").unwrap_or(1) as usize,
+        turns: flag(matches, "turns"),
+        priority: number(matches, "priority"),
+        save: matches.get_str("save"),
+        servers,
+        until: matches.get_str("until"),
+    })
+}
+
+// What `shrink` was given.
+fn shrink_options<'a>(matches: &ArgMatches<'a>) -> ShrinkOptions<'a>
+    requires { list_all (is_served (rows_of (found_of matches.now))) shrink_command.rules ≡ true }
+    ensures { IsShrink (rows_of (found_of matches.now)) result }
+{
+    let schedule = given(matches, "SCHEDULE");
+    ShrinkOptions {
+        script: given(matches, "FILE"),
+        schedule,
+        tries: number(matches, "tries").unwrap_or(DEFAULT_TRIES),
+    }
+}
+
+// What `step` was given.
+fn step_options<'a>(matches: &ArgMatches<'a>) -> StepOptions<'a>
+    requires { list_all (is_served (rows_of (found_of matches.now))) step_command.rules ≡ true }
+    ensures { IsStepping (rows_of (found_of matches.now)) result }
+{
+    StepOptions {
+        script: given(matches, "FILE"),
+        record: matches.get_str("record"),
+    }
+}
+
+// What is said of threads that are left at the end.
+fn end_options<'a>(alloc: Global, matches: &ArgMatches<'a>) -> Result<EndOptions<'a>, AllocError>
+    requires { list_all (is_served (rows_of (found_of matches.now))) end_rules ≡ true }
+    ensures { IfOk result (IsEnd (rows_of (found_of matches.now))) }
+{
+    let servers = texts(alloc, matches, "servers")?;
+    Ok(EndOptions {
+        strict: flag(matches, "strict"),
+        servers,
+    })
+}
+
+// What is said of explaining what is wrong: `--plain` turns it off, also where `--explain` asks for it.
+fn explain_option(matches: &ArgMatches<'_>) -> Explain
+    requires { list_all (is_served (rows_of (found_of matches.now))) explain_rules ≡ true }
+    ensures { result ≡ explanation (rows_of (found_of matches.now)) }
+{
+    if flag(matches, "plain") {
+        Explain::Off
+    } else if flag(matches, "explain") {
+        Explain::Asked
+    } else {
+        Explain::Unsaid
+    }
+}
+
+// The text that an argument was given.
+fn given<'a>(matches: &ArgMatches<'a>, id: &str) -> &'a str
+    requires { is_some (first_of id.now (rows_of (found_of matches.now))) ≡ true }
+    ensures { first_of id.now (rows_of (found_of matches.now)) ≡ Some result.now }
+{
+    let Some(text) = matches.get_str(id) else {
+        unreachable!()
+    };
+    text
+}
+
+// All that an option was given.
+fn texts<'a>(alloc: Global, matches: &ArgMatches<'a>, id: &str) -> Result<Vec<&'a str>, AllocError>
+    ensures { IfOk result (λ all. map (λ text. text.now) all.items ≡ option_texts id.now (rows_of (found_of matches.now))) }
+{
+    match matches.get_strs(id) {
+        Some(all) => Vec::from_slice(alloc, all),
+        None => Ok(Vec::new(alloc)),
+    }
+}
+
+// The number that an option was given.
+fn number(matches: &ArgMatches<'_>, id: &str) -> Option<u64>
+    requires { is_served (rows_of (found_of matches.now)) (any_rule id.now) ≡ true }
+    ensures { result ≡ option_number id.now (rows_of (found_of matches.now)) }
+{
+    matches.get_one(id)
+}
+
+// Whether a flag was given.
+fn flag(matches: &ArgMatches<'_>, id: &str) -> bool
+    requires { is_served (rows_of (found_of matches.now)) (flag_rule id.now) ≡ true }
+    ensures { result ≡ is_flagged id.now (rows_of (found_of matches.now)) }
+{
+    matches.get_flag(id)
+}

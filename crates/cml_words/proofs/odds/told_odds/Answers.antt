@@ -1,7 +1,0 @@
-use Rattle.cml_words.proofs.odds.told_odds.Goals as goal
-
-pub returns-in-Explore : goal.returns-in-Explore
-returns-in-Explore c = rw c.in-Explore.is c.explore_odds.ensures
-
-pub returns-in-Step : goal.returns-in-Step
-returns-in-Step c = rw c.in-Step.is c.step_odds.ensures
