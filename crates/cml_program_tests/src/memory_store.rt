@@ -20,8 +20,7 @@ struct File {
 pub struct MemoryStore {
     alloc: Global,
     files: Vec<File>,
-    // How many files more can be saved.
-    room: usize,
+    is_closed: bool,
 }
 
 impl MemoryStore {
@@ -32,7 +31,7 @@ impl MemoryStore {
         MemoryStore {
             alloc,
             files: Vec::new(alloc),
-            room: usize::MAX,
+            is_closed: false,
         }
     }
 
@@ -40,14 +39,7 @@ impl MemoryStore {
     pub fn close(&mut self)
         ensures { self.new.files.items ≡ self.old.files.items }
     {
-        self.room = 0;
-    }
-
-    /// From now on so many files more can be saved.
-    pub fn leave_room(&mut self, files: usize)
-        ensures { self.new.files.items ≡ self.old.files.items }
-    {
-        self.room = files;
+        self.is_closed = true;
     }
 }
 
@@ -101,17 +93,14 @@ impl Store for MemoryStore {
     }
 
     fn save(&mut self, name: &str, bytes: &[u8]) -> Result<(), StoreFault> {
-        if self.room == 0 {
+        if self.is_closed {
             return Err(StoreFault::Refused(Some(Reason::ReadOnly)));
         }
         let Ok(file) = new_file(self.alloc, name, bytes) else {
             return Err(StoreFault::Memory);
         };
         match self.files.insert(0, file) {
-            Ok(()) => {
-                self.room -= 1;
-                Ok(())
-            }
+            Ok(()) => Ok(()),
             Err(_) => Err(StoreFault::Memory),
         }
     }
