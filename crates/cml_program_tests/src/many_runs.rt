@@ -344,3 +344,32 @@ fn a_save_that_is_refused_is_told(rt: HostRuntime) -> Result<(), Fail> {
     drop(store);
     Ok(())
 }
+
+// Two kinds of end, where there is room for one file alone.
+#[test]
+fn a_save_that_is_cut_off_keeps_what_was_saved(rt: HostRuntime) -> Result<(), Fail> {
+    let alloc = rt.alloc();
+    let mut store = filled(&rt, alloc, FILES);
+    store.leave_room(1);
+    let line = "explore a.cml --seed 1 --runs 3 --save S";
+    let left = left_by(&rt, alloc, line, "", &mut store)?;
+    assert!(rt;
+        left.output.as_slice().starts_with(
+            b"3 runs of a.cml, seeds 1 to 3\n2  quiet, 2 wait ".as_slice()
+        )
+    );
+    assert!(rt;
+        left.errors.as_slice()
+            == b"cannot write S-2.schedule\nS-2.schedule: Read-only file system\n".as_slice()
+    );
+    assert!(rt; left.status == 1);
+    drop(left);
+    let saved = store.load(alloc, "S-1.schedule", 1_000);
+    assert!(rt; matches!(&saved, Ok(bytes) if bytes.as_slice() == DEADLOCK.as_bytes()));
+    drop(saved);
+    let other = store.load(alloc, "S-2.schedule", 1_000);
+    assert!(rt; other.is_err());
+    drop(other);
+    drop(store);
+    Ok(())
+}

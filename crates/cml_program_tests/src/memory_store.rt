@@ -20,7 +20,8 @@ struct File {
 pub struct MemoryStore {
     alloc: Global,
     files: Vec<File>,
-    is_closed: bool,
+    // How many files more can be saved.
+    room: usize,
 }
 
 impl MemoryStore {
@@ -31,7 +32,7 @@ impl MemoryStore {
         MemoryStore {
             alloc,
             files: Vec::new(alloc),
-            is_closed: false,
+            room: usize::MAX,
         }
     }
 
@@ -39,7 +40,14 @@ impl MemoryStore {
     pub fn close(&mut self)
         ensures { self.new.files.items ≡ self.old.files.items }
     {
-        self.is_closed = true;
+        self.room = 0;
+    }
+
+    /// From now on so many files more can be saved.
+    pub fn leave_room(&mut self, files: usize)
+        ensures { self.new.files.items ≡ self.old.files.items }
+    {
+        self.room = files;
     }
 }
 
@@ -93,14 +101,17 @@ impl Store for MemoryStore {
     }
 
     fn save(&mut self, name: &str, bytes: &[u8]) -> Result<(), StoreFault> {
-        if self.is_closed {
+        if self.room == 0 {
             return Err(StoreFault::Refused(Some(Reason::ReadOnly)));
         }
         let Ok(file) = new_file(self.alloc, name, bytes) else {
             return Err(StoreFault::Memory);
         };
         match self.files.insert(0, file) {
-            Ok(()) => Ok(()),
+            Ok(()) => {
+                self.room -= 1;
+                Ok(())
+            }
             Err(_) => Err(StoreFault::Memory),
         }
     }

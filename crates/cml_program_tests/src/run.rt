@@ -160,8 +160,8 @@ pub fn gives(
     Ok(())
 }
 
-// The line, ended by a line feed, after the text.
-fn push_line(text: &mut String, line: &str) -> Result<(), AllocError> {
+/// Puts the line, ended by a line feed, after the text.
+pub fn push_line(text: &mut String, line: &str) -> Result<(), AllocError> {
     text.push_str(line)?;
     text.push('\n')
 }

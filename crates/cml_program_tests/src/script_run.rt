@@ -68,6 +68,29 @@ fn before(files: &[(&'static str, &'static str)]) -> &'static str {
     ""
 }
 
+/// What lies under S is this text; nothing lies there where it is empty.
+pub fn lies(
+    rt: &impl Abort,
+    alloc: Global,
+    name: &str,
+    wanted: &str,
+    store: &mut MemoryStore,
+) -> Result<(), Fail> {
+    match store.load(alloc, "S", 1_000_000) {
+        Ok(bytes) => {
+            assert!(rt; bytes.as_slice() == wanted.as_bytes(), "saved of {name}");
+            drop(bytes);
+        }
+        Err(fault) => {
+            assert!(rt;
+                fault != StoreFault::Memory && wanted.is_empty(),
+                "not saved of {name}"
+            );
+        }
+    }
+    Ok(())
+}
+
 // What lies under S, if anything does, was saved as the case says, or lay there before.
 fn is_saved(
     rt: &impl Abort,
@@ -81,19 +104,7 @@ fn is_saved(
     } else {
         saved.as_str()
     };
-    let name = case.name;
-    match store.load(alloc, "S", 1_000_000) {
-        Ok(bytes) => {
-            assert!(rt; bytes.as_slice() == wanted.as_bytes(), "saved of {name}");
-            drop(bytes);
-        }
-        Err(fault) => {
-            assert!(rt;
-                fault != StoreFault::Memory && wanted.is_empty(),
-                "not saved of {name}"
-            );
-        }
-    }
+    lies(rt, alloc, case.name, wanted, store)?;
     drop(saved);
     Ok(())
 }
