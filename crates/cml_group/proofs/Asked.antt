@@ -1,7 +1,7 @@
 -- What a forcing asks for and how an answer is put in, by how it keeps the event.
 use Rattle.std.proofs.Common.{◌≡◌, ℕ, Option, Some, None, List, refl, ap, sym, ◌∙◌}
 use Rattle.cml_value.specs.Value.{PlainEvent, guard, scope, PlainFunction}
-use Rattle.cml_group.specs.Force.{PlainNeed, calls, needs_nack, unforced, replaced, event_of}
+use Rattle.cml_group.specs.Force.{PlainNeed, calls, unforced, replaced, event_of}
 use Rattle.cml_group.specs.Frames.{PlainFrame, plug}
 use Rattle.cml_group.specs.FrameViews.{plain_hole, plain_part, hole_ask}
 use Rattle.cml_group.specs.declared.force.part.Hole.{Hole}
@@ -43,5 +43,5 @@ in_scope_asks fs k f = unforced_plug fs (scope k (guard f)) (calls f) refl
 pub in_scope_put : (fs : List PlainFrame) (k : ℕ) (f : PlainFunction) (new : PlainEvent) → replaced new (plug fs (scope k (guard f))) ≡ plug fs (scope k new)
 in_scope_put fs k f new = replaced_plug fs new (scope k (guard f)) (calls f) refl
 
-pub same_nack : (f g : PlainFunction) → Some (needs_nack f) ≡ Some (needs_nack g) → f ≡ g
-same_nack f g h = cc
+pub same_need : (a b : PlainNeed) → Some a ≡ Some b → a ≡ b
+same_need a b h = cc

@@ -6,14 +6,14 @@ ghost use Rattle.cml_value.specs.Limits.{event_nodes, event_fits, max_nodes};
 ghost use Rattle.cml_group.specs.Force.{calls, needs_nack, unforced, replaced, given_nack, event_of, AwaitsEvent, AwaitsNack};
 ghost use Rattle.cml_group.specs.Asks.{Asks, RefusesAnswer};
 ghost use Rattle.cml_group.specs.Frames.{in_scope, plug};
-ghost use Rattle.cml_group.specs.FrameViews.{plain_hole, plain_part, IsRoomOf};
+ghost use Rattle.cml_group.specs.FrameViews.{plain_hole, hole_ask, plain_part, IsRoomOf};
 
 mod done;
 mod frame;
 mod part;
 
 use crate::fault::ForceFault;
-use crate::force::frame::{Frame, FrameKind, add_frames, room_in_scope, room_of, spend_within};
+use crate::force::frame::{Frame, FrameKind, room_in_scope, room_of, spend_within};
 use crate::force::part::{Hole, Part, climb, force};
 use cml_value::{
     Base, BaseKind, Event, EventKind, FnRef, Group, GroupKind, MAX_DEPTH, MAX_NODES, NackId, Value,
@@ -103,14 +103,30 @@ fn with_nack_event(alloc: Global, function: &FnRef, nack: NackId) -> Result<FnRe
     Ok(FnRef::new(alloc, function.func(), args)?)
 }
 
-// The scope of the nack, and these frames around it.
-fn round_scope(alloc: Global, nack: NackId, frames: &[Frame]) -> Result<Vec<Frame>, AllocError>
-    ensures { IfOk result (λ all. all.items ≡ in_scope nack.0 ∷ frames.now) }
+// Makes the withNack there a guard of its function, given the nack, in one more frame: the scope of the nack. What may fail comes
+// first, so all stays as it is where memory runs out.
+fn give_nack(
+    alloc: Global,
+    frames: &mut Vec<Frame>,
+    hole: &mut Hole,
+    nack: NackId,
+) -> Result<FnRef, AllocError>
+    ensures function { IfOk result (λ given. (f : PlainFunction) →
+        hole_ask hole.old ≡ needs_nack f → given ≡ given_nack nack.0 f) }
+    ensures guard { IfOk result (λ given. plain_hole hole.new ≡ guard given) }
+    ensures frames { OnOk result (frames.new.items ≡ in_scope nack.0 ∷ frames.old.items) }
+    ensures err { OnErr result (frames.new.items ≡ frames.old.items) }
+    ensures unchanged { OnErr result (hole.new ≡ hole.old) }
 {
-    let mut all = Vec::new(alloc);
-    all.push(Frame::new(FrameKind::Scope(nack)))?;
-    add_frames(&mut all, alloc, frames)?;
-    Ok(all)
+    // A nack is awaited, so it is a withNack.
+    let Hole::WithNack(f) = &*hole else {
+        return Err(AllocError);
+    };
+    let given = with_nack_event(alloc, f, nack)?;
+    let kept = given.copy()?;
+    frames.insert(0, Frame::new(FrameKind::Scope(nack)))?;
+    *hole = Hole::Guard(kept);
+    Ok(given)
 }
 
 // The steps. Each makes a forcing of its own: copies share what is large, so the old one stays as it is where memory runs out.
@@ -143,31 +159,6 @@ impl Forcing {
         let part = put_in(alloc, frames, answer)?;
         let room = next_room(&part, left);
         Ok(Forcing { part, room })
-    }
-
-    // The function, given the nack, and the forcing with a guard of it in the withNack's place, in the scope of the nack.
-    fn with_nack(&self, alloc: Global, nack: NackId) -> Result<(FnRef, Forcing), AllocError>
-        requires { AwaitsNack self.now }
-        ensures function { IfOk result (λ both. (f : PlainFunction) →
-            unforced self.now ≡ Some (needs_nack f) → both.0 ≡ given_nack nack.0 f) }
-        ensures next { IfOk result (λ both.
-            both.1 ≡ replaced (scope nack.0 (guard both.0)) self.now) }
-        ensures asks { IfOk result (λ both. unforced both.1 ≡ Some (calls both.0)) }
-        ensures branch { IfOk result (λ both. (answer : PlainEvent) →
-            replaced answer both.1 ≡ replaced (scope nack.0 answer) self.now) }
-    {
-        // A nack is awaited, so there is a withNack.
-        let Part::Open(frames, hole) = &self.part else {
-            return Err(AllocError);
-        };
-        let Hole::WithNack(f) = hole else {
-            return Err(AllocError);
-        };
-        let given = with_nack_event(alloc, f, nack)?;
-        let kept = given.copy()?;
-        let room = room_in_scope(self.room, frames);
-        let part = Part::Open(round_scope(alloc, nack, frames)?, Hole::Guard(kept));
-        Ok((given, Forcing { part, room }))
     }
 }
 
@@ -218,8 +209,13 @@ impl Forcing {
             replaced answer self.new ≡ replaced (scope nack.0 answer) self.old) }
         ensures err { OnErr result (self.new ≡ self.old) }
     {
-        let (given, next) = self.with_nack(alloc, nack)?;
-        *self = next;
+        // A nack is awaited, so there is a place for it.
+        let Part::Open(frames, hole) = &mut self.part else {
+            return Err(AllocError);
+        };
+        let room = room_in_scope(self.room, frames);
+        let given = give_nack(alloc, frames, hole, nack)?;
+        self.room = room;
         Ok(given)
     }
 

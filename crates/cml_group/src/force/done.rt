@@ -181,6 +181,9 @@ impl Done {
         ensures { IfOk result (λ done. done ≡ self.now ++ more.items) }
     {
         let mut done = self.copy(alloc)?;
+        if more.is_empty() {
+            return Ok(done);
+        }
         add_piece(&mut done.pieces, alloc, more)?;
         Ok(done)
     }
