@@ -70,7 +70,10 @@ fn push_waits(all: &mut Vec<Wait>, nacks: &mut Vec<u32>, group: &Group) -> Resul
         }
         GroupKind::Choose(members) => {
             for member in members.iter() {
-                push_waits(all, nacks, member)?;
+                match member.kind() {
+                    GroupKind::Leaf(b) => all.push(Wait::of(b))?,
+                    _ => push_waits(all, nacks, member)?,
+                }
             }
             Ok(())
         }
