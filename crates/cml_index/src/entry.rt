@@ -46,6 +46,9 @@ impl Model for Entry {
         × (e.post.value.nacks.items ≡ nacks_of (scopes e.post.value.group)) };
 }
 
+// How long the lists of an entry are at most that is kept for another thread.
+const SHORT: usize = 256;
+
 // How many leaves there are, as the number of a leaf. There is no memory for a list in which the number is too large for one.
 fn number(count: usize) -> Result<u32, AllocError>
     ensures { IfOk result (λ n. (n ≡ count) × (count < 2 ^ 32)) }
@@ -67,7 +70,10 @@ fn push_waits(all: &mut Vec<Wait>, nacks: &mut Vec<u32>, group: &Group) -> Resul
         }
         GroupKind::Choose(members) => {
             for member in members.iter() {
-                push_waits(all, nacks, member)?;
+                match member.kind() {
+                    GroupKind::Leaf(b) => all.push(Wait::of(b))?,
+                    _ => push_waits(all, nacks, member)?,
+                }
             }
             Ok(())
         }
@@ -128,6 +134,12 @@ impl Entry {
                 Err(error)
             }
         }
+    }
+
+    // Whether its lists have no room for more than this many leaves and nacks. Those of a large group would hold their memory while no
+    // thread has one.
+    pub(crate) fn is_short(&self) -> bool {
+        self.post.waits.capacity() <= SHORT && self.post.nacks.capacity() <= SHORT
     }
 
     // Lets the group go, and keeps its lists.

@@ -14,7 +14,7 @@ ghost use Rattle.cml_index.specs.Slots.{slot_in};
 use crate::slot::{LaneKind, Slot, Spot, Wait};
 use crate::stand::{
     LaneState, Ticks, come_in, come_tick, count_in, count_tick, forget_tick, forgo_in, forgo_tick,
-    go_in, go_tick, make_in, make_tick, note_in, note_tick,
+    go_in, go_tick, note_in, note_tick,
 };
 use cml_channel::{Lane, Tally};
 use cml_scan::Light;
@@ -99,6 +99,7 @@ impl Lanes {
     }
 
     // What stands in the slot, if it was made.
+    #[inline(always)]
     pub(crate) fn stand(&self, slot: Slot) -> Option<&LaneState>
         ensures { option_copied result ≡ stands.stand_at self.now slot }
     {
@@ -109,6 +110,7 @@ impl Lanes {
     }
 
     // The lane of the slot, if it was made.
+    #[inline(always)]
     pub(crate) fn lane(&self, slot: Slot) -> Option<&Lane>
         ensures { stands.of_lane (option_copied result) ≡ spec.lane_at self.now slot }
     {
@@ -119,6 +121,7 @@ impl Lanes {
     }
 
     // How many offers stand in the lane.
+    #[inline(always)]
     pub(crate) fn len(&self, slot: Slot) -> usize
         ensures { result ≡ length (spec.lane_at self.now slot) }
     {
@@ -128,27 +131,17 @@ impl Lanes {
         }
     }
 
-    // Makes the lane, if it is not there yet.
-    fn make(&mut self, alloc: Global, slot: Slot) -> Result<(), AllocError>
-        ensures same { (k : Slot) → stands.IsAlike (stands.stand_at self.new k) (stands.stand_at self.old k) }
-        ensures there { OnOk result (is_some (stands.stand_at self.new slot) ≡ true) }
-    {
-        match slot.spot() {
-            Spot::Listed { row, number } => make_in(self.row_mut(row), alloc, number as usize),
-            Spot::Tick(tick) => make_tick(&mut self.ticks, alloc, tick),
-        }
-    }
-
-    // Notes at the lane, which was made, that the leaf is to come.
-    fn note(&mut self, slot: Slot, leaf: u32) -> Result<(), AllocError>
-        requires { is_some (stands.stand_at self.old slot) ≡ true }
+    // Notes at the lane that the leaf is to come. The lane is made, if it is not there yet.
+    fn note(&mut self, alloc: Global, slot: Slot, leaf: u32) -> Result<(), AllocError>
         ensures here { stands.IsNoted result leaf (stands.stand_at self.old slot) (stands.stand_at self.new slot) }
         ensures elsewhere { (k : Slot) → same_slot k slot ≡ false →
-            stands.stand_at self.new k ≡ stands.stand_at self.old k }
+            stands.IsAlike (stands.stand_at self.new k) (stands.stand_at self.old k) }
     {
         match slot.spot() {
-            Spot::Listed { row, number } => note_in(self.row_mut(row), number as usize, leaf),
-            Spot::Tick(tick) => note_tick(&mut self.ticks, tick, leaf),
+            Spot::Listed { row, number } => {
+                note_in(self.row_mut(row), alloc, number as usize, leaf)
+            }
+            Spot::Tick(tick) => note_tick(&mut self.ticks, alloc, tick, leaf),
         }
     }
 
@@ -165,10 +158,7 @@ impl Lanes {
         ensures none { OnErr result ((k : Slot) → spec.late_at self.new k ≡ spec.late_at self.old k) }
     {
         match slot {
-            Some(slot) => {
-                self.make(alloc, slot)?;
-                self.note(slot, leaf)
-            }
+            Some(slot) => self.note(alloc, slot, leaf),
             None => Ok(()),
         }
     }

@@ -72,8 +72,22 @@ impl Numbers {
         (self.places[number as usize] as usize) < self.count
     }
 
-    // Gives the number a place, and each one below it.
+    // Gives the number a place, and each one below it. Mostly it has one.
+    #[inline(always)]
     pub(crate) fn make(&mut self, number: u32) -> Result<(), AllocError>
+        ensures same { self.new.items ≡ self.old.items }
+        ensures grown { self.old.size ≤ self.new.size }
+        ensures there { OnOk result (number < self.new.size) }
+    {
+        if self.order.len() <= number as usize {
+            return self.grow(number);
+        }
+        Ok(())
+    }
+
+    // Gives the number a place, and each one below it.
+    #[inline(never)]
+    fn grow(&mut self, number: u32) -> Result<(), AllocError>
         ensures same { self.new.items ≡ self.old.items }
         ensures grown { self.old.size ≤ self.new.size }
         ensures there { OnOk result (number < self.new.size) }

@@ -109,12 +109,21 @@ impl LaneState {
     }
 }
 
+// Makes the stands up to this one, where it was not made. Those that are made are empty.
+#[inline(always)]
+fn make_in(row: &mut Vec<LaneState>, alloc: Global, number: usize) -> Result<(), AllocError>
+    ensures same { (i : ℕ) → spec.IsAlike (slice_get row.new.items i) (slice_get row.old.items i) }
+    ensures there { OnOk result (number < length row.new.items) }
+{
+    if row.len() <= number {
+        return make_more(row, alloc, number);
+    }
+    Ok(())
+}
+
 // Makes the stands up to this one. Those that are made are empty.
-pub(crate) fn make_in(
-    row: &mut Vec<LaneState>,
-    alloc: Global,
-    number: usize,
-) -> Result<(), AllocError>
+#[inline(never)]
+fn make_more(row: &mut Vec<LaneState>, alloc: Global, number: usize) -> Result<(), AllocError>
     ensures same { (i : ℕ) → spec.IsAlike (slice_get row.new.items i) (slice_get row.old.items i) }
     ensures there { OnOk result (number < length row.new.items) }
 {
@@ -124,8 +133,23 @@ pub(crate) fn make_in(
     Ok(())
 }
 
+// The leaf is to come to this stand, which is made if it was not.
+pub(crate) fn note_in(
+    row: &mut Vec<LaneState>,
+    alloc: Global,
+    number: usize,
+    leaf: u32,
+) -> Result<(), AllocError>
+    ensures here { spec.IsNoted result leaf (slice_get row.old.items number) (slice_get row.new.items number) }
+    ensures elsewhere { (i : ℕ) → i ≢ number → spec.IsAlike (slice_get row.new.items i) (slice_get row.old.items i) }
+{
+    make_in(row, alloc, number)?;
+    note_there(row, number, leaf)
+}
+
 // The leaf is to come to this stand, which was made.
-pub(crate) fn note_in(row: &mut Vec<LaneState>, number: usize, leaf: u32) -> Result<(), AllocError>
+#[inline(always)]
+fn note_there(row: &mut Vec<LaneState>, number: usize, leaf: u32) -> Result<(), AllocError>
     requires { number < length row.old.items }
     ensures here { spec.IsNoted result leaf (slice_get row.old.items number) (slice_get row.new.items number) }
     ensures elsewhere { (i : ℕ) → i ≢ number → slice_get row.new.items i ≡ slice_get row.old.items i }
@@ -185,8 +209,23 @@ pub(crate) fn go_in(row: &mut Vec<LaneState>, number: usize, tid: Tid, tally: &m
     }
 }
 
+// The leaf is to come to the stand of this tick, which is made if it was not.
+pub(crate) fn note_tick(
+    ticks: &mut Ticks,
+    alloc: Global,
+    tick: u64,
+    leaf: u32,
+) -> Result<(), AllocError>
+    ensures here { spec.IsNoted result leaf (get (λ a b. a == b) ticks.old tick) (get (λ a b. a == b) ticks.new tick) }
+    ensures elsewhere { (t : ℕ) → (tick == t) ≡ false →
+        spec.IsAlike (get (λ a b. a == b) ticks.new t) (get (λ a b. a == b) ticks.old t) }
+{
+    make_tick(ticks, alloc, tick)?;
+    note_tick_there(ticks, tick, leaf)
+}
+
 // The leaf is to come to the stand of this tick, which was made.
-pub(crate) fn note_tick(ticks: &mut Ticks, tick: u64, leaf: u32) -> Result<(), AllocError>
+fn note_tick_there(ticks: &mut Ticks, tick: u64, leaf: u32) -> Result<(), AllocError>
     requires { is_some (get (λ a b. a == b) ticks.old tick) ≡ true }
     ensures here { spec.IsNoted result leaf (get (λ a b. a == b) ticks.old tick) (get (λ a b. a == b) ticks.new tick) }
     ensures elsewhere { (t : ℕ) → (tick == t) ≡ false →
@@ -250,7 +289,7 @@ pub(crate) fn go_tick(ticks: &mut Ticks, tick: u64, tid: Tid, tally: &mut Tally)
 }
 
 // Makes the stand of this tick, if it is not there yet. What is made is empty.
-pub(crate) fn make_tick(ticks: &mut Ticks, alloc: Global, tick: u64) -> Result<(), AllocError>
+fn make_tick(ticks: &mut Ticks, alloc: Global, tick: u64) -> Result<(), AllocError>
     ensures same { (t : ℕ) → spec.IsAlike (get (λ a b. a == b) ticks.new t) (get (λ a b. a == b) ticks.old t) }
     ensures there { OnOk result (is_some (get (λ a b. a == b) ticks.new tick) ≡ true) }
 {

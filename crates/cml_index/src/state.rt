@@ -45,10 +45,10 @@ pub(crate) struct IndexState {
 // How many entries of threads that have gone are kept.
 const SPARES: usize = 64;
 
-// Keeps the entry for the next thread that comes, where there is room.
+// Keeps the entry for the next thread that comes, where there is room and its lists are short.
 fn keep(spares: &mut Vec<Entry>, entry: Entry) {
     let mut entry = entry;
-    if spares.len() < spares.capacity() {
+    if spares.len() < spares.capacity() && entry.is_short() {
         entry.rest();
         spares.push_reserved(entry);
     }

@@ -1,6 +1,6 @@
 use Rattle.std.proofs.Common.{◌+◌, ◌-◌, ℕ, slice_get, length}
 use Rattle.cml_index.specs.Stands as spec
-use Rattle.cml_index.proofs.stand.make_in.Given as goal
+use Rattle.cml_index.proofs.stand.make_more.Given as goal
 
 -- what is made is empty
 abbrev pub invariant-loop-alloc : goal.invariant-loop-alloc

@@ -1,5 +1,5 @@
 use Rattle.std.proofs.Common.{◌≡◌, ◌-◌, ◌+◌, ◌≤◌}
-use Rattle.cml_index.proofs.numbers.Numbers.make.Given as goal
+use Rattle.cml_index.proofs.numbers.Numbers.grow.Given as goal
 
 -- nothing came in
 abbrev pub invariant-loop-self : goal.invariant-loop-self
