@@ -40,6 +40,18 @@ pub no_other : (name : Text) (given : List Row) → is_complete commands (Some (
     → (name ≡ codes "shrink" → ⊥) → (name ≡ codes "draw" → ⊥) → (name ≡ codes "step" → ⊥) → ⊥
 no_other name given complete trace check fmt run replay explain explore shrink draw step =
     let none : false ≡ true =
-    rw (no_match _ _ trace, no_match _ _ check, no_match _ _ fmt, no_match _ _ run, no_match _ _ replay, no_match _ _ explain, no_match _ _ explore, no_match _ _ shrink, no_match _ _ draw, no_match _ _ step)
+    rw (
+      no_match _ _ trace,
+      no_match _ _ check,
+      no_match _ _ fmt,
+      no_match _ _ run,
+      no_match _ _ replay,
+      no_match _ _
+          explain,
+      no_match _ _ explore,
+      no_match _ _ shrink,
+      no_match _ _ draw,
+      no_match _ _ step,
+    )
     at complete in
     true≢false (sym none)

@@ -129,14 +129,17 @@ later_leaves w ws h = each_map (λ y. wait_cmp w y ≡ Less) (NotBelow (Some w.0
 
 -- the list ascends, after `last`
 
-behind_step : (last : Option Leaf) (w : WaitingLeaf) (new rest : List (Tid × ℕ)) (b1 b2 : Bool) → is_last last w.0 ≡ b1 → NotBelow last w → AllByRecursion (IsBehind (Some w.0)) new → AllByRecursion (IsBehind last) rest → AllByRecursion (IsBehind last) (if not b1 && b2 then named w.0 ∷ new else rest)
+behind_step : (last : Option Leaf) (w : WaitingLeaf) (new rest : List (Tid × ℕ)) (b1 b2 : Bool) → is_last last w.0 ≡ b1
+    → NotBelow last w → AllByRecursion (IsBehind (Some w.0)) new → AllByRecursion (IsBehind last) rest
+    → AllByRecursion (IsBehind last) (if not b1 && b2 then named w.0 ∷ new else rest)
 behind_step last w new rest false true e k a b =
     let h : IsBehind last (named w.0) = behind_last last w e k in
     (h, each_map (IsBehind (Some w.0)) (IsBehind last) new (λ q. behind_more last w q h) a)
 behind_step last w new rest false false e k a b = b
 behind_step last w new rest true b2 e k a b = b
 
-leaves_behind : (lit : ℕ → Bool) (last : Option Leaf) (ws : List WaitingLeaf) → IsStrictlySortedBy wait_cmp ws → AllByRecursion (NotBelow last) ws → AllByRecursion (IsBehind last) (lit_leaves_after lit last ws)
+leaves_behind : (lit : ℕ → Bool) (last : Option Leaf) (ws : List WaitingLeaf) → IsStrictlySortedBy wait_cmp ws
+    → AllByRecursion (NotBelow last) ws → AllByRecursion (IsBehind last) (lit_leaves_after lit last ws)
 unfolding IsStrictlySortedBy
 leaves_behind lit last [] h k = tt
 leaves_behind lit last (w ∷ ws) h k =
@@ -144,7 +147,9 @@ leaves_behind lit last (w ∷ ws) h k =
     (leaves_behind lit (Some w.0) ws h.1 (later_leaves w ws h.0))
     (leaves_behind lit last ws h.1 k.1)
 
-ascend_step : (w : WaitingLeaf) (new rest : List (Tid × ℕ)) (b1 b2 : Bool) → AllByRecursion (ComesBefore (named w.0)) new → Ascending ComesBefore new → Ascending ComesBefore rest → Ascending ComesBefore (if not b1 && b2 then named w.0 ∷ new else rest)
+ascend_step : (w : WaitingLeaf) (new rest : List (Tid × ℕ)) (b1 b2 : Bool)
+    → AllByRecursion (ComesBefore (named w.0)) new → Ascending ComesBefore new → Ascending ComesBefore rest
+    → Ascending ComesBefore (if not b1 && b2 then named w.0 ∷ new else rest)
 ascend_step w new rest false true a h k = (a, h)
 ascend_step w new rest false false a h k = k
 ascend_step w new rest true b2 a h k = k
@@ -167,7 +172,9 @@ abbrev WaitsAmong : (ℕ → Bool) → List WaitingLeaf → Tid × ℕ → Type 
 WaitsAmong lit [] p = ⊥
 WaitsAmong lit (w ∷ ws) p = ((named w.0 ≡ p) × IsTrue (lit w.1)) ⊎ WaitsAmong lit ws p
 
-sound_step : (P : Type 0) (p : Tid × ℕ) (w : WaitingLeaf) (new rest : List (Tid × ℕ)) (l b1 b2 : Bool) → l ≡ b2 → (Has new p → P) → (Has rest p → P) → Has (if not b1 && b2 then named w.0 ∷ new else rest) p → ((named w.0 ≡ p) × IsTrue l) ⊎ P
+sound_step : (P : Type 0) (p : Tid × ℕ) (w : WaitingLeaf) (new rest : List (Tid × ℕ)) (l b1 b2 : Bool) → l ≡ b2
+    → (Has new p → P) → (Has rest p → P) → Has (if not b1 && b2 then named w.0 ∷ new else rest) p
+    → ((named w.0 ≡ p) × IsTrue l) ⊎ P
 sound_step P p w new rest l false true e f g h = elim h [ inl i ↦ inl (i, e) | inr j ↦ inr (f j) ]
 sound_step P p w new rest l false false e f g h = inr (g h)
 sound_step P p w new rest l true b2 e f g h = inr (g h)
@@ -185,7 +192,10 @@ IsNamed (Some q) p = named q ≡ p
 named_last : (last : Option Leaf) (q : Leaf) (p : Tid × ℕ) → last ≡ Some q → named q ≡ p → IsNamed last p
 named_last last q p e h = rw e h
 
-whole_step : (P : Type 0) (p : Tid × ℕ) (last : Option Leaf) (w : WaitingLeaf) (new rest : List (Tid × ℕ)) (l b1 b2 : Bool) → l ≡ b2 → is_last last w.0 ≡ b1 → (P → Has new p ⊎ (named w.0 ≡ p)) → (P → Has rest p ⊎ IsNamed last p) → ((named w.0 ≡ p) × IsTrue l) ⊎ P → Has (if not b1 && b2 then named w.0 ∷ new else rest) p ⊎ IsNamed last p
+whole_step : (P : Type 0) (p : Tid × ℕ) (last : Option Leaf) (w : WaitingLeaf) (new rest : List (Tid × ℕ))
+    (l b1 b2 : Bool) → l ≡ b2 → is_last last w.0 ≡ b1 → (P → Has new p ⊎ (named w.0 ≡ p))
+    → (P → Has rest p ⊎ IsNamed last p) → ((named w.0 ≡ p) × IsTrue l) ⊎ P
+    → Has (if not b1 && b2 then named w.0 ∷ new else rest) p ⊎ IsNamed last p
 whole_step P p last w new rest l false true e d f g (inl h) = inl (inl h.0)
 whole_step P p last w new rest l false true e d f g (inr h) = elim (f h) [ inl i ↦ inl (inr i) | inr i ↦ inl (inl i) ]
 whole_step P p last w new rest l true b2 e d f g (inl h) = inr (named_last last w.0 p (last_is last w.0 d) h.0)

@@ -46,7 +46,9 @@ pub with_same : {S : Type 0} (states : List S) (id : ℕ) (s t : S) → slice_ge
 with_same states id s t e same = rw same (set_same states id s e)
 
 -- what one object does is what the register does
-pub feeds_at : {S F : Type 0} (fed : S → F → Result S PlainRefusal) (states : List S) (id : ℕ) (s t : S) (feed : F) (result : Result (Unit {0}) (FeedFault F)) → slice_get states id ≡ Some s → Feeds result (fed s feed) feed s t → Feeds result (fed_at fed states id feed) feed states (slice_set states id t)
+pub feeds_at : {S F : Type 0} (fed : S → F → Result S PlainRefusal) (states : List S) (id : ℕ) (s t : S) (feed : F)
+    (result : Result (Unit {0}) (FeedFault F)) → slice_get states id ≡ Some s → Feeds result (fed s feed) feed s t
+    → Feeds result (fed_at fed states id feed) feed states (slice_set states id t)
 feeds_at fed states id s t feed (Ok _) e h = rw (e, h) refl
 feeds_at fed states id s t feed (Err (Put f)) e h = rw (e, h.0) (refl, with_same states id s t e h.1, h.2)
 feeds_at fed states id s t feed (Err (Full f)) e h = rw (e, h.0) (refl, with_same states id s t e h.1, h.2)

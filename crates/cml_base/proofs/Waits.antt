@@ -54,7 +54,9 @@ adds_step w other false new old N O e h n o = (
 )
 
 pub adds_wait : (w : WaitingLeaf) (old new : BTreeSet WaitingLeaf) → Updates wait_cmp old new w true → AddsWait w old.keys new.keys
-adds_wait w old new h other = adds_step w other (is_at (wait_cmp w) other) (tree.contains wait_cmp new other) (tree.contains wait_cmp old other) (Contains new.keys other) (Contains old.keys other) refl (h.0 other) (member new other) (member old other)
+adds_wait w old new h other = adds_step w other (is_at (wait_cmp w) other) (tree.contains wait_cmp new other)
+    (tree.contains wait_cmp old other) (Contains new.keys other) (Contains old.keys other) refl (h.0 other)
+    (member new other) (member old other)
 
 removes_step : (w other : WaitingLeaf) (b new old : Bool) (N O : Type 0) → is_at (wait_cmp w) other ≡ b → new ≡ cond b false old → (IsTrue new ↔ N) → (IsTrue old ↔ O) → N ↔ ((other ≢ w) × O)
 removes_step w other true new old N O e h n o = ((λ k. absurd (false≢true (sym h ∙ n.1 k))), (λ k. absurd (k.0 (sym (same_wait w other e)))))
@@ -62,4 +64,6 @@ removes_step w other false new old N O e h n o = ((λ k. ((λ i. not_itself w ot
 
 pub removes_wait : (w : WaitingLeaf) (old new : BTreeSet WaitingLeaf) → Updates wait_cmp old new w false → RemovesWait w old.keys new.keys
 unfolding RemovesWait
-removes_wait w old new h = λ other. removes_step w other (is_at (wait_cmp w) other) (tree.contains wait_cmp new other) (tree.contains wait_cmp old other) (Contains new.keys other) (Contains old.keys other) refl (h.0 other) (member new other) (member old other)
+removes_wait w old new h = λ other. removes_step w other (is_at (wait_cmp w) other) (tree.contains wait_cmp new other)
+    (tree.contains wait_cmp old other) (Contains new.keys other) (Contains old.keys other) refl (h.0 other)
+    (member new other) (member old other)

@@ -38,8 +38,8 @@ pub trait Paired {
     fn key(side: &Self::Side) -> u32
         ensures { result ≡ key_of side.now };
 
-    /// Whether the two sides meet. The program does not ask this, but `do_meet` of `cml_channel`, which goes by keys and heads; the law
-    /// `meeting` ties the two.
+    /// Whether the two sides meet. The program does not ask this: it goes by keys and heads (`place` and `partner_threads` of
+    /// `cml_channel`); the law `meeting` ties the two.
     fn meets(first: &Self::Side, second: &Self::Side) -> bool
         ensures { result ≡ do_meet first.now second.now };
 

@@ -1,5 +1,44 @@
 -- The ticks that light, and those that nobody waits for any more.
-use Rattle.std.proofs.Common.{◌≡◌, ℕ, ◌+◌, ◌<◌, ◌≤◌, Bool, true, false, ◌&&◌, ◌||◌, nat_eq, nat_lt, nat_le, cond, List, [], ◌∷◌, ◌++◌, length, map, refl, ap, sym, ◌∙◌, arith, zero, suc, Option, Some, None, Result, Ok, Err, IfOk, append_assoc, drop, add-one, length-append}
+use Rattle.std.proofs.Common.{
+  ◌≡◌,
+  ℕ,
+  ◌+◌,
+  ◌<◌,
+  ◌≤◌,
+  Bool,
+  true,
+  false,
+  ◌&&◌,
+  ◌||◌,
+  nat_eq,
+  nat_lt,
+  nat_le,
+  cond,
+  List,
+  [],
+  ◌∷◌,
+  ◌++◌,
+  length,
+  map,
+  refl,
+  ap,
+  sym,
+  ◌∙◌,
+  arith,
+  zero,
+  suc,
+  Option,
+  Some,
+  None,
+  Result,
+  Ok,
+  Err,
+  IfOk,
+  append_assoc,
+  drop,
+  add-one,
+  length-append,
+}
 use Rattle.std.specs.Prelude.{Contains, ◌↔◌}
 use Rattle.std.specs.List.{filter, cons_option}
 use Rattle.std.proofs.lemmas.Bool.Decides.{nat_tests}
@@ -32,7 +71,9 @@ pub alarms_only : (from to : ℕ) (ts : List ℕ) → ((t : ℕ) → Contains ts
 alarms_only from to [] h l e = cc
 alarms_only from to (t ∷ ts) h (of.Alarm u) e = at (nat_eq u t) refl e (alarms_only from to ts (λ x c. h x (later t ts x c)) (of.Alarm u))
   where
-    at : (s : Bool) → nat_eq u t ≡ s → s || has_light (map of.Alarm ts) (of.Alarm u) ≡ true → (has_light (map of.Alarm ts) (of.Alarm u) ≡ true → comes from to (of.Alarm u) ≡ true) → comes from to (of.Alarm u) ≡ true
+    at : (s : Bool) → nat_eq u t ≡ s → s || has_light (map of.Alarm ts) (of.Alarm u) ≡ true
+        → (has_light (map of.Alarm ts) (of.Alarm u) ≡ true → comes from to (of.Alarm u) ≡ true)
+        → comes from to (of.Alarm u) ≡ true
     at true i f ih =
         let same : u ≡ t = grind (arith, nat_tests) in
         let p = h t (zero, (omega arith), refl) in

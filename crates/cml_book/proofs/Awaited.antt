@@ -1,5 +1,37 @@
 -- How many leaves of pending threads wait for a tick.
-use Rattle.std.proofs.Common.{◌≡◌, ℕ, ◌+◌, ◌*◌, ◌<◌, ◌≤◌, Bool, true, false, cond, List, [], ◌∷◌, ◌++◌, length, map, refl, ap, sym, ◌∙◌, arith, zero, suc, Option, Some, None, take, zero-add, add-one, length-take, slice_index_or}
+use Rattle.std.proofs.Common.{
+  ◌≡◌,
+  ℕ,
+  ◌+◌,
+  ◌*◌,
+  ◌<◌,
+  ◌≤◌,
+  Bool,
+  true,
+  false,
+  cond,
+  List,
+  [],
+  ◌∷◌,
+  ◌++◌,
+  length,
+  map,
+  refl,
+  ap,
+  sym,
+  ◌∙◌,
+  arith,
+  zero,
+  suc,
+  Option,
+  Some,
+  None,
+  take,
+  zero-add,
+  add-one,
+  length-take,
+  slice_index_or,
+}
 use Rattle.std.specs.Option.{option_map}
 use Rattle.std.specs.Prelude.{slice_set, slice_get, All, Contains, IfSome, IfNone}
 use Rattle.std.proofs.lemmas.Bool.Decides.{nat_tests}
@@ -163,7 +195,8 @@ narrow-wait n (suc i) (pending_on x ∷ ts) g few all =
     (narrow-wait (n + 1) i ts g few (All-tail (λ (y : PlainEntry). leaf_count y.group ≤ max_leaves) (record { thread = n; group = x }) (pending_from (n + 1) ts) all))
 narrow-wait n (suc i) (ended ∷ ts) g few all = narrow-wait (n + 1) i ts g few all
 
-narrow-resume : (n i : ℕ) (ts : List PlainThread) → All (λ e. leaf_count e.group ≤ max_leaves) (pending_from n ts) → All (λ e. leaf_count e.group ≤ max_leaves) (pending_from n (slice_set ts i running))
+narrow-resume : (n i : ℕ) (ts : List PlainThread) → All (λ e. leaf_count e.group ≤ max_leaves) (pending_from n ts)
+    → All (λ e. leaf_count e.group ≤ max_leaves) (pending_from n (slice_set ts i running))
 narrow-resume n i [] all = all
 narrow-resume n zero (running ∷ ts) all = all
 narrow-resume n zero (pending_on x ∷ ts) all = All-tail (λ (y : PlainEntry). leaf_count y.group ≤ max_leaves) (record { thread = n; group = x }) (pending_from (n + 1) ts) all
@@ -196,7 +229,8 @@ counts-resume ts i g waited waited' waits less c = record {
 }
 
 -- a group that is waited on is among those that are counted
-pub counts_there : (t : ℕ) (ts : List PlainThread) (i : ℕ) (g : PlainGroup) (waited : List (ℕ × ℕ)) → slice_get ts i ≡ Some (pending_on g) → Counts ts waited → times_awaited t (bases g) ≤ leaves_at waited t
+pub counts_there : (t : ℕ) (ts : List PlainThread) (i : ℕ) (g : PlainGroup) (waited : List (ℕ × ℕ)) → slice_get ts i
+    ≡ Some (pending_on g) → Counts ts waited → times_awaited t (bases g) ≤ leaves_at waited t
 counts_there t ts i g waited waits c = let a = awaited-resume t 0 i ts g waits in let d = c.counted t in omega arith
 
 take_all : (g : PlainGroup) (n : ℕ) → n ≡ leaf_count g → take n (bases g) ≡ bases g

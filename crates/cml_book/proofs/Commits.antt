@@ -1,5 +1,43 @@
 -- The parties of a row that is in the table, and what taking it does.
-use Rattle.std.proofs.Common.{◌≡◌, ◌≢◌, ℕ, ◌+◌, ◌*◌, ◌<◌, ◌≤◌, Bool, true, false, not, ◌&&◌, ◌||◌, nat_eq, nat_lt, cond, List, [], ◌∷◌, ◌++◌, length, map, refl, ap, sym, subst, ◌∙◌, arith, zero, suc, Option, Some, None, Ok, Err, slice_index_or, zero-add}
+use Rattle.std.proofs.Common.{
+  ◌≡◌,
+  ◌≢◌,
+  ℕ,
+  ◌+◌,
+  ◌*◌,
+  ◌<◌,
+  ◌≤◌,
+  Bool,
+  true,
+  false,
+  not,
+  ◌&&◌,
+  ◌||◌,
+  nat_eq,
+  nat_lt,
+  cond,
+  List,
+  [],
+  ◌∷◌,
+  ◌++◌,
+  length,
+  map,
+  refl,
+  ap,
+  sym,
+  subst,
+  ◌∙◌,
+  arith,
+  zero,
+  suc,
+  Option,
+  Some,
+  None,
+  Ok,
+  Err,
+  slice_index_or,
+  zero-add,
+}
 use Rattle.std.specs.Prelude.{All, AllPairs, Contains, slice_get}
 use Rattle.std.specs.List.{filter, flat_map, cons_option}
 use Rattle.std.specs.Option.{option_copied, option_and_then, option_map}
@@ -63,7 +101,9 @@ entry_at P n (suc i) (pending_on x ∷ ts) g h all =
 entry_at P n (suc i) (ended ∷ ts) g h all = let number : n + suc i ≡ (n + 1) + i = omega arith in rw number (entry_at P (n + 1) i ts g h all)
 
 -- a pending thread is there
-thread_at : (n i : ℕ) (ts : List PlainThread) (g : PlainGroup) → slice_get ts i ≡ Some (pending_on g) → (k : ℕ) × (e : PlainEntry) × (k < length (pending_from n ts)) × (slice_index_or (pending_from n ts) k e ≡ e) × (e.thread ≡ n + i)
+thread_at : (n i : ℕ) (ts : List PlainThread) (g : PlainGroup) → slice_get ts i ≡ Some (pending_on g) → (k : ℕ)
+    × (e : PlainEntry) × (k < length (pending_from n ts)) × (slice_index_or (pending_from n ts) k e ≡ e)
+    × (e.thread ≡ n + i)
 thread_at n i [] g h = cc
 thread_at n zero (running ∷ ts) g h = cc
 thread_at n zero (pending_on x ∷ ts) g h = (0, record { thread = n; group = x }, omega arith, refl, omega arith)
@@ -86,7 +126,8 @@ pick_at [] n b h = cc
 pick_at (l ∷ ls) zero b h = (cc, omega arith)
 pick_at (l ∷ ls) (suc n) b h = let p = pick_at ls n b h in (p.0, omega (arith, p.1))
 
-pub party_of : (w : PlainWorld) (es : List PlainEntry) (told : Light → Bool) (room : Room) (t n : ℕ) (b : PlainBase) → Keeps w es told room → leaf_of (slice_get w.threads t) n ≡ Some b → Party w room t n b
+pub party_of : (w : PlainWorld) (es : List PlainEntry) (told : Light → Bool) (room : Room) (t n : ℕ) (b : PlainBase)
+    → Keeps w es told room → leaf_of (slice_get w.threads t) n ≡ Some b → Party w room t n b
 party_of w es told room t n b k h = at (slice_get w.threads t) refl h
   where
     at : (o : Option PlainThread) → slice_get w.threads t ≡ o → leaf_of o n ≡ Some b → Party w room t n b
@@ -117,7 +158,8 @@ pub record Parties (w : PlainWorld) (room : Room) (h : Tid) (i : ℕ) (o : Tid) 
   pub meet : meets base other_base ≡ true
   pub differ : h.0 ≢ o.0
 
-pub pair_parties : (w : PlainWorld) (es : List PlainEntry) (told : Light → Bool) (room : Room) (h : Tid) (i : ℕ) (o : Tid) (j : ℕ) → Keeps w es told room → has_row (scan w) (Pair h i o j) ≡ true → Parties w room h i o j
+pub pair_parties : (w : PlainWorld) (es : List PlainEntry) (told : Light → Bool) (room : Room) (h : Tid) (i : ℕ)
+    (o : Tid) (j : ℕ) → Keeps w es told room → has_row (scan w) (Pair h i o j) ≡ true → Parties w room h i o j
 pair_parties w es told room h i o j k has = at (leaf_of (slice_get w.threads h.0) i) (leaf_of (slice_get w.threads o.0) j) refl refl (sym (has_row-scan w (Pair h i o j)) ∙ has)
   where
     both : (a b c : Bool) → not a && (b && c) ≡ true → (a ≡ false) × (b ≡ true)
@@ -145,13 +187,16 @@ pair_parties w es told room h i o j k has = at (leaf_of (slice_get w.threads h.0
         }
 
 -- the group that a call finds
-pub flat_is : (r : Option (Bor PlainGroup)) (f : Bor PlainGroup) (w : PlainWorld) (t : ℕ) (g : PlainGroup) → option_copied r ≡ option_and_then flat_of (slice_get w.threads t) → slice_get w.threads t ≡ Some (pending_on g) → r ≡ Some f → f.now ≡ g
+pub flat_is : (r : Option (Bor PlainGroup)) (f : Bor PlainGroup) (w : PlainWorld) (t : ℕ) (g : PlainGroup)
+    → option_copied r ≡ option_and_then flat_of (slice_get w.threads t) → slice_get w.threads t ≡ Some (pending_on g)
+    → r ≡ Some f → f.now ≡ g
 flat_is r f w t g e waits is =
     let there : option_and_then flat_of (slice_get w.threads t) ≡ Some g = rw waits refl in
     let both : option_copied (Some f) ≡ Some g = rw is at (e ∙ there) in
     cc
 
-pub found : (r : Option (Bor PlainGroup)) (w : PlainWorld) (t : ℕ) (g : PlainGroup) → option_copied r ≡ option_and_then flat_of (slice_get w.threads t) → slice_get w.threads t ≡ Some (pending_on g) → r ≡ None → ⊥
+pub found : (r : Option (Bor PlainGroup)) (w : PlainWorld) (t : ℕ) (g : PlainGroup) → option_copied r
+    ≡ option_and_then flat_of (slice_get w.threads t) → slice_get w.threads t ≡ Some (pending_on g) → r ≡ None → ⊥
 found r w t g e waits is =
     let there : option_and_then flat_of (slice_get w.threads t) ≡ Some g = rw waits refl in
     let both : option_copied None ≡ Some g = subst (λ (x : Option (Bor PlainGroup)). option_copied x ≡ Some g) is (e ∙ there) in
@@ -163,6 +208,40 @@ is_there w es t g waits same = let a = thread_at 0 t.0 w.threads g waits in rw s
 
 pub waits_on : (w : PlainWorld) (room : Room) (t n : ℕ) (b : PlainBase) → Party w room t n b → WaitsOn w.threads w.nacks t n (group_awaited w t)
 waits_on w room t n b p = rw p.waits (record { waits = p.waits; within = p.within; alive = p.alive })
+
+-- the party of a row that is taken alone, where a call found its group
+pub record Alone (w : PlainWorld) (room : Room) (t : Tid) (n : ℕ) (flat : PlainGroup) : Type 0 where
+  pub base : PlainBase
+  pub party : Party w room t.0 n base
+  pub is_lit : lit w base ≡ true
+  pub same : flat ≡ party.group
+
+pub alone : (w : PlainWorld) (es : List PlainEntry) (told : Light → Bool) (room : Room) (t : Tid) (n : ℕ)
+    (r : Option (Bor PlainGroup)) (f : Bor PlainGroup) → Keeps w es told room → has_row (scan w) (Single t n) ≡ true
+    → option_copied r ≡ option_and_then flat_of (slice_get w.threads t.0) → r ≡ Some f → Alone w room t n f.now
+alone w es told room t n r f k has e is =
+    let s = single_party w es told room t n k has in
+    record { base = s.0; party = s.1; is_lit = s.2; same = flat_is r f w t.0 s.1.group e s.1.waits is }
+
+-- the parties of a pair, where calls found their groups
+pub record Met (w : PlainWorld) (room : Room) (h : Tid) (i : ℕ) (o : Tid) (j : ℕ) (first second : PlainGroup) : Type 0 where
+  pub parties : Parties w room h i o j
+  pub first_same : first ≡ parties.head.group
+  pub second_same : second ≡ parties.other.group
+
+pub met : (w : PlainWorld) (es : List PlainEntry) (told : Light → Bool) (room : Room) (h : Tid) (i : ℕ) (o : Tid) (j : ℕ)
+    (r1 : Option (Bor PlainGroup)) (f1 : Bor PlainGroup) (r2 : Option (Bor PlainGroup)) (f2 : Bor PlainGroup)
+    → Keeps w es told room → has_row (scan w) (Pair h i o j) ≡ true
+    → option_copied r1 ≡ option_and_then flat_of (slice_get w.threads h.0) → r1 ≡ Some f1
+    → option_copied r2 ≡ option_and_then flat_of (slice_get w.threads o.0) → r2 ≡ Some f2
+    → Met w room h i o j f1.now f2.now
+met w es told room h i o j r1 f1 r2 f2 k has e1 is1 e2 is2 =
+    let p = pair_parties w es told room h i o j k has in
+    record {
+      parties = p;
+      first_same = flat_is r1 f1 w h.0 p.head.group e1 p.head.waits is1;
+      second_same = flat_is r2 f2 w o.0 p.other.group e2 p.other.waits is2;
+    }
 
 -- what is taken alone is the same before and after its thread goes on
 given_after : (w : PlainWorld) (t n : ℕ) (b : PlainBase) → given (released w t n) b ≡ given w b
@@ -190,7 +269,9 @@ nack_among gone n (suc i) (pending_on x ∷ ts) g k h goes there =
     at (is_among gone n) (nack_among gone (n + 1) i ts g k h (ap (is_among gone) (sym number) ∙ goes) there)
   where
     at : (b : Bool) → Contains (nacks_among gone (pending_from (n + 1) ts)) k
-        → Contains (flat_map (λ e. nacks_of (scopes e.group)) (cond b (record { thread = n; group = x } ∷ filter (λ e. is_among gone e.thread) (pending_from (n + 1) ts)) (filter (λ e. is_among gone e.thread) (pending_from (n + 1) ts)))) k
+        → Contains (flat_map (λ e. nacks_of (scopes e.group))
+        (cond b (record { thread = n; group = x } ∷ filter (λ e. is_among gone e.thread) (pending_from (n + 1) ts))
+        (filter (λ e. is_among gone e.thread) (pending_from (n + 1) ts)))) k
     at true ih = Contains-append_right (nacks_of (scopes x)) (nacks_among gone (pending_from (n + 1) ts)) k ih
     at false ih = ih
 nack_among gone n (suc i) (ended ∷ ts) g k h goes there = let number : n + suc i ≡ (n + 1) + i = omega arith in nack_among gone (n + 1) i ts g k h (ap (is_among gone) (sym number) ∙ goes) there
@@ -201,9 +282,14 @@ only k = (0, omega arith, refl)
 -- the nacks that a leaf loses are nacks of the group
 lost_there : (n : ℕ) (ss : List PlainScope) → All (Contains (nacks_of ss)) (nacks_of (filter (lies_outside n) ss))
 lost_there n [] = All-nil (Contains [])
-lost_there n (s ∷ ss) = at (lies_outside n s) (All-weaker (Contains (nacks_of ss)) (Contains (s.nack ∷ nacks_of ss)) (λ k h. Contains-append_right (s.nack ∷ []) (nacks_of ss) k h) (nacks_of (filter (lies_outside n) ss)) (lost_there n ss))
+lost_there n (s ∷ ss) = at (lies_outside n s)
+    (All-weaker (Contains (nacks_of ss)) (Contains (s.nack ∷ nacks_of ss))
+    (λ k h. Contains-append_right (s.nack ∷ []) (nacks_of ss) k h) (nacks_of (filter (lies_outside n) ss))
+    (lost_there n ss))
   where
-    at : (b : Bool) → All (Contains (s.nack ∷ nacks_of ss)) (nacks_of (filter (lies_outside n) ss)) → All (Contains (s.nack ∷ nacks_of ss)) (nacks_of (cond b (s ∷ filter (lies_outside n) ss) (filter (lies_outside n) ss)))
+    at : (b : Bool) → All (Contains (s.nack ∷ nacks_of ss)) (nacks_of (filter (lies_outside n) ss))
+        → All (Contains (s.nack ∷ nacks_of ss))
+        (nacks_of (cond b (s ∷ filter (lies_outside n) ss) (filter (lies_outside n) ss)))
     at true ih = All-cons (Contains (s.nack ∷ nacks_of ss)) s.nack (nacks_of (filter (lies_outside n) ss)) (Contains-append_left (s.nack ∷ []) (nacks_of ss) s.nack (only s.nack)) ih
     at false ih = ih
 
@@ -212,10 +298,13 @@ pub sure_lights : (gone : List Tid) (ts : List PlainThread) (es : List PlainEntr
     → All (IsNackOf (nacks_among gone es)) (map nack_light (lost g n))
 sure_lights gone ts es t n g waits same goes =
     All-map (IsNackOf (nacks_among gone es)) nack_light (lost g n)
-    (All-weaker (Contains (nacks_of (scopes g))) (λ k. IsNackOf (nacks_among gone es) (nack_light k)) (λ k h. rw same (nack_among gone 0 t ts g k waits (ap (is_among gone) (zero-add t) ∙ goes) h)) (lost g n) (lost_there n (scopes g)))
+    (All-weaker (Contains (nacks_of (scopes g))) (λ k. IsNackOf (nacks_among gone es) (nack_light k))
+    (λ k h. rw same (nack_among gone 0 t ts g k waits (ap (is_among gone) (zero-add t) ∙ goes) h)) (lost g n)
+    (lost_there n (scopes g)))
 
 -- the lights that the table is told
-pub told_lights : (before pushed told : List Light) (flat g : PlainGroup) (n : ℕ) → before ≡ [] → flat ≡ g → pushed ≡ before ++ map nack_light (lost flat n) → told ≡ pushed → told ≡ map nack_light (lost g n)
+pub told_lights : (before pushed told : List Light) (flat g : PlainGroup) (n : ℕ) → before ≡ [] → flat ≡ g → pushed
+    ≡ before ++ map nack_light (lost flat n) → told ≡ pushed → told ≡ map nack_light (lost g n)
 told_lights before pushed told flat g n none is e f = f ∙ e ∙ rw (none, is) refl
 
 -- the thread is among those that go
@@ -226,7 +315,9 @@ gone_one t = one t.0
     one n = grind (arith, nat_tests)
 
 -- what a book keeps when one thread has gone on, and its base was taken
-pub keeps_single : (w : PlainWorld) (es : List PlainEntry) (told : Light → Bool) (room : Room) (t : Tid) (n : ℕ) (g : PlainGroup) (b : PlainBase) (es' : List PlainEntry) (told' : Light → Bool) (w1 w2 : PlainWorld) (lit unlit : List Light) (room' : Room)
+pub keeps_single : (w : PlainWorld) (es : List PlainEntry) (told : Light → Bool) (room : Room) (t : Tid) (n : ℕ)
+    (g : PlainGroup) (b : PlainBase) (es' : List PlainEntry) (told' : Light → Bool) (w1 w2 : PlainWorld)
+    (lit unlit : List Light) (room' : Room)
     → Keeps w es told room → slice_get w.threads t.0 ≡ Some (pending_on g) → can_give w b ≡ true → w1 ≡ released w t.0 n → w2 ≡ taken w1 b
     → lit ≡ map nack_light (lost g n) → unlit ≡ turned_off w b ++ left_lights (bases_awaited (pending w)) (bases g) [] → es' ≡ without (t ∷ []) es
     → ((l : Light) → told' l ≡ lit_after lit unlit l (told l)) → room' ≡ room
@@ -253,7 +344,8 @@ base_found : (o : Option PlainLeaf) (x : PlainBase) → option_map (λ l. l.base
 base_found None x e = cc
 base_found (Some l) x e = cc
 
-pub single_gives : (w : PlainWorld) (room : Room) (t n : ℕ) (b : PlainBase) (p : Party w room t n b) (flat : PlainGroup) (x : PlainBase) → lit w b ≡ true → flat ≡ p.group → leaf_base flat n ≡ Some x → can_give w x ≡ true
+pub single_gives : (w : PlainWorld) (room : Room) (t n : ℕ) (b : PlainBase) (p : Party w room t n b) (flat : PlainGroup)
+    (x : PlainBase) → lit w b ≡ true → flat ≡ p.group → leaf_base flat n ≡ Some x → can_give w x ≡ true
 single_gives w room t n b p flat x on same at_leaf =
     let base : x ≡ b = sym (base_found (pick flat n) x at_leaf) ∙ ap (λ g. base_or_unit (pick g n)) same ∙ p.base_is in
     rw base (lit_gives w b on)
@@ -341,11 +433,16 @@ pub second_waits : (w : PlainWorld) (es : List PlainEntry) (told : Light → Boo
 second_waits w es told room h i o j a g w1 k first second differ within one =
     let waits : slice_get (released w h.0 i).threads o.0 ≡ Some (pending_on g) = get-set_other w.threads h.0 o.0 running differ ∙ second in
     let k1 = keeps_resume w es told room h i a k first in
-    let alive : AreLiveNacks (nacks_of (scopes g)) (released w h.0 i).nacks = record { each = λ n. let x = nacks-resume n 0 o.0 (released w h.0 i).threads g waits in let y = k1.nacks_live n in omega arith } in
+    let alive : AreLiveNacks (nacks_of (scopes g)) (released w h.0 i).nacks = record {
+      each = λ n. let x = nacks-resume n 0 o.0 (released w h.0 i).threads g waits in let y = k1.nacks_live n in
+          omega arith;
+    } in
     rw (one, waits) (record { waits = waits; within = within; alive = alive })
 
 -- what a book keeps when both parties have gone on
-pub keeps_pair : (w : PlainWorld) (es : List PlainEntry) (told : Light → Bool) (room : Room) (h : Tid) (i : ℕ) (o : Tid) (j : ℕ) (a g : PlainGroup) (es' : List PlainEntry) (told' : Light → Bool) (w1 w2 : PlainWorld) (lit unlit : List Light) (room' : Room)
+pub keeps_pair : (w : PlainWorld) (es : List PlainEntry) (told : Light → Bool) (room : Room) (h : Tid) (i : ℕ) (o : Tid)
+    (j : ℕ) (a g : PlainGroup) (es' : List PlainEntry) (told' : Light → Bool) (w1 w2 : PlainWorld)
+    (lit unlit : List Light) (room' : Room)
     → Keeps w es told room → slice_get w.threads h.0 ≡ Some (pending_on a) → slice_get w.threads o.0 ≡ Some (pending_on g) → h.0 ≢ o.0
     → w1 ≡ released w h.0 i → w2 ≡ released w1 o.0 j
     → lit ≡ map nack_light (lost a i) ++ map nack_light (lost g j)
@@ -364,7 +461,9 @@ keeps_pair w es told room h i o j a g es' told' w1 w2 lit unlit room' k first se
     let counts : (u : ℕ) → times_awaited u all ≡ times_awaited u (bases_awaited (pending r2)) + (times_awaited u (bases a) + times_awaited u (bases g)) =
     λ u. let e = awaited-resume u 0 h.0 w.threads a first in let f = awaited-resume u 0 o.0 r1.threads g waits in omega arith in
     let nacks : lit ≡ map nack_light (lost a i ++ lost g j) = lights ∙ sym (map-append nack_light (lost a i) (lost g j)) in
-    let k3 = keeps_dim r2 r2 (without (o ∷ []) (without (h ∷ []) es)) (λ l. lit_after (map nack_light (lost g j)) [] l (lit_after (map nack_light (lost a i)) [] l (told l))) told' room out k2 refl refl
+    let k3 = keeps_dim r2 r2 (without (o ∷ []) (without (h ∷ []) es))
+    (λ l. lit_after (map nack_light (lost g j)) [] l (lit_after (map nack_light (lost a i)) [] l (told l)))
+    told' room out k2 refl refl
     (λ l. tells l ∙ ap (λ x. lit_after x unlit l (told l)) nacks ∙ ap (λ x. lit_after (map nack_light (lost a i ++ lost g j)) x l (told l)) dark
     ∙ told_dimmed (lost a i ++ lost g j) out (pair_apart all (bases a) (bases g) (bases g) (bases a)) l (told l)
     ∙ ap (λ x. cond (has_light out l) false (lit_after x [] l (told l))) (map-append nack_light (lost a i) (lost g j))
@@ -437,16 +536,20 @@ room_for_two before pushed flat1 flat2 a g i room none is1 is2 e fits1 fits2 =
     rw (is2, size) (omega (arith, few_lost, fits1, fits2))
 
 -- a row that is not in the table is refused
-pub row_refused : (w : PlainWorld) (es : List PlainEntry) (told : Light → Bool) (room : Room) (row : Meet) (has : Bool) → Keeps w es told room → has ≡ has_row (scan_of es told) row → has ≡ false → commit w row ≡ Err refusal.Row
+pub row_refused : (w : PlainWorld) (es : List PlainEntry) (told : Light → Bool) (room : Room) (row : Meet) (has : Bool)
+    → Keeps w es told room → has ≡ has_row (scan_of es told) row → has ≡ false → commit w row ≡ Err refusal.Row
 row_refused w es told room row has k is lacks =
     let none : has_row (scan w) row ≡ false = ap (λ rows. has_row rows row) (sym (scan_is w es told room k)) ∙ sym is ∙ lacks in
     rw none refl
 
 -- the scan has the row exactly where the table has it
-pub has_is : (w : PlainWorld) (es : List PlainEntry) (told : Light → Bool) (room : Room) (row : Meet) (has : Bool) → Keeps w es told room → has ≡ has_row (scan_of es told) row → has_row (scan w) row ≡ has
+pub has_is : (w : PlainWorld) (es : List PlainEntry) (told : Light → Bool) (room : Room) (row : Meet) (has : Bool)
+    → Keeps w es told room → has ≡ has_row (scan_of es told) row → has_row (scan w) row ≡ has
 has_is w es told room row has k is = ap (λ rows. has_row rows row) (sym (scan_is w es told room k)) ∙ sym is
 
 -- one that is there is in the scan
-pub row_there : (w : PlainWorld) (es : List PlainEntry) (told : Light → Bool) (room : Room) (row chosen : Meet) (has : Bool) → Keeps w es told room → has ≡ has_row (scan_of es told) row → has ≡ true → row ≡ chosen → has_row (scan w) chosen ≡ true
+pub row_there : (w : PlainWorld) (es : List PlainEntry) (told : Light → Bool) (room : Room) (row chosen : Meet)
+    (has : Bool) → Keeps w es told room → has ≡ has_row (scan_of es told) row → has ≡ true → row ≡ chosen
+    → has_row (scan w) chosen ≡ true
 row_there w es told room row chosen has k is holds same =
     ap (has_row (scan w)) (sym same) ∙ ap (λ rows. has_row rows row) (sym (scan_is w es told room k)) ∙ sym is ∙ holds

@@ -1,5 +1,36 @@
 -- What a table that was told which lights were turned off still knows.
-use Rattle.std.proofs.Common.{◌≡◌, ◌≢◌, ℕ, ◌+◌, ◌<◌, ◌≤◌, Bool, true, false, ◌&&◌, ◌||◌, nat_eq, nat_lt, nat_le, cond, List, [], ◌∷◌, ◌++◌, map, refl, ap, sym, ◌∙◌, arith, Option, Some, None, slice_index_or, subst}
+use Rattle.std.proofs.Common.{
+  ◌≡◌,
+  ◌≢◌,
+  ℕ,
+  ◌+◌,
+  ◌<◌,
+  ◌≤◌,
+  Bool,
+  true,
+  false,
+  ◌&&◌,
+  ◌||◌,
+  nat_eq,
+  nat_lt,
+  nat_le,
+  cond,
+  List,
+  [],
+  ◌∷◌,
+  ◌++◌,
+  map,
+  refl,
+  ap,
+  sym,
+  ◌∙◌,
+  arith,
+  Option,
+  Some,
+  None,
+  slice_index_or,
+  subst,
+}
 use Rattle.std.specs.Prelude.{All, Contains, slice_get, slice_set}
 use Rattle.std.specs.List.{filter}
 use Rattle.std.proofs.lemmas.Bool.Decides.{nat_tests}
@@ -56,11 +87,15 @@ waits_for bs b (of.Alarm t) e c = awaited_there t bs (subst (Contains bs) (is_al
 waits_for bs b _ e c = tt
 
 -- what was told of the lights that are waited for is told truly, if each of them is told as it is
-pub agree_waited : (es : List PlainEntry) (told told' lit lit' : Light → Bool) → ((l : Light) → Waits (bases_awaited es) l → told l ≡ lit l → told' l ≡ lit' l) → AgreeFor es told lit → AgreeFor es told' lit'
+pub agree_waited : (es : List PlainEntry) (told told' lit lit' : Light → Bool)
+    → ((l : Light) → Waits (bases_awaited es) l → told l ≡ lit l → told' l ≡ lit' l) → AgreeFor es told lit
+    → AgreeFor es told' lit'
 agree_waited es told told' lit lit' h agree = λ k d small.
     at (slice_index_or (offers_of es) k d) (light (slice_index_or (offers_of es) k d).base) refl (all_awaited es k d small) (agree k d small)
   where
-    at : (o : PlainOffer) (l : Option Light) → light o.base ≡ l → Contains (bases_awaited es) o.base → is_told told (light o.base) ≡ is_told lit (light o.base) → is_told told' (light o.base) ≡ is_told lit' (light o.base)
+    at : (o : PlainOffer) (l : Option Light) → light o.base ≡ l → Contains (bases_awaited es) o.base
+        → is_told told (light o.base) ≡ is_told lit (light o.base) → is_told told' (light o.base)
+        ≡ is_told lit' (light o.base)
     at o None e c was = rw e refl
     at o (Some l) e c was =
         let now : told' l ≡ lit' l = h l (waits_for (bases_awaited es) o.base l e c) (rw e at was) in
@@ -178,6 +213,7 @@ lit_gives w (mail_recv b) h = h
 lit_gives w (port_recv p) h = h
 lit_gives w _ h = refl
 
+-- taking a base event touches no thread
 pub taken-threads : (w : PlainWorld) (b : PlainBase) → (taken w b).threads ≡ w.threads
 taken-threads w (always v) = refl
 taken-threads w _ = refl
@@ -266,7 +302,9 @@ pub keeps_dim : (w w' : PlainWorld) (es : List PlainEntry) (told told' : Light �
     → Keeps w' es told' room
 keeps_dim w w' es told told' room unlit k threads nacks tells right = record {
   told_groups = k.told_groups ∙ ap (pending_from 0) (sym threads);
-  told_lights = subst (λ ts. AgreeFor (pending_from 0 ts) told' (light_of w')) (sym threads) (agree_waited (pending w) told told' (light_of w) (light_of w') (λ l h e. tells l ∙ ap (cond (has_light unlit l) false) e ∙ right l h) k.told_lights);
+  told_lights = subst (λ ts. AgreeFor (pending_from 0 ts) told' (light_of w')) (sym threads)
+      (agree_waited (pending w) told told' (light_of w) (light_of w')
+      (λ l h e. tells l ∙ ap (cond (has_light unlit l) false) e ∙ right l h) k.told_lights);
   nacks_live = λ j. rw (threads, nacks) (k.nacks_live j);
   roomy = k.roomy;
 }
@@ -277,7 +315,9 @@ pub right_single : (w : PlainWorld) (b : PlainBase) (all xs ys : List PlainBase)
     → (l : Light) → Waits (bases_awaited (pending w)) l → cond (has_light (turned_off w b ++ left_lights all xs ys) l) false (light_of w l) ≡ light_of (taken w b) l
 right_single w b all xs ys gives h l waits =
     let none = not_gone (bases_awaited (pending w)) all xs ys h l waits in
-    let split : has_light (turned_off w b ++ left_lights all xs ys) l ≡ has_light (turned_off w b) l = list_any-append (same_light l) (turned_off w b) (left_lights all xs ys) ∙ rw none (or_false (has_light (turned_off w b) l)) in
+    let split : has_light (turned_off w b ++ left_lights all xs ys) l
+    ≡ has_light (turned_off w b) l = list_any-append (same_light l) (turned_off w b) (left_lights all xs ys)
+    ∙ rw none (or_false (has_light (turned_off w b) l)) in
     rw split (put_out_right w b gives l)
 
 -- two threads have gone on

@@ -5,7 +5,33 @@ use Rattle.std.proofs.lemmas.List.{length-map, map-append}
 use Rattle.std.proofs.lemmas.List.Folds.{list_any-append}
 use Rattle.cml_value.specs.Value.{PlainBase, after_ticks, PlainFunction}
 use Rattle.cml_value.specs.Limits.{base_depth, base_nodes, function_depth, function_nodes, is_within, max_depth, max_nodes}
-use Rattle.cml_value.specs.Group.{PlainGroup, never, leaf, choose, wrap, scope, PlainGroups, no_groups, groups_and, groups, PlainLeaf, wrapped_by, leaves, leaves_of_all, leaf_count, bases, PlainScope, scopes, scopes_from, scopes_from_all, group_depth, groups_depth, group_nodes, groups_nodes, group_fits}
+use Rattle.cml_value.specs.Group.{
+  PlainGroup,
+  never,
+  leaf,
+  choose,
+  wrap,
+  scope,
+  PlainGroups,
+  no_groups,
+  groups_and,
+  groups,
+  PlainLeaf,
+  wrapped_by,
+  leaves,
+  leaves_of_all,
+  leaf_count,
+  bases,
+  PlainScope,
+  scopes,
+  scopes_from,
+  scopes_from_all,
+  group_depth,
+  groups_depth,
+  group_nodes,
+  groups_nodes,
+  group_fits,
+}
 use Rattle.cml_book.specs.Entering.{entered_base, entered, entered_all}
 use Rattle.cml_book.proofs.Walks.{bases_of_all, bases-groups_and, bases-wrap}
 
@@ -121,7 +147,8 @@ neither_right true b h = cc
 neither_right false b h = h
 
 -- where no base of the members is far, none of a member is
-pub near_member : (p : PlainBase → Bool) (gs : List PlainGroup) (i : ℕ) (g : PlainGroup) → i < length gs → g ≡ get_or gs i g → list_any p (bases_of_all (groups gs)) ≡ false → list_any p (bases g) ≡ false
+pub near_member : (p : PlainBase → Bool) (gs : List PlainGroup) (i : ℕ) (g : PlainGroup) → i < length gs → g
+    ≡ get_or gs i g → list_any p (bases_of_all (groups gs)) ≡ false → list_any p (bases g) ≡ false
 near_member p [] i g h is none = absurd (omega arith)
 near_member p (x ∷ gs) zero g h is none =
     let both = sym (list_any-append p (bases x) (bases_of_all (groups gs))) ∙ sym (ap (list_any p) (bases-groups_and x (groups gs))) ∙ none in

@@ -1,5 +1,39 @@
 -- What a book keeps after each kind of change.
-use Rattle.std.proofs.Common.{◌≡◌, ◌≢◌, ℕ, ◌+◌, Bool, true, false, not, ◌||◌, nat_eq, nat_lt, cond, List, [], ◌∷◌, ◌++◌, length, map, nat_le, refl, ap, sym, ◌∙◌, arith, zero, suc, Option, Some, None, Result, Ok, Err, slice_index_or}
+use Rattle.std.proofs.Common.{
+  ◌≡◌,
+  ◌≢◌,
+  ℕ,
+  ◌+◌,
+  Bool,
+  true,
+  false,
+  not,
+  ◌||◌,
+  nat_eq,
+  nat_lt,
+  cond,
+  List,
+  [],
+  ◌∷◌,
+  ◌++◌,
+  length,
+  map,
+  nat_le,
+  refl,
+  ap,
+  sym,
+  ◌∙◌,
+  arith,
+  zero,
+  suc,
+  Option,
+  Some,
+  None,
+  Result,
+  Ok,
+  Err,
+  slice_index_or,
+}
 use Rattle.std.specs.Prelude.{All, slice_get, slice_set}
 use Rattle.std.specs.List.{filter, list_any}
 use Rattle.std.proofs.lemmas.Bool.Decides.{nat_tests}
@@ -84,7 +118,8 @@ module _ (w : PlainWorld) (es : List PlainEntry) (told : Light → Bool) (room :
       })
 
   -- something was made that is no thread and no nack, and every light is as it was
-  keeps_made : {R : Type 0} (full : Bool) (why : Refusal) (made : PlainWorld) (id : R) (r : Result R Fault) (w' : PlainWorld) → made.threads ≡ w.threads → made.nacks ≡ w.nacks → StaysTrue w told made told
+  keeps_made : {R : Type 0} (full : Bool) (why : Refusal) (made : PlainWorld) (id : R) (r : Result R Fault)
+      (w' : PlainWorld) → made.threads ≡ w.threads → made.nacks ≡ w.nacks → StaysTrue w told made told
       → Does r (refuse_if full why (Ok (made, id))) w w' → Keeps w es told room → Keeps w' es told room
   keeps_made full why made id (Err (Refused x)) w' threads nacks same d k = rw d.1 k
   keeps_made full why made id (Err Memory) w' threads nacks same d k = rw d.1 k
@@ -140,7 +175,8 @@ module _ (w : PlainWorld) (es : List PlainEntry) (told : Light → Bool) (room :
       there (x ∷ xs) zero h = refl
       there (x ∷ xs) (suc i) h = there xs i h
 
-      thread : (u : Tid) (b : Bool) → nat_eq u.0 t.0 ≡ b → told (of.Joined u) ≡ has_ended (slice_get w.threads u.0) → cond (b || false) true (told (of.Joined u)) ≡ has_ended (slice_get (slice_set w.threads t.0 ended) u.0)
+      thread : (u : Tid) (b : Bool) → nat_eq u.0 t.0 ≡ b → told (of.Joined u) ≡ has_ended (slice_get w.threads u.0)
+          → cond (b || false) true (told (of.Joined u)) ≡ has_ended (slice_get (slice_set w.threads t.0 ended) u.0)
       thread u true e h = let same : t.0 ≡ u.0 = grind (arith, nat_tests) in sym (rw (← same) (there w.threads t.0 runs))
       thread u false e h = let differ : t.0 ≢ u.0 = grind (arith, nat_tests) in h ∙ sym (ap has_ended (get-set_other w.threads t.0 u.0 ended differ))
 
@@ -192,7 +228,9 @@ module _ (w : PlainWorld) (es : List PlainEntry) (told : Light → Bool) (room :
       rw waits
       (record {
         told_groups = ap (without (t ∷ [])) k.told_groups ∙ sym new;
-        told_lights = rw new (AgreeFor-without (t ∷ []) (pending w) _ (light_of w') (agree_still (pending w) told (λ l. lit_after (map nack_light (lost g n)) [] l (told l)) (light_of w) (light_of w') after k.told_lights));
+        told_lights = rw new (AgreeFor-without (t ∷ []) (pending w) _ (light_of w')
+            (agree_still (pending w) told (λ l. lit_after (map nack_light (lost g n)) [] l (told l)) (light_of w)
+            (light_of w') after k.told_lights));
         nacks_live = λ j.
             let a = nacks-resume j 0 t.0 w.threads g waits in
             let b = k.nacks_live j in
@@ -204,7 +242,8 @@ module _ (w : PlainWorld) (es : List PlainEntry) (told : Light → Bool) (room :
       alive : AreLiveNacks (nacks_of (scopes g)) w.nacks
       alive = record { each = λ j. let a = nacks-resume j 0 t.0 w.threads g waits in let b = k.nacks_live j in omega arith }
 
-      after : (l : Light) → told l ≡ light_of w l → lit_after (map nack_light (lost g n)) [] l (told l) ≡ light_of (record w { threads = slice_set w.threads t.0 running; nacks = settled n g w.nacks }) l
+      after : (l : Light) → told l ≡ light_of w l → lit_after (map nack_light (lost g n)) [] l (told l)
+          ≡ light_of (record w { threads = slice_set w.threads t.0 running; nacks = settled n g w.nacks }) l
       after (of.Joined u) e = rw (no_nack_light (lost g n) (of.Joined u) (λ j. refl)) (e ∙ sym (has_ended-set w.threads t.0 u.0 running (ap has_ended waits) refl))
       after (of.Nack m) e = rw (has_nack_light (lost g n) m, fired-settled_group n g w.nacks m.0 alive, e) (same (list_any (λ j. nat_eq j m.0) (lost g n)) (has_fired (slice_get w.nacks m.0)))
         where

@@ -12,7 +12,6 @@ pub mod Keepings
 pub mod Dimmed
 pub mod Commits
 pub mod Syncs
-pub mod Heights
 pub mod Walks
 pub mod Plain
 pub mod AwaitedLights

@@ -11,7 +11,9 @@ use Rattle.cml_scan.specs.declared.object.Light.TheVariants as of
 
 -- if the lights are as they were, what was told of them still stands
 pub agree_still : (es : List PlainEntry) (told told' lit lit' : Light → Bool) → ((l : Light) → told l ≡ lit l → told' l ≡ lit' l) → AgreeFor es told lit → AgreeFor es told' lit'
-agree_still es told told' lit lit' h agree = All-weaker (λ (o : PlainOffer). is_told told (light o.base) ≡ is_told lit (light o.base)) (λ o. is_told told' (light o.base) ≡ is_told lit' (light o.base)) (λ o e. at (light o.base) e) (offers_of es) agree
+agree_still es told told' lit lit' h agree = All-weaker
+    (λ (o : PlainOffer). is_told told (light o.base) ≡ is_told lit (light o.base))
+    (λ o. is_told told' (light o.base) ≡ is_told lit' (light o.base)) (λ o e. at (light o.base) e) (offers_of es) agree
   where
     at : (l : Option Light) → is_told told l ≡ is_told lit l → is_told told' l ≡ is_told lit' l
     at None e = refl

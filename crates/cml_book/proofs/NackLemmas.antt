@@ -1,5 +1,36 @@
 -- Which nacks are live, and which have fired, after a change.
-use Rattle.std.proofs.Common.{◌≡◌, ◌≢◌, ℕ, ◌+◌, ◌≤◌, Bool, true, false, ◌&&◌, ◌||◌, nat_eq, nat_lt, cond, List, [], ◌∷◌, ◌++◌, length, refl, ap, sym, ◌∙◌, arith, zero, suc, Option, Some, None, length-set, zero-add}
+use Rattle.std.proofs.Common.{
+  ◌≡◌,
+  ◌≢◌,
+  ℕ,
+  ◌+◌,
+  ◌≤◌,
+  Bool,
+  true,
+  false,
+  ◌&&◌,
+  ◌||◌,
+  nat_eq,
+  nat_lt,
+  cond,
+  List,
+  [],
+  ◌∷◌,
+  ◌++◌,
+  length,
+  refl,
+  ap,
+  sym,
+  ◌∙◌,
+  arith,
+  zero,
+  suc,
+  Option,
+  Some,
+  None,
+  length-set,
+  zero-add,
+}
 use Rattle.std.specs.Prelude.{slice_set, slice_get}
 use Rattle.std.specs.List.{filter, list_any, list_all}
 use Rattle.std.proofs.lemmas.List.Sums.{sum_by-append, sum_by-cons}
@@ -133,7 +164,9 @@ lives-settled n (s ∷ ss) ns k h =
     let ih = lives-settled n ss (slice_set ns s.nack (settled_one n s)) k (rest_live s.nack (nacks_of ss) ns (settled_one n s) (settled_one-dead n s) h) in
     at (nat_eq s.nack k) refl ih
   where
-    at : (b : Bool) → nat_eq s.nack k ≡ b → lives (slice_get (settled_in_turn n ss (slice_set ns s.nack (settled_one n s))) k) + times_named k (nacks_of ss) ≡ lives (slice_get (slice_set ns s.nack (settled_one n s)) k)
+    at : (b : Bool) → nat_eq s.nack k ≡ b
+        → lives (slice_get (settled_in_turn n ss (slice_set ns s.nack (settled_one n s))) k) + times_named k
+        (nacks_of ss) ≡ lives (slice_get (slice_set ns s.nack (settled_one n s)) k)
         → lives (slice_get (settled_in_turn n ss (slice_set ns s.nack (settled_one n s))) k) + times_named k (s.nack ∷ nacks_of ss) ≡ lives (slice_get ns k)
     at true e ih =
         let same : s.nack ≡ k = grind (arith, nat_tests) in

@@ -1,5 +1,39 @@
 -- What commands on objects do to what a book keeps.
-use Rattle.std.proofs.Common.{◌≡◌, ◌≢◌, ℕ, ◌<◌, Bool, true, false, nat_eq, nat_lt, cond, ◌||◌, List, [], ◌∷◌, ◌++◌, length, length-set, map, refl, ap, sym, ◌∙◌, subst, arith, zero, suc, Option, Some, None, Result, Ok, Err, slice_set}
+use Rattle.std.proofs.Common.{
+  ◌≡◌,
+  ◌≢◌,
+  ℕ,
+  ◌<◌,
+  Bool,
+  true,
+  false,
+  nat_eq,
+  nat_lt,
+  cond,
+  ◌||◌,
+  List,
+  [],
+  ◌∷◌,
+  ◌++◌,
+  length,
+  length-set,
+  map,
+  refl,
+  ap,
+  sym,
+  ◌∙◌,
+  subst,
+  arith,
+  zero,
+  suc,
+  Option,
+  Some,
+  None,
+  Result,
+  Ok,
+  Err,
+  slice_set,
+}
 use Rattle.std.specs.Prelude.{OnOk, OnErr, slice_get, is_some, is_none, unwrap_or}
 use Rattle.std.specs.Option.{option_map_or}
 use Rattle.std.proofs.lemmas.List.{map-id, length-map}
@@ -231,7 +265,9 @@ module _ (w : PlainWorld) (told told' : Light → Bool) where
       → StaysTrue w told (record w { mailboxes = added_at w.mailboxes b.0 v }) told'
   mail_true b v h lit l t = lit l ∙ (rw (lit_filled (slice_get w.mailboxes b.0)) (at (has_item (slice_get w.mailboxes b.0)) refl l t))
     where
-      at : (was : Bool) → has_item (slice_get w.mailboxes b.0) ≡ was → (l : Light) → told l ≡ light_of w l → lit_after (newly_lit was (of.Mbox b)) [] l (told l) ≡ light_of (record w { mailboxes = added_at w.mailboxes b.0 v }) l
+      at : (was : Bool) → has_item (slice_get w.mailboxes b.0) ≡ was → (l : Light) → told l ≡ light_of w l
+          → lit_after (newly_lit was (of.Mbox b)) [] l (told l)
+          ≡ light_of (record w { mailboxes = added_at w.mailboxes b.0 v }) l
       at true e (of.Mbox j) t = t ∙ sym (added_same w.mailboxes b.0 j.0 v h e)
       at true e l t = t
       at false e (of.Mbox j) t = rw t (sym (added_fills w.mailboxes b.0 j.0 v h))

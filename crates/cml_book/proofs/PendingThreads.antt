@@ -42,7 +42,9 @@ other_more ts i x tids lt is waits told = told ∙ sym (next ts i x lt is ∙ ap
 pub pending_more : (ts : List PlainThread) (i : ℕ) (x : PlainThread) (g : PlainGroup) (tid : Tid) (tids : List Tid) → i < length ts → x ≡ slice_index_or ts i x → flat_of x ≡ Some g → tid.0 ≡ i
     → map (λ t. t.0) tids ≡ map (λ e. e.thread) (pending_from 0 (take i ts)) → map (λ t. t.0) (tids ++ tid ∷ []) ≡ map (λ e. e.thread) (pending_from 0 (take (i + 1) ts))
 pending_more ts i x g tid tids lt is waits number told =
-    map-append (λ t. t.0) tids (tid ∷ []) ∙ ap (λ xs. xs ++ tid.0 ∷ []) told ∙ ap (λ k. numbers 0 (take i ts) ++ k ∷ []) number ∙ sym (next ts i x lt is ∙ ap (λ xs. numbers 0 (take i ts) ++ xs) (one_waits x i g waits))
+    map-append (λ t. t.0) tids (tid ∷ []) ∙ ap (λ xs. xs ++ tid.0 ∷ []) told
+    ∙ ap (λ k. numbers 0 (take i ts) ++ k ∷ []) number
+    ∙ sym (next ts i x lt is ∙ ap (λ xs. numbers 0 (take i ts) ++ xs) (one_waits x i g waits))
 
 pub waits_if : (r : Option (Bor PlainGroup)) (x : PlainThread) → option_copied r ≡ flat_of x → is_some r ≡ true → (g : PlainGroup) × (flat_of x ≡ Some g)
 waits_if None x e h = cc
@@ -64,7 +66,9 @@ other_counted ts i x n lt is waits told =
 pub pending_counted : (ts : List PlainThread) (i : ℕ) (x : PlainThread) (g : PlainGroup) (n : ℕ) → i < length ts → x ≡ slice_index_or ts i x → flat_of x ≡ Some g
     → n ≡ length (pending_from 0 (take i ts)) → n + 1 ≡ length (pending_from 0 (take (i + 1) ts))
 pending_counted ts i x g n lt is waits told =
-    let all : length (pending_from 0 (take (i + 1) ts)) ≡ length (numbers 0 (take i ts) ++ i ∷ []) = counted (take (i + 1) ts) ∙ ap length (next ts i x lt is ∙ ap (λ xs. numbers 0 (take i ts) ++ xs) (one_waits x i g waits)) in
+    let all : length (pending_from 0 (take (i + 1) ts))
+    ≡ length (numbers 0 (take i ts) ++ i ∷ []) = counted (take (i + 1) ts)
+    ∙ ap length (next ts i x lt is ∙ ap (λ xs. numbers 0 (take i ts) ++ xs) (one_waits x i g waits)) in
     let one : length (numbers 0 (take i ts) ++ i ∷ []) ≡ length (numbers 0 (take i ts)) + 1 = length_push (numbers 0 (take i ts)) i in
     let so_far : length (pending_from 0 (take i ts)) ≡ length (numbers 0 (take i ts)) = counted (take i ts) in
     omega (arith, all, one, so_far, told)

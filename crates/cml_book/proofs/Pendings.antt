@@ -94,7 +94,9 @@ running_is_new t n zero (running ∷ ts) e h = later t (n + 1) ts (omega arith)
 running_is_new t n zero (pending_on g ∷ ts) e h = cc
 running_is_new t n zero (ended ∷ ts) e h = cc
 running_is_new t n (suc i) (running ∷ ts) e h = running_is_new t (n + 1) i ts (omega arith) h
-running_is_new t n (suc i) (pending_on g ∷ ts) e h = All-cons (λ (x : PlainEntry). x.thread ≢ t) (record { thread = n; group = g }) (pending_from (n + 1) ts) (omega arith) (running_is_new t (n + 1) i ts (omega arith) h)
+running_is_new t n (suc i) (pending_on g ∷ ts) e h = All-cons (λ (x : PlainEntry). x.thread ≢ t)
+    (record { thread = n; group = g }) (pending_from (n + 1) ts) (omega arith)
+    (running_is_new t (n + 1) i ts (omega arith) h)
 running_is_new t n (suc i) (ended ∷ ts) e h = running_is_new t (n + 1) i ts (omega arith) h
 
 -- two threads go, one after the other

@@ -1,5 +1,36 @@
 -- Multicast channels, their ports, and the channel of each port.
-use Rattle.std.proofs.Common.{◌≡◌, ◌≢◌, ℕ, ◌<◌, Bool, true, false, nat_eq, nat_lt, ◌||◌, List, [], ◌∷◌, ◌++◌, length, map, refl, ap, sym, ◌∙◌, arith, zero, suc, Option, Some, Result, Ok, Err, slice_set, slice_index_or}
+use Rattle.std.proofs.Common.{
+  ◌≡◌,
+  ◌≢◌,
+  ℕ,
+  ◌<◌,
+  Bool,
+  true,
+  false,
+  nat_eq,
+  nat_lt,
+  ◌||◌,
+  List,
+  [],
+  ◌∷◌,
+  ◌++◌,
+  length,
+  map,
+  refl,
+  ap,
+  sym,
+  ◌∙◌,
+  arith,
+  zero,
+  suc,
+  Option,
+  Some,
+  Result,
+  Ok,
+  Err,
+  slice_set,
+  slice_index_or,
+}
 use Rattle.std.specs.Prelude.{OnOk, IsTrue, slice_get, unwrap_or}
 use Rattle.std.proofs.lemmas.List.{length-map}
 use Rattle.std.proofs.lemmas.Bool.Decides.{nat_tests}
@@ -53,7 +84,8 @@ pub room_found : (cs : List PlainMulticast) (i : ℕ) (c : PlainMulticast) → s
 room_found cs i c e h = let t : IsTrue (nat_lt 0 c.room) = rw e at h in grind (arith, nat_tests)
 
 -- one more port of a channel
-pub port_added : (cs : List PlainMulticast) (i : ℕ) (c d : PlainMulticast) (p : PortId) → slice_get cs i ≡ Some c → d.ports ≡ c.ports ++ p ∷ [] → ports_of (slice_set cs i d) ≡ with_port (ports_of cs) i p.0
+pub port_added : (cs : List PlainMulticast) (i : ℕ) (c d : PlainMulticast) (p : PortId) → slice_get cs i ≡ Some c
+    → d.ports ≡ c.ports ++ p ∷ [] → ports_of (slice_set cs i d) ≡ with_port (ports_of cs) i p.0
 port_added cs i c d p e more =
     ports_set cs i d ∙ ap (λ (ps : List ℕ). slice_set (ports_of cs) i ps)
     (ap port_numbers more ∙ numbers_push c.ports p ∙ ap (λ (ps : List ℕ). ps ++ p.0 ∷ []) (sym (ports_found cs i c e)))
@@ -71,7 +103,9 @@ has_there (p ∷ ps) (suc k) d h = or_right (nat_eq p.0 (slice_index_or ps k d).
     or_right false b e = e
 
 -- the ports of a channel have numbers below a limit
-pub each_below : (cs : List PlainMulticast) (i limit : ℕ) (c : PlainMulticast) → slice_get cs i ≡ Some c → AreBelow (ports_of cs) i limit → (k : ℕ) (d : PortId) → k < length c.ports → (slice_index_or c.ports k d).0 < limit
+pub each_below : (cs : List PlainMulticast) (i limit : ℕ) (c : PlainMulticast) → slice_get cs i ≡ Some c
+    → AreBelow (ports_of cs) i limit → (k : ℕ) (d : PortId) → k < length c.ports
+    → (slice_index_or c.ports k d).0 < limit
 each_below cs i limit c e below k d h = below (slice_index_or c.ports k d).0 (rw (ports_found cs i c e) (has_there c.ports k d h))
 
 home_bound : (hs : List ℕ) (x p : ℕ) → is_home x (slice_get hs p) ≡ true → p < length hs
@@ -132,7 +166,8 @@ numbers_of-push : (hs : List McastId) (x : McastId) → channel_numbers (hs ++ x
 numbers_of-push [] x = refl
 numbers_of-push (h ∷ hs) x = ap (λ (r : List ℕ). h.0 ∷ r) (numbers_of-push hs x)
 
-pub ports_more : (cs ds : List PlainMulticast) (hs : List McastId) (x : McastId) (n : ℕ) → x.0 < length cs → ArePorts cs hs n → ports_of ds ≡ with_port (ports_of cs) x.0 n → ArePorts ds (hs ++ x ∷ []) (suc n)
+pub ports_more : (cs ds : List PlainMulticast) (hs : List McastId) (x : McastId) (n : ℕ) → x.0 < length cs
+    → ArePorts cs hs n → ports_of ds ≡ with_port (ports_of cs) x.0 n → ArePorts ds (hs ++ x ∷ []) (suc n)
 ports_more cs ds hs x n h are e =
     let count : length (channel_numbers hs) ≡ n = length-map hs (λ (m : McastId). m.0) ∙ are.each in
     let long : x.0 < length (ports_of cs) = (let l = length-map cs (λ (c : PlainMulticast). port_numbers c.ports) in omega (arith, l)) in

@@ -26,7 +26,9 @@ posted_fills v [] queues q h = refl
 posted_fills v (p ∷ ps) queues q h =
     let here : p < length queues = h p (ap (λ (b : Bool). b || has_port ps p) (eq_self p)) in
     let rest : (r : ℕ) → has_port ps r ≡ true → r < length (added_at queues p v) = λ r k. rw (length_added queues p v) (h r (or_right (nat_eq p r) (has_port ps r) k)) in
-    posted_fills v ps (added_at queues p v) q rest ∙ ap (λ (b : Bool). has_port ps q || b) (added_fills queues p q v here) ∙ join (has_port ps q) (nat_eq q p) (nat_eq p q) (has_item (slice_get queues q)) (symmetric q p)
+    posted_fills v ps (added_at queues p v) q rest ∙ ap (λ (b : Bool). has_port ps q || b)
+    (added_fills queues p q v here) ∙ join (has_port ps q) (nat_eq q p) (nat_eq p q) (has_item (slice_get queues q))
+    (symmetric q p)
   where
     eq_self : (n : ℕ) → nat_eq n n ≡ true
     eq_self n = grind (arith, nat_tests)

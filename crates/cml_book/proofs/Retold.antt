@@ -1,5 +1,36 @@
 -- What a table knows of the lights after it was told of some, each as it is.
-use Rattle.std.proofs.Common.{◌≡◌, ℕ, ◌<◌, Bool, true, false, not, ◌&&◌, ◌||◌, nat_eq, cond, List, [], ◌∷◌, ◌++◌, length, map, refl, ap, sym, ◌∙◌, arith, zero, suc, Option, Some, None, slice_index_or, append_assoc, drop}
+use Rattle.std.proofs.Common.{
+  ◌≡◌,
+  ℕ,
+  ◌<◌,
+  Bool,
+  true,
+  false,
+  not,
+  ◌&&◌,
+  ◌||◌,
+  nat_eq,
+  cond,
+  List,
+  [],
+  ◌∷◌,
+  ◌++◌,
+  length,
+  map,
+  refl,
+  ap,
+  sym,
+  ◌∙◌,
+  arith,
+  zero,
+  suc,
+  Option,
+  Some,
+  None,
+  slice_index_or,
+  append_assoc,
+  drop,
+}
 use Rattle.std.specs.Prelude.{slice_get}
 use Rattle.std.specs.Option.{option_map}
 use Rattle.std.specs.List.{filter, list_any, cons_option}
@@ -64,10 +95,14 @@ has_light_of (x ∷ bs) (suc k) d l h e = at (light x) (has_light_of bs k d l (o
     at (Some m) ih = rw ih (or_true (same_light l m))
 
 -- the lights of a group that comes are told as they are
-pub group_told : (p : Light → Bool) (told : Light → Bool) (g : PlainGroup) → AgreeForGroup g (λ l. lit_after (filter p (lights_in (bases g))) (filter (λ x. not (p x)) (lights_in (bases g))) l (told l)) p
+pub group_told : (p : Light → Bool) (told : Light → Bool) (g : PlainGroup)
+    → AgreeForGroup g (λ l. lit_after (filter p (lights_in (bases g))) (filter (λ x. not (p x)) (lights_in (bases g))) l
+    (told l)) p
 group_told p told g = λ k d h. at (light (slice_index_or (bases g) k d)) (λ l e. has_light_of (bases g) k d l h e)
   where
-    at : (o : Option Light) → ((l : Light) → o ≡ Some l → has_light (lights_in (bases g)) l ≡ true) → is_told (λ l. lit_after (filter p (lights_in (bases g))) (filter (λ x. not (p x)) (lights_in (bases g))) l (told l)) o ≡ is_told p o
+    at : (o : Option Light) → ((l : Light) → o ≡ Some l → has_light (lights_in (bases g)) l ≡ true)
+        → is_told (λ l. lit_after (filter p (lights_in (bases g))) (filter (λ x. not (p x)) (lights_in (bases g))) l
+        (told l)) o ≡ is_told p o
     at None h = refl
     at (Some l) h = newly_told p (lights_in (bases g)) l (told l) (h l refl)
 

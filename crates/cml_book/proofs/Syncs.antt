@@ -32,7 +32,8 @@ not_among : (p : Light → Bool) (ls : List Light) (l : Light) → p l ≡ true 
 not_among p [] l h = refl
 not_among p (m ∷ ls) l h = at (p m) (same_light l m) refl refl (not_among p ls l h)
   where
-    at : (b s : Bool) → p m ≡ b → same_light l m ≡ s → has_light (filter (λ x. not (p x)) ls) l ≡ false → has_light (cond (not b) (m ∷ filter (λ x. not (p x)) ls) (filter (λ x. not (p x)) ls)) l ≡ false
+    at : (b s : Bool) → p m ≡ b → same_light l m ≡ s → has_light (filter (λ x. not (p x)) ls) l ≡ false
+        → has_light (cond (not b) (m ∷ filter (λ x. not (p x)) ls) (filter (λ x. not (p x)) ls)) l ≡ false
     at true s e f ih = ih
     at false true e f ih = let same : l ≡ m = same_light_is l m f in let on : p m ≡ true = ap p (sym same) ∙ h in cc
     at false false e f ih = rw f ih
@@ -45,7 +46,8 @@ lights_apart p ls = each ls
     each [] = All-nil _
     each (m ∷ ms) = at (p m) refl (each ms)
       where
-        at : (b : Bool) → p m ≡ b → All (λ l. has_light (filter (λ x. not (p x)) ls) l ≡ false) (filter p ms) → All (λ l. has_light (filter (λ x. not (p x)) ls) l ≡ false) (cond b (m ∷ filter p ms) (filter p ms))
+        at : (b : Bool) → p m ≡ b → All (λ l. has_light (filter (λ x. not (p x)) ls) l ≡ false) (filter p ms)
+            → All (λ l. has_light (filter (λ x. not (p x)) ls) l ≡ false) (cond b (m ∷ filter p ms) (filter p ms))
         at true e ih = All-cons (λ (l : Light). has_light (filter (λ x. not (p x)) ls) l ≡ false) m (filter p ms) (not_among p ls m e) ih
         at false e ih = ih
 
@@ -59,7 +61,9 @@ enters_flat w t g flat a is =
     subst (λ xs. CanEnter t xs w.nacks) (sym ks) (can_enter_is w t (nacks_of (scopes g)) a.enters)
 
 -- what a book keeps when a group has arrived
-pub keeps_arrives : (w : PlainWorld) (es : List PlainEntry) (told : Light → Bool) (room : Room) (t : ℕ) (g flat : PlainGroup) (room' : Room) (es' : List PlainEntry) (told' : Light → Bool) (lit unlit : List Light) (shown : PlainGroup)
+pub keeps_arrives : (w : PlainWorld) (es : List PlainEntry) (told : Light → Bool) (room : Room) (t : ℕ)
+    (g flat : PlainGroup) (room' : Room) (es' : List PlainEntry) (told' : Light → Bool) (lit unlit : List Light)
+    (shown : PlainGroup)
     → Keeps w es told room → Accepted w t g → flat ≡ entered w.tick g
     → FitsIn flat room' → ((x : PlainGroup) → FitsIn x room → FitsIn x room')
     → shown ≡ flat → es' ≡ with_entry (record { thread = t; group = shown }) (without [] es)

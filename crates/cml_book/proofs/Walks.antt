@@ -4,7 +4,29 @@ use Rattle.std.specs.List.{list_all, list_any}
 use Rattle.std.proofs.lemmas.List.{map-append}
 use Rattle.std.proofs.lemmas.List.Folds.{list_all-append}
 use Rattle.cml_value.specs.Value.{PlainBase, PlainFunction}
-use Rattle.cml_value.specs.Group.{PlainGroup, never, leaf, choose, wrap, scope, PlainGroups, no_groups, groups_and, groups, PlainLeaf, wrapped_by, leaves, leaves_of_all, leaf_count, bases, PlainScope, scopes, scopes_from, scopes_from_all, nacks_of}
+use Rattle.cml_value.specs.Group.{
+  PlainGroup,
+  never,
+  leaf,
+  choose,
+  wrap,
+  scope,
+  PlainGroups,
+  no_groups,
+  groups_and,
+  groups,
+  PlainLeaf,
+  wrapped_by,
+  leaves,
+  leaves_of_all,
+  leaf_count,
+  bases,
+  PlainScope,
+  scopes,
+  scopes_from,
+  scopes_from_all,
+  nacks_of,
+}
 use Rattle.std.specs.Prelude.{slice_get, slice_set}
 use Rattle.cml_book.specs.Entering.{is_far}
 use Rattle.cml_book.specs.Sync.{with_each}
@@ -29,7 +51,9 @@ groups-drop : (gs : List PlainGroup) (i : ℕ) (g : PlainGroup) → i < length g
 groups-drop gs i g h is = rw add-one (ap groups (drop-cons gs i g h) ∙ ap (λ x. groups_and x (groups (drop (suc i) gs))) (sym is))
 
 -- the test of the bases goes on where a member passes
-pub bases_go_on : (p : PlainBase → Bool) (gs : List PlainGroup) (i : ℕ) (g : PlainGroup) → i < length gs → g ≡ get_or gs i g → list_all p (bases g) ≡ true → list_all p (bases_of_all (groups (drop i gs))) ≡ list_all p (bases_of_all (groups (drop (i + 1) gs)))
+pub bases_go_on : (p : PlainBase → Bool) (gs : List PlainGroup) (i : ℕ) (g : PlainGroup) → i < length gs → g
+    ≡ get_or gs i g → list_all p (bases g) ≡ true → list_all p (bases_of_all (groups (drop i gs)))
+    ≡ list_all p (bases_of_all (groups (drop (i + 1) gs)))
 bases_go_on p gs i g h is passes =
     let rest = groups (drop (i + 1) gs) in
     let both : list_all p (bases_of_all (groups (drop i gs))) ≡ list_all p (bases g ++ bases_of_all rest) =
@@ -67,7 +91,9 @@ nacks-groups_and g gs =
     cc
 
 -- the test of the nacks goes on where a member passes
-pub nacks_go_on : (p : ℕ → Bool) (gs : List PlainGroup) (i : ℕ) (g : PlainGroup) → i < length gs → g ≡ get_or gs i g → list_all p (nacks_of (scopes g)) ≡ true → list_all p (nacks_of_all (groups (drop i gs))) ≡ list_all p (nacks_of_all (groups (drop (i + 1) gs)))
+pub nacks_go_on : (p : ℕ → Bool) (gs : List PlainGroup) (i : ℕ) (g : PlainGroup) → i < length gs → g ≡ get_or gs i g
+    → list_all p (nacks_of (scopes g)) ≡ true → list_all p (nacks_of_all (groups (drop i gs)))
+    ≡ list_all p (nacks_of_all (groups (drop (i + 1) gs)))
 nacks_go_on p gs i g h is passes =
     let rest = groups (drop (i + 1) gs) in
     let both : list_all p (nacks_of_all (groups (drop i gs))) ≡ list_all p (nacks_of (scopes g) ++ nacks_of_all rest) =

@@ -1,17 +1,19 @@
 //! The parties of a row that is taken.
 
-ghost use Rattle.std.specs.Prelude.{◌≡◌, ◌≤◌, ◌+◌, ◌++◌, true, false, Some, None, IsTrue, IsOk, IsSome, IfOk, OnOk, OnErr, length, map, slice_get, slice_set};
+ghost use Rattle.std.specs.Prelude.{◌≡◌, ℕ, ◌<◌, ◌≤◌, ◌+◌, ◌^◌, ◌++◌, true, false, Some, None, IsTrue, IsOk, IsSome, IfOk, OnOk, OnErr, length, map, slice_get, slice_set};
 ghost use Rattle.std.specs.Option.{option_copied, option_and_then, option_map_or};
 ghost use Rattle.std.specs.Vec.{vec_capacity};
-ghost use Rattle.cml_value.specs.Group.{scopes, nacks_of, lost};
+ghost use Rattle.cml_value.specs.Group.{bases, leaf_count, scopes, nacks_of, lost};
 ghost use Rattle.cml_base.specs.Registered.{lit_at};
+ghost use Rattle.cml_signal.specs.Clocks.{leaves_at};
+ghost use Rattle.cml_group.specs.LaidOut.{max_leaves};
 ghost use Rattle.cml_group.specs.Leaves.{pick, numbers};
 ghost use Rattle.cml_scan.specs.World.{running, pending_on, live};
 ghost use Rattle.cml_book.specs.Outcomes.{with_thread};
 ghost use Rattle.cml_book.specs.Sync.{with_each};
 ghost use Rattle.cml_book.specs.Commit as spec;
-ghost use Rattle.cml_book.specs.Commit.{awaited, base_awaited, group_awaited, released, copied, is_read};
-ghost use Rattle.cml_book.specs.Keeping.{AreFresh, Counts};
+ghost use Rattle.cml_book.specs.Commit.{awaited, base_awaited, group_awaited, released, settled, copied, is_read};
+ghost use Rattle.cml_book.specs.Keeping.{AreFresh, AreLiveNacks, Counts, times_awaited};
 ghost use Rattle.cml_book.specs.Leaving.{can_give, turned_off};
 ghost use Rattle.cml_book.specs.Parties.{WaitsOn};
 ghost use Rattle.cml_book.specs.Swaps.{is_swap, are_swaps};
@@ -40,11 +42,12 @@ impl State {
         ensures ok { OnOk result (self.new ≡ with_thread self.old thread.0 (pending_on flat)) }
         ensures err { OnErr result (self.new ≡ self.old) }
     {
-        let Ok(()) = flat.count_ticks(&mut self.clock) else {
-            drop(flat);
+        // counted where it stands from now on: so the group is moved once
+        put(&mut self.threads, thread, Thread::pending(flat));
+        let Ok(()) = count_all(&mut self.clock, &self.threads, thread) else {
+            put(&mut self.threads, thread, Thread::running());
             return Err(AllocError);
         };
-        put(&mut self.threads, thread, Thread::pending(flat));
         Ok(())
     }
 
@@ -109,8 +112,9 @@ impl State {
             ≡ Some (record { base = result.base; wraps = result.wraps.items }) }
         ensures lost { numbers result.lost.items ≡ lost (group_awaited self.old thread.0) leaf }
     {
+        // settled and uncounted where it stands: so the group is moved once
+        settle_all(&mut self.nacks, &self.threads, thread, leaf as usize);
         let flat = release(&mut self.threads, &mut self.clock, thread);
-        settle(&mut self.nacks, &flat, leaf as usize);
         flat.choose(leaf as usize)
     }
 
@@ -214,12 +218,48 @@ fn release(threads: &mut Vec<Thread>, clock: &mut Clock, thread: Tid) -> Flat
     if place >= threads.len() {
         unreachable!();
     }
-    let waiting = &mut threads[place];
-    let Some(flat) = waiting.release() else {
+    let Some(counted) = threads[place].flat() else {
         unreachable!();
     };
-    uncount_ticks(clock, &flat, flat.len());
+    uncount_ticks(clock, counted.flat(), counted.len());
+    let Some(flat) = threads[place].release() else {
+        unreachable!();
+    };
     flat
+}
+
+// Counts the leaves that wait for a tick of the group that the thread waits on, if it waits: all or none.
+fn count_all(clock: &mut Clock, threads: &Vec<Thread>, thread: Tid) -> Result<(), AllocError>
+    requires { (t : ℕ) → leaves_at clock.old.waited t < 2 ^ 63 }
+    ensures ok { OnOk result ((t : ℕ) → leaves_at clock.new.waited t
+        ≡ leaves_at clock.old.waited t + times_awaited t (bases (awaited (slice_get threads.now.items thread.0)))) }
+    ensures err { OnErr result ((t : ℕ) → leaves_at clock.new.waited t ≡ leaves_at clock.old.waited t) }
+    ensures now { clock.new.tick ≡ clock.old.tick }
+    ensures few { leaf_count (awaited (slice_get threads.now.items thread.0)) ≤ max_leaves }
+{
+    let Some(found) = threads.get(thread.0 as usize) else {
+        return Ok(());
+    };
+    match found.flat() {
+        Some(flat) => flat.count_ticks(clock),
+        None => Ok(()),
+    }
+}
+
+// Settles the nacks of the group that the thread waits on, which goes on from this leaf.
+fn settle_all(cells: &mut Register<NackCell>, threads: &Vec<Thread>, thread: Tid, leaf: usize)
+    requires leaf { leaf < leaf_count (awaited (slice_get threads.now.items thread.0)) }
+    requires alive { AreLiveNacks (nacks_of (scopes (awaited (slice_get threads.now.items thread.0)))) cells.old.objects }
+    ensures objects { cells.new.objects ≡ settled leaf (awaited (slice_get threads.now.items thread.0)) cells.old.objects }
+    ensures waits { cells.new.waits ≡ cells.old.waits }
+{
+    let Some(found) = threads.get(thread.0 as usize) else {
+        unreachable!();
+    };
+    let Some(flat) = found.flat() else {
+        unreachable!();
+    };
+    settle(cells, flat.flat(), leaf);
 }
 
 // Makes the nacks of the group that the thread waits on live, if it waits.

@@ -255,7 +255,9 @@ pub(crate) fn put(threads: &mut Vec<Thread>, thread: Tid, so: Thread)
 {
     let place = thread.0 as usize;
     if place < threads.len() {
-        threads[place] = so;
+        threads[place].put(so);
+    } else {
+        so.lose();
     }
 }
 

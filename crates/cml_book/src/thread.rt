@@ -97,6 +97,32 @@ impl Thread {
         }
     }
 
+    /// Puts it into this state. Only where it waits is there a group to be given up, and that is done apart.
+    pub fn put(&mut self, so: Thread)
+        ensures { self.new ≡ so }
+    {
+        match &self.doing {
+            Doing::Pending(_) => self.give_up(so),
+            Doing::Running | Doing::Ended => {
+                *self = so;
+            }
+        }
+    }
+
+    // Puts it into this state, and gives up the group that it waited on.
+    #[inline(never)]
+    fn give_up(&mut self, so: Thread)
+        ensures { self.new ≡ so }
+    {
+        *self = so;
+    }
+
+    /// Ends with nothing kept of it. It stands apart, so that who puts a thread into its place need not look at all of it.
+    #[inline(never)]
+    pub fn lose(self) {
+        drop(self);
+    }
+
     /// Has it run from now on. Returns the group that it waited on, if it did.
     pub fn release(&mut self) -> Option<Flat>
         ensures value { result ≡ flat_of self.old }

@@ -1,5 +1,40 @@
 -- What the number of offers below a bound says of where they stand.
-use Rattle.std.proofs.Common.{◌≡◌, ◌≢◌, ℕ, zero, suc, ◌*◌, ◌+◌, ◌-◌, ◌<◌, ◌≤◌, ◌^◌, Bool, true, false, not, ◌&&◌, ◌||◌, nat_eq, nat_lt, nat_le, cond, List, [], ◌∷◌, ◌++◌, take, drop, length, get_or, refl, ap, sym, ◌∙◌, arith}
+use Rattle.std.proofs.Common.{
+  ◌≡◌,
+  ◌≢◌,
+  ℕ,
+  zero,
+  suc,
+  ◌*◌,
+  ◌+◌,
+  ◌-◌,
+  ◌<◌,
+  ◌≤◌,
+  ◌^◌,
+  Bool,
+  true,
+  false,
+  not,
+  ◌&&◌,
+  ◌||◌,
+  nat_eq,
+  nat_lt,
+  nat_le,
+  cond,
+  List,
+  [],
+  ◌∷◌,
+  ◌++◌,
+  take,
+  drop,
+  length,
+  get_or,
+  refl,
+  ap,
+  sym,
+  ◌∙◌,
+  arith,
+}
 use Rattle.std.specs.List.{filter, list_any}
 use Rattle.std.proofs.lemmas.Bool.Decides.{nat_tests}
 use Rattle.std.proofs.lemmas.List.{length-append, get_or_append_left, get_or-append_right, get_or-take, get_or-drop, nil_from_length}
@@ -53,7 +88,10 @@ counted bound (p ∷ ps) zero d up within = at (under bound p) refl
 counted bound (p ∷ ps) (suc k) d up within = at (under bound p) refl (counted bound ps k d up.1 (omega arith))
   where
     at : (b : Bool) → under bound p ≡ b → IsCounted bound ps k (get_or ps k d) → IsCounted bound (p ∷ ps) (suc k) (get_or ps k d)
-    at true e rest = record { below = λ in_. let h : k < count_under bound ps = rest.below in_ in rw e (omega arith); above = λ out. let h : count_under bound ps ≤ k = rest.above out in rw e (omega arith) }
+    at true e rest = record {
+      below = λ in_. let h : k < count_under bound ps = rest.below in_ in rw e (omega arith);
+      above = λ out. let h : count_under bound ps ≤ k = rest.above out in rw e (omega arith);
+    }
     at false e rest =
         let none : filter (under bound) ps ≡ [] = none_under bound p ps up.0 e in
         let zero_count : count_under bound ps ≡ 0 = ap length none in
@@ -106,7 +144,9 @@ pub inserted : (tid : Tid) (leaves : List ℕ) (ps : List Place) → Ascends bef
     → take (count_under (Below tid) ps) ps ++ (run tid leaves ++ drop (count_under (Below tid) ps) ps) ≡ with_run tid leaves ps
 inserted tid leaves ps up away =
     let s = split (Below tid) ps up in
-    let back : filter (λ q. not (nat_lt q.tid.0 tid.0)) ps ≡ filter (λ q. nat_lt tid.0 q.tid.0) ps = filter_same (λ q. not (nat_lt q.tid.0 tid.0)) (λ q. nat_lt tid.0 q.tid.0) (is_others tid) ps (above_is tid) away in
+    let back : filter (λ q. not (nat_lt q.tid.0 tid.0)) ps
+    ≡ filter (λ q. nat_lt tid.0 q.tid.0) ps = filter_same (λ q. not (nat_lt q.tid.0 tid.0))
+    (λ q. nat_lt tid.0 q.tid.0) (is_others tid) ps (above_is tid) away in
     rw (s.front, s.back, back) refl
 
 pub Ascends-filter : (f : Place → Bool) (ps : List Place) → Ascends before ps → Ascends before (filter f ps)
@@ -147,8 +187,12 @@ Ascends-with tid leaves ps up ls =
     let low : Place → Bool = λ q. nat_lt q.tid.0 tid.0 in
     let high : Place → Bool = λ q. nat_lt tid.0 q.tid.0 in
     let back : Ascends before (run tid leaves ++ filter high ps) =
-    Ascends-join (is_own tid) high (run tid leaves) (filter high ps) (λ p q e f. own_high p.tid.0 p.leaf q.tid.0 q.leaf tid.0 e f) (Ascends-run tid leaves ls) (Ascends-filter high ps up) (Every-run tid leaves) (Every-passes high ps) in
-    Ascends-join low (λ q. not (low q)) (filter low ps) (run tid leaves ++ filter high ps) (λ p q e f. low_high p.tid.0 p.leaf q.tid.0 q.leaf tid.0 e f) (Ascends-filter low ps up) back (Every-passes low ps)
+    Ascends-join (is_own tid) high (run tid leaves) (filter high ps)
+    (λ p q e f. own_high p.tid.0 p.leaf q.tid.0 q.leaf tid.0 e f) (Ascends-run tid leaves ls)
+    (Ascends-filter high ps up) (Every-run tid leaves) (Every-passes high ps) in
+    Ascends-join low (λ q. not (low q)) (filter low ps) (run tid leaves ++ filter high ps)
+    (λ p q e f. low_high p.tid.0 p.leaf q.tid.0 q.leaf tid.0 e f) (Ascends-filter low ps up) back
+    (Every-passes low ps)
     (Every-append (λ q. not (low q)) (run tid leaves) (filter high ps) (agree_at (is_own tid) (λ q. not (low q)) (run tid leaves) (λ q e. own_not_low q.tid.0 tid.0 e) (Every-run tid leaves))
     (agree_at high (λ q. not (low q)) (filter high ps) (λ q e. high_not_low q.tid.0 tid.0 e) (Every-passes high ps)))
   where
@@ -245,7 +289,9 @@ others_many tid ps up =
     let r = others_are tid ps up in
     let low : count_under (Below tid) ps ≤ count_under (UpTo tid) ps = r.low in
     let both : count_under (UpTo tid) ps + length (filter (λ q. not (under (UpTo tid) q)) ps) ≡ length ps = length-filter_both (under (UpTo tid)) (λ q. not (under (UpTo tid) q)) (λ _. refl) ps in
-    let sum : length (others tid ps) ≡ count_under (Below tid) ps + length (filter (λ q. not (under (UpTo tid) q)) ps) = ap length r.are ∙ length-append (filter (under (Below tid)) ps) (filter (λ q. not (under (UpTo tid) q)) ps) in
+    let sum : length (others tid ps) ≡ count_under (Below tid) ps + length (filter (λ q. not (under (UpTo tid) q)) ps) =
+    ap length r.are ∙ length-append (filter (under (Below tid)) ps)
+    (filter (λ q. not (under (UpTo tid) q)) ps) in
     let parts : length (filter (is_own tid) ps) + length (others tid ps) ≡ length ps = length-filter_both (is_own tid) (is_others tid) (λ _. refl) ps in
     record { low = low; high = omega arith; many = omega arith; own = omega arith }
 
@@ -262,7 +308,8 @@ other_low tid ps j d up low =
     ∙ ap (λ qs. get_or qs j d) (sym (split (Below tid) ps up).front)
     ∙ get_or-take (count_under (Below tid) ps) ps j d low
 
-pub other_high : (tid : Tid) (ps : List Place) (j : ℕ) (d : Place) → Ascends before ps → count_under (Below tid) ps ≤ j → get_or (others tid ps) j d ≡ get_or ps (count_under (UpTo tid) ps + (j - count_under (Below tid) ps)) d
+pub other_high : (tid : Tid) (ps : List Place) (j : ℕ) (d : Place) → Ascends before ps → count_under (Below tid) ps ≤ j
+    → get_or (others tid ps) j d ≡ get_or ps (count_under (UpTo tid) ps + (j - count_under (Below tid) ps)) d
 other_high tid ps j d up high =
     ap (λ qs. get_or qs j d) (others_are tid ps up).are
     ∙ get_or-append_right (filter (under (Below tid)) ps) (filter (λ q. not (under (UpTo tid) q)) ps) (count_under (Below tid) ps) j d refl high
@@ -278,7 +325,8 @@ any_none t (x ∷ xs) e = at (t x) e (any_none t xs)
     at false e k = k e
 
 -- where the first and the last offer are the thread's, all are
-no_others : (tid : Tid) (ps : List Place) (d e : Place) → Ascends before ps → 0 < length ps → (get_or ps 0 d).tid.0 ≡ tid.0 → (get_or ps (length ps - 1) e).tid.0 ≡ tid.0 → list_any (is_others tid) ps ≡ false
+no_others : (tid : Tid) (ps : List Place) (d e : Place) → Ascends before ps → 0 < length ps → (get_or ps 0 d).tid.0
+    ≡ tid.0 → (get_or ps (length ps - 1) e).tid.0 ≡ tid.0 → list_any (is_others tid) ps ≡ false
 no_others tid ps d e up some first last =
     let low : count_under (Below tid) ps ≤ 0 = (counted (Below tid) ps 0 d up some).above (own_low tid (get_or ps 0 d) first) in
     let high : length ps - 1 < count_under (UpTo tid) ps = (counted (UpTo tid) ps (length ps - 1) e up (omega arith)).below (own_high tid (get_or ps (length ps - 1) e) last) in
@@ -287,7 +335,8 @@ no_others tid ps d e up some first last =
     any_none (is_others tid) ps (nil_from_length (others tid ps) none)
 
 -- where the first offer is the thread's, the last one tells
-pub last_tells : (tid : Tid) (ps : List Place) (d e : Place) → Ascends before ps → 0 < length ps → (get_or ps 0 d).tid.0 ≡ tid.0 → not (nat_eq (get_or ps (length ps - 1) e).tid.0 tid.0) ≡ list_any (is_others tid) ps
+pub last_tells : (tid : Tid) (ps : List Place) (d e : Place) → Ascends before ps → 0 < length ps → (get_or ps 0 d).tid.0
+    ≡ tid.0 → not (nat_eq (get_or ps (length ps - 1) e).tid.0 tid.0) ≡ list_any (is_others tid) ps
 last_tells tid ps d e up some first = at (nat_eq (get_or ps (length ps - 1) e).tid.0 tid.0) refl
   where
     same : (a b : ℕ) → nat_eq a b ≡ true → a ≡ b
@@ -353,7 +402,8 @@ last_above tid ps e up some = at (nat_lt tid.0 (get_or ps (length ps - 1) e).tid
         sym (any_none (is_of (Above tid)) ps (nil_from_length (those (Above tid) ps) none))
 
 -- the same, where this many of the offers are not of those threads
-pub above_behind : (tid : Tid) (ps : List Place) (own j : ℕ) (d : Place) → Ascends before ps → own + length (those (Above tid) ps) ≡ length ps → get_or (those (Above tid) ps) j d ≡ get_or ps (own + j) d
+pub above_behind : (tid : Tid) (ps : List Place) (own j : ℕ) (d : Place) → Ascends before ps
+    → own + length (those (Above tid) ps) ≡ length ps → get_or (those (Above tid) ps) j d ≡ get_or ps (own + j) d
 above_behind tid ps own j d up rest =
     let m = above_many tid ps in
     let same : count_under (UpTo tid) ps ≡ own = omega (arith, m.many, rest) in

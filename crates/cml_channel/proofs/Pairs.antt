@@ -109,11 +109,14 @@ module _ {S : Type 0} (kind : PairedKind) (key_of : S → ℕ) (is_head : S → 
   led_by_place (Some s) (Some t) = at (is_head s) refl
     where
       at : (h : Bool) → is_head s ≡ h → h && meet s t ≡ h && (same_object (record { kind = kind; number = key_of s }) (record { kind = kind; number = key_of t }) && beq (one_lane kind) (is_head t))
-      at true e = heads s t e ∙ ap (λ b. b && beq lane (is_head t)) (sym (alike (key_of s) (key_of t))) ∙ ap (λ l. same_object (record { kind = kind; number = key_of s }) (record { kind = kind; number = key_of t }) && beq l (is_head t)) (sym is)
+      at true e = heads s t e ∙ ap (λ b. b && beq lane (is_head t)) (sym (alike (key_of s) (key_of t)))
+          ∙ ap (λ l. same_object (record { kind = kind; number = key_of s }) (record { kind = kind; number = key_of t })
+          && beq l (is_head t)) (sym is)
       at false e = refl
 
 -- two base events are the sides of one communication where they are sides of one kind that meet, the first as the head
-as_sides : (b c : PlainBase) → meets b c ≡ led_in channels.is_sender channels.meet (channels.side_in b) (channels.side_in c) || led_in swaps.can_stand_first swaps.meet (swaps.side_in b) (swaps.side_in c)
+as_sides : (b c : PlainBase) → meets b c ≡ led_in channels.is_sender channels.meet (channels.side_in b)
+    (channels.side_in c) || led_in swaps.can_stand_first swaps.meet (swaps.side_in b) (swaps.side_in c)
 as_sides (send c v) (recv d) = sym (or_false (nat_eq c d))
 as_sides (send c v) (send d w) = refl
 as_sides (send c v) _ = refl

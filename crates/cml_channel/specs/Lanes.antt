@@ -33,7 +33,7 @@ is_of (of.Above tid) q = nat_lt tid.0 q.tid.0
 abbrev pub those : PartnerThreads → List Place → List Place
 those partner_threads ps = filter (is_of partner_threads) ps
 
--- these leaves of the thread, as offers
+-- a run: the offers of these leaves of one thread, which stand side by side
 abbrev pub run : Tid → List ℕ → List Place
 run tid leaves = map (λ leaf. record { tid = tid; leaf = leaf }) leaves
 

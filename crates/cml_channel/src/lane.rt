@@ -44,7 +44,7 @@ enum Bound {
 }
 
 /// Offers of leaves by thread and leaf, as those of one side of one channel. The offers of one thread
-/// come and go at once. An offer can be read only by [`Lane::look`], which counts the look.
+/// are put in and taken out together. An offer can be read only by [`Lane::look`], which counts the look.
 #[derive(Drop)]
 pub struct Lane {
     places: Vec<Place>,
@@ -125,7 +125,7 @@ impl Lane {
         ensures cost { (digits : ℕ) → length self.now.places < 2 ^ digits →
             tally.new ≤ tally.old + 2 * digits }
     {
-        // Read for the proof alone, which uses what is promised of it.
+        // No effect: named here so that the prover knows what holds of it.
         let _ = &self.places;
         match partner_threads {
             PartnerThreads::Others(tid) => {
@@ -144,7 +144,7 @@ impl Lane {
         ensures cost { (digits : ℕ) → length self.now.places < 2 ^ digits →
             tally.new ≤ tally.old + (2 * digits + 1) }
     {
-        // Read for the proof alone, which uses what is promised of it.
+        // No effect: named here so that the prover knows what holds of it.
         let _ = &self.places;
         let _len = self.len();
         match partner_threads {
@@ -166,7 +166,7 @@ impl Lane {
         ensures value { result ≡ list_any (spec.is_of partner_threads) self.now.places }
         ensures cost { tally.new ≤ tally.old + 2 }
     {
-        // Read for the proof alone, which uses what is promised of it.
+        // No effect: named here so that the prover knows what holds of it.
         let _ = &self.places;
         let len = self.len();
         if len == 0 {
@@ -235,7 +235,7 @@ fn is_under(bound: Bound, place: Place) -> bool
     }
 }
 
-// Appends the offers. It takes no memory.
+// Appends the offers of these leaves of one thread, which stand side by side (a run). It takes no memory.
 fn push_run(places: &mut Vec<Place>, tid: Tid, leaves: &[u32])
     requires { length leaves.now ≤ vec_capacity places.old - vec_len places.old }
     ensures items { places.new.items ≡ places.old.items ++ spec.run tid leaves.now }
@@ -260,7 +260,7 @@ fn move_tail_to(places: &mut [Place], tail: usize, at: usize)
     }
 }
 
-// Takes this many offers away from the place `at` on.
+// Takes a run of this many offers away from the place `at` on.
 fn remove_run(places: &mut Vec<Place>, at: usize, count: usize)
     requires { at + count ≤ length places.old.items }
     ensures items { places.new.items ≡ take at places.old.items ++ drop (at + count) places.old.items }

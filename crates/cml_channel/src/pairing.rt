@@ -49,8 +49,9 @@ impl PairedKind {
         }
     }
 
-    /// Which offers of that lane an offer of this thread meets as the head: those of all other threads; where all sides are alike, those of
-    /// the threads above it alone, so that each pair stands once, the lower thread first.
+    /// The partners of a head of this thread, in the lane where its partners stand: the offers of all other threads;
+    /// where all sides are alike, those of the threads above it alone, so that each pair stands once, the lower thread
+    /// first.
     pub fn partner_threads(self, tid: Tid) -> PartnerThreads
         ensures { result ≡ spec.partner_threads self tid }
     {
@@ -62,7 +63,7 @@ impl PairedKind {
     }
 }
 
-// The place of the side that the base event is, if it is one of this kind.
+// Where an offer of this base event stands, if the base event is one of this kind.
 fn place_in<P: Paired>(kind: PairedKind, base: &Base) -> Option<SidePlace>
     ensures { result ≡ spec.placed kind P.key_of P.is_head (P.side_of base.now) }
 {
@@ -75,7 +76,7 @@ fn place_in<P: Paired>(kind: PairedKind, base: &Base) -> Option<SidePlace>
     }
 }
 
-/// The place of the side that the base event is. `None`: it is none of an object over which two threads meet.
+/// Where an offer of this base event stands. `None`: it is neither a send or a receive on a channel, nor a swap.
 pub fn place(base: &Base) -> Option<SidePlace>
     ensures { result ≡ spec.side_place base.now }
 {
@@ -86,8 +87,9 @@ pub fn place(base: &Base) -> Option<SidePlace>
 }
 
 impl SidePlace {
-    // Whether offers at the two places are the sides of one communication, the first as its head: the first can stand first, and the
-    // second stands with those whom it meets.
+    // Whether an offer at this place can be the head of one at the other: this one can be a head, both are on one
+    // object, and the other is in the lane of partners. On a channel that is the lane of the receivers, which are no
+    // heads. A swap channel has one lane alone, and all in it can be heads.
     fn leads(&self, other: &SidePlace) -> bool
         ensures { result ≡ spec.leads self.now other.now }
     {
@@ -95,8 +97,8 @@ impl SidePlace {
     }
 }
 
-/// Whether leaves of the two threads that wait for these base events communicate, the first as the head. It is asked of a row that is
-/// named, as at a commit; partners are looked for in lanes.
+/// Whether leaves of the two threads that wait for these base events communicate, the first as the head. The program does not ask this: of
+/// a row that is named it asks `do_meet` of `cml_index`, and partners are looked for in lanes.
 #[tactic(auto, using(crate::proofs::Pairs::do_meet_by_place))]
 pub fn do_meet(head: Tid, first: &Base, other: Tid, second: &Base) -> bool
     ensures { result ≡ do_meet_in_scan head.0 first.now other.0 second.now }

@@ -12,8 +12,8 @@ pub struct SwapSide {
     pub value: Value,
 }
 
-/// Swap channels, as a kind of object over which two threads meet. Any two swaps on one meet. Each can stand first; that the one of the
-/// lower thread does is decided by `PairedKind::partner_threads`.
+/// Swap channels, as a kind of object over which two threads meet. Any two swaps on one swap channel meet. Each can
+/// stand first; `PairedKind::partner_threads` decides that the lower thread's does.
 pub struct SwapChannels;
 
 impl Paired for SwapChannels {

@@ -72,6 +72,12 @@ pub contents-lone : (name : List ℕ) (names : List (List ℕ)) (bytes : List �
 contents-lone name names bytes n ns a =
     (lone name a.0 nothing, (right_element name names bytes n ns a, refl), ap (λ x. lone_element name x) a.3 ∙ sym (append-nil (lone_element name (flat_map attribute_text a.0))))
 
-pub contents-element : (name : List ℕ) (names : List (List ℕ)) (bytes inner : List ℕ) → is_xml_name name ≡ true → are_names names ≡ true → Attributes names bytes → Contents inner → Contents (element name bytes inner)
-contents-element name names bytes inner n ns a c =
-    (holds name a.0 c.0 nothing, (right_element name names bytes n ns a, c.1, refl), ap (λ x. element name x inner) a.3 ∙ ap (λ y. element name (flat_map attribute_text a.0) y) c.2 ∙ sym (append-nil (element name (flat_map attribute_text a.0) (markup_text c.0))))
+pub contents-element : (name : List ℕ) (names : List (List ℕ)) (bytes inner : List ℕ) → is_xml_name name ≡ true
+    → are_names names ≡ true → Attributes names bytes → Contents inner → Contents (element name bytes inner)
+contents-element name names bytes inner n ns a c = (
+  holds name a.0 c.0 nothing,
+  (right_element name names bytes n ns a, c.1, refl),
+  ap (λ x. element name x inner) a.3
+      ∙ ap (λ y. element name (flat_map attribute_text a.0) y) c.2
+      ∙ sym (append-nil (element name (flat_map attribute_text a.0) (markup_text c.0))),
+)

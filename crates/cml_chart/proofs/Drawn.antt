@@ -8,11 +8,48 @@ use Rattle.cml_chart.specs.declared.mark.Shape.TheVariants.{Head, Spawn, Arrow, 
 use Rattle.cml_chart.specs.Xml.{escaped_words, element}
 use Rattle.cml_chart.specs.Marks.{ChartMark, row_height}
 use Rattle.cml_chart.specs.Frames.{ChartFrame, frame_of, line_from_left, level_of, note_of}
-use Rattle.cml_chart.specs.Figures.{PlainSpot, words_text, path_text, title_text, cover_text, note_text, across_text, line_text, has_sign, sign_class, arrow_head, sign_path, sign_text, has_words, words_class, words_right, words_down, words_spot, said_text, parts_text, mark_text, life_of, life_text}
+use Rattle.cml_chart.specs.Figures.{
+  PlainSpot,
+  words_text,
+  path_text,
+  title_text,
+  cover_text,
+  note_text,
+  across_text,
+  line_text,
+  has_sign,
+  sign_class,
+  arrow_head,
+  sign_path,
+  sign_text,
+  has_words,
+  words_class,
+  words_right,
+  words_down,
+  words_spot,
+  said_text,
+  parts_text,
+  mark_text,
+  life_of,
+  life_text,
+}
 use Rattle.cml_chart.specs.Pictures.{declaration, style_rules, style_text, box_words, root_attributes, content_text, framed_text, picture_text}
 use Rattle.cml_chart.specs.WellFormed.{IsWellFormed, attribute_text}
 use Rattle.cml_chart.proofs.Pieces.{Pieces, pieces-append, pieces-ascii, pieces-decimal, pieces-escaped_words}
-use Rattle.cml_chart.proofs.Contents.{Attributes, attributes-and, attributes-one, attributes-none, right_element, Contents, contents-none, contents-append, contents-pieces, contents-flat_map, contents-lone, contents-element}
+use Rattle.cml_chart.proofs.Contents.{
+  Attributes,
+  attributes-and,
+  attributes-one,
+  attributes-none,
+  right_element,
+  Contents,
+  contents-none,
+  contents-append,
+  contents-pieces,
+  contents-flat_map,
+  contents-lone,
+  contents-element,
+}
 
 title-drawn : (title : List ℕ) → Contents (title_text title)
 unfolding title_text
@@ -52,7 +89,13 @@ unfolding note_text
 note-drawn f m =
     elim (m.item == 0) as (λ b. Contents (if b then [] else words_text (codes "note") (record { x = f.margin; y = level_of m; right = codes "-8"; down = codes "4" }) (note_of m))) [
       | true ↦ contents-none
-      | false ↦ words-drawn (codes "note") (record { x = f.margin; y = level_of m; right = codes "-8"; down = codes "4" }) (note_of m) (pieces-ascii (codes "note") refl) (pieces-ascii (codes "-8") refl) (pieces-ascii (codes "4") refl)
+      | false ↦ words-drawn (codes "note") (record {
+        x = f.margin;
+        y = level_of m;
+        right = codes "-8";
+        down = codes "4";
+      }) (note_of m) (pieces-ascii (codes "note") refl) (pieces-ascii (codes "-8") refl)
+          (pieces-ascii (codes "4") refl)
     ]
 
 across-drawn : (class : List ℕ) (y from to : ℕ) → Pieces class → Contents (across_text class y from to)
@@ -115,7 +158,9 @@ sign-drawn : (f : ChartFrame) (m : ChartMark) → Contents (sign_text f m)
 unfolding sign_text
 sign-drawn f m =
     elim (has_sign m.shape) as (λ b. Contents (if b then path_text (sign_class m.shape) (line_from_left f.edges m.other) (level_of m) (sign_path m.shape (nat_lt m.thread m.other)) else [])) [
-      | true ↦ path-drawn (sign_class m.shape) (line_from_left f.edges m.other) (level_of m) (sign_path m.shape (nat_lt m.thread m.other)) (class-drawn m.shape) (sign_path-drawn m.shape (nat_lt m.thread m.other))
+      | true ↦ path-drawn (sign_class m.shape) (line_from_left f.edges m.other) (level_of m)
+          (sign_path m.shape (nat_lt m.thread m.other)) (class-drawn m.shape)
+          (sign_path-drawn m.shape (nat_lt m.thread m.other))
       | false ↦ contents-none
     ]
 
@@ -218,7 +263,9 @@ life-drawn Lost f m = contents-none
 style-drawn : Contents style_text
 unfolding style_text
 style-drawn =
-    contents-element (codes "style") _ _ style_rules refl refl (attributes-one (codes "type") (codes "text/css") (pieces-ascii (codes "text/css") refl)) (contents-pieces style_rules (pieces-ascii style_rules refl))
+    contents-element (codes "style") _ _ style_rules refl refl
+    (attributes-one (codes "type") (codes "text/css") (pieces-ascii (codes "text/css") refl))
+    (contents-pieces style_rules (pieces-ascii style_rules refl))
 
 content-drawn : (name : List ℕ) (f : ChartFrame) (marks : List ChartMark) → Contents (content_text name f marks)
 unfolding content_text
@@ -252,5 +299,6 @@ picture_well_formed name threads marks height bytes is =
       inner = c.0;
       root = right_element (codes "svg") _ (root_attributes f) refl refl a;
       content = c.1;
-      text = is ∙ ap (λ x. declaration ++ (element (codes "svg") x (content_text name f marks) ++ codes "\n")) a.3 ∙ ap (λ y. declaration ++ (element (codes "svg") (flat_map attribute_text a.0) y ++ codes "\n")) c.2;
+      text = is ∙ ap (λ x. declaration ++ (element (codes "svg") x (content_text name f marks) ++ codes "\n")) a.3
+          ∙ ap (λ y. declaration ++ (element (codes "svg") (flat_map attribute_text a.0) y ++ codes "\n")) c.2;
     }

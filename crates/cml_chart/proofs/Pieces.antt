@@ -60,7 +60,10 @@ abbrev IsOne : ℕ → List ℕ → Type 0
 IsOne c text = (piece : Piece) × IsPiece piece × (text ≡ piece_text piece)
 
 one_of : (amp lt gt quo apo own : Bool) (c : ℕ) → stands_for_itself c ≡ (own && not amp && not lt && not gt && not quo && not apo) →
-    IsOne c (if amp then codes "&amp;" else (if lt then codes "&lt;" else (if gt then codes "&gt;" else (if quo then codes "&quot;" else (if apo then codes "&apos;" else (if own then encode_utf8 c else codes "?"))))))
+    IsOne c (if amp then codes "&amp;" else
+    (if lt then codes "&lt;" else (if gt then codes "&gt;" else
+    (if quo then codes "&quot;" else (if apo then codes "&apos;" else
+    (if own then encode_utf8 c else codes "?"))))))
 one_of true lt gt quo apo own c e = (ampersand, refl, refl)
 one_of false true gt quo apo own c e = (less, refl, refl)
 one_of false false true quo apo own c e = (greater, refl, refl)

@@ -1,5 +1,36 @@
 -- What was checked stays right when more names are declared.
-use Rattle.std.proofs.Common.{◌≡◌, ℕ, zero, suc, ◌+◌, ◌<◌, ◌≤◌, Bool, true, false, ◌&&◌, List, [], ◌∷◌, ◌++◌, length, get_or, map, drop, cond, Ok, Err, append_assoc, append-nil, refl, sym, ap, ◌∙◌, arith, nat_lt}
+use Rattle.std.proofs.Common.{
+  ◌≡◌,
+  ℕ,
+  zero,
+  suc,
+  ◌+◌,
+  ◌<◌,
+  ◌≤◌,
+  Bool,
+  true,
+  false,
+  ◌&&◌,
+  List,
+  [],
+  ◌∷◌,
+  ◌++◌,
+  length,
+  get_or,
+  map,
+  drop,
+  cond,
+  Ok,
+  Err,
+  append_assoc,
+  append-nil,
+  refl,
+  sym,
+  ap,
+  ◌∙◌,
+  arith,
+  nat_lt,
+}
 use Rattle.std.proofs.Math.ListN.{drop_of_length-le}
 use Rattle.cml_text.specs.Forms.{PlainSexpr, PlainForms, plain_forms, span_of}
 use Rattle.cml_check.specs.declared.fault.CheckFault.{CheckFault}
@@ -257,7 +288,8 @@ step : (heads : List PlainHead) (scope : Scope) (forms : List PlainSexpr) (i : �
 unfolding stmts_in
 step heads scope forms i form lt is = ap (λ fs. stmts_in heads scope (plain_forms fs)) (drop-at forms i form lt is)
 
-pub count-fails : (err : CheckFault) (heads : List PlainHead) (scope : Scope) (forms : List PlainSexpr) (i : ℕ) (form : PlainSexpr) (ss : List (PlainStmt Name)) (all : Checked (PlainStmts Name × Scope)) →
+pub count-fails : (err : CheckFault) (heads : List PlainHead) (scope : Scope) (forms : List PlainSexpr) (i : ℕ)
+    (form : PlainSexpr) (ss : List (PlainStmt Name)) (all : Checked (PlainStmts Name × Scope)) →
     i < length forms → form ≡ get_or forms i form → front ss (stmts_in heads scope (plain_forms (drop i forms))) ≡ all → Fails err (statement_counted scope (span_of form)) → Fails err all
 count-fails err heads scope forms i form ss all lt is inv h =
     fails-as err (statement_counted scope (span_of form)) _ all
@@ -272,7 +304,8 @@ stepped heads scope at forms i form ss all lt is inv h =
     ap (λ r. front ss (r >>= λ at. stmt_in heads at form >>= walk heads (plain_forms (drop (i + 1) forms)))) (sym h)
     ∙ ap (front ss) (sym (step heads scope forms i form lt is)) ∙ inv
 
-pub stmt-fails : (err : CheckFault) (heads : List PlainHead) (scope at : Scope) (forms : List PlainSexpr) (i : ℕ) (form : PlainSexpr) (ss : List (PlainStmt Name)) (all : Checked (PlainStmts Name × Scope)) →
+pub stmt-fails : (err : CheckFault) (heads : List PlainHead) (scope at : Scope) (forms : List PlainSexpr) (i : ℕ)
+    (form : PlainSexpr) (ss : List (PlainStmt Name)) (all : Checked (PlainStmts Name × Scope)) →
     i < length forms → form ≡ get_or forms i form → front ss (stmts_in heads scope (plain_forms (drop i forms))) ≡ all → statement_counted scope (span_of form) ≡ Ok at →
     Fails err (stmt_in heads at form) → Fails err all
 stmt-fails err heads scope at forms i form ss all lt is inv h f =
@@ -280,7 +313,8 @@ stmt-fails err heads scope at forms i form ss all lt is inv h f =
     (sym (after (stmt_in heads at form) (walk heads (plain_forms (drop (i + 1) forms))) (λ rest. Ok (onto ss rest.0, rest.1)))
     ∙ stepped heads scope at forms i form ss all lt is inv h) f
 
-pub stmt-next : (heads : List PlainHead) (scope at new : Scope) (forms : List PlainSexpr) (i : ℕ) (form : PlainSexpr) (ss : List (PlainStmt Name)) (s : PlainStmt Name) (all : Checked (PlainStmts Name × Scope)) →
+pub stmt-next : (heads : List PlainHead) (scope at new : Scope) (forms : List PlainSexpr) (i : ℕ) (form : PlainSexpr)
+    (ss : List (PlainStmt Name)) (s : PlainStmt Name) (all : Checked (PlainStmts Name × Scope)) →
     i < length forms → form ≡ get_or forms i form → front ss (stmts_in heads scope (plain_forms (drop i forms))) ≡ all → statement_counted scope (span_of form) ≡ Ok at →
     stmt_in heads at form ≡ Ok (s, new) → front (ss ++ s ∷ []) (stmts_in heads new (plain_forms (drop (i + 1) forms))) ≡ all
 stmt-next heads scope at new forms i form ss s all lt is inv h f =

@@ -7,6 +7,7 @@ use Rattle.cml_text.specs.declared.sexpr.Span.{Span}
 use Rattle.cml_text.specs.Forms.{PlainSexpr, plain_name, plain_int, plain_text, plain_list, PlainForms, no_forms, forms_and, span_of}
 use Rattle.cml_check.specs.declared.fault.CheckKind.TheVariants.{Limit}
 use Rattle.cml_check.specs.declared.statement.Scope.{Scope}
+use Rattle.cml_check.specs.declared.word.Tested.{Tested}
 use Rattle.cml_check.specs.declared.word.Word.{Word}
 use Rattle.cml_check.specs.declared.word.Word.TheVariants as word
 use Rattle.cml_check.specs.Syntax.{Name, PlainExpr, PlainStmt, let_be, set_to, just_do, if_so, while_so, return_with, PlainStmts, no_stmts, stmts_and, PlainItem, stmt_map, stmts_map, written}
@@ -15,9 +16,10 @@ use Rattle.cml_check.specs.Words.{word_from}
 use Rattle.cml_check.specs.Names.{variable_in, free_name}
 use Rattle.cml_check.specs.Heads.{PlainHead}
 use Rattle.cml_check.specs.Expressions.{expr_in}
-use Rattle.cml_check.specs.Statements.{effect_in, source_in, statement_counted, stmt_in, stmt_by, block_in, behind_do, stmts_in}
+use Rattle.cml_check.specs.Statements.{effect_in, source_in, tested_stmt, statement_counted, stmt_in, stmt_by, block_in, behind_do, stmts_in}
 use Rattle.cml_check.specs.Shape.{function_by}
 use Rattle.cml_check.specs.Sizes.{stmt_count, stmts_count, statements_of}
+use Rattle.cml_check.proofs.WordLemmas.{tested_count}
 
 -- from a count on: the statements were counted, and no limit was passed
 abbrev Counts : ℕ → Checked (PlainStmts Name × Scope) → Type 0
@@ -43,9 +45,9 @@ if_first : (n : ℕ) (p : PlainExpr Name) (a : Checked (PlainStmts Name × Scope
 if_first n p (Ok x) b h g = if_second n p x (b x.1) h (g x.1)
 if_first n p (Err e) b h g = tt
 
-while_one : (n : ℕ) (p : PlainExpr Name) (a : Checked (PlainStmts Name × Scope)) → Counts n a → CountsOne n (a >>= λ x. Ok (while_so p x.0, x.1))
-while_one n p (Ok x) h = (let q = h.0 in omega (arith, q), h.1)
-while_one n p (Err e) h = tt
+tested_one : (n : ℕ) (test : Tested) (p : PlainExpr Name) (a : Checked (PlainStmts Name × Scope)) → Counts n a → CountsOne n (a >>= λ x. Ok (tested_stmt test p x.0, x.1))
+tested_one n test p (Ok x) h = (let q = h.0 in let one = tested_count test p x.0 in omega (arith, q, one), h.1)
+tested_one n test p (Err e) h = tt
 
 -- one statement was counted
 abbrev Within : Scope → Checked Scope → Type 0
@@ -83,7 +85,7 @@ behind_word n span (Some word.Do) found h = h
 behind_word n span (Some word.Let) found h = tt
 behind_word n span (Some word.Set) found h = tt
 behind_word n span (Some word.If) found h = tt
-behind_word n span (Some word.While) found h = tt
+behind_word n span (Some (word.Tested test)) found h = tt
 behind_word n span (Some word.Return) found h = tt
 behind_word n span (Some word.Call) found h = tt
 behind_word n span (Some word.Spawn) found h = tt
@@ -129,12 +131,14 @@ mutual
   by_counts heads scope span (Some word.If) (forms_and p no_forms) = done heads scope span (Some word.If) (forms_and p no_forms)
   by_counts heads scope span (Some word.If) (forms_and p (forms_and x no_forms)) = done heads scope span (Some word.If) (forms_and p (forms_and x no_forms))
   by_counts heads scope span (Some word.If) (forms_and p (forms_and x (forms_and y no_forms))) =
-      past scope.statements (expr_in heads scope.names p) _ (λ e. if_first scope.statements e (block_in heads scope x) (λ s. block_in heads s y) (block_counts heads scope x) (λ s. block_counts heads s y))
+      past scope.statements (expr_in heads scope.names p) _
+      (λ e. if_first scope.statements e (block_in heads scope x) (λ s. block_in heads s y)
+      (block_counts heads scope x) (λ s. block_counts heads s y))
   by_counts heads scope span (Some word.If) (forms_and p (forms_and x (forms_and y (forms_and z forms)))) =
       done heads scope span (Some word.If) (forms_and p (forms_and x (forms_and y (forms_and z forms))))
-  by_counts heads scope span (Some word.While) no_forms = done heads scope span (Some word.While) no_forms
-  by_counts heads scope span (Some word.While) (forms_and p forms) =
-      past scope.statements (expr_in heads scope.names p) _ (λ e. while_one scope.statements e (stmts_in heads scope forms) (stmts_counts heads scope forms))
+  by_counts heads scope span (Some (word.Tested test)) no_forms = done heads scope span (Some (word.Tested test)) no_forms
+  by_counts heads scope span (Some (word.Tested test)) (forms_and p forms) =
+      past scope.statements (expr_in heads scope.names p) _ (λ e. tested_one scope.statements test e (stmts_in heads scope forms) (stmts_counts heads scope forms))
   by_counts heads scope span (Some word.Return) no_forms = done heads scope span (Some word.Return) no_forms
   by_counts heads scope span (Some word.Return) (forms_and p no_forms) = past scope.statements (expr_in heads scope.names p) _ (λ e. (refl, λ le. le))
   by_counts heads scope span (Some word.Return) (forms_and p (forms_and y forms)) = done heads scope span (Some word.Return) (forms_and p (forms_and y forms))
@@ -179,7 +183,7 @@ mutual
   stmt_same f (while_so e a) = rw (stmts_same f a) refl
   stmt_same f (return_with e) = refl
 
-  stmts_same : {V W : Type 0} (f : V → W) (ss : PlainStmts V) → stmts_count (stmts_map f ss) ≡ stmts_count ss
+  pub stmts_same : {V W : Type 0} (f : V → W) (ss : PlainStmts V) → stmts_count (stmts_map f ss) ≡ stmts_count ss
   stmts_same f no_stmts = refl
   stmts_same f (stmts_and s ss) = rw (stmt_same f s, stmts_same f ss) refl
 

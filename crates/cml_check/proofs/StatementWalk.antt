@@ -5,19 +5,21 @@ use Rattle.cml_text.specs.declared.sexpr.Span.{Span}
 use Rattle.cml_text.specs.Forms.{PlainSexpr, plain_name, plain_int, plain_text, plain_list, PlainForms, no_forms, forms_and, plain_forms, span_of}
 use Rattle.cml_check.specs.declared.fault.CheckKind.TheVariants.{Form}
 use Rattle.cml_check.specs.declared.statement.Scope.{Scope}
+use Rattle.cml_check.specs.declared.word.Tested.{Tested}
 use Rattle.cml_check.specs.declared.word.Word.TheVariants as word
 use Rattle.std.proofs.lemmas.Bool.{lt-ltb, and_from}
-use Rattle.cml_check.specs.Syntax.{Name, PlainExpr, PlainSource, PlainStmts, let_be, if_so, while_so, expr_map, source_map, stmts_map, name_at}
+use Rattle.cml_check.specs.Syntax.{Name, PlainExpr, PlainSource, PlainStmts, let_be, if_so, expr_map, stmt_map, source_map, stmts_map, name_at}
 use Rattle.cml_check.specs.Names.{with_name, free_name}
 use Rattle.cml_check.specs.Expressions.{expr_in}
-use Rattle.cml_check.specs.InOrder.{expr_fits, source_fits, stmts_fit}
+use Rattle.cml_check.specs.InOrder.{expr_fits, source_fits, stmt_fits, stmts_fit}
+use Rattle.cml_check.proofs.WordLemmas.{tested_map, tested_fit}
 use Rattle.cml_check.proofs.GrowthLemmas.{grows-with_name, grows-on, expr-grown, source-grown, stmts-grown}
 use Rattle.cml_check.specs.Checked.{check_fault}
 use Rattle.cml_check.specs.Words.{word_from}
 use Rattle.cml_check.specs.Parts.{is_headed}
 use Rattle.cml_check.specs.Heads.{PlainHead}
-use Rattle.cml_check.specs.Statements.{stmt_in, stmt_by, block_in, behind_do, stmts_in, effect_in, source_in}
-use Rattle.cml_check.specs.StatementParts.{let_of, let_in, set_in, if_of, if_in, while_of, while_in, return_in, Grows}
+use Rattle.cml_check.specs.Statements.{tested_stmt, stmt_in, stmt_by, block_in, behind_do, stmts_in, effect_in, source_in}
+use Rattle.cml_check.specs.StatementParts.{let_of, let_in, set_in, if_of, if_in, tested_of, tested_in, return_in, Grows}
 
 pub headed_stmt : (heads : List PlainHead) (scope : Scope) (form first : PlainSexpr) (behind : PlainForms) → form ≡ plain_list (span_of form) (forms_and first behind) →
     stmt_in heads scope form ≡ stmt_by heads scope (span_of form) (word_from first) behind
@@ -67,10 +69,11 @@ list_if heads scope span (forms_and x (forms_and r no_forms)) = refl
 list_if heads scope span (forms_and x (forms_and r (forms_and y no_forms))) = refl
 list_if heads scope span (forms_and x (forms_and r (forms_and y (forms_and z forms)))) = refl
 
-pub list_while : (heads : List PlainHead) (scope : Scope) (span : Span) (forms : PlainForms) → stmt_by heads scope span (Some word.While) forms ≡ while_in heads scope span forms
-unfolding stmt_by while_in while_of effect_in
-list_while heads scope span no_forms = refl
-list_while heads scope span (forms_and x forms) = refl
+pub list_tested : (heads : List PlainHead) (scope : Scope) (span : Span) (test : Tested) (forms : PlainForms)
+    → stmt_by heads scope span (Some (word.Tested test)) forms ≡ tested_in heads scope span test forms
+unfolding stmt_by tested_in tested_of effect_in
+list_tested heads scope span test no_forms = refl
+list_tested heads scope span test (forms_and x forms) = refl
 
 pub list_return : (heads : List PlainHead) (scope : Scope) (span : Span) (forms : PlainForms) → stmt_by heads scope span (Some word.Return) forms ≡ return_in heads scope span forms
 unfolding stmt_by return_in effect_in
@@ -136,14 +139,14 @@ pub if_fits : (ar : List ℕ) (old mid new : List Name) (e : PlainExpr ℕ) (a b
 if_fits ar old mid new e a b fe fa fb g h =
     and_from _ _ (and_from _ _ (expr-grown ar old new (grows-on _ _ _ g h) e fe).1 (stmts-grown ar mid new h a fa).1) fb
 
-pub while_gives : (ar : List ℕ) (heads : List PlainHead) (scope new : Scope) (p : PlainSexpr) (forms : PlainForms) (e : PlainExpr ℕ) (a : PlainStmts ℕ) →
+pub tested_gives : (ar : List ℕ) (heads : List PlainHead) (scope new : Scope) (test : Tested) (p : PlainSexpr) (forms : PlainForms) (e : PlainExpr ℕ) (a : PlainStmts ℕ) →
     expr_in heads scope.names p ≡ Ok (expr_map (name_at scope.names) e) → expr_fits ar (length scope.names) e ≡ true →
     stmts_in heads scope forms ≡ Ok (stmts_map (name_at new.names) a, new) → Grows scope.names new.names →
-    while_of heads scope p forms ≡ Ok (while_so (expr_map (name_at new.names) e) (stmts_map (name_at new.names) a), new)
-unfolding while_of
-while_gives ar heads scope new p forms e a pe fe pa g =
-    rw (pe, pa, (expr-grown ar scope.names new.names g e fe).0) refl
+    tested_of heads scope test p forms ≡ Ok (stmt_map (name_at new.names) (tested_stmt test e a), new)
+unfolding tested_of
+tested_gives ar heads scope new test p forms e a pe fe pa g =
+    rw (pe, pa, tested_map (name_at new.names) test e a, (expr-grown ar scope.names new.names g e fe).0) refl
 
-pub while_fits : (ar : List ℕ) (old new : List Name) (e : PlainExpr ℕ) (a : PlainStmts ℕ) → expr_fits ar (length old) e ≡ true → stmts_fit ar (length new) a ≡ true →
-    Grows old new → (expr_fits ar (length new) e && stmts_fit ar (length new) a) ≡ true
-while_fits ar old new e a fe fa g = and_from _ _ (expr-grown ar old new g e fe).1 fa
+pub tested_fits : (ar : List ℕ) (old new : List Name) (test : Tested) (e : PlainExpr ℕ) (a : PlainStmts ℕ) → expr_fits ar (length old) e ≡ true → stmts_fit ar (length new) a ≡ true →
+    Grows old new → stmt_fits ar (length new) (tested_stmt test e a) ≡ true
+tested_fits ar old new test e a fe fa g = tested_fit ar (length new) test e a (expr-grown ar old new g e fe).1 fa

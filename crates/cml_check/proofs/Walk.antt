@@ -88,7 +88,8 @@ module _ (C : List PlainInstr) (R : List (PlainStmts ℕ)) where
       }
 
   mutual
-    walk_stmt : (base : ℕ) (s : PlainStmt ℕ) (next : ℕ) (k : PlainStmts ℕ) → HasAt C base (stmt_code base s next) → HasAt R base (stmt_lefts s k) → stands next ≡ k → Walked base (stmt_count s) base (stmts_and s k)
+    walk_stmt : (base : ℕ) (s : PlainStmt ℕ) (next : ℕ) (k : PlainStmts ℕ) → HasAt C base (stmt_code base s next)
+        → HasAt R base (stmt_lefts s k) → stands next ≡ k → Walked base (stmt_count s) base (stmts_and s k)
     walk_stmt base (let_be x r) next k c h n = alone base (let_then x r next) (stmts_and (let_be x r) k) c.0 h.0 (ap (stmts_and (let_be x r)) (sym n))
     walk_stmt base (set_to x e) next k c h n = alone base (set_then x e next) (stmts_and (set_to x e) k) c.0 h.0 (ap (stmts_and (set_to x e)) (sym n))
     walk_stmt base (just_do e) next k c h n = alone base (do_then e next) (stmts_and (just_do e) k) c.0 h.0 (ap (stmts_and (just_do e)) (sym n))
@@ -145,7 +146,9 @@ module _ (C : List PlainInstr) (R : List (PlainStmts ℕ)) where
               ];
         }
 
-    walk_stmts : (base : ℕ) (ss : PlainStmts ℕ) (next : ℕ) (k : PlainStmts ℕ) → HasAt C base (stmts_code base ss next) → HasAt R base (stmts_lefts ss k) → stands next ≡ k → Walked base (stmts_count ss) (entry base ss next) (and_then ss k)
+    walk_stmts : (base : ℕ) (ss : PlainStmts ℕ) (next : ℕ) (k : PlainStmts ℕ) → HasAt C base (stmts_code base ss next)
+        → HasAt R base (stmts_lefts ss k) → stands next ≡ k
+        → Walked base (stmts_count ss) (entry base ss next) (and_then ss k)
     walk_stmts base no_stmts next k c h n = record { at = n; all = λ i lo hi. absurd (omega arith) }
     walk_stmts base (stmts_and s ss) next k c h n =
         let mid = base + stmt_count s in

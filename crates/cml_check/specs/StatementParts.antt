@@ -4,13 +4,14 @@ use Rattle.cml_text.specs.declared.sexpr.Span.{Span}
 use Rattle.cml_text.specs.Forms.{PlainSexpr, PlainForms, no_forms, forms_and}
 use Rattle.cml_check.specs.declared.fault.CheckKind.TheVariants.{Form}
 use Rattle.cml_check.specs.declared.statement.Scope.{Scope}
+use Rattle.cml_check.specs.declared.word.Tested.{Tested}
 use Rattle.cml_check.specs.declared.word.Word.{Word}
-use Rattle.cml_check.specs.Syntax.{Name, PlainStmt, let_be, set_to, just_do, if_so, while_so, return_with}
+use Rattle.cml_check.specs.Syntax.{Name, PlainStmt, let_be, set_to, just_do, if_so, return_with}
 use Rattle.cml_check.specs.Checked.{Checked, ◌>>=◌, check_fault}
 use Rattle.cml_check.specs.Names.{with_name, free_name, variable_in}
 use Rattle.cml_check.specs.Heads.{PlainHead}
 use Rattle.cml_check.specs.Expressions.{expr_in}
-use Rattle.cml_check.specs.Statements.{effect_in, source_in, block_in, stmts_in}
+use Rattle.cml_check.specs.Statements.{effect_in, source_in, tested_stmt, block_in, stmts_in}
 
 -- names were declared after the old ones
 abbrev pub Grows : List Name → List Name → Type 0
@@ -44,15 +45,15 @@ unfoldable pub if_in : List PlainHead → Scope → Span → PlainForms → Chec
 if_in heads scope span (forms_and p (forms_and x (forms_and y no_forms))) = if_of heads scope p x y
 if_in heads scope span forms = check_fault Form span
 
-unfoldable pub while_of : List PlainHead → Scope → PlainSexpr → PlainForms → Checked (PlainStmt Name × Scope)
-while_of heads scope p forms = do
+unfoldable pub tested_of : List PlainHead → Scope → Tested → PlainSexpr → PlainForms → Checked (PlainStmt Name × Scope)
+tested_of heads scope test p forms = do
   e ← expr_in heads scope.names p
   a ← stmts_in heads scope forms
-  Ok (while_so e a.0, a.1)
+  Ok (tested_stmt test e a.0, a.1)
 
-unfoldable pub while_in : List PlainHead → Scope → Span → PlainForms → Checked (PlainStmt Name × Scope)
-while_in heads scope span (forms_and p forms) = while_of heads scope p forms
-while_in heads scope span forms = check_fault Form span
+unfoldable pub tested_in : List PlainHead → Scope → Span → Tested → PlainForms → Checked (PlainStmt Name × Scope)
+tested_in heads scope span test (forms_and p forms) = tested_of heads scope test p forms
+tested_in heads scope span test forms = check_fault Form span
 
 unfoldable pub return_in : List PlainHead → Scope → Span → PlainForms → Checked (PlainStmt Name × Scope)
 return_in heads scope span (forms_and p no_forms) = do

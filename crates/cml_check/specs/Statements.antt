@@ -6,9 +6,11 @@ use Rattle.cml_check.specs.declared.fault.CheckKind.TheVariants.{Form, Limit}
 use Rattle.cml_check.specs.declared.statement.Scope.{Scope}
 use Rattle.cml_check.specs.declared.syntax.Act.TheVariants as act_of
 use Rattle.cml_check.specs.declared.syntax.ActOnOne.TheVariants as one_of
+use Rattle.cml_check.specs.declared.word.Tested.{Tested}
+use Rattle.cml_check.specs.declared.word.Tested.TheVariants as tested
 use Rattle.cml_check.specs.declared.word.Word.{Word}
 use Rattle.cml_check.specs.declared.word.Word.TheVariants as word
-use Rattle.cml_check.specs.Syntax.{Name, PlainEffect, act, act_on_one, act_on_two, call, spawn, PlainSource, value, effect}
+use Rattle.cml_check.specs.Syntax.{Name, PlainExpr, PlainEffect, act, act_on_one, act_on_two, call, spawn, PlainSource, value, effect}
 use Rattle.cml_check.specs.Syntax.{PlainStmt, let_be, set_to, just_do, if_so, while_so, return_with, PlainStmts, no_stmts, stmts_and}
 use Rattle.cml_check.specs.Checked.{Checked, ◌>>=◌, check_fault}
 use Rattle.cml_check.specs.Words.{word_from}
@@ -79,6 +81,10 @@ unfoldable pub source_in : List PlainHead → List Name → PlainSexpr → Check
 source_in heads names (plain_list span (forms_and first behind)) = source_by heads names span (word_from first) behind
 source_in heads names form = form_source heads names form
 
+-- the statement that this keyword makes of its condition and its statements
+abbrev pub tested_stmt : {V : Type 0} → Tested → PlainExpr V → PlainStmts V → PlainStmt V
+tested_stmt tested.While e a = while_so e a
+
 -- one statement more, unless the script has as many as it may
 abbrev pub statement_counted : Scope → Span → Checked Scope
 statement_counted scope span = if nat_lt scope.statements statement_limit then Ok (record scope { statements = scope.statements + 1 }) else check_fault Limit span
@@ -109,10 +115,10 @@ unfoldable mutual
     a ← block_in heads scope x
     b ← block_in heads a.1 y
     Ok (if_so e a.0 b.0, b.1)
-  stmt_by heads scope span (Some word.While) (forms_and p forms) = do
+  stmt_by heads scope span (Some (word.Tested test)) (forms_and p forms) = do
     e ← expr_in heads scope.names p
     a ← stmts_in heads scope forms
-    Ok (while_so e a.0, a.1)
+    Ok (tested_stmt test e a.0, a.1)
   stmt_by heads scope span (Some word.Return) (forms_and p no_forms) = do
     e ← expr_in heads scope.names p
     Ok (return_with e, scope)

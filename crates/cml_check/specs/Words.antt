@@ -4,6 +4,8 @@ use Rattle.std.specs.Str.{bytes_eq}
 use Rattle.cml_text.specs.Forms.{PlainSexpr, plain_name}
 use Rattle.cml_check.specs.declared.word.Word.{Word}
 use Rattle.cml_check.specs.declared.word.Word.TheVariants as word
+use Rattle.cml_check.specs.declared.word.Tested.{Tested}
+use Rattle.cml_check.specs.declared.word.Tested.TheVariants as tested
 use Rattle.cml_check.specs.declared.syntax.Constant.{Constant}
 use Rattle.cml_check.specs.declared.syntax.Constant.TheVariants as constant_of
 use Rattle.cml_check.specs.declared.syntax.Unary.{Unary}
@@ -16,6 +18,9 @@ use Rattle.cml_check.specs.declared.syntax.ActOnOne.{ActOnOne}
 use Rattle.cml_check.specs.declared.syntax.ActOnOne.TheVariants as one_of
 use Rattle.cml_check.specs.declared.syntax.ActOnTwo.{ActOnTwo}
 use Rattle.cml_check.specs.declared.syntax.ActOnTwo.TheVariants as two_of
+
+abbrev pub tested_spelling : Tested → List ℕ
+tested_spelling tested.While = codes "while"
 
 abbrev pub constant_spelling : Constant → List ℕ
 constant_spelling constant_of.True = codes "true"
@@ -81,7 +86,7 @@ word_spelling word.Do = codes "do"
 word_spelling word.Let = codes "let"
 word_spelling word.Set = codes "set"
 word_spelling word.If = codes "if"
-word_spelling word.While = codes "while"
+word_spelling (word.Tested test) = tested_spelling test
 word_spelling word.Return = codes "return"
 word_spelling word.Call = codes "call"
 word_spelling word.Spawn = codes "spawn"
@@ -100,7 +105,7 @@ word_spelling (word.ActOnTwo act) = two_spelling act
 -- each keyword once
 abbrev pub all_words : List Word
 all_words =
-    word.Fn ∷ word.Do ∷ word.Let ∷ word.Set ∷ word.If ∷ word.While ∷ word.Return ∷ word.Call ∷ word.Spawn ∷ word.Choose ∷ word.Wrap ∷ word.Guard ∷ word.WithNack ∷ word.MVar ∷
+    word.Fn ∷ word.Do ∷ word.Let ∷ word.Set ∷ word.If ∷ word.Tested tested.While ∷ word.Return ∷ word.Call ∷ word.Spawn ∷ word.Choose ∷ word.Wrap ∷ word.Guard ∷ word.WithNack ∷ word.MVar ∷
     word.Constant constant_of.True ∷ word.Constant constant_of.False ∷ word.Constant constant_of.Unit ∷ word.Constant constant_of.Never ∷
     word.Unary unary_of.Not ∷ word.Unary unary_of.Fst ∷ word.Unary unary_of.Snd ∷ word.Unary unary_of.Always ∷ word.Unary unary_of.Recv ∷ word.Unary unary_of.IGet ∷ word.Unary unary_of.MTake ∷ word.Unary unary_of.MGet ∷ word.Unary unary_of.MailRecv ∷ word.Unary unary_of.PortRecv ∷ word.Unary unary_of.Join ∷ word.Unary unary_of.At ∷ word.Unary unary_of.After ∷
     word.Binary binary_of.Plus ∷ word.Binary binary_of.Minus ∷ word.Binary binary_of.Times ∷ word.Binary binary_of.Less ∷ word.Binary binary_of.Equal ∷ word.Binary binary_of.Pair ∷ word.Binary binary_of.Send ∷ word.Binary binary_of.Swap ∷ word.Binary binary_of.MSwap ∷

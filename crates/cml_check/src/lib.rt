@@ -28,3 +28,4 @@ pub use syntax::{
     Act, ActOnOne, ActOnTwo, Binary, Block, Constant, Effect, Expr, ExprKind, Exprs, Source, Stmt,
     StmtKind, Unary,
 };
+pub use word::{Tested, Word, word_from};

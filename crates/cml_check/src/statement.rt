@@ -5,8 +5,9 @@ ghost use Rattle.cml_text.specs.Forms.{plain_forms, span_of};
 ghost use Rattle.cml_check.specs.Syntax.{stmt_map, stmts_map, name_at};
 ghost use Rattle.cml_check.specs.Checked.{Finds};
 ghost use Rattle.cml_check.specs.Heads.{arities_of};
+ghost use Rattle.cml_check.specs.Statements as spec;
 ghost use Rattle.cml_check.specs.Statements.{statement_counted, stmt_in, stmt_by, block_in, behind_do, stmts_in};
-ghost use Rattle.cml_check.specs.StatementParts.{Grows, let_of, let_in, set_in, if_of, if_in, while_of, while_in, return_in, do_in};
+ghost use Rattle.cml_check.specs.StatementParts.{Grows, let_of, let_in, set_in, if_of, if_in, tested_of, tested_in, return_in, do_in};
 ghost use Rattle.cml_check.specs.InOrder.{stmt_fits, stmts_fit};
 
 use crate::effect::{effect, source};
@@ -15,8 +16,8 @@ use crate::fault::{CheckFault, CheckKind, fault_at};
 use crate::head::Heads;
 use crate::names::{Names, free_name, variable};
 use crate::parts::headed;
-use crate::syntax::{Block, Stmt, StmtKind};
-use crate::word::{Word, word_from};
+use crate::syntax::{Block, Expr, Stmt, StmtKind};
+use crate::word::{Tested, Word, word_from};
 use cml_text::Sexpr;
 use std::alloc::Global;
 
@@ -61,7 +62,7 @@ fn statement<'a>(
 
 // The statement of a list, by the keyword at its head and the forms after it.
 #[cycle(statement)]
-#[tactic(auto, using(crate::proofs::StatementWalk::list_let, crate::proofs::StatementWalk::list_set, crate::proofs::StatementWalk::list_if, crate::proofs::StatementWalk::list_while, crate::proofs::StatementWalk::list_return))]
+#[tactic(auto, using(crate::proofs::StatementWalk::list_let, crate::proofs::StatementWalk::list_set, crate::proofs::StatementWalk::list_if, crate::proofs::StatementWalk::list_tested, crate::proofs::StatementWalk::list_return))]
 fn list_statement<'a>(
     alloc: Global,
     heads: &Heads<'_>,
@@ -80,7 +81,7 @@ fn list_statement<'a>(
         Some(Word::Let) => let_statement(alloc, heads, scope, form, behind),
         Some(Word::Set) => set_statement(alloc, heads, scope, form, behind),
         Some(Word::If) => if_statement(alloc, heads, scope, form, behind),
-        Some(Word::While) => while_statement(alloc, heads, scope, form, behind),
+        Some(Word::Tested(word)) => tested_statement(alloc, heads, scope, form, word, behind),
         Some(Word::Return) => return_statement(alloc, heads, scope, form, behind),
         _ => effect_statement(alloc, heads, scope, form, word, behind),
     }
@@ -202,17 +203,18 @@ fn branch<'a>(
     })
 }
 
-// A loop.
+// A statement with a condition and statements, by its keyword.
 #[cycle(statement)]
-#[tactic(auto, unfolding(crate::specs::StatementParts::while_in))]
-fn while_statement<'a>(
+#[tactic(auto, unfolding(crate::specs::StatementParts::tested_in))]
+fn tested_statement<'a>(
     alloc: Global,
     heads: &Heads<'_>,
     scope: &mut Scope<'a>,
     form: &'a Sexpr,
+    word: Tested,
     behind: &'a [Sexpr],
 ) -> Result<Stmt, CheckFault>
-    ensures gives { let found = while_in heads.now scope.old (span_of form.now) (plain_forms behind.now) in
+    ensures gives { let found = tested_in heads.now scope.old (span_of form.now) word (plain_forms behind.now) in
         Finds (λ s. (stmt_map (name_at scope.new.names) s, scope.new)) result found }
     ensures fits { let slots = length scope.new.names in
         IfOk result (λ s. stmt_fits (arities_of heads.now) slots s ≡ true) }
@@ -221,20 +223,21 @@ fn while_statement<'a>(
     let [condition, body @ ..] = behind else {
         return Err(fault_at(CheckKind::Form, form));
     };
-    repeat(alloc, heads, scope, condition, body)
+    tested(alloc, heads, scope, word, condition, body)
 }
 
-// The loop of a condition.
+// The statement of a condition and of statements, by its keyword.
 #[cycle(statement)]
-#[tactic(auto, unfolding(crate::specs::StatementParts::while_of))]
-fn repeat<'a>(
+#[tactic(auto, unfolding(crate::specs::StatementParts::tested_of))]
+fn tested<'a>(
     alloc: Global,
     heads: &Heads<'_>,
     scope: &mut Scope<'a>,
+    word: Tested,
     condition: &'a Sexpr,
     body: &'a [Sexpr],
 ) -> Result<Stmt, CheckFault>
-    ensures gives { let found = while_of heads.now scope.old condition.now (plain_forms body.now) in
+    ensures gives { let found = tested_of heads.now scope.old word condition.now (plain_forms body.now) in
         Finds (λ s. (stmt_map (name_at scope.new.names) s, scope.new)) result found }
     ensures fits { let slots = length scope.new.names in
         IfOk result (λ s. stmt_fits (arities_of heads.now) slots s ≡ true) }
@@ -242,9 +245,17 @@ fn repeat<'a>(
 {
     let condition = expression(alloc, heads, &scope.names, condition)?;
     let body = statements(alloc, heads, scope, body)?;
-    Ok(Stmt {
-        kind: StmtKind::While(condition, body),
-    })
+    Ok(tested_stmt(word, condition, body))
+}
+
+// What this keyword makes of its condition and its statements.
+fn tested_stmt(word: Tested, condition: Expr, body: Block) -> Stmt
+    ensures { result ≡ spec.tested_stmt word condition body }
+{
+    let kind = match word {
+        Tested::While => StmtKind::While(condition, body),
+    };
+    Stmt { kind }
 }
 
 // The end of a function.

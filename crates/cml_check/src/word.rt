@@ -15,7 +15,7 @@ pub enum Word {
     Let,
     Set,
     If,
-    While,
+    Tested(Tested),
     Return,
     Call,
     Spawn,
@@ -33,6 +33,12 @@ pub enum Word {
     ActOnTwo(ActOnTwo),
 }
 
+/// A keyword of a statement that has a condition and statements.
+#[derive(Clone, Copy, PartialEq, Eq)]
+pub enum Tested {
+    While,
+}
+
 impl Word {
     // How the keyword is spelled.
     fn spelling(self) -> &'static str
@@ -44,7 +50,7 @@ impl Word {
             Word::Let => "let",
             Word::Set => "set",
             Word::If => "if",
-            Word::While => "while",
+            Word::Tested(tested) => tested_spelling(tested),
             Word::Return => "return",
             Word::Call => "call",
             Word::Spawn => "spawn",
@@ -60,6 +66,14 @@ impl Word {
             Word::ActOnOne(act) => one_spelling(act),
             Word::ActOnTwo(act) => two_spelling(act),
         }
+    }
+}
+
+fn tested_spelling(tested: Tested) -> &'static str
+    ensures { result.now ≡ spec.tested_spelling tested }
+{
+    match tested {
+        Tested::While => "while",
     }
 }
 
@@ -221,6 +235,9 @@ const STARTING_WITH_S: [Word; 8] = [
     Word::ActOnOne(ActOnOne::Sync),
 ];
 
+// The keywords that start with a `w`.
+const STARTING_WITH_W: [Word; 3] = [Word::Tested(Tested::While), Word::Wrap, Word::WithNack];
+
 /// The keyword of this spelling, if there is one.
 pub fn word_of(name: &str) -> Option<Word>
     ensures { result ≡ spec.word_of name.now }
@@ -247,7 +264,7 @@ pub fn word_of(name: &str) -> Option<Word>
         Some(b's') => among(name, &STARTING_WITH_S),
         Some(b't') => among(name, &[Word::Constant(Constant::True)]),
         Some(b'u') => among(name, &[Word::Constant(Constant::Unit)]),
-        Some(b'w') => among(name, &[Word::While, Word::Wrap, Word::WithNack]),
+        Some(b'w') => among(name, &STARTING_WITH_W),
         Some(b'y') => among(name, &[Word::Act(Act::Yield)]),
         _ => None,
     }

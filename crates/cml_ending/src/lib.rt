@@ -18,6 +18,6 @@ mod words;
 pub use end::explain_end;
 pub use standing::{Spot, machine_spot};
 pub use state::who_is;
-pub use stuck::is_stuck;
+pub use stuck::{is_stuck, some_held_up};
 pub use takers::{Take, Takers};
 pub use wait::push_awaited;

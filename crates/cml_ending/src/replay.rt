@@ -61,7 +61,7 @@ fn follow_all(
     let items = hub.schedule();
     for i in 0..items.len() {
         let item = items[i];
-        // Read for the proof alone, which uses what is promised of it.
+        // No effect: named here so that the prover knows what holds of it.
         let _so_far = second.schedule();
         takers.follow(alloc, second, &item)?;
         come(alloc, second, item)?;

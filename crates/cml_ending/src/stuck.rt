@@ -44,8 +44,8 @@ fn is_held_up(servers: &[u32], hub: &Hub, thread: Tid) -> bool
     }
 }
 
-// Whether some thread does.
-fn some_held_up(servers: &[u32], hub: &Hub) -> bool
+/// Whether some thread waits that began with none of these functions.
+pub fn some_held_up(servers: &[u32], hub: &Hub) -> bool
     ensures { result ≡ spec.some_held_up servers.now (origins (text_of hub.now.course.program) hub.now.course.items) 0 hub.now.course.world.threads }
 {
     for t in 0..hub.book().next_thread().0 {

@@ -121,7 +121,7 @@ impl Takers {
             OnOk result (KnowsTakers p items self.old → KnowsTakers p (items ++ item.now ∷ []) self.new) }
         ensures err { OnErr result ((m : ℕ) → taker_in self.new m ≡ taker_in self.old m) }
     {
-        // Read for the proof alone, which uses what is promised of it.
+        // No effect: named here so that the prover knows what holds of it.
         let _so_far = hub.schedule();
         match take_by(alloc, hub, item)? {
             Some(take) => {

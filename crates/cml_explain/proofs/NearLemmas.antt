@@ -14,7 +14,9 @@ next : (xs : List ℕ) (k : ℕ) → k < length xs → drop k xs ≡ get_or xs k
 next xs k lt = rw (add-one) (drop-cons xs k 0 lt)
 
 both : (xs ys : List ℕ) (k : ℕ) → k < length xs → k < length ys →
-    past_common (drop k xs) (drop k ys) ≡ cond (nat_eq (get_or xs k 0) (get_or ys k 0)) (past_common (drop (k + 1) xs) (drop (k + 1) ys)) (get_or xs k 0 ∷ drop (k + 1) xs, get_or ys k 0 ∷ drop (k + 1) ys)
+    past_common (drop k xs) (drop k ys) ≡ cond (nat_eq (get_or xs k 0) (get_or ys k 0))
+    (past_common (drop (k + 1) xs) (drop (k + 1) ys))
+    (get_or xs k 0 ∷ drop (k + 1) xs, get_or ys k 0 ∷ drop (k + 1) ys)
 both xs ys k p q = ap (λ zs. past_common zs (drop k ys)) (next xs k p) ∙ ap (past_common (get_or xs k 0 ∷ drop (k + 1) xs)) (next ys k q)
 
 pub common_same : (xs ys : List ℕ) (k : ℕ) → k < length xs → k < length ys → get_or xs k 0 ≡ get_or ys k 0 →

@@ -24,7 +24,8 @@ passed at b xs h = rw h refl
 pub found_at : (at : ℕ) (xs : List ℕ) (i : ℕ) → i < length xs → is_before_function (get_or xs i 0) (drop (i + 1) xs) ≡ true → next_function (at + i) (drop i xs) ≡ Some (at + i + 1)
 found_at at xs i h e = at_drop_more (next_function (at + i)) xs i 0 h ∙ found (at + i) _ _ e
 
-pub passed_at : (at : ℕ) (xs : List ℕ) (i : ℕ) → i < length xs → is_before_function (get_or xs i 0) (drop (i + 1) xs) ≡ false → next_function (at + i) (drop i xs) ≡ next_function (at + (i + 1)) (drop (i + 1) xs)
+pub passed_at : (at : ℕ) (xs : List ℕ) (i : ℕ) → i < length xs → is_before_function (get_or xs i 0) (drop (i + 1) xs)
+    ≡ false → next_function (at + i) (drop i xs) ≡ next_function (at + (i + 1)) (drop (i + 1) xs)
 passed_at at xs i h e =
     let same : at + i + 1 ≡ at + (i + 1) = omega arith in
     at_drop_more (next_function (at + i)) xs i 0 h ∙ (passed (at + i) _ _ e ∙ ap (λ w. next_function w (drop (i + 1) xs)) same)

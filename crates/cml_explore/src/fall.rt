@@ -147,7 +147,7 @@ fn follow_turn(
     ensures falls { let p = second.old.course.program in
         OnOk result (AreFalls p second.old.course.items (fall_in falls.old) → AreFalls p second.new.course.items (fall_in falls.new)) }
 {
-    // Read for the proof alone, which uses what is promised of it.
+    // No effect: named here so that the prover knows what holds of it.
     let _so_far = second.schedule();
     let before = second.faults();
     let kept = running_machine(alloc, second, thread)?;
@@ -175,7 +175,7 @@ fn follow_item(
     ensures falls { let p = second.old.course.program in
         OnOk result (AreFalls p second.old.course.items (fall_in falls.old) → AreFalls p second.new.course.items (fall_in falls.new)) }
 {
-    // Read for the proof alone, which uses what is promised of it.
+    // No effect: named here so that the prover knows what holds of it.
     let _so_far = second.schedule();
     match item {
         Item::Turn(thread) => follow_turn(alloc, second, falls, thread),
@@ -204,7 +204,7 @@ fn follow_all(
     let items = hub.schedule();
     for i in 0..items.len() {
         let item = items[i];
-        // Read for the proof alone, which uses what is promised of it.
+        // No effect: named here so that the prover knows what holds of it.
         let _so_far = second.schedule();
         takers.follow(alloc, second, &item)?;
         follow_item(alloc, second, falls, item)?;

@@ -170,6 +170,7 @@ pub(crate) fn run_by_lot(
     requires { NoneOut hub.old }
     ensures { OnOk result (RunsDrawn by_lot hub.old chooser.old hub.new chooser.new) }
 {
+    // Each item uses at least 1 of the budget, so `left` ends no run before `is_over` does; by it the prover sees that the loop ends.
     let mut left = hub.budget();
     'items: while left > 0 {
         if is_over(hub) {

@@ -1,6 +1,6 @@
-//! How it is settled in a run what happens next.
+//! What decides what happens next in a run.
 
-/// By what it is settled in a run what happens next.
+/// What decides what happens next in a run.
 #[derive(Clone, Copy)]
 pub enum Order {
     /// Threads that are ready have their turns one after another, and rows alone are picked.

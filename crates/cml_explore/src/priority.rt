@@ -262,6 +262,7 @@ pub(crate) fn run_by_priority(
     requires { NoneOut hub.old }
     ensures { OnOk result (RunsDrawn by_priority hub.old priorities.old hub.new priorities.new) }
 {
+    // Each item uses at least 1 of the budget, so `left` ends no run before `is_over` does; by it the prover sees that the loop ends.
     let mut left = hub.budget();
     'items: while left > 0 {
         if is_over(hub) {

@@ -120,7 +120,7 @@ fn run_within(
     let copy = program.copy()?;
     match Hub::begin(alloc, copy, budget, None) {
         Ok(hub) => {
-            // Read for the proof alone, which uses what is promised of it.
+            // No effect: named here so that the prover knows what holds of it.
             let _so_far = hub.schedule();
             run_so(alloc, hub, order, span, seed)
         }

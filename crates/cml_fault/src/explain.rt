@@ -82,7 +82,7 @@ fn tell_turn(
         OnOk result (AreBlocks k p (first_failures (text_of p) second.old.course.items) out.old.items
         → AreBlocks k p (first_failures (text_of p) second.new.course.items) out.new.items) }
 {
-    // Read for the proof alone, which uses what is promised of it.
+    // No effect: named here so that the prover knows what holds of it.
     let _so_far = second.schedule();
     let before = second.faults();
     if before >= BLOCK_LIMIT {
@@ -115,7 +115,7 @@ fn tell_item(
         OnOk result (AreBlocks k p (first_failures (text_of p) second.old.course.items) out.old.items
         → AreBlocks k p (first_failures (text_of p) second.new.course.items) out.new.items) }
 {
-    // Read for the proof alone, which uses what is promised of it.
+    // No effect: named here so that the prover knows what holds of it.
     let _so_far = second.schedule();
     match item {
         Item::Turn(thread) => tell_turn(alloc, out, sources, second, thread),
@@ -142,7 +142,7 @@ fn tell_all(
     let items = sources.hub.schedule();
     for i in 0..items.len() {
         let item = items[i];
-        // Read for the proof alone, which uses what is promised of it.
+        // No effect: named here so that the prover knows what holds of it.
         let _so_far = second.schedule();
         tell_item(alloc, out, sources, second, item)?;
     }

@@ -1,6 +1,7 @@
 -- What a flat group keeps: the group, its leaves and its scopes.
-use Rattle.std.specs.Prelude.{◌≡◌, ◌≤◌, ℕ, Bool, List, [], length, true, false}
-use Rattle.cml_value.specs.Group.{PlainGroup, leaf, PlainLeaf, PlainScope, leaves, leaf_count, scopes, nacks_of, group_fits}
+use Rattle.std.specs.Prelude.{◌≡◌, ◌≤◌, ℕ, Bool, ◌&&◌, if◌then◌else◌, List, [], length, true, false}
+use Rattle.cml_value.specs.Value.{PlainBase, always, send, swap, mswap}
+use Rattle.cml_value.specs.Group.{PlainGroup, leaf, choose, PlainGroups, no_groups, groups_and, PlainLeaf, PlainScope, leaves, leaf_count, scopes, nacks_of, group_fits}
 use Rattle.cml_group.specs.Leaves.{numbers}
 use Rattle.cml_value.specs.declared.number.NackId.{NackId}
 
@@ -13,15 +14,33 @@ pub record IsWithinLimits (g : PlainGroup) : Type 0 where
   pub few_leaves : leaf_count g ≤ max_leaves
   pub fits : group_fits g ≡ true
 
--- the group is a base event
-abbrev pub is_leaf : PlainGroup → Bool
-is_leaf (leaf b) = true
-is_leaf g = false
+-- a base event that carries no value
+abbrev pub is_bare : PlainBase → Bool
+is_bare (always v) = false
+is_bare (send c v) = false
+is_bare (swap s v) = false
+is_bare (mswap m v) = false
+is_bare b = true
 
--- the leaves for which there is a list: a base event is its own leaf
+-- the group is such a base event
+abbrev pub is_bare_leaf : PlainGroup → Bool
+is_bare_leaf (leaf b) = is_bare b
+is_bare_leaf g = false
+
+-- each of the groups is one
+abbrev pub are_bare_leaves : PlainGroups → Bool
+are_bare_leaves no_groups = true
+are_bare_leaves (groups_and g gs) = is_bare_leaf g && are_bare_leaves gs
+
+-- the group is flat as it stands: a base event, or a choice among base events that carry no value
+abbrev pub is_flat : PlainGroup → Bool
+is_flat (leaf b) = true
+is_flat (choose gs) = are_bare_leaves gs
+is_flat g = false
+
+-- the leaves for which there is a list: none of a group that is flat as it stands
 abbrev pub listed_leaves : PlainGroup → List PlainLeaf
-listed_leaves (leaf b) = []
-listed_leaves g = leaves g
+listed_leaves g = if is_flat g then [] else leaves g
 
 -- these are the leaves that are listed, the scopes and the nacks of the group, and the list of nacks has room for all of them
 pub record IsLaidOut (g : PlainGroup) (ls : List PlainLeaf) (ss : List PlainScope) (ks : List NackId) (room : ℕ) : Type 0 where

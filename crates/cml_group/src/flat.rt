@@ -4,9 +4,10 @@ ghost use Rattle.std.specs.Prelude.{◌≡◌, ◌≤◌, ◌<◌, length, map, 
 ghost use Rattle.std.specs.Vec.{vec_capacity};
 ghost use Rattle.cml_value.specs.Group.{PlainGroup, leaf_count, scopes, nacks_of, lies_outside, lost};
 ghost use Rattle.cml_group.specs.Leaves.{pick, leaf_base, leaf_wraps, numbers};
-ghost use Rattle.cml_group.specs.LaidOut.{IsWithinLimits, is_leaf, listed_leaves};
+ghost use Rattle.cml_group.specs.LaidOut.{IsWithinLimits, listed_leaves};
 ghost use Rattle.cml_group.specs.Faults.{Refuses};
 
+use crate::bare::{is_flat, own_base, own_count, own_leaf};
 use crate::fault::FlatFault;
 use crate::lay::{Branch, Branches, Leaf, lay};
 use crate::limit::{MAX_LEAVES, has_few_leaves};
@@ -18,11 +19,11 @@ use std::marker::Model;
 #[derive(Drop)]
 pub struct Flat {
     group: Group,
-    // none where the group is a base event, which is its one leaf
+    // none where the group is flat as it stands: its leaves are read off it
     leaves: Vec<Leaf>,
     branches: Branches,
     nacks: Vec<NackId>,
-    // the functions of such a leaf: none
+    // the functions of such leaves: none
     unwrapped: Vec<FnRef>,
 }
 
@@ -79,13 +80,6 @@ fn nacks_in(alloc: Global, branches: &[Branch]) -> Result<Vec<NackId>, AllocErro
     Ok(nacks)
 }
 
-// Whether the group is a base event.
-fn is_leaf(group: &Group) -> bool
-    ensures { result ≡ is_leaf group.now }
-{
-    matches!(group.kind(), GroupKind::Leaf(_))
-}
-
 // How many leaves there is to be room for at first: those of a choice among base events.
 fn first_room(group: &Group) -> usize {
     match group.kind() {
@@ -95,6 +89,7 @@ fn first_room(group: &Group) -> usize {
 }
 
 // Fills the lists, which are empty, with the leaves of the group that are listed and with its scopes.
+#[tactic(auto, using(crate::proofs::Listed::flat_scopes))]
 fn lay_listed(
     group: &Group,
     alloc: Global,
@@ -106,7 +101,7 @@ fn lay_listed(
     ensures leaves { OnOk result (leaves.new.items ≡ listed_leaves group.now) }
     ensures scopes { OnOk result (branches.new.items ≡ scopes group.now) }
 {
-    if is_leaf(group) {
+    if is_flat(group) {
         return Ok(());
     }
     leaves.reserve(first_room(group))?;
@@ -161,10 +156,11 @@ impl Flat {
         ensures len { result ≡ leaf_count self.now }
         ensures few { result ≤ MAX_LEAVES }
     {
-        if is_leaf(&self.group) {
-            return 1;
+        match self.group.kind() {
+            GroupKind::Leaf(_) => 1,
+            _ if self.leaves.is_empty() => own_count(&self.group),
+            _ => self.leaves.len(),
         }
-        self.leaves.len()
     }
 
     /// What the leaf of this number waits for.
@@ -174,6 +170,7 @@ impl Flat {
     {
         match self.group.kind() {
             GroupKind::Leaf(base) => base,
+            _ if self.leaves.is_empty() => own_leaf(&self.group, n),
             _ => &self.leaves[n].base,
         }
     }
@@ -183,10 +180,10 @@ impl Flat {
         requires { n < leaf_count self.now }
         ensures { leaf_wraps self.now n ≡ Some result.now }
     {
-        match self.group.kind() {
-            GroupKind::Leaf(_) => &self.unwrapped,
-            _ => &self.leaves[n].wraps,
+        if self.leaves.is_empty() {
+            return &self.unwrapped;
         }
+        &self.leaves[n].wraps
     }
 
     /// The nacks of all scopes, from the left, an outer one before those in it.
@@ -236,12 +233,13 @@ impl Flat {
             unwrapped,
         } = self;
         fill(&mut nacks, branches.as_slice(), n);
-        let Leaf { base, wraps } = match group.into_kind() {
-            GroupKind::Leaf(base) => Leaf {
-                base,
+        let Leaf { base, wraps } = if leaves.is_empty() {
+            Leaf {
+                base: own_base(group, n),
                 wraps: unwrapped,
-            },
-            _ => leaves.swap_remove(n),
+            }
+        } else {
+            leaves.swap_remove(n)
         };
         Chosen {
             base,

@@ -2,6 +2,7 @@
 //! nacks that fire where it is chosen.
 #![tactic(auto)]
 
+mod bare;
 mod fault;
 mod flat;
 mod force;

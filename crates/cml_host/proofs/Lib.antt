@@ -1,5 +1,6 @@
 mod SayLemmas
 mod TextLemmas
+mod CheckedLemmas
 mod TellLemmas
 mod BudgetLemmas
 mod CountLemmas

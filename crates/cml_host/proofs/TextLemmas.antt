@@ -11,7 +11,6 @@ use Rattle.cml_text.specs.Forms.{PlainSexpr}
 use Rattle.cml_text.specs.Sizes.{text_limit}
 use Rattle.cml_text.specs.Steps.{IsFault}
 use Rattle.cml_text.specs.Texts.{Spells, fault_of}
-use Rattle.cml_host.specs.Checked.{IsChecked, IsShaped}
 use Rattle.cml_host.specs.Formatted.{IsPrinted}
 use Rattle.cml_host.specs.Said.{IsFaulty, FaultOutcome, FileOutcome, SaidOutcome, Told, text_told}
 use Rattle.cml_host.specs.Stores.{Content, unknown, nothing, bytes, IsLoaded, MayFail}
@@ -92,24 +91,9 @@ whole_spelled all found forms is spells = go (all_or_long text_limit all)
     go (inl same) = subst (λ t. Spells t forms) (is ∙ same) spells
     go (inr long) = absurd (not_spelled all found forms is long.1 spells)
 
--- what is said of forms that were handed over is said of the whole, which spells them
-spelled_whole : (Says : List ℕ → List PlainSexpr → Type 0) (all found : List ℕ) (forms : List PlainSexpr) → found ≡ take (text_limit + 1) all
-    → Spells found forms → Says found forms → Spells all forms × Says all forms
-spelled_whole Says all found forms is spells says = go (all_or_long text_limit all)
-  where
-    go : (take (text_limit + 1) all ≡ all) ⊎ ((text_limit < length all) × (text_limit < length (take (text_limit + 1) all))) → Spells all forms × Says all forms
-    go (inl same) = subst (λ (t : List ℕ). Spells t forms × Says t forms) (is ∙ same) (spells, says)
-    go (inr long) = absurd (not_spelled all found forms is long.1 spells)
-
 -- what is said of what was handed over is said of the whole
 abbrev pub IsOfWhole : (List ℕ → Said → Type 0) → Type 0
 IsOfWhole Says = (all found : List ℕ) (said : Said) → found ≡ take (text_limit + 1) all → Says found said → Says all said
-
-pub checked_whole : (explains : Bool) (name : List ℕ) → IsOfWhole (IsChecked explains name)
-checked_whole explains name all found said is (inl spelled) =
-    let whole = spelled_whole (λ text forms. IsShaped explains name text forms said) all found spelled.0 is spelled.1 spelled.2 in
-    inl (spelled.0, whole.0, whole.1)
-checked_whole explains name all found said is (inr told) = inr (whole_fault explains name all found said is told)
 
 pub printed_whole : (explains : Bool) (name : List ℕ) → IsOfWhole (IsPrinted explains name)
 printed_whole explains name all found said is (inl spelled) = inl (spelled.0, whole_spelled all found spelled.0 is spelled.1, spelled.2)

@@ -24,3 +24,10 @@ IsShaped explains name given forms (Refused all) =
 abbrev pub IsChecked : Bool → List ℕ → List ℕ → Said → Type 0
 IsChecked explains name given said =
     ((forms : List PlainSexpr) × Spells given forms × IsShaped explains name given forms said) ⊎ IsFaulty explains name given said
+
+-- ---- what private functions say
+
+-- how many functions the program has is written
+abbrev pub IsCounted : List (PlainItem ℕ) → Said → Type 0
+IsCounted program (Written all) = string_bytes all ≡ line (codes "ok functions " ++ decimal (length program))
+IsCounted program (Refused all) = ⊥

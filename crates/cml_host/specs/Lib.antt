@@ -1,3 +1,4 @@
+pub mod Between
 pub mod Stores
 pub mod Written
 pub mod Said

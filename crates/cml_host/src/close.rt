@@ -1,11 +1,11 @@
 //! How a run is closed that has come to its end: its status, and what is said of that end.
 
 ghost use Rattle.std.specs.Prelude.{◌≡◌, IfOk, Some, false, is_some};
+ghost use Rattle.cml_host.specs.Between.{between};
 ghost use Rattle.cml_host.specs.Closed as closed;
 ghost use Rattle.cml_host.specs.Closed.{IsClosing, IsEndExplained, SaysEnd, asked_of, drawn_subject, kept_of, script_as_subject, plain_asked, plain_closing, plain_subject};
 ghost use Rattle.cml_host.specs.Scripts.{plain_script};
 ghost use Rattle.cml_host.specs.Told as spec;
-ghost use Rattle.cml_stream.specs.Streams.{counted_stream};
 
 use crate::output::say;
 use crate::script::Script;
@@ -184,7 +184,7 @@ fn end_status(end: End) -> u8
 /// Says what is said of the end, after all else was told, and returns the status.
 pub fn say_end<E: Write>(closing: &Closing, err: &mut Counting<'_, E>) -> u8
     requires fresh { err.old.failed ≡ 0 }
-    ensures said { let errors = counted_stream (E.contents err.old.stream.now) (E.contents err.new.stream.now) err.new.calls err.new.failed in
+    ensures said { let errors = between E.contents err.old err.new in
         SaysEnd (plain_closing closing.now).words errors }
     ensures status { result ≡ closing.now.status }
     ensures same_err { err.new.stream.ghost_name ≡ err.old.stream.ghost_name }

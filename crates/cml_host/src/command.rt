@@ -2,9 +2,10 @@
 
 ghost use Rattle.std.specs.Prelude.{◌≡◌, ◌≤◌, map};
 ghost use Rattle.std.specs.String.{string_bytes};
+ghost use Rattle.cml_host.specs.Between.{between};
 ghost use Rattle.cml_host.specs.Statuses.{Surroundings, Ran, RanOver};
 ghost use Rattle.cml_host.specs.Stores.{Shelf};
-ghost use Rattle.cml_stream.specs.Streams.{counted_stream, stream};
+ghost use Rattle.cml_stream.specs.Streams.{stream};
 ghost use Rattle.cml_trace.specs.Live.{max_turns};
 
 use crate::check::check_file;
@@ -91,9 +92,9 @@ where
     requires writes { (out.old.calls ≡ 0) × (out.old.failed ≡ 0) }
     requires complaints { (err.old.calls ≡ 0) × (err.old.failed ≡ 0) }
     ensures ran { let around : Surroundings = record {
-      input = counted_stream (I.remaining input.old.stream.now) (I.remaining input.new.stream.now) input.new.calls input.new.failed;
-      output = counted_stream (O.contents out.old.stream.now) (O.contents out.new.stream.now) out.new.calls out.new.failed;
-      errors = counted_stream (E.contents err.old.stream.now) (E.contents err.new.stream.now) err.new.calls err.new.failed;
+      input = between I.remaining input.old input.new;
+      output = between O.contents out.old out.new;
+      errors = between E.contents err.old err.new;
       terminal = terminal;
       store = record { before = S.holds store.old; after = S.holds store.new };
     } in

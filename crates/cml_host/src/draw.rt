@@ -2,11 +2,12 @@
 
 ghost use Rattle.std.specs.Prelude.{◌≡◌, IfErr, IfOk, None, length};
 ghost use Rattle.cml_hub.specs.Kept.{IsAtStart};
+ghost use Rattle.cml_host.specs.Between.{between};
 ghost use Rattle.cml_host.specs.Closed.{plain_subject};
 ghost use Rattle.cml_host.specs.Drawn as spec;
 ghost use Rattle.cml_host.specs.Drawn.{DrawOutcome, IsDrawnBy, IsUndrawnBy, TextDrawn, too_many_told};
 ghost use Rattle.cml_host.specs.Stores.{IsUnchanged};
-ghost use Rattle.cml_stream.specs.Streams.{counted_stream, Says};
+ghost use Rattle.cml_stream.specs.Streams.{Says};
 
 use crate::close::Subject;
 use crate::explain::begin;
@@ -57,8 +58,8 @@ pub fn draw_file<O: Write, E: Write, S: Store>(
     store: &mut S,
 ) -> u8
     requires fresh { (out.old.calls ≡ 0) × (out.old.failed ≡ 0) × (err.old.calls ≡ 0) × (err.old.failed ≡ 0) }
-    ensures ran { let output = counted_stream (O.contents out.old.stream.now) (O.contents out.new.stream.now) out.new.calls out.new.failed in
-        let errors = counted_stream (E.contents err.old.stream.now) (E.contents err.new.stream.now) err.new.calls err.new.failed in
+    ensures ran { let output = between O.contents out.old out.new in
+        let errors = between E.contents err.old err.new in
         DrawOutcome options.now (S.holds store.old) output errors result }
     ensures same { IsUnchanged (S.holds store.old) (S.holds store.new) }
     ensures same_out { out.new.stream.ghost_name ≡ out.old.stream.ghost_name }
@@ -89,8 +90,8 @@ fn draw_text<O: Write, E: Write>(
     err: &mut Counting<'_, E>,
 ) -> u8
     requires fresh { (out.old.calls ≡ 0) × (out.old.failed ≡ 0) × (err.old.calls ≡ 0) × (err.old.failed ≡ 0) }
-    ensures ran { let output = counted_stream (O.contents out.old.stream.now) (O.contents out.new.stream.now) out.new.calls out.new.failed in
-        let errors = counted_stream (E.contents err.old.stream.now) (E.contents err.new.stream.now) err.new.calls err.new.failed in
+    ensures ran { let output = between O.contents out.old out.new in
+        let errors = between E.contents err.old err.new in
         TextDrawn options.now (plain_subject subject.now) program text.now output errors result }
     ensures same_out { out.new.stream.ghost_name ≡ out.old.stream.ghost_name }
     ensures same_err { err.new.stream.ghost_name ≡ err.old.stream.ghost_name }
@@ -105,7 +106,7 @@ fn draw_text<O: Write, E: Write>(
 /// Says that there is too much to draw, and returns the status.
 pub fn refuse_long<E: Write>(err: &mut Counting<'_, E>) -> u8
     requires fresh { err.old.failed ≡ 0 }
-    ensures said { let errors = counted_stream (E.contents err.old.stream.now) (E.contents err.new.stream.now) err.new.calls err.new.failed in
+    ensures said { let errors = between E.contents err.old err.new in
         Says errors too_many_told }
     ensures status { result ≡ 1 }
     ensures same_err { err.new.stream.ghost_name ≡ err.old.stream.ghost_name }

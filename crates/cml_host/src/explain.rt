@@ -2,12 +2,13 @@
 
 ghost use Rattle.std.specs.Prelude.{◌≡◌, ◌+◌, ◌<◌, ◌^◌, [], IfOk, IfErr, OnOk, OnErr, IsTrue, None, length};
 ghost use Rattle.cml_hub.specs.Kept.{IsAtStart, NoneOut};
+ghost use Rattle.cml_host.specs.Between.{between};
 ghost use Rattle.cml_host.specs.Closed.{plain_subject};
 ghost use Rattle.cml_host.specs.Narrated as spec;
 ghost use Rattle.cml_host.specs.Narrated.{ExplainOutcome, HasToldFirst, IsSetUp, IsNotSetUp, IsTellingOf, PlanTold, Spills, TextExplained, StoryCut, tale_for};
 ghost use Rattle.cml_host.specs.Stores.{IsUnchanged};
 ghost use Rattle.cml_narrative.specs.Tellers.{Knows, tale_of};
-ghost use Rattle.cml_stream.specs.Streams.{counted_stream, stream, TakesStart};
+ghost use Rattle.cml_stream.specs.Streams.{stream, TakesStart};
 
 use crate::close::{Subject, end_words};
 use crate::item::explain_item;
@@ -73,8 +74,8 @@ pub fn explain_file<O: Write, E: Write, S: Store>(
     store: &mut S,
 ) -> u8
     requires fresh { (out.old.calls ≡ 0) × (out.old.failed ≡ 0) × (err.old.calls ≡ 0) × (err.old.failed ≡ 0) }
-    ensures ran { let output = counted_stream (O.contents out.old.stream.now) (O.contents out.new.stream.now) out.new.calls out.new.failed in
-        let errors = counted_stream (E.contents err.old.stream.now) (E.contents err.new.stream.now) err.new.calls err.new.failed in
+    ensures ran { let output = between O.contents out.old out.new in
+        let errors = between E.contents err.old err.new in
         ExplainOutcome options.now (S.holds store.old) output errors result }
     ensures same { IsUnchanged (S.holds store.old) (S.holds store.new) }
     ensures same_out { out.new.stream.ghost_name ≡ out.old.stream.ghost_name }
@@ -105,8 +106,8 @@ fn explain_text<O: Write, E: Write>(
     err: &mut Counting<'_, E>,
 ) -> u8
     requires fresh { (out.old.calls ≡ 0) × (out.old.failed ≡ 0) × (err.old.calls ≡ 0) × (err.old.failed ≡ 0) }
-    ensures ran { let output = counted_stream (O.contents out.old.stream.now) (O.contents out.new.stream.now) out.new.calls out.new.failed in
-        let errors = counted_stream (E.contents err.old.stream.now) (E.contents err.new.stream.now) err.new.calls err.new.failed in
+    ensures ran { let output = between O.contents out.old out.new in
+        let errors = between E.contents err.old err.new in
         TextExplained options.now (plain_subject subject.now) program text.now output errors result }
     ensures same_out { out.new.stream.ghost_name ≡ out.old.stream.ghost_name }
     ensures same_err { err.new.stream.ghost_name ≡ err.old.stream.ghost_name }
@@ -166,8 +167,8 @@ fn explain_items<O: Write, E: Write>(
 ) -> u8
     requires start { IsAtStart hub.old.course.program hub.old.budget None hub.old }
     requires fresh { (out.old.failed ≡ 0) × (err.old.calls ≡ 0) × (err.old.failed ≡ 0) }
-    ensures told { let output = counted_stream (O.contents out.old.stream.now) (O.contents out.new.stream.now) out.new.calls out.new.failed in
-        let errors = counted_stream (E.contents err.old.stream.now) (E.contents err.new.stream.now) err.new.calls err.new.failed in
+    ensures told { let output = between O.contents out.old out.new in
+        let errors = between E.contents err.old err.new in
         PlanTold (plain_subject subject.now) options.now text.now items.now hub.old output errors result }
     ensures same_out { out.new.stream.ghost_name ≡ out.old.stream.ghost_name }
     ensures same_err { err.new.stream.ghost_name ≡ err.old.stream.ghost_name }
@@ -193,8 +194,8 @@ fn tell_end<O: Write, E: Write>(
     err: &mut Counting<'_, E>,
 ) -> u8
     requires fresh { (out.old.failed ≡ 0) × (err.old.calls ≡ 0) × (err.old.failed ≡ 0) }
-    ensures told { let output = counted_stream (O.contents out.old.stream.now) (O.contents out.new.stream.now) out.new.calls out.new.failed in
-        let errors = counted_stream (E.contents err.old.stream.now) (E.contents err.new.stream.now) err.new.calls err.new.failed in
+    ensures told { let output = between O.contents out.old out.new in
+        let errors = between E.contents err.old err.new in
         spec.EndTold (plain_subject subject.now) hub.now output errors result }
     ensures same_out { out.new.stream.ghost_name ≡ out.old.stream.ghost_name }
     ensures same_err { err.new.stream.ghost_name ≡ err.old.stream.ghost_name }
@@ -220,7 +221,7 @@ fn refuse_item<E: Write>(
 ) -> u8
     requires fresh { err.old.failed ≡ 0 }
     requires few { count + 1 < 2 ^ 64 }
-    ensures told { let errors = counted_stream (E.contents err.old.stream.now) (E.contents err.new.stream.now) err.new.calls err.new.failed in
+    ensures told { let errors = between E.contents err.old err.new in
         spec.ItemRefused subject.now.forms.items text.now hub.now.course.world (count + 1) item.now errors result }
     ensures same_err { err.new.stream.ghost_name ≡ err.old.stream.ghost_name }
 {
@@ -240,7 +241,7 @@ fn refuse_item<E: Write>(
 // Tells why a story was cut off.
 fn cut_story<E: Write>(why: Halt, err: &mut Counting<'_, E>) -> u8
     requires fresh { err.old.failed ≡ 0 }
-    ensures told { let errors = counted_stream (E.contents err.old.stream.now) (E.contents err.new.stream.now) err.new.calls err.new.failed in
+    ensures told { let errors = between E.contents err.old err.new in
         spec.HaltOutcome why errors result }
     ensures same_err { err.new.stream.ghost_name ≡ err.old.stream.ghost_name }
 {
@@ -267,9 +268,9 @@ fn tell_items<O: Write>(
 ) -> Result<usize, Halt>
     requires start { IsAtStart hub.old.course.program hub.old.budget None hub.old }
     requires fresh { out.old.failed ≡ 0 }
-    ensures ok { let output = counted_stream (O.contents out.old.stream.now) (O.contents out.new.stream.now) out.new.calls out.new.failed in
+    ensures ok { let output = between O.contents out.old out.new in
         IfOk result (λ count. HasToldFirst options.now (tale_for (plain_subject subject.now) (length items.now)) hub.old items.now count hub.new [] output) }
-    ensures err { let output = counted_stream (O.contents out.old.stream.now) (O.contents out.new.stream.now) out.new.calls out.new.failed in
+    ensures err { let output = between O.contents out.old out.new in
         IfErr result (λ why. StoryCut options.now (tale_for (plain_subject subject.now) (length items.now)) hub.old items.now why output) }
     ensures same_out { out.new.stream.ghost_name ≡ out.old.stream.ghost_name }
 {
@@ -296,9 +297,9 @@ fn tell_until<O: Write>(
     requires knows { Knows hub.old.course narrator.old }
     requires none { piece.old.items ≡ [] }
     requires fresh { out.old.failed ≡ 0 }
-    ensures ok { let output = counted_stream (O.contents out.old.stream.now) (O.contents out.new.stream.now) out.new.calls out.new.failed in
+    ensures ok { let output = between O.contents out.old out.new in
         IfOk result (λ count. HasToldFirst options.now (tale_of narrator.old) hub.old items.now count hub.new piece.new.items output) }
-    ensures err { let output = counted_stream (O.contents out.old.stream.now) (O.contents out.new.stream.now) out.new.calls out.new.failed in
+    ensures err { let output = between O.contents out.old out.new in
         IfErr result (λ why. StoryCut options.now (tale_of narrator.old) hub.old items.now why output) }
     ensures same_out { out.new.stream.ghost_name ≡ out.old.stream.ghost_name }
 {

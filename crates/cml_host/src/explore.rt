@@ -7,6 +7,7 @@ ghost use Rattle.std.specs.String.{string_bytes};
 ghost use Rattle.cml_check.specs.Sizes.{size_of};
 ghost use Rattle.cml_explore.specs.Answers.{IsToldOfRuns};
 ghost use Rattle.cml_explore.specs.Explored.{HasMade, SoFar};
+ghost use Rattle.cml_host.specs.Between.{between};
 ghost use Rattle.cml_host.specs.Exploring as spec;
 ghost use Rattle.cml_host.specs.Exploring.{AreSaved, AsksForRuns, ClassesKept, ExploreOutcome, FilesKept, IsNotSaved, MadeAll, MadeErased, MadeSome, MadeTold, NameRefused, NotShown, ProgramExplored, RunsTold, ScriptExplored, ShownFrom, SomeSaved, StopsBehind, StopsErased, StopsShowing, UnsavedTold, erased, files_from, judged, saved_start, shown_at, shown_next, stop_at};
 ghost use Rattle.cml_host.specs.Running as running;
@@ -14,7 +15,7 @@ ghost use Rattle.cml_host.specs.Scripts.{plain_script};
 ghost use Rattle.cml_host.specs.Stores.{Shelf, IsSaved};
 ghost use Rattle.cml_hub.specs.Kept.{IsBudget};
 ghost use Rattle.cml_schedule.specs.Written.{schedule_text};
-ghost use Rattle.cml_stream.specs.Streams.{counted_stream, stream, Takes, TakesStart};
+ghost use Rattle.cml_stream.specs.Streams.{stream, Takes, TakesStart};
 ghost use Rattle.cml_arguments.specs.Words.{IsDepth, IsRuns, saved_name};
 
 use crate::explain::Halt;
@@ -75,8 +76,8 @@ pub fn explore_file<R: Threads + Sync, O: Write, E: Write, S: Store>(
     requires depth { IfSome options.now.priority IsDepth }
     requires seeds { options.now.seed + options.now.runs ≤ 2 ^ 64 }
     requires fresh { (out.old.calls ≡ 0) × (out.old.failed ≡ 0) × (err.old.calls ≡ 0) × (err.old.failed ≡ 0) }
-    ensures ran { let output = counted_stream (O.contents out.old.stream.now) (O.contents out.new.stream.now) out.new.calls out.new.failed in
-        let errors = counted_stream (E.contents err.old.stream.now) (E.contents err.new.stream.now) err.new.calls err.new.failed in
+    ensures ran { let output = between O.contents out.old out.new in
+        let errors = between E.contents err.old err.new in
         let shelf : Shelf = record { before = S.holds store.old; after = S.holds store.new } in
         ExploreOutcome options.now terminal output errors shelf result }
     ensures same_out { out.new.stream.ghost_name ≡ out.old.stream.ghost_name }
@@ -103,8 +104,8 @@ fn explore_opened<R: Threads + Sync, O: Write, E: Write, S: Store>(
     requires depth { IfSome options.now.priority IsDepth }
     requires seeds { options.now.seed + options.now.runs ≤ 2 ^ 64 }
     requires fresh { (out.old.calls ≡ 0) × (out.old.failed ≡ 0) × (err.old.failed ≡ 0) }
-    ensures ran { let output = counted_stream (O.contents out.old.stream.now) (O.contents out.new.stream.now) out.new.calls out.new.failed in
-        let errors = counted_stream (E.contents err.old.stream.now) (E.contents err.new.stream.now) err.new.calls err.new.failed in
+    ensures ran { let output = between O.contents out.old out.new in
+        let errors = between E.contents err.old err.new in
         let shelf : Shelf = record { before = S.holds store.old; after = S.holds store.new } in
         ScriptExplored options.now shows (plain_script script.now) output errors shelf result }
     ensures same_out { out.new.stream.ghost_name ≡ out.old.stream.ghost_name }
@@ -172,8 +173,8 @@ fn explore_program<R: Threads + Sync, O: Write, E: Write, S: Store>(
     requires seeds { asked.now.first + asked.now.runs ≤ 2 ^ 64 }
     requires asks { AsksForRuns options.now asked.now.servers.now asked.now }
     requires fresh { (out.old.calls ≡ 0) × (out.old.failed ≡ 0) × (err.old.failed ≡ 0) }
-    ensures ran { let output = counted_stream (O.contents out.old.stream.now) (O.contents out.new.stream.now) out.new.calls out.new.failed in
-        let errors = counted_stream (E.contents err.old.stream.now) (E.contents err.new.stream.now) err.new.calls err.new.failed in
+    ensures ran { let output = between O.contents out.old out.new in
+        let errors = between E.contents err.old err.new in
         let shelf : Shelf = record { before = S.holds store.old; after = S.holds store.new } in
         ProgramExplored options.now shows (plain_script script.now) asked.now.servers.now output errors shelf result }
     ensures same_out { out.new.stream.ghost_name ≡ out.old.stream.ghost_name }
@@ -210,9 +211,9 @@ fn explored<R: Threads + Sync, E: Write>(
     requires counts { IsRuns asked.now.runs × IsBudget asked.now.budget }
     requires seeds { asked.now.first + asked.now.runs ≤ 2 ^ 64 }
     requires fresh { err.old.failed ≡ 0 }
-    ensures ok { let errors = counted_stream (E.contents err.old.stream.now) (E.contents err.new.stream.now) err.new.calls err.new.failed in
+    ensures ok { let errors = between E.contents err.old err.new in
         IfOk result (λ made. MadeErased program.now asked.now shows made errors) }
-    ensures err { let errors = counted_stream (E.contents err.old.stream.now) (E.contents err.new.stream.now) err.new.calls err.new.failed in
+    ensures err { let errors = between E.contents err.old err.new in
         IfErr result (λ why. StopsErased shows asked.now.runs why errors) }
     ensures same_err { err.new.stream.ghost_name ≡ err.old.stream.ghost_name }
 {
@@ -242,9 +243,9 @@ fn make_runs<R: Threads + Sync, E: Write>(
     requires counts { IsRuns asked.now.runs × IsBudget asked.now.budget }
     requires seeds { asked.now.first + asked.now.runs ≤ 2 ^ 64 }
     requires fresh { err.old.failed ≡ 0 }
-    ensures ok { let errors = counted_stream (E.contents err.old.stream.now) (E.contents err.new.stream.now) err.new.calls err.new.failed in
+    ensures ok { let errors = between E.contents err.old err.new in
         IfOk result (λ made. MadeAll program.now asked.now shows made errors) }
-    ensures err { let errors = counted_stream (E.contents err.old.stream.now) (E.contents err.new.stream.now) err.new.calls err.new.failed in
+    ensures err { let errors = between E.contents err.old err.new in
         IfErr result (λ why. StopsShowing shows asked.now.runs why errors) }
     ensures same_err { err.new.stream.ghost_name ≡ err.old.stream.ghost_name }
 {
@@ -274,9 +275,9 @@ fn make_some<R: Threads + Sync, E: Write>(
     requires so_far { SoFar program.now asked.now made.old }
     requires left { made.old.runs < asked.now.runs }
     requires fresh { err.old.failed ≡ 0 }
-    ensures ok { let errors = counted_stream (E.contents err.old.stream.now) (E.contents err.new.stream.now) err.new.calls err.new.failed in
+    ensures ok { let errors = between E.contents err.old err.new in
         IfOk result (λ last. MadeSome program.now asked.now shows last made.old made.new errors) }
-    ensures err { let errors = counted_stream (E.contents err.old.stream.now) (E.contents err.new.stream.now) err.new.calls err.new.failed in
+    ensures err { let errors = between E.contents err.old err.new in
         IfErr result (λ why. StopsBehind shows asked.now.runs made.old.runs why errors) }
     ensures same_err { err.new.stream.ghost_name ≡ err.old.stream.ghost_name }
 {
@@ -323,7 +324,7 @@ fn show_from<E: Write>(
     requires fresh { err.old.failed ≡ 0 }
     ensures ok { let errors = stream (E.contents err.old.stream.now) (E.contents err.new.stream.now) in
         OnOk result (ShownFrom shows runs before count errors × (err.new.failed ≡ 0)) }
-    ensures err { let errors = counted_stream (E.contents err.old.stream.now) (E.contents err.new.stream.now) err.new.calls err.new.failed in
+    ensures err { let errors = between E.contents err.old err.new in
         IfErr result (λ why. StopsBehind shows runs before why errors) }
     ensures same_err { err.new.stream.ghost_name ≡ err.old.stream.ghost_name }
 {
@@ -345,7 +346,7 @@ fn show_next<E: Write>(
     requires fresh { err.old.failed ≡ 0 }
     ensures ok { let errors = stream (E.contents err.old.stream.now) (E.contents err.new.stream.now) in
         OnOk result (Takes errors (shown_next shows runs count) × (err.new.failed ≡ 0)) }
-    ensures err { let errors = counted_stream (E.contents err.old.stream.now) (E.contents err.new.stream.now) err.new.calls err.new.failed in
+    ensures err { let errors = between E.contents err.old err.new in
         IfErr result (λ why. NotShown (shown_next shows runs count) why errors) }
     ensures same_err { err.new.stream.ghost_name ≡ err.old.stream.ghost_name }
 {
@@ -367,7 +368,7 @@ fn show<E: Write>(
     requires fresh { err.old.failed ≡ 0 }
     ensures ok { let errors = stream (E.contents err.old.stream.now) (E.contents err.new.stream.now) in
         OnOk result (Takes errors (shown_at runs count) × (err.new.failed ≡ 0)) }
-    ensures err { let errors = counted_stream (E.contents err.old.stream.now) (E.contents err.new.stream.now) err.new.calls err.new.failed in
+    ensures err { let errors = between E.contents err.old err.new in
         IfErr result (λ why. NotShown (shown_at runs count) why errors) }
     ensures same_err { err.new.stream.ghost_name ≡ err.old.stream.ghost_name }
 {
@@ -397,7 +398,7 @@ fn show_line<E: Write>(
     requires fresh { err.old.failed ≡ 0 }
     ensures ok { let errors = stream (E.contents err.old.stream.now) (E.contents err.new.stream.now) in
         OnOk result (Takes errors (spec.progress_line runs count) × (err.new.failed ≡ 0)) }
-    ensures err { let errors = counted_stream (E.contents err.old.stream.now) (E.contents err.new.stream.now) err.new.calls err.new.failed in
+    ensures err { let errors = between E.contents err.old err.new in
         IfErr result (λ why. NotShown (spec.progress_line runs count) why errors) }
     ensures same_err { err.new.stream.ghost_name ≡ err.old.stream.ghost_name }
 {
@@ -444,8 +445,8 @@ fn tell_made<O: Write, E: Write, S: Store>(
     requires seeds { asked.now.first + made.now.runs ≤ 2 ^ 64 }
     requires steps { asked.now.budget ≡ options.now.steps }
     requires fresh { (out.old.calls ≡ 0) × (out.old.failed ≡ 0) × (err.old.failed ≡ 0) }
-    ensures told { let output = counted_stream (O.contents out.old.stream.now) (O.contents out.new.stream.now) out.new.calls out.new.failed in
-        let errors = counted_stream (E.contents err.old.stream.now) (E.contents err.new.stream.now) err.new.calls err.new.failed in
+    ensures told { let output = between O.contents out.old out.new in
+        let errors = between E.contents err.old err.new in
         let shelf : Shelf = record { before = S.holds store.old; after = S.holds store.new } in
         MadeTold options.now (plain_script script.now) asked.now made.now output errors shelf result }
     ensures same_out { out.new.stream.ghost_name ≡ out.old.stream.ghost_name }
@@ -499,8 +500,8 @@ fn tell_said<O: Write, E: Write, S: Store>(
     store: &mut S,
 ) -> u8
     requires fresh { (out.old.failed ≡ 0) × (err.old.failed ≡ 0) }
-    ensures told { let output = counted_stream (O.contents out.old.stream.now) (O.contents out.new.stream.now) out.new.calls out.new.failed in
-        let errors = counted_stream (E.contents err.old.stream.now) (E.contents err.new.stream.now) err.new.calls err.new.failed in
+    ensures told { let output = between O.contents out.old out.new in
+        let errors = between E.contents err.old err.new in
         let shelf : Shelf = record { before = S.holds store.old; after = S.holds store.new } in
         RunsTold (saved_start options.now) options.now.steps program.now made.now said.now [] output errors shelf result }
     ensures same_out { out.new.stream.ghost_name ≡ out.old.stream.ghost_name }
@@ -534,7 +535,7 @@ fn keep_files<E: Write, S: Store>(
     store: &mut S,
 ) -> u8
     requires fresh { err.old.failed ≡ 0 }
-    ensures kept { let errors = counted_stream (E.contents err.old.stream.now) (E.contents err.new.stream.now) err.new.calls err.new.failed in
+    ensures kept { let errors = between E.contents err.old err.new in
         let shelf : Shelf = record { before = S.holds store.old; after = S.holds store.new } in
         ClassesKept (option_map (λ start. start.now) start.entry) budget program.now made.now [] errors shelf result }
     ensures same_err { err.new.stream.ghost_name ≡ err.old.stream.ghost_name }
@@ -563,7 +564,7 @@ fn keep_classes<E: Write, S: Store>(
     store: &mut S,
 ) -> u8
     requires fresh { err.old.failed ≡ 0 }
-    ensures kept { let errors = counted_stream (E.contents err.old.stream.now) (E.contents err.new.stream.now) err.new.calls err.new.failed in
+    ensures kept { let errors = between E.contents err.old err.new in
         let shelf : Shelf = record { before = S.holds store.old; after = S.holds store.new } in
         ClassesKept (Some start.now) budget program.now made.now [] errors shelf result }
     ensures same_err { err.new.stream.ghost_name ≡ err.old.stream.ghost_name }
@@ -600,7 +601,7 @@ fn keep_ranked<E: Write, S: Store>(
 ) -> u8
     requires fresh { err.old.failed ≡ 0 }
     requires below { All (λ n. n < length made.now.classes) numbers.now }
-    ensures kept { let errors = counted_stream (E.contents err.old.stream.now) (E.contents err.new.stream.now) err.new.calls err.new.failed in
+    ensures kept { let errors = between E.contents err.old err.new in
         let shelf : Shelf = record { before = S.holds store.old; after = S.holds store.new } in
         FilesKept (files_from start.now budget program.now made.now.classes 1 numbers.now) made.now.well [] errors shelf result }
     ensures same_err { err.new.stream.ghost_name ≡ err.old.stream.ghost_name }
@@ -674,7 +675,7 @@ fn name_of(alloc: Global, start: &str, place: usize) -> Result<String, AllocErro
 // Tells why a file was not saved.
 fn refuse_unsaved<E: Write>(alloc: Global, why: Unsaved, err: &mut Counting<'_, E>) -> u8
     requires fresh { err.old.failed ≡ 0 }
-    ensures told { let errors = counted_stream (E.contents err.old.stream.now) (E.contents err.new.stream.now) err.new.calls err.new.failed in
+    ensures told { let errors = between E.contents err.old err.new in
         UnsavedTold why errors result }
     ensures same_err { err.new.stream.ghost_name ≡ err.old.stream.ghost_name }
 {
@@ -695,7 +696,7 @@ fn refuse_name<E: Write>(
     err: &mut Counting<'_, E>,
 ) -> u8
     requires fresh { err.old.failed ≡ 0 }
-    ensures told { let errors = counted_stream (E.contents err.old.stream.now) (E.contents err.new.stream.now) err.new.calls err.new.failed in
+    ensures told { let errors = between E.contents err.old err.new in
         NameRefused name.now errors result }
     ensures same_err { err.new.stream.ghost_name ≡ err.old.stream.ghost_name }
 {

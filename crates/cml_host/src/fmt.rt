@@ -1,10 +1,10 @@
 //! The command `fmt`: the forms of a text, each on a line.
 
 ghost use Rattle.std.specs.Prelude.{◌≡◌, IfOk};
+ghost use Rattle.cml_host.specs.Between.{between};
 ghost use Rattle.cml_host.specs.Formatted.{IsPrinted};
 ghost use Rattle.cml_host.specs.Said.{FileOutcome};
 ghost use Rattle.cml_host.specs.Stores.{IsUnchanged};
-ghost use Rattle.cml_stream.specs.Streams.{counted_stream};
 
 use crate::said::{Said, TEXT_LIMIT, finish, refuse_file, refuse_text};
 use crate::source::Source;
@@ -24,8 +24,8 @@ pub fn print_file<O: Write, E: Write, S: Store>(
     store: &mut S,
 ) -> u8
     requires fresh { (out.old.calls ≡ 0) × (out.old.failed ≡ 0) × (err.old.calls ≡ 0) × (err.old.failed ≡ 0) }
-    ensures ran { let output = counted_stream (O.contents out.old.stream.now) (O.contents out.new.stream.now) out.new.calls out.new.failed in
-        let errors = counted_stream (E.contents err.old.stream.now) (E.contents err.new.stream.now) err.new.calls err.new.failed in
+    ensures ran { let output = between O.contents out.old out.new in
+        let errors = between E.contents err.old err.new in
         FileOutcome (IsPrinted explains name.now) explains name.now (S.holds store.old name.now) output errors result }
     ensures same { IsUnchanged (S.holds store.old) (S.holds store.new) }
     ensures same_out { out.new.stream.ghost_name ≡ out.old.stream.ghost_name }

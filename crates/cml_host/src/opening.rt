@@ -1,10 +1,10 @@
 //! What a command begins with that takes a script and a schedule: both are read.
 
 ghost use Rattle.std.specs.Prelude.{◌≡◌, IfErr, IfOk};
+ghost use Rattle.cml_host.specs.Between.{between};
 ghost use Rattle.cml_host.specs.Closed.{plain_subject};
 ghost use Rattle.cml_host.specs.Opening.{AreOpened, NotOpenedOutcome, AreNotOpened};
 ghost use Rattle.cml_host.specs.Stores.{IsUnchanged};
-ghost use Rattle.cml_stream.specs.Streams.{counted_stream};
 
 use crate::close::{Subject, subject_of};
 use crate::replay::SCHEDULE_LIMIT;
@@ -70,7 +70,7 @@ pub fn refuse_opening<E: Write>(
     err: &mut Counting<'_, E>,
 ) -> u8
     requires fresh { err.old.failed ≡ 0 }
-    ensures told { let errors = counted_stream (E.contents err.old.stream.now) (E.contents err.new.stream.now) err.new.calls err.new.failed in
+    ensures told { let errors = between E.contents err.old err.new in
         NotOpenedOutcome script_name.now schedule_name.now why errors result }
     ensures same_err { err.new.stream.ghost_name ≡ err.old.stream.ghost_name }
 {

@@ -1,8 +1,9 @@
 //! Writing to the output, and saying what went wrong.
 
 ghost use Rattle.std.specs.Prelude.{◌≡◌};
+ghost use Rattle.cml_host.specs.Between.{between};
 ghost use Rattle.cml_host.specs.Written.{TextOutcome};
-ghost use Rattle.cml_stream.specs.Streams.{counted_stream, Says};
+ghost use Rattle.cml_stream.specs.Streams.{Says};
 
 use cml_stream::Counting;
 use cml_stream::input_output::write_out;
@@ -15,8 +16,8 @@ pub fn send_text<O: Write, E: Write>(
     err: &mut Counting<'_, E>,
 ) -> u8
     requires fresh { (out.old.failed ≡ 0) × (err.old.calls ≡ 0) × (err.old.failed ≡ 0) }
-    ensures ran { let output = counted_stream (O.contents out.old.stream.now) (O.contents out.new.stream.now) out.new.calls out.new.failed in
-        let errors = counted_stream (E.contents err.old.stream.now) (E.contents err.new.stream.now) err.new.calls err.new.failed in
+    ensures ran { let output = between O.contents out.old out.new in
+        let errors = between E.contents err.old err.new in
         TextOutcome text.now output errors result }
     ensures same_out { out.new.stream.ghost_name ≡ out.old.stream.ghost_name }
     ensures same_err { err.new.stream.ghost_name ≡ err.old.stream.ghost_name }
@@ -33,7 +34,7 @@ pub fn send_text<O: Write, E: Write>(
 /// Says what went wrong, as far as it can be said.
 pub fn say<E: Write>(err: &mut Counting<'_, E>, line: &[u8])
     requires fresh { err.old.failed ≡ 0 }
-    ensures said { let errors = counted_stream (E.contents err.old.stream.now) (E.contents err.new.stream.now) err.new.calls err.new.failed in
+    ensures said { let errors = between E.contents err.old err.new in
         Says errors line.now }
     ensures same_reference { err.new.stream.ghost_name ≡ err.old.stream.ghost_name }
 {

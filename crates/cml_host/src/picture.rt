@@ -1,6 +1,7 @@
 //! The picture of a run that is over: how it is made, and how it is saved.
 
 ghost use Rattle.std.specs.Prelude.{◌≡◌, IfOk, Some, is_some, option_map, true};
+ghost use Rattle.cml_host.specs.Between.{between};
 ghost use Rattle.cml_host.specs.Closed.{drawn_subject, plain_closing, plain_subject};
 ghost use Rattle.cml_host.specs.Drawn.{AllDrawn};
 ghost use Rattle.cml_host.specs.Narrated.{Opens};
@@ -8,7 +9,6 @@ ghost use Rattle.cml_host.specs.Running.{IsDrawnKept, IsPictureFor, IsRefusalOf,
 ghost use Rattle.cml_host.specs.Stores.{Shelf};
 ghost use Rattle.cml_hub.specs.Runs.{stands};
 ghost use Rattle.cml_step.specs.Calls.{text_of};
-ghost use Rattle.cml_stream.specs.Streams.{counted_stream};
 
 use crate::close::{Asked, Closing, Subject, say_end};
 use crate::draw::refuse_long;
@@ -151,7 +151,7 @@ pub fn close_with<E: Write, S: Store>(
 ) -> u8
     requires fresh { err.old.failed ≡ 0 }
     requires sayable { IsSayable picture.now }
-    ensures kept { let errors = counted_stream (E.contents err.old.stream.now) (E.contents err.new.stream.now) err.new.calls err.new.failed in
+    ensures kept { let errors = between E.contents err.old err.new in
         let shelf : Shelf = record { before = S.holds store.old; after = S.holds store.new } in
         PictureKept explains picture.now (plain_closing closing.now) errors shelf result }
     ensures same_err { err.new.stream.ghost_name ≡ err.old.stream.ghost_name }
@@ -175,7 +175,7 @@ fn save_drawn<E: Write, S: Store>(
 ) -> u8
     requires fresh { err.old.failed ≡ 0 }
     requires sayable { IsRefusalOf name.now made.now }
-    ensures kept { let errors = counted_stream (E.contents err.old.stream.now) (E.contents err.new.stream.now) err.new.calls err.new.failed in
+    ensures kept { let errors = between E.contents err.old err.new in
         let shelf : Shelf = record { before = S.holds store.old; after = S.holds store.new } in
         IsDrawnKept explains name.now made.now.bytes.items (plain_closing closing.now) errors shelf result }
     ensures same_err { err.new.stream.ghost_name ≡ err.old.stream.ghost_name }

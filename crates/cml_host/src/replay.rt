@@ -2,11 +2,11 @@
 
 ghost use Rattle.std.specs.Prelude.{◌≡◌, IfOk, IfErr, codes, None};
 ghost use Rattle.cml_hub.specs.Kept.{IsBudget, IsWatch, FitsSize, IsFirstBad, IsReplayed};
+ghost use Rattle.cml_host.specs.Between.{between};
 ghost use Rattle.cml_host.specs.Closed.{plain_asked};
 ghost use Rattle.cml_host.specs.Scripts.{plain_script};
 ghost use Rattle.cml_host.specs.Replaying.{ReplayOutcome, ReplayTold, OpenedReplayed, ScheduleOutcome, IsBadItem, IsHubBy, IsHubOf, IsNoHub, IsNoRun, IsNotRead, IsNotRun, IsSchedule, line_told};
 ghost use Rattle.cml_host.specs.Stores.{IsUnchanged};
-ghost use Rattle.cml_stream.specs.Streams.{counted_stream};
 ghost use Rattle.cml_text.specs.Lines.{line};
 
 use crate::close::{Asked, ask, close, explains, say_end};
@@ -39,8 +39,8 @@ pub fn replay_file<O: Write, E: Write, S: Store>(
 ) -> u8
     requires watch { IsWatch options.now.watch }
     requires fresh { (out.old.calls ≡ 0) × (out.old.failed ≡ 0) × (err.old.calls ≡ 0) × (err.old.failed ≡ 0) }
-    ensures ran { let output = counted_stream (O.contents out.old.stream.now) (O.contents out.new.stream.now) out.new.calls out.new.failed in
-        let errors = counted_stream (E.contents err.old.stream.now) (E.contents err.new.stream.now) err.new.calls err.new.failed in
+    ensures ran { let output = between O.contents out.old out.new in
+        let errors = between E.contents err.old err.new in
         ReplayOutcome options.now explains (S.holds store.old) output errors result }
     ensures same { IsUnchanged (S.holds store.old) (S.holds store.new) }
     ensures same_out { out.new.stream.ghost_name ≡ out.old.stream.ghost_name }
@@ -64,8 +64,8 @@ fn replay_script<O: Write, E: Write, S: Store>(
 ) -> u8
     requires watch { IsWatch options.now.watch }
     requires fresh { (out.old.calls ≡ 0) × (out.old.failed ≡ 0) × (err.old.calls ≡ 0) × (err.old.failed ≡ 0) }
-    ensures ran { let output = counted_stream (O.contents out.old.stream.now) (O.contents out.new.stream.now) out.new.calls out.new.failed in
-        let errors = counted_stream (E.contents err.old.stream.now) (E.contents err.new.stream.now) err.new.calls err.new.failed in
+    ensures ran { let output = between O.contents out.old out.new in
+        let errors = between E.contents err.old err.new in
         OpenedReplayed explains (plain_script script) options.now (S.holds store.old options.now.schedule.now) output errors result }
     ensures same { IsUnchanged (S.holds store.old) (S.holds store.new) }
     ensures same_out { out.new.stream.ghost_name ≡ out.old.stream.ghost_name }
@@ -102,8 +102,8 @@ fn replay_program<O: Write, E: Write, S: Store>(
 ) -> u8
     requires watch { IsWatch options.now.watch }
     requires fresh { (out.old.calls ≡ 0) × (out.old.failed ≡ 0) × (err.old.calls ≡ 0) × (err.old.failed ≡ 0) }
-    ensures ran { let output = counted_stream (O.contents out.old.stream.now) (O.contents out.new.stream.now) out.new.calls out.new.failed in
-        let errors = counted_stream (E.contents err.old.stream.now) (E.contents err.new.stream.now) err.new.calls err.new.failed in
+    ensures ran { let output = between O.contents out.old out.new in
+        let errors = between E.contents err.old err.new in
         ScheduleOutcome (plain_asked asked.now) program options.now.watch options.now.schedule.now (S.holds store.old options.now.schedule.now) output errors result }
     ensures same { IsUnchanged (S.holds store.old) (S.holds store.new) }
     ensures same_out { out.new.stream.ghost_name ≡ out.old.stream.ghost_name }
@@ -128,8 +128,8 @@ fn tell_run<O: Write, E: Write>(
     err: &mut Counting<'_, E>,
 ) -> u8
     requires fresh { (out.old.calls ≡ 0) × (out.old.failed ≡ 0) × (err.old.failed ≡ 0) }
-    ensures told { let output = counted_stream (O.contents out.old.stream.now) (O.contents out.new.stream.now) out.new.calls out.new.failed in
-        let errors = counted_stream (E.contents err.old.stream.now) (E.contents err.new.stream.now) err.new.calls err.new.failed in
+    ensures told { let output = between O.contents out.old out.new in
+        let errors = between E.contents err.old err.new in
         ReplayTold (plain_asked asked.now) hub.now output errors result }
     ensures same_out { out.new.stream.ghost_name ≡ out.old.stream.ghost_name }
     ensures same_err { err.new.stream.ghost_name ≡ err.old.stream.ghost_name }

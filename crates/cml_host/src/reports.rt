@@ -1,8 +1,8 @@
 //! Reports written to the errors, before anything else is.
 
 ghost use Rattle.std.specs.Prelude.{◌≡◌};
+ghost use Rattle.cml_host.specs.Between.{between};
 ghost use Rattle.cml_host.specs.Told.{IsSentText, reports_text};
-ghost use Rattle.cml_stream.specs.Streams.{counted_stream};
 
 use cml_monitor::Report;
 use cml_stream::Counting;
@@ -18,7 +18,7 @@ pub fn send_reports<E: Write>(
     err: &mut Counting<'_, E>,
 ) -> Result<(), WriteFault>
     requires fresh { err.old.failed ≡ 0 }
-    ensures sent { let errors = counted_stream (E.contents err.old.stream.now) (E.contents err.new.stream.now) err.new.calls err.new.failed in
+    ensures sent { let errors = between E.contents err.old err.new in
         IsSentText (reports_text reports.now) result errors }
     ensures same_err { err.new.stream.ghost_name ≡ err.old.stream.ghost_name }
 {

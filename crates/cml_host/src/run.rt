@@ -3,12 +3,13 @@
 ghost use Rattle.std.specs.Prelude.{◌≡◌, ◌++◌, [], codes, Option, IfErr, IfOk, OnOk, option_map};
 ghost use Rattle.std.specs.String.{string_bytes};
 ghost use Rattle.cml_hub.specs.Kept.{IsAtStart, IsBudget, IsWatch};
+ghost use Rattle.cml_host.specs.Between.{between};
 ghost use Rattle.cml_host.specs.Closed.{IsClosing, drawn_subject, plain_asked, plain_closing};
 ghost use Rattle.cml_host.specs.Running.{RunOutcome, OpenedOutcome, BegunOutcome, ProgramOutcome, EndedOutcome, IsEnded, IsNotEnded, IsMade, IsKept, IsNotKept, IsPictureFor, IsRefusalOf, cannot_save, names_saved, plain_saving, plain_wanted, unsaved_told};
 ghost use Rattle.cml_host.specs.Scripts.{plain_script};
 ghost use Rattle.cml_host.specs.Stores.{Shelf};
 ghost use Rattle.cml_host.specs.declared.reason.Reason.{Reason};
-ghost use Rattle.cml_stream.specs.Streams.{Says, counted_stream};
+ghost use Rattle.cml_stream.specs.Streams.{Says};
 ghost use Rattle.cml_text.specs.Lines.{line};
 ghost use Rattle.cml_work.specs.Works.{IsWorkerCount};
 
@@ -68,8 +69,8 @@ where
     S: Store,
     requires counts { IsWorkerCount options.now.workers × IsBudget options.now.steps × IsWatch options.now.watch }
     requires fresh { (out.old.calls ≡ 0) × (out.old.failed ≡ 0) × (err.old.calls ≡ 0) × (err.old.failed ≡ 0) }
-    ensures ran { let output = counted_stream (O.contents out.old.stream.now) (O.contents out.new.stream.now) out.new.calls out.new.failed in
-        let errors = counted_stream (E.contents err.old.stream.now) (E.contents err.new.stream.now) err.new.calls err.new.failed in
+    ensures ran { let output = between O.contents out.old out.new in
+        let errors = between E.contents err.old err.new in
         let shelf : Shelf = record { before = S.holds store.old; after = S.holds store.new } in
         RunOutcome options.now explains output errors shelf result }
     ensures same_out { out.new.stream.ghost_name ≡ out.old.stream.ghost_name }
@@ -101,8 +102,8 @@ where
     S: Store,
     requires counts { IsWorkerCount options.now.workers × IsBudget options.now.steps × IsWatch options.now.watch }
     requires fresh { (out.old.calls ≡ 0) × (out.old.failed ≡ 0) × (err.old.calls ≡ 0) × (err.old.failed ≡ 0) }
-    ensures ran { let output = counted_stream (O.contents out.old.stream.now) (O.contents out.new.stream.now) out.new.calls out.new.failed in
-        let errors = counted_stream (E.contents err.old.stream.now) (E.contents err.new.stream.now) err.new.calls err.new.failed in
+    ensures ran { let output = between O.contents out.old out.new in
+        let errors = between E.contents err.old err.new in
         let shelf : Shelf = record { before = S.holds store.old; after = S.holds store.new } in
         OpenedOutcome explains (plain_script script) options.now output errors shelf result }
     ensures same_out { out.new.stream.ghost_name ≡ out.old.stream.ghost_name }
@@ -158,8 +159,8 @@ where
     S: Store,
     requires counts { IsWorkerCount options.now.workers × IsBudget options.now.steps × IsWatch options.now.watch }
     requires fresh { (out.old.calls ≡ 0) × (out.old.failed ≡ 0) × (err.old.calls ≡ 0) × (err.old.failed ≡ 0) }
-    ensures ran { let output = counted_stream (O.contents out.old.stream.now) (O.contents out.new.stream.now) out.new.calls out.new.failed in
-        let errors = counted_stream (E.contents err.old.stream.now) (E.contents err.new.stream.now) err.new.calls err.new.failed in
+    ensures ran { let output = between O.contents out.old out.new in
+        let errors = between E.contents err.old err.new in
         let shelf : Shelf = record { before = S.holds store.old; after = S.holds store.new } in
         BegunOutcome (plain_asked asked.now) (plain_saving saving.now) program options.now output errors shelf result }
     ensures same_out { out.new.stream.ghost_name ≡ out.old.stream.ghost_name }
@@ -199,8 +200,8 @@ where
     requires counts { IsWorkerCount options.now.workers }
     requires begun { IsAtStart hub.course.program options.now.steps options.now.watch hub }
     requires fresh { (out.old.calls ≡ 0) × (out.old.failed ≡ 0) × (err.old.calls ≡ 0) × (err.old.failed ≡ 0) }
-    ensures ran { let output = counted_stream (O.contents out.old.stream.now) (O.contents out.new.stream.now) out.new.calls out.new.failed in
-        let errors = counted_stream (E.contents err.old.stream.now) (E.contents err.new.stream.now) err.new.calls err.new.failed in
+    ensures ran { let output = between O.contents out.old out.new in
+        let errors = between E.contents err.old err.new in
         let shelf : Shelf = record { before = S.holds store.old; after = S.holds store.new } in
         ProgramOutcome (plain_asked asked.now) (plain_saving saving.now) hub.course.program options.now output errors shelf result }
     ensures same_out { out.new.stream.ghost_name ≡ out.old.stream.ghost_name }
@@ -235,8 +236,8 @@ fn end<O: Write, E: Write, S: Store>(
     store: &mut S,
 ) -> u8
     requires fresh { (out.old.failed ≡ 0) × (err.old.failed ≡ 0) }
-    ensures ran { let output = counted_stream (O.contents out.old.stream.now) (O.contents out.new.stream.now) out.new.calls out.new.failed in
-        let errors = counted_stream (E.contents err.old.stream.now) (E.contents err.new.stream.now) err.new.calls err.new.failed in
+    ensures ran { let output = between O.contents out.old out.new in
+        let errors = between E.contents err.old err.new in
         let shelf : Shelf = record { before = S.holds store.old; after = S.holds store.new } in
         EndedOutcome (plain_asked asked.now) (plain_saving saving.now) hub.now [] output errors shelf result }
     ensures same_out { out.new.stream.ghost_name ≡ out.old.stream.ghost_name }
@@ -278,12 +279,12 @@ fn tell_and_save<O: Write, E: Write, S: Store>(
     store: &mut S,
 ) -> Result<(), u8>
     requires fresh { (out.old.failed ≡ 0) × (err.old.failed ≡ 0) }
-    ensures ended { let output = counted_stream (O.contents out.old.stream.now) (O.contents out.new.stream.now) out.new.calls out.new.failed in
-        let errors = counted_stream (E.contents err.old.stream.now) (E.contents err.new.stream.now) err.new.calls err.new.failed in
+    ensures ended { let output = between O.contents out.old out.new in
+        let errors = between E.contents err.old err.new in
         let shelf : Shelf = record { before = S.holds store.old; after = S.holds store.new } in
         OnOk result (IsEnded (option_map (λ name. name.now) save_as.entry) hub.now output errors shelf) }
-    ensures not_ended { let output = counted_stream (O.contents out.old.stream.now) (O.contents out.new.stream.now) out.new.calls out.new.failed in
-        let errors = counted_stream (E.contents err.old.stream.now) (E.contents err.new.stream.now) err.new.calls err.new.failed in
+    ensures not_ended { let output = between O.contents out.old out.new in
+        let errors = between E.contents err.old err.new in
         let shelf : Shelf = record { before = S.holds store.old; after = S.holds store.new } in
         IfErr result (IsNotEnded explains (option_map (λ name. name.now) save_as.entry) hub.now output errors shelf) }
     ensures same_out { out.new.stream.ghost_name ≡ out.old.stream.ghost_name }
@@ -337,10 +338,10 @@ pub fn save_record<E: Write, S: Store>(
 ) -> Result<(), u8>
     requires fresh { err.old.failed ≡ 0 }
     requires made { IsRefusalOf name.now made.now }
-    ensures kept { let errors = counted_stream (E.contents err.old.stream.now) (E.contents err.new.stream.now) err.new.calls err.new.failed in
+    ensures kept { let errors = between E.contents err.old err.new in
         let shelf : Shelf = record { before = S.holds store.old; after = S.holds store.new } in
         OnOk result (IsKept name.now made.now errors shelf) }
-    ensures not_kept { let errors = counted_stream (E.contents err.old.stream.now) (E.contents err.new.stream.now) err.new.calls err.new.failed in
+    ensures not_kept { let errors = between E.contents err.old err.new in
         let shelf : Shelf = record { before = S.holds store.old; after = S.holds store.new } in
         IfErr result (IsNotKept explains name.now errors shelf) }
     ensures same_err { err.new.stream.ghost_name ≡ err.old.stream.ghost_name }
@@ -362,7 +363,7 @@ fn refuse_record<E: Write>(
 ) -> u8
     requires fresh { err.old.failed ≡ 0 }
     requires made { IsRefusalOf name.now made.now }
-    ensures said { let errors = counted_stream (E.contents err.old.stream.now) (E.contents err.new.stream.now) err.new.calls err.new.failed in
+    ensures said { let errors = between E.contents err.old err.new in
         (why : Option Reason) × Says errors (unsaved_told explains name.now why) }
     ensures status { result ≡ 1 }
     ensures same_err { err.new.stream.ghost_name ≡ err.old.stream.ghost_name }

@@ -2,9 +2,9 @@
 
 ghost use Rattle.std.specs.Prelude.{◌≡◌, IfOk, Some};
 ghost use Rattle.std.specs.String.{string_bytes};
+ghost use Rattle.cml_host.specs.Between.{between};
 ghost use Rattle.cml_host.specs.Said as spec;
 ghost use Rattle.cml_host.specs.Said.{SaidOutcome, FaultOutcome, RefusalOutcome, Told, unread_told};
-ghost use Rattle.cml_stream.specs.Streams.{counted_stream};
 
 use crate::output::{say, send_text};
 use crate::reason::Reason;
@@ -84,8 +84,8 @@ pub fn finish<O: Write, E: Write>(
     err: &mut Counting<'_, E>,
 ) -> u8
     requires fresh { (out.old.calls ≡ 0) × (out.old.failed ≡ 0) × (err.old.calls ≡ 0) × (err.old.failed ≡ 0) }
-    ensures ran { let output = counted_stream (O.contents out.old.stream.now) (O.contents out.new.stream.now) out.new.calls out.new.failed in
-        let errors = counted_stream (E.contents err.old.stream.now) (E.contents err.new.stream.now) err.new.calls err.new.failed in
+    ensures ran { let output = between O.contents out.old out.new in
+        let errors = between E.contents err.old err.new in
         SaidOutcome said output errors result }
     ensures same_out { out.new.stream.ghost_name ≡ out.old.stream.ghost_name }
     ensures same_err { err.new.stream.ghost_name ≡ err.old.stream.ghost_name }
@@ -112,7 +112,7 @@ pub fn refuse_file<E: Write>(
     err: &mut Counting<'_, E>,
 ) -> u8
     requires fresh { err.old.failed ≡ 0 }
-    ensures refused { let errors = counted_stream (E.contents err.old.stream.now) (E.contents err.new.stream.now) err.new.calls err.new.failed in
+    ensures refused { let errors = between E.contents err.old err.new in
         FaultOutcome explains name.now fault errors result }
     ensures same_err { err.new.stream.ghost_name ≡ err.old.stream.ghost_name }
 {
@@ -194,7 +194,7 @@ pub fn refuse<E: Write>(
     err: &mut Counting<'_, E>,
 ) -> u8
     requires fresh { err.old.failed ≡ 0 }
-    ensures refused { let errors = counted_stream (E.contents err.old.stream.now) (E.contents err.new.stream.now) err.new.calls err.new.failed in
+    ensures refused { let errors = between E.contents err.old err.new in
         RefusalOutcome explains name.now why status errors result }
     ensures same_err { err.new.stream.ghost_name ≡ err.old.stream.ghost_name }
 {

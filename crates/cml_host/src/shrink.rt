@@ -3,6 +3,7 @@
 ghost use Rattle.std.specs.Prelude.{◌≡◌, IfErr, IfOk, true};
 ghost use Rattle.std.specs.String.{string_bytes};
 ghost use Rattle.cml_check.specs.Sizes.{size_of};
+ghost use Rattle.cml_host.specs.Between.{between};
 ghost use Rattle.cml_host.specs.Closed.{plain_asked, plain_subject};
 ghost use Rattle.cml_host.specs.Replaying.{IsNoHub, IsNoRun};
 ghost use Rattle.cml_host.specs.Shrunk.{IsShorterBy, IsShorterOf, ScheduleTold, ShrinkOutcome, TextShrunk};
@@ -10,7 +11,6 @@ ghost use Rattle.cml_host.specs.Stores.{IsUnchanged};
 ghost use Rattle.cml_hub.specs.Kept.{IsBudget, FitsSize};
 ghost use Rattle.cml_schedule.specs.Written.{schedule_text};
 ghost use Rattle.cml_shrink.specs.Counts.{counts_line};
-ghost use Rattle.cml_stream.specs.Streams.{counted_stream};
 
 use crate::close::{Asked, Subject, ask_of, explains};
 use crate::opening::{REFUSED, open_both, refuse_opening};
@@ -45,8 +45,8 @@ pub fn shrink_file<O: Write, E: Write, S: Store>(
     store: &mut S,
 ) -> u8
     requires fresh { (out.old.calls ≡ 0) × (out.old.failed ≡ 0) × (err.old.calls ≡ 0) × (err.old.failed ≡ 0) }
-    ensures ran { let output = counted_stream (O.contents out.old.stream.now) (O.contents out.new.stream.now) out.new.calls out.new.failed in
-        let errors = counted_stream (E.contents err.old.stream.now) (E.contents err.new.stream.now) err.new.calls err.new.failed in
+    ensures ran { let output = between O.contents out.old out.new in
+        let errors = between E.contents err.old err.new in
         ShrinkOutcome options.now (S.holds store.old) output errors result }
     ensures same { IsUnchanged (S.holds store.old) (S.holds store.new) }
     ensures same_out { out.new.stream.ghost_name ≡ out.old.stream.ghost_name }
@@ -77,8 +77,8 @@ fn shrink_text<O: Write, E: Write>(
     err: &mut Counting<'_, E>,
 ) -> u8
     requires fresh { (out.old.calls ≡ 0) × (out.old.failed ≡ 0) × (err.old.failed ≡ 0) }
-    ensures ran { let output = counted_stream (O.contents out.old.stream.now) (O.contents out.new.stream.now) out.new.calls out.new.failed in
-        let errors = counted_stream (E.contents err.old.stream.now) (E.contents err.new.stream.now) err.new.calls err.new.failed in
+    ensures ran { let output = between O.contents out.old out.new in
+        let errors = between E.contents err.old err.new in
         TextShrunk options.now.tries (plain_subject subject.entry) program text.now output errors result }
     ensures same_out { out.new.stream.ghost_name ≡ out.old.stream.ghost_name }
     ensures same_err { err.new.stream.ghost_name ≡ err.old.stream.ghost_name }
@@ -97,8 +97,8 @@ fn tell_shorter<O: Write, E: Write>(
     err: &mut Counting<'_, E>,
 ) -> u8
     requires fresh { (out.old.failed ≡ 0) × (err.old.failed ≡ 0) }
-    ensures told { let output = counted_stream (O.contents out.old.stream.now) (O.contents out.new.stream.now) out.new.calls out.new.failed in
-        let errors = counted_stream (E.contents err.old.stream.now) (E.contents err.new.stream.now) err.new.calls err.new.failed in
+    ensures told { let output = between O.contents out.old out.new in
+        let errors = between E.contents err.old err.new in
         ScheduleTold (string_bytes shorter.now.schedule) shorter.now.counts.items output errors result }
     ensures same_out { out.new.stream.ghost_name ≡ out.old.stream.ghost_name }
     ensures same_err { err.new.stream.ghost_name ≡ err.old.stream.ghost_name }

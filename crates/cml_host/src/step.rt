@@ -2,6 +2,7 @@
 
 ghost use Rattle.std.specs.Prelude.{◌≡◌, ◌≤◌, ◌∷◌, [], IfOk, IfErr, OnOk, OnErr, IsTrue, None, Some, option_map};
 ghost use Rattle.cml_check.specs.Sizes.{size_of};
+ghost use Rattle.cml_host.specs.Between.{between};
 ghost use Rattle.cml_host.specs.Closed.{plain_subject};
 ghost use Rattle.cml_host.specs.Scripts.{plain_script};
 ghost use Rattle.cml_host.specs.Stepped as spec;
@@ -14,7 +15,7 @@ ghost use Rattle.cml_schedule.specs.Written.{schedule_text};
 ghost use Rattle.cml_step.specs.Calls.{text_of};
 ghost use Rattle.cml_stepper.specs.Hands.{script_of, FollowsTo};
 ghost use Rattle.cml_stream.specs.Counts.{Calls, counted};
-ghost use Rattle.cml_stream.specs.Streams.{Stream, counted_stream, stream, IsSpent, Supplies, Takes, TakesStart};
+ghost use Rattle.cml_stream.specs.Streams.{Stream, stream, IsSpent, Supplies, Takes, TakesStart};
 ghost use Rattle.cml_trace.specs.Faults.{IsWriteFailure};
 ghost use Rattle.cml_trace.specs.Live.{max_turns, HasTurnCause, IsFlushed};
 
@@ -50,9 +51,9 @@ pub fn step_file<I: Read, O: Write, E: Write, S: Store>(
 ) -> u8
     requires given { (input.old.calls ≡ 0) × (input.old.failed ≡ 0) }
     requires fresh { (out.old.calls ≡ 0) × (out.old.failed ≡ 0) × (err.old.calls ≡ 0) × (err.old.failed ≡ 0) }
-    ensures ran { let given = counted_stream (I.remaining input.old.stream.now) (I.remaining input.new.stream.now) input.new.calls input.new.failed in
-        let output = counted_stream (O.contents out.old.stream.now) (O.contents out.new.stream.now) out.new.calls out.new.failed in
-        let errors = counted_stream (E.contents err.old.stream.now) (E.contents err.new.stream.now) err.new.calls err.new.failed in
+    ensures ran { let given = between I.remaining input.old input.new in
+        let output = between O.contents out.old out.new in
+        let errors = between E.contents err.old err.new in
         let shelf : Shelf = record { before = S.holds store.old; after = S.holds store.new } in
         StepOutcome options.now given output errors shelf result }
     ensures most { input.new.calls ≤ max_turns }
@@ -78,9 +79,9 @@ fn step_script<I: Read, O: Write, E: Write, S: Store>(
 ) -> u8
     requires given { (input.old.calls ≡ 0) × (input.old.failed ≡ 0) }
     requires fresh { (out.old.calls ≡ 0) × (out.old.failed ≡ 0) × (err.old.calls ≡ 0) × (err.old.failed ≡ 0) }
-    ensures ran { let given = counted_stream (I.remaining input.old.stream.now) (I.remaining input.new.stream.now) input.new.calls input.new.failed in
-        let output = counted_stream (O.contents out.old.stream.now) (O.contents out.new.stream.now) out.new.calls out.new.failed in
-        let errors = counted_stream (E.contents err.old.stream.now) (E.contents err.new.stream.now) err.new.calls err.new.failed in
+    ensures ran { let given = between I.remaining input.old input.new in
+        let output = between O.contents out.old out.new in
+        let errors = between E.contents err.old err.new in
         let shelf : Shelf = record { before = S.holds store.old; after = S.holds store.new } in
         ScriptStepped options.now (plain_script script) given output errors shelf result }
     ensures most { input.new.calls ≤ max_turns }
@@ -118,9 +119,9 @@ fn step_hub<I: Read, O: Write, E: Write, S: Store>(
     requires start { IsAtStart hub.old.course.program spec.stepped_budget None hub.old }
     requires given { (input.old.calls ≡ 0) × (input.old.failed ≡ 0) }
     requires fresh { (out.old.failed ≡ 0) × (err.old.calls ≡ 0) × (err.old.failed ≡ 0) }
-    ensures stepped { let given = counted_stream (I.remaining input.old.stream.now) (I.remaining input.new.stream.now) input.new.calls input.new.failed in
-        let output = counted_stream (O.contents out.old.stream.now) (O.contents out.new.stream.now) out.new.calls out.new.failed in
-        let errors = counted_stream (E.contents err.old.stream.now) (E.contents err.new.stream.now) err.new.calls err.new.failed in
+    ensures stepped { let given = between I.remaining input.old input.new in
+        let output = between O.contents out.old out.new in
+        let errors = between E.contents err.old err.new in
         let shelf : Shelf = record { before = S.holds store.old; after = S.holds store.new } in
         HubStepped (by_hand (plain_subject subject.now)) hub.old.course.program (option_map (λ name. name.now) save_as.entry) hub.old given output errors shelf result }
     ensures most { input.new.calls ≤ max_turns }
@@ -146,7 +147,7 @@ fn save<E: Write, S: Store>(
     store: &mut S,
 ) -> u8
     requires fresh { (err.old.calls ≡ 0) × (err.old.failed ≡ 0) }
-    ensures saved { let errors = counted_stream (E.contents err.old.stream.now) (E.contents err.new.stream.now) err.new.calls err.new.failed in
+    ensures saved { let errors = between E.contents err.old err.new in
         let shelf : Shelf = record { before = S.holds store.old; after = S.holds store.new } in
         SavedOutcome (option_map (λ name. name.now) save_as.entry) (schedule_text hub.now.budget (size_of hub.now.course.program) hub.now.course.items) errors shelf result }
     ensures same_err { err.new.stream.ghost_name ≡ err.old.stream.ghost_name }

@@ -3,10 +3,11 @@
 ghost use Rattle.std.specs.Prelude.{◌≡◌, ◌⊎◌, ◌++◌, [], IfOk, IfErr, OnOk, OnErr};
 ghost use Rattle.std.specs.String.{string_bytes};
 ghost use Rattle.cml_hub.specs.Courses.{run_of};
+ghost use Rattle.cml_host.specs.Between.{between};
 ghost use Rattle.cml_host.specs.Told as spec;
 ghost use Rattle.cml_host.specs.Running.{StopOutcome, failed_by};
 ghost use Rattle.cml_host.specs.Told.{IsCutOff, IsRunOf, IsTold, IsNotTold, OutputNotTold, SaysStill, MemoryBroke, OutputBroke, whole_output, cannot_write};
-ghost use Rattle.cml_stream.specs.Streams.{counted_stream, stream, Says, Takes, TakesStart};
+ghost use Rattle.cml_stream.specs.Streams.{stream, Says, Takes, TakesStart};
 
 use crate::output::say;
 use crate::reports::send_reports;
@@ -29,11 +30,11 @@ pub fn tell<O: Write, E: Write>(
     err: &mut Counting<'_, E>,
 ) -> Result<(), u8>
     requires fresh { (out.old.calls ≡ 0) × (out.old.failed ≡ 0) × (err.old.failed ≡ 0) }
-    ensures told { let output = counted_stream (O.contents out.old.stream.now) (O.contents out.new.stream.now) out.new.calls out.new.failed in
-        let errors = counted_stream (E.contents err.old.stream.now) (E.contents err.new.stream.now) err.new.calls err.new.failed in
+    ensures told { let output = between O.contents out.old out.new in
+        let errors = between E.contents err.old err.new in
         OnOk result (IsTold hub.now.reports (whole_output hub.now.budget (run_of hub.now.course)) output errors) }
-    ensures not_told { let output = counted_stream (O.contents out.old.stream.now) (O.contents out.new.stream.now) out.new.calls out.new.failed in
-        let errors = counted_stream (E.contents err.old.stream.now) (E.contents err.new.stream.now) err.new.calls err.new.failed in
+    ensures not_told { let output = between O.contents out.old out.new in
+        let errors = between E.contents err.old err.new in
         IfErr result (IsNotTold hub.now.reports hub.now.course.output (whole_output hub.now.budget (run_of hub.now.course)) output errors) }
     ensures same_out { out.new.stream.ghost_name ≡ out.old.stream.ghost_name }
     ensures same_err { err.new.stream.ghost_name ≡ err.old.stream.ghost_name }
@@ -56,11 +57,11 @@ pub fn tell_output<O: Write, E: Write>(
     err: &mut Counting<'_, E>,
 ) -> Result<(), u8>
     requires fresh { (out.old.failed ≡ 0) × (err.old.failed ≡ 0) }
-    ensures told { let output = counted_stream (O.contents out.old.stream.now) (O.contents out.new.stream.now) out.new.calls out.new.failed in
-        let errors = counted_stream (E.contents err.old.stream.now) (E.contents err.new.stream.now) err.new.calls err.new.failed in
+    ensures told { let output = between O.contents out.old out.new in
+        let errors = between E.contents err.old err.new in
         OnOk result (IsTold [] (whole_output hub.now.budget (run_of hub.now.course)) output errors) }
-    ensures not_told { let output = counted_stream (O.contents out.old.stream.now) (O.contents out.new.stream.now) out.new.calls out.new.failed in
-        let errors = counted_stream (E.contents err.old.stream.now) (E.contents err.new.stream.now) err.new.calls err.new.failed in
+    ensures not_told { let output = between O.contents out.old out.new in
+        let errors = between E.contents err.old err.new in
         IfErr result (OutputNotTold [] hub.now.course.output (whole_output hub.now.budget (run_of hub.now.course)) output errors) }
     ensures same_out { out.new.stream.ghost_name ≡ out.old.stream.ghost_name }
     ensures same_err { err.new.stream.ghost_name ≡ err.old.stream.ghost_name }
@@ -82,8 +83,8 @@ pub fn stop<O: Write, E: Write>(
     err: &mut Counting<'_, E>,
 ) -> u8
     requires fresh { (out.old.calls ≡ 0) × (out.old.failed ≡ 0) × (err.old.failed ≡ failed_by stopped.now.cause) }
-    ensures told { let output = counted_stream (O.contents out.old.stream.now) (O.contents out.new.stream.now) out.new.calls out.new.failed in
-        let errors = counted_stream (E.contents err.old.stream.now) (E.contents err.new.stream.now) err.new.calls err.new.failed in
+    ensures told { let output = between O.contents out.old out.new in
+        let errors = between E.contents err.old err.new in
         StopOutcome stopped.now.hub stopped.now.cause output errors result }
     ensures same_out { out.new.stream.ghost_name ≡ out.old.stream.ghost_name }
     ensures same_err { err.new.stream.ghost_name ≡ err.old.stream.ghost_name }
@@ -102,7 +103,7 @@ pub fn stop<O: Write, E: Write>(
 pub fn hub_is_a_run(hub: &Hub)
     ensures { IsRunOf hub.now.course.program hub.now.watch hub.now.course.items hub.now.reports (run_of hub.now.course) }
 {
-    // Read for the proof alone, which uses what is promised of it.
+    // No effect: named here so that the prover knows what holds of it.
     let _items = hub.schedule();
     let _reports = hub.reports();
 }
@@ -133,7 +134,7 @@ fn end_name(end: End) -> &'static str
 // Says that a write failed, after a failed write to the errors.
 fn refuse_reports<E: Write>(err: &mut Counting<'_, E>) -> u8
     requires failed { err.old.failed ≡ 1 }
-    ensures said { let errors = counted_stream (E.contents err.old.stream.now) (E.contents err.new.stream.now) err.new.calls err.new.failed in
+    ensures said { let errors = between E.contents err.old err.new in
         SaysStill errors [] cannot_write }
     ensures status { result ≡ 1 }
     ensures same_err { err.new.stream.ghost_name ≡ err.old.stream.ghost_name }
@@ -145,7 +146,7 @@ fn refuse_reports<E: Write>(err: &mut Counting<'_, E>) -> u8
 // Says that a write to the output failed.
 fn refuse_output<E: Write>(err: &mut Counting<'_, E>) -> u8
     requires fresh { err.old.failed ≡ 0 }
-    ensures said { let errors = counted_stream (E.contents err.old.stream.now) (E.contents err.new.stream.now) err.new.calls err.new.failed in
+    ensures said { let errors = between E.contents err.old err.new in
         Says errors cannot_write }
     ensures status { result ≡ 1 }
     ensures same_err { err.new.stream.ghost_name ≡ err.old.stream.ghost_name }
@@ -161,8 +162,8 @@ pub fn cut_run<O: Write, E: Write>(
     err: &mut Counting<'_, E>,
 ) -> u8
     requires fresh { (out.old.calls ≡ 0) × (out.old.failed ≡ 0) × (err.old.failed ≡ 0) }
-    ensures told { let output = counted_stream (O.contents out.old.stream.now) (O.contents out.new.stream.now) out.new.calls out.new.failed in
-        let errors = counted_stream (E.contents err.old.stream.now) (E.contents err.new.stream.now) err.new.calls err.new.failed in
+    ensures told { let output = between O.contents out.old out.new in
+        let errors = between E.contents err.old err.new in
         IsCutOff hub.now.reports hub.now.course.output output errors result }
     ensures same_out { out.new.stream.ghost_name ≡ out.old.stream.ghost_name }
     ensures same_err { err.new.stream.ghost_name ≡ err.old.stream.ghost_name }
@@ -180,8 +181,8 @@ pub fn cut_output<O: Write, E: Write>(
     err: &mut Counting<'_, E>,
 ) -> u8
     requires fresh { (out.old.failed ≡ 0) × (err.old.failed ≡ 0) }
-    ensures told { let output = counted_stream (O.contents out.old.stream.now) (O.contents out.new.stream.now) out.new.calls out.new.failed in
-        let errors = counted_stream (E.contents err.old.stream.now) (E.contents err.new.stream.now) err.new.calls err.new.failed in
+    ensures told { let output = between O.contents out.old out.new in
+        let errors = between E.contents err.old err.new in
         MemoryBroke [] text.now output errors result ⊎ OutputBroke [] text.now output errors result }
     ensures same_out { out.new.stream.ghost_name ≡ out.old.stream.ghost_name }
     ensures same_err { err.new.stream.ghost_name ≡ err.old.stream.ghost_name }

@@ -1,10 +1,10 @@
 //! The command `trace`: the replies to the commands on the input.
 
 ghost use Rattle.std.specs.Prelude.{◌≡◌, ◌≤◌, true, false};
+ghost use Rattle.cml_host.specs.Between.{between};
 ghost use Rattle.cml_host.specs.Traced as spec;
 ghost use Rattle.cml_host.specs.Traced.{TraceOutcome, LiveOutcome, WholeOutcome};
 ghost use Rattle.cml_stream.specs.Counts.{most_reads};
-ghost use Rattle.cml_stream.specs.Streams.{counted_stream};
 ghost use Rattle.cml_trace.specs.Answers.{max_input};
 ghost use Rattle.cml_trace.specs.Live.{max_turns};
 
@@ -26,9 +26,9 @@ pub fn trace<R: Read, O: Write, E: Write>(
 ) -> u8
     requires given { (input.old.calls ≡ 0) × (input.old.failed ≡ 0) }
     requires written { (out.old.calls ≡ 0) × (out.old.failed ≡ 0) × (err.old.calls ≡ 0) × (err.old.failed ≡ 0) }
-    ensures ran { let given = counted_stream (R.remaining input.old.stream.now) (R.remaining input.new.stream.now) input.new.calls input.new.failed in
-        let output = counted_stream (O.contents out.old.stream.now) (O.contents out.new.stream.now) out.new.calls out.new.failed in
-        let errors = counted_stream (E.contents err.old.stream.now) (E.contents err.new.stream.now) err.new.calls err.new.failed in
+    ensures ran { let given = between R.remaining input.old input.new in
+        let output = between O.contents out.old out.new in
+        let errors = between E.contents err.old err.new in
         TraceOutcome live explains given output errors result }
     ensures most { input.new.calls ≤ max_turns }
     ensures same_in { input.new.stream.ghost_name ≡ input.old.stream.ghost_name }
@@ -53,9 +53,9 @@ fn trace_live<R: Read, O: Write, E: Write>(
 ) -> u8
     requires given { (input.old.calls ≡ 0) × (input.old.failed ≡ 0) }
     requires written { (out.old.calls ≡ 0) × (out.old.failed ≡ 0) × (err.old.calls ≡ 0) × (err.old.failed ≡ 0) }
-    ensures ran { let given = counted_stream (R.remaining input.old.stream.now) (R.remaining input.new.stream.now) input.new.calls input.new.failed in
-        let output = counted_stream (O.contents out.old.stream.now) (O.contents out.new.stream.now) out.new.calls out.new.failed in
-        let errors = counted_stream (E.contents err.old.stream.now) (E.contents err.new.stream.now) err.new.calls err.new.failed in
+    ensures ran { let given = between R.remaining input.old input.new in
+        let output = between O.contents out.old out.new in
+        let errors = between E.contents err.old err.new in
         LiveOutcome given output errors result }
     ensures most { input.new.calls ≤ max_turns }
     ensures same_in { input.new.stream.ghost_name ≡ input.old.stream.ghost_name }
@@ -80,9 +80,9 @@ fn trace_whole<R: Read, O: Write, E: Write>(
 ) -> u8
     requires given { (input.old.calls ≡ 0) × (input.old.failed ≡ 0) }
     requires written { (out.old.calls ≡ 0) × (out.old.failed ≡ 0) × (err.old.calls ≡ 0) × (err.old.failed ≡ 0) }
-    ensures ran { let given = counted_stream (R.remaining input.old.stream.now) (R.remaining input.new.stream.now) input.new.calls input.new.failed in
-        let output = counted_stream (O.contents out.old.stream.now) (O.contents out.new.stream.now) out.new.calls out.new.failed in
-        let errors = counted_stream (E.contents err.old.stream.now) (E.contents err.new.stream.now) err.new.calls err.new.failed in
+    ensures ran { let given = between R.remaining input.old input.new in
+        let output = between O.contents out.old out.new in
+        let errors = between E.contents err.old err.new in
         WholeOutcome false given output errors result }
     ensures most { input.new.calls ≤ most_reads max_input }
     ensures same_in { input.new.stream.ghost_name ≡ input.old.stream.ghost_name }
@@ -107,9 +107,9 @@ fn trace_explained<R: Read, O: Write, E: Write>(
 ) -> u8
     requires given { (input.old.calls ≡ 0) × (input.old.failed ≡ 0) }
     requires written { (out.old.calls ≡ 0) × (out.old.failed ≡ 0) × (err.old.calls ≡ 0) × (err.old.failed ≡ 0) }
-    ensures ran { let given = counted_stream (R.remaining input.old.stream.now) (R.remaining input.new.stream.now) input.new.calls input.new.failed in
-        let output = counted_stream (O.contents out.old.stream.now) (O.contents out.new.stream.now) out.new.calls out.new.failed in
-        let errors = counted_stream (E.contents err.old.stream.now) (E.contents err.new.stream.now) err.new.calls err.new.failed in
+    ensures ran { let given = between R.remaining input.old input.new in
+        let output = between O.contents out.old out.new in
+        let errors = between E.contents err.old err.new in
         WholeOutcome true given output errors result }
     ensures most { input.new.calls ≤ most_reads max_input }
     ensures same_in { input.new.stream.ghost_name ≡ input.old.stream.ghost_name }

@@ -2,9 +2,9 @@
 
 ghost use Rattle.std.specs.Prelude.{◌≡◌, ◌≢◌, ◌<◌, [], None, IfOk, IfErr};
 ghost use Rattle.cml_hub.specs.Kept.{NoneOut};
+ghost use Rattle.cml_host.specs.Between.{between};
 ghost use Rattle.cml_host.specs.Running.{HasRun, IsStopped, IsCounted, Plays, PlaysChosen, hub_of, cause_of};
 ghost use Rattle.cml_host.specs.declared.workers.Cause.TheVariants.{Memory};
-ghost use Rattle.cml_stream.specs.Streams.{counted_stream};
 ghost use Rattle.cml_work.specs.Works.{IsWorkerCount, IsWorked, GoesOnFrom};
 
 use crate::reports::send_reports;
@@ -83,9 +83,9 @@ where
     requires none_out { NoneOut hub }
     requires count { IsWorkerCount options.now.workers }
     requires watch { hub.watch ≡ options.now.watch }
-    ensures ok { let errors = counted_stream (E.contents err.old.stream.now) (E.contents err.new.stream.now) err.new.calls err.new.failed in
+    ensures ok { let errors = between E.contents err.old err.new in
         IfOk result (λ new. HasRun hub new errors) }
-    ensures err { let errors = counted_stream (E.contents err.old.stream.now) (E.contents err.new.stream.now) err.new.calls err.new.failed in
+    ensures err { let errors = between E.contents err.old err.new in
         IfErr result (λ stopped. IsStopped options.now hub stopped errors) }
     ensures chosen { options.now.workers ≡ 1 → IfOk result (λ new. PlaysChosen options.now.seed hub new) }
     ensures same_err { err.new.stream.ghost_name ≡ err.old.stream.ghost_name }
@@ -115,9 +115,9 @@ where
     requires none_out { NoneOut hub }
     requires count { IsWorkerCount options.now.workers }
     requires watch { hub.watch ≡ options.now.watch }
-    ensures ok { let errors = counted_stream (E.contents err.old.stream.now) (E.contents err.new.stream.now) err.new.calls err.new.failed in
+    ensures ok { let errors = between E.contents err.old err.new in
         IfOk result (λ new. HasRun hub new errors) }
-    ensures err { let errors = counted_stream (E.contents err.old.stream.now) (E.contents err.new.stream.now) err.new.calls err.new.failed in
+    ensures err { let errors = between E.contents err.old err.new in
         IfErr result (λ stopped. IsStopped options.now hub stopped errors) }
     ensures plays { options.now.workers ≡ 1 → IfOk result (λ new. Plays (record { picks = C.picks; next = C.next }) chooser hub new) }
     ensures same_err { err.new.stream.ghost_name ≡ err.old.stream.ghost_name }
@@ -140,9 +140,9 @@ fn run_alone<C: Chooser + Drop, E: Write>(
     err: &mut Counting<'_, E>,
 ) -> Result<Hub, Stopped>
     requires fresh { err.old.failed ≡ 0 }
-    ensures ok { let errors = counted_stream (E.contents err.old.stream.now) (E.contents err.new.stream.now) err.new.calls err.new.failed in
+    ensures ok { let errors = between E.contents err.old err.new in
         IfOk result (λ new. HasRun hub new errors) }
-    ensures err { let errors = counted_stream (E.contents err.old.stream.now) (E.contents err.new.stream.now) err.new.calls err.new.failed in
+    ensures err { let errors = between E.contents err.old err.new in
         IfErr result (λ stopped. IsStopped options.now hub stopped errors) }
     ensures plays { IfOk result (λ new. Plays (record { picks = C.picks; next = C.next }) chooser hub new) }
     ensures same_err { err.new.stream.ghost_name ≡ err.old.stream.ghost_name }
@@ -215,9 +215,9 @@ where
     requires none_out { NoneOut hub }
     requires count { IsWorkerCount options.now.workers × (1 < options.now.workers) }
     requires watch { options.now.watch ≢ None }
-    ensures ok { let errors = counted_stream (E.contents err.old.stream.now) (E.contents err.new.stream.now) err.new.calls err.new.failed in
+    ensures ok { let errors = between E.contents err.old err.new in
         IfOk result (λ new. HasRun hub new errors) }
-    ensures err { let errors = counted_stream (E.contents err.old.stream.now) (E.contents err.new.stream.now) err.new.calls err.new.failed in
+    ensures err { let errors = between E.contents err.old err.new in
         IfErr result (λ stopped. IsStopped options.now hub stopped errors) }
     ensures same_err { err.new.stream.ghost_name ≡ err.old.stream.ghost_name }
 {

@@ -88,12 +88,15 @@ awaited_agrees fs ts t h = at (slice_get ts t) refl
     at (Some (pending_on g)) e = every_get (thread_agrees fs) ts t (pending_on g) h e
     at (Some ended) e = refl
 
-leaf_at : (fs : List ℕ) (ls : List PlainLeaf) (n : ℕ) → Every (leaf_agrees fs) ls → (base_agrees fs (base_or_unit (slice_get ls n)) ≡ true) × (functions_agree fs (wraps_or_none (slice_get ls n)) ≡ true)
+leaf_at : (fs : List ℕ) (ls : List PlainLeaf) (n : ℕ) → Every (leaf_agrees fs) ls
+    → (base_agrees fs (base_or_unit (slice_get ls n)) ≡ true)
+    × (functions_agree fs (wraps_or_none (slice_get ls n)) ≡ true)
 leaf_at fs [] n h = (refl, refl)
 leaf_at fs (l ∷ ls) zero h = and_parts (base_agrees fs l.base) (functions_agree fs l.wraps) h.0
 leaf_at fs (l ∷ ls) (suc n) h = leaf_at fs ls n h.1
 
-at_leaf : (fs : List ℕ) (w : PlainWorld) (t n : ℕ) → WorldAgrees fs w → (base_agrees fs (base_awaited w t n) ≡ true) × (functions_agree fs (wraps_or_none (slice_get (leaves (group_awaited w t)) n)) ≡ true)
+at_leaf : (fs : List ℕ) (w : PlainWorld) (t n : ℕ) → WorldAgrees fs w → (base_agrees fs (base_awaited w t n) ≡ true)
+    × (functions_agree fs (wraps_or_none (slice_get (leaves (group_awaited w t)) n)) ≡ true)
 at_leaf fs w t n h = leaf_at fs (leaves (group_awaited w t)) n (leaves_agree fs (group_awaited w t) (awaited_agrees fs w.threads t h.threads))
 
 -- values of objects
@@ -131,14 +134,54 @@ handed_agrees fs (swap s v) g = g
 handed_agrees fs _ g = refl
 
 taken_agrees : (fs : List ℕ) (w : PlainWorld) (b : PlainBase) → WorldAgrees fs w → base_agrees fs b ≡ true → WorldAgrees fs (taken w b)
-taken_agrees fs w (mtake m) h g = record { threads = h.threads; soon = h.soon; ivars = h.ivars; mvars = every_set (maybe_agrees fs) w.mvars m None h.mvars refl; mailboxes = h.mailboxes; ports = h.ports }
-taken_agrees fs w (mswap m v) h g = record { threads = h.threads; soon = h.soon; ivars = h.ivars; mvars = every_set (maybe_agrees fs) w.mvars m (Some v) h.mvars g; mailboxes = h.mailboxes; ports = h.ports }
-taken_agrees fs w (mail_recv b) h g = record { threads = h.threads; soon = h.soon; ivars = h.ivars; mvars = h.mvars; mailboxes = every_set (all_agree fs) w.mailboxes b _ h.mailboxes (rest_agrees fs w.mailboxes b h.mailboxes); ports = h.ports }
-taken_agrees fs w (port_recv p) h g = record { threads = h.threads; soon = h.soon; ivars = h.ivars; mvars = h.mvars; mailboxes = h.mailboxes; ports = every_set (all_agree fs) w.ports p _ h.ports (rest_agrees fs w.ports p h.ports) }
+taken_agrees fs w (mtake m) h g = record {
+  threads = h.threads;
+  soon = h.soon;
+  ivars = h.ivars;
+  mvars = every_set
+      (maybe_agrees fs) w.mvars m None h.mvars refl;
+  mailboxes = h.mailboxes;
+  ports = h.ports;
+}
+taken_agrees fs w (mswap m v) h g = record {
+  threads = h.threads;
+  soon = h.soon;
+  ivars = h.ivars;
+  mvars = every_set (maybe_agrees fs) w.mvars m (Some v)
+      h.mvars g;
+  mailboxes = h.mailboxes;
+  ports = h.ports;
+}
+taken_agrees fs w (mail_recv b) h g = record {
+  threads = h.threads;
+  soon = h.soon;
+  ivars = h.ivars;
+  mvars = h.mvars;
+  mailboxes = every_set (all_agree fs)
+      w.mailboxes b _ h.mailboxes (rest_agrees fs w.mailboxes b h.mailboxes);
+  ports = h.ports;
+}
+taken_agrees fs w (port_recv p) h g = record {
+  threads = h.threads;
+  soon = h.soon;
+  ivars = h.ivars;
+  mvars = h.mvars;
+  mailboxes = h.mailboxes;
+  ports = every_set
+      (all_agree fs) w.ports p _ h.ports (rest_agrees fs w.ports p h.ports);
+}
 taken_agrees fs w _ h g = h
 
 released_agrees : (fs : List ℕ) (w : PlainWorld) (t n : ℕ) → WorldAgrees fs w → WorldAgrees fs (released w t n)
-released_agrees fs w t n h = record { threads = every_set (thread_agrees fs) w.threads t running h.threads refl; soon = every_set waits_soon w.threads t running h.soon refl; ivars = h.ivars; mvars = h.mvars; mailboxes = h.mailboxes; ports = h.ports }
+released_agrees fs w t n h = record {
+  threads = every_set (thread_agrees fs) w.threads t running h.threads refl;
+  soon =
+      every_set waits_soon w.threads t running h.soon refl;
+  ivars = h.ivars;
+  mvars = h.mvars;
+  mailboxes = h.mailboxes;
+  ports = h.ports;
+}
 
 pub after_agrees : (fs : List ℕ) (w : PlainWorld) (row : Meet) → WorldAgrees fs w → WorldAgrees fs (after w row)
 after_agrees fs w (Single t n) h = released_agrees fs (taken w (base_awaited w t.0 n)) t.0 n (taken_agrees fs w (base_awaited w t.0 n) h (at_leaf fs w t.0 n h).0)

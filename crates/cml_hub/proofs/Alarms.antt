@@ -69,7 +69,9 @@ least_more now t b bs None e h =
     let is = tick_is now t b e in
     ((is.0, (zero, omega arith, is.1)), λ u d. (elim (comes_cases now b bs u d) [ inl y ↦ omega (arith, same_tick t u (sym is.1 ∙ y.1)) | inr z ↦ absurd (h u z) ]))
 
-least_at : (now : ℕ) (b : PlainBase) (bs : List PlainBase) (o : Option ℕ) → tick_to_come now b ≡ o → IsLeast now bs (least (filter_map (tick_to_come now) bs)) → IsLeast now (b ∷ bs) (least (filter_map (tick_to_come now) (b ∷ bs)))
+least_at : (now : ℕ) (b : PlainBase) (bs : List PlainBase) (o : Option ℕ) → tick_to_come now b ≡ o
+    → IsLeast now bs (least (filter_map (tick_to_come now) bs))
+    → IsLeast now (b ∷ bs) (least (filter_map (tick_to_come now) (b ∷ bs)))
 least_at now b bs None e h = rw e (least_skip now b bs (least (filter_map (tick_to_come now) bs)) e h)
 least_at now b bs (Some t) e h = rw e (least_more now t b bs (least (filter_map (tick_to_come now) bs)) e h)
 
@@ -83,7 +85,9 @@ one_least now bs (Some t) None h g = absurd (g t h.0)
 one_least now bs None (Some u) h g = absurd (h u g.0)
 one_least now bs None None h g = refl
 
-told_least : (w : PlainWorld) (o : Option ℕ) → IfSome o (λ t. IsAlarm w t) → IfSome o (λ t. (u : ℕ) → IsAlarm w u → t ≤ u) → IfNone o ((u : ℕ) → IsAlarm w u → ⊥) → IsLeast w.tick (bases_awaited (pending w)) o
+told_least : (w : PlainWorld) (o : Option ℕ) → IfSome o (λ t. IsAlarm w t)
+    → IfSome o (λ t. (u : ℕ) → IsAlarm w u → t ≤ u) → IfNone o ((u : ℕ) → IsAlarm w u → ⊥)
+    → IsLeast w.tick (bases_awaited (pending w)) o
 told_least w (Some t) a b c = (a, b)
 told_least w None a b c = c
 

@@ -52,7 +52,8 @@ deeds_push p r (x ∷ items) item =
     ap (after_deed d) (deeds_push p next items item) ∙ after_append d (deeds_from p next items) (after_deed (option_and_then (λ now. deed p now item) (stands_from p next items)) [])
 
 -- what one item more adds
-deeds_on : (p : Program) (items : List Item) (item : Item) (r : Run) (d : Option PlainDone) → stands p items ≡ Some r → deed p r item ≡ d → deeds p (items ++ item ∷ []) ≡ deeds p items ++ after_deed d []
+deeds_on : (p : Program) (items : List Item) (item : Item) (r : Run) (d : Option PlainDone) → stands p items ≡ Some r
+    → deed p r item ≡ d → deeds p (items ++ item ∷ []) ≡ deeds p items ++ after_deed d []
 deeds_on p items item r d leads is =
     deeds_push p (Some (opening p)) items item
     ∙ (ap (λ o. deeds p items ++ after_deed (option_and_then (λ now. deed p now item) o) []) leads ∙ ap (λ e. deeds p items ++ after_deed e []) is)
@@ -70,7 +71,8 @@ known_on p items item r d old new n m leads is began counted h =
     }
 
 -- any other item adds nothing
-pub still_known : (p : Program) (items : List Item) (item : Item) (r : Run) (began : List PlainFunction) (n : ℕ) → stands p items ≡ Some r → deed p r item ≡ None → IsKnown p items began n → IsKnown p (items ++ item ∷ []) began n
+pub still_known : (p : Program) (items : List Item) (item : Item) (r : Run) (began : List PlainFunction) (n : ℕ)
+    → stands p items ≡ Some r → deed p r item ≡ None → IsKnown p items began n → IsKnown p (items ++ item ∷ []) began n
 still_known p items item r began n leads is h =
     let same : deeds p (items ++ item ∷ []) ≡ deeds p items = deeds_on p items item r None leads is ∙ append-nil (deeds p items) in
     record {
@@ -99,7 +101,8 @@ pub faults_few : (p : Program) (items : List Item) (began : List PlainFunction) 
 faults_few p items began n h = omega (arith, h.counted, count_by-le-length is_fault (deeds p items), deeds_few p (Some (opening p)) items)
 
 -- an ask that is no spawn begets nobody
-not_begot : {R : Type 0} (so : R → PlainDone) (w new : PlainWorld) (t : ℕ) (o : Outcome R) (n : ℕ) (f : PlainFunction) → ((r : R) → so r ≡ spawns n f → ⊥) → or_fails w t (done so o) ≡ (new, spawns n f) → ⊥
+not_begot : {R : Type 0} (so : R → PlainDone) (w new : PlainWorld) (t : ℕ) (o : Outcome R) (n : ℕ) (f : PlainFunction)
+    → ((r : R) → so r ≡ spawns n f → ⊥) → or_fails w t (done so o) ≡ (new, spawns n f) → ⊥
 not_begot so w new t (Ok next) n f never h = never next.1 (ap (λ (x : PlainWorld × PlainDone). x.1) h)
 not_begot so w new t (Err why) n f never h = let e = ap (λ (x : PlainWorld × PlainDone). x.1) h in cc
 
@@ -138,7 +141,9 @@ was_asked w new t a Ends h = tt
 was_asked w new t a (Fails name) h = tt
 
 -- what the ask of a turn did
-turn_deed : (c : PlainCourse) (number : Tid) (start end : PlainMachine) (a : PlainAsk) (steps : ℕ) (d : Done) (w : PlainWorld) (line : List ℕ) (ms : List PlainMachine) → Leads c → TurnDone c number start end a steps d w line ms
+turn_deed : (c : PlainCourse) (number : Tid) (start end : PlainMachine) (a : PlainAsk) (steps : ℕ) (d : Done)
+    (w : PlainWorld) (line : List ℕ) (ms : List PlainMachine) → Leads c
+    → TurnDone c number start end a steps d w line ms
     → deed (text_of c.program) (run_of c) (Turn number) ≡ Some (plain_done a d)
 turn_deed c number start end a steps d w line ms h g =
     let p = text_of c.program in
@@ -148,8 +153,11 @@ turn_deed c number start end a steps d w line ms h g =
     let at : slice_get (map f c.machines) number.0 ≡ Some (f start) = slice_get-map f c.machines number.0 ∙ ap (option_map f) g.at in
     rw (at, slice, g.done) refl
 
-pub turned_known : (c : PlainCourse) (number : Tid) (start end : PlainMachine) (a : PlainAsk) (steps : ℕ) (d : Done) (w : PlainWorld) (line : List ℕ) (ms : List PlainMachine) (items : List Item) (old new : List PlainFunction) (n m : ℕ)
-    → Leads c → TurnDone c number start end a steps d w line ms → items ≡ c.items ++ Turn number ∷ [] → new ≡ old ++ filter_map begotten (plain_done a d ∷ []) → m ≡ n + count_by is_fault (plain_done a d ∷ [])
+pub turned_known : (c : PlainCourse) (number : Tid) (start end : PlainMachine) (a : PlainAsk) (steps : ℕ) (d : Done)
+    (w : PlainWorld) (line : List ℕ) (ms : List PlainMachine) (items : List Item) (old new : List PlainFunction)
+    (n m : ℕ)
+    → Leads c → TurnDone c number start end a steps d w line ms → items ≡ c.items ++ Turn number ∷ [] → new ≡ old
+    ++ filter_map begotten (plain_done a d ∷ []) → m ≡ n + count_by is_fault (plain_done a d ∷ [])
     → IsKnown (text_of c.program) c.items old n → IsKnown (text_of c.program) items new m
 turned_known c number start end a steps d w line ms items old new n m h g is began counted k =
     subst (λ xs. IsKnown (text_of c.program) xs new m) (sym is)

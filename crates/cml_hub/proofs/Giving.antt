@@ -72,7 +72,8 @@ made_is xs None = sym (append-nil xs)
 made_is xs (Some r) = refl
 
 -- What has changed is that.
-pub given_so : (course : PlainCourse) (budget : ℕ) (watch : Option ℕ) (reports : List PlainReport) (ms : List Mark) (due : Option PlainReport) (t u : Tid) (g : AfterTurn) (new : PlainCourse) (p q : List Tid)
+pub given_so : (course : PlainCourse) (budget : ℕ) (watch : Option ℕ) (reports : List PlainReport) (ms : List Mark)
+    (due : Option PlainReport) (t u : Tid) (g : AfterTurn) (new : PlainCourse) (p q : List Tid)
     → Turns course t g new → t.0 ≡ u.0
     → Given (record { course = course; budget = budget; watch = watch; out = map is_out ms; queue = p; reports = reports }) u
     (record { course = new; budget = budget; watch = watch; out = map is_out (marks_after t.0 g ms); queue = q; reports = with_report reports due })

@@ -1,6 +1,6 @@
 -- How a hub goes on from where it stood.
-use Rattle.std.proofs.Common.{◌≡◌, ℕ, ◌-◌, ◌<◌, Bool, true, false, ◌||◌, [], ◌∷◌, ◌++◌, refl, arith, Some, None, sym, ap, ◌∙◌, subst, append_assoc}
-use Rattle.std.specs.Prelude.{List, nat_le}
+use Rattle.std.proofs.Common.{◌≡◌, ℕ, ◌-◌, ◌<◌, Bool, true, false, not, ◌||◌, [], ◌∷◌, ◌++◌, refl, arith, inl, Some, None, sym, ap, ◌∙◌, subst, append_assoc}
+use Rattle.std.specs.Prelude.{List, nat_le, if◌then◌else◌}
 use Rattle.std.proofs.lemmas.List.{append-nil}
 use Rattle.std.proofs.lemmas.List.Elements.{All-nil, All-cons, All-append}
 use Rattle.std.proofs.lemmas.Bool.Decides.{nat_tests}
@@ -8,11 +8,12 @@ use Rattle.cml_schedule.specs.declared.item.Item.{Item}
 use Rattle.cml_check.specs.Syntax.{PlainItem}
 use Rattle.cml_step.specs.Calls.{text_of}
 use Rattle.cml_step.specs.Machines.{PlainMachine}
+use Rattle.cml_hub.specs.declared.fault.End.TheVariants.{Quiet, Budget, Partial}
 use Rattle.cml_hub.specs.declared.fault.Next.TheVariants as next
-use Rattle.cml_hub.specs.Runs.{Run, stands, over, terminal}
-use Rattle.cml_hub.specs.Courses.{run_of}
-use Rattle.cml_hub.specs.Kept.{Kept, EachAdded, AddedInTime, TellsSwaps, SwapsAreExchanges, Continues, Extends, IsNoTurn, NoneOut, AllOut, HandsOut}
-use Rattle.cml_hub.specs.Moves.{AddsItem, Reported, HandedOut, MovedOn, CalledBack, GoesAlone}
+use Rattle.cml_hub.specs.Runs.{Run, any_runs, ending, stands, over, terminal}
+use Rattle.cml_hub.specs.Courses.{PlainCourse, run_of}
+use Rattle.cml_hub.specs.Kept.{Kept, EachAdded, AddedInTime, TellsSwaps, SwapsAreExchanges, Continues, Extends, IsNoTurn, IsOver, IsFar, NoneOut, NoneDue, AllOut, HandsOut}
+use Rattle.cml_hub.specs.Moves.{AddsItem, Reported, HandedOut, MovedOn, CalledBack, GoesAlone, GoesIfLeft}
 
 -- What holds of each item that was added, and of each that was added after those.
 pub each_more : (p : List (PlainItem ℕ)) (Holds : Run → Item → Type 0) (items xs ys : List Item) → EachAdded p Holds items xs → EachAdded p Holds (items ++ xs) ys → EachAdded p Holds items (xs ++ ys)
@@ -134,6 +135,36 @@ or_false false b h = (refl, h)
 pub going : (budget : ℕ) (r : Run) → over budget r ≡ false → terminal r.world ≡ false
 going budget r h = (or_false (terminal r.world) (nat_le budget r.used) h).0
 
+-- It is over, or not, by what is left to do and by the budget.
+or_not : (a b : Bool) → a ≡ false → b ≡ false → (a || b) ≡ false
+or_not true b h k = h
+or_not false b h k = k
+
+pub over_not : (budget : ℕ) (r : Run) → terminal r.world ≡ false → nat_le budget r.used ≡ false → over budget r ≡ false
+over_not budget r t s = or_not (terminal r.world) (nat_le budget r.used) t s
+
+or_second : (a b : Bool) → b ≡ true → (a || b) ≡ true
+or_second true b k = refl
+or_second false b k = k
+
+pub over_spent : (budget : ℕ) (r : Run) → nat_le budget r.used ≡ true → over budget r ≡ true
+over_spent budget r s = or_second (terminal r.world) (nat_le budget r.used) s
+
+pub over_quiet : (budget : ℕ) (r : Run) → terminal r.world ≡ true → over budget r ≡ true
+over_quiet budget r t = ap (λ a. a || nat_le budget r.used) t
+
+quiet_end : (budget : ℕ) (r : Run) → terminal r.world ≡ true → Quiet ≡ ending budget r
+quiet_end budget r t = sym (ap (λ a. if a then Quiet else if nat_le budget r.used then Budget else Partial) t)
+
+-- Nothing was left to do.
+pub quiet_over : (a b : Kept) → NoneOut a → NoneDue a → GoesIfLeft a false b → IsOver Quiet b
+quiet_over a b n d g =
+    subst (λ (x : Kept). IsOver Quiet x) (sym g.1)
+    (record { over_is = over_quiet a.budget (run_of a.course) g.0; end_is = quiet_end a.budget (run_of a.course) g.0; none_out = n; none_due = d })
+
+pub quiet_far : (old a b : Kept) (steps : ℕ) → GoesIfLeft a false b → IsFar old steps b
+quiet_far old a b steps g = inl (subst (λ (x : Kept). over x.budget (run_of x.course) ≡ true) (sym g.1) (over_quiet a.budget (run_of a.course) g.0))
+
 more_left : (budget used : ℕ) → nat_le budget used ≡ false → used < budget
 more_left budget used h = grind (arith, nat_tests)
 
@@ -183,10 +214,27 @@ job_over a b m o s =
     sym (ap (λ n. over n (run_of b.course)) k ∙ (ap (λ x. over a.budget (run_of x)) c ∙ o))
 
 -- Nothing is to be done before a slice comes back.
-pub wait_hands : (h a b c : Kept) → a.out ≡ h.out → HandedOut a None b → MovedOn b false c → HandsOut h next.Wait c
-wait_hands h a b c o n m =
+still_runs : (t r : Bool) → t ≡ false → t ≡ not r → r ≡ true
+still_runs t true g e = refl
+still_runs t false g e = absurd (cc)
+
+pub wait_hands : (h a b c : Kept) → a.out ≡ h.out → HandedOut a None b → terminal b.course.world ≡ false → MovedOn b false c → HandsOut h next.Wait c
+wait_hands h a b c o n g m =
     let e : c ≡ b = m.2 in
-    subst (λ (x : Kept). HandsOut h next.Wait x) (sym e) (m.0, m.1, none_handed a b n, ap (λ (x : Kept). x.out) n.1 ∙ o)
+    subst (λ (x : Kept). HandsOut h next.Wait x) (sym e) (m.0, still_runs (terminal b.course.world) (any_runs b.course.world) g m.1, none_handed a b n, ap (λ (x : Kept). x.out) n.1 ∙ o)
+
+pub wait_over : (a b c : Kept) → over a.budget (run_of a.course) ≡ false → HandedOut a None b → MovedOn b false c → false ≡ over c.budget (run_of c.course)
+wait_over a b c o n m = sym (ap (λ (x : Kept). over x.budget (run_of x.course)) (m.2 ∙ n.1) ∙ o)
+
+-- A row or a tick uses of the budget, and the report that is made then does not change that.
+pub move_smaller : (a b c d : Kept) → over a.budget (run_of a.course) ≡ false → HandedOut a None b → MovedOn b true c → Reported c d
+    → d.budget - d.course.used < a.budget - a.course.used
+move_smaller a b c d o n m r =
+    let left : a.course.used < a.budget = below a.budget (run_of a.course) o in
+    let more : a.course.used < c.course.used = subst (λ (x : Kept). x.course.used < c.course.used) n.1 m.3.used in
+    let budget : d.budget ≡ a.budget = r.budget ∙ (m.3.budget ∙ ap (λ (x : Kept). x.budget) n.1) in
+    let used : d.course.used ≡ c.course.used = ap (λ (x : PlainCourse). x.used) r.course in
+    omega (arith, left, more, budget, used)
 
 pub none_out_reported : (a b : Kept) → NoneOut a → Reported a b → NoneOut b
 none_out_reported a b n r = λ t. rw r.out (n t)

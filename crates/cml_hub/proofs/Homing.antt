@@ -79,7 +79,8 @@ pub homing_length : (first : List Tid) (old : List Mark) (n : ℕ) (queue : List
 homing_length first old n queue ms room h = ap length h.so_far ∙ length_upto n old
 
 -- one that was out
-pub homing_out : (first : List Tid) (old : List Mark) (n : ℕ) (queue : List Tid) (ms : List Mark) (room new : ℕ) (t : Tid) → Homing first old n queue ms room → slice_get ms n ≡ Some Out → t.0 ≡ n → room ≡ new + 1
+pub homing_out : (first : List Tid) (old : List Mark) (n : ℕ) (queue : List Tid) (ms : List Mark) (room new : ℕ)
+    (t : Tid) → Homing first old n queue ms room → slice_get ms n ≡ Some Out → t.0 ≡ n → room ≡ new + 1
     → Homing first old (n + 1) (queue ++ t ∷ []) (slice_set ms n Ready) new
 homing_out first old n queue ms room new t h got is less = record {
   ordered = rw add-one
@@ -95,7 +96,8 @@ homing_out first old n queue ms room new t h got is less = record {
 }
 
 -- one that was not
-pub homing_here : (first : List Tid) (old : List Mark) (n : ℕ) (queue : List Tid) (ms : List Mark) (room : ℕ) (m : Mark) → Homing first old n queue ms room → slice_get ms n ≡ Some m → home m ≡ m → Homing first old (n + 1) queue ms room
+pub homing_here : (first : List Tid) (old : List Mark) (n : ℕ) (queue : List Tid) (ms : List Mark) (room : ℕ) (m : Mark)
+    → Homing first old n queue ms room → slice_get ms n ≡ Some m → home m ≡ m → Homing first old (n + 1) queue ms room
 homing_here first old n queue ms room m h got is = record {
   ordered = rw add-one
       (let so : slice_get (home_upto n old) n ≡ Some m = rw (h.so_far) at got in
@@ -113,7 +115,8 @@ home_here m (inr e) = rw e refl
 pub homing_done : (first : List Tid) (old : List Mark) (n : ℕ) (queue : List Tid) (ms : List Mark) (room : ℕ) → Homing first old n queue ms room → n ≡ length old → ms ≡ map home old
 homing_done first old n queue ms room h e = h.so_far ∙ ap (λ k. home_upto k old) e ∙ upto_all old
 
-pub homing_order : (first : List Tid) (old : List Mark) (n : ℕ) (queue : List Tid) (ms : List Mark) (room : ℕ) → Homing first old n queue ms room → n ≡ length old → queue ≡ first ++ those_out 0 (map is_out old)
+pub homing_order : (first : List Tid) (old : List Mark) (n : ℕ) (queue : List Tid) (ms : List Mark) (room : ℕ)
+    → Homing first old n queue ms room → n ≡ length old → queue ≡ first ++ those_out 0 (map is_out old)
 homing_order first old n queue ms room h e = h.ordered ∙ ap (λ xs. first ++ those_out 0 (map is_out xs)) (take_all n old (omega (arith, e)))
 
 pub marks_home : (queue new : List Tid) (old ms : List Mark) (o : ℕ) → AreMarks queue old o → ms ≡ map home old → ((t : ℕ) → count_of t new ≡ ready_at ms t) → AreMarks new ms 0

@@ -15,7 +15,8 @@ use Rattle.cml_hub.specs.Moves.{IsNext, marks_after, PartiesAway, marks_met, Add
 use Rattle.cml_hub.proofs.Marking.{placed_turn, next_is, placed_met, parties_away}
 use Rattle.cml_hub.proofs.Reporting.{stands_moved}
 
-pub stands_turned : (h : Kept) (ms : List Mark) (t : Tid) (g : AfterTurn) (new : PlainCourse) (q : List Tid) → Stands h ms → NoneDue h → slice_get h.course.world.threads t.0 ≡ Some running → Turns h.course t g new
+pub stands_turned : (h : Kept) (ms : List Mark) (t : Tid) (g : AfterTurn) (new : PlainCourse) (q : List Tid)
+    → Stands h ms → NoneDue h → slice_get h.course.world.threads t.0 ≡ Some running → Turns h.course t g new
     → Stands (record { course = new; budget = h.budget; watch = h.watch; out = map is_out (marks_after t.0 g ms); queue = q; reports = h.reports }) (marks_after t.0 g ms)
 stands_turned h ms t g new q s none run turns =
     stands_moved h ms (marks_after t.0 g ms) (Turn t) new q s none turns.adds (placed_turn h.course.world.threads new.world.threads ms t.0 g s.placed run turns.threads)

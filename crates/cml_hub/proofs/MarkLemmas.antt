@@ -1,5 +1,39 @@
 -- Threads that come to the queue, and leave it.
-use Rattle.std.proofs.Common.{◌≡◌, ◌≢◌, ℕ, zero, suc, ◌+◌, ◌*◌, ◌<◌, ◌≤◌, ◌^◌, Bool, true, false, not, nat_eq, List, [], ◌∷◌, ◌++◌, length, take, refl, arith, Some, None, sym, ap, ◌∙◌, length-set, length-append, slice_index_or, add-one}
+use Rattle.std.proofs.Common.{
+  ◌≡◌,
+  ◌≢◌,
+  ℕ,
+  zero,
+  suc,
+  ◌+◌,
+  ◌*◌,
+  ◌<◌,
+  ◌≤◌,
+  ◌^◌,
+  Bool,
+  true,
+  false,
+  not,
+  nat_eq,
+  List,
+  [],
+  ◌∷◌,
+  ◌++◌,
+  length,
+  take,
+  drop,
+  refl,
+  arith,
+  Some,
+  None,
+  sym,
+  ap,
+  ◌∙◌,
+  length-set,
+  length-append,
+  slice_index_or,
+  add-one,
+}
 use Rattle.std.specs.Prelude.{slice_get, slice_set, Option, OnSome, IsSome}
 use Rattle.std.specs.List.{list_any, remove}
 use Rattle.std.proofs.lemmas.Bool.Decides.{nat_tests}
@@ -190,6 +224,18 @@ pub unqueued : (t : ℕ) (old q new : List Tid) (i : ℕ) (y x : Tid) (r : Optio
 unqueued t old q new i y x r b gone is same lt at e found =
     let n : y.0 ≡ x.0 = grind (arith, nat_tests) in
     rw (some_then r gone is, ← same, ← n) (count_remove t q i y lt at)
+
+pub none_queued : (t : ℕ) (queue : List Tid) → length queue ≡ 0 → count_of t queue ≡ 1 → ⊥
+none_queued t [] e h = cc
+none_queued t (x ∷ queue) e h = absurd (omega arith)
+
+-- it was the first
+pub first_gone : (t : ℕ) (q new : List Tid) (y x : Tid) (b : Bool) → new ≡ drop 1 q → 0 < length q → y ≡ slice_index_or q 0 y → b ≡ nat_eq y.0 x.0 → b ≡ true
+    → count_of t new + is_at t x.0 ≡ count_of t q
+first_gone t [] new y x b gone lt at e found = absurd (omega arith)
+first_gone t (z ∷ q) new y x b gone lt at e found =
+    let n : y.0 ≡ x.0 = grind (arith, nat_tests) in
+    rw (gone, ← n) (count_remove t (z ∷ q) 0 y lt at)
 
 pub passed_by : (x : Tid) (q : List Tid) (i : ℕ) (y : Tid) (b : Bool) → i < length q → y ≡ slice_index_or q i y → b ≡ nat_eq y.0 x.0 → b ≡ false
     → count_of x.0 (take i q) ≡ 0 → count_of x.0 (take (i + 1) q) ≡ 0

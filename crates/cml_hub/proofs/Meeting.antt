@@ -5,7 +5,7 @@ use Rattle.std.proofs.lemmas.Bool.{and_parts, and_from}
 use Rattle.std.proofs.lemmas.Option.{slice_get-map}
 use Rattle.std.proofs.lemmas.List.Elements.{All-push}
 use Rattle.cml_value.specs.declared.number.Tid.{Tid}
-use Rattle.cml_value.specs.Value.{PlainBase, mtake, mswap, mail_recv, port_recv}
+use Rattle.cml_value.specs.Value.{PlainBase}
 use Rattle.cml_value.specs.Group.{PlainGroup}
 use Rattle.cml_scan.specs.World.{PlainThread, running, pending_on, ended, PlainWorld}
 use Rattle.cml_scan.specs.Scan.{scan, has_row}
@@ -17,12 +17,13 @@ use Rattle.cml_check.specs.InOrder.{arities}
 use Rattle.cml_step.specs.Calls.{text_of}
 use Rattle.cml_step.specs.Machines.{PlainMachine, machine_term, Fits}
 use Rattle.cml_step.specs.Terms.{Program}
-use Rattle.cml_book.specs.Commit.{commit, hands, after, taken, base_awaited, resume}
+use Rattle.cml_book.specs.Commit.{commit, hands, after, base_awaited, resume}
 use Rattle.cml_channel.specs.Handed.{handed}
 use Rattle.cml_book.specs.Swaps.{are_swaps}
 use Rattle.cml_book.specs.Resumes.{PlainResume}
 use Rattle.cml_book.specs.declared.command.Committed.{Committed}
 use Rattle.cml_book.specs.declared.refusal.Refusal.{Refusal}
+use Rattle.cml_book.proofs.Dimmed.{taken-threads}
 use Rattle.cml_schedule.specs.declared.item.Item.{Item}
 use Rattle.cml_schedule.specs.declared.item.Item.TheVariants.{Turn, Meet as Commit, Exchange, Clock}
 use Rattle.cml_schedule.specs.Laws.{AreNumbers, IsPair, IsWritable}
@@ -49,15 +50,8 @@ parties_wait w (Single t n) h = waits_at (slice_get w.threads t.0) n h.0 h.1
 parties_wait w (Pair a i o j) (inl h) = (waits_at (slice_get w.threads a.0) i _ h.2, waits_at (slice_get w.threads o.0) j _ h.3, h.4)
 parties_wait w (Pair a i o j) (inr h) = (waits_at (slice_get w.threads a.0) i _ h.3, waits_at (slice_get w.threads o.0) j _ h.4, below a.0 o.0 h.5)
 
-taken_threads : (w : PlainWorld) (b : PlainBase) → (taken w b).threads ≡ w.threads
-taken_threads w (mtake m) = refl
-taken_threads w (mswap m v) = refl
-taken_threads w (mail_recv b) = refl
-taken_threads w (port_recv p) = refl
-taken_threads w _ = refl
-
 after_threads : (w : PlainWorld) (row : Meet) → (after w row).threads ≡ parties_run row w.threads
-after_threads w (Single t n) = ap (λ ts. slice_set ts t.0 running) (taken_threads w (base_awaited w t.0 n))
+after_threads w (Single t n) = ap (λ ts. slice_set ts t.0 running) (taken-threads w (base_awaited w t.0 n))
 after_threads w (Pair a i o j) = refl
 
 -- a party goes on
@@ -82,14 +76,17 @@ party_after p ts ms new r h g =
     )
 
 -- what a row hands its parties, and how these stand
-head_stands : (p : List (PlainItem ℕ)) (w : PlainWorld) (ms : List PlainMachine) (row : Meet) → MachinesStand p 0 w.threads ms → WorldAgrees (arities p) w → PartiesWait w row → PartyStands p w.threads ms (hands w row).head
+head_stands : (p : List (PlainItem ℕ)) (w : PlainWorld) (ms : List PlainMachine) (row : Meet)
+    → MachinesStand p 0 w.threads ms → WorldAgrees (arities p) w → PartiesWait w row
+    → PartyStands p w.threads ms (hands w row).head
 head_stands p w ms (Single t n) h a g = record { stands = h; waits = g; agrees = (hands_agrees (arities p) w (Single t n) a).0 }
 head_stands p w ms (Pair t i o j) h a g = record { stands = h; waits = g.0; agrees = (hands_agrees (arities p) w (Pair t i o j) a).0 }
 
 other_waits : (w : PlainWorld) (t o : ℕ) → IsPending w o → t ≢ o → (g : PlainGroup) × (slice_get (slice_set w.threads t running) o ≡ Some (pending_on g))
 other_waits w t o g ne = (g.0, get_other w.threads t o running ne ∙ g.1)
 
-partner_stands : (p : List (PlainItem ℕ)) (w : PlainWorld) (ms new : List PlainMachine) (t o : Tid) (i j : ℕ) → MachinesStand p 0 w.threads ms → WorldAgrees (arities p) w → PartiesWait w (Pair t i o j)
+partner_stands : (p : List (PlainItem ℕ)) (w : PlainWorld) (ms new : List PlainMachine) (t o : Tid) (i j : ℕ)
+    → MachinesStand p 0 w.threads ms → WorldAgrees (arities p) w → PartiesWait w (Pair t i o j)
     → Resumed ms (hands w (Pair t i o j)).head new → PartyStands p (slice_set w.threads t.0 running) new (resume w o.0 j (handed (base_awaited w t.0 i)))
 partner_stands p w ms new t o i j h a g r = record {
   stands = (party_after p w.threads ms new (hands w (Pair t i o j)).head (head_stands p w ms (Pair t i o j) h a g) r).0;
@@ -105,7 +102,8 @@ all_resume c (Pair t i o j) h g = (
 )
 
 -- the machines and terms, once all parties went on
-all_after : (p : List (PlainItem ℕ)) (w : PlainWorld) (ms new : List PlainMachine) (row : Meet) → MachinesStand p 0 w.threads ms → WorldAgrees (arities p) w → PartiesWait w row → AllResumed ms (hands w row) new
+all_after : (p : List (PlainItem ℕ)) (w : PlainWorld) (ms new : List PlainMachine) (row : Meet)
+    → MachinesStand p 0 w.threads ms → WorldAgrees (arities p) w → PartiesWait w row → AllResumed ms (hands w row) new
     → MachinesStand p 0 (parties_run row w.threads) new × (map (machine_term p) new ≡ all_resumed (text_of p) (map (machine_term p) ms) (hands w row))
 all_after p w ms new (Single t n) h a g r =
     let q = party_after p w.threads ms r.between (hands w (Single t n)).head (head_stands p w ms (Single t n) h a g) r.head in
@@ -155,7 +153,8 @@ met_is c item row ms h g r =
     let q = all_after c.program c.world c.machines ms row h.machines h.agrees g.parties r in
     rw (g.allowed, after_takes (text_of c.program) (run_of c) item row g.takes, q.1) refl
 
-pub met_leads : (c : PlainCourse) (item : Item) (row : Meet) (ms : List PlainMachine) → Leads c → MayTake c.world item row → AllResumed c.machines (hands c.world row) ms → Leads (course_met c item row ms)
+pub met_leads : (c : PlainCourse) (item : Item) (row : Meet) (ms : List PlainMachine) → Leads c
+    → MayTake c.world item row → AllResumed c.machines (hands c.world row) ms → Leads (course_met c item row ms)
 met_leads c item row ms h g r =
     let q = all_after c.program c.world c.machines ms row h.machines h.agrees g.parties r in
     record {
@@ -166,7 +165,8 @@ met_leads c item row ms h g r =
       writable = All-push IsWritable c.items item h.writable (takes_writable c.world item row g.takes g.allowed g.numbers);
     }
 
-pub met_so : (c : PlainCourse) (item : Item) (row : Meet) (ms : List PlainMachine) → Leads c → MayTake c.world item row → AllResumed c.machines (hands c.world row) ms → Meets c item row (course_met c item row ms)
+pub met_so : (c : PlainCourse) (item : Item) (row : Meet) (ms : List PlainMachine) → Leads c → MayTake c.world item row
+    → AllResumed c.machines (hands c.world row) ms → Meets c item row (course_met c item row ms)
 met_so c item row ms h g r = record {
   adds = record { program = refl; items = refl; run = met_is c item row ms h g r };
   parties = g.parties;

@@ -1,8 +1,10 @@
 -- Whether there is more to do, and what comes next.
-use Rattle.std.proofs.Common.{◌≡◌, ℕ, zero, suc, Bool, true, false, not, nat_eq, List, [], ◌∷◌, map, refl, ap, sym, subst, ◌∙◌, arith, Option, Some, None, Result, Ok, Err}
-use Rattle.std.specs.Prelude.{is_some, OnOk, OnErr, slice_get, slice_set}
+use Rattle.std.proofs.Common.{◌≡◌, ◌≢◌, ℕ, zero, suc, Bool, true, false, not, ◌&&◌, ◌||◌, nat_eq, List, [], ◌∷◌, map, refl, ap, sym, subst, ◌∙◌, arith, Option, Some, None, Result, Ok, Err}
+use Rattle.std.specs.Prelude.{is_some, IfOk, OnErr, slice_get, slice_set}
 use Rattle.std.proofs.lemmas.Bool.Decides.{nat_tests}
-use Rattle.cml_scan.specs.World.{PlainWorld, running}
+use Rattle.std.specs.List.{list_any}
+use Rattle.cml_scan.specs.World.{PlainWorld, PlainThread, running}
+use Rattle.cml_book.specs.Walks.{runs}
 use Rattle.cml_scan.specs.Scan.{scan, has_row}
 use Rattle.cml_scan.specs.declared.meet.Meet.{Meet}
 use Rattle.cml_book.specs.Swaps.{swaps}
@@ -16,11 +18,11 @@ use Rattle.cml_hub.specs.declared.marks.Mark.{Mark}
 use Rattle.cml_hub.specs.declared.marks.Mark.TheVariants.{Ready, Out}
 use Rattle.cml_value.specs.declared.number.Tid.{Tid}
 use Rattle.cml_hub.specs.ReadyQueue.{is_out, left_by}
-use Rattle.cml_hub.specs.Runs.{any_runs, is_none, next_alarm, terminal, is_allowed}
+use Rattle.cml_hub.specs.Runs.{any_runs, is_empty, is_none, next_alarm, terminal, is_allowed}
 use Rattle.cml_hub.specs.Dones.{GoesOn}
 use Rattle.cml_hub.specs.Courses.{PlainCourse, Begins, HasMachine, TakesRow}
 use Rattle.cml_hub.specs.Kept.{Kept, Stands, IsBudget, IsWatch, IsAtStart, is_out_of}
-use Rattle.cml_hub.specs.Moves.{HandedOut}
+use Rattle.cml_hub.specs.Moves.{HandedOut, TakesBack}
 use Rattle.cml_hub.proofs.Standing.{map_set}
 use Rattle.cml_hub.proofs.Marking.{placed_kept, ready_running, out_at}
 use Rattle.cml_hub.proofs.Reporting.{none_made}
@@ -52,14 +54,62 @@ tick_allowed w tick still idle next = let same : nat_eq tick tick ≡ true = gri
 pub terminal_is : (w : PlainWorld) → scan w ≡ [] → any_runs w ≡ false → next_alarm w ≡ None → terminal w ≡ true
 terminal_is w still idle next = rw (next, idle, still) refl
 
--- what a call returns where it succeeds
-pub on_ok : {A E P Q : Type 0} (r : Result A E) → OnOk r P → (P → Q) → OnOk r Q
-on_ok (Ok x) h f = f h
-on_ok (Err e) h f = h
+-- whether something is left to do, where no row can be taken
+runs_then : (a e n : Bool) → a ≡ true → (not a && e && n) ≡ not a
+runs_then true e n h = refl
+runs_then false e n h = absurd (cc)
 
-pub on_ok_both : {A E P Q R : Type 0} (r : Result A E) → OnOk r P → OnOk r Q → (P → Q → R) → OnOk r R
-on_ok_both (Ok x) h k f = f h k
-on_ok_both (Err e) h k f = h
+pub busy_is : (w : PlainWorld) → any_runs w ≡ true → terminal w ≡ not (any_runs w)
+busy_is w h = runs_then (any_runs w) (is_empty (scan w)) (is_none (next_alarm w)) h
+
+pub quiet_is : (w : PlainWorld) → scan w ≡ [] → any_runs w ≡ false → next_alarm w ≡ None → terminal w ≡ not (any_runs w)
+quiet_is w still idle next = terminal_is w still idle next ∙ sym (ap not idle)
+
+-- something is left to do: a thread runs, or a row can be taken, or there is an alarm
+pub runs_going : (w : PlainWorld) → any_runs w ≡ true → terminal w ≡ false
+runs_going w h = busy_is w h ∙ ap not h
+
+rows_left : (rows : List Meet) (row : Meet) (a n : Bool) → has_row rows row ≡ true → (a && is_empty rows && n) ≡ false
+rows_left [] row a n h = absurd (cc)
+rows_left (x ∷ rows) row true n h = refl
+rows_left (x ∷ rows) row false n h = refl
+
+pub row_going : (w : PlainWorld) (row : Meet) → has_row (scan w) row ≡ true → terminal w ≡ false
+row_going w row h = rows_left (scan w) row (not (any_runs w)) (is_none (next_alarm w)) h
+
+alarm_left : (o : Option ℕ) (tick : ℕ) (a e : Bool) → o ≡ Some tick → (a && e && is_none o) ≡ false
+alarm_left None tick a e h = absurd (cc)
+alarm_left (Some n) tick true true h = refl
+alarm_left (Some n) tick true false h = refl
+alarm_left (Some n) tick false e h = refl
+
+pub tick_going : (w : PlainWorld) (tick : ℕ) → next_alarm w ≡ Some tick → terminal w ≡ false
+tick_going w tick h = alarm_left (next_alarm w) tick (not (any_runs w)) (is_empty (scan w)) h
+
+or_true : (a b : Bool) → b ≡ true → (a || b) ≡ true
+or_true true b h = refl
+or_true false b h = h
+
+any_running : (ts : List PlainThread) (t : ℕ) → slice_get ts t ≡ Some running → list_any runs ts ≡ true
+any_running [] t h = cc
+any_running (x ∷ ts) zero h = let e : x ≡ running = cc in rw e refl
+any_running (x ∷ ts) (suc t) h = or_true (runs x) (list_any runs ts) (any_running ts t h)
+
+pub thread_going : (w : PlainWorld) (t : ℕ) → slice_get w.threads t ≡ Some running → terminal w ≡ false
+thread_going w t h = runs_going w (any_running w.threads t h)
+
+-- no slice of another thread is out
+back_at : (old new : List Bool) (t u : ℕ) (b : Bool) → TakesBack old t new → ((u : ℕ) → is_out_of old u ≡ false) → nat_eq u t ≡ b → is_out_of new u ≡ false
+back_at old new t u true back none e = let same : u ≡ t = grind (arith, nat_tests) in ap (is_out_of new) same ∙ back.back
+back_at old new t u false back none e = let other : u ≢ t = grind (arith, nat_tests) in back.others u other ∙ none u
+
+pub none_back : (old new : List Bool) (t : ℕ) → TakesBack old t new → ((u : ℕ) → is_out_of old u ≡ false) → (u : ℕ) → is_out_of new u ≡ false
+none_back old new t back none u = back_at old new t u (nat_eq u t) back none refl
+
+-- what holds of what a call returns where it succeeds
+pub if_ok : {A E : Type 0} {P Q : A → Type 0} (r : Result A E) → IfOk r P → ((x : A) → P x → Q x) → IfOk r Q
+if_ok (Ok x) h f = f x h
+if_ok (Err e) h f = h
 
 -- what holds where a call fails
 pub on_err : {A E P : Type 0} (r : Result A E) → P → OnErr r P

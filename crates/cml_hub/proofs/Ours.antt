@@ -48,7 +48,8 @@ not_running_ours c ran t b h e r n = (
   λ o. (let k = (ours_own c ran h o).running in let f : is_running c.world ran.start.thread ≡ true = rw k refl in let g = rw e at r in cc),
 )
 
-pub current_ours : (c : PlainCourse) (ran : PlainRan) (t : ℕ) (m : PlainMachine) (s : Bool) → Leads c → t ≡ ran.start.thread → slice_get c.world.threads t ≡ Some running → m ≡ slice_index_or c.machines t m
+pub current_ours : (c : PlainCourse) (ran : PlainRan) (t : ℕ) (m : PlainMachine) (s : Bool) → Leads c → t
+    ≡ ran.start.thread → slice_get c.world.threads t ≡ Some running → m ≡ slice_index_or c.machines t m
     → (IsTrue s ↔ (m ≡ ran.start)) → ran.program ≡ c.program → IsTrue s ↔ IsOurs c ran
 current_ours c ran t m s h e run is both prog = (
   λ yes. (prog, (t, record { running = run; machine = machine_at c t m h run is ∙ ap (λ x. Some x) (both.0 yes) })),
@@ -56,7 +57,9 @@ current_ours c ran t m s h e run is both prog = (
 )
 
 -- each thread has its machine, which stands as the thread does
-pub stands_there : (c : PlainCourse) (n : ℕ) (t : PlainThread) (r : Option (Bor PlainMachine)) → Leads c → option_copied r ≡ slice_get c.machines n → slice_get c.world.threads n ≡ Some t → MatchOption r ⊥ (λ m. MachineStands c.program t m.now)
+pub stands_there : (c : PlainCourse) (n : ℕ) (t : PlainThread) (r : Option (Bor PlainMachine)) → Leads c
+    → option_copied r ≡ slice_get c.machines n → slice_get c.world.threads n ≡ Some t
+    → MatchOption r ⊥ (λ m. MachineStands c.program t m.now)
 stands_there c n t None h e run =
     let at = (found c.program 0 n c.world.threads c.machines t h.machines run).at in
     cc

@@ -146,15 +146,48 @@ performs fs w t ask.make_swap h e =
     (nat_le max_objects w.swaps) refusal.Full
 performs fs w t ask.make_ivar h e =
     one fs w t (λ i. gets (a_value (ivar i.0))) (record w { ivars = w.ivars ++ None ∷ [] }, record { 0 = length w.ivars }) h
-    (record { threads = refl; agrees = record { threads = h.threads; soon = h.soon; ivars = every_append (maybe_agrees fs) w.ivars (None ∷ []) h.ivars (refl, tt); mvars = h.mvars; mailboxes = h.mailboxes; ports = h.ports } })
+    (record {
+      threads = refl;
+      agrees = record {
+        threads = h.threads;
+        soon = h.soon;
+        ivars = every_append (maybe_agrees fs) w.ivars (None ∷ []) h.ivars
+            (refl, tt);
+        mvars = h.mvars;
+        mailboxes = h.mailboxes;
+        ports = h.ports;
+      };
+    })
     (nat_le max_objects (length w.ivars)) refusal.Full
 performs fs w t (ask.make_mvar v) h e =
     two fs w t (λ m. gets (a_value (mvar m.0))) (record w { mvars = w.mvars ++ v ∷ [] }, record { 0 = length w.mvars }) h
-    (record { threads = refl; agrees = record { threads = h.threads; soon = h.soon; ivars = h.ivars; mvars = every_append (maybe_agrees fs) w.mvars (v ∷ []) h.mvars (e, tt); mailboxes = h.mailboxes; ports = h.ports } })
+    (record {
+      threads = refl;
+      agrees = record {
+        threads = h.threads;
+        soon = h.soon;
+        ivars = h.ivars;
+        mvars = every_append (maybe_agrees fs) w.mvars (v ∷ [])
+            h.mvars (e, tt);
+        mailboxes = h.mailboxes;
+        ports = h.ports;
+      };
+    })
     (not (held_fits v)) (nat_le max_objects (length w.mvars)) refusal.Deep refusal.Full
 performs fs w t ask.make_mailbox h e =
     one fs w t (λ b. gets (a_value (mailbox b.0))) (record w { mailboxes = w.mailboxes ++ [] ∷ [] }, record { 0 = length w.mailboxes }) h
-    (record { threads = refl; agrees = record { threads = h.threads; soon = h.soon; ivars = h.ivars; mvars = h.mvars; mailboxes = every_append (all_agree fs) w.mailboxes ([] ∷ []) h.mailboxes (refl, tt); ports = h.ports } })
+    (record {
+      threads = refl;
+      agrees = record {
+        threads = h.threads;
+        soon = h.soon;
+        ivars = h.ivars;
+        mvars = h.mvars;
+        mailboxes = every_append (all_agree fs)
+            w.mailboxes ([] ∷ []) h.mailboxes (refl, tt);
+        ports = h.ports;
+      };
+    })
     (nat_le max_objects (length w.mailboxes)) refusal.Full
 performs fs w t ask.make_mchan h e =
     one fs w t (λ x. gets (a_value (mchan x.0))) (record w { mchans = w.mchans ++ [] ∷ [] }, record { 0 = length w.mchans }) h
@@ -162,19 +195,71 @@ performs fs w t ask.make_mchan h e =
     (nat_le max_objects (length w.mchans)) refusal.Full
 performs fs w t (ask.make_port x) h e =
     two fs w t (λ p. gets (a_value (port p.0))) (record w { mchans = with_port w.mchans x (length w.ports); ports = w.ports ++ [] ∷ [] }, record { 0 = length w.ports }) h
-    (record { threads = refl; agrees = record { threads = h.threads; soon = h.soon; ivars = h.ivars; mvars = h.mvars; mailboxes = h.mailboxes; ports = every_append (all_agree fs) w.ports ([] ∷ []) h.ports (refl, tt) } })
+    (record {
+      threads = refl;
+      agrees = record {
+        threads = h.threads;
+        soon = h.soon;
+        ivars = h.ivars;
+        mvars = h.mvars;
+        mailboxes = h.mailboxes;
+        ports =
+            every_append (all_agree fs) w.ports ([] ∷ []) h.ports (refl, tt);
+      };
+    })
     (not (nat_lt x (length w.mchans))) (nat_le max_objects (length w.ports)) refusal.Object refusal.Full
 performs fs w t (ask.copy_port p) h e =
-    two fs w t (λ q. gets (a_value (port q.0))) (record w { mchans = map (heard_by (length w.ports) p) w.mchans; ports = w.ports ++ unwrap_or (slice_get w.ports p) [] ∷ [] }, record { 0 = length w.ports }) h
-    (record { threads = refl; agrees = record { threads = h.threads; soon = h.soon; ivars = h.ivars; mvars = h.mvars; mailboxes = h.mailboxes; ports = every_append (all_agree fs) w.ports (unwrap_or (slice_get w.ports p) [] ∷ []) h.ports (unread_agree fs w.ports p h.ports, tt) } })
+    two fs w t (λ q. gets (a_value (port q.0))) (
+      record w {
+        mchans = map (heard_by (length w.ports) p) w.mchans;
+        ports =
+            w.ports ++ unwrap_or (slice_get w.ports p) [] ∷ [];
+      },
+      record { 0 = length w.ports },
+    ) h
+    (record {
+      threads = refl;
+      agrees = record {
+        threads = h.threads;
+        soon = h.soon;
+        ivars = h.ivars;
+        mvars = h.mvars;
+        mailboxes = h.mailboxes;
+        ports =
+            every_append (all_agree fs) w.ports (unwrap_or (slice_get w.ports p) [] ∷ []) h.ports
+            (unread_agree fs w.ports p h.ports, tt);
+      };
+    })
     (not (nat_lt p (length w.ports))) (nat_le max_objects (length w.ports)) refusal.Object refusal.Full
 performs fs w t (ask.iput i v) h e =
     three fs w t (λ _. gets (a_value unit)) (record w { ivars = slice_set w.ivars i (Some v) }, tt) h
-    (record { threads = refl; agrees = record { threads = h.threads; soon = h.soon; ivars = every_set (maybe_agrees fs) w.ivars i (Some v) h.ivars e; mvars = h.mvars; mailboxes = h.mailboxes; ports = h.ports } })
+    (record {
+      threads = refl;
+      agrees = record {
+        threads = h.threads;
+        soon = h.soon;
+        ivars = every_set (maybe_agrees fs) w.ivars i (Some v) h.ivars e;
+        mvars =
+            h.mvars;
+        mailboxes = h.mailboxes;
+        ports = h.ports;
+      };
+    })
     (not (nat_lt i (length w.ivars))) (is_full (slice_get w.ivars i)) (not (value_fits v)) refusal.Object refusal.Put refusal.Deep
 performs fs w t (ask.mput m v) h e =
     three fs w t (λ _. gets (a_value unit)) (record w { mvars = slice_set w.mvars m (Some v) }, tt) h
-    (record { threads = refl; agrees = record { threads = h.threads; soon = h.soon; ivars = h.ivars; mvars = every_set (maybe_agrees fs) w.mvars m (Some v) h.mvars e; mailboxes = h.mailboxes; ports = h.ports } })
+    (record {
+      threads = refl;
+      agrees = record {
+        threads = h.threads;
+        soon = h.soon;
+        ivars = h.ivars;
+        mvars = every_set (maybe_agrees fs) w.mvars m (Some v)
+            h.mvars e;
+        mailboxes = h.mailboxes;
+        ports = h.ports;
+      };
+    })
     (not (nat_lt m (length w.mvars))) (is_full (slice_get w.mvars m)) (not (value_fits v)) refusal.Object refusal.Put refusal.Deep
 performs fs w t (ask.mail b v) h e =
     three fs w t (λ _. gets (a_value unit)) (record w { mailboxes = added_at w.mailboxes b v }, tt) h
@@ -182,7 +267,18 @@ performs fs w t (ask.mail b v) h e =
     (not (nat_lt b (length w.mailboxes))) (not (value_fits v)) (is_full_at w.mailboxes b) refusal.Object refusal.Deep refusal.Full
 performs fs w t (ask.multicast x v) h e =
     three fs w t (λ _. gets (a_value unit)) (record w { ports = posted v (ports_at w.mchans x) w.ports }, tt) h
-    (record { threads = refl; agrees = record { threads = h.threads; soon = h.soon; ivars = h.ivars; mvars = h.mvars; mailboxes = h.mailboxes; ports = posted_agrees fs (ports_at w.mchans x) w.ports v h.ports e } })
+    (record {
+      threads = refl;
+      agrees = record {
+        threads = h.threads;
+        soon = h.soon;
+        ivars = h.ivars;
+        mvars = h.mvars;
+        mailboxes = h.mailboxes;
+        ports =
+            posted_agrees fs (ports_at w.mchans x) w.ports v h.ports e;
+      };
+    })
     (not (nat_lt x (length w.mchans))) (not (value_fits v)) (any_is_full (ports_at w.mchans x) w.ports) refusal.Object refusal.Deep refusal.Full
 performs fs w t (ask.print v) h e = record { threads = refl; agrees = h }
 performs fs w t ask.now h e = record { threads = refl; agrees = h }

@@ -1,5 +1,5 @@
 -- The threads that run, and their marks.
-use Rattle.std.proofs.Common.{◌≡◌, ◌≢◌, ℕ, zero, suc, Bool, true, false, List, [], ◌∷◌, ◌++◌, map, refl, Some, ap, ◌∙◌}
+use Rattle.std.proofs.Common.{◌≡◌, ◌≢◌, ℕ, zero, suc, Bool, true, false, not, List, [], ◌∷◌, ◌++◌, map, refl, Some, ap, ◌∙◌}
 use Rattle.std.specs.Prelude.{Option, Result, Ok, Err, OnOk, OnErr, slice_get}
 use Rattle.std.specs.List.{list_any}
 use Rattle.cml_scan.specs.World.{PlainThread, running, pending_on, ended}
@@ -11,7 +11,8 @@ use Rattle.cml_hub.specs.ReadyQueue.{is_here, is_out, home, those_out}
 use Rattle.cml_monitor.specs.Reports.{PlainReport}
 use Rattle.cml_hub.specs.Courses.{PlainCourse}
 use Rattle.cml_hub.specs.Kept.{Kept, Stands, Placed, is_out_of, AllOut, NoneOut}
-use Rattle.cml_hub.specs.Moves.{MovedOn, CalledBack, GoesAlone}
+use Rattle.cml_hub.specs.Runs.{any_runs}
+use Rattle.cml_hub.specs.Moves.{MovedOn, CalledBack, GoesIfLeft}
 
 -- who is ready runs
 pub ready_runs : (ts : List PlainThread) (ms : List Mark) (t : ℕ) → Placed ts ms → slice_get ms t ≡ Some Ready → slice_get ts t ≡ Some running
@@ -102,15 +103,19 @@ runs_somewhere (running ∷ ts) h = (0, refl)
 runs_somewhere (pending_on g ∷ ts) h = let r = runs_somewhere ts h in (suc r.0, r.1)
 runs_somewhere (ended ∷ ts) h = let r = runs_somewhere ts h in (suc r.0, r.1)
 
-pub alone_moved : (a b : Kept) (moved : Bool) → NoneOut a → AllOut a → MovedOn a moved b → GoesAlone a b
-alone_moved a b true n o m = record {
-  item = m.0;
-  tells = m.2;
-  moves = m.3;
-  none_out = λ t. rw m.4 (n t);
-}
-alone_moved a b false n o m = let r = runs_somewhere a.course.world.threads m.1 in let y = o r.0 r.1 in let z = n r.0 in cc
+-- where no slice is out, and one of every thread that runs is, none runs
+alone_idle : (a : Kept) (b : Bool) → NoneOut a → AllOut a → list_any runs a.course.world.threads ≡ b → b ≡ false
+alone_idle a true n o e = let r = runs_somewhere a.course.world.threads e in let y = o r.0 r.1 in let z = n r.0 in absurd (cc)
+alone_idle a false n o e = refl
 
-pub has_moved : (a b : Kept) (moved : Bool) → NoneOut a → AllOut a → MovedOn a moved b → moved ≡ true
-has_moved a b true n o m = refl
-has_moved a b false n o m = let r = runs_somewhere a.course.world.threads m.1 in let y = o r.0 r.1 in let z = n r.0 in cc
+pub alone_moved : (a b : Kept) (moved : Bool) → NoneOut a → AllOut a → MovedOn a moved b → GoesIfLeft a moved b
+alone_moved a b true n o m = (
+  m.5,
+  record {
+    item = m.0;
+    tells = m.2;
+    moves = m.3;
+    none_out = λ t. rw m.4 (n t);
+  },
+)
+alone_moved a b false n o m = (m.1 ∙ ap not (alone_idle a (any_runs a.course.world) n o refl), m.2)

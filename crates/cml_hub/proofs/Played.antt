@@ -1,5 +1,35 @@
 -- The run that a chooser makes, step by step.
-use Rattle.std.proofs.Common.{◌≡◌, ℕ, zero, suc, ◌+◌, ◌<◌, ◌≤◌, Bool, true, false, nat_eq, List, [], ◌∷◌, ◌++◌, length, refl, ap, sym, subst, ◌∙◌, arith, Option, Some, None, length-set, length-append, append_assoc, add-one}
+use Rattle.std.proofs.Common.{
+  ◌≡◌,
+  ℕ,
+  zero,
+  suc,
+  ◌+◌,
+  ◌<◌,
+  ◌≤◌,
+  Bool,
+  true,
+  false,
+  nat_eq,
+  List,
+  [],
+  ◌∷◌,
+  ◌++◌,
+  length,
+  refl,
+  ap,
+  sym,
+  subst,
+  ◌∙◌,
+  arith,
+  Option,
+  Some,
+  None,
+  length-set,
+  length-append,
+  append_assoc,
+  add-one,
+}
 use Rattle.std.specs.Prelude.{slice_get, slice_set, option_and_then, unwrap_or}
 use Rattle.std.specs.Option.{option_map_or}
 use Rattle.std.proofs.lemmas.Bool.Decides.{nat_tests}
@@ -21,7 +51,27 @@ use Rattle.cml_hub.specs.Dones.{ThreadsAfter}
 use Rattle.cml_hub.specs.Courses.{PlainCourse, run_of}
 use Rattle.cml_hub.specs.Kept.{Kept, Continues, is_out_of}
 use Rattle.cml_hub.specs.Moves.{lines_up, AddsItem, Reported, CalledBack}
-use Rattle.cml_hub.specs.Playing.{Rules, Played, picked, spent, taking, parties, ready_after, adds, moved_by, next_by, played, playing, called_back, GoesBy, MovesBy, PlaysOut, PlaysOn, BeginsRun}
+use Rattle.cml_hub.specs.Playing.{
+  Rules,
+  Played,
+  picked,
+  spent,
+  taking,
+  parties,
+  ready_after,
+  adds,
+  moved_by,
+  next_by,
+  played,
+  playing,
+  called_back,
+  GoesBy,
+  GoesIfLeftBy,
+  MovesBy,
+  PlaysOut,
+  PlaysOn,
+  BeginsRun,
+}
 use Rattle.cml_hub.proofs.Queueing.{left_first}
 
 -- who is ready after a turn, by what became of the thread and by the worlds
@@ -106,7 +156,8 @@ row_moves rules old new c last row item at is m q s =
     let items = subst (λ (i : Item). new.course.items ≡ old.course.items ++ i ∷ []) is m.adds.items in
     subst (λ (o : Option Meet). moved_by (text_of old.course.program) rules (playing old c) o ≡ Some (playing new last)) at
     (subst (λ x. adds (text_of old.course.program) (playing old c) (taking old.course.world row) (λ w. old.queue ++ parties row) (spent rules c (Some row)) ≡ Some (playing new x)) (sym s)
-    (adds_is (text_of old.course.program) (playing old c) (taking old.course.world row) (λ w. old.queue ++ parties row) (spent rules c (Some row)) (run_of new.course) new.course.items new.queue run items q))
+    (adds_is (text_of old.course.program) (playing old c) (taking old.course.world row) (λ w. old.queue ++ parties row)
+    (spent rules c (Some row)) (run_of new.course) new.course.items new.queue run items q))
 
 -- the time moved
 pub tick_moves : {C : Type 0} (rules : Rules C) (old new : Kept) (c last : C) (tick : ℕ) → None ≡ picked rules c (scan old.course.world)
@@ -127,6 +178,11 @@ move_at rules old new c last (x ∷ q) first m = cc
 pub move_goes : {C : Type 0} (rules : Rules C) (old new : Kept) (c last : C) → None ≡ slice_get old.queue 0 → MovesBy rules old c true new last
     → GoesBy rules old c new last
 move_goes rules old new c last first m = move_at rules old new c last old.queue first m
+
+pub moved_goes : {C : Type 0} (rules : Rules C) (old new : Kept) (c last : C) (moved : Bool) → None ≡ slice_get old.queue 0 → MovesBy rules old c moved new last
+    → GoesIfLeftBy rules old c moved new last
+moved_goes rules old new c last true first m = move_goes rules old new c last first m
+moved_goes rules old new c last false first m = m
 
 -- ---- so many items
 
@@ -238,6 +294,13 @@ pub way_out : {C : Type 0} (rules : Rules C) (h a : Kept) (c last : C) → Way r
 way_out rules h a c last w e o =
     let done : over h.budget (run_of a.course) ≡ true = ap (λ n. over n (run_of a.course)) (sym e.budget) ∙ o in
     played_out (text_of h.course.program) h.budget rules w.items h.budget (called_back h c) (playing a last) w.plays w.within done
+
+-- the same, where nothing was left to do
+pub way_quiet : {C : Type 0} (rules : Rules C) (h a b : Kept) (c mid last : C) → Way rules h c a mid → Continues h a → over a.budget (run_of a.course) ≡ true
+    → b ≡ a → last ≡ mid → PlaysOut rules h c b last
+way_quiet rules h a b c mid last w e o same stays =
+    let out : PlaysOut rules h c a mid = way_out rules h a c mid w e o in
+    subst (λ (x : Kept). PlaysOut rules h c x last) (sym same) (subst (λ x. PlaysOut rules h c a x) (sym stays) out)
 
 -- ---- at the beginning
 

@@ -1,5 +1,5 @@
 -- The order of the queue.
-use Rattle.std.proofs.Common.{◌≡◌, ℕ, zero, suc, ◌+◌, ◌<◌, Bool, true, false, nat_eq, List, [], ◌∷◌, ◌++◌, length, map, take, refl, arith, Some, sym, ap, subst, ◌∙◌, slice_index_or, add-zero}
+use Rattle.std.proofs.Common.{◌≡◌, ℕ, zero, suc, ◌+◌, ◌<◌, Bool, true, false, nat_eq, List, [], ◌∷◌, ◌++◌, length, map, take, drop, refl, arith, Some, sym, ap, subst, ◌∙◌, slice_index_or, add-zero}
 use Rattle.std.specs.Prelude.{slice_get, Option, OnSome, IsSome}
 use Rattle.std.specs.List.{remove}
 use Rattle.std.proofs.lemmas.Bool.Decides.{nat_tests}
@@ -30,6 +30,11 @@ left_at t [] i y lt e s h = absurd (omega arith)
 left_at t (x ∷ xs) zero y lt e s h = let same : nat_eq x.0 t ≡ true = subst (λ (z : Tid). nat_eq z.0 t ≡ true) e s in rw same refl
 left_at t (x ∷ xs) (suc i) y lt e s h = ap (λ ys. x ∷ ys) (left_at t xs i y (omega arith) e s (omega (arith, h))) ∙ sym (left_step t x xs (omega (arith, h)))
 
+pub first_left : (x : Tid) (q new : List Tid) (y : Tid) (b : Bool) → new ≡ drop 1 q → 0 < length q → y ≡ slice_index_or q 0 y → b ≡ nat_eq y.0 x.0 → b ≡ true
+    → new ≡ left_by x.0 q
+first_left x [] new y b gone lt at e found = absurd (omega arith)
+first_left x (z ∷ q) new y b gone lt at e found = gone ∙ left_at x.0 (z ∷ q) 0 y lt at (sym e ∙ found) refl
+
 pub unqueued_left : (x : Tid) (old q new : List Tid) (i : ℕ) (y : Tid) (r : Option Tid) (b : Bool) → OnSome r (new ≡ remove q i) → IsSome r → q ≡ old → i < length q → y ≡ slice_index_or q i y
     → b ≡ nat_eq y.0 x.0 → b ≡ true → count_of x.0 (take i q) ≡ 0 → new ≡ left_by x.0 old
 unqueued_left x old q new i y r b gone is same lt at e found passed =
@@ -43,7 +48,9 @@ pub those_out_more : (k n : ℕ) (ms : List Mark) → slice_get ms n ≡ Some Ou
 those_out_more k n [] h = cc
 those_out_more k zero (m ∷ ms) h = let e : m ≡ Out = cc in rw (e, add-zero k) refl
 those_out_more k (suc n) (Ready ∷ ms) h = those_on k n (those_out (suc k) (map is_out (take (suc n) ms))) (those_out (suc k) (map is_out (take n ms))) (those_out_more (suc k) n ms h)
-those_out_more k (suc n) (Out ∷ ms) h = ap (λ xs. record { 0 = k } ∷ xs) (those_on k n (those_out (suc k) (map is_out (take (suc n) ms))) (those_out (suc k) (map is_out (take n ms))) (those_out_more (suc k) n ms h))
+those_out_more k (suc n) (Out ∷ ms) h = ap (λ xs. record { 0 = k } ∷ xs)
+    (those_on k n (those_out (suc k) (map is_out (take (suc n) ms))) (those_out (suc k) (map is_out (take n ms)))
+    (those_out_more (suc k) n ms h))
 those_out_more k (suc n) (NotRunning ∷ ms) h = those_on k n (those_out (suc k) (map is_out (take (suc n) ms))) (those_out (suc k) (map is_out (take n ms))) (those_out_more (suc k) n ms h)
 
 pub those_same : (k n : ℕ) (ms : List Mark) (m : Mark) → slice_get ms n ≡ Some m → is_out m ≡ false → those_out k (map is_out (take (suc n) ms)) ≡ those_out k (map is_out (take n ms))

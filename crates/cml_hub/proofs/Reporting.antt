@@ -66,7 +66,8 @@ report_made p items k reports r h due leads =
       few = rw (longer, due) (omega (arith, mul-le-mul_left k (let le : length reports + 1 ≤ length reports + 1 + 1 = omega arith in le)));
     }
 
-reports_due : (p : Program) (items : List Item) (watch : Option ℕ) (reports : List PlainReport) (r : Run) → AreReports p items watch reports → IsDue watch (length items) (length reports) → stands p items ≡ Some r
+reports_due : (p : Program) (items : List Item) (watch : Option ℕ) (reports : List PlainReport) (r : Run)
+    → AreReports p items watch reports → IsDue watch (length items) (length reports) → stands p items ≡ Some r
     → AreReports p items watch (reports ++ report_of (length items) r.world ∷ [])
 reports_due p items None reports r h due leads = absurd due
 reports_due p items (Some k) reports r h due leads = report_made p items k reports r h due leads

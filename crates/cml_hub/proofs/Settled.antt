@@ -22,7 +22,8 @@ set_there (y ∷ xs) zero x lt = refl
 set_there (y ∷ xs) (suc i) x lt = set_there xs i x (omega arith)
 
 -- the machine that was there was settled where it stands
-pub settled_at : (ms : List PlainMachine) (t : ℕ) (before m end : PlainMachine) (d : Done) (new : List PlainMachine) → slice_get ms t ≡ Some before → slice_get ms t ≡ Some end → SettlesAll before d m →
+pub settled_at : (ms : List PlainMachine) (t : ℕ) (before m end : PlainMachine) (d : Done) (new : List PlainMachine)
+    → slice_get ms t ≡ Some before → slice_get ms t ≡ Some end → SettlesAll before d m →
     new ≡ slice_set ms t m ++ children d → AllSettled ms t end d new
 settled_at ms t before m end d new was is s e =
     let same : before ≡ end = cc in

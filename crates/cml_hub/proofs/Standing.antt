@@ -53,7 +53,8 @@ found p k (suc i) (x ∷ ts) (m ∷ ms) t h e =
     record { machine = r.machine; at = r.at; thread = omega (arith, r.thread); stands = r.stands }
 
 -- a machine that is there is the one found
-pub found_is : (p : List (PlainItem ℕ)) (k i : ℕ) (ts : List PlainThread) (ms : List PlainMachine) (t : PlainThread) (m : PlainMachine) → MachinesStand p k ts ms → slice_get ts i ≡ Some t → slice_get ms i ≡ Some m
+pub found_is : (p : List (PlainItem ℕ)) (k i : ℕ) (ts : List PlainThread) (ms : List PlainMachine) (t : PlainThread)
+    (m : PlainMachine) → MachinesStand p k ts ms → slice_get ts i ≡ Some t → slice_get ms i ≡ Some m
     → (m.thread ≡ k + i) × MachineStands p t m
 found_is p k i ts ms t m h e g =
     let r = found p k i ts ms t h e in
@@ -71,7 +72,8 @@ number_there p k zero (t ∷ ts) (x ∷ ms) m h e =
     ap (λ (y : PlainMachine). y.thread) (sym is) ∙ omega (arith, h.0)
 number_there p k (suc i) (t ∷ ts) (x ∷ ms) m h e = omega (arith, number_there p (suc k) i ts ms m h.2 e)
 
-pub stand_set : (p : List (PlainItem ℕ)) (k i : ℕ) (ts : List PlainThread) (ms : List PlainMachine) (t : PlainThread) (m : PlainMachine) → MachinesStand p k ts ms → m.thread ≡ k + i → MachineStands p t m
+pub stand_set : (p : List (PlainItem ℕ)) (k i : ℕ) (ts : List PlainThread) (ms : List PlainMachine) (t : PlainThread)
+    (m : PlainMachine) → MachinesStand p k ts ms → m.thread ≡ k + i → MachineStands p t m
     → MachinesStand p k (slice_set ts i t) (slice_set ms i m)
 stand_set p k i [] [] t m h e s = tt
 stand_set p k i [] (x ∷ ms) t m h e s = absurd h
@@ -79,7 +81,8 @@ stand_set p k i (x ∷ ts) [] t m h e s = absurd h
 stand_set p k zero (x ∷ ts) (y ∷ ms) t m h e s = (omega (arith, e), s, h.2)
 stand_set p k (suc i) (x ∷ ts) (y ∷ ms) t m h e s = (h.0, h.1, stand_set p (suc k) i ts ms t m h.2 (omega (arith, e)) s)
 
-pub stand_push : (p : List (PlainItem ℕ)) (k : ℕ) (ts : List PlainThread) (ms : List PlainMachine) (t : PlainThread) (m : PlainMachine) → MachinesStand p k ts ms → m.thread ≡ k + length ts → MachineStands p t m
+pub stand_push : (p : List (PlainItem ℕ)) (k : ℕ) (ts : List PlainThread) (ms : List PlainMachine) (t : PlainThread)
+    (m : PlainMachine) → MachinesStand p k ts ms → m.thread ≡ k + length ts → MachineStands p t m
     → MachinesStand p k (ts ++ t ∷ []) (ms ++ m ∷ [])
 stand_push p k [] [] t m h e s = (omega (arith, e), s, tt)
 stand_push p k [] (x ∷ ms) t m h e s = absurd h

@@ -60,18 +60,21 @@ children_begun p a end Ends h = refl
 children_begun p a end (Fails name) h = refl
 
 -- a thread that goes on
-stays : (p : List (PlainItem ℕ)) (t : ℕ) (ts new : List PlainThread) (ms : List PlainMachine) (m : PlainMachine) → MachinesStand p 0 ts ms → slice_get ts t ≡ Some running → m.thread ≡ t → GoesOn p m → new ≡ ts
+stays : (p : List (PlainItem ℕ)) (t : ℕ) (ts new : List PlainThread) (ms : List PlainMachine) (m : PlainMachine)
+    → MachinesStand p 0 ts ms → slice_get ts t ≡ Some running → m.thread ≡ t → GoesOn p m → new ≡ ts
     → MachinesStand p 0 new (slice_set ms t m ++ [])
 stays p t ts new ms m h run e s is =
     let q : MachinesStand p 0 (slice_set ts t running) (slice_set ms t m) = stand_set p 0 t ts ms running m h (omega (arith, e)) s in
     rw (is, append-nil (slice_set ms t m)) (subst (λ us. MachinesStand p 0 us (slice_set ms t m)) (set_same ts t running run) q)
 
 -- one that does this from now on
-becomes : (p : List (PlainItem ℕ)) (t : ℕ) (s : PlainThread) (ts new : List PlainThread) (ms : List PlainMachine) (m : PlainMachine) → MachinesStand p 0 ts ms → m.thread ≡ t → MachineStands p s m → new ≡ slice_set ts t s
+becomes : (p : List (PlainItem ℕ)) (t : ℕ) (s : PlainThread) (ts new : List PlainThread) (ms : List PlainMachine)
+    (m : PlainMachine) → MachinesStand p 0 ts ms → m.thread ≡ t → MachineStands p s m → new ≡ slice_set ts t s
     → MachinesStand p 0 new (slice_set ms t m ++ [])
 becomes p t s ts new ms m h e stands is = rw (is, append-nil (slice_set ms t m)) (stand_set p 0 t ts ms s m h (omega (arith, e)) stands)
 
-stands_after : (p : List (PlainItem ℕ)) (t : ℕ) (a : PlainAsk) (end m : PlainMachine) (d : Done) (ts new : List PlainThread) (ms : List PlainMachine) → MachinesStand p 0 ts ms → slice_get ts t ≡ Some running
+stands_after : (p : List (PlainItem ℕ)) (t : ℕ) (a : PlainAsk) (end m : PlainMachine) (d : Done)
+    (ts new : List PlainThread) (ms : List PlainMachine) → MachinesStand p 0 ts ms → slice_get ts t ≡ Some running
     → m.thread ≡ t → Settles p a end d m → DoneFits p a end d → ThreadsDone t (plain_done a d) ts new → MachinesStand p 0 new (slice_set ms t m ++ children d)
 stands_after p t a end m Goes ts new ms h run e s f done = stays p t ts new ms m h run e s.stands done
 stands_after p t a end m (Gets v) ts new ms h run e s f done = stays p t ts new ms m h run e s.stands done
@@ -107,12 +110,15 @@ course_turned c number steps w line ms = record {
 }
 
 -- its terms
-terms_settled : (p : List (PlainItem ℕ)) (t : ℕ) (a : PlainAsk) (end m : PlainMachine) (d : Done) (ms new : List PlainMachine) → Settles p a end d m → DoneFits p a end d → new ≡ slice_set ms t m ++ children d
+terms_settled : (p : List (PlainItem ℕ)) (t : ℕ) (a : PlainAsk) (end m : PlainMachine) (d : Done)
+    (ms new : List PlainMachine) → Settles p a end d m → DoneFits p a end d → new ≡ slice_set ms t m ++ children d
     → slice_set (map (machine_term p) ms) t (term_after (text_of p) (machine_term p end) (plain_done a d)) ++ begun (text_of p) (plain_done a d) ≡ map (machine_term p) new
 terms_settled p t a end m d ms new s f is =
     rw (is, map_append (machine_term p) (slice_set ms t m) (children d), map_set (machine_term p) ms t m, s.term, children_begun p a end d f) refl
 
-turn_is : (c : PlainCourse) (number : Tid) (start end : PlainMachine) (a : PlainAsk) (steps : ℕ) (d : Done) (w : PlainWorld) (line : List ℕ) (ms : List PlainMachine) → Leads c → TurnDone c number start end a steps d w line ms
+turn_is : (c : PlainCourse) (number : Tid) (start end : PlainMachine) (a : PlainAsk) (steps : ℕ) (d : Done)
+    (w : PlainWorld) (line : List ℕ) (ms : List PlainMachine) → Leads c
+    → TurnDone c number start end a steps d w line ms
     → advance (text_of c.program) (run_of c) (Turn number) ≡ Some (run_of (course_turned c number steps w line ms))
 turn_is c number start end a steps d w line ms h g =
     let p = text_of c.program in
@@ -123,7 +129,9 @@ turn_is c number start end a steps d w line ms h g =
     let at : slice_get (map f c.machines) number.0 ≡ Some (f start) = slice_get-map f c.machines number.0 ∙ ap (option_map f) g.at in
     rw (g.runs, at, slice, g.done, g.tells, ← terms_settled c.program number.0 a end g.settled.machine d c.machines ms s g.fits g.settled.is) refl
 
-pub turned_leads : (c : PlainCourse) (number : Tid) (start end : PlainMachine) (a : PlainAsk) (steps : ℕ) (d : Done) (w : PlainWorld) (line : List ℕ) (ms : List PlainMachine) → Leads c → IsNumber number.0 → TurnDone c number start end a steps d w line ms
+pub turned_leads : (c : PlainCourse) (number : Tid) (start end : PlainMachine) (a : PlainAsk) (steps : ℕ) (d : Done)
+    (w : PlainWorld) (line : List ℕ) (ms : List PlainMachine) → Leads c → IsNumber number.0
+    → TurnDone c number start end a steps d w line ms
     → Leads (course_turned c number steps w line ms)
 turned_leads c number start end a steps d w line ms h n g =
     let s = g.settled.settled c.program a g.slice.fits g.slice.awaits g.fits in
@@ -131,13 +139,16 @@ turned_leads c number start end a steps d w line ms h n g =
     let same : start.thread ≡ number.0 = (found_is c.program 0 number.0 c.world.threads c.machines running start h.machines g.runs g.at).0 ∙ omega arith in
     record {
       leads = leads_on (text_of c.program) c.items (Turn number) (run_of c) _ h.leads (turn_is c number start end a steps d w line ms h g);
-      machines = rw (g.settled.is) (stands_after c.program number.0 a end g.settled.machine d c.world.threads w.threads c.machines h.machines g.runs (s.thread ∙ g.slice.thread ∙ same) s g.fits q.threads);
+      machines = rw (g.settled.is) (stands_after c.program number.0 a end g.settled.machine d c.world.threads w.threads
+          c.machines h.machines g.runs (s.thread ∙ g.slice.thread ∙ same) s g.fits q.threads);
       agrees = q.agrees;
       spent = omega (arith, h.spent, g.slice.few, length-append c.items (Turn number ∷ []));
       writable = All-push IsWritable c.items (Turn number) h.writable n;
     }
 
-pub turned_is : (c : PlainCourse) (number : Tid) (start end : PlainMachine) (a : PlainAsk) (steps : ℕ) (d : Done) (w : PlainWorld) (line : List ℕ) (ms : List PlainMachine) → Leads c → TurnDone c number start end a steps d w line ms
+pub turned_is : (c : PlainCourse) (number : Tid) (start end : PlainMachine) (a : PlainAsk) (steps : ℕ) (d : Done)
+    (w : PlainWorld) (line : List ℕ) (ms : List PlainMachine) → Leads c
+    → TurnDone c number start end a steps d w line ms
     → Turns c number (gone d) (course_turned c number steps w line ms)
 turned_is c number start end a steps d w line ms h g =
     let q : Performs (arities c.program) c.world number.0 (w, plain_done a d) = rw (g.done) at (performs (arities c.program) c.world number.0 a h.agrees g.slice.agrees) in
@@ -160,7 +171,8 @@ slice_here p ran e h = record {
 }
 
 -- the same of a course that is made of what the code's steps give
-module _ (c : PlainCourse) (number : Tid) (start end : PlainMachine) (a : PlainAsk) (steps : ℕ) (d : Done) (w : PlainWorld) (line : List ℕ) (ms : List PlainMachine) (items : List Item) (output : List ℕ) (used : ℕ)
+module _ (c : PlainCourse) (number : Tid) (start end : PlainMachine) (a : PlainAsk) (steps : ℕ) (d : Done)
+    (w : PlainWorld) (line : List ℕ) (ms : List PlainMachine) (items : List Item) (output : List ℕ) (used : ℕ)
     (is_items : items ≡ c.items ++ Turn number ∷ []) (is_output : output ≡ c.output ++ line) (is_used : used ≡ c.used + steps) where
   pub turned_leads_at : Leads c → IsNumber number.0 → TurnDone c number start end a steps d w line ms
       → Leads (record { program = c.program; items = items; world = w; machines = ms; output = output; used = used })

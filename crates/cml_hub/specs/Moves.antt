@@ -1,5 +1,5 @@
 -- How the parts of a hub change what it keeps.
-use Rattle.std.specs.Prelude.{ℕ, ◌≡◌, ◌≢◌, ◌<◌, Bool, true, false, List, [], ◌∷◌, ◌++◌, length, Option, Some, None, slice_get, slice_set}
+use Rattle.std.specs.Prelude.{ℕ, ◌≡◌, ◌≢◌, ◌<◌, Bool, true, false, not, List, [], ◌∷◌, ◌++◌, length, Option, Some, None, slice_get, slice_set}
 use Rattle.cml_scan.specs.Scan.{scan}
 use Rattle.cml_scan.specs.declared.meet.Meet.{Meet}
 use Rattle.cml_scan.specs.declared.meet.Meet.TheVariants.{Single, Pair}
@@ -12,7 +12,7 @@ use Rattle.cml_hub.specs.declared.done.AfterTurn.TheVariants as gone_of
 use Rattle.cml_hub.specs.declared.marks.Mark.{Mark}
 use Rattle.cml_hub.specs.declared.marks.Mark.TheVariants as mark
 use Rattle.cml_hub.specs.ReadyQueue.{left_by, those_out}
-use Rattle.cml_hub.specs.Runs.{any_runs}
+use Rattle.cml_hub.specs.Runs.{any_runs, terminal}
 use Rattle.cml_hub.specs.Dones.{GoesOn}
 use Rattle.cml_hub.specs.Courses.{Adds, HasMachine}
 use Rattle.cml_hub.specs.Kept.{Kept, AllOut, NoneOut, NoneDue, IsNoTurn, TellsSwaps, is_out_of}
@@ -75,10 +75,13 @@ HandedOut old (Some m) new =
     HasMachine old.course m.thread m × GoesOn old.course.program m × (is_out_of old.out m.thread ≡ false)
     × (new ≡ record old { out = slice_set old.out m.thread true; queue = left_by m.thread old.queue })
 
--- A row was taken, as an exchange where it is of two swaps, or the time moved; or there is nothing to do before a slice comes back.
+-- A row was taken, as an exchange where it is of two swaps, or the time moved; or no row can be taken, and nothing is left to do exactly where
+-- no thread runs.
 abbrev pub MovedOn : Kept → Bool → Kept → Type 0
-MovedOn old true new = (item : Item) × IsNoTurn item × TellsSwaps old.course.world item × AddsItem old item new × (new.out ≡ old.out)
-MovedOn old false new = (scan old.course.world ≡ []) × (any_runs old.course.world ≡ true) × (new ≡ old)
+MovedOn old true new =
+    (item : Item) × IsNoTurn item × TellsSwaps old.course.world item × AddsItem old item new × (new.out ≡ old.out)
+    × (terminal old.course.world ≡ false)
+MovedOn old false new = (scan old.course.world ≡ []) × (terminal old.course.world ≡ not (any_runs old.course.world)) × (new ≡ old)
 
 -- No slice is out any more: the threads of those that were are ready, after the others. All else is as before.
 pub record CalledBack (old new : Kept) : Type 0 where
@@ -103,6 +106,11 @@ pub record GoesAlone (old new : Kept) : Type 0 where
   pub tells : TellsSwaps old.course.world item
   pub moves : AddsItem old item new
   pub none_out : NoneOut new
+
+-- the same, where anything was left to do
+abbrev pub GoesIfLeft : Kept → Bool → Kept → Type 0
+GoesIfLeft old true new = (terminal old.course.world ≡ false) × GoesAlone old new
+GoesIfLeft old false new = (terminal old.course.world ≡ true) × (new ≡ old)
 
 -- the reports with this one after them, if there is one
 abbrev pub with_report : List PlainReport → Option PlainReport → List PlainReport

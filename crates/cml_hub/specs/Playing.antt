@@ -95,11 +95,16 @@ playing h chooser = record { items = h.course.items; run = run_of h.course; queu
 abbrev pub GoesBy : {C : Type 0} → Rules C → Kept → C → Kept → C → Type 0
 GoesBy rules old chooser new last = next_by (text_of old.course.program) rules (playing old chooser) old.queue ≡ Some (playing new last)
 
--- no thread was ready: the row that is picked was taken, or the time moved, if anything was done
+-- the same, where anything was left to do; else the chooser was not asked
+abbrev pub GoesIfLeftBy : {C : Type 0} → Rules C → Kept → C → Bool → Kept → C → Type 0
+GoesIfLeftBy rules old chooser true new last = GoesBy rules old chooser new last
+GoesIfLeftBy rules old chooser false new last = last ≡ chooser
+
+-- no thread was ready: the row that is picked was taken, or the time moved, if anything was done; else the chooser was not asked
 abbrev pub MovesBy : {C : Type 0} → Rules C → Kept → C → Bool → Kept → C → Type 0
 MovesBy rules old chooser true new last =
     moved_by (text_of old.course.program) rules (playing old chooser) (picked rules chooser (scan old.course.world)) ≡ Some (playing new last)
-MovesBy rules old chooser false new last = Unit {0}
+MovesBy rules old chooser false new last = last ≡ chooser
 
 -- where it stands once the threads whose slices are out are ready again: they come last, in the order of their numbers
 abbrev pub called_back : {C : Type 0} → Kept → C → Played C

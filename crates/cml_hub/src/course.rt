@@ -32,13 +32,13 @@ use cml_monitor::Report;
 use cml_scan::law::{no_head_where_no_row, scan_lists_what_is_enabled};
 use cml_scan::{Meet, Table};
 use cml_schedule::Item;
-use cml_step::{Ask, Machine, Ran};
+use cml_step::{Ask, Machine, Ran, Undo};
 use cml_value::{FnRef, Tid};
 use std::alloc::{AllocError, AllocFailed, Global};
 use std::marker::Model;
 
 // A program, the schedule so far, and where it has led: the threads and objects, the machine of each thread, the output, and how much of
-// the budget was used. The spare is no thread's: each turn uses its lists again. What the turns did is read off the schedule
+// the budget was used. The undo is no thread's: each turn uses its lists again. What the turns did is read off the schedule
 // (`specs/Deeds`).
 #[derive(Drop)]
 pub(crate) struct Course {
@@ -46,7 +46,7 @@ pub(crate) struct Course {
     items: Vec<Item>,
     threads: RunBook,
     machines: Vec<Machine>,
-    spare: Machine,
+    undo: Undo,
     output: String,
     used: u128,
     deeds: Deeds,
@@ -87,6 +87,9 @@ fn tell(output: &mut String, line: &str)
     requires { string_len output.old + length line.now ≤ string_capacity output.old }
     ensures { string_bytes output.new ≡ string_bytes output.old ++ line.now }
 {
+    if line.is_empty() {
+        return;
+    }
     match output.push_str(line) {
         Ok(()) => {}
         Err(_) => unreachable!(),
@@ -106,7 +109,7 @@ fn read_numbers(row: Meet)
 {
     match row {
         Meet::Single { tid, leaf } => {
-            // Read for the proof alone, which uses what is promised of it.
+            // No effect: named here so that the prover knows what holds of it.
             let _numbers = (tid.0, leaf);
         }
         Meet::Pair {
@@ -115,7 +118,7 @@ fn read_numbers(row: Meet)
             other,
             other_leaf,
         } => {
-            // Read for the proof alone, which uses what is promised of it.
+            // No effect: named here so that the prover knows what holds of it.
             let _numbers = (head.0, head_leaf, other.0, other_leaf);
         }
     }
@@ -300,7 +303,7 @@ impl Course {
             &mut self.output,
             thread,
             &mut self.machines[thread.0 as usize],
-            &mut self.spare,
+            &mut self.undo,
             &mut ask,
         )?;
         let TurnMade { steps, prepared } = taken;
@@ -439,7 +442,7 @@ impl Course {
                 items: Vec::new(alloc),
                 threads,
                 machines,
-                spare: Machine::ended(alloc, Tid(0)),
+                undo: Undo::new(alloc),
                 output: String::new(alloc),
                 used: 0,
                 deeds,

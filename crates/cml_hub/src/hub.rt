@@ -1,7 +1,7 @@
 //! The hub: it hands out the machines of threads that are ready, takes back the slices that were run of them, chooses among the
 //! communications that are possible, and keeps the schedule of what happened.
 
-ghost use Rattle.std.specs.Prelude.{◌≡◌, ◌≢◌, ◌↔◌, ◌++◌, ◌+◌, ◌-◌, ◌*◌, ◌≤◌, ◌<◌, [], Some, IfOk, IfErr, IfSome, OnOk, OnErr, IsTrue, MatchOption, Ok, true, false, length, slice_get};
+ghost use Rattle.std.specs.Prelude.{◌≡◌, ◌≢◌, ◌↔◌, ◌++◌, ◌+◌, ◌-◌, ◌*◌, ◌≤◌, ◌<◌, [], Some, IfOk, IfErr, IfSome, OnOk, OnErr, IsTrue, MatchOption, Ok, true, nat_le, length, slice_get};
 ghost use Rattle.std.specs.Option.{option_copied};
 ghost use Rattle.std.specs.Vec.{vec_len, vec_capacity};
 ghost use Rattle.cml_scan.specs.World.{PlainThread, pending, running};
@@ -15,8 +15,8 @@ ghost use Rattle.cml_hub.specs.Deeds.{origins, fault_count};
 ghost use Rattle.cml_hub.specs.Reports.{AreReports, IsDueReport};
 ghost use Rattle.cml_hub.specs.Kept.{IsBudget, IsWatch, IsAtStart, Continues, Extends, HandsOut, is_ended, NoneDue, NoneOut, AllOut, OnlyRunningOut, NoneOutOrSame, TakesSlice, IsFar, IsOver, IsFollowed, Replays, FitsSize};
 ghost use Rattle.cml_hub.specs.ReadyQueue.{left_by};
-ghost use Rattle.cml_hub.specs.Playing.{parties, ready_after, MovesBy, GoesBy, PlaysOut, PlaysSoFar};
-ghost use Rattle.cml_hub.specs.Moves.{IsNext, lines_up, marks_after, PartiesAway, marks_met, AddsItem, TakesBack, Reported, HandedOut, MovedOn, CalledBack, Happens, GoesAlone, with_report};
+ghost use Rattle.cml_hub.specs.Playing.{parties, ready_after, MovesBy, GoesIfLeftBy, PlaysOut, PlaysSoFar};
+ghost use Rattle.cml_hub.specs.Moves.{IsNext, lines_up, marks_after, PartiesAway, marks_met, AddsItem, TakesBack, Reported, HandedOut, MovedOn, CalledBack, Happens, GoesIfLeft, with_report};
 
 use crate::choose::Chooser;
 use crate::course::Course;
@@ -314,16 +314,36 @@ impl Hub {
         self.marks.is_idle() && self.course.is_still() && self.course.next_alarm().is_none()
     }
 
+    // Whether the budget is used, where the schedule has led.
+    fn is_spent(&self) -> bool
+        ensures spent { result ≡ nat_le self.now.budget self.now.course.used }
+        ensures leads { spec.stands (text_of self.now.course.program) self.now.course.items ≡ Some (run_of self.now.course) }
+    {
+        u128::from(self.budget) <= self.course.used()
+    }
+
     // Whether nothing is left to do, or the budget is used, where the schedule has led.
     fn is_over(&self) -> bool
         ensures over { result ≡ spec.over self.now.budget (run_of self.now.course) }
         ensures leads { spec.stands (text_of self.now.course.program) self.now.course.items ≡ Some (run_of self.now.course) }
     {
-        u128::from(self.budget) <= self.course.used() || self.has_nothing_left()
+        self.is_spent() || self.has_nothing_left()
     }
 
     // Makes the report that is due.
     fn report(&mut self, alloc: Global) -> Result<(), AllocError>
+        ensures ok { OnOk result (Reported self.old self.new) }
+        ensures err { OnErr result (self.new ≡ self.old) }
+    {
+        match self.watch {
+            None => Ok(()),
+            Some(_) => self.report_watched(alloc),
+        }
+    }
+
+    // The same, with a watch.
+    #[inline(never)]
+    fn report_watched(&mut self, alloc: Global) -> Result<(), AllocError>
         ensures ok { OnOk result (Reported self.old self.new) }
         ensures err { OnErr result (self.new ≡ self.old) }
     {
@@ -391,11 +411,10 @@ impl Hub {
     }
 
     // Takes a row that the chooser picks; or, where there is none and no thread runs, moves the time to the next alarm. Returns whether
-    // one of them was done.
+    // one of them was done; where none was and no thread runs, nothing is left to do.
     fn move_on<C: Chooser>(&mut self, alloc: Global, chooser: &mut C) -> Result<bool, AllocError>
         requires all_out { AllOut self.old }
         requires due { NoneDue self.old }
-        requires going { spec.terminal self.old.course.world ≡ false }
         ensures ok { IfOk result (λ moved. MovedOn self.old moved self.new) }
         ensures plays { IfOk result (λ moved. MovesBy (record { picks = C.picks; next = C.next }) self.old chooser.old moved self.new chooser.new) }
         ensures err { OnErr result (self.new ≡ self.old) }
@@ -417,7 +436,7 @@ impl Hub {
                 self.tick(alloc, tick)?;
                 Ok(true)
             }
-            None => unreachable!(),
+            None => Ok(false),
         }
     }
 
@@ -508,20 +527,20 @@ impl Hub {
         self.marks.call_back()
     }
 
-    // Adds an item, where no slice is out: a turn of the first ready thread; or, where none is ready, a row or a tick.
-    fn go_alone<C: Chooser>(&mut self, alloc: Global, chooser: &mut C) -> Result<(), AllocError>
+    // Adds an item, where no slice is out: a turn of the first ready thread; or, where none is ready, a row or a tick. Returns whether
+    // anything was left to do, so that whether a row can be taken is asked once.
+    fn go_alone<C: Chooser>(&mut self, alloc: Global, chooser: &mut C) -> Result<bool, AllocError>
         requires none_out { NoneOut self.old }
         requires due { NoneDue self.old }
-        requires going { spec.terminal self.old.course.world ≡ false }
-        ensures ok { OnOk result (GoesAlone self.old self.new) }
-        ensures plays { OnOk result (GoesBy (record { picks = C.picks; next = C.next }) self.old chooser.old self.new chooser.new) }
+        ensures ok { IfOk result (λ went. GoesIfLeft self.old went self.new) }
+        ensures plays { IfOk result (λ went. GoesIfLeftBy (record { picks = C.picks; next = C.next }) self.old chooser.old went self.new chooser.new) }
         ensures err { OnErr result (self.new ≡ self.old) }
     {
         if let Some(thread) = self.marks.front() {
-            return self.turn(alloc, thread);
+            self.turn(alloc, thread)?;
+            return Ok(true);
         }
-        let _moved = self.move_on(alloc, chooser)?;
-        Ok(())
+        self.move_on(alloc, chooser)
     }
 
     /// Runs until nothing is left to do or the budget is used. Before that, the threads whose slices are out are made ready again: they
@@ -543,8 +562,10 @@ impl Hub {
     {
         self.call_back()?;
         self.report(alloc)?;
-        'turns: while !self.is_over() {
-            self.go_alone(alloc, chooser)?;
+        'turns: while !self.is_spent() {
+            if !self.go_alone(alloc, chooser)? {
+                return Ok(End::Quiet);
+            }
             self.report(alloc)?;
         }
         Ok(self.end())
@@ -575,11 +596,13 @@ impl Hub {
     {
         let begun = self.course.used();
         self.report(alloc)?;
-        'turns: while !self.is_over() {
+        'turns: while !self.is_spent() {
             if self.has_used(begun, steps) {
                 return Ok(());
             }
-            self.go_alone(alloc, chooser)?;
+            if !self.go_alone(alloc, chooser)? {
+                return Ok(());
+            }
             self.report(alloc)?;
         }
         Ok(())

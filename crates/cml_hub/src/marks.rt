@@ -51,8 +51,9 @@ impl Model for ReadyQueue {
     ghost invariant = { λ m. AreMarks m.queue.items m.marks.items m.outs };
 }
 
-// Takes the thread, which stands in the queue, out of it. It is looked for from the front.
-fn unqueue(queue: &mut VecDeque<Tid>, thread: Tid)
+// The same as `unqueue`, where it may stand anywhere: it is looked for from the front.
+#[inline(never)]
+fn unqueue_later(queue: &mut VecDeque<Tid>, thread: Tid)
     requires { count_of thread.0 queue.old.items ≡ 1 }
     ensures left { queue.new.items ≡ left_by thread.0 queue.old.items }
     ensures others { (t : ℕ) → count_of t queue.new.items + is_at t thread.0 ≡ count_of t queue.old.items }
@@ -66,6 +67,24 @@ fn unqueue(queue: &mut VecDeque<Tid>, thread: Tid)
         }
     }
     unreachable!();
+}
+
+// Takes the thread, which stands in the queue, out of it. In a run alone it is the first.
+fn unqueue(queue: &mut VecDeque<Tid>, thread: Tid)
+    requires { count_of thread.0 queue.old.items ≡ 1 }
+    ensures left { queue.new.items ≡ left_by thread.0 queue.old.items }
+    ensures others { (t : ℕ) → count_of t queue.new.items + is_at t thread.0 ≡ count_of t queue.old.items }
+    ensures capacity { deque_capacity queue.new ≡ deque_capacity queue.old }
+    ensures shorter { deque_len queue.new + 1 ≡ deque_len queue.old }
+{
+    if queue.is_empty() {
+        unreachable!();
+    }
+    if queue[0] == thread {
+        let _gone = queue.pop_front();
+        return;
+    }
+    unqueue_later(queue, thread);
 }
 
 // Makes those that are out ready, in the order of their numbers, after the others.

@@ -1,6 +1,6 @@
 //! Machines that are answered.
 
-ghost use Rattle.std.specs.Prelude.{◌≡◌, ◌<◌, length, option_map, slice_get, Some};
+ghost use Rattle.std.specs.Prelude.{◌≡◌, ◌<◌, ◌++◌, ◌∷◌, [], length, option_map, slice_get, Some};
 ghost use Rattle.std.specs.Option.{option_to_list};
 ghost use Rattle.std.specs.Vec.{vec_len, vec_capacity};
 ghost use Rattle.cml_step.specs.Machines.{PlainMachine};
@@ -11,6 +11,15 @@ use crate::done::Done;
 use cml_book::{Committed, Resume};
 use cml_step::Machine;
 use cml_value::{Tid, Value, ValueKind};
+
+// Adds the machine of a thread that begins after the others. It stands apart, so that no other turn has room for a machine.
+#[inline(never)]
+fn push_child(machines: &mut Vec<Machine>, child: Box<Machine>)
+    requires { vec_len machines.old < vec_capacity machines.old }
+    ensures { machines.new.items ≡ machines.old.items ++ child.value ∷ [] }
+{
+    machines.push_reserved(Box::into_inner(child));
+}
 
 // Answers the machine where it stands, once what it asked was done. Returns the machine of a thread that begins by that.
 fn settle_machine(machine: &mut Machine, done: Done) -> Option<Box<Machine>>
@@ -53,7 +62,7 @@ pub(crate) fn settle(machines: &mut Vec<Machine>, thread: Tid, done: Done)
 {
     let child = settle_machine(&mut machines[thread.0 as usize], done);
     match child {
-        Some(child) => machines.push_reserved(Box::into_inner(child)),
+        Some(child) => push_child(machines, child),
         None => {}
     }
 }

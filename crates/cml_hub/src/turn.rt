@@ -11,10 +11,9 @@ ghost use Rattle.cml_hub.specs.Asking.{IsPrepared};
 use crate::done::Prepared;
 use crate::perform::{RunBook, prepare};
 use cml_check::Prog;
-use cml_step::{Ask, Machine};
+use cml_step::{Ask, Machine, Undo};
 use cml_value::Tid;
 use std::alloc::{AllocError, Global};
-use std::mem::swap;
 
 // What a turn came to: how many steps it took, and what becomes of the thread. The memory for that is there.
 #[derive(Drop)]
@@ -23,8 +22,8 @@ pub(crate) struct TurnMade {
     pub(crate) prepared: Prepared,
 }
 
-// Runs a slice of the thread's machine where it stands, puts what it asks where nothing was asked yet, and makes that ready. The spare gets
-// a copy of the machine as it was, which takes the machine's place where memory runs out. In the end the spare holds no value.
+// Runs a slice of the thread's machine where it stands, puts what it asks where nothing was asked yet, and makes that ready. Where memory
+// runs out the undo puts the machine back to what it was. In the end the undo holds no value.
 pub(crate) fn take_turn(
     alloc: Global,
     program: &Prog,
@@ -32,7 +31,7 @@ pub(crate) fn take_turn(
     output: &mut String,
     thread: Tid,
     machine: &mut Machine,
-    spare: &mut Machine,
+    undo: &mut Undo,
     ask: &mut Ask,
 ) -> Result<TurnMade, AllocError>
     requires running { slice_get book.old.threads thread.0 ≡ Some running }
@@ -50,14 +49,14 @@ pub(crate) fn take_turn(
     ensures bytes { string_bytes output.new ≡ string_bytes output.old }
     ensures room { IfOk result (λ r. string_len output.new + length (string_bytes r.prepared.line) ≤ string_capacity output.new) }
 {
-    let steps = machine.run_asking(alloc, program, spare, ask)?;
+    let steps = machine.run_undoing(alloc, program, undo, ask)?;
     match prepare(alloc, program, book, output, thread, machine, ask) {
         Ok(prepared) => {
-            spare.rest();
+            undo.rest();
             Ok(TurnMade { steps, prepared })
         }
         Err(error) => {
-            swap(machine, spare);
+            undo.put_back(machine);
             Err(error)
         }
     }

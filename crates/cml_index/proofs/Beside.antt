@@ -29,7 +29,8 @@ other_here : (a b : ℕ) → nat_eq a b ≡ false → not (nat_eq b a) ≡ true
 other_here a b e = grind (arith, nat_tests)
 
 -- where the last offer is of a thread below which none stands, all are
-none_other : (t : Tid) (p : Place) (ps : List Place) (e : Place) → Ascends before (p ∷ ps) → nat_lt p.tid.0 t.0 ≡ false → (get_or (p ∷ ps) (length ps) e).tid.0 ≡ t.0 → list_any (is_others t) (p ∷ ps) ≡ false
+none_other : (t : Tid) (p : Place) (ps : List Place) (e : Place) → Ascends before (p ∷ ps) → nat_lt p.tid.0 t.0 ≡ false
+    → (get_or (p ∷ ps) (length ps) e).tid.0 ≡ t.0 → list_any (is_others t) (p ∷ ps) ≡ false
 none_other t p [] e up low last = rw (one p.tid.0 t.0 last) refl
   where
     one : (a b : ℕ) → a ≡ b → not (nat_eq b a) ≡ false
@@ -48,7 +49,9 @@ none_other t p (q ∷ ps) e up low last =
     higher a m c n t e f = grind (arith, nat_tests)
 
 -- where the first and the last offer are of one thread, those of the others have one beside them
-pub alone : (ps : List Place) (d e : Place) → Ascends before ps → 0 < length ps → (get_or ps 0 d).tid.0 ≡ (get_or ps (length ps - 1) e).tid.0 → (q : Place) → list_any (is_others q.tid) ps ≡ is_others (get_or ps 0 d).tid q
+pub alone : (ps : List Place) (d e : Place) → Ascends before ps → 0 < length ps → (get_or ps 0 d).tid.0
+    ≡ (get_or ps (length ps - 1) e).tid.0 → (q : Place) → list_any (is_others q.tid) ps
+    ≡ is_others (get_or ps 0 d).tid q
 alone [] d e up some same q = absurd (omega (arith, some))
 alone (p ∷ ps) d e up some same q = at (nat_eq p.tid.0 q.tid.0) refl
   where
@@ -63,14 +66,18 @@ alone (p ∷ ps) d e up some same q = at (nat_eq p.tid.0 q.tid.0) refl
     at false f = list_any_at (is_others q.tid) (p ∷ ps) 0 d some (other_here p.tid.0 q.tid.0 f)
 
 -- where they are of two threads, each offer has one beside it
-pub several : (ps : List Place) (d e : Place) → Ascends before ps → 0 < length ps → ((get_or ps 0 d).tid.0 ≡ (get_or ps (length ps - 1) e).tid.0 → ⊥) → (q : Place) → list_any (is_others q.tid) ps ≡ true
+pub several : (ps : List Place) (d e : Place) → Ascends before ps → 0 < length ps
+    → ((get_or ps 0 d).tid.0 ≡ (get_or ps (length ps - 1) e).tid.0 → ⊥) → (q : Place) → list_any (is_others q.tid) ps
+    ≡ true
 several ps d e up some apart q = at (nat_eq (get_or ps 0 d).tid.0 q.tid.0) refl
   where
     on : (a b c : ℕ) → nat_eq a b ≡ true → nat_eq a c ≡ false → not (nat_eq b c) ≡ true
     on a b c e f = grind (arith, nat_tests)
 
     at : (r : Bool) → nat_eq (get_or ps 0 d).tid.0 q.tid.0 ≡ r → list_any (is_others q.tid) ps ≡ true
-    at true f = list_any_at (is_others q.tid) ps (length ps - 1) e (omega (arith, some)) (on (get_or ps 0 d).tid.0 q.tid.0 (get_or ps (length ps - 1) e).tid.0 f (no_test (get_or ps 0 d).tid.0 (get_or ps (length ps - 1) e).tid.0 apart))
+    at true f = list_any_at (is_others q.tid) ps (length ps - 1) e (omega (arith, some))
+        (on (get_or ps 0 d).tid.0 q.tid.0 (get_or ps (length ps - 1) e).tid.0 f
+        (no_test (get_or ps 0 d).tid.0 (get_or ps (length ps - 1) e).tid.0 apart))
     at false f = list_any_at (is_others q.tid) ps 0 d some (other_here (get_or ps 0 d).tid.0 q.tid.0 f)
 
 -- the heads that have an offer of another thread among the others, where that is known

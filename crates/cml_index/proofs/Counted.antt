@@ -1,5 +1,34 @@
 -- The leaves that have a partner, object by object.
-use Rattle.std.proofs.Common.{◌≡◌, ℕ, suc, ◌+◌, ◌≤◌, Bool, true, false, ◌||◌, nat_eq, nat_lt, cond, List, [], ◌∷◌, ◌++◌, append_assoc, map, length, Option, Some, None, refl, ap, sym, subst, ◌∙◌, arith}
+use Rattle.std.proofs.Common.{
+  ◌≡◌,
+  ℕ,
+  suc,
+  ◌+◌,
+  ◌≤◌,
+  Bool,
+  true,
+  false,
+  ◌||◌,
+  nat_eq,
+  nat_lt,
+  cond,
+  List,
+  [],
+  ◌∷◌,
+  ◌++◌,
+  append_assoc,
+  map,
+  length,
+  Option,
+  Some,
+  None,
+  refl,
+  ap,
+  sym,
+  subst,
+  ◌∙◌,
+  arith,
+}
 use Rattle.std.specs.List.{filter, list_any, IsDistinct, AllByRecursion}
 use Rattle.std.proofs.lemmas.Bool.Decides.{nat_tests}
 use Rattle.std.proofs.lemmas.Map.Keys.{IsDistinct-head, IsDistinct-tail}
@@ -27,7 +56,7 @@ use Rattle.cml_index.specs.Live.{may_meet, AreLive, objects}
 use Rattle.cml_index.proofs.Objects.{in_objects}
 use Rattle.cml_index.specs.Slots.{is_slot, lane_at, lane_of, AreLanes}
 use Rattle.cml_index.specs.Posts.{slot_of}
-use Rattle.cml_index.specs.Heads.{met_among, heads_on}
+use Rattle.cml_index.specs.Heads.{met_among, heads_on, head_total}
 use Rattle.cml_index.proofs.Pairs.{any_by, partner_met}
 
 -- the sum of these numbers over all of these objects
@@ -46,6 +75,10 @@ total_zero f (n ∷ ns) none = let a = none n in let b = total_zero f ns none in
 total_add : (f g h : PairedId → ℕ) (ns : List PairedId) → ((n : PairedId) → f n ≡ g n + h n) → total f ns ≡ total g ns + total h ns
 total_add f g h [] same = omega arith
 total_add f g h (n ∷ ns) same = let a = same n in let b = total_add f g h ns same in omega (arith, a, b)
+
+pub head_total_is : (os : List PlainOffer) (ns : List PairedId) → head_total os ns ≡ total (λ n. length (heads_on os n)) ns
+head_total_is os [] = refl
+head_total_is os (n ∷ ns) = ap (λ k. length (heads_on os n) + k) (head_total_is os ns)
 
 -- one where the test holds
 abbrev pub one_if : Bool → ℕ → ℕ
@@ -74,7 +107,10 @@ once m w (k ∷ ks) apart_ = at (same_object k m) (same_object m k) refl refl (o
     at false false e f h = omega (arith, h)
 
 -- a base event can stand first on an object, and meets the lane of those whom such a one meets, or it stands in no such lane and meets none
-pub by_shape : {P : Type 0} (tid : Tid) (b : PlainBase) → (met_by b tid ≡ None → ((n : PairedId) → is_slot (Side true n) (slot_of b) ≡ false) → P) → ((m : PairedId) → slot_of b ≡ Some (Side true m) → met_by b tid ≡ Some (met_lane m, partner_threads m.kind tid) → P) → P
+pub by_shape : {P : Type 0} (tid : Tid) (b : PlainBase)
+    → (met_by b tid ≡ None → ((n : PairedId) → is_slot (Side true n) (slot_of b) ≡ false) → P)
+    → ((m : PairedId) → slot_of b ≡ Some (Side true m) → met_by b tid ≡ Some (met_lane m, partner_threads m.kind tid)
+    → P) → P
 by_shape {P = P} tid b other head = at (side_place b) refl
   where
     away : (n : PairedId) (m : Option Light) → is_slot (Side true n) (option_map Waiters m) ≡ false
@@ -82,7 +118,9 @@ by_shape {P = P} tid b other head = at (side_place b) refl
     away n (Some l) = refl
 
     two : (s : SidePlace) (h : Bool) → side_place b ≡ Some s → s.heads ≡ h → P
-    two s true e f = head s.object (ap (λ x. slot_by x b) e ∙ ap (λ g. Some (Side g s.object)) f) (ap (λ x. met_at x tid) e ∙ ap (λ g. cond g (Some (met_lane s.object, partner_threads s.object.kind tid)) None) f)
+    two s true e f = head s.object (ap (λ x. slot_by x b) e ∙ ap (λ g. Some (Side g s.object)) f)
+        (ap (λ x. met_at x tid) e ∙ ap (λ g. cond g (Some (met_lane s.object, partner_threads s.object.kind tid)) None)
+        f)
     two s false e f =
         other (ap (λ x. met_at x tid) e ∙ ap (λ g. cond g (Some (met_lane s.object, partner_threads s.object.kind tid)) None) f)
         (λ n. ap (λ x. is_slot (Side true n) (slot_by x b)) e ∙ ap (λ g. is_slot (Side true n) (Some (Side g s.object))) f)
@@ -97,7 +135,10 @@ AreBoth keys os = (n : PairedId) → list_any (same_object n) keys ≡ may_meet 
 
 -- the objects that are kept are those on which two offers may meet
 pub both_kept : (lanes : Lanes) (live : Live) (os : List PlainOffer) → AreLive lanes live → AreLanes slot_of lanes os → AreBoth (objects live) os
-both_kept lanes live os sides placed = λ n. sym (in_objects live n) ∙ sides n ∙ ap (λ ps. may_meet (one_lane n.kind) (length ps) (length (lane_at lanes (Side false n)))) (placed (Side true n)) ∙ ap (λ ps. may_meet (one_lane n.kind) (length (lane_of slot_of (Side true n) os)) (length ps)) (placed (Side false n))
+both_kept lanes live os sides placed = λ n. sym (in_objects live n) ∙ sides n
+    ∙ ap (λ ps. may_meet (one_lane n.kind) (length ps) (length (lane_at lanes (Side false n)))) (placed (Side true n))
+    ∙ ap (λ ps. may_meet (one_lane n.kind) (length (lane_of slot_of (Side true n) os)) (length ps))
+    (placed (Side false n))
 
 any_some : (p : Place → Bool) (ps : List Place) → list_any p ps ≡ true → nat_lt 0 (length ps) ≡ true
 any_some p [] e = cc
@@ -131,7 +172,9 @@ stands (y ∷ ys) xs x k e = at (is_slot k (slot_of y.base)) (stands ys xs x k e
     or_true false = refl
 
     at : (b : Bool) → list_any (is_own (record { 0 = x.thread })) (lane_of slot_of k (ys ++ x ∷ xs)) ≡ true
-        → list_any (is_own (record { 0 = x.thread })) (map place (cond b (y ∷ filter (λ o. is_slot k (slot_of o.base)) (ys ++ x ∷ xs)) (filter (λ o. is_slot k (slot_of o.base)) (ys ++ x ∷ xs)))) ≡ true
+        → list_any (is_own (record { 0 = x.thread }))
+        (map place (cond b (y ∷ filter (λ o. is_slot k (slot_of o.base)) (ys ++ x ∷ xs))
+        (filter (λ o. is_slot k (slot_of o.base)) (ys ++ x ∷ xs)))) ≡ true
     at true h = ap (λ r. is_own (record { 0 = x.thread }) (place y) || r) h ∙ or_true _
     at false h = h
 
@@ -152,12 +195,17 @@ module _ (os : List PlainOffer) (keys : List PairedId) (apart_ : IsDistinct same
       → total (λ n. one_if (is_slot (Side true n) (slot_of x.base)) (one_if (meets_on n x) 1)) keys ≡ one_if (has_partner os x) 1
   one_leaf x there = by_shape (thread_of x) x.base other head
     where
-      other : met_by x.base (thread_of x) ≡ None → ((n : PairedId) → is_slot (Side true n) (slot_of x.base) ≡ false) → total (λ n. one_if (is_slot (Side true n) (slot_of x.base)) (one_if (meets_on n x) 1)) keys ≡ one_if (has_partner os x) 1
+      other : met_by x.base (thread_of x) ≡ None → ((n : PairedId) → is_slot (Side true n) (slot_of x.base) ≡ false)
+          → total (λ n. one_if (is_slot (Side true n) (slot_of x.base)) (one_if (meets_on n x) 1)) keys
+          ≡ one_if (has_partner os x) 1
       other none off =
           total_zero (λ n. one_if (is_slot (Side true n) (slot_of x.base)) (one_if (meets_on n x) 1)) keys (λ n. ap (λ b. one_if b (one_if (meets_on n x) 1)) (off n))
           ∙ sym (ap (λ b. one_if b 1) (partner_met os (thread_of x) x.leaf x.base ∙ ap (any_by os) none))
 
-      head : (m : PairedId) → slot_of x.base ≡ Some (Side true m) → met_by x.base (thread_of x) ≡ Some (met_lane m, partner_threads m.kind (thread_of x)) → total (λ n. one_if (is_slot (Side true n) (slot_of x.base)) (one_if (meets_on n x) 1)) keys ≡ one_if (has_partner os x) 1
+      head : (m : PairedId) → slot_of x.base ≡ Some (Side true m) → met_by x.base (thread_of x)
+          ≡ Some (met_lane m, partner_threads m.kind (thread_of x))
+          → total (λ n. one_if (is_slot (Side true n) (slot_of x.base)) (one_if (meets_on n x) 1)) keys
+          ≡ one_if (has_partner os x) 1
       head m is met =
           total_same (λ n. one_if (is_slot (Side true n) (slot_of x.base)) (one_if (meets_on n x) 1)) (λ n. one_if (same_object n m) (one_if (meets_on m x) 1)) keys each
           ∙ once m (one_if (meets_on m x) 1) keys apart_
@@ -171,7 +219,9 @@ module _ (os : List PlainOffer) (keys : List PairedId) (apart_ : IsDistinct same
               pick true e = ap (λ k. one_if (meets_on k x) 1) (same_object_is n m e)
               pick false e = refl
 
-          lively : (l : Bool) → list_any (is_own (thread_of x)) (lane_of slot_of (Side true m) os) ≡ true → list_any (is_of (cond l (Above (thread_of x)) (Others (thread_of x)))) (lane_of slot_of (Side l m) os) ≡ true
+          lively : (l : Bool) → list_any (is_own (thread_of x)) (lane_of slot_of (Side true m) os) ≡ true
+              → list_any (is_of (cond l (Above (thread_of x)) (Others (thread_of x)))) (lane_of slot_of (Side l m) os)
+              ≡ true
               → may_meet l (length (lane_of slot_of (Side true m) os)) (length (lane_of slot_of (Side false m) os)) ≡ true
           lively true own other_ = two_there (thread_of x) (lane_of slot_of (Side true m) os) own other_
           lively false own other_ =
@@ -195,11 +245,19 @@ module _ (os : List PlainOffer) (keys : List PairedId) (apart_ : IsDistinct same
   counted ys (x ∷ xs) is =
       let here = one_leaf x (λ n e. subst (λ zs. list_any (is_own (thread_of x)) (lane_of slot_of (Side true n) zs) ≡ true) (sym is) (stands ys xs x (Side true n) e)) in
       let rest = counted (ys ++ x ∷ []) xs (is ∙ sym (append_assoc ys (x ∷ []) xs)) in
-      total_add (λ n. length (met_among (partner_threads n.kind) (lane_of slot_of (met_lane n) os) (lane_of slot_of (Side true n) (x ∷ xs)))) (λ n. one_if (is_slot (Side true n) (slot_of x.base)) (one_if (meets_on n x) 1)) (λ n. length (met_among (partner_threads n.kind) (lane_of slot_of (met_lane n) os) (lane_of slot_of (Side true n) xs))) keys
+      total_add (λ n. length (met_among (partner_threads n.kind) (lane_of slot_of (met_lane n) os)
+      (lane_of slot_of (Side true n) (x ∷ xs))))
+      (λ n. one_if (is_slot (Side true n) (slot_of x.base)) (one_if (meets_on n x) 1))
+      (λ n. length (met_among (partner_threads n.kind) (lane_of slot_of (met_lane n) os)
+      (lane_of slot_of (Side true n) xs))) keys
       (λ n. step n (is_slot (Side true n) (slot_of x.base)) (meets_on n x) refl (filter (λ o. is_slot (Side true n) (slot_of o.base)) xs))
       ∙ rw (here, rest) (at (has_partner os x) (filter (has_partner os) xs))
     where
-      step : (n : PairedId) (b w : Bool) → meets_on n x ≡ w → (ys : List PlainOffer) → length (met_among (partner_threads n.kind) (lane_of slot_of (met_lane n) os) (map place (cond b (x ∷ ys) ys))) ≡ one_if b (one_if w 1) + length (met_among (partner_threads n.kind) (lane_of slot_of (met_lane n) os) (map place ys))
+      step : (n : PairedId) (b w : Bool) → meets_on n x ≡ w → (ys : List PlainOffer)
+          → length (met_among (partner_threads n.kind) (lane_of slot_of (met_lane n) os)
+          (map place (cond b (x ∷ ys) ys)))
+          ≡ one_if b (one_if w 1) + length
+          (met_among (partner_threads n.kind) (lane_of slot_of (met_lane n) os) (map place ys))
       step n true true e ys = rw e (omega arith)
       step n true false e ys = rw e (omega arith)
       step n false w e ys = omega arith

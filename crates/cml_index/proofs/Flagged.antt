@@ -46,7 +46,8 @@ is_later : (i n j : ℕ) → i ≡ n + suc j → nat_eq i n ≡ false
 is_later i n j e = grind (arith, nat_tests)
 
 -- among those of its own kind it is at its number
-own : (k : Slot) (light : ℕ → Light) (i : ℕ) → ((n : ℕ) → same_slot k (Waiters (light n)) ≡ nat_eq i n) → (n : ℕ) (bs : List Bool) (j : ℕ) → i ≡ n + j → lookup (same_slot k) (flags_from light n bs) ≡ slice_get bs j
+own : (k : Slot) (light : ℕ → Light) (i : ℕ) → ((n : ℕ) → same_slot k (Waiters (light n)) ≡ nat_eq i n)
+    → (n : ℕ) (bs : List Bool) (j : ℕ) → i ≡ n + j → lookup (same_slot k) (flags_from light n bs) ≡ slice_get bs j
 own k light i on n [] j e = refl
 own k light i on n (b ∷ bs) zero e = ap (λ t. cond t (Some b) (lookup (same_slot k) (flags_from light (n + 1) bs))) (on n ∙ is_here i n zero e refl)
 own k light i on n (b ∷ bs) (suc j) e =
@@ -208,6 +209,7 @@ only_reserves x y kept = record {
 }
 
 -- one tick is forgotten, and each other light has its place as before
-pub forgets : (x y : Told) (l : Light) → ((m : Light) → same_light l m ≡ false → flag_of y m ≡ flag_of x m) → (k : Slot) → same_slot (Waiters l) k ≡ false → is_named (all_told y) k ≡ is_named (all_told x) k
+pub forgets : (x y : Told) (l : Light) → ((m : Light) → same_light l m ≡ false → flag_of y m ≡ flag_of x m) → (k : Slot)
+    → same_slot (Waiters l) k ≡ false → is_named (all_told y) k ≡ is_named (all_told x) k
 forgets x y l same (Waiters m) off = named_is y m ∙ ap is_some (same m (sym (light_eq l m) ∙ off)) ∙ sym (named_is x m)
 forgets x y l same (Side heads object) off = ap is_some (no_side y heads object) ∙ sym (ap is_some (no_side x heads object))

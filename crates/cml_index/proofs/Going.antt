@@ -60,7 +60,8 @@ from_any t (e ∷ es) there = at (nat_eq e.thread t) refl there (from_any t es)
     same : (a b : ℕ) → nat_eq a b ≡ true → a ≡ b
     same a b e = grind (arith, nat_tests)
 
-    at : (b : Bool) → nat_eq e.thread t ≡ b → b || list_any (λ x. nat_eq x.thread t) es ≡ true → (list_any (λ x. nat_eq x.thread t) es ≡ true → Any (λ x. x.thread ≡ t) es) → Any (λ x. x.thread ≡ t) (e ∷ es)
+    at : (b : Bool) → nat_eq e.thread t ≡ b → b || list_any (λ x. nat_eq x.thread t) es ≡ true
+        → (list_any (λ x. nat_eq x.thread t) es ≡ true → Any (λ x. x.thread ≡ t) es) → Any (λ x. x.thread ≡ t) (e ∷ es)
     at true u t_ k = (0, e, omega arith, refl, same e.thread t u)
     at false u t_ k = let r = k t_ in (suc r.0, r.1, omega (arith, r.2), r.3, r.4)
 
@@ -75,12 +76,15 @@ not_among (g ∷ gone) (suc i) d once within =
     no_eq : (a b : ℕ) → a ≢ b → nat_eq a b ≡ false
     no_eq a b e = grind (arith, nat_tests)
 
-pub there_still : (es : List PlainEntry) (gone : List Tid) (i : ℕ) (d : Tid) → All (IsThere es) gone → AllPairs (λ a b. a.0 ≢ b.0) gone → i < length gone → IsThere (without (take i gone) es) (get_or gone i d)
+pub there_still : (es : List PlainEntry) (gone : List Tid) (i : ℕ) (d : Tid) → All (IsThere es) gone
+    → AllPairs (λ a b. a.0 ≢ b.0) gone → i < length gone → IsThere (without (take i gone) es) (get_or gone i d)
 there_still es gone i d there once within =
     let t = (get_or gone i d).0 in
     let a : IsThere es (get_or gone i d) = there i d within in
     let away : is_among (take i gone) t ≡ false = not_among gone i d once within in
-    from_any t (without (take i gone) es) (any_filter (λ e. not (is_among (take i gone) e.thread)) (λ e. nat_eq e.thread t) es (λ e h. ap not (ap (is_among (take i gone)) (same e.thread t h) ∙ away)) (as_any t es a))
+    from_any t (without (take i gone) es)
+    (any_filter (λ e. not (is_among (take i gone) e.thread)) (λ e. nat_eq e.thread t) es
+    (λ e h. ap not (ap (is_among (take i gone)) (same e.thread t h) ∙ away)) (as_any t es a))
   where
     same : (a b : ℕ) → nat_eq a b ≡ true → a ≡ b
     same a b e = grind (arith, nat_tests)
@@ -108,7 +112,9 @@ cost_came t0 t1 gone left n m d a = omega arith
 -- the leaves are those of the threads that go and those of the others
 pub gone_many : (gone : List Tid) (es : List PlainEntry) → length (offers_of es) ≡ gone_leaves gone es + length (offers_of (without gone es))
 gone_many gone es =
-    let parts : gone_leaves gone es + length (filter (λ o. not (is_among gone o.thread)) (offers_of es)) ≡ length (offers_of es) = length-filter_both (λ (o : PlainOffer). is_among gone o.thread) (λ o. not (is_among gone o.thread)) (λ _. refl) (offers_of es) in
+    let parts : gone_leaves gone es + length (filter (λ o. not (is_among gone o.thread)) (offers_of es))
+    ≡ length (offers_of es) = length-filter_both (λ (o : PlainOffer). is_among gone o.thread)
+    (λ o. not (is_among gone o.thread)) (λ _. refl) (offers_of es) in
     let rest : length (offers_of (without gone es)) ≡ length (filter (λ o. not (is_among gone o.thread)) (offers_of es)) = ap length (offers_by (λ n. not (is_among gone n)) es) in
     omega (arith, parts, rest)
 

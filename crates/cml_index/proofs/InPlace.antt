@@ -72,11 +72,18 @@ pub record AreExchanged (places new : List ℕ) (a b m : ℕ) : Type 0 where
   pub second : get_or places m 0 ≡ b → get_or new m 0 ≡ a
   pub other : get_or places m 0 ≢ a → get_or places m 0 ≢ b → get_or new m 0 ≡ get_or places m 0
 
-pub exchanged : (order places order_new new : List ℕ) (a b m : ℕ) → ArePlaced order places → ArePlaced order_new new → order_new ≡ set (set order a (get_or order b 0)) b (get_or order a 0) → a < length order → b < length order → m < length order → AreExchanged places new a b m
+pub exchanged : (order places order_new new : List ℕ) (a b m : ℕ) → ArePlaced order places → ArePlaced order_new new
+    → order_new ≡ set (set order a (get_or order b 0)) b (get_or order a 0) → a < length order → b < length order
+    → m < length order → AreExchanged places new a b m
 exchanged order places order_new new a b m p q is a_in b_in m_in = record {
-  first = λ e. found b (omega (arith, b_in)) (now b ∙ get_or-set_same (set order a (get_or order b 0)) b (get_or order a 0) 0 (rw length-set b_in) ∙ ap (λ i. get_or order i 0) (sym e) ∙ (p.there m m_in).1);
+  first = λ e. found b (omega (arith, b_in))
+      (now b ∙ get_or-set_same (set order a (get_or order b 0)) b (get_or order a 0) 0 (rw length-set b_in)
+      ∙ ap (λ i. get_or order i 0) (sym e) ∙ (p.there m m_in).1);
   second = λ e. found a (omega (arith, a_in)) (now a ∙ at_first (nat_eq a b) refl e);
-  other = λ e f. found (get_or places m 0) (p.there m m_in).0 (now (get_or places m 0) ∙ get_or-set_other (set order a (get_or order b 0)) b (get_or places m 0) (get_or order a 0) 0 f ∙ get_or-set_other order a (get_or places m 0) (get_or order b 0) 0 e ∙ (p.there m m_in).1);
+  other = λ e f. found (get_or places m 0) (p.there m m_in).0
+      (now (get_or places m 0) ∙ get_or-set_other (set order a (get_or order b 0)) b (get_or places m 0)
+      (get_or order a 0) 0 f ∙ get_or-set_other order a (get_or places m 0) (get_or order b 0) 0 e
+      ∙ (p.there m m_in).1);
 }
   where
     now : (i : ℕ) → get_or order_new i 0 ≡ get_or (set (set order a (get_or order b 0)) b (get_or order a 0)) i 0
@@ -100,7 +107,9 @@ exchanged order places order_new new a b m p q is a_in b_in m_in = record {
         ap (λ i. get_or (set (set order a (get_or order b 0)) b (get_or order a 0)) i 0) one
         ∙ get_or-set_same (set order a (get_or order b 0)) b (get_or order a 0) 0 (rw length-set b_in) ∙ ap (λ i. get_or order i 0) (one ∙ sym f) ∙ (p.there m m_in).1
     at_first false e f =
-        get_or-set_other (set order a (get_or order b 0)) b a (get_or order a 0) 0 (apart a b e) ∙ get_or-set_same order a (get_or order b 0) 0 a_in ∙ ap (λ i. get_or order i 0) (sym f) ∙ (p.there m m_in).1
+        get_or-set_other (set order a (get_or order b 0)) b a (get_or order a 0) 0 (apart a b e)
+        ∙ get_or-set_same order a (get_or order b 0) 0 a_in ∙ ap (λ i. get_or order i 0) (sym f)
+        ∙ (p.there m m_in).1
 
 same_side : (x y c d : ℕ) → (x < c → y < d) → (c ≤ x → d ≤ y) → nat_lt x c ≡ nat_lt y d
 same_side x y c d low high = at (nat_lt x c) refl
@@ -140,7 +149,9 @@ by_place {P = P} i a b first second other = at (nat_eq i a) (nat_eq i b) refl re
     at false false e f = other (no_ i a e) (no_ i b f)
 
 -- a number is in after one was put in
-pub put_number : (order places order_new new : List ℕ) (c n m : ℕ) → ArePlaced order places → ArePlaced order_new new → order_new ≡ set (set order (get_or places n 0) (get_or order c 0)) c (get_or order (get_or places n 0) 0) → n < length order → c ≤ get_or places n 0
+pub put_number : (order places order_new new : List ℕ) (c n m : ℕ) → ArePlaced order places → ArePlaced order_new new
+    → order_new ≡ set (set order (get_or places n 0) (get_or order c 0)) c (get_or order (get_or places n 0) 0)
+    → n < length order → c ≤ get_or places n 0
     → (m ≡ n → list_any (λ k. nat_eq m k) (take (c + 1) order_new) ≡ true) × (m ≢ n → list_any (λ k. nat_eq m k) (take (c + 1) order_new) ≡ list_any (λ k. nat_eq m k) (take c order))
 put_number order places order_new new c n m p q is n_in high = (here, at (nat_lt m (length order)) refl)
   where
@@ -181,7 +192,9 @@ put_number order places order_new new c n m p q is n_in high = (here, at (nat_lt
         not_in order_new new (c + 1) m q (omega (arith, c_in, long)) (omega (arith, out, long)) ∙ sym (not_in order places c m p (omega (arith, c_in)) out)
 
 -- a number is in after one was taken out
-pub cut_number : (order places order_new new : List ℕ) (c n m : ℕ) → ArePlaced order places → ArePlaced order_new new → order_new ≡ set (set order (get_or places n 0) (get_or order c 0)) c (get_or order (get_or places n 0) 0) → n < length order → get_or places n 0 ≤ c → c < length order
+pub cut_number : (order places order_new new : List ℕ) (c n m : ℕ) → ArePlaced order places → ArePlaced order_new new
+    → order_new ≡ set (set order (get_or places n 0) (get_or order c 0)) c (get_or order (get_or places n 0) 0)
+    → n < length order → get_or places n 0 ≤ c → c < length order
     → (m ≡ n → list_any (λ k. nat_eq m k) (take c order_new) ≡ false) × (m ≢ n → list_any (λ k. nat_eq m k) (take c order_new) ≡ list_any (λ k. nat_eq m k) (take (c + 1) order))
 cut_number order places order_new new c n m p q is n_in low c_in = (here, at (nat_lt m (length order)) refl)
   where
@@ -234,7 +247,8 @@ once_each order places c p few = IsDistinct-from_apart (λ n m. nat_eq n m) (tak
         let i_in : i < c = omega (arith, lt, j_in) in
         let a : get_or places (get_or order i 0) 0 ≡ i = (p.back i (omega (arith, i_in, few))).1 in
         let b : get_or places (get_or order j 0) 0 ≡ j = (p.back j (omega (arith, j_in, few))).1 in
-        rw (is i d i_in, is j d j_in) (other_number (get_or order i 0) (get_or order j 0) (λ e. let f : get_or places (get_or order i 0) 0 ≡ get_or places (get_or order j 0) 0 = ap (λ k. get_or places k 0) e in omega (arith, a, b, f, lt)))
+        rw (is i d i_in, is j d j_in) (other_number (get_or order i 0) (get_or order j 0) (λ e. let f : get_or places (get_or order i 0) 0 ≡ get_or places (get_or order j 0) 0 = ap (λ k. get_or places k 0) e in
+        omega (arith, a, b, f, lt)))
 
 pub moved_is : (order new : List ℕ) (x p c : ℕ) → new ≡ set (set order x (get_or order c 0)) c (get_or order x 0) → x ≡ p → new ≡ set (set order p (get_or order c 0)) c (get_or order p 0)
 moved_is order new x p c is e = is ∙ ap (λ i. set (set order i (get_or order c 0)) c (get_or order i 0)) e

@@ -1,5 +1,5 @@
 -- The objects on which two threads may meet, when leaves come or go.
-use Rattle.std.proofs.Common.{◌≡◌, ℕ, Bool, true, false, ◌&&◌, ◌||◌, nat_lt, List, [], ◌∷◌, Option, ◌++◌, length, ◌+◌, ◌≤◌, refl, ap, ◌∙◌, arith}
+use Rattle.std.proofs.Common.{◌≡◌, ℕ, Bool, true, false, ◌&&◌, ◌||◌, nat_lt, List, [], ◌∷◌, Option, ◌++◌, length, ◌+◌, ◌≤◌, refl, ap, sym, ◌∙◌, arith}
 use Rattle.std.specs.List.{filter}
 use Rattle.std.proofs.lemmas.List.{length-append}
 use Rattle.cml_value.specs.declared.number.Tid.{Tid}
@@ -15,7 +15,9 @@ use Rattle.cml_index.specs.Slots.{is_slot, has_slot}
 use Rattle.cml_index.specs.declared.slot.Slot.{Slot}
 
 -- an object is kept right when one more of the leaves is done, where it was not there without need
-pub cut_more : (here later left old new on : Bool) → left ≡ here || later → later ≡ false → (here ≡ true → new ≡ old && on) → (here ≡ false → new ≡ old) → (left ≡ false → old ≡ on) → (on ≡ true → old ≡ true) → new ≡ on
+pub cut_more : (here later left old new on : Bool) → left ≡ here || later → later ≡ false
+    → (here ≡ true → new ≡ old && on) → (here ≡ false → new ≡ old) → (left ≡ false → old ≡ on)
+    → (on ≡ true → old ≡ true) → new ≡ on
 cut_more true later left old new on e f one two was over = one refl ∙ at old on over
   where
     at : (a b : Bool) → (b ≡ true → a ≡ true) → a && b ≡ b
@@ -24,7 +26,9 @@ cut_more true later left old new on e f one two was over = one refl ∙ at old o
     at false false over = refl
 cut_more false later left old new on e f one two was over = two refl ∙ was (e ∙ f)
 
-pub add_more : (here later left old new on : Bool) → left ≡ here || later → later ≡ false → (here ≡ true → new ≡ old || on) → (here ≡ false → new ≡ old) → (left ≡ false → old ≡ on) → (on ≡ false → old ≡ false) → new ≡ on
+pub add_more : (here later left old new on : Bool) → left ≡ here || later → later ≡ false
+    → (here ≡ true → new ≡ old || on) → (here ≡ false → new ≡ old) → (left ≡ false → old ≡ on)
+    → (on ≡ false → old ≡ false) → new ≡ on
 add_more true later left old new on e f one two was under = one refl ∙ at old on under
   where
     at : (a b : Bool) → (b ≡ false → a ≡ false) → a || b ≡ b
@@ -43,12 +47,24 @@ pub add_under : (here old new on : Bool) → (here ≡ true → new ≡ old || o
 add_under true old new on one two under is = one refl ∙ rw (under is, is) refl
 add_under false old new on one two under is = two refl ∙ under is
 
+-- a fact of an object holds when one more of the leaves is done, where it holds after that leaf and held before
+pub counted_more : {P : Type 0} (here later left : Bool) → left ≡ here || later → later ≡ false → (here ≡ true → P) → (here ≡ false → left ≡ false → P) → P
+counted_more true later left e f one two = one refl
+counted_more false later left e f one two = two refl (e ∙ f)
+
+-- one that is put in is there with need
+pub came_counted : {P : Type 0} (old new on : Bool) → new ≡ old || on → (on ≡ false → old ≡ false) → new ≡ true → (on ≡ true → P) → P
+came_counted old new true e under is one = one refl
+came_counted old new false e under is one = let none : old ≡ false = under refl in let no_ : true ≡ false = sym is ∙ e ∙ ap (λ b. b || false) none in cc
+
 -- no leaf stands on either side
 pub no_sides : (n : PairedId) (ss : List (Option Slot)) → have_side n ss ≡ false → (has_slot (Side true n) ss ≡ false) × (has_slot (Side false n) ss ≡ false)
 no_sides n [] e = (refl, refl)
 no_sides n (s ∷ ss) e = at (is_slot (Side true n) s) (is_slot (Side false n) s) e (no_sides n ss)
   where
-    at : (a b : Bool) → (a || b) || have_side n ss ≡ false → (have_side n ss ≡ false → (has_slot (Side true n) ss ≡ false) × (has_slot (Side false n) ss ≡ false)) → (a || has_slot (Side true n) ss ≡ false) × (b || has_slot (Side false n) ss ≡ false)
+    at : (a b : Bool) → (a || b) || have_side n ss ≡ false
+        → (have_side n ss ≡ false → (has_slot (Side true n) ss ≡ false) × (has_slot (Side false n) ss ≡ false))
+        → (a || has_slot (Side true n) ss ≡ false) × (b || has_slot (Side false n) ss ≡ false)
     at true b e h = cc
     at false true e h = cc
     at false false e h = h e

@@ -21,3 +21,6 @@ mod Objects
 mod OneObject
 mod Seated
 mod OwnSeat
+mod Crossed
+mod Summed
+mod KeptHeads

@@ -12,7 +12,7 @@ use Rattle.cml_scan.specs.Table.{same_light, has_light}
 use Rattle.cml_scan.specs.declared.object.Light.{Light}
 use Rattle.cml_scan.proofs.Telling.{same_light_is, same_light_self, light_eq}
 use Rattle.cml_index.specs.Slot.{slot_by}
-use Rattle.cml_index.specs.Live.{may_meet, is_in}
+use Rattle.cml_index.specs.Live.{may_meet, is_in, count_at}
 use Rattle.cml_index.specs.declared.slot.Slot.TheVariants.{Side, Waiters}
 use Rattle.cml_channel.specs.Pairings.{one_lane, side_place}
 use Rattle.cml_channel.specs.declared.pairing.PairedId.{PairedId}
@@ -57,7 +57,9 @@ pub record IsFlipped (off_ on_ waits : Bool) : Type 0 where
   pub both : on_ ≡ off_ || waits
   pub apart : waits ≡ true → off_ ≡ false
 
-flipped : (l : Light) (off_ on_ : Light → Bool) → off_ l ≡ false → ((m : Light) → on_ m ≡ cond (same_light l m) true (off_ m)) → (b : PlainBase) → IsFlipped (lit_by off_ b) (lit_by on_ b) (light_is l (light b))
+flipped : (l : Light) (off_ on_ : Light → Bool) → off_ l ≡ false
+    → ((m : Light) → on_ m ≡ cond (same_light l m) true (off_ m)) → (b : PlainBase)
+    → IsFlipped (lit_by off_ b) (lit_by on_ b) (light_is l (light b))
 flipped l off_ on_ dark agree b = at (is_always b) refl (light b) refl
   where
     here : (m : Light) → (s : Bool) → same_light l m ≡ s → IsFlipped (off_ m) (on_ m) s
@@ -85,7 +87,9 @@ pub flip_count : (l : Light) (off_ on_ : Light → Bool) → off_ l ≡ false �
     → length (filter (λ o. lit_by on_ o.base) os) ≡ length (filter (λ o. lit_by off_ o.base) os) + length (lane_of slot_of (Waiters l) os)
 flip_count l off_ on_ dark agree os = all os ∙ ap (λ n. length (filter (λ o. lit_by off_ o.base) os) + n) (sym (length-map (filter (λ o. is_slot (Waiters l) (slot_of o.base)) os) place))
   where
-    step : (a b w : Bool) (o : PlainOffer) (xs ys zs : List PlainOffer) → IsFlipped a b w → length ys ≡ length xs + length zs → length (cond b (o ∷ ys) ys) ≡ length (cond a (o ∷ xs) xs) + length (cond w (o ∷ zs) zs)
+    step : (a b w : Bool) (o : PlainOffer) (xs ys zs : List PlainOffer) → IsFlipped a b w → length ys
+        ≡ length xs + length zs → length (cond b (o ∷ ys) ys)
+        ≡ length (cond a (o ∷ xs) xs) + length (cond w (o ∷ zs) zs)
     step true true true o xs ys zs f e = let no_ : true ≡ false = f.apart refl in cc
     step true true false o xs ys zs f e = omega (arith, e)
     step true false w o xs ys zs f e = let no_ : false ≡ true = f.both in cc
@@ -97,7 +101,9 @@ flip_count l off_ on_ dark agree os = all os ∙ ap (λ n. length (filter (λ o.
     all : (os : List PlainOffer) → length (filter (λ o. lit_by on_ o.base) os) ≡ length (filter (λ o. lit_by off_ o.base) os) + length (filter (λ o. is_slot (Waiters l) (slot_of o.base)) os)
     all [] = refl
     all (o ∷ os) =
-        step (lit_by off_ o.base) (lit_by on_ o.base) (is_slot (Waiters l) (slot_of o.base)) o (filter (λ x. lit_by off_ x.base) os) (filter (λ x. lit_by on_ x.base) os) (filter (λ x. is_slot (Waiters l) (slot_of x.base)) os)
+        step (lit_by off_ o.base) (lit_by on_ o.base) (is_slot (Waiters l) (slot_of o.base)) o
+        (filter (λ x. lit_by off_ x.base) os) (filter (λ x. lit_by on_ x.base) os)
+        (filter (λ x. is_slot (Waiters l) (slot_of x.base)) os)
         (subst (IsFlipped (lit_by off_ o.base) (lit_by on_ o.base)) (sym (slot_light l o.base)) (flipped l off_ on_ dark agree o.base)) (all os)
 
 -- where the same is told of each light, the same leaves can be taken alone
@@ -109,13 +115,17 @@ not_true true e = cc
 not_true false e = refl
 
 -- a light that was unlit is told to be lit
-pub retold_lit : (l : Light) (lit : Bool) (old new : Light → Bool) (changed : Bool) → lit ≡ true → changed ≡ true → changed ≡ cond lit (not (old l)) (old l) → ((m : Light) → new m ≡ cond (same_light l m) lit (old m)) → (os : List PlainOffer)
+pub retold_lit : (l : Light) (lit : Bool) (old new : Light → Bool) (changed : Bool) → lit ≡ true → changed ≡ true
+    → changed ≡ cond lit (not (old l)) (old l) → ((m : Light) → new m ≡ cond (same_light l m) lit (old m))
+    → (os : List PlainOffer)
     → length (filter (λ o. lit_by new o.base) os) ≡ length (filter (λ o. lit_by old o.base) os) + length (lane_of slot_of (Waiters l) os)
 retold_lit l true old new changed e is was told os = flip_count l old new (not_true (old l) (sym was ∙ is)) told os
 retold_lit l false old new changed e is was told os = cc
 
 -- a light that was lit is told to be unlit
-pub retold_unlit : (l : Light) (lit : Bool) (old new : Light → Bool) (changed : Bool) → lit ≡ false → changed ≡ true → changed ≡ cond lit (not (old l)) (old l) → ((m : Light) → new m ≡ cond (same_light l m) lit (old m)) → (os : List PlainOffer)
+pub retold_unlit : (l : Light) (lit : Bool) (old new : Light → Bool) (changed : Bool) → lit ≡ false → changed ≡ true
+    → changed ≡ cond lit (not (old l)) (old l) → ((m : Light) → new m ≡ cond (same_light l m) lit (old m))
+    → (os : List PlainOffer)
     → length (filter (λ o. lit_by old o.base) os) ≡ length (filter (λ o. lit_by new o.base) os) + length (lane_of slot_of (Waiters l) os)
 retold_unlit l true old new changed e is was told os = cc
 retold_unlit l false old new changed e is was told os =
@@ -126,7 +136,9 @@ retold_unlit l false old new changed e is was told os =
     at m false h = sym (told m ∙ ap (λ s. cond s false (old m)) h)
 
 -- a light is told what is so already
-pub retold_same : (l : Light) (lit : Bool) (old new : Light → Bool) (changed : Bool) → changed ≡ false → changed ≡ cond lit (not (old l)) (old l) → ((m : Light) → new m ≡ cond (same_light l m) lit (old m)) → (m : Light) → new m ≡ old m
+pub retold_same : (l : Light) (lit : Bool) (old new : Light → Bool) (changed : Bool) → changed ≡ false → changed
+    ≡ cond lit (not (old l)) (old l) → ((m : Light) → new m ≡ cond (same_light l m) lit (old m)) → (m : Light) → new m
+    ≡ old m
 retold_same l lit old new changed is was told m = at (same_light l m) refl
   where
     so : (b : Bool) → changed ≡ cond b (not (old l)) (old l) → old l ≡ b
@@ -142,41 +154,56 @@ retold_same l lit old new changed is was told m = at (same_light l m) refl
     at false h = told m ∙ ap (λ s. cond s lit (old m)) h
 
 -- nothing was told of any light, and no nack's place is lost
-pub still_named : (es : List PlainEntry) (lanes after : Lanes) (live live_after : Live) (old new : List (Slot × Bool)) (leaves lit : ℕ)
-    → AreIndexed es lanes live old leaves lit → ((k : Slot) → lane_at after k ≡ lane_at lanes k) → ((k : Slot) → going_at after k ≡ going_at lanes k) → ((n : PairedId) → is_in live_after n ≡ is_in live n) → ((m : Light) → told new m ≡ told old m) → ((k : ℕ) → is_named old (slot_of_nack k) ≡ true → is_named new (slot_of_nack k) ≡ true)
-    → AreIndexed es after live_after new leaves lit
-still_named es lanes after live live_after old new leaves lit x same still same_live told_ kept =
+pub still_named : (es : List PlainEntry) (lanes after : Lanes) (live live_after : Live) (old new : List (Slot × Bool)) (leaves crossing lit : ℕ)
+    → AreIndexed es lanes live old leaves crossing lit → ((k : Slot) → lane_at after k ≡ lane_at lanes k)
+    → ((k : Slot) → going_at after k ≡ going_at lanes k) → ((n : PairedId) → is_in live_after n ≡ is_in live n)
+    → ((n : PairedId) → count_at live_after n ≡ count_at live n) → ((m : Light) → told new m ≡ told old m)
+    → ((k : ℕ) → is_named old (slot_of_nack k) ≡ true → is_named new (slot_of_nack k) ≡ true)
+    → AreIndexed es after live_after new leaves crossing lit
+still_named es lanes after live live_after old new leaves crossing lit x same still same_live same_counts told_ kept =
     record {
       sorted = x.sorted;
       placed = λ k. same k ∙ x.placed k;
-      sides = λ n. same_live n ∙ x.sides n ∙ ap (λ ps. may_meet (one_lane n.kind) (length ps) (length (lane_at lanes (Side false n)))) (sym (same (Side true n))) ∙ ap (λ ps. may_meet (one_lane n.kind) (length (lane_at after (Side true n))) (length ps)) (sym (same (Side false n)));
+      sides = λ n. same_live n ∙ x.sides n
+          ∙ ap (λ ps. may_meet (one_lane n.kind) (length ps) (length (lane_at lanes (Side false n))))
+          (sym (same (Side true n))) ∙ ap
+          (λ ps. may_meet (one_lane n.kind) (length (lane_at after (Side true n))) (length ps))
+          (sym (same (Side false n)));
+      counted = λ n on two. same_counts n ∙ x.counted n (sym (same_live n) ∙ on) two ∙ sym (ap length (same (Side true n)));
       still = λ k. still k ∙ x.still k;
       all = x.all;
+      cross = x.cross;
       alone = x.alone ∙ sym (ap length (told_same (told old) (told new) told_ (offers_of es)));
       named = Every-weaker (λ k. is_named old (slot_of_nack k)) (λ k. is_named new (slot_of_nack k)) (nacks_in es) kept x.named;
     }
 
 -- places were reserved, and nothing else was done
-pub still_indexed : (es : List PlainEntry) (lanes after : Lanes) (live live_after : Live) (old new : List (Slot × Bool)) (leaves lit : ℕ)
-    → AreIndexed es lanes live old leaves lit → ((k : Slot) → lane_at after k ≡ lane_at lanes k) → ((k : Slot) → going_at after k ≡ going_at lanes k) → ((n : PairedId) → is_in live_after n ≡ is_in live n) → OnlyReserves old new
-    → AreIndexed es after live_after new leaves lit
-still_indexed es lanes after live live_after old new leaves lit x same still same_live kept =
-    still_named es lanes after live live_after old new leaves lit x same still same_live kept.same (λ k. kept.named (slot_of_nack k))
+pub still_indexed : (es : List PlainEntry) (lanes after : Lanes) (live live_after : Live) (old new : List (Slot × Bool)) (leaves crossing lit : ℕ)
+    → AreIndexed es lanes live old leaves crossing lit → ((k : Slot) → lane_at after k ≡ lane_at lanes k)
+    → ((k : Slot) → going_at after k ≡ going_at lanes k) → ((n : PairedId) → is_in live_after n ≡ is_in live n)
+    → ((n : PairedId) → count_at live_after n ≡ count_at live n) → OnlyReserves old new
+    → AreIndexed es after live_after new leaves crossing lit
+still_indexed es lanes after live live_after old new leaves crossing lit x same still same_live same_counts kept =
+    still_named es lanes after live live_after old new leaves crossing lit x same still same_live same_counts kept.same (λ k. kept.named (slot_of_nack k))
 
 -- the same, where lanes and objects stay
-pub reserved_indexed : (es : List PlainEntry) (lanes : Lanes) (live : Live) (old new : List (Slot × Bool)) (leaves lit : ℕ) → AreIndexed es lanes live old leaves lit → OnlyReserves old new → AreIndexed es lanes live new leaves lit
-reserved_indexed es lanes live old new leaves lit x kept = still_indexed es lanes lanes live live old new leaves lit x (λ k. refl) (λ k. refl) (λ n. refl) kept
+pub reserved_indexed : (es : List PlainEntry) (lanes : Lanes) (live : Live) (old new : List (Slot × Bool))
+    (leaves crossing lit : ℕ) → AreIndexed es lanes live old leaves crossing lit → OnlyReserves old new
+    → AreIndexed es lanes live new leaves crossing lit
+reserved_indexed es lanes live old new leaves crossing lit x kept = still_indexed es lanes lanes live live old new leaves crossing lit x (λ k. refl) (λ k. refl) (λ n. refl) (λ n. refl) kept
 
 -- a light was told, and no place is lost
-pub told_indexed : (es : List PlainEntry) (lanes : Lanes) (live : Live) (old new : List (Slot × Bool)) (leaves was lit : ℕ)
-    → AreIndexed es lanes live old leaves was → lit ≡ length (lit_offers new es) → KeepsPlaces old new → AreIndexed es lanes live new leaves lit
-told_indexed es lanes live old new leaves was lit x alone kept =
+pub told_indexed : (es : List PlainEntry) (lanes : Lanes) (live : Live) (old new : List (Slot × Bool)) (leaves crossing was lit : ℕ)
+    → AreIndexed es lanes live old leaves crossing was → lit ≡ length (lit_offers new es) → KeepsPlaces old new → AreIndexed es lanes live new leaves crossing lit
+told_indexed es lanes live old new leaves crossing was lit x alone kept =
     record {
       sorted = x.sorted;
       placed = x.placed;
       sides = x.sides;
+      counted = x.counted;
       still = x.still;
       all = x.all;
+      cross = x.cross;
       alone = alone;
       named = Every-weaker (λ k. is_named old (slot_of_nack k)) (λ k. is_named new (slot_of_nack k)) (nacks_in es) (λ k. kept (slot_of_nack k)) x.named;
     }
@@ -190,10 +217,14 @@ same_light-turned l m = at (same_light l m) (same_light m l) refl refl
     at false false e f = refl
 
 -- one more light is told
-pub told_more : (xs : List Light) (i : ℕ) (d m : Light) (lit old now new : Bool) → i < length xs → new ≡ cond (same_light (get_or xs i d) m) lit now → now ≡ cond (has_light (take i xs) m) lit old → new ≡ cond (has_light (take (i + 1) xs) m) lit old
+pub told_more : (xs : List Light) (i : ℕ) (d m : Light) (lit old now new : Bool) → i < length xs → new
+    ≡ cond (same_light (get_or xs i d) m) lit now → now ≡ cond (has_light (take i xs) m) lit old → new
+    ≡ cond (has_light (take (i + 1) xs) m) lit old
 told_more xs i d m lit old now new within one before =
     rw (take_more xs i d within, list_any-append (same_light m) (take i xs) (get_or xs i d ∷ []))
-    (one ∙ ap (λ b. cond (same_light (get_or xs i d) m) lit b) before ∙ ap (λ s. cond s lit (cond (has_light (take i xs) m) lit old)) (same_light-turned (get_or xs i d) m) ∙ at (same_light m (get_or xs i d)) (has_light (take i xs) m))
+    (one ∙ ap (λ b. cond (same_light (get_or xs i d) m) lit b) before
+    ∙ ap (λ s. cond s lit (cond (has_light (take i xs) m) lit old)) (same_light-turned (get_or xs i d) m)
+    ∙ at (same_light m (get_or xs i d)) (has_light (take i xs) m))
   where
     at : (s h : Bool) → cond s lit (cond h lit old) ≡ cond (h || (s || false)) lit old
     at true true = refl

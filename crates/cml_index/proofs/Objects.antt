@@ -9,10 +9,10 @@ use Rattle.cml_channel.specs.declared.pairing.PairedId.{PairedId}
 use Rattle.cml_index.specs.declared.live.Live.{Live}
 use Rattle.cml_index.specs.Live.{is_in, objects}
 
-abbrev channel : ℕ → PairedId
+abbrev pub channel : ℕ → PairedId
 channel n = record { kind = Channel; number = n }
 
-abbrev swap : ℕ → PairedId
+abbrev pub swap : ℕ → PairedId
 swap n = record { kind = Swap; number = n }
 
 -- an object is among those of its kind, and among no others
@@ -45,7 +45,10 @@ in_objects live n = at n.kind n.number
     both n = list_any-append (same_object n) (map channel live.channels.items) (map swap live.swaps.items)
 
     at : (k : PairedKind) (m : ℕ) → is_in live (record { kind = k; number = m }) ≡ list_any (same_object (record { kind = k; number = m })) (objects live)
-    at Channel m = or_false (list_any (λ x. nat_eq m x) live.channels.items) ∙ sym (both (channel m) ∙ ap (λ b. b || list_any (same_object (channel m)) (map swap live.swaps.items)) (own_channels m live.channels.items) ∙ ap (λ b. list_any (λ x. nat_eq m x) live.channels.items || b) (no_swaps m live.swaps.items))
+    at Channel m = or_false (list_any (λ x. nat_eq m x) live.channels.items)
+        ∙ sym (both (channel m) ∙ ap (λ b. b || list_any (same_object (channel m)) (map swap live.swaps.items))
+        (own_channels m live.channels.items)
+        ∙ ap (λ b. list_any (λ x. nat_eq m x) live.channels.items || b) (no_swaps m live.swaps.items))
     at Swap m = sym (both (swap m) ∙ ap (λ b. b || list_any (same_object (swap m)) (map swap live.swaps.items)) (no_channels m live.channels.items) ∙ own_swaps m live.swaps.items)
 
 -- no object is twice in the list

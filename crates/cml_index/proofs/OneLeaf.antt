@@ -53,7 +53,9 @@ later_one x xs all n m e f = rw (e, f) refl
 -- the leaf's own row, where it can be taken alone
 pub single_step : (told : Light → Bool) (t i : ℕ) (bs : List PlainBase) (ws : List Wait) (d : Wait) (lit : Bool) → ws ≡ map leaf_wait bs → i < length ws → lit ≡ lit_wait told (get_or ws i d)
     → map single (filter (λ o. lit_by told o.base) (leaves_from t i (drop i bs)))
-    ≡ cond lit (Single (record { 0 = t }) i ∷ map single (filter (λ o. lit_by told o.base) (leaves_from t (i + 1) (drop (i + 1) bs)))) (map single (filter (λ o. lit_by told o.base) (leaves_from t (i + 1) (drop (i + 1) bs))))
+    ≡ cond lit (Single (record { 0 = t }) i
+    ∷ map single (filter (λ o. lit_by told o.base) (leaves_from t (i + 1) (drop (i + 1) bs))))
+    (map single (filter (λ o. lit_by told o.base) (leaves_from t (i + 1) (drop (i + 1) bs))))
 single_step told t i bs ws d lit same within is = at lit (whole lit refl)
   where
     test : PlainOffer → Bool

@@ -1,5 +1,36 @@
 -- Where the leaves that have a partner all stand on one object.
-use Rattle.std.proofs.Common.{◌≡◌, ℕ, zero, suc, ◌+◌, ◌<◌, ◌≤◌, Bool, true, false, not, ◌&&◌, ◌||◌, nat_eq, nat_lt, cond, List, [], ◌∷◌, ◌++◌, append_assoc, map, length, Some, refl, ap, sym, subst, ◌∙◌, arith}
+use Rattle.std.proofs.Common.{
+  ◌≡◌,
+  ℕ,
+  zero,
+  suc,
+  ◌+◌,
+  ◌<◌,
+  ◌≤◌,
+  Bool,
+  true,
+  false,
+  not,
+  ◌&&◌,
+  ◌||◌,
+  nat_eq,
+  nat_lt,
+  cond,
+  List,
+  [],
+  ◌∷◌,
+  ◌++◌,
+  append_assoc,
+  map,
+  length,
+  Some,
+  refl,
+  ap,
+  sym,
+  subst,
+  ◌∙◌,
+  arith,
+}
 use Rattle.std.specs.Prelude.{slice_get}
 use Rattle.std.specs.List.{filter, list_any, IsDistinct}
 use Rattle.std.proofs.lemmas.Bool.Decides.{nat_tests}
@@ -52,12 +83,16 @@ behind_at (p ∷ ps) (suc i) r up e =
     rw (not_turned p r ahead) (omega (arith, later))
 
 -- of the offers after one in its lane there are no more, by those of the other lanes, than of all
-pub behind_lift : (slot : PlainBase → _) (k : Slot) (r : Place) (os : List PlainOffer) → length (filter (λ o. before r (place o)) os) + length (lane_of slot k os) ≤ length os + length (filter (before r) (lane_of slot k os))
+pub behind_lift : (slot : PlainBase → _) (k : Slot) (r : Place) (os : List PlainOffer)
+    → length (filter (λ o. before r (place o)) os) + length (lane_of slot k os) ≤ length os + length
+    (filter (before r) (lane_of slot k os))
 behind_lift slot k r [] = omega arith
 behind_lift slot k r (o ∷ os) = at (before r (place o)) (is_slot k (slot o.base)) refl (behind_lift slot k r os)
   where
     at : (a b : Bool) → before r (place o) ≡ a → length (filter (λ x. before r (place x)) os) + length (lane_of slot k os) ≤ length os + length (filter (before r) (lane_of slot k os))
-        → length (cond a (o ∷ filter (λ x. before r (place x)) os) (filter (λ x. before r (place x)) os)) + length (map place (cond b (o ∷ filter (λ x. is_slot k (slot x.base)) os) (filter (λ x. is_slot k (slot x.base)) os)))
+        → length (cond a (o ∷ filter (λ x. before r (place x)) os) (filter (λ x. before r (place x)) os)) + length
+        (map place (cond b (o ∷ filter (λ x. is_slot k (slot x.base)) os)
+        (filter (λ x. is_slot k (slot x.base)) os)))
         ≤ length (o ∷ os) + length (filter (before r) (map place (cond b (o ∷ filter (λ x. is_slot k (slot x.base)) os) (filter (λ x. is_slot k (slot x.base)) os))))
     at true true e h = rw e (omega (arith, h))
     at true false e h = omega (arith, h)
@@ -117,7 +152,9 @@ pub own_and_others : (tid : Tid) (ps : List Place) → length (filter (is_own ti
 own_and_others tid [] = refl
 own_and_others tid (p ∷ ps) = at (is_own tid p) (own_and_others tid ps)
   where
-    at : (b : Bool) → length (filter (is_own tid) ps) + length (filter (is_others tid) ps) ≡ length ps → length (cond b (p ∷ filter (is_own tid) ps) (filter (is_own tid) ps)) + length (cond (not b) (p ∷ filter (is_others tid) ps) (filter (is_others tid) ps)) ≡ length (p ∷ ps)
+    at : (b : Bool) → length (filter (is_own tid) ps) + length (filter (is_others tid) ps) ≡ length ps
+        → length (cond b (p ∷ filter (is_own tid) ps) (filter (is_own tid) ps)) + length
+        (cond (not b) (p ∷ filter (is_others tid) ps) (filter (is_others tid) ps)) ≡ length (p ∷ ps)
     at true h = omega (arith, h)
     at false h = omega (arith, h)
 
@@ -152,8 +189,12 @@ one_object os n apart both = go [] os refl
     go : (ys xs : List PlainOffer) → os ≡ ys ++ xs → map place (filter (has_partner os) xs) ≡ filter meets (lane_of slot_of (Side true n) xs)
     go ys [] is = refl
     go ys (x ∷ xs) is =
-        let one = counted.one_leaf os (n ∷ []) apart both x (λ m e. subst (λ zs. list_any (is_own (tid_of x)) (lane_of slot_of (Side true m) zs) ≡ true) (sym is) (counted.stands ys xs x (Side true m) e)) in
-        step x xs (is_slot (Side true n) (slot_of x.base)) (meets (place x)) (has_partner os x) (both_is (is_slot (Side true n) (slot_of x.base)) (meets (place x)) (has_partner os x) one) refl (filter (λ o. is_slot (Side true n) (slot_of o.base)) xs)
+        let one = counted.one_leaf os (n ∷ []) apart both x
+        (λ m e. subst (λ zs. list_any (is_own (tid_of x)) (lane_of slot_of (Side true m) zs) ≡ true) (sym is)
+        (counted.stands ys xs x (Side true m) e)) in
+        step x xs (is_slot (Side true n) (slot_of x.base)) (meets (place x)) (has_partner os x)
+        (both_is (is_slot (Side true n) (slot_of x.base)) (meets (place x)) (has_partner os x) one) refl
+        (filter (λ o. is_slot (Side true n) (slot_of o.base)) xs)
         (go (ys ++ x ∷ []) xs (is ∙ sym (append_assoc ys (x ∷ []) xs)))
 
 pub one_key : (ks : List PairedId) (n : PairedId) → length ks ≡ 1 → slice_get ks 0 ≡ Some n → ks ≡ n ∷ []

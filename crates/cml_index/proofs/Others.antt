@@ -43,7 +43,8 @@ other_before tid (p ∷ ps) (suc j) d up within low =
     at a m c n t e f = grind (arith, nat_tests)
 
 -- any other one is after those of the thread
-pub other_behind : (tid : Tid) (ps : List Place) (own j : ℕ) (d : Place) → Ascends before ps → own + length (others tid ps) ≡ length ps → j < length (others tid ps) → nat_lt (get_or ps j d).tid.0 tid.0 ≡ false
+pub other_behind : (tid : Tid) (ps : List Place) (own j : ℕ) (d : Place) → Ascends before ps
+    → own + length (others tid ps) ≡ length ps → j < length (others tid ps) → nat_lt (get_or ps j d).tid.0 tid.0 ≡ false
     → get_or (others tid ps) j d ≡ get_or ps (j + own) d
 other_behind tid [] own j d up many within high = absurd (omega (arith, within))
 other_behind tid (p ∷ ps) own j d up many within high = at (is_others tid p) refl (λ own j. other_behind tid ps own j d up.1) many within
@@ -54,7 +55,10 @@ other_behind tid (p ∷ ps) own j d up many within high = at (is_others tid p) r
     mine : (a t : ℕ) → not (nat_eq t a) ≡ false → nat_lt a t ≡ false
     mine a t e = grind (arith, nat_tests)
 
-    its : ((own j : ℕ) → own + length (others tid ps) ≡ length ps → j < length (others tid ps) → nat_lt (get_or ps j d).tid.0 tid.0 ≡ false → get_or (others tid ps) j d ≡ get_or ps (j + own) d) → (own : ℕ) → is_others tid p ≡ false → own + length (others tid ps) ≡ length (p ∷ ps) → j < length (others tid ps) → get_or (others tid ps) j d ≡ get_or (p ∷ ps) (j + own) d
+    its : ((own j : ℕ) → own + length (others tid ps) ≡ length ps → j < length (others tid ps)
+        → nat_lt (get_or ps j d).tid.0 tid.0 ≡ false → get_or (others tid ps) j d ≡ get_or ps (j + own) d) → (own : ℕ)
+        → is_others tid p ≡ false → own + length (others tid ps) ≡ length (p ∷ ps) → j < length (others tid ps)
+        → get_or (others tid ps) j d ≡ get_or (p ∷ ps) (j + own) d
     its k zero e many within = absurd (omega (arith, many, few))
     its k (suc own) e many within =
         let inside : j < length ps = omega (arith, within, few) in
@@ -63,13 +67,22 @@ other_behind tid (p ∷ ps) own j d up many within high = at (is_others tid p) r
         let step : j + suc own ≡ suc (j + own) = omega arith in
         rest ∙ ap (λ n. get_or (p ∷ ps) n d) (sym step)
 
-    away : ((own j : ℕ) → own + length (others tid ps) ≡ length ps → j < length (others tid ps) → nat_lt (get_or ps j d).tid.0 tid.0 ≡ false → get_or (others tid ps) j d ≡ get_or ps (j + own) d) → (j : ℕ) → is_others tid p ≡ true → nat_lt (get_or (p ∷ ps) j d).tid.0 tid.0 ≡ false → own + suc (length (others tid ps)) ≡ length (p ∷ ps) → j < suc (length (others tid ps)) → get_or (p ∷ others tid ps) j d ≡ get_or (p ∷ ps) (j + own) d
+    away : ((own j : ℕ) → own + length (others tid ps) ≡ length ps → j < length (others tid ps)
+        → nat_lt (get_or ps j d).tid.0 tid.0 ≡ false → get_or (others tid ps) j d ≡ get_or ps (j + own) d) → (j : ℕ)
+        → is_others tid p ≡ true → nat_lt (get_or (p ∷ ps) j d).tid.0 tid.0 ≡ false → own + suc (length (others tid ps))
+        ≡ length (p ∷ ps) → j < suc (length (others tid ps)) → get_or (p ∷ others tid ps) j d
+        ≡ get_or (p ∷ ps) (j + own) d
     away k zero e high many within =
         let all : length (others tid ps) ≡ length ps = ap length (all_above tid p ps up.0 high e) in
         let none : 0 + own ≡ 0 = omega (arith, many, all) in
         ap (λ n. get_or (p ∷ ps) n d) (sym none)
     away k (suc j) e high many within = let step : suc j + own ≡ suc (j + own) = omega arith in k own j (omega (arith, many)) (omega (arith, within)) high ∙ ap (λ n. get_or (p ∷ ps) n d) (sym step)
 
-    at : (b : Bool) → is_others tid p ≡ b → ((own j : ℕ) → own + length (others tid ps) ≡ length ps → j < length (others tid ps) → nat_lt (get_or ps j d).tid.0 tid.0 ≡ false → get_or (others tid ps) j d ≡ get_or ps (j + own) d) → own + length (cond b (p ∷ others tid ps) (others tid ps)) ≡ length (p ∷ ps) → j < length (cond b (p ∷ others tid ps) (others tid ps)) → get_or (cond b (p ∷ others tid ps) (others tid ps)) j d ≡ get_or (p ∷ ps) (j + own) d
+    at : (b : Bool) → is_others tid p ≡ b
+        → ((own j : ℕ) → own + length (others tid ps) ≡ length ps → j < length (others tid ps)
+        → nat_lt (get_or ps j d).tid.0 tid.0 ≡ false → get_or (others tid ps) j d ≡ get_or ps (j + own) d)
+        → own + length (cond b (p ∷ others tid ps) (others tid ps)) ≡ length (p ∷ ps)
+        → j < length (cond b (p ∷ others tid ps) (others tid ps))
+        → get_or (cond b (p ∷ others tid ps) (others tid ps)) j d ≡ get_or (p ∷ ps) (j + own) d
     at true e k many within = away k j e high many within
     at false e k many within = its k own e many within

@@ -1,5 +1,38 @@
 -- The seat of a thread: who is in it, and what changes where a thread comes or goes.
-use Rattle.std.proofs.Common.{◌≡◌, ◌≢◌, ℕ, zero, suc, ◌+◌, ◌-◌, ◌<◌, Bool, true, false, not, nat_eq, nat_lt, List, [], ◌∷◌, ◌++◌, length, take, drop, get_or, Option, Some, None, refl, ap, sym, subst, ◌∙◌, arith, length-append}
+use Rattle.std.proofs.Common.{
+  ◌≡◌,
+  ◌≢◌,
+  ℕ,
+  zero,
+  suc,
+  ◌+◌,
+  ◌-◌,
+  ◌<◌,
+  Bool,
+  true,
+  false,
+  not,
+  nat_eq,
+  nat_lt,
+  List,
+  [],
+  ◌∷◌,
+  ◌++◌,
+  length,
+  take,
+  drop,
+  get_or,
+  Option,
+  Some,
+  None,
+  refl,
+  ap,
+  sym,
+  subst,
+  ◌∙◌,
+  arith,
+  length-append,
+}
 use Rattle.std.specs.Prelude.{All, Any, slice_set, is_some}
 use Rattle.std.specs.List.{filter, insert, list_any}
 use Rattle.std.specs.Option.{option_copied}
@@ -12,7 +45,26 @@ use Rattle.cml_scan.specs.Table.{with_entry, without}
 use Rattle.cml_index.specs.declared.entries.Seat.{Seat}
 use Rattle.cml_index.specs.Seats.{with_one, seated, seat_before, is_its_own, count_seats, own_entries, IsEntryOf, AreSeats}
 use Rattle.cml_index.proofs.Parted.{gone_one, there_any}
-use Rattle.cml_index.proofs.Seated.{its_thread, own_between, rest_between, with_between, sides_at, sides_between, seated-append, seated_at, seated_set, seated_parts, seated_full, own_at, own_set, ascends_set, seats_with, full_ascend, full_own, is_empty}
+use Rattle.cml_index.proofs.Seated.{
+  its_thread,
+  own_between,
+  rest_between,
+  with_between,
+  sides_at,
+  sides_between,
+  seated-append,
+  seated_at,
+  seated_set,
+  seated_parts,
+  seated_full,
+  own_at,
+  own_set,
+  ascends_set,
+  seats_with,
+  full_ascend,
+  full_own,
+  is_empty,
+}
 
 equal : (a b : ℕ) → b ≡ a → nat_eq a b ≡ true
 equal a b h = grind (arith, nat_tests)
@@ -138,7 +190,9 @@ gone t ss new pending e are has in_ set =
 
 -- the seat that was found is the thread's, and somebody is in it
 pub taken : (t : Tid) (ss new : List Seat) (pending n : ℕ) (now : List PlainEntry) (o : Option PlainEntry) (e : PlainEntry) → AreSeats ss pending → n ≡ count_seats t.0 ss → seated ss ≡ now
-    → Any (λ x. x.thread ≡ t.0) now → ((d : Seat) → new ≡ slice_set ss n (record { tid = (get_or ss n d).tid; entry = None })) → ((d : Seat) → o ≡ (get_or ss n d).entry) → o ≡ Some e → IsGone t ss new pending e
+    → Any (λ x. x.thread ≡ t.0) now → ((d : Seat) → new
+    ≡ slice_set ss n (record { tid = (get_or ss n d).tid; entry = None }))
+    → ((d : Seat) → o ≡ (get_or ss n d).entry) → o ≡ Some e → IsGone t ss new pending e
 taken t ss new pending n now o e are at view there set in_ some =
     let here = subst (Any (λ (x : PlainEntry). x.thread ≡ t.0)) (sym view) there in
     gone t ss new pending e are (seat_there t.0 ss are.ascend are.own here) (sym (in_ no_seat ∙ ap (λ m. (get_or ss m no_seat).entry) at) ∙ some)

@@ -42,7 +42,9 @@ met_there tid b q c = do_meet_by_place tid b q c ∙ at (side_place b) (side_pla
     away s None = refl
     away s (Some l) = refl
 
-    two : (s t : SidePlace) (h : Bool) → s.heads ≡ h → leads s t && is_of (partner_threads s.object.kind tid) q ≡ meets_in (cond h (Some (met_lane s.object, partner_threads s.object.kind tid)) None) (Some (Rattle.cml_index.specs.declared.slot.Slot.TheVariants.Side t.heads t.object)) q
+    two : (s t : SidePlace) (h : Bool) → s.heads ≡ h → leads s t && is_of (partner_threads s.object.kind tid) q
+        ≡ meets_in (cond h (Some (met_lane s.object, partner_threads s.object.kind tid)) None)
+        (Some (Rattle.cml_index.specs.declared.slot.Slot.TheVariants.Side t.heads t.object)) q
     two s t true e = rw e (ap (λ b. b && is_of (partner_threads s.object.kind tid) q) (turned (one_lane s.object.kind) t.heads (same_object s.object t.object)))
     two s t false e = rw e refl
 
@@ -60,7 +62,8 @@ met_offer : (p : Place) (b : PlainBase) (m : Option (Slot × PartnerThreads)) �
 met_offer p b m e o = met_there p.tid b (place o) o.base ∙ ap (λ x. meets_in x (slot_of o.base) (place o)) e
 
 -- the rows that a leaf begins with others are those with the offers that are meant in the lane that it meets
-pub pairs_there : (p : Place) (b : PlainBase) (k : Slot) (w : PartnerThreads) → met_by b p.tid ≡ Some (k, w) → (os : List PlainOffer) → pairs_with os (offer p b) ≡ map (pair_of p) (those w (lane_of slot_of k os))
+pub pairs_there : (p : Place) (b : PlainBase) (k : Slot) (w : PartnerThreads) → met_by b p.tid ≡ Some (k, w)
+    → (os : List PlainOffer) → pairs_with os (offer p b) ≡ map (pair_of p) (those w (lane_of slot_of k os))
 pairs_there p b k w e [] = refl
 pairs_there p b k w e (o ∷ os) =
     ap (λ r. map (pair (offer p b)) (cond r (o ∷ filter (can_meet (offer p b)) os) (filter (can_meet (offer p b)) os))) (met_offer p b (Some (k, w)) e o)

@@ -1,5 +1,36 @@
 -- The entry of one thread among those of all, and the offers of one thread among those of all.
-use Rattle.std.proofs.Common.{◌≡◌, ◌≢◌, ℕ, suc, ◌+◌, ◌<◌, ◌≤◌, Bool, true, false, not, ◌||◌, nat_eq, nat_lt, cond, List, [], ◌∷◌, ◌++◌, map, length, ◌*◌, Option, None, refl, ap, sym, subst, ◌∙◌, arith}
+use Rattle.std.proofs.Common.{
+  ◌≡◌,
+  ◌≢◌,
+  ℕ,
+  suc,
+  ◌+◌,
+  ◌<◌,
+  ◌≤◌,
+  Bool,
+  true,
+  false,
+  not,
+  ◌||◌,
+  nat_eq,
+  nat_lt,
+  cond,
+  List,
+  [],
+  ◌∷◌,
+  ◌++◌,
+  map,
+  length,
+  ◌*◌,
+  Option,
+  None,
+  refl,
+  ap,
+  sym,
+  subst,
+  ◌∙◌,
+  arith,
+}
 use Rattle.std.specs.Prelude.{All, Any, slice_get}
 use Rattle.std.specs.List.{filter, list_any}
 use Rattle.std.proofs.lemmas.Bool.Decides.{nat_tests}
@@ -41,7 +72,9 @@ offers_by test [] = refl
 offers_by test (e ∷ es) = at (test e.thread) refl (offers_by test es) ∙ sym (filter-append (λ o. test o.thread) (leaves_from e.thread 0 (bases e.group)) (offers_of es))
   where
     at : (b : Bool) → test e.thread ≡ b → offers_of (filter (λ e. test e.thread) es) ≡ filter (λ o. test o.thread) (offers_of es)
-        → offers_of (cond b (e ∷ filter (λ e. test e.thread) es) (filter (λ e. test e.thread) es)) ≡ filter (λ o. test o.thread) (leaves_from e.thread 0 (bases e.group)) ++ filter (λ o. test o.thread) (offers_of es)
+        → offers_of (cond b (e ∷ filter (λ e. test e.thread) es) (filter (λ e. test e.thread) es))
+        ≡ filter (λ o. test o.thread) (leaves_from e.thread 0 (bases e.group))
+        ++ filter (λ o. test o.thread) (offers_of es)
     at true is h = rw (leaves_pass test e.thread 0 (bases e.group) is) (ap (λ os. leaves_from e.thread 0 (bases e.group) ++ os) h)
     at false is h = rw (leaves_fail test e.thread 0 (bases e.group) is) h
 
@@ -61,7 +94,9 @@ own_run slot k tid leaf [] = refl
 own_run slot k tid leaf (b ∷ bs) = at (is_slot k (slot b)) (own_run slot k tid (leaf + 1) bs)
   where
     at : (h : Bool) → lane_of slot k (leaves_from tid.0 (leaf + 1) bs) ≡ run tid (slot_leaves k (leaf + 1) (map slot bs))
-        → map place (cond h (record { thread = tid.0; leaf = leaf; base = b } ∷ filter (λ o. is_slot k (slot o.base)) (leaves_from tid.0 (leaf + 1) bs)) (filter (λ o. is_slot k (slot o.base)) (leaves_from tid.0 (leaf + 1) bs)))
+        → map place (cond h (record { thread = tid.0; leaf = leaf; base = b }
+        ∷ filter (λ o. is_slot k (slot o.base)) (leaves_from tid.0 (leaf + 1) bs))
+        (filter (λ o. is_slot k (slot o.base)) (leaves_from tid.0 (leaf + 1) bs)))
         ≡ run tid (cond h (leaf ∷ slot_leaves k (leaf + 1) (map slot bs)) (slot_leaves k (leaf + 1) (map slot bs)))
     at true h = ap (λ ps. record { tid = tid; leaf = leaf } ∷ ps) h
     at false h = h
@@ -78,7 +113,9 @@ lane-ascends slot k es up =
     later p [] h = tt
     later p (o ∷ os) h = pick (is_slot k (slot o.base)) (later p os h.1)
       where
-        pick : (b : Bool) → Every (before p) (map place (filter (λ o. is_slot k (slot o.base)) os)) → Every (before p) (map place (cond b (o ∷ filter (λ o. is_slot k (slot o.base)) os) (filter (λ o. is_slot k (slot o.base)) os)))
+        pick : (b : Bool) → Every (before p) (map place (filter (λ o. is_slot k (slot o.base)) os))
+            → Every (before p) (map place
+            (cond b (o ∷ filter (λ o. is_slot k (slot o.base)) os) (filter (λ o. is_slot k (slot o.base)) os)))
         pick true k = (h.0, k)
         pick false k = k
 
@@ -86,7 +123,9 @@ lane-ascends slot k es up =
     at [] up = tt
     at (o ∷ os) up = pick (is_slot k (slot o.base)) (at os up.1)
       where
-        pick : (b : Bool) → Ascends before (map place (filter (λ o. is_slot k (slot o.base)) os)) → Ascends before (map place (cond b (o ∷ filter (λ o. is_slot k (slot o.base)) os) (filter (λ o. is_slot k (slot o.base)) os)))
+        pick : (b : Bool) → Ascends before (map place (filter (λ o. is_slot k (slot o.base)) os))
+            → Ascends before (map place (cond b (o ∷ filter (λ o. is_slot k (slot o.base)) os)
+            (filter (λ o. is_slot k (slot o.base)) os)))
         pick true k = (later (place o) os up.0, k)
         pick false k = k
 
@@ -153,7 +192,9 @@ leaves_many p t leaf [] = refl
 leaves_many p t leaf (b ∷ bs) = at (p b) (leaves_many p t (leaf + 1) bs)
   where
     at : (h : Bool) → length (filter (λ o. p o.base) (leaves_from t (leaf + 1) bs)) ≡ length (filter p bs)
-        → length (cond h (record { thread = t; leaf = leaf; base = b } ∷ filter (λ o. p o.base) (leaves_from t (leaf + 1) bs)) (filter (λ o. p o.base) (leaves_from t (leaf + 1) bs))) ≡ length (cond h (b ∷ filter p bs) (filter p bs))
+        → length (cond h (record { thread = t; leaf = leaf; base = b }
+        ∷ filter (λ o. p o.base) (leaves_from t (leaf + 1) bs))
+        (filter (λ o. p o.base) (leaves_from t (leaf + 1) bs))) ≡ length (cond h (b ∷ filter p bs) (filter p bs))
     at true e = ap suc e
     at false e = e
 
@@ -169,7 +210,9 @@ left_count p t es d own =
     let parts : length (filter (λ o. nat_eq t o.thread) (filter P (offers_of es))) + length (filter (λ o. not (nat_eq t o.thread)) (filter P (offers_of es))) ≡ length (filter P (offers_of es)) =
     length-filter_both (λ o. nat_eq t o.thread) (λ o. not (nat_eq t o.thread)) (λ _. refl) (filter P (offers_of es)) in
     let mine : length (filter (λ o. nat_eq t o.thread) (filter P (offers_of es))) ≡ length (filter p (bases d.group)) =
-    ap length (filters_swapped (λ o. nat_eq t o.thread) P (offers_of es) ∙ ap (filter P) (sym (offers_by (nat_eq t) es) ∙ ap offers_of own ∙ one_offers d)) ∙ leaves_many p d.thread 0 (bases d.group) in
+    ap length (filters_swapped (λ o. nat_eq t o.thread) P (offers_of es)
+    ∙ ap (filter P) (sym (offers_by (nat_eq t) es) ∙ ap offers_of own ∙ one_offers d))
+    ∙ leaves_many p d.thread 0 (bases d.group) in
     let rest : length (filter (λ o. not (nat_eq t o.thread)) (filter P (offers_of es))) ≡ length (filter P (offers_of (filter (λ e. not (nat_eq t e.thread)) es))) =
     ap length (filters_swapped (λ o. not (nat_eq t o.thread)) P (offers_of es) ∙ ap (filter P) (sym (offers_by (λ n. not (nat_eq t n)) es))) in
     omega (arith, parts, mine, rest)
@@ -216,14 +259,16 @@ all_apart t (e ∷ es) all = (apart e.thread t (All-head (λ (x : PlainEntry). x
     apart : (a b : ℕ) → a ≢ b → not (nat_eq b a) ≡ true
     apart a b e = grind (arith, nat_tests)
 
-filter_every : {X : Type 0} (p : X → Bool) (xs : List X) → Every p xs → filter p xs ≡ xs
+pub filter_every : {X : Type 0} (p : X → Bool) (xs : List X) → Every p xs → filter p xs ≡ xs
 filter_every p [] each = refl
 filter_every p (x ∷ xs) each = rw (each.0) (ap (λ ys. x ∷ ys) (filter_every p xs each.1))
 
 -- no offer in a lane is of a thread that is not pending
 pub lane_others : (slot : PlainBase → Option Slot) (k : Slot) (tid : Tid) (es : List PlainEntry) → Every (λ e. not (nat_eq tid.0 e.thread)) es → Every (is_others tid) (lane_of slot k (offers_of es))
 lane_others slot k tid es apart =
-    subst (Every (is_others tid)) (sym (left_rest slot k tid es) ∙ ap (λ xs. lane_of slot k (offers_of xs)) (filter_every (λ e. not (nat_eq tid.0 e.thread)) es apart)) (Every-passes (is_others tid) (lane_of slot k (offers_of es)))
+    subst (Every (is_others tid)) (sym (left_rest slot k tid es)
+    ∙ ap (λ xs. lane_of slot k (offers_of xs)) (filter_every (λ e. not (nat_eq tid.0 e.thread)) es apart))
+    (Every-passes (is_others tid) (lane_of slot k (offers_of es)))
 
 -- those below and those above are all
 pub between : (t : ℕ) (es : List PlainEntry) → IsSorted es → Every (λ e. not (nat_eq t e.thread)) es → filter (λ x. nat_lt x.thread t) es ++ filter (λ x. nat_lt t x.thread) es ≡ es
@@ -261,15 +306,27 @@ offers_with e es =
 pub came_lane : (slot : PlainBase → Option Slot) (k : Slot) (tid : Tid) (e : PlainEntry) (es : List PlainEntry) → tid.0 ≡ e.thread
     → with_run tid (slot_leaves k 0 (map slot (bases e.group))) (lane_of slot k (offers_of es)) ≡ lane_of slot k (offers_of (with_entry e es))
 came_lane slot k tid e es is =
-    let low : lane_of slot k (filter (λ o. nat_lt o.thread e.thread) (offers_of es)) ≡ filter (λ q. nat_lt q.tid.0 e.thread) (lane_of slot k (offers_of es)) = lane_by slot k (λ n. nat_lt n e.thread) (offers_of es) in
-    let high : lane_of slot k (filter (λ o. nat_lt e.thread o.thread) (offers_of es)) ≡ filter (λ q. nat_lt e.thread q.tid.0) (lane_of slot k (offers_of es)) = lane_by slot k (nat_lt e.thread) (offers_of es) in
-    let mine : lane_of slot k (leaves_from e.thread 0 (bases e.group)) ≡ run tid (slot_leaves k 0 (map slot (bases e.group))) = ap (λ t. lane_of slot k (leaves_from t 0 (bases e.group))) (sym is) ∙ own_run slot k tid 0 (bases e.group) in
-    let own : filter (λ q. nat_lt q.tid.0 tid.0) (lane_of slot k (offers_of es)) ≡ filter (λ q. nat_lt q.tid.0 e.thread) (lane_of slot k (offers_of es)) = ap (λ t. filter (λ q. nat_lt q.tid.0 t) (lane_of slot k (offers_of es))) is in
-    let own2 : filter (λ q. nat_lt tid.0 q.tid.0) (lane_of slot k (offers_of es)) ≡ filter (λ q. nat_lt e.thread q.tid.0) (lane_of slot k (offers_of es)) = ap (λ t. filter (λ q. nat_lt t q.tid.0) (lane_of slot k (offers_of es))) is in
+    let low : lane_of slot k (filter (λ o. nat_lt o.thread e.thread) (offers_of es))
+    ≡ filter (λ q. nat_lt q.tid.0 e.thread) (lane_of slot k (offers_of es)) = lane_by slot k
+    (λ n. nat_lt n e.thread) (offers_of es) in
+    let high : lane_of slot k (filter (λ o. nat_lt e.thread o.thread) (offers_of es))
+    ≡ filter (λ q. nat_lt e.thread q.tid.0) (lane_of slot k (offers_of es)) = lane_by slot k (nat_lt e.thread)
+    (offers_of es) in
+    let mine : lane_of slot k (leaves_from e.thread 0 (bases e.group))
+    ≡ run tid (slot_leaves k 0 (map slot (bases e.group))) = ap
+    (λ t. lane_of slot k (leaves_from t 0 (bases e.group))) (sym is) ∙ own_run slot k tid 0 (bases e.group) in
+    let own : filter (λ q. nat_lt q.tid.0 tid.0) (lane_of slot k (offers_of es))
+    ≡ filter (λ q. nat_lt q.tid.0 e.thread) (lane_of slot k (offers_of es)) = ap
+    (λ t. filter (λ q. nat_lt q.tid.0 t) (lane_of slot k (offers_of es))) is in
+    let own2 : filter (λ q. nat_lt tid.0 q.tid.0) (lane_of slot k (offers_of es))
+    ≡ filter (λ q. nat_lt e.thread q.tid.0) (lane_of slot k (offers_of es)) = ap
+    (λ t. filter (λ q. nat_lt t q.tid.0) (lane_of slot k (offers_of es))) is in
     rw (own, own2, ← mine, ← low, ← high)
     (sym (ap (lane_of slot k) (offers_with e es)
     ∙ lane-append slot k (filter (λ o. nat_lt o.thread e.thread) (offers_of es)) (leaves_from e.thread 0 (bases e.group) ++ filter (λ o. nat_lt e.thread o.thread) (offers_of es))
-    ∙ ap (λ qs. lane_of slot k (filter (λ o. nat_lt o.thread e.thread) (offers_of es)) ++ qs) (lane-append slot k (leaves_from e.thread 0 (bases e.group)) (filter (λ o. nat_lt e.thread o.thread) (offers_of es)))))
+    ∙ ap (λ qs. lane_of slot k (filter (λ o. nat_lt o.thread e.thread) (offers_of es)) ++ qs)
+    (lane-append slot k (leaves_from e.thread 0 (bases e.group))
+    (filter (λ o. nat_lt e.thread o.thread) (offers_of es)))))
 
 -- how many offers pass, with those of one more entry
 pub came_count : (p : PlainBase → Bool) (e : PlainEntry) (es : List PlainEntry) → IsSorted es → Every (λ x. not (nat_eq e.thread x.thread)) es
@@ -290,14 +347,19 @@ came_count p e es up apart =
     let d : length (filter P (f e)) ≡ length (filter p (bases e.group)) = leaves_many p e.thread 0 (bases e.group) in
     omega (arith, a, b, c, d)
 
-pub came_all : (e : PlainEntry) (es : List PlainEntry) → IsSorted es → Every (λ x. not (nat_eq e.thread x.thread)) es → length (offers_of (with_entry e es)) ≡ length (offers_of es) + length (bases e.group)
+pub came_all : (e : PlainEntry) (es : List PlainEntry) → IsSorted es → Every (λ x. not (nat_eq e.thread x.thread)) es
+    → length (offers_of (with_entry e es)) ≡ length (offers_of es) + length (bases e.group)
 came_all e es up apart =
     let low : List PlainEntry = filter (λ x. nat_lt x.thread e.thread) es in
     let high : List PlainEntry = filter (λ x. nat_lt e.thread x.thread) es in
     let f : PlainEntry → List PlainOffer = λ x. leaves_from x.thread 0 (bases x.group) in
-    let a : length (offers_of es) ≡ length (offers_of low) + length (offers_of high) = ap length (ap offers_of (sym (between e.thread es up apart)) ∙ flat_map-append f low high) ∙ length-append (offers_of low) (offers_of high) in
+    let a : length (offers_of es) ≡ length (offers_of low) + length (offers_of high) = ap length
+    (ap offers_of (sym (between e.thread es up apart)) ∙ flat_map-append f low high)
+    ∙ length-append (offers_of low) (offers_of high) in
     let b : length (f e ++ offers_of high) ≡ length (f e) + length (offers_of high) = length-append (f e) (offers_of high) in
-    let c : length (offers_of (with_entry e es)) ≡ length (offers_of low) + length (f e ++ offers_of high) = ap length (flat_map-append f low (e ∷ high)) ∙ length-append (offers_of low) (f e ++ offers_of high) in
+    let c : length (offers_of (with_entry e es))
+    ≡ length (offers_of low) + length (f e ++ offers_of high) = ap length (flat_map-append f low (e ∷ high))
+    ∙ length-append (offers_of low) (f e ++ offers_of high) in
     let d : length (f e) ≡ length (bases e.group) = leaves_all e.thread 0 (bases e.group) in
     omega (arith, a, b, c, d)
 
@@ -305,7 +367,9 @@ came_all e es up apart =
 pub nacks_with : (p : ℕ → Bool) (e : PlainEntry) (es : List PlainEntry) → Every p (nacks_in es) → Every p (nacks_of (scopes e.group)) → Every p (nacks_in (with_entry e es))
 nacks_with p e es each own =
     subst (Every p) (sym (flat_map-append (λ (x : PlainEntry). nacks_of (scopes x.group)) (filter (λ x. nat_lt x.thread e.thread) es) (e ∷ filter (λ x. nat_lt e.thread x.thread) es)))
-    (Every-append p (nacks_in (filter (λ x. nat_lt x.thread e.thread) es)) (nacks_of (scopes e.group) ++ nacks_in (filter (λ x. nat_lt e.thread x.thread) es)) (nacks_left p (λ x. nat_lt x.thread e.thread) es each)
+    (Every-append p (nacks_in (filter (λ x. nat_lt x.thread e.thread) es))
+    (nacks_of (scopes e.group) ++ nacks_in (filter (λ x. nat_lt e.thread x.thread) es))
+    (nacks_left p (λ x. nat_lt x.thread e.thread) es each)
     (Every-append p (nacks_of (scopes e.group)) (nacks_in (filter (λ x. nat_lt e.thread x.thread) es)) own (nacks_left p (λ x. nat_lt e.thread x.thread) es each)))
 
 -- a leaf of a thread that is not pending is none of theirs
@@ -313,12 +377,15 @@ pub base_none : (p : Place) (es : List PlainEntry) → filter (λ e. nat_eq p.ti
 base_none p [] none = refl
 base_none p (e ∷ es) none = at (nat_eq p.tid.0 e.thread) refl (base_none p es)
   where
-    at : (b : Bool) → nat_eq p.tid.0 e.thread ≡ b → (filter (λ x. nat_eq p.tid.0 x.thread) es ≡ [] → base_at p (offers_of es) ≡ None) → base_at p (leaves_from e.thread 0 (bases e.group) ++ offers_of es) ≡ None
+    at : (b : Bool) → nat_eq p.tid.0 e.thread ≡ b
+        → (filter (λ x. nat_eq p.tid.0 x.thread) es ≡ [] → base_at p (offers_of es) ≡ None)
+        → base_at p (leaves_from e.thread 0 (bases e.group) ++ offers_of es) ≡ None
     at true h later = let some : e ∷ filter (λ x. nat_eq p.tid.0 x.thread) es ≡ [] = rw h at none in cc
     at false h later = other_leaves p e.thread 0 (bases e.group) (offers_of es) h ∙ later (rw h at none)
 
 -- a leaf of a pending thread stands in its group
-pub base_own : (p : Place) (es : List PlainEntry) (d : PlainEntry) → filter (λ e. nat_eq p.tid.0 e.thread) es ≡ d ∷ [] → d.thread ≡ p.tid.0 → base_at p (offers_of es) ≡ slice_get (bases d.group) p.leaf
+pub base_own : (p : Place) (es : List PlainEntry) (d : PlainEntry) → filter (λ e. nat_eq p.tid.0 e.thread) es ≡ d ∷ []
+    → d.thread ≡ p.tid.0 → base_at p (offers_of es) ≡ slice_get (bases d.group) p.leaf
 base_own p [] d own is = cc
 base_own p (e ∷ es) d own is = at (nat_eq p.tid.0 e.thread) refl (base_own p es d)
   where

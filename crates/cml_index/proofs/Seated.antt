@@ -1,5 +1,38 @@
 -- What stands in the seats, and where a thread's seat is.
-use Rattle.std.proofs.Common.{◌≡◌, ◌≢◌, ℕ, zero, suc, ◌+◌, ◌<◌, ◌≤◌, Bool, true, false, not, cond, nat_eq, nat_lt, List, [], ◌∷◌, ◌++◌, length, take, drop, get_or, Option, Some, None, refl, ap, sym, subst, ◌∙◌, arith}
+use Rattle.std.proofs.Common.{
+  ◌≡◌,
+  ◌≢◌,
+  ℕ,
+  zero,
+  suc,
+  ◌+◌,
+  ◌<◌,
+  ◌≤◌,
+  Bool,
+  true,
+  false,
+  not,
+  cond,
+  nat_eq,
+  nat_lt,
+  List,
+  [],
+  ◌∷◌,
+  ◌++◌,
+  length,
+  take,
+  drop,
+  get_or,
+  Option,
+  Some,
+  None,
+  refl,
+  ap,
+  sym,
+  subst,
+  ◌∙◌,
+  arith,
+}
 use Rattle.std.specs.Prelude.{All, slice_set, is_some}
 use Rattle.std.specs.List.{filter, insert}
 use Rattle.std.proofs.lemmas.Bool.Decides.{nat_tests}
@@ -192,20 +225,25 @@ module _ (t : ℕ) (low high : List Seat) (is : AreSides t low high) where
   pub own_between : (mid : List PlainEntry) → filter (λ e. nat_eq t e.thread) (seated low ++ (mid ++ seated high)) ≡ filter (λ e. nat_eq t e.thread) mid
   own_between mid =
       let p : PlainEntry → Bool = λ e. nat_eq t e.thread in
-      filter-append p (seated low) (mid ++ seated high) ∙ ap (λ xs. xs ++ filter p (mid ++ seated high)) low_eq ∙ filter-append p mid (seated high) ∙ ap (λ xs. filter p mid ++ xs) high_eq ∙ append-nil (filter p mid)
+      filter-append p (seated low) (mid ++ seated high) ∙ ap (λ xs. xs ++ filter p (mid ++ seated high)) low_eq
+      ∙ filter-append p mid (seated high) ∙ ap (λ xs. filter p mid ++ xs) high_eq ∙ append-nil (filter p mid)
 
   -- what is left without it
   pub rest_between : (mid : List PlainEntry) → filter (λ e. not (nat_eq t e.thread)) mid ≡ [] → filter (λ e. not (nat_eq t e.thread)) (seated low ++ (mid ++ seated high)) ≡ seated low ++ seated high
   rest_between mid none =
       let p : PlainEntry → Bool = λ e. not (nat_eq t e.thread) in
-      filter-append p (seated low) (mid ++ seated high) ∙ ap (λ xs. xs ++ filter p (mid ++ seated high)) low_ne ∙ ap (λ xs. seated low ++ xs) (filter-append p mid (seated high) ∙ ap (λ xs. xs ++ filter p (seated high)) none ∙ high_ne)
+      filter-append p (seated low) (mid ++ seated high) ∙ ap (λ xs. xs ++ filter p (mid ++ seated high)) low_ne
+      ∙ ap (λ xs. seated low ++ xs) (filter-append p mid (seated high)
+      ∙ ap (λ xs. xs ++ filter p (seated high)) none ∙ high_ne)
 
   -- what there is with it
   pub with_between : (e : PlainEntry) → e.thread ≡ t → with_entry e (seated low ++ seated high) ≡ seated low ++ e ∷ seated high
   with_between e is_t =
       let p : PlainEntry → Bool = λ x. nat_lt x.thread t in
       let q : PlainEntry → Bool = λ x. nat_lt t x.thread in
-      let one : filter p (seated low ++ seated high) ≡ seated low = filter-append p (seated low) (seated high) ∙ ap (λ xs. xs ++ filter p (seated high)) low_lt ∙ ap (λ xs. seated low ++ xs) high_lt ∙ append-nil (seated low) in
+      let one : filter p (seated low ++ seated high) ≡ seated low = filter-append p (seated low) (seated high)
+      ∙ ap (λ xs. xs ++ filter p (seated high)) low_lt ∙ ap (λ xs. seated low ++ xs) high_lt
+      ∙ append-nil (seated low) in
       let two : filter q (seated low ++ seated high) ≡ seated high = filter-append q (seated low) (seated high) ∙ ap (λ xs. xs ++ filter q (seated high)) low_gt ∙ high_gt in
       let both : with_entry e (seated low ++ seated high) ≡ filter p (seated low ++ seated high) ++ e ∷ filter q (seated low ++ seated high) =
       ap (λ n. filter (λ (x : PlainEntry). nat_lt x.thread n) (seated low ++ seated high) ++ e ∷ filter (λ (x : PlainEntry). nat_lt n x.thread) (seated low ++ seated high)) is_t in
@@ -348,18 +386,24 @@ every_with p (x ∷ low) high s a is b = (a.0, every_with p low high s a.1 is b)
 ascends_with : (t : ℕ) (low high : List Seat) (s : Seat) → Ascends seat_before low → Ascends seat_before high → s.tid.0 ≡ t → Every (λ x. nat_lt x.tid.0 t) low → Every (λ x. nat_lt t x.tid.0) high
     → Ascends seat_before (low ++ s ∷ high)
 ascends_with t [] high s up down is below above = (subst (λ m. Every (λ x. nat_lt m x.tid.0) high) (sym is) above, down)
-ascends_with t (x ∷ low) high s up down is below above =
-    (every_with (seat_before x) low high s up.0 (ap (nat_lt x.tid.0) is ∙ below.0) (weaker (λ y. nat_lt t y.tid.0) (seat_before x) (λ y h. later x.tid.0 t y.tid.0 below.0 h) high above), ascends_with t low high s up.1 down is below.1 above)
+ascends_with t (x ∷ low) high s up down is below above = (
+  every_with (seat_before x) low high s up.0 (ap (nat_lt x.tid.0) is ∙ below.0)
+      (weaker (λ y. nat_lt t y.tid.0) (seat_before x) (λ y h. later x.tid.0 t y.tid.0 below.0 h) high above),
+  ascends_with t low high s up.1 down is below.1 above,
+)
   where
     later : (a b c : ℕ) → nat_lt a b ≡ true → nat_lt b c ≡ true → nat_lt a c ≡ true
     later a b c h k = grind (arith, nat_tests)
 
 -- the seats with one more in its place
-pub seats_with : (t : ℕ) (ss : List Seat) (s : Seat) → Ascends seat_before ss → Every is_its_own ss → s.tid.0 ≡ t → is_its_own s ≡ true → AreSides t (take (count_seats t ss) ss) (drop (count_seats t ss) ss)
+pub seats_with : (t : ℕ) (ss : List Seat) (s : Seat) → Ascends seat_before ss → Every is_its_own ss → s.tid.0 ≡ t
+    → is_its_own s ≡ true → AreSides t (take (count_seats t ss) ss) (drop (count_seats t ss) ss)
     → Ascends seat_before (insert ss (count_seats t ss) s) × Every is_its_own (insert ss (count_seats t ss) s)
 seats_with t ss s up own is its sides =
-    let n = count_seats t ss in
-    (ascends_with t (take n ss) (drop n ss) s (ascends_take n ss up) (ascends_drop n ss up) is sides.below sides.above, every_with is_its_own (take n ss) (drop n ss) s (own_take n ss own) its (own_drop n ss own))
+    let n = count_seats t ss in (
+      ascends_with t (take n ss) (drop n ss) s (ascends_take n ss up) (ascends_drop n ss up) is sides.below sides.above,
+      every_with is_its_own (take n ss) (drop n ss) s (own_take n ss own) its (own_drop n ss own),
+    )
 
 -- the seats without those that are empty
 pub seated_full : (ss : List Seat) → seated (filter (λ s. is_some s.entry) ss) ≡ seated ss
@@ -425,5 +469,7 @@ is_empty t ss d own within is sides apart = at s.entry refl
     at (Some x) e =
         let mine : x.thread ≡ t = its_thread s x (own_at n ss d within own) e ∙ is in
         let there : seated ss ≡ seated (take n ss) ++ ((x ∷ []) ++ seated (drop (n + 1) ss)) = seated_at n ss d within ∙ ap (λ o. seated (take n ss) ++ with_one o (seated (drop (n + 1) ss))) e in
-        let found : filter (λ y. nat_eq t y.thread) (x ∷ []) ≡ [] = sym (own_between t (take n ss) (drop (n + 1) ss) sides (x ∷ [])) ∙ ap (filter (λ y. nat_eq t y.thread)) (sym there) ∙ none_of t (seated ss) apart in
+        let found : filter (λ y. nat_eq t y.thread) (x ∷ [])
+        ≡ [] = sym (own_between t (take n ss) (drop (n + 1) ss) sides (x ∷ []))
+        ∙ ap (filter (λ y. nat_eq t y.thread)) (sym there) ∙ none_of t (seated ss) apart in
         absurd (not_found (nat_eq t x.thread) (same t x.thread mine) x found)

@@ -68,7 +68,9 @@ offers_more e es = length-append (leaves_from e.thread 0 (bases e.group)) (offer
 pub sought_step : (f : PlainOffer → Bool) (e : PlainEntry) (es : List PlainEntry) → filter f (offers_of (e ∷ es)) ≡ filter f (leaves_from e.thread 0 (bases e.group)) ++ filter f (offers_of es)
 sought_step f e es = filter-append f (leaves_from e.thread 0 (bases e.group)) (offers_of es)
 
-pub sought_more : (f : PlainOffer → Bool) (e : PlainEntry) (es : List PlainEntry) → length (filter f (offers_of (e ∷ es))) ≡ length (filter f (leaves_from e.thread 0 (bases e.group))) + length (filter f (offers_of es))
+pub sought_more : (f : PlainOffer → Bool) (e : PlainEntry) (es : List PlainEntry)
+    → length (filter f (offers_of (e ∷ es)))
+    ≡ length (filter f (leaves_from e.thread 0 (bases e.group))) + length (filter f (offers_of es))
 sought_more f e es = ap length (sought_step f e es) ∙ length-append (filter f (leaves_from e.thread 0 (bases e.group))) (filter f (offers_of es))
 
 pub sought_places : (f : PlainOffer → Bool) (e : PlainEntry) (es : List PlainEntry)
@@ -105,7 +107,9 @@ pub heads_many : (flags : List (Slot × Bool)) (es : List PlainEntry) → IsSort
 heads_many flags es up =
     let alone = filter (is_sought Alone flags (offers_of es)) (offers_of es) in
     let met = filter (is_sought Met flags (offers_of es)) (offers_of es) in
-    ap length (heads_are flags es up) ∙ length-append (map place alone) (map place met) ∙ ap (λ n. n + length (map place met)) (length-map alone place) ∙ ap (λ n. length alone + n) (length-map met place)
+    ap length (heads_are flags es up) ∙ length-append (map place alone) (map place met)
+    ∙ ap (λ n. n + length (map place met)) (length-map alone place)
+    ∙ ap (λ n. length alone + n) (length-map met place)
 
 -- how many of a thread's leaves, from one on, stand after one of them
 own_behind : (p : Place) (leaf : ℕ) (bs : List PlainBase) → leaf ≤ p.leaf → p.leaf < leaf + length bs
@@ -134,7 +138,9 @@ own_behind p leaf (b ∷ bs) low high = rw (not_behind p.tid.0 p.leaf leaf low) 
         omega (arith, rest, long)
     at false e later =
         let is = same p.leaf leaf low e in
-        let few : length (filter (λ o. before p (place o)) (leaves_from p.tid.0 (leaf + 1) bs)) ≤ length (leaves_from p.tid.0 (leaf + 1) bs) = filter_fewer (λ o. before p (place o)) (leaves_from p.tid.0 (leaf + 1) bs) in
+        let few : length (filter (λ o. before p (place o)) (leaves_from p.tid.0 (leaf + 1) bs)) ≤ length
+        (leaves_from p.tid.0 (leaf + 1) bs) = filter_fewer (λ o. before p (place o))
+        (leaves_from p.tid.0 (leaf + 1) bs) in
         let all : length (leaves_from p.tid.0 (leaf + 1) bs) ≡ length bs = leaves_all p.tid.0 (leaf + 1) bs in
         omega (arith, is, few, all, long)
 
@@ -157,7 +163,9 @@ few_behind p [] e high up own within =
     let f : PlainOffer → Bool = λ o. before p (place o) in
     let mine = leaves_from e.thread 0 (bases e.group) in
     let here : mine ≡ leaves_from p.tid.0 0 (bases e.group) = ap (λ t. leaves_from t 0 (bases e.group)) (sym own) in
-    let parts : length (filter f (mine ++ offers_of high)) ≡ length (filter f mine) + length (filter f (offers_of high)) = ap length (filter-append f mine (offers_of high)) ∙ length-append (filter f mine) (filter f (offers_of high)) in
+    let parts : length (filter f (mine ++ offers_of high))
+    ≡ length (filter f mine) + length (filter f (offers_of high)) = ap length
+    (filter-append f mine (offers_of high)) ∙ length-append (filter f mine) (filter f (offers_of high)) in
     let whole : length (mine ++ offers_of high) ≡ length mine + length (offers_of high) = length-append mine (offers_of high) in
     let later : length (filter f (offers_of high)) ≤ length (offers_of high) = filter_fewer f (offers_of high) in
     let counted : length (filter f mine) ≡ length (filter f (leaves_from p.tid.0 0 (bases e.group))) = ap (λ os. length (filter f os)) here in

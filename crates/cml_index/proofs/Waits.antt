@@ -66,7 +66,9 @@ waits_lit told [] = refl
 waits_lit told (b ∷ bs) = at (lit_by told b) (lit_wait told (leaf_wait b)) (lit_is told b) (waits_lit told bs)
   where
     at : (x y : Bool) → x ≡ y → length (filter (lit_wait told) (map leaf_wait bs)) ≡ length (filter (lit_by told) bs)
-        → length (cond y (leaf_wait b ∷ filter (lit_wait told) (map leaf_wait bs)) (filter (lit_wait told) (map leaf_wait bs))) ≡ length (cond x (b ∷ filter (lit_by told) bs) (filter (lit_by told) bs))
+        → length (cond y (leaf_wait b ∷ filter (lit_wait told) (map leaf_wait bs))
+        (filter (lit_wait told) (map leaf_wait bs)))
+        ≡ length (cond x (b ∷ filter (lit_by told) bs) (filter (lit_by told) bs))
     at true true e h = ap suc h
     at false false e h = h
     at true false e h = cc
@@ -149,7 +151,9 @@ abbrev pub rows_there : (Light → Bool) → List PlainOffer → Place → Optio
 rows_there told os p None = []
 rows_there told os p (Some w) = rows_wait told os p w
 
-pub found_there : (told : Light → Bool) (es : List PlainEntry) (p : Place) → IsSorted es → partners_of (scan_of es told) p ≡ rows_there told (offers_of es) p (option_map leaf_wait (base_at p (offers_of es)))
+pub found_there : (told : Light → Bool) (es : List PlainEntry) (p : Place) → IsSorted es
+    → partners_of (scan_of es told) p ≡ rows_there told (offers_of es) p
+    (option_map leaf_wait (base_at p (offers_of es)))
 found_there told es p up = at (base_at p (offers_of es)) refl
   where
     at : (o : Option PlainBase) → base_at p (offers_of es) ≡ o → partners_of (scan_of es told) p ≡ rows_there told (offers_of es) p (option_map leaf_wait o)
@@ -157,8 +161,14 @@ found_there told es p up = at (base_at p (offers_of es)) refl
     at (Some b) e = found_rows told es p b up e ∙ rows_waits told (offers_of es) p b
 
 -- one leaf more of those that pass a test
-pub one_leaf : (f : PlainOffer → Bool) (thread leaf : ℕ) (bs : List PlainBase) (b : PlainBase) (v : Bool) → drop leaf bs ≡ b ∷ drop (leaf + 1) bs → f (record { thread = thread; leaf = leaf; base = b }) ≡ v
-    → filter f (leaves_from thread leaf (drop leaf bs)) ≡ cond v (record { thread = thread; leaf = leaf; base = b } ∷ filter f (leaves_from thread (leaf + 1) (drop (leaf + 1) bs))) (filter f (leaves_from thread (leaf + 1) (drop (leaf + 1) bs)))
+pub one_leaf : (f : PlainOffer → Bool) (thread leaf : ℕ) (bs : List PlainBase) (b : PlainBase) (v : Bool) → drop leaf bs
+    ≡ b ∷ drop (leaf + 1) bs → f (record { thread = thread; leaf = leaf; base = b }) ≡ v
+    → filter f (leaves_from thread leaf (drop leaf bs))
+    ≡ cond v (record { thread = thread; leaf = leaf; base = b }
+    ∷ filter f (leaves_from thread (leaf + 1) (drop (leaf + 1) bs)))
+    (filter f (leaves_from thread (leaf + 1) (drop (leaf + 1) bs)))
 one_leaf f thread leaf bs b v split is =
     ap (λ xs. filter f (leaves_from thread leaf xs)) split
-    ∙ ap (λ r. cond r (record { thread = thread; leaf = leaf; base = b } ∷ filter f (leaves_from thread (leaf + 1) (drop (leaf + 1) bs))) (filter f (leaves_from thread (leaf + 1) (drop (leaf + 1) bs)))) is
+    ∙ ap (λ r. cond r (record { thread = thread; leaf = leaf; base = b }
+    ∷ filter f (leaves_from thread (leaf + 1) (drop (leaf + 1) bs)))
+    (filter f (leaves_from thread (leaf + 1) (drop (leaf + 1) bs)))) is

@@ -1,5 +1,38 @@
 -- One leaf after another.
-use Rattle.std.proofs.Common.{◌≡◌, ℕ, zero, suc, ◌<◌, ◌≤◌, ◌+◌, Bool, true, false, not, ◌||◌, nat_eq, nat_lt, cond, List, [], ◌∷◌, ◌++◌, map, drop, take, get_or, length, Option, refl, ap, sym, subst, ◌∙◌, arith, add-one}
+use Rattle.std.proofs.Common.{
+  ◌≡◌,
+  ℕ,
+  zero,
+  suc,
+  ◌<◌,
+  ◌≤◌,
+  ◌+◌,
+  Bool,
+  true,
+  false,
+  not,
+  ◌||◌,
+  nat_eq,
+  nat_lt,
+  cond,
+  List,
+  [],
+  ◌∷◌,
+  ◌++◌,
+  map,
+  drop,
+  take,
+  get_or,
+  length,
+  Option,
+  refl,
+  ap,
+  sym,
+  subst,
+  ◌∙◌,
+  arith,
+  add-one,
+}
 use Rattle.std.specs.Bool.{beq}
 use Rattle.std.specs.List.{filter, list_any}
 use Rattle.std.proofs.lemmas.Bool.{and_parts}
@@ -61,7 +94,9 @@ waits_left ws i s d lt e = rw add-one (rest ws i lt e)
     rest (x ∷ ws) (suc i) lt e = rest ws i (omega arith) e
 
 -- the test of one more leaf
-pub waits_more : (p : Option Slot → Bool) (ws : List Wait) (i : ℕ) (s : Option Slot) (d : Wait) → i < length ws → s ≡ slot_in (get_or ws i d) → list_any p (take (i + 1) (map slot_in ws)) ≡ (list_any p (take i (map slot_in ws)) || p s)
+pub waits_more : (p : Option Slot → Bool) (ws : List Wait) (i : ℕ) (s : Option Slot) (d : Wait) → i < length ws → s
+    ≡ slot_in (get_or ws i d) → list_any p (take (i + 1) (map slot_in ws))
+    ≡ (list_any p (take i (map slot_in ws)) || p s)
 waits_more p ws i s d lt e =
     list_any_more p (map slot_in ws) i (slot_in d) (rw length-map lt) ∙ ap (λ x. list_any p (take i (map slot_in ws)) || p x) (at ws i lt ∙ sym e)
   where
@@ -87,6 +122,23 @@ waits_any p (x ∷ ws) (suc i) s d lt e is = ap (λ b. p (slot_in x) || b) (wait
     or_true true = refl
     or_true false = refl
 
+-- a search among the leaves for one that passes: one more does not, this one does, or none does
+pub any_next : (p : Option Slot → Bool) (ws : List Wait) (i : ℕ) (r : Bool) (d : Wait) → i < length ws → r
+    ≡ p (slot_in (get_or ws i d)) → list_any p (take i (map slot_in ws)) ≡ false → r ≡ false
+    → list_any p (take (i + 1) (map slot_in ws)) ≡ false
+any_next p ws i r d lt is none off = waits_more p ws i (slot_in (get_or ws i d)) d lt refl ∙ both (list_any p (take i (map slot_in ws))) (p (slot_in (get_or ws i d))) none (sym is ∙ off)
+  where
+    both : (a b : Bool) → a ≡ false → b ≡ false → a || b ≡ false
+    both false false e f = refl
+    both true b e f = cc
+    both false true e f = cc
+
+pub any_found : (p : Option Slot → Bool) (ws : List Wait) (i : ℕ) (r : Bool) (d : Wait) → i < length ws → r ≡ p (slot_in (get_or ws i d)) → r ≡ true → true ≡ list_any p (map slot_in ws)
+any_found p ws i r d lt is on = sym (waits_any p ws i (slot_in (get_or ws i d)) d lt refl (sym is ∙ on))
+
+pub any_none : (p : Option Slot → Bool) (ws : List Wait) (i : ℕ) → length ws ≤ i → list_any p (take i (map slot_in ws)) ≡ false → false ≡ list_any p (map slot_in ws)
+any_none p ws i past none = sym none ∙ ap (list_any p) (waits_all ws i past)
+
 -- the leaves in a slot from one on are that one, if it stands there, and the later ones
 pub leaves_left : (k : Slot) (ws : List Wait) (i : ℕ) (s : Option Slot) (d : Wait) → i < length ws → s ≡ slot_in (get_or ws i d)
     → slot_leaves k i (drop i (map slot_in ws)) ≡ cond (is_slot k s) (i ∷ slot_leaves k (i + 1) (drop (i + 1) (map slot_in ws))) (slot_leaves k (i + 1) (drop (i + 1) (map slot_in ws)))
@@ -94,7 +146,9 @@ leaves_left k ws i s d lt e = ap (slot_leaves k i) (waits_left ws i s d lt e)
 
 pub leaves_left_by : (k : Slot) (ws : List Wait) (i : ℕ) (b : Bool) (d : Wait) → i < length ws → b ≡ is_slot k (slot_in (get_or ws i d))
     → slot_leaves k i (drop i (map slot_in ws)) ≡ cond b (i ∷ slot_leaves k (i + 1) (drop (i + 1) (map slot_in ws))) (slot_leaves k (i + 1) (drop (i + 1) (map slot_in ws)))
-leaves_left_by k ws i b d lt e = leaves_left k ws i (slot_in (get_or ws i d)) d lt refl ∙ ap (λ c. cond c (i ∷ slot_leaves k (i + 1) (drop (i + 1) (map slot_in ws))) (slot_leaves k (i + 1) (drop (i + 1) (map slot_in ws)))) (sym e)
+leaves_left_by k ws i b d lt e = leaves_left k ws i (slot_in (get_or ws i d)) d lt refl
+    ∙ ap (λ c. cond c (i ∷ slot_leaves k (i + 1) (drop (i + 1) (map slot_in ws)))
+    (slot_leaves k (i + 1) (drop (i + 1) (map slot_in ws)))) (sym e)
 
 -- a slot in which no leaf stands has no leaves
 pub no_leaves : (k : Slot) (leaf : ℕ) (ss : List (Option Slot)) → has_slot k ss ≡ false → slot_leaves k leaf ss ≡ []
@@ -146,7 +200,8 @@ low_others tid (p ∷ ps) up away = at (nat_lt p.tid.0 tid.0) (nat_lt tid.0 p.ti
     other a t e f g = grind (arith, nat_tests)
 
     at : (l h : Bool) → nat_lt p.tid.0 tid.0 ≡ l → nat_lt tid.0 p.tid.0 ≡ h → filter (λ q. nat_lt q.tid.0 tid.0) ps ++ filter (λ q. nat_lt tid.0 q.tid.0) ps ≡ ps
-        → cond l (p ∷ filter (λ q. nat_lt q.tid.0 tid.0) ps) (filter (λ q. nat_lt q.tid.0 tid.0) ps) ++ cond h (p ∷ filter (λ q. nat_lt tid.0 q.tid.0) ps) (filter (λ q. nat_lt tid.0 q.tid.0) ps) ≡ p ∷ ps
+        → cond l (p ∷ filter (λ q. nat_lt q.tid.0 tid.0) ps) (filter (λ q. nat_lt q.tid.0 tid.0) ps)
+        ++ cond h (p ∷ filter (λ q. nat_lt tid.0 q.tid.0) ps) (filter (λ q. nat_lt tid.0 q.tid.0) ps) ≡ p ∷ ps
     at true true e f h = absurd (one p.tid.0 tid.0 away.0 e f)
     at true false e f h = ap (λ qs. p ∷ qs) h
     at false true e f h =
@@ -164,7 +219,9 @@ pub others_all : (tid : Tid) (ps : List Place) → length (filter (is_own tid) p
 others_all tid [] e = refl
 others_all tid (p ∷ ps) e = at (is_own tid p) e (others_all tid ps)
   where
-    at : (b : Bool) → length (cond b (p ∷ filter (is_own tid) ps) (filter (is_own tid) ps)) ≡ 0 → (length (filter (is_own tid) ps) ≡ 0 → others tid ps ≡ ps) → cond (not b) (p ∷ others tid ps) (others tid ps) ≡ p ∷ ps
+    at : (b : Bool) → length (cond b (p ∷ filter (is_own tid) ps) (filter (is_own tid) ps)) ≡ 0
+        → (length (filter (is_own tid) ps) ≡ 0 → others tid ps ≡ ps) → cond (not b) (p ∷ others tid ps) (others tid ps)
+        ≡ p ∷ ps
     at true e h = absurd (omega (arith, e))
     at false e h = ap (λ qs. p ∷ qs) (h e)
 

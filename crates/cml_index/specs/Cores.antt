@@ -16,7 +16,7 @@ use Rattle.cml_index.specs.Posts.{PlainIndex, KeepsPlaces, slot_of, is_named, sl
 
 -- all that a core keeps fits its entries
 abbrev pub IsIndexed : IndexState → Type 0
-IsIndexed c = posts.AreIndexed c.entries.items c.lanes c.live c.flags.entries c.leaves c.lit
+IsIndexed c = posts.AreIndexed c.entries.items c.lanes c.live c.flags.entries c.leaves c.crossing c.lit
 
 -- no leaf is to come
 abbrev pub IsAtRest : IndexState → Type 0

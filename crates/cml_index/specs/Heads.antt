@@ -1,5 +1,5 @@
 -- The leaves that begin a row, and what a search among some leaves returns.
-use Rattle.std.specs.Prelude.{ℕ, ◌≡◌, ◌+◌, ◌*◌, ◌<◌, ◌≤◌, Bool, true, List, Option, Some, None, map, filter, length, slice_get}
+use Rattle.std.specs.Prelude.{ℕ, ◌≡◌, ◌+◌, ◌*◌, ◌<◌, ◌≤◌, Bool, true, List, [], ◌∷◌, Option, Some, None, map, filter, length, slice_get}
 use Rattle.std.specs.List.{list_any}
 use Rattle.cml_value.specs.declared.number.Tid.{Tid}
 use Rattle.cml_channel.specs.Lanes.{is_others, is_of}
@@ -60,6 +60,11 @@ met_among meets others heads = filter (λ q. list_any (is_of (meets q.tid)) othe
 -- the leaves that can stand first on the object and have a partner there
 abbrev pub heads_on : List PlainOffer → PairedId → List Place
 heads_on os n = met_among (partner_threads n.kind) (lane_of slot_of (met_lane n) os) (lane_of slot_of (Side true n) os)
+
+-- how many leaves on these objects do
+abbrev pub head_total : List PlainOffer → List PairedId → ℕ
+head_total os [] = 0
+head_total os (n ∷ ns) = length (heads_on os n) + head_total os ns
 
 -- The place is the one of this number among those that were sought, and at most three looks were made for each of the lane that is not
 -- after it. The last two are the looks before the search and after it.

@@ -1,12 +1,13 @@
 pub mod Slot
-pub mod SlotLaws
 pub mod Numbers
+pub mod HeadCounts
 pub mod Stands
 pub mod Slots
 pub mod Live
 pub mod Seats
 pub mod Posts
 pub mod Told
+pub mod Crossing
 pub mod Heads
 pub mod Waits
 pub mod Cores

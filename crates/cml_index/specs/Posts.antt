@@ -1,12 +1,13 @@
 -- What the index keeps: the pending threads with their groups, and what it was told of lights.
-use Rattle.std.specs.Prelude.{ℕ, ◌≡◌, ◌++◌, ◌<◌, ◌^◌, Bool, true, false, if◌then◌else◌, List, [], ◌∷◌, Option, Some, None, Result, OnOk, OnErr, filter, length, is_some}
+use Rattle.std.specs.Prelude.{ℕ, ◌≡◌, ◌++◌, ◌<◌, ◌^◌, Bool, true, false, if◌then◌else◌, List, [], ◌∷◌, Option, Some, None, Result, OnOk, OnErr, filter, length, map, is_some}
 use Rattle.std.specs.Option.{option_map_or}
 use Rattle.std.specs.Map.{lookup}
 use Rattle.std.specs.Coded.{Coded, code_by, coded×, coded_list, coded_bool}
 use Rattle.std.specs.Prelude.{refl}
 use Rattle.cml_index.specs.declared.lanes.Lanes.{Lanes}
 use Rattle.cml_index.specs.declared.live.Live.{Live}
-use Rattle.cml_index.specs.Live.{AreLive}
+use Rattle.cml_index.specs.Live.{AreLive, AreCounted}
+use Rattle.cml_index.specs.Crossing.{crosses}
 use base.Stored.{Gv, gnum, gcons}
 use Rattle.cml_value.specs.Value.{PlainBase}
 use Rattle.cml_value.specs.Group.{PlainGroup, bases, scopes, nacks_of}
@@ -53,6 +54,10 @@ pub record PlainIndex : Type 0 where
 abbrev pub lit_offers : List (Slot × Bool) → List PlainEntry → List PlainOffer
 lit_offers flags entries = filter (λ o. lit_by (told flags) o.base) (offers_of entries)
 
+-- the thread's leaves may stand on both sides of one channel
+abbrev pub is_crosser : PlainEntry → Bool
+is_crosser e = crosses (map slot_of (bases e.group))
+
 -- the nacks of the scopes in these groups
 abbrev pub nacks_in : List PlainEntry → List ℕ
 nacks_in entries = flat_map (λ e. nacks_of (scopes e.group)) entries
@@ -92,14 +97,17 @@ pub record HasTold {A E : Type 0} (result : Result A E) (pending : List PlainEnt
 abbrev pub slot_of_nack : ℕ → Slot
 slot_of_nack k = Waiters (Nack (record { 0 = k }))
 
--- The threads ascend; each lane has the offers that stand in it; the objects are there on which two offers may meet; all leaves, and those that can be taken alone, are counted; no leaf is to go; and each
--- nack that can fire with a pending group has its place among the lights.
-pub record AreIndexed (entries : List PlainEntry) (lanes : Lanes) (live : Live) (flags : List (Slot × Bool)) (leaves lit : ℕ) : Type 0 where
+-- The threads ascend; each lane has the offers that stand in it; the objects are there on which two offers may meet, with how many can
+-- stand first on each channel; all leaves, those that can be taken alone, and the threads that may stand on both sides of one channel are
+-- counted; no leaf is to go; and each nack that can fire with a pending group has its place among the lights.
+pub record AreIndexed (entries : List PlainEntry) (lanes : Lanes) (live : Live) (flags : List (Slot × Bool)) (leaves crossing lit : ℕ) : Type 0 where
   pub sorted : IsSorted entries
   pub placed : AreLanes slot_of lanes (offers_of entries)
   pub sides : AreLive lanes live
+  pub counted : AreCounted lanes live
   pub still : (k : Slot) → going_at lanes k ≡ 0
   pub all : leaves ≡ length (offers_of entries)
+  pub cross : crossing ≡ length (filter is_crosser entries)
   pub alone : lit ≡ length (lit_offers flags entries)
   pub named : Every (λ k. is_named flags (slot_of_nack k)) (nacks_in entries)
 

@@ -1,10 +1,8 @@
 -- The lane in which an offer stands, and the lane of those whom it meets.
-use Rattle.std.specs.Prelude.{Bool, ◌+◌, ◌*◌, if◌then◌else◌, Option, Some, None, option_map}
-use Rattle.std.specs.Hash as fed
+use Rattle.std.specs.Prelude.{Bool, if◌then◌else◌, Option, Some, None, option_map}
 use Rattle.cml_value.specs.Value.{PlainBase}
 use Rattle.cml_value.specs.declared.number.Tid.{Tid}
 use Rattle.cml_scan.specs.Light.{light}
-use Rattle.cml_scan.specs.contracts.object.LightHash.TheImpl as of_light
 use Rattle.cml_channel.specs.declared.lane.PartnerThreads.{PartnerThreads}
 use Rattle.cml_channel.specs.declared.pairing.PairedId.{PairedId}
 use Rattle.cml_channel.specs.declared.pairing.SidePlace.{SidePlace}
@@ -16,11 +14,6 @@ use Rattle.cml_index.specs.contracts.slot.SlotPartialEq.TheImpl as derived
 -- the two lanes are the same: they are the same side of the same object, or wait for the same light
 abbrev pub same_slot : Slot → Slot → Bool
 same_slot = derived.ghosts.eq
-
--- what a hasher is told of a lane: of a side one number, of a light what its own type tells
-abbrev pub slot_writes : Slot → fed.HashWrites
-slot_writes (Side heads object) = fed.u64 (object.number * 2 + (if heads then 1 else 0))
-slot_writes (Waiters light) = of_light.ghosts.hash_input light
 
 abbrev pub slot_by : Option SidePlace → PlainBase → Option Slot
 slot_by (Some side) b = Some (Side side.heads side.object)

@@ -20,6 +20,7 @@ use std::alloc::{AllocError, Global};
 
 impl IndexState {
     // Tells of all these lights that they are lit, or that they are not. It takes no memory.
+    #[inline(always)]
     fn tell_all(&mut self, lights: &[Light], lit: bool, tally: &mut Tally)
         requires indexed { IsIndexed self.old }
         requires there { lit ≡ true → spec.HavePlaces self.old.flags.entries lights.now }
@@ -55,6 +56,7 @@ impl IndexState {
 
     // Forgets a light that was told to be unlit, if it is that of a tick. (There is no end of ticks, so they are not kept.) Its place goes,
     // and its lane too if nobody stands in it.
+    #[inline(never)]
     fn forget(&mut self, light: Light)
         requires indexed { IsIndexed self.old }
         requires idle { IsAtRest self.old }
@@ -73,6 +75,7 @@ impl IndexState {
     }
 
     // Forgets the ticks among these lights, which were told to be unlit.
+    #[inline(always)]
     fn forget_all(&mut self, lights: &[Light])
         requires indexed { IsIndexed self.old }
         requires idle { IsAtRest self.old }

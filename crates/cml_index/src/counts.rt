@@ -1,6 +1,6 @@
 //! How many leaves have a partner, object by object.
 
-ghost use Rattle.std.specs.Prelude.{◌≡◌, ◌≤◌, ◌<◌, ◌+◌, ◌*◌, true, false, length, filter, slice_get, Some};
+ghost use Rattle.std.specs.Prelude.{◌≡◌, ◌≤◌, ◌<◌, ◌+◌, ◌*◌, true, false, length, filter, drop, slice_get, Some};
 ghost use Rattle.std.specs.List.{list_any};
 ghost use Rattle.cml_scan.specs.declared.meet.Place.{Place};
 ghost use Rattle.cml_scan.specs.Order.{Ascends, before};
@@ -10,7 +10,8 @@ ghost use Rattle.cml_channel.specs.declared.lane.PartnerThreads.TheVariants.{Oth
 ghost use Rattle.cml_index.specs.declared.heads.HeadKind.TheVariants.{Met};
 ghost use Rattle.cml_index.specs.declared.slot.Slot.TheVariants.{Side};
 ghost use Rattle.cml_index.specs.Slots.{lane_at};
-ghost use Rattle.cml_index.specs.Heads.{is_sought, is_beside, met_among, heads_on};
+ghost use Rattle.cml_index.specs.Heads.{is_sought, is_beside, met_among, heads_on, head_total};
+ghost use Rattle.cml_index.specs.Live.{objects};
 ghost use Rattle.cml_index.specs.Posts as spec;
 ghost use Rattle.cml_index.specs.Cores.{IsIndexed};
 
@@ -66,7 +67,7 @@ fn count_beside(core: &IndexState, heads: &Lane, slot: Slot, tally: &mut Tally) 
     }
 }
 
-// How many offers on a swap channel are heads: the lane also has an offer of a higher thread. One look at the last, and a search.
+// How many offers on a swap channel are heads. (An offer is one if a higher thread has one there too.) One look at the last, and a search.
 fn count_below(lane: &Lane, tally: &mut Tally) -> usize
     requires { Ascends before lane.now.places }
     ensures count { result ≡ length (met_among Above lane.now.places lane.now.places) }
@@ -80,7 +81,7 @@ fn count_below(lane: &Lane, tally: &mut Tally) -> usize
     lane.below_count(last.tid, tally)
 }
 
-// How many leaves on the object have a partner that they head.
+// How many leaves on the object begin a row of two.
 fn count_on(core: &IndexState, object: PairedId, tally: &mut Tally) -> usize
     requires { IsIndexed core.now }
     ensures count { result ≡ length (heads_on (offers_of core.now.entries.items) object) }
@@ -108,7 +109,25 @@ fn count_on(core: &IndexState, object: PairedId, tally: &mut Tally) -> usize
     }
 }
 
-// How many leaves have a partner.
+// How many leaves begin a row of two, as far as that is known without going through objects; and the place in the list of live objects from
+// which on they are gone through for the rest. Where no thread may stand on both sides of one channel, each offer that can stand first on a
+// live channel begins one, and how many these are is kept; the channels come first in the list.
+fn kept_count(core: &IndexState) -> (usize, usize)
+    requires { IsIndexed core.now }
+    ensures { result.0 + head_total (offers_of core.now.entries.items) (drop result.1 (objects core.now.live))
+        ≡ head_total (offers_of core.now.entries.items) (objects core.now.live) }
+{
+    // No effect: named here so that the prover knows what holds of them.
+    let (_leaves, _live) = (core.leaves, core.live.len());
+    let crossing = core.crossing;
+    if crossing == 0 {
+        (core.live.head_sum(), core.live.channel_len())
+    } else {
+        (0, 0)
+    }
+}
+
+// How many leaves begin a row of two.
 pub(crate) fn count_met(core: &IndexState, tally: &mut Tally) -> usize
     requires { IsIndexed core.now }
     ensures count { result
@@ -116,10 +135,10 @@ pub(crate) fn count_met(core: &IndexState, tally: &mut Tally) -> usize
         (offers_of core.now.entries.items)) }
     ensures cost { tally.new ≤ tally.old + 3 * length (offers_of core.now.entries.items) }
 {
-    // Read for the proof alone, which uses what is promised of it.
+    // No effect: named here so that the prover knows what holds of it.
     let _leaves = core.leaves;
-    let mut count = 0;
-    for i in 0..core.live.len() {
+    let (mut count, first) = kept_count(core);
+    for i in first..core.live.len() {
         count += count_on(core, core.live.at(i), tally);
     }
     count

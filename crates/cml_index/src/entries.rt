@@ -91,7 +91,7 @@ impl Entries {
     pub(crate) fn seats(&self) -> &[Seat]
         ensures { spec.seated result.now ≡ self.now.items }
     {
-        // Read for the proof alone, which uses what is promised of it.
+        // No effect: named here so that the prover knows what holds of it.
         let _pending = self.pending;
         self.seats.as_slice()
     }
@@ -100,7 +100,7 @@ impl Entries {
     pub(crate) fn get(&self, tid: Tid) -> Option<&Entry>
         ensures { spec.IsEntryOf tid self.now.items result }
     {
-        // Read for the proof alone, which uses what is promised of it.
+        // No effect: named here so that the prover knows what holds of it.
         let _pending = self.pending;
         let at = seats_below(&self.seats, tid);
         if at >= self.seats.len() {

@@ -26,6 +26,7 @@ struct PendingThread {
 // A pending thread, with its group. It is 8 bytes long, since all entries after it are moved when one comes or goes.
 #[derive(Drop)]
 pub(crate) struct Entry {
+    // the thread, with its group and what its leaves wait for
     post: Box<PendingThread>,
 }
 
@@ -46,10 +47,10 @@ impl Model for Entry {
         × (e.post.value.nacks.items ≡ nacks_of (scopes e.post.value.group)) };
 }
 
-// How long the lists of an entry are at most that is kept for another thread.
+// An entry is kept for another thread only if its lists have room for at most this many.
 const SHORT: usize = 256;
 
-// How many leaves there are, as the number of a leaf. There is no memory for a list in which the number is too large for one.
+// The count as a u32, as leaves are numbered. A count of 2^32 or more is told as out of memory.
 fn number(count: usize) -> Result<u32, AllocError>
     ensures { IfOk result (λ n. (n ≡ count) × (count < 2 ^ 32)) }
 {
@@ -120,15 +121,17 @@ impl Entry {
     pub(crate) fn renew(&mut self, tid: Tid, group: &Group) -> Result<(), AllocError>
         ensures { IfOk result (λ _. self.new ≡ record { thread = tid.0; group = group.now }) }
     {
-        self.rest();
         let post = &mut *self.post;
         post.tid = tid;
+        post.waits.clear();
+        post.nacks.clear();
         match renewed(&mut post.waits, &mut post.nacks, group) {
             Ok(copy) => {
                 drop(replace(&mut post.group, copy));
                 Ok(())
             }
             Err(error) => {
+                drop(replace(&mut post.group, Group::new(GroupKind::Never)));
                 post.waits.clear();
                 post.nacks.clear();
                 Err(error)
@@ -136,8 +139,8 @@ impl Entry {
         }
     }
 
-    // Whether its lists have no room for more than this many leaves and nacks. Those of a large group would hold their memory while no
-    // thread has one.
+    // Whether its lists have room for at most `SHORT` leaves and as many nacks. Longer lists would hold memory that no
+    // thread needs.
     pub(crate) fn is_short(&self) -> bool {
         self.post.waits.capacity() <= SHORT && self.post.nacks.capacity() <= SHORT
     }
@@ -163,7 +166,7 @@ impl Entry {
         requires { leaf < length (bases self.now.group) }
         ensures { result ≡ record { tid = record { 0 = self.now.thread }; leaf = leaf } }
     {
-        // Read for the proof alone, which uses what is promised of it.
+        // No effect: named here so that the prover knows what holds of it.
         let _waits = &self.post.waits;
         Place {
             tid: self.post.tid,

@@ -50,19 +50,21 @@ pub(crate) fn is_lit(flags: &Flags, light: Light) -> bool
     flags.told.is_lit(light)
 }
 
-// Whether a leaf that waits for this can be taken alone: one light is examined.
+// Whether a leaf that waits for this can be taken alone: the light is examined, where it waits for one.
 #[inline(always)]
 pub(crate) fn is_lit_by(flags: &Flags, wait: Wait, tally: &mut Tally) -> bool
     ensures value { result ≡ lit_wait (spec.told flags.now.entries) wait }
     ensures cost { tally.new ≤ tally.old + 1 }
 {
-    tally.add();
     match wait {
         Wait::Always => true,
         Wait::Never => false,
         Wait::In(slot) => match slot {
             Slot::Side { .. } => false,
-            Slot::Waiters(light) => is_lit(flags, light),
+            Slot::Waiters(light) => {
+                tally.add();
+                is_lit(flags, light)
+            }
         },
     }
 }

@@ -163,7 +163,7 @@ pub(crate) fn head_count(core: &IndexState, tally: &mut Tally) -> usize
         (scan_of core.now.entries.items (spec.told core.now.flags.entries))) }
     ensures cost { tally.new ≤ tally.old + 3 * length (offers_of core.now.entries.items) }
 {
-    // Read for the proof alone, which uses what is promised of it.
+    // No effect: named here so that the prover knows what holds of it.
     let _leaves = core.leaves;
     core.lit + count_met(core, tally)
 }

@@ -57,6 +57,7 @@ impl OfferIndex {
                 flags,
                 leaves: 0,
                 lit: 0,
+                crossing: 0,
                 spares: Vec::new(alloc),
             },
         }
@@ -128,7 +129,7 @@ impl OfferIndex {
             ≡ has_row (scan_of self.now.entries (spec.told self.now.flags)) row.now }
         ensures cost { tally.new ≤ tally.old + 2 }
     {
-        // Read for the proof alone, which uses what is promised of it.
+        // No effect: named here so that the prover knows what holds of it.
         let _ = &self.core;
         match *row {
             Meet::Single { tid, leaf } => self.is_lit_at(Place { tid, leaf }, tally),

@@ -80,7 +80,21 @@ impl Lanes {
     }
 
     // The lanes of one kind, to change them.
+    #[inline(always)]
     fn row_mut(&mut self, row: LaneKind) -> &mut Vec<LaneState>
+        ensures* writes_back { sem 𝓛 (LendsRow self.entry row result) }
+        ensures value { result.now ≡ stands.lanes_in self.old row }
+    {
+        match row {
+            LaneKind::Senders => &mut self.senders,
+            LaneKind::Receivers => &mut self.receivers,
+            _ => self.other_row_mut(row),
+        }
+    }
+
+    // The same, in a function of its own, since most are those of channels.
+    #[inline(never)]
+    fn other_row_mut(&mut self, row: LaneKind) -> &mut Vec<LaneState>
         ensures* writes_back { sem 𝓛 (LendsRow self.entry row result) }
         ensures value { result.now ≡ stands.lanes_in self.old row }
     {

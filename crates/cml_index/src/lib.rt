@@ -3,9 +3,11 @@
 
 mod change;
 mod counts;
+mod crossing;
 mod entries;
 mod entry;
 mod flags;
+mod head_counts;
 mod heads;
 mod index;
 mod lanes;

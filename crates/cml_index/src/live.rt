@@ -1,23 +1,24 @@
 //! The objects on which two offers may meet: with offers on both sides, or with two where all sides are alike.
 
-ghost use Rattle.std.specs.Prelude.{◌≡◌, ◌≤◌, ◌<◌, ◌&&◌, ◌||◌, [], true, false, length, map, slice_get, Some, OnOk};
+ghost use Rattle.std.specs.Prelude.{◌≡◌, ◌≤◌, ◌<◌, ◌^◌, ◌&&◌, ◌||◌, [], true, false, length, map, slice_get, Some, OnOk};
 ghost use Rattle.std.specs.List.{IsDistinct};
-ghost use Rattle.cml_channel.specs.Pairings.{same_object};
+ghost use Rattle.cml_channel.specs.Pairings.{same_object, one_lane};
 ghost use Rattle.cml_channel.specs.declared.pairing.PairedId.{PairedId};
 ghost use Rattle.cml_index.specs.declared.slot.Slot.{Slot};
 ghost use Rattle.cml_index.specs.Slots.{slot_in};
 ghost use Rattle.cml_index.specs.Live as spec;
 
+use crate::head_counts::HeadCounts;
 use crate::lanes::Lanes;
 use crate::numbers::Numbers;
 use crate::slot::{Slot, Wait};
 use cml_channel::{PairedId, PairedKind};
 use std::alloc::{AllocError, Global};
 
-// These objects, by their numbers.
+// These objects, by their numbers; of each channel it is kept how many offers can stand first there.
 #[derive(Drop)]
 pub(crate) struct Live {
-    pub(crate) channels: Numbers,
+    pub(crate) channels: HeadCounts,
     pub(crate) swaps: Numbers,
 }
 
@@ -39,13 +40,23 @@ fn is_live(lanes: &Lanes, object: PairedId) -> bool
     0 < heads && 0 < lanes.len(others)
 }
 
+// How many offers can stand first on the object.
+fn head_len(lanes: &Lanes, object: PairedId) -> usize
+    ensures { result ≡ spec.heads_at lanes.now object }
+{
+    lanes.len(Slot::Side {
+        heads: true,
+        object,
+    })
+}
+
 impl Live {
     // There is none.
     pub(crate) fn new(alloc: Global) -> Live
         ensures { spec.objects result ≡ [] }
     {
         Live {
-            channels: Numbers::new(alloc),
+            channels: HeadCounts::new(alloc),
             swaps: Numbers::new(alloc),
         }
     }
@@ -56,6 +67,21 @@ impl Live {
         ensures once { IsDistinct same_object (spec.objects self.now) }
     {
         self.channels.len() + self.swaps.len()
+    }
+
+    // How many of them are channels, which come first.
+    pub(crate) fn channel_len(&self) -> usize
+        ensures { result ≡ length self.now.channels.items }
+    {
+        self.channels.len()
+    }
+
+    // How many offers can stand first on the channels among them.
+    pub(crate) fn head_sum(&self) -> usize
+        requires { spec.kept_heads self.now < 2 ^ 64 }
+        ensures { result ≡ spec.kept_heads self.now }
+    {
+        self.channels.sum()
     }
 
     // The object at this place among them.
@@ -78,7 +104,8 @@ impl Live {
 
     // Whether the object is in.
     fn has(&self, object: PairedId) -> bool
-        ensures { result ≡ spec.is_in self.now object }
+        ensures value { result ≡ spec.is_in self.now object }
+        ensures placed { result ≡ true → spec.HasPlace self.now object }
     {
         match object.kind {
             PairedKind::Channel => self.channels.has(object.number),
@@ -102,6 +129,8 @@ impl Live {
         ensures here { spec.is_in self.new object ≡ false }
         ensures elsewhere { (n : PairedId) → same_object object n ≡ false →
             spec.is_in self.new n ≡ spec.is_in self.old n }
+        ensures beside { (n : PairedId) → same_object object n ≡ false →
+            spec.count_at self.new n ≡ spec.count_at self.old n }
         ensures places { (n : PairedId) → spec.HasPlace self.old n → spec.HasPlace self.new n }
     {
         match object.kind {
@@ -110,44 +139,57 @@ impl Live {
         }
     }
 
-    // Puts the object in; its place is reserved.
-    fn put_in(&mut self, object: PairedId)
+    // Puts the object in, on which this many offers can stand first; its place is reserved.
+    fn put_in(&mut self, object: PairedId, heads: usize)
         requires { spec.HasPlace self.old object }
         ensures here { spec.is_in self.new object ≡ true }
         ensures elsewhere { (n : PairedId) → same_object object n ≡ false →
             spec.is_in self.new n ≡ spec.is_in self.old n }
+        ensures heads { one_lane object.kind ≡ false → spec.count_at self.new object ≡ heads }
+        ensures beside { (n : PairedId) → same_object object n ≡ false →
+            spec.count_at self.new n ≡ spec.count_at self.old n }
         ensures places { (n : PairedId) → spec.HasPlace self.old n → spec.HasPlace self.new n }
     {
         match object.kind {
-            PairedKind::Channel => self.channels.put(object.number),
+            PairedKind::Channel => self.channels.put(object.number, heads),
             PairedKind::Swap => self.swaps.put(object.number),
         }
     }
 
-    // Takes the object out where it is no longer live. For one that is not in, no lane is looked up.
+    // Takes the object out if it is live no longer, and counts it anew if it still is. One that is not in stays out, and no lane is looked up.
     fn cut(&mut self, lanes: &Lanes, object: PairedId)
         ensures here { spec.is_in self.new object
             ≡ (spec.is_in self.old object && spec.is_live lanes.now object) }
         ensures elsewhere { (n : PairedId) → same_object object n ≡ false →
             spec.is_in self.new n ≡ spec.is_in self.old n }
+        ensures heads { spec.HasItsCount lanes.now self.new object }
+        ensures beside { (n : PairedId) → same_object object n ≡ false →
+            spec.count_at self.new n ≡ spec.count_at self.old n }
         ensures places { (n : PairedId) → spec.HasPlace self.old n → spec.HasPlace self.new n }
     {
-        if self.has(object) && !is_live(lanes, object) {
-            self.take_out(object);
+        if self.has(object) {
+            if is_live(lanes, object) {
+                self.put_in(object, head_len(lanes, object));
+            } else {
+                self.take_out(object);
+            }
         }
     }
 
-    // Puts the object in where it is live; its place is reserved.
+    // Puts the object in where it is live, and counts it; its place is reserved.
     fn add(&mut self, lanes: &Lanes, object: PairedId)
         requires { spec.HasPlace self.old object }
         ensures here { spec.is_in self.new object
             ≡ (spec.is_in self.old object || spec.is_live lanes.now object) }
         ensures elsewhere { (n : PairedId) → same_object object n ≡ false →
             spec.is_in self.new n ≡ spec.is_in self.old n }
+        ensures heads { spec.is_live lanes.now object ≡ true → spec.HasItsCount lanes.now self.new object }
+        ensures beside { (n : PairedId) → same_object object n ≡ false →
+            spec.count_at self.new n ≡ spec.count_at self.old n }
         ensures places { (n : PairedId) → spec.HasPlace self.old n → spec.HasPlace self.new n }
     {
         if is_live(lanes, object) {
-            self.put_in(object);
+            self.put_in(object, head_len(lanes, object));
         }
     }
 
@@ -157,6 +199,9 @@ impl Live {
             ≡ (spec.is_in self.old n && spec.is_live lanes.now n) }
         ensures elsewhere { (n : PairedId) → spec.has_side n slot ≡ false →
             spec.is_in self.new n ≡ spec.is_in self.old n }
+        ensures heads { (n : PairedId) → spec.has_side n slot ≡ true → spec.HasItsCount lanes.now self.new n }
+        ensures beside { (n : PairedId) → spec.has_side n slot ≡ false →
+            spec.count_at self.new n ≡ spec.count_at self.old n }
         ensures places { (n : PairedId) → spec.HasPlace self.old n → spec.HasPlace self.new n }
     {
         if let Some(Slot::Side { object, .. }) = slot {
@@ -171,6 +216,10 @@ impl Live {
             ≡ (spec.is_in self.old n || spec.is_live lanes.now n) }
         ensures elsewhere { (n : PairedId) → spec.has_side n slot ≡ false →
             spec.is_in self.new n ≡ spec.is_in self.old n }
+        ensures heads { (n : PairedId) → spec.has_side n slot ≡ true → spec.is_live lanes.now n ≡ true →
+            spec.HasItsCount lanes.now self.new n }
+        ensures beside { (n : PairedId) → spec.has_side n slot ≡ false →
+            spec.count_at self.new n ≡ spec.count_at self.old n }
         ensures places { (n : PairedId) → spec.HasPlace self.old n → spec.HasPlace self.new n }
     {
         if let Some(Slot::Side { object, .. }) = slot {
@@ -207,7 +256,10 @@ impl Live {
             spec.is_in self.old n ≡ spec.is_live lanes.now n }
         requires over { (n : PairedId) → spec.is_live lanes.now n ≡ true →
             spec.is_in self.old n ≡ true }
+        requires counted { (n : PairedId) → spec.have_side n (map slot_in waits.now) ≡ false →
+            spec.HasItsCount lanes.now self.old n }
         ensures live { spec.AreLive lanes.now self.new }
+        ensures counted { spec.AreCounted lanes.now self.new }
         ensures places { (n : PairedId) → spec.HasPlace self.old n → spec.HasPlace self.new n }
     {
         for wait in waits {
@@ -224,7 +276,10 @@ impl Live {
             spec.is_in self.old n ≡ spec.is_live lanes.now n }
         requires under { (n : PairedId) → spec.is_live lanes.now n ≡ false →
             spec.is_in self.old n ≡ false }
-        ensures { spec.AreLive lanes.now self.new }
+        requires counted { (n : PairedId) → spec.have_side n (map slot_in waits.now) ≡ false →
+            spec.HasItsCount lanes.now self.old n }
+        ensures live { spec.AreLive lanes.now self.new }
+        ensures counted { spec.AreCounted lanes.now self.new }
     {
         for wait in waits {
             self.add_at(lanes, wait.slot());

@@ -1,6 +1,6 @@
 //! A set of numbers, each with its place in the list of them.
 
-ghost use Rattle.std.specs.Prelude.{◌≡◌, ◌≢◌, ◌≤◌, ◌<◌, ◌==◌, ℕ, [], true, false, length, slice_get, slice_set, slice_index, Some, OnOk, vec_len};
+ghost use Rattle.std.specs.Prelude.{◌≡◌, ◌≢◌, ◌≤◌, ◌<◌, ◌+◌, ◌-◌, ◌==◌, ℕ, [], true, false, length, slice_get, slice_set, slice_index, Some, OnOk, vec_len};
 ghost use Rattle.std.specs.List.{IsDistinct};
 ghost use Rattle.cml_index.specs.Numbers as spec;
 
@@ -34,7 +34,8 @@ impl Model for Numbers {
 impl Numbers {
     // No number is in, and none has a place.
     pub(crate) fn new(alloc: Global) -> Numbers
-        ensures { result.items ≡ [] }
+        ensures items { result.items ≡ [] }
+        ensures size { result.size ≡ 0 }
     {
         Numbers {
             order: Vec::new(alloc),
@@ -57,14 +58,15 @@ impl Numbers {
         requires { i < length self.now.items }
         ensures { slice_get self.now.items i ≡ Some result }
     {
-        // Read for the proof alone, which uses what is promised of it.
+        // No effect: named here so that the prover knows what holds of it.
         let _count = self.count;
         self.order[i]
     }
 
     // Whether the number is in.
     pub(crate) fn has(&self, number: u32) -> bool
-        ensures { result ≡ spec.has self.now number }
+        ensures value { result ≡ spec.has self.now number }
+        ensures placed { result ≡ true → number < self.now.size }
     {
         if number as usize >= self.places.len() {
             return false;
@@ -77,6 +79,7 @@ impl Numbers {
     pub(crate) fn make(&mut self, number: u32) -> Result<(), AllocError>
         ensures same { self.new.items ≡ self.old.items }
         ensures grown { self.old.size ≤ self.new.size }
+        ensures most { self.new.size ≤ self.old.size + (number + 1 - self.old.size) }
         ensures there { OnOk result (number < self.new.size) }
     {
         if self.order.len() <= number as usize {
@@ -90,6 +93,7 @@ impl Numbers {
     fn grow(&mut self, number: u32) -> Result<(), AllocError>
         ensures same { self.new.items ≡ self.old.items }
         ensures grown { self.old.size ≤ self.new.size }
+        ensures most { self.new.size ≤ self.old.size + (number + 1 - self.old.size) }
         ensures there { OnOk result (number < self.new.size) }
     {
         while self.order.len() <= number as usize {
@@ -103,6 +107,7 @@ impl Numbers {
         requires { self.old.size < 4294967296 }
         ensures same { self.new.items ≡ self.old.items }
         ensures grown { self.old.size ≤ self.new.size }
+        ensures most { self.new.size ≤ self.old.size + 1 }
         ensures there { OnOk result (self.old.size < self.new.size) }
     {
         self.places.reserve(1)?;

@@ -41,7 +41,7 @@ fn other_at(lane: &Lane, tid: Tid, own: usize, j: usize, tally: &mut Tally) -> P
         ≤ tally.old + length lane.now.places }
     ensures ahead { length (filter (before result) lane.now.places) < length lane.now.places }
 {
-    // Read for the proof alone, which uses what is promised of it.
+    // No effect: named here so that the prover knows what holds of it.
     let _len = lane.len();
     let place = lane.look(j, tally);
     if own == 0 {
@@ -64,7 +64,7 @@ fn first_other(core: &IndexState, slot: Slot, lane: &Lane, tid: Tid, tally: &mut
         ≤ tally.old + length lane.now.places }
     ensures ahead { length (filter (before result) lane.now.places) < length lane.now.places }
 {
-    // Read for the proof alone, which uses what is promised of it.
+    // No effect: named here so that the prover knows what holds of it.
     let _len = lane.len();
     let place = lane.look(0, tally);
     if place.tid.0 != tid.0 {
@@ -93,7 +93,7 @@ fn head_beside(
     ensures found { IsFoundEarly (met_among Others others.now.places heads.now.places) k
         heads.now.places result tally.old tally.new }
 {
-    // Read for the proof alone, which uses what is promised of it.
+    // No effect: named here so that the prover knows what holds of it.
     let _len = heads.len();
     match only_thread(others, tally) {
         Some(tid) => {
@@ -139,7 +139,7 @@ fn head_below(lane: &Lane, k: usize, tally: &mut Tally) -> Place
     ensures found { IsFoundEarly (met_among Above lane.now.places lane.now.places) k
         lane.now.places result tally.old tally.new }
 {
-    // Read for the proof alone, which uses what is promised of it.
+    // No effect: named here so that the prover knows what holds of it.
     let _len = lane.len();
     lane.look(k, tally)
 }

@@ -37,7 +37,7 @@ pub(crate) fn other_in(
     ensures value { result ≡ slice_index_or (those partner_threads lane.now.places) j result }
     ensures cost { tally.new ≤ tally.old + 2 }
 {
-    // Read for the proof alone, which uses what is promised of it.
+    // No effect: named here so that the prover knows what holds of it.
     let _len = lane.len();
     match partner_threads {
         PartnerThreads::Others(tid) => {
@@ -168,7 +168,7 @@ pub(crate) fn all_rows(
     ensures { IfOk result (λ rows. rows.items
         ≡ scan_of core.now.entries.items (spec.told core.now.flags.entries)) }
 {
-    // Read for the proof alone, which uses what is promised of it.
+    // No effect: named here so that the prover knows what holds of it.
     let _leaves = core.leaves;
     if head_count(core, tally) == 0 {
         return Ok(Vec::new(alloc));

@@ -9,7 +9,6 @@ ghost use Rattle.cml_index.specs.Waits.{leaf_wait, met_slot, met_wait, meets_in}
 use cml_channel::{PairedId, PairedKind, PartnerThreads, place};
 use cml_scan::{Light, light};
 use cml_value::{Base, BaseKind, Tid};
-use std::hash::{Hash, Hasher};
 
 // A lane.
 #[derive(Clone, Copy, PartialEq, Eq)]
@@ -18,26 +17,6 @@ pub(crate) enum Slot {
     Side { heads: bool, object: PairedId },
     // Those who wait for the light.
     Waiters(Light),
-}
-
-impl Hash for Slot {
-    ghost use Rattle.cml_index.specs.Slot.{slot_writes};
-    ghost use Rattle.cml_index.specs.SlotLaws.{told_alike};
-
-    ghost hash_input = { slot_writes };
-
-    ghost respects_eq = { told_alike };
-
-    // No map has a lane as its key now: the lanes of ticks alone stand in a map, by their tick. A side is written as one number, and its
-    // kind is left to the comparison.
-    fn hash<H: Hasher>(&self, state: &mut H) {
-        match self {
-            Slot::Side { heads, object } => {
-                (u64::from(object.number) * 2 + u64::from(*heads)).hash(state)
-            }
-            Slot::Waiters(light) => light.hash(state),
-        }
-    }
 }
 
 // What a leaf waits for: it can always be taken, or never, or it stands in a lane.
@@ -73,7 +52,8 @@ impl Wait {
     }
 }
 
-// The kinds of lanes that are kept by a number. (`LaneKind` is here one list of such lanes, and no row of a table.)
+// The kinds of lanes that are kept by a number. (The field `row` of `Spot`, and `row` and `row_mut` of `Lanes`, mean the list of the lanes
+// of one kind, and no row of a table.)
 #[derive(Clone, Copy)]
 pub(crate) enum LaneKind {
     Senders,
@@ -188,7 +168,8 @@ pub(crate) fn count_in(waits: &[Wait], slot: Slot) -> usize
     count
 }
 
-// The same for an offer of the thread in this lane.
+// For an offer of this thread in this lane: where its partners are, if it can be a head. On a channel they are in the
+// lane of the receivers, which are no heads. A swap channel has one lane alone, and all in it can be heads.
 fn met_from(slot: Slot, tid: Tid) -> Option<(Slot, PartnerThreads)>
     ensures { result ≡ met_slot slot tid }
 {
@@ -208,8 +189,8 @@ fn met_from(slot: Slot, tid: Tid) -> Option<(Slot, PartnerThreads)>
     }
 }
 
-// Where the partners of a leaf of the thread are that waits for this, if it can be a head: the lane, and which of those in it. It
-// decides which rows a run is offered.
+// For a leaf of this thread with this wait: where its partners are, if it can be a head: the lane, and which of the
+// offers in it. By this the rows are found that a run is offered.
 pub(crate) fn met_by(wait: Wait, tid: Tid) -> Option<(Slot, PartnerThreads)>
     ensures { result ≡ met_wait wait tid }
 {

@@ -38,6 +38,7 @@ impl LaneState {
     }
 
     // The leaf is to come, and there is room for it.
+    #[inline(always)]
     pub(crate) fn note(&mut self, leaf: u32) -> Result<(), AllocError>
         ensures lane { self.new.lane.places ≡ self.old.lane.places }
         ensures going { self.new.going ≡ self.old.going }
@@ -52,6 +53,7 @@ impl LaneState {
     }
 
     // Puts in the leaves that were noted.
+    #[inline(always)]
     pub(crate) fn come(&mut self, tid: Tid, tally: &mut Tally)
         requires room { length self.old.late.items ≤ self.old.lane.room }
         requires new { 0 < length self.old.late.items → Every (is_others tid) self.old.lane.places }

@@ -16,6 +16,7 @@ ghost use Rattle.cml_index.specs.declared.slot.Slot.TheVariants.{Waiters};
 ghost use Rattle.cml_index.specs.Slots.{HaveDigits};
 ghost use Rattle.cml_index.specs.Waits.{leaf_wait};
 
+use crate::crossing::crossers;
 use crate::entries::Entries;
 use crate::entry::Entry;
 use crate::flags::{Flags, count_lit, flip};
@@ -38,6 +39,8 @@ pub(crate) struct IndexState {
     pub(crate) flags: Flags,
     pub(crate) leaves: usize,
     pub(crate) lit: usize,
+    // how many threads may stand on both sides of one channel
+    pub(crate) crossing: usize,
     // entries of threads that have gone, whose lists serve the next that come; they hold no group
     pub(crate) spares: Vec<Entry>,
 }
@@ -73,6 +76,7 @@ impl IndexState {
         self.leaves -= entry.waits().len();
         self.lanes.go(tid, entry.waits(), tally);
         self.live.cut_all(&self.lanes, entry.waits());
+        self.crossing -= crossers(entry.waits());
         keep(&mut self.spares, entry);
     }
 
@@ -156,6 +160,7 @@ impl IndexState {
     }
 
     // Tells of the light: one is examined. One that is told to be lit has its place. It takes no memory.
+    #[inline(never)]
     pub(crate) fn tell(&mut self, light: Light, lit: bool, tally: &mut Tally)
         requires indexed { IsIndexed self.old }
         requires there { lit ≡ true →
@@ -194,6 +199,7 @@ impl IndexState {
         self.lit += lit;
         self.lanes.come(entry.tid(), entry.waits(), tally);
         self.live.add_all(&self.lanes, entry.waits());
+        self.crossing += crossers(entry.waits());
         self.entries.put(entry);
     }
 }

@@ -31,8 +31,12 @@ pub came_added : (gone : List Tid) (entries : List PlainEntry) (tid : Tid) (grou
     → n2 ≡ n1 ++ record { thread = tid.0; group = copy } ∷ [] → n3 ≡ n2 ++ kept_entries gone (Above tid) entries
     → n3 ≡ with_entry (record { thread = tid.0; group = group }) (without gone entries)
 came_added gone entries tid group copy n0 n1 n2 n3 e0 e1 ec e2 e3 =
-    let below : filter (λ x. nat_lt x.thread tid.0) (without gone entries) ≡ kept_entries gone (Below tid) entries = filter_twice (λ x. not (is_among gone x.thread)) (λ x. nat_lt x.thread tid.0) entries in
-    let above : filter (λ x. nat_lt tid.0 x.thread) (without gone entries) ≡ kept_entries gone (Above tid) entries = filter_twice (λ x. not (is_among gone x.thread)) (λ x. nat_lt tid.0 x.thread) entries in
+    let below : filter (λ x. nat_lt x.thread tid.0) (without gone entries)
+    ≡ kept_entries gone (Below tid) entries = filter_twice (λ x. not (is_among gone x.thread))
+    (λ x. nat_lt x.thread tid.0) entries in
+    let above : filter (λ x. nat_lt tid.0 x.thread) (without gone entries)
+    ≡ kept_entries gone (Above tid) entries = filter_twice (λ x. not (is_among gone x.thread))
+    (λ x. nat_lt tid.0 x.thread) entries in
     rw (e3, e2, e1, e0, ec, below, above) (append_assoc (kept_entries gone (Below tid) entries) (record { thread = tid.0; group = group } ∷ []) (kept_entries gone (Above tid) entries))
 
 told_first : (lit unlit old : Bool) → (((not lit && not unlit) && old) || lit) ≡ (if lit then true else (if unlit then false else old))

@@ -13,7 +13,7 @@ ghost use Rattle.cml_step.specs.Machines.{machine_term, Fits};
 
 use crate::making::{MEMORY, make, program_of};
 use cml_check::Prog;
-use cml_step::{Answer, Ask, Machine, Seen, run_slice, slice};
+use cml_step::{Answer, Ask, Machine, Seen, Undo, run_slice, slice};
 use cml_value::{
     Base, BaseKind, ChanId, FnRef, Group, GroupKind, IVarId, MVarId, MboxId, McastId, NackId,
     PortId, SwapId, Tid, Value, ValueKind,
@@ -531,6 +531,33 @@ impl Course {
     }
 }
 
+// Runs the slice where a copy of the thread stands, which is to end there after so many steps, and puts the copy back.
+fn run_and_put_back(
+    rt: &(impl Abort + AllocGlobal),
+    program: &Prog,
+    start: &Machine,
+    end: &Machine,
+    steps: u32,
+)
+    requires fits { Fits program.now start.now }
+    requires awaits { top_await (machine_term program.now start.now) ≡ answers.nothing }
+{
+    let mut machine = start.copy(rt.alloc()).expect(rt, MEMORY);
+    let mut undo = Undo::new(rt.alloc());
+    let mut asked = Ask::Nothing;
+    let count = machine
+        .run_undoing(rt.alloc(), program, &mut undo, &mut asked)
+        .expect(rt, MEMORY);
+    drop(asked);
+    assert!(rt; count == steps, "the steps in place");
+    assert!(rt; machine.same(end), "the end in place");
+    undo.put_back(&mut machine);
+    assert!(rt; machine.same(start), "put back");
+    undo.rest();
+    drop(undo);
+    drop(machine);
+}
+
 // The slice of the thread: where it ends, what it asks and how many steps it took.
 fn slice_of(
     rt: &(impl Abort + AllocGlobal),
@@ -551,6 +578,7 @@ fn slice_of(
     assert!(rt; ran.program().same(program), "the program");
     assert!(rt; ran.start().same(&copy), "the start");
     assert!(rt; ran.end().thread() == copy.thread(), "the thread");
+    run_and_put_back(rt, program, &copy, ran.end(), ran.steps());
     drop(copy);
     assert!(rt; alone.steps == ran.steps(), "the steps");
     assert!(rt; alone.end.same(ran.end()), "the end");

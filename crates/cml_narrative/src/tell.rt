@@ -244,7 +244,7 @@ impl Narrator<'_> {
         ensures tale { tale_of self.new ≡ tale_of self.old }
         ensures knows { IfOk result (λ came. IsTrue came → Knows hub.old.course self.old → Knows hub.new.course self.new) }
     {
-        // Read for the proof alone, which uses what is promised of it.
+        // No effect: named here so that the prover knows what holds of it.
         let _so_far = hub.schedule();
         let before = could_count(hub);
         let faults = hub.faults();

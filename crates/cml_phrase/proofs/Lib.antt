@@ -1,4 +1,3 @@
-pub mod KeywordLemmas
 pub mod StatementLemmas
 pub mod PlaceLemmas
 pub mod NameLemmas

@@ -42,7 +42,8 @@ listed : (forms : List PlainSexpr) → forms_list (plain_forms forms) ≡ forms
 listed [] = refl
 listed (form ∷ forms) = ap (λ fs. form ∷ fs) (listed forms)
 
-pub parameters_of : (forms parts : List PlainSexpr) (list : PlainSexpr) → 3 ≤ length forms → list ≡ get_or forms 2 list → plain_forms parts ≡ parts_of list → parts ≡ forms_list (parameters_among (plain_forms forms))
+pub parameters_of : (forms parts : List PlainSexpr) (list : PlainSexpr) → 3 ≤ length forms → list ≡ get_or forms 2 list
+    → plain_forms parts ≡ parts_of list → parts ≡ forms_list (parameters_among (plain_forms forms))
 parameters_of [] parts list le is are = absurd (omega arith)
 parameters_of (a ∷ []) parts list le is are = absurd (omega arith)
 parameters_of (a ∷ b ∷ []) parts list le is are = absurd (omega arith)

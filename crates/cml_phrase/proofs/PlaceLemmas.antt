@@ -56,14 +56,18 @@ step_by text i b lt is true begins feed h =
     ap (λ l. place_of l 1) line ∙ ap (λ c. place_of (line_at text (i + 1)) c) column
 step_by text i b lt is false true feed h =
     let line : line_at text i ≡ line_at text (i + 1) = omega (arith, count_by_more_no is_line_feed text i b lt (ap is_line_feed (sym is) ∙ feed)) in
-    let put : characters (last_line (take i text) ++ b ∷ []) ≡ characters (line_before text i) + cond (begins_character b) 1 0 = sum_by_push (λ x. cond (begins_character x) 1 0) (last_line (take i text)) b in
+    let put : characters (last_line (take i text) ++ b ∷ [])
+    ≡ characters (line_before text i) + cond (begins_character b) 1 0 = sum_by_push
+    (λ x. cond (begins_character x) 1 0) (last_line (take i text)) b in
     let one : ◌≡◌ {A = ℕ} (cond (begins_character b) 1 0) 1 = counts_one (begins_character b) h in
     let longer : characters (line_before text (i + 1)) ≡ characters (last_line (take i text) ++ b ∷ []) = ap characters (line_longer text i b lt is (ap not feed)) in
     let column : column_at text i + 1 ≡ column_at text (i + 1) = omega arith in
     ap (λ l. place_of l (column_at text i + 1)) line ∙ ap (λ c. place_of (line_at text (i + 1)) c) column
 step_by text i b lt is false false feed h =
     let line : line_at text i ≡ line_at text (i + 1) = omega (arith, count_by_more_no is_line_feed text i b lt (ap is_line_feed (sym is) ∙ feed)) in
-    let put : characters (last_line (take i text) ++ b ∷ []) ≡ characters (line_before text i) + cond (begins_character b) 1 0 = sum_by_push (λ x. cond (begins_character x) 1 0) (last_line (take i text)) b in
+    let put : characters (last_line (take i text) ++ b ∷ [])
+    ≡ characters (line_before text i) + cond (begins_character b) 1 0 = sum_by_push
+    (λ x. cond (begins_character x) 1 0) (last_line (take i text)) b in
     let none : ◌≡◌ {A = ℕ} (cond (begins_character b) 1 0) 0 = counts_none (begins_character b) h in
     let longer : characters (line_before text (i + 1)) ≡ characters (last_line (take i text) ++ b ∷ []) = ap characters (line_longer text i b lt is (ap not feed)) in
     let column : column_at text i ≡ column_at text (i + 1) = omega arith in

@@ -1,22 +1,54 @@
 -- Each statement of a program has its form.
-use Rattle.std.proofs.Common.{◌≡◌, ℕ, suc, zero, ◌+◌, Bool, true, false, List, [], ◌∷◌, ◌++◌, length, map, Option, Some, None, Ok, Err, refl, sym, ap, subst, ◌∙◌, arith, append_assoc, append-nil, length-append}
+use Rattle.std.proofs.Common.{
+  ◌≡◌,
+  ℕ,
+  suc,
+  zero,
+  ◌+◌,
+  Bool,
+  true,
+  false,
+  List,
+  [],
+  ◌∷◌,
+  ◌++◌,
+  length,
+  map,
+  Option,
+  Some,
+  None,
+  Ok,
+  Err,
+  refl,
+  sym,
+  ap,
+  subst,
+  ◌∙◌,
+  arith,
+  append_assoc,
+  append-nil,
+  length-append,
+}
 use Rattle.std.specs.Prelude.{if◌then◌else◌, slice_get, IfSome}
 use Rattle.std.proofs.lemmas.List.{map_push, length-map}
 use Rattle.cml_text.specs.declared.sexpr.Span.{Span}
 use Rattle.cml_text.specs.Forms.{PlainSexpr, plain_name, plain_int, plain_text, plain_list, PlainForms, no_forms, forms_and, span_of}
 use Rattle.cml_check.specs.declared.statement.Scope.{Scope}
+use Rattle.cml_check.specs.declared.word.Tested.{Tested}
 use Rattle.cml_check.specs.declared.word.Word.{Word}
 use Rattle.cml_check.specs.declared.word.Word.TheVariants as word
 use Rattle.cml_check.specs.Faults.{PlainCheckFault}
-use Rattle.cml_check.specs.Syntax.{Name, PlainExpr, PlainStmt, let_be, set_to, if_so, while_so, just_do, return_with, PlainStmts, no_stmts, stmts_and, stmt_map, stmts_map, PlainItem, written}
+use Rattle.cml_check.specs.Syntax.{Name, PlainExpr, PlainStmt, if_so, just_do, PlainStmts, stmts_and, PlainItem, written}
 use Rattle.cml_check.specs.Checked.{Checked, ◌>>=◌}
 use Rattle.cml_check.specs.Words.{word_from}
 use Rattle.cml_check.specs.Names.{has_name, variable_in, free_name}
 use Rattle.cml_check.specs.Heads.{PlainHead, parameters_in, head_by, head_in, added, may_be_added, heads_from, main_in}
 use Rattle.cml_check.specs.Expressions.{expr_in}
-use Rattle.cml_check.specs.Statements.{effect_in, source_in, statement_counted, stmt_in, stmt_by, block_in, behind_do, stmts_in}
+use Rattle.cml_check.specs.Statements.{effect_in, source_in, tested_stmt, statement_counted, stmt_in, stmt_by, block_in, behind_do, stmts_in}
 use Rattle.cml_check.specs.Shape.{function_by, functions_in, shape}
 use Rattle.cml_check.specs.Sizes.{stmt_count, stmts_count}
+use Rattle.cml_check.proofs.SizeLemmas.{stmts_same}
+use Rattle.cml_check.proofs.WordLemmas.{tested_count}
 use Rattle.cml_phrase.specs.Keywords.{keyword_for}
 use Rattle.cml_phrase.specs.Statements.{statements_in, inner_statements, block_statements, all_statements, item_statements, found_statements, spans_of}
 
@@ -52,9 +84,9 @@ if_first : (l m : List PlainSexpr) (p : PlainExpr Name) (a : Checked (PlainStmts
 if_first l m p (Ok x) b h g = if_second l m p x (b x.1) h (g x.1)
 if_first l m p (Err e) b h g = tt
 
-while_one : (l : List PlainSexpr) (p : PlainExpr Name) (a : Checked (PlainStmts Name × Scope)) → Spanned l a → SpannedOne l (a >>= λ x. Ok (while_so p x.0, x.1))
-while_one l p (Ok x) h = omega (arith, h)
-while_one l p (Err e) h = tt
+tested_one : (l : List PlainSexpr) (test : Tested) (p : PlainExpr Name) (a : Checked (PlainStmts Name × Scope)) → Spanned l a → SpannedOne l (a >>= λ x. Ok (tested_stmt test p x.0, x.1))
+tested_one l test p (Ok x) h = let one = tested_count test p x.0 in omega (arith, h, one)
+tested_one l test p (Err e) h = tt
 
 behind_last : (l m : List PlainSexpr) (s : PlainStmt Name × Scope) (rest : Checked (PlainStmts Name × Scope)) → length l ≡ stmt_count s.0 → Spanned m rest →
     Spanned (l ++ m) (rest >>= λ ss. Ok (stmts_and s.0 ss.0, ss.1))
@@ -78,7 +110,7 @@ behind_word l span (Some word.Do) found h = h
 behind_word l span (Some word.Let) found h = tt
 behind_word l span (Some word.Set) found h = tt
 behind_word l span (Some word.If) found h = tt
-behind_word l span (Some word.While) found h = tt
+behind_word l span (Some (word.Tested test)) found h = tt
 behind_word l span (Some word.Return) found h = tt
 behind_word l span (Some word.Call) found h = tt
 behind_word l span (Some word.Spawn) found h = tt
@@ -108,9 +140,11 @@ mutual
   stmt_spanned heads scope (plain_text span bytes) = tt
   stmt_spanned heads scope (plain_list span no_forms) = tt
   stmt_spanned heads scope (plain_list span (forms_and first behind)) =
-      own (plain_list span (forms_and first behind)) (inner_statements (keyword_for (word_from first)) behind) (stmt_by heads scope span (word_from first) behind) (by_spanned heads scope span (word_from first) behind)
+      own (plain_list span (forms_and first behind)) (inner_statements (keyword_for (word_from first)) behind)
+      (stmt_by heads scope span (word_from first) behind) (by_spanned heads scope span (word_from first) behind)
 
-  by_spanned : (heads : List PlainHead) (scope : Scope) (span : Span) (first : Option Word) (forms : PlainForms) → SpannedOne (inner_statements (keyword_for first) forms) (stmt_by heads scope span first forms)
+  by_spanned : (heads : List PlainHead) (scope : Scope) (span : Span) (first : Option Word) (forms : PlainForms)
+      → SpannedOne (inner_statements (keyword_for first) forms) (stmt_by heads scope span first forms)
   by_spanned heads scope span (Some word.Let) no_forms = done heads scope span (Some word.Let) no_forms
   by_spanned heads scope span (Some word.Let) (forms_and x no_forms) = done heads scope span (Some word.Let) (forms_and x no_forms)
   by_spanned heads scope span (Some word.Let) (forms_and x (forms_and r no_forms)) =
@@ -125,12 +159,14 @@ mutual
   by_spanned heads scope span (Some word.If) (forms_and p no_forms) = done heads scope span (Some word.If) (forms_and p no_forms)
   by_spanned heads scope span (Some word.If) (forms_and p (forms_and x no_forms)) = done heads scope span (Some word.If) (forms_and p (forms_and x no_forms))
   by_spanned heads scope span (Some word.If) (forms_and p (forms_and x (forms_and y no_forms))) =
-      past (block_statements x ++ block_statements y) (expr_in heads scope.names p) _ (λ e. if_first (block_statements x) (block_statements y) e (block_in heads scope x) (λ s. block_in heads s y) (block_spanned heads scope x) (λ s. block_spanned heads s y))
+      past (block_statements x ++ block_statements y) (expr_in heads scope.names p) _
+      (λ e. if_first (block_statements x) (block_statements y) e (block_in heads scope x) (λ s. block_in heads s y)
+      (block_spanned heads scope x) (λ s. block_spanned heads s y))
   by_spanned heads scope span (Some word.If) (forms_and p (forms_and x (forms_and y (forms_and z forms)))) =
       done heads scope span (Some word.If) (forms_and p (forms_and x (forms_and y (forms_and z forms))))
-  by_spanned heads scope span (Some word.While) no_forms = done heads scope span (Some word.While) no_forms
-  by_spanned heads scope span (Some word.While) (forms_and p forms) =
-      past (all_statements forms) (expr_in heads scope.names p) _ (λ e. while_one (all_statements forms) e (stmts_in heads scope forms) (stmts_spanned heads scope forms))
+  by_spanned heads scope span (Some (word.Tested test)) no_forms = done heads scope span (Some (word.Tested test)) no_forms
+  by_spanned heads scope span (Some (word.Tested test)) (forms_and p forms) =
+      past (all_statements forms) (expr_in heads scope.names p) _ (λ e. tested_one (all_statements forms) test e (stmts_in heads scope forms) (stmts_spanned heads scope forms))
   by_spanned heads scope span (Some word.Return) no_forms = done heads scope span (Some word.Return) no_forms
   by_spanned heads scope span (Some word.Return) (forms_and p no_forms) = past [] (expr_in heads scope.names p) _ (λ e. refl)
   by_spanned heads scope span (Some word.Return) (forms_and p (forms_and y forms)) = done heads scope span (Some word.Return) (forms_and p (forms_and y forms))
@@ -165,20 +201,6 @@ mutual
       behind_count (statements_in form) (all_statements forms) (statement_counted scope (span_of form)) (λ s. stmt_in heads s form) (λ s. stmts_in heads s forms)
       (λ s. stmt_spanned heads s form) (λ s. stmts_spanned heads s forms)
 
--- names do not count
-mutual
-  stmt_same : {V W : Type 0} (f : V → W) (s : PlainStmt V) → stmt_count (stmt_map f s) ≡ stmt_count s
-  stmt_same f (let_be v r) = refl
-  stmt_same f (set_to v e) = refl
-  stmt_same f (just_do e) = refl
-  stmt_same f (if_so e a b) = rw (stmts_same f a, stmts_same f b) refl
-  stmt_same f (while_so e a) = rw (stmts_same f a) refl
-  stmt_same f (return_with e) = refl
-
-  stmts_same : {V W : Type 0} (f : V → W) (ss : PlainStmts V) → stmts_count (stmts_map f ss) ≡ stmts_count ss
-  stmts_same f no_stmts = refl
-  stmts_same f (stmts_and s ss) = rw (stmt_same f s, stmts_same f ss) refl
-
 -- where both parts are found, the first is
 bind_ok : {A B : Type 0} (r : Checked A) (f : A → Checked B) (y : B) → (r >>= f) ≡ Ok y → (x : A) × (r ≡ Ok x) × (f x ≡ Ok y)
 bind_ok (Ok x) f y e = (x, refl, e)
@@ -210,7 +232,7 @@ head_statements span (Some word.Do) behind head e = cc
 head_statements span (Some word.Let) behind head e = cc
 head_statements span (Some word.Set) behind head e = cc
 head_statements span (Some word.If) behind head e = cc
-head_statements span (Some word.While) behind head e = cc
+head_statements span (Some (word.Tested test)) behind head e = cc
 head_statements span (Some word.Return) behind head e = cc
 head_statements span (Some word.Call) behind head e = cc
 head_statements span (Some word.Spawn) behind head e = cc

@@ -72,10 +72,12 @@ pub both_branches : (old new : List PlainSexpr) (behind : List PlainSexpr) (x y 
 both_branches old new [] x y lo hi is1 is2 added = absurd (omega arith)
 both_branches old new (p ∷ []) x y lo hi is1 is2 added = absurd (omega arith)
 both_branches old new (p ∷ a ∷ []) x y lo hi is1 is2 added = absurd (omega arith)
-both_branches old new (p ∷ a ∷ b ∷ []) x y lo hi is1 is2 added = added ∙ ap (λ v. old ++ (block_statements v ++ block_statements y)) is1 ∙ ap (λ w. old ++ (block_statements a ++ block_statements w)) is2
+both_branches old new (p ∷ a ∷ b ∷ []) x y lo hi is1 is2 added = added
+    ∙ ap (λ v. old ++ (block_statements v ++ block_statements y)) is1
+    ∙ ap (λ w. old ++ (block_statements a ++ block_statements w)) is2
 both_branches old new (p ∷ a ∷ b ∷ z ∷ behind) x y lo hi is1 is2 added = absurd (omega arith)
 
-pub no_body : (old : List PlainSexpr) (behind : List PlainSexpr) → length behind < 1 → old ≡ old ++ inner_statements keyword.While (plain_forms behind)
+pub no_body : (old : List PlainSexpr) (behind : List PlainSexpr) → length behind < 1 → old ≡ old ++ inner_statements keyword.Tested (plain_forms behind)
 no_body old [] h = sym (append-nil old)
 no_body old (p ∷ behind) h = absurd (omega arith)
 

@@ -8,5 +8,5 @@ use Rattle.cml_phrase.specs.declared.keyword.Keyword.TheVariants as keyword
 abbrev pub keyword_for : Option Word → Keyword
 keyword_for (Some word.Let) = keyword.Let
 keyword_for (Some word.If) = keyword.If
-keyword_for (Some word.While) = keyword.While
+keyword_for (Some (word.Tested test)) = keyword.Tested
 keyword_for first = keyword.Other

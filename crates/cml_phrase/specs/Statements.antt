@@ -16,7 +16,7 @@ abbrev mutual
   -- those inside a statement, by its keyword and the forms after it
   pub inner_statements : Keyword → PlainForms → List PlainSexpr
   inner_statements keyword.If (forms_and p (forms_and x (forms_and y no_forms))) = block_statements x ++ block_statements y
-  inner_statements keyword.While (forms_and p forms) = all_statements forms
+  inner_statements keyword.Tested (forms_and p forms) = all_statements forms
   inner_statements first forms = []
 
   -- those of a branch, which stand behind its keyword

@@ -1,16 +1,18 @@
 //! The keywords by which statements are told apart here.
 ghost use Rattle.std.specs.Prelude.{◌≡◌};
-ghost use Rattle.cml_check.specs.Words.{word_from, word_of};
+ghost use Rattle.cml_check.specs.Words.{word_from};
 ghost use Rattle.cml_phrase.specs.Keywords.{keyword_for};
 
-use cml_text::{Sexpr, Shape};
+use cml_check::{Word, word_from};
+use cml_text::Sexpr;
 
 /// What a list begins with, as far as it is told apart here.
 #[derive(Clone, Copy, PartialEq, Eq)]
 pub enum Keyword {
     Let,
     If,
-    While,
+    /// One with a condition and statements.
+    Tested,
     /// Another keyword, or none.
     Other,
 }
@@ -19,23 +21,10 @@ pub enum Keyword {
 pub fn keyword_of(form: &Sexpr) -> Keyword
     ensures { result ≡ keyword_for (word_from form.now) }
 {
-    match form.shape() {
-        Shape::Name(name) => keyword_spelled(name.as_str()),
-        Shape::Int(_) => Keyword::Other,
-        Shape::Text(_) => Keyword::Other,
-        Shape::List(_) => Keyword::Other,
-    }
-}
-
-// Which of these is spelled so.
-#[tactic(auto, using(crate::proofs::KeywordLemmas::spelled_let, crate::proofs::KeywordLemmas::spelled_if, crate::proofs::KeywordLemmas::spelled_while, crate::proofs::KeywordLemmas::spelled_other))]
-fn keyword_spelled(name: &str) -> Keyword
-    ensures { result ≡ keyword_for (word_of name.now) }
-{
-    match name {
-        "let" => Keyword::Let,
-        "if" => Keyword::If,
-        "while" => Keyword::While,
+    match word_from(form) {
+        Some(Word::Let) => Keyword::Let,
+        Some(Word::If) => Keyword::If,
+        Some(Word::Tested(_)) => Keyword::Tested,
         _ => Keyword::Other,
     }
 }

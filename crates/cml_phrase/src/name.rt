@@ -121,7 +121,7 @@ fn push_let_by<'a>(
     match keyword {
         Keyword::Let => push_variable(names, behind),
         Keyword::If => Ok(()),
-        Keyword::While => Ok(()),
+        Keyword::Tested => Ok(()),
         Keyword::Other => Ok(()),
     }
 }

@@ -63,7 +63,7 @@ fn add_inner<'a>(
 {
     match keyword {
         Keyword::If => add_branches(found, behind),
-        Keyword::While => add_body(found, behind),
+        Keyword::Tested => add_body(found, behind),
         Keyword::Let => Ok(()),
         Keyword::Other => Ok(()),
     }
@@ -99,12 +99,12 @@ fn add_both<'a>(
     Ok(())
 }
 
-// Adds those of a loop, behind the condition.
+// Adds those behind a condition.
 #[cycle(statements)]
 #[tactic(auto, using(crate::proofs::StatementLemmas::no_body))]
 fn add_body<'a>(found: &mut Vec<&'a Sexpr>, behind: &'a [Sexpr]) -> Result<(), AllocError>
     ensures { OnOk result (map (λ s. s.now) found.new.items
-        ≡ map (λ s. s.now) found.old.items ++ spec.inner_statements keywords.While (plain_forms behind.now)) }
+        ≡ map (λ s. s.now) found.old.items ++ spec.inner_statements keywords.Tested (plain_forms behind.now)) }
 {
     let [_, body @ ..] = behind else {
         return Ok(());

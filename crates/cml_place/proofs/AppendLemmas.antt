@@ -24,7 +24,9 @@ pub marked_by_parts : (n before before' behind behind' o p q : List ℕ) (k k' :
     → p ≡ o ++ shown_line n before behind → q ≡ p ++ shown_mark n before behind k → q ≡ o ++ (shown_line n before' behind' ++ shown_mark n before' behind' k')
 marked_by_parts n before before' behind behind' o p q k k' x y z e f =
     let joined : q ≡ o ++ (shown_line n before behind ++ shown_mark n before behind k) = two o _ _ p q e f in
-    joined ∙ ap (λ w. o ++ w) (ap (λ w. shown_line n w behind ++ shown_mark n w behind k) x ∙ (ap (λ w. shown_line n before' w ++ shown_mark n before' w k) y ∙ ap (λ w. shown_line n before' behind' ++ shown_mark n before' behind' w) z))
+    joined ∙ ap (λ w. o ++ w) (ap (λ w. shown_line n w behind ++ shown_mark n w behind k) x
+    ∙ (ap (λ w. shown_line n before' w ++ shown_mark n before' w k) y
+    ∙ ap (λ w. shown_line n before' behind' ++ shown_mark n before' behind' w) z))
 
 -- the whole, by its three parts
 pub shown_by_parts : (name text : List ℕ) (d : PlainDiagnosis) (n o p q r : List ℕ) → n ≡ decimal (line_at text d.at) → o ≡ []
@@ -37,5 +39,7 @@ shown_by_parts name text d n o p q r x y e f g =
 -- one element more of those that are gone through
 pub one_more : (f : ℕ → List ℕ) (xs o p r : List ℕ) (i : ℕ) → i < length xs → p ≡ o ++ f (get_or xs i 0) → o ++ flat_map f (drop i xs) ≡ r → p ++ flat_map f (drop (i + 1) xs) ≡ r
 one_more f xs o p r i h e k =
-    let moved : (o ++ f (get_or xs i 0)) ++ flat_map f (drop (i + 1) xs) ≡ r = append_assoc o (f (get_or xs i 0)) (flat_map f (drop (i + 1) xs)) ∙ (ap (λ w. o ++ w) (sym (at_drop_more (flat_map f) xs i 0 h)) ∙ k) in
+    let moved : (o ++ f (get_or xs i 0)) ++ flat_map f (drop (i + 1) xs)
+    ≡ r = append_assoc o (f (get_or xs i 0)) (flat_map f (drop (i + 1) xs))
+    ∙ (ap (λ w. o ++ w) (sym (at_drop_more (flat_map f) xs i 0 h)) ∙ k) in
     rw e moved

@@ -16,7 +16,9 @@ queued_step : (queues : List (List PlainValue)) (id : ℕ) (s : List PlainValue)
 queued_step queues id s true h = cc
 queued_step queues id s false h = refl
 
-queued_in : (queues : List (List PlainValue)) (id : ℕ) (v : PlainValue) (o : Option (List PlainValue)) → option_map_or is_at_limit o false ≡ false → option_map_or (λ s. put_back queues id (queued s v)) o (Ok queues) ≡ Ok (option_map_or (λ s. slice_set queues id (s ++ v ∷ [])) o queues)
+queued_in : (queues : List (List PlainValue)) (id : ℕ) (v : PlainValue) (o : Option (List PlainValue))
+    → option_map_or is_at_limit o false ≡ false → option_map_or (λ s. put_back queues id (queued s v)) o (Ok queues)
+    ≡ Ok (option_map_or (λ s. slice_set queues id (s ++ v ∷ [])) o queues)
 queued_in queues id v None h = refl
 queued_in queues id v (Some s) h = queued_step queues id (s ++ v ∷ []) (is_at_limit s) h
 
@@ -28,7 +30,8 @@ or_false : (a b : Bool) → (a || b) ≡ false → (a ≡ false) × (b ≡ false
 or_false true b h = cc
 or_false false b h = (refl, h)
 
-pub open_each : (ports : List PortId) (queues : List (List PlainValue)) → any_is_full (port_numbers ports) queues ≡ false → (k : ℕ) (d : PortId) → k < length ports → is_full_at queues (get_or ports k d).0 ≡ false
+pub open_each : (ports : List PortId) (queues : List (List PlainValue)) → any_is_full (port_numbers ports) queues
+    ≡ false → (k : ℕ) (d : PortId) → k < length ports → is_full_at queues (get_or ports k d).0 ≡ false
 open_each [] queues h k d l = absurd (omega arith)
 open_each (port ∷ ports) queues h zero d l = (or_false (is_full_at queues port.0) (any_is_full (port_numbers ports) queues) h).0
 open_each (port ∷ ports) queues h (suc k) d l = open_each ports queues (or_false (is_full_at queues port.0) (any_is_full (port_numbers ports) queues) h).1 k d (omega arith)

@@ -1,3 +1,2 @@
-mod Heights
 mod ThreadLemmas
 mod Walks

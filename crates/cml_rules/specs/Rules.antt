@@ -50,7 +50,7 @@ pub data Communicate (t u : ℕ) : PlainBase → PlainBase → PlainValue → Pl
   sends : (c : ℕ) (v : PlainValue) → t ≢ u → Communicate t u (send c v) (recv c) unit v
   swaps : (s : ℕ) (x y : PlainValue) → t < u → Communicate t u (swap s x) (swap s y) y x
 
--- The base event happens by itself, gives this value, and leaves this world (chapters 3 and 4, appendix A): an alwaysEvt at any time; an iGet
+-- The base event happens by itself and gives this value, and this is the world after it (chapters 3 and 4, appendix A): an alwaysEvt at any time; an iGet
 -- and an mGet where the variable is full, and the value stays; an mTake, which empties it; an mSwap, which leaves its own value there; a
 -- receive from a mailbox or a port, which takes the first item; a join once the thread has ended; a time once it has come; a nack once it has
 -- fired. A time counted from now became such a time when the wait began.

@@ -141,11 +141,14 @@ row_is w (Pair h k o m) = meet_is h.0 o.0 (leaf_of (slice_get w.threads h.0) k) 
 row_at-agree : (f : PlainBase → Bool) (a b : Place → Option PlainBase) (row : Meet) → ((p : Place) → a p ≡ b p) → row_at f a row ≡ row_at f b row
 row_at-agree f a b (Single t l) same = ap (is_lit_there f) (same _)
 row_at-agree f a b (Pair h k o m) same =
-    ap (λ x. meet_at h.0 o.0 x (a (record { tid = o; leaf = m }))) (same (record { tid = h; leaf = k })) ∙ ap (λ x. meet_at h.0 o.0 (b (record { tid = h; leaf = k })) x) (same (record { tid = o; leaf = m }))
+    ap (λ x. meet_at h.0 o.0 x (a (record { tid = o; leaf = m }))) (same (record { tid = h; leaf = k }))
+    ∙ ap (λ x. meet_at h.0 o.0 (b (record { tid = h; leaf = k })) x) (same (record { tid = o; leaf = m }))
 
 pub has_row-scan : (w : PlainWorld) (row : Meet) → has_row (scan w) row ≡ row_at (lit w) (λ p. leaf_of (slice_get w.threads p.tid.0) p.leaf) row
 has_row-scan w row =
-    has_found (lit w) row (offers_of (pending w)) (offers_ascend (pending w) (pending_sorted w)) ∙ row_at-agree (lit w) (λ p. base_at p (offers_of (pending w))) (λ p. leaf_of (slice_get w.threads p.tid.0) p.leaf) row (base_at-world w)
+    has_found (lit w) row (offers_of (pending w)) (offers_ascend (pending w) (pending_sorted w))
+    ∙ row_at-agree (lit w) (λ p. base_at p (offers_of (pending w)))
+    (λ p. leaf_of (slice_get w.threads p.tid.0) p.leaf) row (base_at-world w)
 
 -- the same row, as a test and as a fact
 

@@ -29,7 +29,11 @@ firsts_unseen seen (p ∷ ps) = at (list_any (same_place p) seen) refl (λ more.
     at : (b : Bool) → list_any (same_place p) seen ≡ b → ((more : List Place) → Every (λ q. not (list_any (same_place q) more)) (firsts_after more ps))
         → Every (λ q. not (list_any (same_place q) seen)) (cond b (firsts_after seen ps) (p ∷ firsts_after (seen ++ p ∷ []) ps))
     at true e ih = ih seen
-    at false e ih = (ap not e, Every-weaker (λ q. not (list_any (same_place q) (seen ++ p ∷ []))) (λ q. not (list_any (same_place q) seen)) (firsts_after (seen ++ p ∷ []) ps) less (ih (seen ++ p ∷ [])))
+    at false e ih = (
+      ap not e,
+      Every-weaker (λ q. not (list_any (same_place q) (seen ++ p ∷ [])))
+          (λ q. not (list_any (same_place q) seen)) (firsts_after (seen ++ p ∷ []) ps) less (ih (seen ++ p ∷ [])),
+    )
 
 -- one that was seen is none that was not
 seen_differs : (seen : List Place) (p q : Place) → list_any (same_place p) seen ≡ true → not (list_any (same_place q) seen) ≡ true → same_place q p ≡ false
@@ -51,7 +55,8 @@ abbrev in_turn : List Meet → Place → Place → Bool
 in_turn rows p q = nat_lt (first_row p rows) (first_row q rows)
 
 -- one more row in front, at which none of these begins
-push_every : (row : Meet) (rows : List Meet) (p : Place) (qs : List Place) → same_place p (place_of row) ≡ false → Every (λ q. not (same_place q (place_of row))) qs → Every (in_turn rows p) qs → Every (in_turn (row ∷ rows) p) qs
+push_every : (row : Meet) (rows : List Meet) (p : Place) (qs : List Place) → same_place p (place_of row) ≡ false
+    → Every (λ q. not (same_place q (place_of row))) qs → Every (in_turn rows p) qs → Every (in_turn (row ∷ rows) p) qs
 push_every row rows p [] e away up = tt
 push_every row rows p (q ∷ qs) e away up = (rw (e, not_false (same_place q (place_of row)) away.0) (more (first_row p rows) (first_row q rows) up.0), push_every row rows p qs e away.1 up.1)
   where
@@ -92,16 +97,21 @@ firsts_turn seen (row ∷ rows) = at (list_any (same_place (place_of row)) seen)
   where
     at : (b : Bool) → list_any (same_place (place_of row)) seen ≡ b → ((more : List Place) → Ascends (in_turn rows) (firsts_after more (map place_of rows)))
         → Ascends (in_turn (row ∷ rows)) (cond b (firsts_after seen (map place_of rows)) (place_of row ∷ firsts_after (seen ++ place_of row ∷ []) (map place_of rows)))
-    at true e ih = push_turn row rows (firsts_after seen (map place_of rows)) (unseen_away seen (place_of row) (firsts_after seen (map place_of rows)) e (firsts_unseen seen (map place_of rows))) (ih seen)
+    at true e ih = push_turn row rows (firsts_after seen (map place_of rows))
+        (unseen_away seen (place_of row) (firsts_after seen (map place_of rows)) e
+        (firsts_unseen seen (map place_of rows))) (ih seen)
     at false e ih =
         let more : List Place = seen ++ place_of row ∷ [] in
-        let away : Every (λ q. not (same_place q (place_of row))) (firsts_after more (map place_of rows)) = unseen_away more (place_of row) (firsts_after more (map place_of rows)) (last_seen seen (place_of row)) (firsts_unseen more (map place_of rows)) in
+        let away : Every (λ q. not (same_place q (place_of row))) (firsts_after more (map place_of rows)) = unseen_away
+        more (place_of row) (firsts_after more (map place_of rows)) (last_seen seen (place_of row))
+        (firsts_unseen more (map place_of rows)) in
         (own_first row rows (firsts_after more (map place_of rows)) away, push_turn row rows (firsts_after more (map place_of rows)) away (ih more))
 
 -- the heads stand in order of their first rows, so each stands once
 pub heads-ordered : (w : PlainWorld) → AllPairs (λ p q. first_row p (scan w) < first_row q (scan w)) (heads w)
 heads-ordered w = λ i j d less within.
-    is_less (first_row (slice_index_or (heads w) i d) (scan w)) (first_row (slice_index_or (heads w) j d) (scan w)) (AllPairs-Ascends (in_turn (scan w)) (heads w) (firsts_turn [] (scan w)) i j d less within)
+    is_less (first_row (slice_index_or (heads w) i d) (scan w)) (first_row (slice_index_or (heads w) j d) (scan w))
+    (AllPairs-Ascends (in_turn (scan w)) (heads w) (firsts_turn [] (scan w)) i j d less within)
   where
     is_less : (a b : ℕ) → nat_lt a b ≡ true → a < b
     is_less a b e = grind (arith, nat_tests)
@@ -124,7 +134,9 @@ firsts_all q seen (p ∷ ps) =
 
     at : (b : Bool) → list_any (same_place p) seen ≡ b
         → ((more : List Place) → list_any (same_place q) more || list_any (same_place q) (firsts_after more ps) ≡ list_any (same_place q) more || list_any (same_place q) ps)
-        → list_any (same_place q) seen || list_any (same_place q) (cond b (firsts_after seen ps) (p ∷ firsts_after (seen ++ p ∷ []) ps)) ≡ list_any (same_place q) seen || (same_place q p || list_any (same_place q) ps)
+        → list_any (same_place q) seen || list_any (same_place q)
+        (cond b (firsts_after seen ps) (p ∷ firsts_after (seen ++ p ∷ []) ps))
+        ≡ list_any (same_place q) seen || (same_place q p || list_any (same_place q) ps)
     at true e ih = ih seen ∙ skip (same_place q p) (list_any (same_place q) seen) refl refl e
     at false e ih =
         let next = ih (seen ++ p ∷ []) in
@@ -164,7 +176,9 @@ heads-members w p = (begins, begun)
 has_row-partners : (p : Place) (row : Meet) (rows : List Meet) → has_row (partners_of rows p) row ≡ has_row rows row && same_place p (place_of row)
 has_row-partners p row [] = refl
 has_row-partners p row (r ∷ rows) =
-    at (same_place p (place_of r)) (same_row row r) (same_place p (place_of row)) refl (λ e. ap (λ x. same_place p (place_of x)) (sym (same_row_is row r e))) (has_row rows row) (has_row-partners p row rows)
+    at (same_place p (place_of r)) (same_row row r) (same_place p (place_of row)) refl
+    (λ e. ap (λ x. same_place p (place_of x)) (sym (same_row_is row r e))) (has_row rows row)
+    (has_row-partners p row rows)
   where
     none : (x : Bool) → x && false ≡ false
     none true = refl

@@ -42,7 +42,8 @@ no_singles is_lit p (y ∷ ys) none = at (same_place p (place y)) (is_lit y.base
     at false true e none k = rw e (k none)
     at false false e none k = k none
 
-pub singles_found : (is_lit : PlainBase → Bool) (p : Place) (ys : List PlainOffer) → Ascends before (map place ys) → partners_of (map single (filter (λ o. is_lit o.base) ys)) p ≡ singles_at is_lit p (base_at p ys)
+pub singles_found : (is_lit : PlainBase → Bool) (p : Place) (ys : List PlainOffer) → Ascends before (map place ys)
+    → partners_of (map single (filter (λ o. is_lit o.base) ys)) p ≡ singles_at is_lit p (base_at p ys)
 singles_found is_lit p [] up = refl
 singles_found is_lit p (y ∷ ys) up = at (same_place p (place y)) refl (singles_found is_lit p ys up.1)
   where
@@ -77,7 +78,9 @@ no_pairs : (p : Place) (xs ys : List PlainOffer) → base_at p ys ≡ None → p
 no_pairs p xs [] none = refl
 no_pairs p xs (h ∷ ys) none = at (same_place p (place h)) refl none (no_pairs p xs ys)
   where
-    at : (b : Bool) → same_place p (place h) ≡ b → cond b (Some h.base) (base_at p ys) ≡ None → (base_at p ys ≡ None → partners_of (flat_map (pairs_with xs) ys) p ≡ []) → partners_of (flat_map (pairs_with xs) (h ∷ ys)) p ≡ []
+    at : (b : Bool) → same_place p (place h) ≡ b → cond b (Some h.base) (base_at p ys) ≡ None
+        → (base_at p ys ≡ None → partners_of (flat_map (pairs_with xs) ys) p ≡ [])
+        → partners_of (flat_map (pairs_with xs) (h ∷ ys)) p ≡ []
     at true e none k = cc
     at false e none k = filter-append (λ row. same_place p (place_of row)) (pairs_with xs h) (flat_map (pairs_with xs) ys) ∙ rw (others_none p h (filter (can_meet h) xs) e, k none) refl
 
@@ -85,16 +88,21 @@ pub pairs_found : (p : Place) (xs ys : List PlainOffer) → Ascends before (map 
 pairs_found p xs [] up = refl
 pairs_found p xs (h ∷ ys) up = at (same_place p (place h)) refl (pairs_found p xs ys up.1)
   where
-    at : (b : Bool) → same_place p (place h) ≡ b → partners_of (flat_map (pairs_with xs) ys) p ≡ pairs_at xs p (base_at p ys) → partners_of (flat_map (pairs_with xs) (h ∷ ys)) p ≡ pairs_at xs p (cond b (Some h.base) (base_at p ys))
+    at : (b : Bool) → same_place p (place h) ≡ b → partners_of (flat_map (pairs_with xs) ys) p
+        ≡ pairs_at xs p (base_at p ys) → partners_of (flat_map (pairs_with xs) (h ∷ ys)) p
+        ≡ pairs_at xs p (cond b (Some h.base) (base_at p ys))
     at true e k =
         let same : p ≡ place h = same_is p (place h) e in
         let none : base_at p ys ≡ None = rw same (not_later (place h) ys up.0) in
         let whole : offer p h.base ≡ h = ap (λ (q : Place). offer q h.base) same in
-        filter-append (λ row. same_place p (place_of row)) (pairs_with xs h) (flat_map (pairs_with xs) ys) ∙ rw (own_all p h (filter (can_meet h) xs) e, no_pairs p xs ys none) (append-nil (pairs_with xs h) ∙ ap (pairs_with xs) (sym whole))
+        filter-append (λ row. same_place p (place_of row)) (pairs_with xs h) (flat_map (pairs_with xs) ys)
+        ∙ rw (own_all p h (filter (can_meet h) xs) e, no_pairs p xs ys none)
+        (append-nil (pairs_with xs h) ∙ ap (pairs_with xs) (sym whole))
     at false e k =
         filter-append (λ row. same_place p (place_of row)) (pairs_with xs h) (flat_map (pairs_with xs) ys) ∙ rw (others_none p h (filter (can_meet h) xs) e) k
 
 -- the rows that a place begins: its own, if it is lit, and then its pairs
-pub partners_found : (is_lit : PlainBase → Bool) (p : Place) (xs : List PlainOffer) → Ascends before (map place xs) → partners_of (rows_of is_lit xs) p ≡ singles_at is_lit p (base_at p xs) ++ pairs_at xs p (base_at p xs)
+pub partners_found : (is_lit : PlainBase → Bool) (p : Place) (xs : List PlainOffer) → Ascends before (map place xs)
+    → partners_of (rows_of is_lit xs) p ≡ singles_at is_lit p (base_at p xs) ++ pairs_at xs p (base_at p xs)
 partners_found is_lit p xs up =
     filter-append (λ row. same_place p (place_of row)) (map single (filter (λ o. is_lit o.base) xs)) (flat_map (pairs_with xs) xs) ∙ rw (singles_found is_lit p xs up, pairs_found p xs xs up) refl

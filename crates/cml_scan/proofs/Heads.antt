@@ -30,7 +30,9 @@ firsts-append_at : (seen ps qs : List Place) (p : Place) (b : Bool) → list_any
     → firsts_after (seen ++ p ∷ []) (ps ++ qs) ≡ firsts_after (seen ++ p ∷ []) ps ++ firsts_after ((seen ++ p ∷ []) ++ firsts_after (seen ++ p ∷ []) ps) qs
     → firsts_after seen ((p ∷ ps) ++ qs) ≡ firsts_after seen (p ∷ ps) ++ firsts_after (seen ++ firsts_after seen (p ∷ ps)) qs
 firsts-append_at seen ps qs p true e skip take = rw e skip
-firsts-append_at seen ps qs p false e skip take = rw e (ap (λ rs. p ∷ rs) (take ∙ ap (λ s. firsts_after (seen ++ p ∷ []) ps ++ firsts_after s qs) (append_assoc seen (p ∷ []) (firsts_after (seen ++ p ∷ []) ps))))
+firsts-append_at seen ps qs p false e skip take = rw e
+    (ap (λ rs. p ∷ rs) (take ∙ ap (λ s. firsts_after (seen ++ p ∷ []) ps ++ firsts_after s qs)
+    (append_assoc seen (p ∷ []) (firsts_after (seen ++ p ∷ []) ps))))
 
 pub firsts-append : (seen ps qs : List Place) → firsts_after seen (ps ++ qs) ≡ firsts_after seen ps ++ firsts_after (seen ++ firsts_after seen ps) qs
 firsts-append seen [] qs = rw (append-nil seen) refl
@@ -81,7 +83,8 @@ pair_heads_at xs rest seen h false e ih fresh =
     let none : firsts_after seen (map place_of (pairs_with xs h)) ≡ [] = firsts_run seen h (filter (can_meet h) xs) false (sym e ∙ some_passes (can_meet h) xs) (λ no. cc) in
     rw (none, append-nil seen) (ih seen fresh)
 
-pair_heads : (xs rest : List PlainOffer) (seen : List Place) → AreFresh seen (map place (filter (has_partner xs) rest)) → firsts_after seen (map place_of (flat_map (pairs_with xs) rest)) ≡ map place (filter (has_partner xs) rest)
+pair_heads : (xs rest : List PlainOffer) (seen : List Place) → AreFresh seen (map place (filter (has_partner xs) rest))
+    → firsts_after seen (map place_of (flat_map (pairs_with xs) rest)) ≡ map place (filter (has_partner xs) rest)
 pair_heads xs [] seen fresh = refl
 pair_heads xs (h ∷ rest) seen fresh =
     ap (firsts_after seen) (map-append place_of (pairs_with xs h) (flat_map (pairs_with xs) rest))
@@ -98,7 +101,9 @@ heads-fresh : (is_lit : PlainBase → Bool) (xs : List PlainOffer) → AreFresh 
 heads-fresh is_lit xs fresh =
     let lit : List Place = map place (filter (λ o. is_lit o.base) xs) in
     let two = fresh_split [] lit (map place (filter (has_partner xs) xs)) fresh in
-    ap (firsts_after []) (map-append place_of (map single (filter (λ o. is_lit o.base) xs)) (flat_map (pairs_with xs) xs) ∙ ap (λ ps. ps ++ map place_of (flat_map (pairs_with xs) xs)) (single_places (filter (λ o. is_lit o.base) xs)))
+    ap (firsts_after []) (map-append place_of (map single (filter (λ o. is_lit o.base) xs))
+    (flat_map (pairs_with xs) xs) ∙ ap (λ ps. ps ++ map place_of (flat_map (pairs_with xs) xs))
+    (single_places (filter (λ o. is_lit o.base) xs)))
     ∙ firsts-append [] lit (map place_of (flat_map (pairs_with xs) xs))
     ∙ rw (firsts_fresh [] lit two.0) (ap (λ ps. lit ++ ps) (pair_heads xs xs lit two.1))
 
@@ -131,7 +136,9 @@ none_kept : (p : Place) (f : PlainOffer → Bool) (ys : List PlainOffer) → bas
 none_kept p f [] none = refl
 none_kept p f (y ∷ ys) none = at (same_place p (place y)) (f y) refl none (none_kept p f ys)
   where
-    at : (s b : Bool) → same_place p (place y) ≡ s → cond s (Some y.base) (base_at p ys) ≡ None → (base_at p ys ≡ None → list_any (same_place p) (map place (filter f ys)) ≡ false) → list_any (same_place p) (map place (cond b (y ∷ filter f ys) (filter f ys))) ≡ false
+    at : (s b : Bool) → same_place p (place y) ≡ s → cond s (Some y.base) (base_at p ys) ≡ None
+        → (base_at p ys ≡ None → list_any (same_place p) (map place (filter f ys)) ≡ false)
+        → list_any (same_place p) (map place (cond b (y ∷ filter f ys) (filter f ys))) ≡ false
     at true b e none k = cc
     at false true e none k = rw e (k none)
     at false false e none k = k none
@@ -140,7 +147,9 @@ any_at : (p : Place) (f : PlainOffer → Bool) (ys : List PlainOffer) → Ascend
 any_at p f [] up = refl
 any_at p f (y ∷ ys) up = at (same_place p (place y)) (f y) refl refl (any_at p f ys up.1)
   where
-    at : (s b : Bool) → same_place p (place y) ≡ s → f y ≡ b → list_any (same_place p) (map place (filter f ys)) ≡ passes f p (base_at p ys) → list_any (same_place p) (map place (cond b (y ∷ filter f ys) (filter f ys))) ≡ passes f p (cond s (Some y.base) (base_at p ys))
+    at : (s b : Bool) → same_place p (place y) ≡ s → f y ≡ b → list_any (same_place p) (map place (filter f ys))
+        ≡ passes f p (base_at p ys) → list_any (same_place p) (map place (cond b (y ∷ filter f ys) (filter f ys)))
+        ≡ passes f p (cond s (Some y.base) (base_at p ys))
     at true true e g k =
         let whole : offer p y.base ≡ y = ap (λ (q : Place). offer q y.base) (same_is p (place y) e) in
         rw e (sym (ap f whole ∙ g))
@@ -167,7 +176,8 @@ at_self [] up = tt
 at_self (x ∷ xs) up = (ap (λ s. cond s (Some x.base) (base_at (place x) xs)) (same_self (place x)), at_behind x xs xs up.0 (at_self xs up.1))
 
 -- a lit leaf has no partner
-lit_no_partner : (is_lit : PlainBase → Bool) → ((b c : PlainBase) → is_lit b ≡ true → meets b c ≡ false) → (h : PlainOffer) (ys : List PlainOffer) → is_lit h.base ≡ true → list_any (can_meet h) ys ≡ false
+lit_no_partner : (is_lit : PlainBase → Bool) → ((b c : PlainBase) → is_lit b ≡ true → meets b c ≡ false)
+    → (h : PlainOffer) (ys : List PlainOffer) → is_lit h.base ≡ true → list_any (can_meet h) ys ≡ false
 lit_no_partner is_lit alone h [] e = refl
 lit_no_partner is_lit alone h (y ∷ ys) e = rw (alone h.base y.base e, lit_no_partner is_lit alone h ys e) (off _)
   where

@@ -35,7 +35,9 @@ no_single_here : (t : Tid) (l : ℕ) (h : PlainOffer) (ys : List PlainOffer) →
 no_single_here t l h [] = refl
 no_single_here t l h (y ∷ ys) = no_single_here t l h ys
 
-single_there : (is_lit : PlainBase → Bool) (t : Tid) (l : ℕ) (xs : List PlainOffer) (ob : Option PlainBase) → let p : Place = record { tid = t; leaf = l } in has_row (singles_at is_lit p ob ++ pairs_at xs p ob) (Single t l) ≡ is_lit_there is_lit ob
+single_there : (is_lit : PlainBase → Bool) (t : Tid) (l : ℕ) (xs : List PlainOffer) (ob : Option PlainBase)
+    → let p : Place = record { tid = t; leaf = l } in has_row (singles_at is_lit p ob ++ pairs_at xs p ob) (Single t l)
+    ≡ is_lit_there is_lit ob
 single_there is_lit t l xs None = refl
 single_there is_lit t l xs (Some b) = at (is_lit b)
   where
@@ -63,7 +65,9 @@ abbrev pub meet_with : PlainOffer → Place → Option PlainBase → Bool
 meet_with h q None = false
 meet_with h q (Some b) = can_meet h (offer q b)
 
-pair_there : (h : PlainOffer) (q : Place) (ys : List PlainOffer) → Ascends before (map place ys) → has_row (map (pair h) (filter (can_meet h) ys)) (Pair (record { 0 = h.thread }) h.leaf q.tid q.leaf) ≡ meet_with h q (base_at q ys)
+pair_there : (h : PlainOffer) (q : Place) (ys : List PlainOffer) → Ascends before (map place ys)
+    → has_row (map (pair h) (filter (can_meet h) ys)) (Pair (record { 0 = h.thread }) h.leaf q.tid q.leaf)
+    ≡ meet_with h q (base_at q ys)
 pair_there h q [] up = refl
 pair_there h q (y ∷ ys) up = at (same_place q (place y)) (can_meet h y) refl refl (pair_there h q ys up.1)
   where
@@ -74,8 +78,11 @@ pair_there h q (y ∷ ys) up = at (same_place q (place y)) (can_meet h y) refl r
     off true t = refl
     off false t = refl
 
-    at : (s m : Bool) → same_place q (place y) ≡ s → can_meet h y ≡ m → has_row (map (pair h) (filter (can_meet h) ys)) (Pair (record { 0 = h.thread }) h.leaf q.tid q.leaf) ≡ meet_with h q (base_at q ys)
-        → has_row (map (pair h) (cond m (y ∷ filter (can_meet h) ys) (filter (can_meet h) ys))) (Pair (record { 0 = h.thread }) h.leaf q.tid q.leaf) ≡ meet_with h q (cond s (Some y.base) (base_at q ys))
+    at : (s m : Bool) → same_place q (place y) ≡ s → can_meet h y ≡ m
+        → has_row (map (pair h) (filter (can_meet h) ys)) (Pair (record { 0 = h.thread }) h.leaf q.tid q.leaf)
+        ≡ meet_with h q (base_at q ys)
+        → has_row (map (pair h) (cond m (y ∷ filter (can_meet h) ys) (filter (can_meet h) ys)))
+        (Pair (record { 0 = h.thread }) h.leaf q.tid q.leaf) ≡ meet_with h q (cond s (Some y.base) (base_at q ys))
     at true true e f k =
         let same : q ≡ place y = same_is q (place y) e in
         let whole : offer q y.base ≡ y = ap (λ (p : Place). offer p y.base) same in
@@ -88,7 +95,9 @@ pair_there h q (y ∷ ys) up = at (same_place q (place y)) (can_meet h y) refl r
     at false true e f k = rw e (off (nat_eq h.thread h.thread && nat_eq h.leaf h.leaf) (has_row (map (pair h) (filter (can_meet h) ys)) (Pair (record { 0 = h.thread }) h.leaf q.tid q.leaf))) ∙ k
     at false false e f k = k
 
-pair_found : (is_lit : PlainBase → Bool) (a : Tid) (i : ℕ) (c : Tid) (k : ℕ) (xs : List PlainOffer) (ob : Option PlainBase) → Ascends before (map place xs) → let p : Place = record { tid = a; leaf = i } in let q : Place = record { tid = c; leaf = k } in
+pair_found : (is_lit : PlainBase → Bool) (a : Tid) (i : ℕ) (c : Tid) (k : ℕ) (xs : List PlainOffer)
+    (ob : Option PlainBase) → Ascends before (map place xs)
+    → let p : Place = record { tid = a; leaf = i } in let q : Place = record { tid = c; leaf = k } in
     has_row (singles_at is_lit p ob ++ pairs_at xs p ob) (Pair a i c k) ≡ meet_at a.0 c.0 ob (base_at q xs)
 pair_found is_lit a i c k xs None up = refl
 pair_found is_lit a i c k xs (Some b) up =
@@ -96,7 +105,9 @@ pair_found is_lit a i c k xs (Some b) up =
     let q : Place = record { tid = c; leaf = k } in
     skip (is_lit b) ∙ pair_there h q xs up ∙ last (base_at q xs)
   where
-    skip : (l : Bool) → has_row (cond l (Single a i ∷ []) [] ++ pairs_with xs (record { thread = a.0; leaf = i; base = b })) (Pair a i c k) ≡ has_row (pairs_with xs (record { thread = a.0; leaf = i; base = b })) (Pair a i c k)
+    skip : (l : Bool) → has_row (cond l (Single a i ∷ []) []
+        ++ pairs_with xs (record { thread = a.0; leaf = i; base = b })) (Pair a i c k)
+        ≡ has_row (pairs_with xs (record { thread = a.0; leaf = i; base = b })) (Pair a i c k)
     skip true = refl
     skip false = refl
 

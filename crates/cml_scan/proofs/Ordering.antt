@@ -75,7 +75,8 @@ all_pairs_up os (h ∷ gs) up gs_up =
 
 single_before : (o : PlainOffer) (os gs : List PlainOffer) → Every (row_before (single o)) (flat_map (pairs_with os) gs)
 single_before o os [] = tt
-single_before o os (g ∷ gs) = Every-append (row_before (single o)) (pairs_with os g) (flat_map (pairs_with os) gs) (every_pair (row_before (single o)) g (filter (can_meet g) os) (λ p. refl)) (single_before o os gs)
+single_before o os (g ∷ gs) = Every-append (row_before (single o)) (pairs_with os g) (flat_map (pairs_with os) gs)
+    (every_pair (row_before (single o)) g (filter (can_meet g) os) (λ p. refl)) (single_before o os gs)
 
 singles_before : (os gs ss : List PlainOffer) → AreBefore row_before (map single ss) (flat_map (pairs_with os) gs)
 singles_before os gs [] = tt

@@ -45,12 +45,14 @@ unlit_found is_lit xs h up dark there =
     own true e = cc
     own false e = refl
 
-send_found : (is_lit : PlainBase → Bool) (xs : List PlainOffer) (h : PlainOffer) (c : ℕ) (v : PlainValue) → Ascends before (map place xs) → is_lit (send c v) ≡ false → Contains xs h → h.base ≡ send c v
+send_found : (is_lit : PlainBase → Bool) (xs : List PlainOffer) (h : PlainOffer) (c : ℕ) (v : PlainValue)
+    → Ascends before (map place xs) → is_lit (send c v) ≡ false → Contains xs h → h.base ≡ send c v
     → partners_of (rows_of is_lit xs) (place h) ≡ map (pair h) (filter (can_take h.thread c) xs)
 send_found is_lit xs h c v up dark there is =
     unlit_found is_lit xs h up (ap is_lit is ∙ dark) there ∙ ap (map (pair h)) (filter_agree (can_meet h) (can_take h.thread c) (can_meet-send h c v is) xs)
 
-swap_found : (is_lit : PlainBase → Bool) (xs : List PlainOffer) (h : PlainOffer) (s : ℕ) (v : PlainValue) → Ascends before (map place xs) → is_lit (swap s v) ≡ false → Contains xs h → h.base ≡ swap s v
+swap_found : (is_lit : PlainBase → Bool) (xs : List PlainOffer) (h : PlainOffer) (s : ℕ) (v : PlainValue)
+    → Ascends before (map place xs) → is_lit (swap s v) ≡ false → Contains xs h → h.base ≡ swap s v
     → partners_of (rows_of is_lit xs) (place h) ≡ map (pair h) (filter (can_swap h.thread s) xs)
 swap_found is_lit xs h s v up dark there is =
     unlit_found is_lit xs h up (ap is_lit is ∙ dark) there ∙ ap (map (pair h)) (filter_agree (can_meet h) (can_swap h.thread s) (can_meet-swap h s v is) xs)

@@ -41,7 +41,9 @@ AgreeForGroup g told lit = All (λ b. is_told told (light b) ≡ is_told lit (li
 of_leaves : (P : PlainBase → Type 0) (thread leaf : ℕ) (bs : List PlainBase) → All P bs → All (λ o. P o.base) (leaves_from thread leaf bs)
 of_leaves P thread leaf [] all = All-nil (λ (o : PlainOffer). P o.base)
 of_leaves P thread leaf (b ∷ bs) all =
-    All-cons (λ (o : PlainOffer). P o.base) (record { thread = thread; leaf = leaf; base = b }) (leaves_from thread (leaf + 1) bs) (All-head P b bs all) (of_leaves P thread (leaf + 1) bs (All-tail P b bs all))
+    All-cons (λ (o : PlainOffer). P o.base) (record { thread = thread; leaf = leaf; base = b })
+    (leaves_from thread (leaf + 1) bs) (All-head P b bs all)
+    (of_leaves P thread (leaf + 1) bs (All-tail P b bs all))
 
 -- threads go
 pub AgreeFor-without : (gone : List Tid) (es : List PlainEntry) (told lit : Light → Bool) → AgreeFor es told lit → AgreeFor (without gone es) told lit
@@ -64,7 +66,9 @@ abbrev pub AgreeForCame : Option (Tid × Bor PlainGroup) → (Light → Bool) �
 AgreeForCame None told lit = Unit {0}
 AgreeForCame (Some c) told lit = AgreeForGroup c.1.now told lit
 
-pub AgreeFor-changed : (es : List PlainEntry) (gone : List Tid) (came : Option (Tid × Bor PlainGroup)) (told lit : Light → Bool) → AgreeFor es told lit → AgreeForCame came told lit → AgreeFor (changed es gone came) told lit
+pub AgreeFor-changed : (es : List PlainEntry) (gone : List Tid) (came : Option (Tid × Bor PlainGroup))
+    (told lit : Light → Bool) → AgreeFor es told lit → AgreeForCame came told lit
+    → AgreeFor (changed es gone came) told lit
 AgreeFor-changed es gone None told lit all own = AgreeFor-without gone es told lit all
 AgreeFor-changed es gone (Some c) told lit all own = AgreeFor-with_entry (record { thread = c.0.0; group = c.1.now }) (without gone es) told lit (AgreeFor-without gone es told lit all) own
 

@@ -25,7 +25,7 @@ abbrev pub has_fired : Option PlainNack → Bool
 has_fired (Some fired) = true
 has_fired _ = false
 
--- Whether the base can be taken alone. An alwaysEvt always can; a variable's base where the variable is full; a receive from a
+-- Whether the base event can be taken alone. An alwaysEvt always can; a variable's base where the variable is full; a receive from a
 -- mailbox or a port where it has an item; a join where the thread has ended; an atTimeEvt from its tick on; a nack event where
 -- the nack has fired. A send and a receive on a channel and a swap need a partner and never can. An after never stands in a pending group.
 abbrev pub lit : PlainWorld → PlainBase → Bool
@@ -44,7 +44,7 @@ lit w (at_tick t) = nat_le t w.tick
 lit w (after_ticks d) = false
 lit w (nack k) = has_fired (slice_get w.nacks k)
 
--- The light of a base: the object whose state it looks at. One that looks at none has no light.
+-- The light of a base event: the object on whose state it depends. One that depends on none has no light.
 abbrev pub light : PlainBase → Option Light
 light (always v) = None
 light (send c v) = None

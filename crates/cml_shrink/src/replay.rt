@@ -31,7 +31,7 @@ fn let_go(hub: Hub) {
 fn last_details(alloc: Global, hub: Hub) -> Result<Vec<Detail>, AllocError>
     ensures { IfOk result (λ details. HubEndsWith hub details.items) }
 {
-    // Read for the proof alone, which uses what is promised of it.
+    // No effect: named here so that the prover knows what holds of it.
     let _so_far = hub.schedule();
     let details = details_of(alloc, &hub);
     let_go(hub);

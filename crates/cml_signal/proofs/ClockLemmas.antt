@@ -43,14 +43,16 @@ adds_step true l new old h k = (let e : old ≡ l = k refl in rw e h)
 adds_step false l new old h k = h
 
 pub adds_leaf : (m n : BTreeMap ℕ ℕ) (tick l : ℕ) → l ≡ leaves_at m.entries tick → SetsAt tick (Some (l + 1)) m n → AddsLeaf tick m.entries n.entries
-adds_leaf m n tick l e h t = adds_step (t == tick) l (leaves_at n.entries t) (leaves_at m.entries t) (updated m n tick (Some (l + 1)) h t) (λ b. ap (leaves_at m.entries) (equal_ticks t tick b) ∙ sym e)
+adds_leaf m n tick l e h t = adds_step (t == tick) l (leaves_at n.entries t) (leaves_at m.entries t)
+    (updated m n tick (Some (l + 1)) h t) (λ b. ap (leaves_at m.entries) (equal_ticks t tick b) ∙ sym e)
 
 removes_step : (b : Bool) (l new old : ℕ) (w : Option ℕ) → unwrap_or w 0 ≡ l - 1 → new ≡ cond b (unwrap_or w 0) old → (b ≡ true → old ≡ l) → new ≡ (if b then old - 1 else old)
 removes_step true l new old w e h k = (let i : old ≡ l = k refl in rw i (h ∙ e))
 removes_step false l new old w e h k = h
 
 removes_leaf : (m n : BTreeMap ℕ ℕ) (tick l : ℕ) (w : Option ℕ) → l ≡ leaves_at m.entries tick → unwrap_or w 0 ≡ l - 1 → SetsAt tick w m n → RemovesLeaf tick m.entries n.entries
-removes_leaf m n tick l w e f h t = removes_step (t == tick) l (leaves_at n.entries t) (leaves_at m.entries t) w f (updated m n tick w h t) (λ b. ap (leaves_at m.entries) (equal_ticks t tick b) ∙ sym e)
+removes_leaf m n tick l w e f h t = removes_step (t == tick) l (leaves_at n.entries t) (leaves_at m.entries t) w f
+    (updated m n tick w h t) (λ b. ap (leaves_at m.entries) (equal_ticks t tick b) ∙ sym e)
 
 pub removes_one : (m n : BTreeMap ℕ ℕ) (tick l : ℕ) → l ≡ leaves_at m.entries tick → SetsAt tick (Some (l - 1)) m n → RemovesLeaf tick m.entries n.entries
 removes_one m n tick l e h = removes_leaf m n tick l (Some (l - 1)) e refl h

@@ -39,7 +39,9 @@ key_waited (e ∷ es) t p h =
 
 -- the keys that pass a test
 
-has_filter_step : (b : Bool) (p : ℕ → Bool) (e : ℕ × ℕ) (rest : List (ℕ × ℕ)) (t : ℕ) (P : Type 0) → p e.0 ≡ b → (Has (keys_of rest) t ↔ (P × IsTrue (p t))) → Has (keys_of (cond b (e ∷ rest) rest)) t ↔ (((e.0 ≡ t) ⊎ P) × IsTrue (p t))
+has_filter_step : (b : Bool) (p : ℕ → Bool) (e : ℕ × ℕ) (rest : List (ℕ × ℕ)) (t : ℕ) (P : Type 0) → p e.0 ≡ b
+    → (Has (keys_of rest) t ↔ (P × IsTrue (p t)))
+    → Has (keys_of (cond b (e ∷ rest) rest)) t ↔ (((e.0 ≡ t) ⊎ P) × IsTrue (p t))
 has_filter_step true p e rest t P c h = (
   (λ k. elim k [ inl i ↦ (inl i, ap p (sym i) ∙ c) | inr i ↦ (inr (h.0 i).0, (h.0 i).1) ]),
   (λ k. elim k.0 [ inl i ↦ inl i | inr i ↦ inr (h.1 (i, k.1)) ]),
@@ -74,7 +76,8 @@ above_filter : (p : ℕ → Bool) (t : ℕ) (es : List (ℕ × ℕ)) → AllByRe
 above_filter p t [] h = tt
 above_filter p t (e ∷ es) h = above_step (p e.0) t e (filter (λ e. p e.0) es) (less_ticks t e.0 h.0) (above_filter p t es h.1)
 
-ascending_step : (b : Bool) (e : ℕ × ℕ) (rest : List (ℕ × ℕ)) → AllByRecursion (λ u. e.0 < u) (keys_of rest) → Ascending (λ a b. a < b) (keys_of rest) → Ascending (λ a b. a < b) (keys_of (cond b (e ∷ rest) rest))
+ascending_step : (b : Bool) (e : ℕ × ℕ) (rest : List (ℕ × ℕ)) → AllByRecursion (λ u. e.0 < u) (keys_of rest)
+    → Ascending (λ a b. a < b) (keys_of rest) → Ascending (λ a b. a < b) (keys_of (cond b (e ∷ rest) rest))
 ascending_step true e rest h k = (h, k)
 ascending_step false e rest h k = k
 
@@ -122,7 +125,9 @@ least_step t u (x ∷ rest) h (inr (inl e)) = (let l : t < x = h.0 in omega arit
 least_step t u (x ∷ rest) h (inr (inr k)) = least_step t u rest h.1 (inr k)
 
 -- and no waited tick of the part is less
-pub first_least : (es : List (ℕ × ℕ)) (from t v : ℕ) (rest : List (ℕ × ℕ)) → filter (λ e. is_above from e.0) es ≡ (t, v) ∷ rest → All (λ n. 0 < n) (values_of es) → IsStrictlySortedBy nat_cmp (keys_of es) → (u : ℕ) → 0 < leaves_at es u → from < u → t ≤ u
+pub first_least : (es : List (ℕ × ℕ)) (from t v : ℕ) (rest : List (ℕ × ℕ)) → filter (λ e. is_above from e.0) es ≡ (t, v)
+    ∷ rest → All (λ n. 0 < n) (values_of es) → IsStrictlySortedBy nat_cmp (keys_of es) → (u : ℕ) → 0 < leaves_at es u
+    → from < u → t ≤ u
 first_least es from t v rest e h o u w a =
     let there : Contains (keys_of (filter (λ e. is_above from e.0) es)) u = (ticks_exact (is_above from) es u h).1 (w, above_bound from u a) in
     let order : Ascending (λ a b. a < b) (t ∷ keys_of rest) = rw e at (ascending_filter (is_above from) es o) in

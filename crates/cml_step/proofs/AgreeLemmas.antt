@@ -7,7 +7,31 @@ use Rattle.cml_check.specs.declared.syntax.Unary.{Unary}
 use Rattle.cml_check.specs.declared.syntax.Unary.TheVariants as unary_of
 use Rattle.cml_check.specs.declared.syntax.Binary.{Binary}
 use Rattle.cml_check.specs.declared.syntax.Binary.TheVariants as binary_of
-use Rattle.cml_value.specs.Value.{PlainValue, unit, int, truth, pair, thread, chan, ivar, mvar, mailbox, mchan, port, event, PlainValues, no_values, values_and, PlainFunction, function, values, PlainEvent, PlainBase, events, leaf}
+use Rattle.cml_value.specs.Value.{
+  PlainValue,
+  unit,
+  int,
+  truth,
+  pair,
+  thread,
+  chan,
+  ivar,
+  mvar,
+  mailbox,
+  mchan,
+  port,
+  event,
+  PlainValues,
+  no_values,
+  values_and,
+  PlainFunction,
+  function,
+  values,
+  PlainEvent,
+  PlainBase,
+  events,
+  leaf,
+}
 use Rattle.cml_value.specs.Value as value
 use Rattle.cml_value.specs.Limits.{value_fits}
 use Rattle.cml_check.specs.Syntax.{PlainExpr, constant, number, text, variable, unary, binary, choose, wrap, guard, with_nack, PlainExprs, no_exprs, exprs_and}
@@ -227,6 +251,11 @@ answers_count n (Err e) found g a = tt
 pub offer_agrees : (fs : List ℕ) (r : Option PlainEvent) (found : Found PlainValue) → IfSome r (λ x. found ≡ Ok (event x)) → Agrees fs found → IfSome r (λ x. event_agrees fs x ≡ true)
 offer_agrees fs (Some x) found g a = subst (Agrees fs) g a
 offer_agrees fs None found g a = tt
+
+-- the same of a value that is found
+pub message_agrees : (fs : List ℕ) (r : Option PlainValue) (found : Found PlainValue) → IfSome r (λ v. found ≡ Ok v) → Agrees fs found → IfSome r (λ v. value_agrees fs v ≡ true)
+message_agrees fs (Some v) found g a = subst (Agrees fs) g a
+message_agrees fs None found g a = tt
 
 -- a function that takes as many values as there are
 pub called_agrees : (fs : List ℕ) (f n : ℕ) (vs : List PlainValue) → takes fs f n ≡ true → length vs ≡ n → all_agree fs vs ≡ true →

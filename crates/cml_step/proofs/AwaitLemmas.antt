@@ -22,7 +22,26 @@ use Rattle.cml_step.specs.Asks.{PlainAsk}
 use Rattle.cml_step.specs.Forced.{with_argument}
 use Rattle.cml_step.specs.Answers as await
 use Rattle.cml_step.specs.Answers.{PlainAwait, top_await, awaited_by, await_of}
-use Rattle.cml_step.specs.Steps.{PlainStep, goes_on, asks, fails, ◌>>=◌, is_below_limit, pushed, delivered, act_step, one_step, two_step, effect_step, source_step, statement_step, call_step, force_step, wraps_step, next}
+use Rattle.cml_step.specs.Steps.{
+  PlainStep,
+  goes_on,
+  asks,
+  fails,
+  ◌>>=◌,
+  is_below_limit,
+  pushed,
+  delivered,
+  act_step,
+  one_step,
+  two_step,
+  effect_step,
+  source_step,
+  statement_step,
+  call_step,
+  force_step,
+  wraps_step,
+  next,
+}
 use Rattle.cml_step.specs.Slices.{PlainSlice, carried, sliced_from}
 
 abbrev Waits : PlainStep → Type 0
@@ -138,4 +157,5 @@ carried_waits go n _ t h g = h
 pub sliced_waits : (p : Program) (self k n : ℕ) (t : Term) → top_await t ≡ await.nothing → SliceWaits (sliced_from p self k n t)
 unfolding sliced_from
 sliced_waits p self zero n t h = h
-sliced_waits p self (suc k) n t h = carried_waits (λ u. sliced_from p self k (n + 1) u) (n + 1) (next p self t).ask (next p self t).term (next_waits p self t h) (λ u g. sliced_waits p self k (n + 1) u g)
+sliced_waits p self (suc k) n t h = carried_waits (λ u. sliced_from p self k (n + 1) u) (n + 1) (next p self t).ask
+    (next p self t).term (next_waits p self t h) (λ u g. sliced_waits p self k (n + 1) u g)

@@ -1,6 +1,7 @@
 -- A call's slots, and what it does at its place.
-use Rattle.std.proofs.Common.{◌≡◌, ℕ, zero, suc, Bool, true, false, List, [], ◌∷◌, ◌++◌, length, set, refl, ap, sym, ◌∙◌, subst, Result, Ok, Err}
+use Rattle.std.proofs.Common.{◌≡◌, ℕ, zero, suc, Bool, true, false, List, [], ◌∷◌, ◌++◌, ◌≤◌, length, set, take, refl, ap, sym, ◌∙◌, subst, Result, Ok, Err}
 use Rattle.std.specs.Prelude.{if◌then◌else◌}
+use Rattle.std.proofs.lemmas.List.{take-append-le}
 use Rattle.std.proofs.lemmas.Bool.{and_parts, and_from}
 use Rattle.cml_value.specs.Value.{PlainValue, unit}
 use Rattle.cml_check.specs.Syntax.{Name, name_at, PlainExpr, expr_map, PlainStmt, if_so, while_so, PlainStmts, no_stmts, stmts_and, stmt_map, stmts_map, PlainItem}
@@ -29,6 +30,14 @@ padded names vs ws h = bound_unit names vs ∙ h
 pub agree_padded : (fs : List ℕ) (vs : List PlainValue) → all_agree fs vs ≡ true → all_agree fs (vs ++ unit ∷ []) ≡ true
 agree_padded fs [] h = refl
 agree_padded fs (v ∷ vs) h = and_from _ _ (and_parts _ _ h).0 (agree_padded fs vs (and_parts (value_agrees fs v) _ h).1)
+
+-- the slots that there were
+pub take_all : {A : Type 0} → (xs : List A) → take (length xs) xs ≡ xs
+take_all [] = refl
+take_all (x ∷ xs) = ap (λ ys. x ∷ ys) (take_all xs)
+
+pub had_padded : (n : ℕ) (vs ws : List PlainValue) → n ≤ length vs → take n vs ≡ ws → take n (vs ++ unit ∷ []) ≡ ws
+had_padded n vs ws l h = take-append-le n vs (unit ∷ []) l ∙ h
 
 pub agree_set : (fs : List ℕ) (vs : List PlainValue) (s : ℕ) (v : PlainValue) → all_agree fs vs ≡ true → value_agrees fs v ≡ true → all_agree fs (set vs s v) ≡ true
 agree_set fs [] s v h g = h

@@ -7,9 +7,11 @@ pub mod CallLemmas
 pub mod StandingLemmas
 pub mod ForceLemmas
 pub mod StackLemmas
+pub mod UndoLemmas
 pub mod SliceLemmas
 pub mod QuietLemmas
 pub mod QuickLemmas
+pub mod SyncLemmas
 pub mod AwaitLemmas
 pub mod AnswerLemmas
 pub mod ShortLemmas

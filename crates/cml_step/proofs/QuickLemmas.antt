@@ -42,7 +42,7 @@ on_length : (p : List (PlainItem ℕ)) (cs : List Call) (below : Term) → lengt
 on_length p [] below = omega arith
 on_length p (c ∷ cs) below = omega (arith, on_length p cs (entry_of p c ∷ below))
 
-lower : (m n : ℕ) → m < n → nat_lt m n ≡ true
+pub lower : (m n : ℕ) → m < n → nat_lt m n ≡ true
 lower m n h = grind (arith, nat_tests)
 
 -- where there is room, there is room for one more call
@@ -53,7 +53,7 @@ below_limit p cs room e below h r = lower (length (e ∷ calls_on p cs below)) m
 pub room_left : (room beneath : ℕ) (below : Term) → room ≡ 1023 - beneath → length below ≡ beneath → HasRoomAbove room below
 room_left room beneath below r b = λ n h. omega (arith, r, b, h)
 
-put : (e : StackEntry) (below : Term) → is_below_limit below ≡ true → pushed e below ≡ goes_on (e ∷ below)
+pub put : (e : StackEntry) (below : Term) → is_below_limit below ≡ true → pushed e below ≡ goes_on (e ∷ below)
 put e below room = ap (λ (b : Bool). if b then goes_on (e ∷ below) else fails Stack) room
 
 -- a call that is made where there is room
@@ -64,7 +64,8 @@ call_made p found c below is at runs room =
     ∙ put (call_of (text_of p) (function c.func (values c.slots.items))) below room
     ∙ ap (λ e. goes_on (e ∷ below)) (sym (begun p c.slots.items c at refl runs))
 
-pub made_fits : (p : List (PlainItem ℕ)) (c : Call) (n : ℕ) → takes (arities p) c.func n ≡ true → length c.slots.items ≡ n → all_agree (arities p) c.slots.items ≡ true → c.wait ≡ wait.Runs → CallFits p c
+pub made_fits : (p : List (PlainItem ℕ)) (c : Call) (n : ℕ) → takes (arities p) c.func n ≡ true → length c.slots.items
+    ≡ n → all_agree (arities p) c.slots.items ≡ true → c.wait ≡ wait.Runs → CallFits p c
 made_fits p c n t l h w = begun_fits p c (called_agrees (arities p) c.func n c.slots.items t l h) w
 
 -- the entry of a call of this function
@@ -101,7 +102,9 @@ goes_then p self n (suc m) t u v g h = subst (λ k. GoesIn p self k t v) (later 
     later a b = omega arith
 
 -- calls that were laid below, one after another
-pub laid_term : (p : List (PlainItem ℕ)) (left : List Call) (c : Call) (hs : List PlainHeld) → calls_on p (reverse (left ++ c ∷ [])) (term_of p hs) ≡ calls_on p (reverse left) (term_of p (hs ++ plain_held (entry.Call c) ∷ []))
+pub laid_term : (p : List (PlainItem ℕ)) (left : List Call) (c : Call) (hs : List PlainHeld)
+    → calls_on p (reverse (left ++ c ∷ [])) (term_of p hs)
+    ≡ calls_on p (reverse left) (term_of p (hs ++ plain_held (entry.Call c) ∷ []))
 laid_term p left c hs =
     ap (λ cs. calls_on p cs (term_of p hs)) (reverse-append left (c ∷ []))
     ∙ ap (λ t. calls_on p (reverse left) t) (sym (term_pushed p hs (plain_held (entry.Call c))))

@@ -31,7 +31,26 @@ use Rattle.cml_step.specs.Answers as await
 use Rattle.cml_step.specs.Answers.{PlainAwait, top_await, awaited_by, await_of, answer_for, after_answer, with_nack_number, entries_to_come, IsShort}
 use Rattle.cml_step.specs.Machines.{PlainHeld, PlainMachine, held_entry, held_on, machine_term, AllHeldFit, Fits}
 use Rattle.cml_step.specs.Machines as held
-use Rattle.cml_step.specs.Steps.{PlainStep, goes_on, asks, fails, ◌>>=◌, is_below_limit, pushed, delivered, act_step, one_step, two_step, effect_step, source_step, statement_step, call_step, force_step, wraps_step, next}
+use Rattle.cml_step.specs.Steps.{
+  PlainStep,
+  goes_on,
+  asks,
+  fails,
+  ◌>>=◌,
+  is_below_limit,
+  pushed,
+  delivered,
+  act_step,
+  one_step,
+  two_step,
+  effect_step,
+  source_step,
+  statement_step,
+  call_step,
+  force_step,
+  wraps_step,
+  next,
+}
 use Rattle.cml_step.specs.Slices.{PlainSlice, carried, sliced_from}
 use Rattle.cml_step.proofs.AwaitLemmas.{begun_runs, sliced_waits}
 use Rattle.cml_step.proofs.AnswerLemmas.{answered_runs}
@@ -107,7 +126,8 @@ effect_short p self vars (syntax.call f es) t h = bind (evaluate_all (value_of v
 effect_short p self vars (syntax.spawn f es) t h = bind (evaluate_all (value_of vars) es) _ (λ vs. asked_short t h)
 
 -- a step of a call above these entries
-source_short : (p : Program) (self : ℕ) (x : Name) (s : PlainSource Name) (left : PlainStmts Name) (vars : Variables) (t : Term) → length t < max_entries → IsShortStep (source_step p self x s left vars t)
+source_short : (p : Program) (self : ℕ) (x : Name) (s : PlainSource Name) (left : PlainStmts Name) (vars : Variables)
+    (t : Term) → length t < max_entries → IsShortStep (source_step p self x s left vars t)
 source_short p self x (value e) left vars t h = bind (evaluate (value_of vars) e) _ (λ v. omega (arith, h))
 source_short p self x (effect f) left vars t h = effect_short p self vars f (call left vars (gives x) ∷ t) (omega (arith, h))
 
@@ -146,7 +166,9 @@ next_short p self (force e false ∷ below) h = force_short p (unforced e) e bel
 next_short p self (force e true ∷ below) h = omega (arith, h)
 next_short p self (wraps fs v ∷ below) h = wraps_short p fs v below (omega (arith, h))
 
-carried_short : (go : Term → PlainSlice) (n : ℕ) (a : PlainAsk) (t : Term) → Short a t → ((u : Term) → length u ≤ max_entries → Short (go u).ask (go u).end) → Short (carried go n a t).ask (carried go n a t).end
+carried_short : (go : Term → PlainSlice) (n : ℕ) (a : PlainAsk) (t : Term) → Short a t
+    → ((u : Term) → length u ≤ max_entries → Short (go u).ask (go u).end)
+    → Short (carried go n a t).ask (carried go n a t).end
 carried_short go n ask.nothing t h g = g t (omega (arith, h))
 carried_short go n _ t h g = h
 
@@ -154,7 +176,8 @@ carried_short go n _ t h g = h
 sliced_ends : (p : Program) (self k n : ℕ) (t : Term) → length t ≤ max_entries → Short (sliced_from p self k n t).ask (sliced_from p self k n t).end
 unfolding sliced_from
 sliced_ends p self zero n t h = omega (arith, h)
-sliced_ends p self (suc k) n t h = carried_short (λ u. sliced_from p self k (n + 1) u) (n + 1) (next p self t).ask (next p self t).term (next_short p self t h) (λ u g. sliced_ends p self k (n + 1) u g)
+sliced_ends p self (suc k) n t h = carried_short (λ u. sliced_from p self k (n + 1) u) (n + 1) (next p self t).ask
+    (next p self t).term (next_short p self t h) (λ u g. sliced_ends p self k (n + 1) u g)
 
 pub sliced_short : (p : Program) (self k n : ℕ) (t : Term) → top_await t ≡ await.nothing → length t ≤ max_entries → IsShort (sliced_from p self k n t).end
 sliced_short p self k n t w h =
@@ -231,7 +254,8 @@ pub machine_length : (p : List (PlainItem ℕ)) (m : PlainMachine) → length m.
 machine_length p m = omega (arith, held_length p m.stack [])
 
 -- an answered machine fits, where its entries do
-pub answered_fits : (p : List (PlainItem ℕ)) (m n : PlainMachine) (a : PlainAnswer) → Fits p m → Awaits m a → machine_term p n ≡ after_answer (text_of p) a (machine_term p m) → AllHeldFit p n.stack → Fits p n
+pub answered_fits : (p : List (PlainItem ℕ)) (m n : PlainMachine) (a : PlainAnswer) → Fits p m → Awaits m a
+    → machine_term p n ≡ after_answer (text_of p) a (machine_term p m) → AllHeldFit p n.stack → Fits p n
 answered_fits p m n a h w e s = record {
   order = h.order;
   stack = s;

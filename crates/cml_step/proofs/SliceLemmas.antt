@@ -8,7 +8,7 @@ use Rattle.cml_step.specs.Asks as ask
 use Rattle.cml_step.specs.Asks.{PlainAsk}
 use Rattle.cml_step.specs.AskViews.{plain_ask}
 use Rattle.cml_step.specs.Steps.{PlainStep, goes_on, asks, fails, next}
-use Rattle.cml_step.specs.Slices.{PlainSlice, carried, sliced_from, GoesIn}
+use Rattle.cml_step.specs.Slices.{PlainSlice, carried, sliced, sliced_from, max_steps, GoesIn}
 
 stops : (go : Term → PlainSlice) (n : ℕ) (a : Ask) (t : Term) → (a ≡ asks_of.Nothing → ⊥) → carried go n (plain_ask a) t ≡ record { ask = plain_ask a; end = t; steps = n }
 stops go n asks_of.Nothing t h = absurd (h refl)
@@ -86,7 +86,8 @@ slice_skips p self k n m t u goes within = ap (λ j. sliced_from p self j m t) (
 abbrev Counts : ℕ → ℕ → ℕ → Type 0
 Counts least most steps = (least ≤ steps) × (steps ≤ most)
 
-carried_counts : (go : Term → PlainSlice) (least most n : ℕ) (a : PlainAsk) (t : Term) → Counts least most n → ((u : Term) → Counts least most (go u).steps) → Counts least most (carried go n a t).steps
+carried_counts : (go : Term → PlainSlice) (least most n : ℕ) (a : PlainAsk) (t : Term) → Counts least most n
+    → ((u : Term) → Counts least most (go u).steps) → Counts least most (carried go n a t).steps
 carried_counts go least most n ask.nothing t h g = g t
 carried_counts go least most n _ t h g = h
 
@@ -103,3 +104,48 @@ unfolding sliced_from
 slice_counts p self left n t =
     carried_counts (λ u. sliced_from p self left (n + 1) u) (n + 1) (n + suc left) (n + 1) (next p self t).ask (next p self t).term (omega arith, omega arith)
     (λ u. let r = counts_on p self left (n + 1) u in (r.0, omega (arith, r.1)))
+
+-- the same slice, where this many steps more were taken before
+abbrev pub later : ℕ → PlainSlice → PlainSlice
+later n s = record { ask = s.ask; end = s.end; steps = n + s.steps }
+
+carried_later : (go past : Term → PlainSlice) (n k : ℕ) (a : PlainAsk) (t : Term) → ((u : Term) → past u ≡ later n (go u)) → carried past (n + k) a t ≡ later n (carried go k a t)
+carried_later go past n k ask.nothing t h = h t
+carried_later go past n k _ t h = refl
+
+slice_later : (p : Program) (self left n m : ℕ) (t : Term) → sliced_from p self left (n + m) t ≡ later n (sliced_from p self left m t)
+unfolding sliced_from
+slice_later p self zero n m t = refl
+slice_later p self (suc left) n m t =
+    ap (λ k. carried (λ u. sliced_from p self left k u) k (next p self t).ask (next p self t).term) (moved n m)
+    ∙ carried_later (λ u. sliced_from p self left (m + 1) u) (λ u. sliced_from p self left (n + (m + 1)) u) n (m + 1) (next p self t).ask (next p self t).term (λ u. slice_later p self left n (m + 1) u)
+  where
+    moved : (a b : ℕ) → a + b + 1 ≡ a + (b + 1)
+    moved a b = omega arith
+
+plus_none : (n : ℕ) → n ≡ n + 0
+plus_none n = omega arith
+
+none_plus : (n : ℕ) → 0 + n ≡ n
+none_plus n = omega arith
+
+-- a slice that begins with this many steps which go on, and what is left of it comes to this
+pub slice_rest : (p : Program) (self n k : ℕ) (t u e : Term) (a : PlainAsk) → GoesIn p self n t u → n ≤ max_steps → sliced_from p self (1000 - n) 0 u ≡ record { ask = a; end = e; steps = k } →
+    sliced p self t ≡ record { ask = a; end = e; steps = n + k }
+slice_rest p self n k t u e a goes within rest =
+    slice_skips p self 1000 n 0 t u goes within
+    ∙ ap (λ m. sliced_from p self (1000 - m) m u) (none_plus n)
+    ∙ ap (λ m. sliced_from p self (1000 - n) m u) (plus_none n)
+    ∙ slice_later p self (1000 - n) n 0 u ∙ ap (later n) rest
+
+-- the same, where the step after them asks
+pub slice_then_asks : (p : Program) (self n : ℕ) (t u v : Term) (a : Ask) → GoesIn p self n t u → n < max_steps → next p self u ≡ asks (plain_ask a) v → (a ≡ asks_of.Nothing → ⊥) →
+    sliced p self t ≡ record { ask = plain_ask a; end = v; steps = n + 1 }
+slice_then_asks p self n t u v a goes lower step something =
+    slice_skips p self 1000 n 0 t u goes (omega (arith, lower))
+    ∙ ap (λ m. sliced_from p self (1000 - m) m u) (none_plus n)
+    ∙ slice_asks p self 1000 n u v a lower step something
+
+-- a slice takes no more steps than are left
+pub slice_within : (p : Program) (self left k : ℕ) (t e : Term) (a : PlainAsk) → sliced_from p self left 0 t ≡ record { ask = a; end = e; steps = k } → k ≤ left
+slice_within p self left k t e a is = let most = (counts_on p self left 0 t).1 in let same = ap (λ s. s.steps) is in omega (arith, most, same)

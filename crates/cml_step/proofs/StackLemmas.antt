@@ -1,5 +1,35 @@
 -- A stack and its term.
-use Rattle.std.proofs.Common.{◌≡◌, ℕ, zero, suc, ◌+◌, ◌<◌, true, List, [], ◌∷◌, ◌++◌, length, map, refl, ap, sym, ◌∙◌, subst, arith, get_or, Option, Some, None, Result, Ok, Err, false, slice_get, reverse}
+use Rattle.std.proofs.Common.{
+  ◌≡◌,
+  ℕ,
+  zero,
+  suc,
+  ◌+◌,
+  ◌<◌,
+  true,
+  List,
+  [],
+  ◌∷◌,
+  ◌++◌,
+  length,
+  map,
+  refl,
+  ap,
+  sym,
+  ◌∙◌,
+  subst,
+  arith,
+  get_or,
+  Option,
+  Some,
+  None,
+  Result,
+  Ok,
+  Err,
+  false,
+  slice_get,
+  reverse,
+}
 use Rattle.std.proofs.lemmas.List.{reverse-append}
 use Rattle.std.proofs.Common.{length-append}
 use Rattle.std.specs.Option.{option_map, is_some}
@@ -34,7 +64,7 @@ use Rattle.cml_step.specs.Terms.{Program, StackEntry, call, wraps, Term, list_of
 use Rattle.cml_step.specs.Agrees.{functions_agree}
 use Rattle.cml_step.specs.Machines.{PlainHeld, plain_held, held_entry, held_on, HeldFits, HeldFitsBeneath, name_count}
 use Rattle.cml_step.specs.declared.entry.Entry.{Entry}
-use Rattle.cml_step.specs.Shared.{topped, called}
+use Rattle.cml_step.specs.Shared.{topped, called, HasNoCallOnTop}
 use Rattle.cml_step.specs.Stacks.{CallFits, WrapsFit, term_of, EachBeneath, StackFits, IsStep, StepFits, IsDelivered, EntryStands}
 use Rattle.cml_step.specs.Asks.{PlainAsk}
 use Rattle.cml_step.specs.declared.ask.Ask.{Ask}
@@ -177,7 +207,9 @@ moved_fits p f c d l g e a w = record {
 pub last_next : (fs : List PlainFunction) (f : PlainFunction) → reverse (fs ++ f ∷ []) ≡ f ∷ reverse fs
 last_next fs f = reverse-append fs (f ∷ [])
 
-pub wraps_popped : (counts : List ℕ) (fs : List PlainFunction) (f : PlainFunction) → functions_agree counts (fs ++ f ∷ []) ≡ true → (functions_agree counts fs ≡ true) × (function_agrees counts 1 f ≡ true)
+pub wraps_popped : (counts : List ℕ) (fs : List PlainFunction) (f : PlainFunction)
+    → functions_agree counts (fs ++ f ∷ []) ≡ true → (functions_agree counts fs ≡ true)
+    × (function_agrees counts 1 f ≡ true)
 wraps_popped counts [] f h = (refl, (and_parts _ _ h).0)
 wraps_popped counts (x ∷ fs) f h = let r = wraps_popped counts fs f (and_parts (function_agrees counts 1 x) _ h).1 in (and_from _ _ (and_parts _ _ h).0 r.0, r.1)
 
@@ -217,6 +249,15 @@ pub nothing_on_top : (es : List PlainHeld) (e : PlainHeld) → es ++ e ∷ [] �
 nothing_on_top [] e h = cc
 nothing_on_top (x ∷ es) e h = cc
 
+-- entries without a call on top
+pub no_call_in_none : (hs : List PlainHeld) → hs ≡ [] → HasNoCallOnTop hs
+unfolding HasNoCallOnTop
+no_call_in_none hs e = λ gs c is. nothing_on_top gs (plain_held (entry.Call c)) (sym is ∙ e)
+
+pub no_call_on : (hs es : List PlainHeld) (h : PlainHeld) → es ≡ hs ++ h ∷ [] → ((c : Call) → h ≡ plain_held (entry.Call c) → ⊥) → HasNoCallOnTop es
+unfolding HasNoCallOnTop
+no_call_on hs es h e other = λ gs c is. other c (top_and_rest hs gs h (plain_held (entry.Call c)) (sym e ∙ is)).1
+
 -- a stack with this entry on top
 pub stands_fits : (p : List (PlainItem ℕ)) (es hs : List PlainHeld) (h : PlainHeld) → es ≡ hs ++ h ∷ [] → EachBeneath p hs → HeldFits p h → StackFits p es
 stands_fits p es hs h e b f = subst (StackFits p) (sym e) (fits_pushed p hs h b f)
@@ -242,7 +283,8 @@ wraps_stand p (did.Asks a) w h = h
 wraps_stand p did.Ends w h = tt
 
 -- what is left of the entries in their places where the top one goes
-pub over_dropped : (below : List PlainHeld) (own : Option Call) (over : Option Entry) (hs : List PlainHeld) (h : PlainHeld) → topped (called below own) over ≡ hs ++ h ∷ [] → (over ≡ None → ⊥) → called below own ≡ hs
+pub over_dropped : (below : List PlainHeld) (own : Option Call) (over : Option Entry) (hs : List PlainHeld)
+    (h : PlainHeld) → topped (called below own) over ≡ hs ++ h ∷ [] → (over ≡ None → ⊥) → called below own ≡ hs
 over_dropped below own None hs h e n = absurd (n refl)
 over_dropped below own (Some o) hs h e n = (top_and_rest (called below own) hs (plain_held o) h e).0
 
@@ -251,7 +293,8 @@ call_dropped below None hs h lifted e = absurd (nothing_on_top hs h (sym e ∙ l
 call_dropped below (Some c) hs h lifted e = (top_and_rest below hs (plain_held (entry.Call c)) h e).0
 
 -- what comes of what the entry on top did
-pub stands_on : (p : List (PlainItem ℕ)) (es hs : List PlainHeld) (h : PlainHeld) (a : PlainAsk) (step : PlainStep) → es ≡ hs ++ h ∷ [] → step ≡ asks a (held_entry p h ∷ term_of p hs) → step ≡ asks a (term_of p es)
+pub stands_on : (p : List (PlainItem ℕ)) (es hs : List PlainHeld) (h : PlainHeld) (a : PlainAsk) (step : PlainStep) → es
+    ≡ hs ++ h ∷ [] → step ≡ asks a (held_entry p h ∷ term_of p hs) → step ≡ asks a (term_of p es)
 stands_on p es hs h a step e m = m ∙ ap (asks a) (sym (pushed_is p hs es h e))
 
 -- that entry has put another on top, and asks nothing
@@ -261,7 +304,8 @@ stands_under p es new hs h e r a step q m n i =
     subst (λ (b : Ask). IsStep p r b step new) (sym n) (subst (λ (s : PlainStep). IsStep p r asks_of.Nothing s new) (ap (pushed e) (pushed_is p hs es h q) ∙ sym m) i)
 
 -- a step that could not be taken
-pub moved_failed : (p : List (PlainItem ℕ)) (e : Stop) (new : StackEntry) (below : Term) (a : Ask) (step : PlainStep) (es : List PlainHeld) → MovesTo p (Err e) new below step → IsStep p (Err e) a step es
+pub moved_failed : (p : List (PlainItem ℕ)) (e : Stop) (new : StackEntry) (below : Term) (a : Ask) (step : PlainStep)
+    (es : List PlainHeld) → MovesTo p (Err e) new below step → IsStep p (Err e) a step es
 moved_failed p (stop.Fault why) new below a step es h = h
 moved_failed p stop.Memory new below a step es h = tt
 
@@ -271,7 +315,8 @@ pub delivered_on : (p : List (PlainItem ℕ)) (old new hs : List PlainHeld) (h g
 delivered_on p old new hs h g v e f s = ap (delivered v) (pushed_is p hs old h e) ∙ s ∙ ap goes_on (sym (pushed_is p hs new g f))
 
 -- the same, where it could be at fault
-pub delivered_step : (p : List (PlainItem ℕ)) (old new hs : List PlainHeld) (h g : PlainHeld) (v : PlainValue) (r : Result (Unit {0}) Stop) (a : Ask) → old ≡ hs ++ h ∷ [] → new ≡ hs ++ g ∷ [] → a ≡ asks_of.Nothing →
+pub delivered_step : (p : List (PlainItem ℕ)) (old new hs : List PlainHeld) (h g : PlainHeld) (v : PlainValue)
+    (r : Result (Unit {0}) Stop) (a : Ask) → old ≡ hs ++ h ∷ [] → new ≡ hs ++ g ∷ [] → a ≡ asks_of.Nothing →
     IsDelivered r (held_entry p g) (term_of p hs) (delivered v (held_entry p h ∷ term_of p hs)) → IsStep p r a (delivered v (term_of p old)) new
 delivered_step p old new hs h g v (Ok done) a e f n s = delivered_on p old new hs h g v e f s ∙ ap (λ b. asks (plain_ask b) (term_of p new)) (sym n)
 delivered_step p old new hs h g v (Err (stop.Fault why)) a e f n s = ap (delivered v) (pushed_is p hs old h e) ∙ s
@@ -287,7 +332,8 @@ pub count_under : (p : List (PlainItem ℕ)) (old hs : List PlainHeld) (h : Plai
 count_under p old hs h n e l = let m = ap length e in omega (arith, term_length p hs, length-append hs (h ∷ []), m, l)
 
 -- an error that is passed on
-pub same_error : (p : List (PlainItem ℕ)) (r : Result (Unit {0}) Stop) (e : Stop) (a : Ask) (step : PlainStep) (es : List PlainHeld) → IsErrAnd r (λ x. x ≡ e) → IsStep p (Err e) a step es → IsStep p r a step es
+pub same_error : (p : List (PlainItem ℕ)) (r : Result (Unit {0}) Stop) (e : Stop) (a : Ask) (step : PlainStep)
+    (es : List PlainHeld) → IsErrAnd r (λ x. x ≡ e) → IsStep p (Err e) a step es → IsStep p r a step es
 same_error p (Ok done) e a step es h i = absurd h
 same_error p (Err x) e a step es h i = subst (λ (y : Stop). IsStep p (Err y) a step es) (sym h) i
 

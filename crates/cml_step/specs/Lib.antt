@@ -23,3 +23,6 @@ pub mod AskCodes
 pub mod Rans
 pub mod AnswerViews
 pub mod Nacks
+pub mod Undone
+pub mod Undos
+pub mod Begins

@@ -49,3 +49,7 @@ abbrev pub HoldsNoValue : List PlainHeld → Type 0
 HoldsNoValue [] = Unit {0}
 HoldsNoValue (call f at slots w ∷ hs) = (slots ≡ []) × HoldsNoValue hs
 HoldsNoValue (h ∷ hs) = ⊥
+
+-- the top one of these entries, if there is one, is no call
+unfoldable pub HasNoCallOnTop : List PlainHeld → Type 0
+HasNoCallOnTop hs = (gs : List PlainHeld) (c : Call) → hs ≡ gs ++ plain_held (entry.Call c) ∷ [] → ⊥

@@ -1,6 +1,6 @@
 //! A call on the stack of a thread, and what it does in a step.
 
-ghost use Rattle.std.specs.Prelude.{◌≡◌, ℕ, ◌<◌, List, ◌∷◌, length, true, Ok, IfOk, IfErr, IfSome};
+ghost use Rattle.std.specs.Prelude.{◌≡◌, ℕ, ◌<◌, List, ◌∷◌, length, take, true, Ok, IfOk, IfErr, IfSome};
 ghost use Rattle.cml_value.specs.Value.{int, event as plain_event, thread as plain_thread};
 ghost use Rattle.cml_check.specs.Syntax.{Name, act_on_one, act_on_two, call as plain_call, spawn as plain_spawn, name_at, expr_map, exprs_map, effect_map, source_map, value as plain_source_value};
 ghost use Rattle.cml_check.specs.StmtViews.{plain_effect, plain_source};
@@ -26,7 +26,6 @@ use crate::expression::{evaluate, evaluate_in};
 use crate::fault::Stop;
 use crate::kind::{event_of, ivar_of, mailbox_of, mchan_of, mvar_of, port_of, truth_of};
 use crate::number::{quick_int, quick_truth};
-use crate::offer::quick_event;
 use cml_check::{Act, ActOnOne, ActOnTwo, Effect, Expr, Exprs, Function, Instr, Prog, Source};
 use cml_value::{Event, FnRef, Tid, Value, ValueKind};
 use std::alloc::Global;
@@ -87,7 +86,7 @@ pub(crate) fn value_in(
     evaluate(alloc, slots, e)
 }
 
-// The number that an expression in a call is, where it can be found so.
+// The value of an expression in a call, if it is a number that is found without making a `Value`; else `None`.
 #[inline(always)]
 #[tactic(auto, using(crate::proofs::VariableLemmas::evaluate_named))]
 fn number_in(program: &Prog, f: &Function, slots: &[Value], e: &Expr) -> Option<i64>
@@ -161,7 +160,7 @@ fn truth_in(
     }
 }
 
-// The values of expressions in a call, in this list in place of what it has.
+// The values of expressions in a call, put into `list` in place of what it held.
 #[tactic(auto, using(crate::proofs::VariableLemmas::all_named))]
 pub(crate) fn values_in(
     alloc: Global,
@@ -185,13 +184,14 @@ pub(crate) fn values_in(
 
 // Makes room for a slot: those that were not given a value yet are unit.
 #[inline(never)]
-#[tactic(auto, using(crate::proofs::CallLemmas::padded, crate::proofs::CallLemmas::agree_padded))]
+#[tactic(auto, using(crate::proofs::CallLemmas::padded, crate::proofs::CallLemmas::agree_padded, crate::proofs::CallLemmas::take_all, crate::proofs::CallLemmas::had_padded))]
 fn pad_in_full(slots: &mut Vec<Value>, slot: usize) -> Result<(), Stop>
     ensures same { (names : List Name) →
         bound names slots.new.items ≡ bound names slots.old.items }
     ensures agree { (fs : List ℕ) → all_agree fs slots.old.items ≡ true
         → all_agree fs slots.new.items ≡ true }
     ensures room { IfOk result (λ _. slot < length slots.new.items) }
+    ensures had { take (length slots.old.items) slots.new.items ≡ slots.old.items }
     ensures memory { IfErr result (λ e. e ≡ Stop.Memory) }
 {
     while slots.len() <= slot {
@@ -202,12 +202,14 @@ fn pad_in_full(slots: &mut Vec<Value>, slot: usize) -> Result<(), Stop>
 
 // The same, where most often the room is there.
 #[inline(always)]
+#[tactic(auto, using(crate::proofs::CallLemmas::take_all))]
 pub(crate) fn pad(slots: &mut Vec<Value>, slot: usize) -> Result<(), Stop>
     ensures same { (names : List Name) →
         bound names slots.new.items ≡ bound names slots.old.items }
     ensures agree { (fs : List ℕ) → all_agree fs slots.old.items ≡ true
         → all_agree fs slots.new.items ≡ true }
     ensures room { IfOk result (λ _. slot < length slots.new.items) }
+    ensures had { take (length slots.old.items) slots.new.items ≡ slots.old.items }
     ensures memory { IfErr result (λ e. e ≡ Stop.Memory) }
 {
     if slot < slots.len() {
@@ -301,13 +303,14 @@ pub(crate) fn choose(
         StepsOn f.now result call.old call.new below
         (chosen f.now found first second variables below) }
     ensures kept { RunsOn (arities program.now) call.old call.new }
+    ensures slots { call.new.slots ≡ call.old.slots }
 {
     let holds = truth_in(alloc, program, f, call.slots.as_slice(), test)?;
     call.at = if holds { first } else { second };
     Ok(())
 }
 
-// The step of a call that went on, as what the call did.
+// Makes an `Action` of a step by which the call only went on.
 fn went_on(stepped: Result<(), Stop>) -> Result<Action, Stop>
     ensures moves { (p : List (PlainItem ℕ)) (f : PlainItem ℕ) (old new : Call) (below : Term)
         (step : PlainStep) → StepsOn f stepped old new below step
@@ -337,20 +340,6 @@ pub(crate) fn fill(call: &mut Call, value: Value)
     call.wait = Wait::Runs;
 }
 
-// The event that an expression in a call is, where it can be found so.
-#[tactic(auto, using(crate::proofs::VariableLemmas::evaluate_named))]
-fn event_in(program: &Prog, f: &Function, slots: &[Value], e: &Expr) -> Option<Event>
-    requires fits { expr_fits (arities program.now) (length f.now.names) e.now ≡ true }
-    requires distinct { AreDistinct f.now.names }
-    requires agree { all_agree (arities program.now) slots.now ≡ true }
-    ensures gives { let of = value_of (bound f.now.names slots.now) in
-        IfSome result (λ x.
-        meaning.evaluate of (expr_map (name_at f.now.names) e.now) ≡ Ok (plain_event x)) }
-    ensures agrees { IfSome result (λ x. event_agrees (arities program.now) x ≡ true) }
-{
-    quick_event(slots, e)
-}
-
 // An effect on one value.
 fn effect_on_one(
     alloc: Global,
@@ -371,11 +360,6 @@ fn effect_on_one(
         (waiting ∷ below)) }
     ensures did { ActionAgrees (arities program.now) result }
 {
-    if let ActOnOne::Sync = act {
-        if let Some(event) = event_in(program, f, call.slots.as_slice(), e) {
-            return Ok(Action::Forces(event));
-        }
-    }
     let value = value_in(alloc, program, f, call.slots.as_slice(), e)?;
     match act {
         ActOnOne::Sync => {

@@ -1,13 +1,15 @@
 //! The entries of a thread's stack, of which copies share all but those that lie in the stack itself.
 
-ghost use Rattle.std.specs.Prelude.{◌≡◌, ◌↔◌, ◌++◌, ◌+◌, ◌<◌, ◌≤◌, ◌∷◌, List, [], None, length, IfOk, OnErr, IsTrue, MatchOption, option_copied};
+ghost use Rattle.std.specs.Prelude.{◌≡◌, ◌↔◌, ◌++◌, ◌+◌, ◌<◌, ◌≤◌, ◌∷◌, List, [], false, None, length, IfOk, OnErr, IsTrue, MatchOption, option_copied};
 ghost use Rattle.cml_step.specs.Machines.{PlainHeld, plain_held};
-ghost use Rattle.cml_step.specs.Shared.{TakesOff, frame_entries, left_of, topped, called, plain_seen, entries_left, HoldsNoValue};
+ghost use Rattle.cml_step.specs.Shared.{TakesOff, frame_entries, left_of, topped, called, plain_seen, entries_left, HoldsNoValue, HasNoCallOnTop};
+ghost use Rattle.cml_step.specs.Undone.{stack_before};
 
 use crate::call::Call;
 use crate::entry::{
     Entry, Seen, as_seen, copy_call, copy_entry, may_be_same, renew_call, same_entry,
 };
+use crate::journal::Journal;
 use std::alloc::{AllocError, Global};
 use std::marker::Model;
 use std::mem::replace;
@@ -118,6 +120,18 @@ fn on_top(alloc: Global, entry: Entry, below: Option<Arc<Frame>>) -> Result<Arc<
     }
 }
 
+// Whether the entry is a call.
+fn is_call(entry: &Entry) -> bool
+    ensures { result ≡ false → (call : Call) → plain_held entry.now
+        ≡ plain_held (Entry.Call call) → ⊥ }
+{
+    match entry {
+        Entry::Call(_) => true,
+        Entry::Force(_, _) => false,
+        Entry::Wraps(_) => false,
+    }
+}
+
 impl Frames {
     /// No entries.
     pub fn new() -> Frames
@@ -165,6 +179,17 @@ impl Frames {
         })
     }
 
+    // Whether a call is on top.
+    #[tactic(auto, using(crate::proofs::StackLemmas::no_call_on, crate::proofs::StackLemmas::no_call_in_none))]
+    fn tops_call(&self) -> bool
+        ensures { result ≡ false → HasNoCallOnTop self.now }
+    {
+        match &self.first {
+            Some(frame) => is_call(&frame.entry),
+            None => false,
+        }
+    }
+
     /// The top entry and those below it, if there is one.
     pub fn parts(self, alloc: Global) -> Result<(Option<Entry>, Frames), AllocError>
         ensures { IfOk result (λ r. TakesOff r.0 self r.1) }
@@ -187,7 +212,7 @@ impl Frames {
 }
 
 /// The entries of a stack that takes steps. What is on top lies in the stack itself: a call, and over it what it waits for, if there is
-/// such an entry. Where both places are empty nothing is on the stack.
+/// such an entry. Where both places are empty nothing is on the stack, and no call lies below an empty place.
 #[derive(Drop)]
 pub(crate) struct Stack {
     pub(crate) over: Option<Entry>,
@@ -205,12 +230,13 @@ impl Model for Stack {
 
     ghost coded = { coded_list held_code };
 
-    ghost use Rattle.cml_step.specs.Shared.{topped, called};
+    ghost use Rattle.cml_step.specs.Shared.{topped, called, HasNoCallOnTop};
 
     ghost view = { λ a. topped (called a.below a.call) a.over };
 
-    // So an answer that puts nothing on the stack takes no memory.
-    ghost invariant = { λ a. a.over ≡ None → a.call ≡ None → a.below ≡ [] };
+    // So an answer that puts nothing on the stack takes no memory, and neither does what is put back into a call.
+    ghost invariant = { λ a. (a.over ≡ None → a.call ≡ None → a.below ≡ [])
+        × (a.call ≡ None → HasNoCallOnTop a.below) };
 }
 
 // Makes the entry a copy of the other, if there is one.
@@ -257,6 +283,20 @@ fn copy_call_into(
                 Ok(())
             }
         },
+    }
+}
+
+// Puts a copy of the call there, in the lists of the one that is there, if there is one.
+fn renew_place(alloc: Global, mine: &mut Option<Call>, call: &Call) -> Result<(), AllocError>
+    ensures { IfOk result (λ _. (hs : List PlainHeld) →
+        called hs mine.new ≡ hs ++ plain_held (Entry.Call call.now) ∷ []) }
+{
+    match mine {
+        Some(own) => renew_call(own, call),
+        None => {
+            *mine = Some(copy_call(alloc, call)?);
+            Ok(())
+        }
     }
 }
 
@@ -336,8 +376,37 @@ fn sink(
     Ok(())
 }
 
-// Brings the top one of the entries up to one of the two places, which are empty.
+// Brings a call on top of the entries up to its place, which is empty.
 #[inline(never)]
+#[tactic(auto, using(crate::proofs::StackLemmas::no_call_in_none))]
+fn raise(alloc: Global, call: &mut Option<Call>, below: &mut Frames) -> Result<(), AllocError>
+    requires { call.old ≡ None }
+    ensures same { IfOk result (λ _. called below.new call.new ≡ below.old) }
+    ensures raised { call.new ≡ None → HasNoCallOnTop below.new }
+{
+    if !below.tops_call() {
+        return Ok(());
+    }
+    let all = replace(below, Frames::new());
+    let (entry, rest) = all.parts(alloc)?;
+    match entry {
+        Some(Entry::Call(top)) => {
+            *call = Some(top);
+            *below = rest;
+            Ok(())
+        }
+        // A call is on top.
+        other => {
+            drop(other);
+            drop(rest);
+            Err(AllocError)
+        }
+    }
+}
+
+// Brings the top one of the entries up to one of the two places, which are empty, and a call right below it to the other.
+#[inline(never)]
+#[tactic(auto, using(crate::proofs::StackLemmas::no_call_in_none))]
 fn lift(
     alloc: Global,
     over: &mut Option<Entry>,
@@ -347,6 +416,7 @@ fn lift(
     requires { (over.old ≡ None) × (call.old ≡ None) }
     ensures same { IfOk result (λ _. topped (called below.new call.new) over.new ≡ below.old) }
     ensures lifted { over.new ≡ None → call.new ≡ None → below.new ≡ [] }
+    ensures raised { call.new ≡ None → HasNoCallOnTop below.new }
 {
     let all = replace(below, Frames::new());
     let (entry, rest) = all.parts(alloc)?;
@@ -363,6 +433,7 @@ fn lift(
         Some(other) => {
             *over = Some(other);
             *below = rest;
+            raise(alloc, call, below)?;
             Ok(())
         }
     }
@@ -401,6 +472,7 @@ fn empty(call: &mut Option<Call>)
 
 impl Stack {
     /// Nothing.
+    #[tactic(auto, using(crate::proofs::StackLemmas::no_call_in_none))]
     pub fn new() -> Stack
         ensures { result ≡ [] }
     {
@@ -430,6 +502,7 @@ impl Stack {
     }
 
     /// Takes all entries off.
+    #[tactic(auto, using(crate::proofs::StackLemmas::no_call_in_none))]
     pub fn clear(&mut self)
         ensures { self.new ≡ [] }
     {
@@ -439,6 +512,7 @@ impl Stack {
     }
 
     /// Puts a call on top.
+    #[tactic(auto, using(crate::proofs::StackLemmas::no_call_in_none))]
     pub fn push_call(&mut self, alloc: Global, call: Call) -> Result<(), AllocError>
         ensures items { IfOk result (λ _.
             self.new ≡ self.old ++ plain_held (Entry.Call call) ∷ []) }
@@ -456,6 +530,7 @@ impl Stack {
     }
 
     // Puts another entry on top.
+    #[tactic(auto, using(crate::proofs::StackLemmas::no_call_in_none))]
     fn push_over(&mut self, alloc: Global, entry: Entry) -> Result<(), AllocError>
         ensures items { IfOk result (λ _. self.new ≡ self.old ++ plain_held entry ∷ []) }
     {
@@ -466,6 +541,7 @@ impl Stack {
         match sink(alloc, &mut self.over, &mut self.call, &mut self.below) {
             Ok(()) => {
                 self.over = Some(entry);
+                raise(alloc, &mut self.call, &mut self.below)?;
                 Ok(())
             }
             Err(error) => {
@@ -486,6 +562,7 @@ impl Stack {
     }
 
     /// Takes the top entry off and lets it go.
+    #[tactic(auto, using(crate::proofs::StackLemmas::no_call_in_none))]
     pub fn drop_top(&mut self, alloc: Global) -> Result<(), AllocError>
         ensures { IfOk result (λ _. (hs : List PlainHeld) (h : PlainHeld) →
             self.old ≡ hs ++ h ∷ [] → self.new ≡ hs) }
@@ -513,6 +590,7 @@ impl Stack {
     }
 
     /// Makes this stack a copy of the other, in the lists that its call has.
+    #[tactic(auto, using(crate::proofs::StackLemmas::no_call_in_none))]
     pub fn copy_from(&mut self, alloc: Global, other: &Stack) -> Result<(), AllocError>
         ensures { IfOk result (λ _. self.new ≡ other.now) }
     {
@@ -523,7 +601,36 @@ impl Stack {
         Ok(())
     }
 
+    /// Makes this stack the one with this call on top of these entries as it was before what the journal has of it, in the lists that its
+    /// own call has. Where memory runs out the journal is as it was.
+    #[tactic(auto, using(crate::proofs::StackLemmas::no_call_in_none))]
+    pub fn copy_before(
+        &mut self,
+        alloc: Global,
+        call: &Call,
+        below: &Frames,
+        journal: &mut Journal,
+    ) -> Result<(), AllocError>
+        ensures ok { IfOk result (λ _. self.new ≡ stack_before below.now journal.old call.now) }
+        ensures err { OnErr result (journal.new ≡ journal.old) }
+    {
+        self.over = None;
+        self.below = Frames::new();
+        renew_place(alloc, &mut self.call, call)?;
+        let frames = below.copy()?;
+        self.below = frames;
+        match &mut self.call {
+            Some(own) => {
+                journal.put_back(&mut self.over, own);
+                Ok(())
+            }
+            // A call was put there.
+            None => Err(AllocError),
+        }
+    }
+
     /// Lets go what it shares with others. It keeps the lists of its call.
+    #[tactic(auto, using(crate::proofs::StackLemmas::no_call_in_none))]
     pub fn rest(&mut self)
         ensures { HoldsNoValue self.new }
     {

@@ -3,16 +3,19 @@
 
 mod answer;
 mod ask;
+mod asking;
 mod call;
 mod calls;
 mod entries;
 mod entry;
 mod expression;
 mod fault;
+mod journal;
 mod kind;
 pub mod law;
 mod machine;
 mod nack;
+mod noted;
 mod number;
 mod offer;
 mod operator;
@@ -22,6 +25,9 @@ mod ran;
 mod slices;
 mod stack;
 mod steps;
+mod still;
+mod sync;
+mod undo;
 
 pub use answer::Answer;
 pub use ask::Ask;
@@ -35,3 +41,4 @@ pub use nack::NackRoom;
 pub use ran::{Ran, SliceFault, slice};
 pub use slices::{Slice, run_slice};
 pub use steps::MAX_STEPS;
+pub use undo::Undo;

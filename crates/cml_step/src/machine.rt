@@ -1,6 +1,6 @@
 //! A thread of a script.
 
-ghost use Rattle.std.specs.Prelude.{◌≡◌, ℕ, List, [], ◌∷◌, true, IfOk, IfErr, OnOk, OnErr, ◌↔◌, IsTrue};
+ghost use Rattle.std.specs.Prelude.{◌≡◌, ℕ, List, [], ◌∷◌, ◌≤◌, true, IfOk, IfErr, OnOk, OnErr, ◌↔◌, IsTrue};
 ghost use Rattle.cml_check.specs.Syntax.{PlainItem};
 ghost use Rattle.cml_check.specs.InOrder.{InOrder, arities};
 ghost use Rattle.cml_step.specs.Agrees.{answer_agrees, function_agrees};
@@ -10,21 +10,25 @@ ghost use Rattle.cml_step.specs.AnswerViews.{plain_answer, Awaits, IsNack};
 ghost use Rattle.cml_step.specs.AskViews.{plain_ask};
 ghost use Rattle.cml_step.specs.Asks.{a_value, a_nack, a_commit};
 ghost use Rattle.cml_step.specs.Calls.{text_of};
-ghost use Rattle.cml_step.specs.Machines.{machine_term, Fits};
+ghost use Rattle.cml_step.specs.Machines.{PlainMachine, machine_term, Fits};
 ghost use Rattle.cml_step.specs.Nacks.{nack_given, IsNackRoom};
 ghost use Rattle.cml_step.specs.Rans.{IsSlice};
 ghost use Rattle.cml_step.specs.Shared.{HoldsNoValue, left_of};
-ghost use Rattle.cml_step.specs.Slices.{sliced_from};
+ghost use Rattle.cml_step.specs.Slices.{sliced_from, max_steps, GoesIn};
 ghost use Rattle.cml_step.specs.Stacks.{StackFits, term_of};
 ghost use Rattle.cml_step.specs.Terms.{call_of};
+ghost use Rattle.cml_step.specs.Undone.{IsNotedStack};
 
 use crate::answer::Answer;
 use crate::ask::Ask;
 use crate::call::fill;
 use crate::entries::{Frames, Stack, Walk, same_entries, under};
 use crate::entry::{Entry, Wraps, begin};
+use crate::journal::Journal;
 use crate::nack::{NackRoom, nacked};
 use crate::steps::{MAX_STEPS, run};
+use crate::still::{Begun, begin_slice, undo_noted};
+use crate::undo::Undo;
 use cml_check::Prog;
 use cml_value::{FnRef, NackId, Tid, Value};
 use std::alloc::{AllocError, AllocFailed, Global};
@@ -86,6 +90,8 @@ fn give_commit(stack: &mut Stack, value: Value, wraps: Vec<FnRef>)
 }
 
 impl Machine {
+    ghost use Rattle.cml_step.specs.Undos.{IsUndone};
+
     /// The thread of this number at the beginning of a call of the function.
     ///
     /// # Errors
@@ -105,7 +111,7 @@ impl Machine {
             top_await (machine_term program.now m) ≡ answers.nothing) }
         ensures err { IfErr result (λ back. back.value ≡ function) }
     {
-        // Read for the proof alone, which uses what is promised of it.
+        // No effect: named here so that the prover knows what holds of it.
         let _count = program.functions();
         match begin(alloc, &function) {
             Ok(call) => {
@@ -172,8 +178,8 @@ impl Machine {
         Ok(machine)
     }
 
-    /// A copy. The values of the call on top, and of what stands over it, get one more owner each; all that stands below is shared as one,
-    /// however much it is.
+    /// A copy. The values of the topmost call, and of the event or wraps over it, get one more owner each; all below that call is shared as
+    /// one, however much it is.
     ///
     /// # Errors
     /// Out of memory.
@@ -217,7 +223,8 @@ impl Machine {
             && same_entries(Walk::through(&self.stack), Walk::through(&other.stack))
     }
 
-    // A slice of steps: how many they were. What is asked in the end is put where nothing was asked yet.
+    // A slice of steps: how many they were. What it asks in the end is written to `asked`, which must be `Nothing`
+    // before.
     pub(crate) fn run(
         &mut self,
         alloc: Global,
@@ -245,8 +252,8 @@ impl Machine {
         )
     }
 
-    /// Runs a slice of the thread where it stands, as [`run_here`](Machine::run_here) does, and puts what the thread asks in the end where
-    /// nothing was asked yet. Returns how many steps there were.
+    /// Runs a slice of the thread where it stands, as [`run_here`](Machine::run_here) does. What the thread asks in the
+    /// end is written to `asked`, which must be `Nothing` before. Returns how many steps there were.
     ///
     /// # Errors
     /// Out of memory; the machine is as it was, and nothing is asked.
@@ -272,14 +279,104 @@ impl Machine {
         ensures err_ask { OnErr result (asked.new ≡ Ask.Nothing) }
     {
         spare.copy_from(alloc, self)?;
-        match self.run(alloc, program, asked) {
-            Ok(steps) => Ok(steps),
+        self.run_on(alloc, program, spare, 0, asked)
+    }
+
+    // The rest of a slice of the machine that the spare is: so many steps went on before.
+    fn run_on(
+        &mut self,
+        alloc: Global,
+        program: &Prog,
+        spare: &mut Machine,
+        done: u32,
+        asked: &mut Ask,
+    ) -> Result<u32, AllocError>
+        requires fits { (Fits program.now spare.old) × (StackFits program.now self.old.stack) }
+        requires awaits { top_await (machine_term program.now spare.old) ≡ answers.nothing }
+        requires nothing { asked.old ≡ Ask.Nothing }
+        requires thread { self.old.thread ≡ spare.old.thread }
+        requires goes { (done ≤ max_steps) × GoesIn (text_of program.now) self.old.thread done
+            (machine_term program.now spare.old) (machine_term program.now self.old) }
+        ensures meant { IfOk result (λ steps. IsSlice (record {
+          program = program.now;
+          start = spare.old;
+          end = self.new;
+          ask = plain_ask asked.new;
+          steps = steps;
+        })) }
+        ensures spare { OnOk result (spare.new ≡ spare.old) }
+        ensures err { OnErr result (self.new ≡ spare.old) }
+        ensures err_ask { OnErr result (asked.new ≡ Ask.Nothing) }
+    {
+        let left = MAX_STEPS - done;
+        match run(alloc, self.thread, program, &mut self.stack, left, asked) {
+            Ok(more) => Ok(done + more),
             Err(error) => {
                 swap(self, spare);
                 *asked = Ask::Nothing;
                 Err(error)
             }
         }
+    }
+
+    /// Runs a slice of the thread where it stands, as [`run_asking`](Machine::run_asking) does. Where the slice stays in the call on top
+    /// nothing is copied but what it changes there. The undo puts the machine back ([`Undo::put_back`](crate::Undo::put_back)); its lists
+    /// are used again.
+    ///
+    /// # Errors
+    /// Out of memory; the machine is as it was, and nothing is asked.
+    pub fn run_undoing(
+        &mut self,
+        alloc: Global,
+        program: &Prog,
+        undo: &mut Undo,
+        asked: &mut Ask,
+    ) -> Result<u32, AllocError>
+        requires fits { Fits program.now self.old }
+        requires awaits { top_await (machine_term program.now self.old) ≡ answers.nothing }
+        requires nothing { asked.old ≡ Ask.Nothing }
+        ensures meant { IfOk result (λ steps. IsSlice (record {
+          program = program.now;
+          start = self.old;
+          end = self.new;
+          ask = plain_ask asked.new;
+          steps = steps;
+        })) }
+        ensures undo { OnOk result (IsUndone undo.new self.new self.old) }
+        ensures err { OnErr result (self.new ≡ self.old) }
+        ensures err_ask { OnErr result (asked.new ≡ Ask.Nothing) }
+    {
+        let begun = begin_slice(
+            alloc,
+            program,
+            &mut self.stack,
+            &mut undo.spare.stack,
+            &mut undo.journal,
+            asked,
+        )?;
+        match begun {
+            Begun::Asks(steps) => {
+                undo.filled = false;
+                Ok(steps)
+            }
+            Begun::Goes(done) => {
+                undo.filled = true;
+                undo.spare.thread = self.thread;
+                self.run_on(alloc, program, &mut undo.spare, done, asked)
+            }
+            Begun::Not => {
+                undo.filled = true;
+                self.run_asking(alloc, program, &mut undo.spare, asked)
+            }
+        }
+    }
+
+    // Undoes what the journal has of a slice.
+    pub(crate) fn undo(&mut self, journal: &mut Journal)
+        ensures { (before : PlainMachine) → before.thread ≡ self.old.thread
+            → IsNotedStack journal.old self.old.stack before.stack → self.new ≡ before }
+    {
+        undo_noted(&mut self.stack, journal);
     }
 
     /// Runs a slice of the thread where it stands: its steps up to the first that asks, ends or is at fault, and at most

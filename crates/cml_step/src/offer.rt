@@ -27,8 +27,8 @@ fn channel(slots: &[Value], e: &Expr) -> Option<ChanId>
     }
 }
 
-// The mailbox that an expression is, where it is a variable.
-fn mailbox_in(slots: &[Value], e: &Expr) -> Option<MboxId>
+/// The mailbox that an expression is, where it is a variable.
+pub(crate) fn mailbox_in(slots: &[Value], e: &Expr) -> Option<MboxId>
     ensures { IfSome result (λ o. evaluate (slot_value slots.now) e.now ≡ Ok (mailbox o.0)) }
 {
     match &e.kind {
@@ -43,8 +43,8 @@ fn mailbox_in(slots: &[Value], e: &Expr) -> Option<MboxId>
     }
 }
 
-// The M-variable that an expression is, where it is a variable.
-fn variable_in(slots: &[Value], e: &Expr) -> Option<MVarId>
+/// The M-variable that an expression is, where it is a variable.
+pub(crate) fn variable_in(slots: &[Value], e: &Expr) -> Option<MVarId>
     ensures { IfSome result (λ o. evaluate (slot_value slots.now) e.now ≡ Ok (mvar o.0)) }
 {
     match &e.kind {
@@ -59,8 +59,8 @@ fn variable_in(slots: &[Value], e: &Expr) -> Option<MVarId>
     }
 }
 
-// The value of an expression, where it is a variable or a number.
-fn message(slots: &[Value], e: &Expr) -> Option<Value>
+/// The value of an expression, where it is a variable or a number.
+pub(crate) fn message(slots: &[Value], e: &Expr) -> Option<Value>
     ensures { IfSome result (λ v. evaluate (slot_value slots.now) e.now ≡ Ok v) }
 {
     match &e.kind {
@@ -91,11 +91,38 @@ fn offered(kind: BaseKind) -> Option<Event>
     }
 }
 
-/// The event that an expression is, where it is a receive, a send or a take that can be found so and has no fault.
+// A copy of the event that a slot has, if it has one; it shares its parts.
+fn event_at(slots: &[Value], at: usize) -> Option<Event>
+    ensures { IfSome result (λ x. slot_value slots.now at ≡ event x) }
+{
+    match slots.get(at) {
+        Some(value) => match value.kind() {
+            ValueKind::Event(x) => match x.copy() {
+                Ok(copy) => Some(copy),
+                Err(_) => None,
+            },
+            _ => None,
+        },
+        None => None,
+    }
+}
+
+/// Whether an expression is of a form of which the event may be found so.
+#[inline(always)]
+pub(crate) fn is_quick(e: &Expr) -> bool {
+    match &e.kind {
+        ExprKind::Variable(_) | ExprKind::Binary(Binary::Send, _, _) => true,
+        ExprKind::Unary(Unary::Recv | Unary::MailRecv | Unary::MTake, _) => true,
+        _ => false,
+    }
+}
+
+/// The event that an expression is, where it is a variable, or a receive, a send or a take, that can be found so and has no fault.
 pub(crate) fn quick_event(slots: &[Value], e: &Expr) -> Option<Event>
     ensures { IfSome result (λ x. evaluate (slot_value slots.now) e.now ≡ Ok (event x)) }
 {
     match &e.kind {
+        ExprKind::Variable(at) => event_at(slots, *at),
         ExprKind::Unary(Unary::Recv, e) => {
             let from = channel(slots, e)?;
             offered(BaseKind::Recv(from))

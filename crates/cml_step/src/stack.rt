@@ -119,7 +119,7 @@ pub(crate) fn deliver_to_call(program: &Prog, call: &mut Call, value: Value)
         ≡ steps.goes_on (entry_of program.now call.new ∷ below) }
     ensures fits { CallFits program.now call.new }
 {
-    // Read for the proof alone, which uses what is promised of it.
+    // No effect: named here so that the prover knows what holds of it.
     let _f = program.function(call.func);
     fill(call, value);
 }
@@ -261,7 +261,7 @@ fn step_of_call(alloc: Global, thread: Tid, program: &Prog, call: &mut Call) -> 
 
 // The group that the event was forced to, of which the event is kept.
 #[tactic(auto, using(crate::proofs::ForceLemmas::group_of_event))]
-fn group_ready(forcing: &Forcing) -> Result<Group, Stop>
+pub(crate) fn group_ready(forcing: &Forcing) -> Result<Group, Stop>
     requires { unforced forcing.now ≡ None }
     ensures group { IfOk result (λ g. g ≡ group_of forcing.now) }
     ensures event { IfOk result (λ g. plain_event_of g ≡ forcing.now) }

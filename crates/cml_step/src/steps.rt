@@ -1,6 +1,6 @@
 //! Slices of a thread's steps.
 
-ghost use Rattle.std.specs.Prelude.{◌≡◌, ◌≤◌, ℕ, List, [], ◌∷◌, ◌++◌, true, false, Some, None, IfOk, OnOk, IfSome};
+ghost use Rattle.std.specs.Prelude.{◌≡◌, ◌<◌, ◌≤◌, ℕ, List, [], ◌∷◌, ◌++◌, true, false, Some, None, IfOk, OnOk, IfSome};
 ghost use Rattle.cml_check.specs.Syntax.{PlainItem};
 ghost use Rattle.cml_check.specs.InOrder.{arities};
 ghost use Rattle.cml_step.specs.AskViews.{plain_ask};
@@ -14,12 +14,14 @@ ghost use Rattle.cml_step.specs.Shared.{topped};
 ghost use Rattle.cml_step.specs.Stacks.{term_of, EachBeneath, StackFits};
 
 use crate::ask::Ask;
+use crate::asking::ask_step;
 use crate::call::Call;
 use crate::entries::{Frames, Stack};
 use crate::entry::{Entry, Wraps};
 use crate::fault::{Fault, Stop};
 use crate::quick::{quick_run, room_above};
-use crate::stack::{deliver_to_call, step};
+use crate::stack::{MAX_ENTRIES, deliver_to_call, step};
+use crate::sync::{asks_group, at_sync, sync_step};
 use cml_check::Prog;
 use cml_value::{Tid, Value, ValueKind};
 use std::alloc::{AllocError, Global};
@@ -117,8 +119,8 @@ fn quick_steps(
     Ok(0)
 }
 
-// Whether these are wraps of which no function is left.
-fn are_done(over: &Option<Entry>) -> bool
+/// Whether these are wraps of which no function is left.
+pub(crate) fn are_done(over: &Option<Entry>) -> bool
     ensures { result ≡ true → (w : Wraps) → over.now ≡ Some (Entry.Wraps w)
         → w.left.items ≡ [] }
 {
@@ -175,6 +177,129 @@ fn deliver_wrapped(program: &Prog, stack: &mut Stack) -> u32
     1
 }
 
+// Where the call on top is at a synchronization on an event that can be found without a value made of it, the event is put over it.
+// Returns how many steps that was.
+#[inline(never)]
+fn put_found(alloc: Global, program: &Prog, stack: &mut Stack) -> u32
+    requires { StackFits program.now stack.old }
+    ensures fits { StackFits program.now stack.new }
+    ensures within { result ≤ 1 }
+    ensures goes { (self : ℕ) → GoesIn (text_of program.now) self result
+        (term_of program.now stack.old) (term_of program.now stack.new) }
+{
+    if stack.over.is_some() {
+        return 0;
+    }
+    let beneath = stack.below.len();
+    if beneath >= MAX_ENTRIES - 1 {
+        return 0;
+    }
+    let Some(call) = &mut stack.call else {
+        return 0;
+    };
+    match sync_step(alloc, program, call) {
+        Some(forcing) => {
+            stack.over = Some(Entry::Force(forcing, false));
+            1
+        }
+        None => 0,
+    }
+}
+
+// The same. Whether the call on top is at such a synchronization is looked first.
+#[inline(always)]
+fn put_event(alloc: Global, program: &Prog, stack: &mut Stack) -> u32
+    requires { StackFits program.now stack.old }
+    ensures fits { StackFits program.now stack.new }
+    ensures within { result ≤ 1 }
+    ensures goes { (self : ℕ) → GoesIn (text_of program.now) self result
+        (term_of program.now stack.old) (term_of program.now stack.new) }
+{
+    if let Some(call) = &stack.call {
+        if at_sync(program, call) {
+            return put_found(alloc, program, stack);
+        }
+    }
+    0
+}
+
+// Takes the steps of a stack that need not be made in full, at most this many. Returns how many they were.
+fn in_place(alloc: Global, program: &Prog, stack: &mut Stack, most: u32) -> Result<u32, AllocError>
+    requires fits { StackFits program.now stack.old }
+    requires some { 0 < most }
+    ensures fits { IfOk result (λ _. StackFits program.now stack.new) }
+    ensures within { IfOk result (λ n. n ≤ most) }
+    ensures goes { IfOk result (λ n. (self : ℕ) → GoesIn (text_of program.now) self n
+        (term_of program.now stack.old) (term_of program.now stack.new)) }
+{
+    let first = deliver_wrapped(program, stack);
+    let quick = quick_steps(alloc, program, stack, most - first)?;
+    let done = first + quick;
+    if done == most {
+        return Ok(done);
+    }
+    let put = put_event(alloc, program, stack);
+    Ok(done + put)
+}
+
+// Whether the event over the call has nothing left to be forced, and its group was not asked for yet, and is now. Else nothing has changed.
+#[inline(always)]
+fn group_asked(stack: &mut Stack, asked: &mut Ask) -> bool
+    ensures asks { result ≡ true → (p : List (PlainItem ℕ)) (self : ℕ) →
+        next (text_of p) self (term_of p stack.old)
+        ≡ asks (plain_ask asked.new) (term_of p stack.new) }
+    ensures fits { result ≡ true → (p : List (PlainItem ℕ)) → StackFits p stack.old
+        → StackFits p stack.new × (ask_agrees (arities p) (plain_ask asked.new) ≡ true) }
+    ensures something { result ≡ true → asked.new ≡ Ask.Nothing → ⊥ }
+    ensures stays { result ≡ false → (stack.new ≡ stack.old) × (asked.new ≡ asked.old) }
+{
+    if let Some(entry) = &mut stack.over {
+        if let Entry::Force(forcing, waits) = entry {
+            return asks_group(forcing, waits, asked);
+        }
+    }
+    false
+}
+
+// Whether the call on top asks something where it stands. Else nothing has changed.
+#[inline(always)]
+fn call_asked(program: &Prog, stack: &mut Stack, asked: &mut Ask) -> bool
+    requires { StackFits program.now stack.old }
+    ensures asks { result ≡ true → (self : ℕ) →
+        next (text_of program.now) self (term_of program.now stack.old)
+        ≡ asks (plain_ask asked.new) (term_of program.now stack.new) }
+    ensures fits { result ≡ true → StackFits program.now stack.new }
+    ensures agrees { result ≡ true → ask_agrees (arities program.now) (plain_ask asked.new) ≡ true }
+    ensures something { result ≡ true → asked.new ≡ Ask.Nothing → ⊥ }
+    ensures stays { result ≡ false → (stack.new ≡ stack.old) × (asked.new ≡ asked.old) }
+{
+    if stack.over.is_some() {
+        return false;
+    }
+    if let Some(call) = &mut stack.call {
+        return ask_step(program, call, asked);
+    }
+    false
+}
+
+// Whether what is on top asks something where it stands, and that was all that its step did. Else nothing has changed.
+#[inline(always)]
+fn asks_here(program: &Prog, stack: &mut Stack, asked: &mut Ask) -> bool
+    requires { StackFits program.now stack.old }
+    ensures asks { result ≡ true → (self : ℕ) →
+        next (text_of program.now) self (term_of program.now stack.old)
+        ≡ asks (plain_ask asked.new) (term_of program.now stack.new) }
+    ensures fits { result ≡ true → StackFits program.now stack.new }
+    ensures agrees { result ≡ true → ask_agrees (arities program.now) (plain_ask asked.new) ≡ true }
+    ensures something { result ≡ true → asked.new ≡ Ask.Nothing → ⊥ }
+    ensures stays { result ≡ false → (stack.new ≡ stack.old) × (asked.new ≡ asked.old) }
+{
+    if group_asked(stack, asked) {
+        return true;
+    }
+    call_asked(program, stack, asked)
+}
+
 /// Takes at most this many steps of the thread, up to the first that asks, ends or is at fault. Returns how many steps there were. What it
 /// asks is put where nothing was asked yet.
 #[tactic(auto, using(crate::proofs::SliceLemmas::slice_on, crate::proofs::SliceLemmas::slice_asks, crate::proofs::SliceLemmas::slice_over))]
@@ -200,11 +325,13 @@ pub(crate) fn run(
 {
     let mut done = 0u32;
     while done < most {
-        done += deliver_wrapped(program, stack);
-        let quick = quick_steps(alloc, program, stack, most - done)?;
+        let quick = in_place(alloc, program, stack, most - done)?;
         done += quick;
         if done == most {
             return Ok(done);
+        }
+        if asks_here(program, stack, asked) {
+            return Ok(done + 1);
         }
         step_or_fault(alloc, thread, program, stack, asked)?;
         done += 1;

@@ -81,7 +81,7 @@ fn follow_first(
     let items = hub.schedule();
     for i in 0..count {
         let item = items[i];
-        // Read for the proof alone, which uses what is promised of it.
+        // No effect: named here so that the prover knows what holds of it.
         let _so_far = second.schedule();
         come(alloc, second, narrator, item)?;
     }
@@ -114,7 +114,7 @@ impl Stepper<'_> {
         let mut second = beginning(alloc, hub)?;
         match follow_first(alloc, hub, &mut second, &mut narrator, count) {
             Ok(()) => {
-                // Read for the proof alone, which uses what is promised of it.
+                // No effect: named here so that the prover knows what holds of it.
                 let _led = second.schedule();
                 replace(hub, second);
                 self.narrator = narrator;

@@ -1,4 +1,4 @@
--- A put never empties a variable.
+-- A put never empties a variable. (Below the law stands its proof, case by case.)
 use Rattle.std.specs.Prelude.{◌≡◌, Option, Some, None, Ok, IsTrue, is_some}
 use Rattle.cml_value.specs.Value.{PlainValue}
 use Rattle.cml_syncvar.specs.Variables.{put_into}

@@ -14,6 +14,7 @@ pub struct IVar {
     held: Option<Value>,
 }
 
+// What contracts see of this type: its model, which is plain data.
 impl Model for IVar {
     ghost use Rattle.std.specs.Prelude.{Option};
     ghost use Rattle.std.specs.Coded.{coded_option};

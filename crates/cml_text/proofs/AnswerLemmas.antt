@@ -44,7 +44,8 @@ pub one_at_most : SpellsOneAtMost
 one_at_most text forms others f g = words_in_tell forms others (sym f.spelled ∙ g.spelled)
 
 -- what the loop found is spelled
-pub found_from : (text text' : List ℕ) (result : Result (Vec PlainSexpr Global) TextFault) → text' ≡ text → length text ≤ 1048576 → IsUtf8 text → IfOk result (λ forms. lexemes 0 0 text' ≡ words_in forms.items) →
+pub found_from : (text text' : List ℕ) (result : Result (Vec PlainSexpr Global) TextFault) → text' ≡ text
+    → length text ≤ 1048576 → IsUtf8 text → IfOk result (λ forms. lexemes 0 0 text' ≡ words_in forms.items) →
     IfOk result (λ _. first_fault (lexemes 0 0 text') [] ≡ None) → IfOk result (λ forms. Spells text forms.items)
 found_from text text' (Ok forms) same short utf8 words none =
     let spelled : lexemes 0 0 text ≡ words_in forms.items = ap (λ t. lexemes 0 0 t) (sym same) ∙ words in

@@ -8,7 +8,26 @@ use Rattle.cml_text.specs.declared.sexpr.Span.{Span}
 use Rattle.cml_text.specs.declared.fault.FaultKind.TheVariants.{Long}
 use Rattle.cml_text.specs.Faults.{PlainFault}
 use Rattle.cml_text.specs.Forms.{plain_text}
-use Rattle.cml_text.specs.Lexemes.{is_separator, is_comment_byte, is_token_byte, Literal, closed, literal, Lexeme, opening, closing, leaf, faulty, fault_at, span_from, literal_lexeme, literal_more, token_lexeme, beginning, lexemes}
+use Rattle.cml_text.specs.Lexemes.{
+  is_separator,
+  is_comment_byte,
+  is_token_byte,
+  Literal,
+  closed,
+  literal,
+  Lexeme,
+  opening,
+  closing,
+  leaf,
+  faulty,
+  fault_at,
+  span_from,
+  literal_lexeme,
+  literal_more,
+  token_lexeme,
+  beginning,
+  lexemes,
+}
 use Rattle.cml_text.specs.declared.fault.TextFault.{TextFault}
 use Rattle.cml_text.specs.declared.fault.TextFault.TheVariants as fault
 use Rattle.cml_text.specs.Steps.{StepsTo, IsLexeme, BeginsWithFault}
@@ -128,7 +147,11 @@ pub text_fault : (at : ℕ) (text behind : List ℕ) (found : Literal) (fault : 
 text_fault at text behind found fault some is cut read bad =
     let read' : literal (drop 1 text) ≡ found = ap literal (sym cut) ∙ read in
     begins_with_fault at (literal_more found) text fault some
-    (begin_text at (get_or text 0 0) (drop 1 text) is ∙ ap (λ l. record { word = literal_lexeme at l ∷ []; more = literal_more l }) read' ∙ ap (λ w. record { word = w ∷ []; more = literal_more found }) bad)
+    (begin_text at (get_or text 0 0) (drop 1 text) is ∙ ap (λ l. record {
+      word = literal_lexeme at l
+          ∷ [];
+      more = literal_more l;
+    }) read' ∙ ap (λ w. record { word = w ∷ []; more = literal_more found }) bad)
 
 pub literal_too_long : (at more : ℕ) (content : List ℕ) → 4096 < length content → literal_lexeme at (closed content more) ≡ fault_at at Long
 literal_too_long at more content long = let no : leb (length content) 4096 ≡ false = grind (arith, nat_tests) in rw no refl

@@ -38,11 +38,16 @@ record MetLast (opens : List ℕ) (ws : List Lexeme) (fault : PlainFault) : Type
 abbrev Meets : List ℕ → List Lexeme → PlainFault → Type 0
 Meets opens ws fault = Met opens ws fault ⊎ MetLast opens ws fault
 
-here : (opens : List ℕ) (word : Lexeme) (ws : List Lexeme) (fault : PlainFault) → ((rest : List Lexeme) → first_fault (word ∷ rest) opens ≡ Some fault) → IsAtFault word fault → Meets opens (word ∷ ws) fault
+here : (opens : List ℕ) (word : Lexeme) (ws : List Lexeme) (fault : PlainFault)
+    → ((rest : List Lexeme) → first_fault (word ∷ rest) opens ≡ Some fault) → IsAtFault word fault
+    → Meets opens (word ∷ ws) fault
 here opens word ws fault fails is =
     inl (record { before = []; word = word; behind = ws; still = opens; parts = refl; passes = λ rest. refl; fails = fails; is = is; sound = tt })
 
-later : (opens mid : List ℕ) (word : Lexeme) (ws : List Lexeme) (fault : PlainFault) → ((before : List Lexeme) → AreSound before → AreSound (word ∷ before)) → ((rest : List Lexeme) → first_fault (word ∷ rest) opens ≡ first_fault rest mid) → Meets mid ws fault → Meets opens (word ∷ ws) fault
+later : (opens mid : List ℕ) (word : Lexeme) (ws : List Lexeme) (fault : PlainFault)
+    → ((before : List Lexeme) → AreSound before → AreSound (word ∷ before))
+    → ((rest : List Lexeme) → first_fault (word ∷ rest) opens ≡ first_fault rest mid) → Meets mid ws fault
+    → Meets opens (word ∷ ws) fault
 later opens mid word ws fault keeps step (inl m) =
     inl (record {
       before = word ∷ m.before;

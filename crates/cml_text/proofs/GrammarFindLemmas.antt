@@ -1,5 +1,39 @@
 -- What the lexemes of a text spell is what the grammar gives it.
-use Rattle.std.proofs.Common.{◌≡◌, ◌≢◌, ℕ, zero, suc, ◌+◌, ◌<◌, ◌≤◌, Bool, true, false, not, eqb, leb, List, [], ◌∷◌, ◌++◌, length, drop, refl, ap, sym, ◌∙◌, subst, arith, Option, Some, None, append_assoc, inl, inr, ℤ}
+use Rattle.std.proofs.Common.{
+  ◌≡◌,
+  ◌≢◌,
+  ℕ,
+  zero,
+  suc,
+  ◌+◌,
+  ◌<◌,
+  ◌≤◌,
+  Bool,
+  true,
+  false,
+  not,
+  eqb,
+  leb,
+  List,
+  [],
+  ◌∷◌,
+  ◌++◌,
+  length,
+  drop,
+  refl,
+  ap,
+  sym,
+  ◌∙◌,
+  subst,
+  arith,
+  Option,
+  Some,
+  None,
+  append_assoc,
+  inl,
+  inr,
+  ℤ,
+}
 use Rattle.std.specs.List.{list_all}
 use Rattle.std.proofs.lemmas.Bool.{false≢true}
 use Rattle.std.proofs.lemmas.Bool.Decides.{nat_tests}
@@ -9,7 +43,34 @@ use Rattle.cml_text.specs.declared.sexpr.Span.{Span}
 use Rattle.cml_text.specs.declared.fault.FaultKind.TheVariants.{Long, Character}
 use Rattle.cml_text.specs.Faults.{PlainFault}
 use Rattle.cml_text.specs.Forms.{PlainSexpr, plain_name, plain_int, plain_text, plain_list, PlainForms, no_forms, forms_and, plain_forms}
-use Rattle.cml_text.specs.Lexemes.{is_separator, is_delimiter, is_comment_byte, is_token_byte, is_number, number_value, is_name, is_plain, unescaped, number_lexeme, Literal, closed, endless, no_escape, literal, Lexeme, opening, closing, leaf, faulty, span_from, token_lexeme, literal_lexeme, literal_more, beginning, lexemes}
+use Rattle.cml_text.specs.Lexemes.{
+  is_separator,
+  is_delimiter,
+  is_comment_byte,
+  is_token_byte,
+  is_number,
+  number_value,
+  is_name,
+  is_plain,
+  unescaped,
+  number_lexeme,
+  Literal,
+  closed,
+  endless,
+  no_escape,
+  literal,
+  Lexeme,
+  opening,
+  closing,
+  leaf,
+  faulty,
+  span_from,
+  token_lexeme,
+  literal_lexeme,
+  literal_more,
+  beginning,
+  lexemes,
+}
 use Rattle.cml_text.specs.Texts.{words_of}
 use Rattle.cml_text.specs.Grammar.{Ending, whole_text, inside_list, EndsOrDelimits, StandsFor, Gives}
 use Rattle.cml_text.specs.Laws.{SpellsByTheGrammar}
@@ -40,7 +101,8 @@ record Found (ending : Ending) (at : ℕ) (text : List ℕ) (forms : PlainForms)
 
 abbrev Finder : ℕ → Type 0
 Finder fuel =
-    (ending : Ending) (at : ℕ) (text : List ℕ) (forms : PlainForms) (ws : List Lexeme) → length text ≤ fuel → EndsAs ending ws → lexemes 0 at text ≡ words_of forms ++ ws → Found ending at text forms ws
+    (ending : Ending) (at : ℕ) (text : List ℕ) (forms : PlainForms) (ws : List Lexeme) → length text ≤ fuel
+    → EndsAs ending ws → lexemes 0 at text ≡ words_of forms ++ ws → Found ending at text forms ws
 
 -- Which forms the lexemes begin with.
 
@@ -114,7 +176,8 @@ opening_first ending at ls (forms_and (plain_list s members) forms) ws end e =
 
 -- A text by what its first byte begins.
 
-found_separator : (ending : Ending) (at b : ℕ) (bytes : List ℕ) (forms : PlainForms) (ws : List Lexeme) → is_separator b ≡ true → Found ending (at + 1) bytes forms ws → Found ending at (b ∷ bytes) forms ws
+found_separator : (ending : Ending) (at b : ℕ) (bytes : List ℕ) (forms : PlainForms) (ws : List Lexeme) → is_separator b
+    ≡ true → Found ending (at + 1) bytes forms ws → Found ending at (b ∷ bytes) forms ws
 found_separator ending at b bytes forms ws is f =
     let place : at + length (b ∷ f.front) ≡ at + 1 + length f.front = omega arith in
     record {
@@ -163,9 +226,12 @@ found_comment fuel find ending at text bytes (c ∷ rest) forms ws small end par
       stands = f.stands;
     }
 
-found_closing : (ending : Ending) (at : ℕ) (text bytes : List ℕ) (forms : PlainForms) (ws : List Lexeme) → text ≡ 41 ∷ bytes → EndsAs ending ws → lexemes 0 at text ≡ words_of forms ++ ws → Found ending at text forms ws
+found_closing : (ending : Ending) (at : ℕ) (text bytes : List ℕ) (forms : PlainForms) (ws : List Lexeme) → text ≡ 41
+    ∷ bytes → EndsAs ending ws → lexemes 0 at text ≡ words_of forms ++ ws → Found ending at text forms ws
 found_closing whole_text at text bytes forms ws is end e =
-    let words : closing (at + 1) ∷ lexemes 0 (at + 1) bytes ≡ words_of forms ++ ws = sym (ap (lexemes 0 at) is ∙ begins_alone at 41 bytes (closing (at + 1) ∷ []) (begin_closing at 41 bytes refl)) ∙ e in
+    let words : closing (at + 1) ∷ lexemes 0 (at + 1) bytes ≡ words_of forms
+    ++ ws = sym (ap (lexemes 0 at) is
+    ∙ begins_alone at 41 bytes (closing (at + 1) ∷ []) (begin_closing at 41 bytes refl)) ∙ e in
     let clash : closing (at + 1) ∷ lexemes 0 (at + 1) bytes ≡ [] = (closing_first (at + 1) (lexemes 0 (at + 1) bytes) forms ws words).1 ∙ end in absurd (cc)
 found_closing inside_list at text bytes forms ws is end e =
     let here : lexemes 0 at text ≡ closing (at + 1) ∷ lexemes 0 (at + 1) bytes = ap (lexemes 0 at) is ∙ begins_alone at 41 bytes (closing (at + 1) ∷ []) (begin_closing at 41 bytes refl) in
@@ -279,7 +345,8 @@ closed_at (b ∷ c ∷ bytes) content more e =
           ]
     ]
 
-found_literal : (fuel : ℕ) (find : Finder fuel) (ending : Ending) (at : ℕ) (text bytes content : List ℕ) (more : ℕ) (forms : PlainForms) (ws : List Lexeme) → length text ≤ suc fuel → EndsAs ending ws →
+found_literal : (fuel : ℕ) (find : Finder fuel) (ending : Ending) (at : ℕ) (text bytes content : List ℕ) (more : ℕ)
+    (forms : PlainForms) (ws : List Lexeme) → length text ≤ suc fuel → EndsAs ending ws →
     text ≡ 34 ∷ bytes → literal bytes ≡ closed content more → length content ≤ 4096 → lexemes 0 at text ≡ words_of forms ++ ws → Found ending at text forms ws
 found_literal fuel find ending at text bytes content more forms ws small end is found fits e =
     let l : ClosedAt bytes content more = closed_at bytes content more found in
@@ -320,7 +387,9 @@ found_text fuel find ending at text bytes (closed content more) forms ws small e
     elim (cases_test (leb (length content) 4096)) [
       | inl fits ↦ found_literal fuel find ending at text bytes content more forms ws small end is found (grind (arith, nat_tests)) e
       | inr long ↦
-          absurd (fault_word ending at 34 bytes (record { kind = Long; at = at }) forms ws end (ap (λ g. g.word) (literal_at at bytes) ∙ ap (λ k. literal_lexeme at k ∷ []) found ∙ rw long refl) (sym (ap (lexemes 0 at) is) ∙ e))
+          absurd (fault_word ending at 34 bytes (record { kind = Long; at = at }) forms ws end
+          (ap (λ g. g.word) (literal_at at bytes) ∙ ap (λ k. literal_lexeme at k ∷ []) found ∙ rw long refl)
+          (sym (ap (lexemes 0 at) is) ∙ e))
     ]
 found_text fuel find ending at text bytes endless forms ws small end is found e =
     absurd (fault_word ending at 34 bytes _ forms ws end (ap (λ g. g.word) (literal_at at bytes) ∙ ap (λ k. literal_lexeme at k ∷ []) found) (sym (ap (lexemes 0 at) is) ∙ e))
@@ -359,7 +428,8 @@ stops_front (b ∷ front) [] rest e stop = absurd (cc)
 stops_front (b ∷ front) (c ∷ behind) rest e stop = let same : b ≡ c = cc in test_delimits b (negated (is_delimiter b) (ap is_token_byte same ∙ stop))
 
 found_token : (fuel : ℕ) (find : Finder fuel) (ending : Ending) (at : ℕ) (text token behind : List ℕ) (forms : PlainForms) (ws : List Lexeme) → length text ≤ suc fuel → EndsAs ending ws →
-    text ≡ token ++ behind → 0 < length token → list_all is_token_byte token ≡ true → Stops is_token_byte behind → TokenIs at token → lexemes 0 at text ≡ words_of forms ++ ws → Found ending at text forms ws
+    text ≡ token ++ behind → 0 < length token → list_all is_token_byte token ≡ true → Stops is_token_byte behind
+    → TokenIs at token → lexemes 0 at text ≡ words_of forms ++ ws → Found ending at text forms ws
 found_token fuel find ending at text token behind forms ws small end parts some all stop (a_number value num worth is) e =
     let form : PlainSexpr = plain_int (span_from at (length token)) value in
     let words : leaf form ∷ lexemes 0 (at + length token) behind ≡ words_of forms ++ ws =
@@ -368,7 +438,11 @@ found_token fuel find ending at text token behind forms ws small end parts some 
     let fewer : length behind ≤ fuel = omega (arith, ap length parts, length-append token behind) in
     let f = find ending (at + length token) behind first.0 ws fewer end first.1.1 in
     found_word ending at (at + length token) text token behind form forms first.0 ws parts refl first.1.0 f
-    (Gives.number ending at token f.front value first.0 (record { undivided = test_undivided token all; ends = stops_front f.front behind f.rest (sym f.parts) stop }) (test_numeral token value num worth) f.given)
+    (Gives.number ending at token f.front value first.0 (record {
+      undivided = test_undivided token all;
+      ends =
+          stops_front f.front behind f.rest (sym f.parts) stop;
+    }) (test_numeral token value num worth) f.given)
 found_token fuel find ending at text token behind forms ws small end parts some all stop (a_name named is) e =
     let form : PlainSexpr = plain_name (span_from at (length token)) token in
     let words : leaf form ∷ lexemes 0 (at + length token) behind ≡ words_of forms ++ ws =
@@ -404,11 +478,14 @@ found_first fuel find ending at b bytes forms ws small end e =
                         | inl t3 ↦ let is : b ≡ 41 = grind (arith, nat_tests) in found_closing ending at (b ∷ bytes) bytes forms ws (ap (λ k. k ∷ bytes) is) end e
                         | inr t3 ↦
                             elim (cases_test (eqb b 34)) [
-                              | inl t4 ↦ let is : b ≡ 34 = grind (arith, nat_tests) in found_text fuel find ending at (b ∷ bytes) bytes (literal bytes) forms ws small end (ap (λ k. k ∷ bytes) is) refl e
+                              | inl t4 ↦ let is : b ≡ 34 = grind (arith, nat_tests) in found_text fuel find ending at
+                                  (b ∷ bytes) bytes (literal bytes) forms ws small end (ap (λ k. k ∷ bytes) is) refl e
                               | inr t4 ↦
                                   let passes : is_token_byte b ≡ true = rw t (rw t2 (rw t3 (rw t4 (rw t1 refl)))) in
                                   let r : Run is_token_byte bytes = run_of is_token_byte bytes in
-                                  found_token fuel find ending at (b ∷ bytes) (b ∷ r.front) r.rest forms ws small end (ap (λ t. b ∷ t) r.parts) (omega arith) (rw passes r.all) r.stop (token_is at (b ∷ r.front)) e
+                                  found_token fuel find ending at (b ∷ bytes) (b ∷ r.front) r.rest forms ws small end
+                                  (ap (λ t. b ∷ t) r.parts) (omega arith) (rw passes r.all) r.stop
+                                  (token_is at (b ∷ r.front)) e
                             ]
                       ]
                 ]

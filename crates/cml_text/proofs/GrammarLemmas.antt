@@ -8,7 +8,27 @@ use Rattle.std.proofs.lemmas.List.{length-append}
 use Rattle.std.proofs.lemmas.Str.{IsUtf8-take, IsUtf8-drop, IsCharBoundary-after_ascii}
 use Rattle.std.proofs.Math.Seq.{drop-append_seam, take-append_seam, drop-append-add}
 use Rattle.cml_text.specs.Forms.{plain_text, plain_list, PlainForms, forms_and}
-use Rattle.cml_text.specs.Lexemes.{is_separator, is_delimiter, is_comment_byte, is_token_byte, is_number, is_plain, closed, with_front, with_escape, literal, Lexeme, opening, closing, leaf, span_from, literal_lexeme, literal_more, beginning, lexemes}
+use Rattle.cml_text.specs.Lexemes.{
+  is_separator,
+  is_delimiter,
+  is_comment_byte,
+  is_token_byte,
+  is_number,
+  is_plain,
+  closed,
+  with_front,
+  with_escape,
+  literal,
+  Lexeme,
+  opening,
+  closing,
+  leaf,
+  span_from,
+  literal_lexeme,
+  literal_more,
+  beginning,
+  lexemes,
+}
 use Rattle.cml_text.specs.Texts.{words_of}
 use Rattle.cml_text.specs.Grammar.{Separates, Delimits, Escapes, Ending, whole_text, inside_list, HaveNoLineFeed, EndsOrDelimits, StandsFor, Gives}
 use Rattle.cml_text.proofs.LiteralLemmas.{literal_plain, literal_quote}
@@ -101,7 +121,11 @@ lex_literal at spelling content rest is small =
     let word : literal_lexeme at (closed content (length spelling + 1)) ≡ leaf (plain_text (span_from at (1 + length spelling + 1)) content) =
     rw fits (ap (λ n. leaf (plain_text (span_from at n) content)) count) in
     let begin : beginning at 34 (spelling ++ 34 ∷ rest) ≡ record { word = leaf (plain_text (span_from at (1 + length spelling + 1)) content) ∷ []; more = length spelling + 1 } =
-    begin_text at 34 (spelling ++ 34 ∷ rest) refl ∙ ap (λ l. record { word = literal_lexeme at l ∷ []; more = literal_more l }) found ∙ ap (λ w. record { word = w ∷ []; more = length spelling + 1 }) word in
+    begin_text at 34 (spelling ++ 34 ∷ rest) refl ∙ ap (λ l. record {
+      word = literal_lexeme at l
+          ∷ [];
+      more = literal_more l;
+    }) found ∙ ap (λ w. record { word = w ∷ []; more = length spelling + 1 }) word in
     begins at 34 (length spelling + 1) (spelling ++ 34 ∷ rest) (leaf (plain_text (span_from at (1 + length spelling + 1)) content) ∷ []) begin
     ∙ ap (λ r. leaf (plain_text (span_from at (1 + length spelling + 1)) content) ∷ lexemes 0 (at + 1 + (length spelling + 1)) r) (drop-append-add spelling (34 ∷ rest) 1)
     ∙ ap (λ n. leaf (plain_text (span_from at (1 + length spelling + 1)) content) ∷ lexemes 0 n rest) place
@@ -110,7 +134,9 @@ lex_literal at spelling content rest is small =
 lex_listed : (at : ℕ) (inside text rest : List ℕ) (members forms : PlainForms) →
     lexemes 0 (at + 1) (inside ++ 41 ∷ (text ++ rest)) ≡ words_of members ++ lexemes 0 (at + 1 + length inside) (41 ∷ (text ++ rest)) →
     lexemes 0 (at + 1 + length inside + 1) (text ++ rest) ≡ words_of forms ++ lexemes 0 (at + 1 + length inside + 1 + length text) rest →
-    lexemes 0 at (40 ∷ (inside ++ 41 ∷ text) ++ rest) ≡ words_of (forms_and (plain_list (span_from at (1 + length inside + 1)) members) forms) ++ lexemes 0 (at + length (40 ∷ (inside ++ 41 ∷ text))) rest
+    lexemes 0 at (40 ∷ (inside ++ 41 ∷ text) ++ rest) ≡ words_of
+    (forms_and (plain_list (span_from at (1 + length inside + 1)) members) forms)
+    ++ lexemes 0 (at + length (40 ∷ (inside ++ 41 ∷ text))) rest
 lex_listed at inside text rest members forms e f =
     let p : ℕ = at + 1 + length inside in
     let ends : p + 1 ≡ at + (1 + length inside + 1) = omega arith in

@@ -8,7 +8,24 @@ use Rattle.std.proofs.lemmas.List.{length-append}
 use Rattle.std.proofs.Math.Seq.{drop-append_seam, take-append_seam, drop-append-add}
 use Rattle.cml_text.specs.declared.sexpr.Span.{Span}
 use Rattle.cml_text.specs.Forms.{PlainSexpr, plain_name, plain_int, plain_text, plain_list, PlainForms, no_forms, forms_and}
-use Rattle.cml_text.specs.Lexemes.{is_token_byte, is_plain, is_name, closed, with_front, literal, Lexeme, opening, closing, leaf, span_from, token_lexeme, literal_lexeme, literal_more, beginning, lexemes}
+use Rattle.cml_text.specs.Lexemes.{
+  is_token_byte,
+  is_plain,
+  is_name,
+  closed,
+  with_front,
+  literal,
+  Lexeme,
+  opening,
+  closing,
+  leaf,
+  span_from,
+  token_lexeme,
+  literal_lexeme,
+  literal_more,
+  beginning,
+  lexemes,
+}
 use Rattle.cml_text.specs.Limits.{IsProper, AreProper}
 use Rattle.cml_text.specs.Printed.{escaped, quoted, printed_form, printed_members, printed_behind}
 use Rattle.cml_text.specs.Texts.{words, words_of}
@@ -18,7 +35,9 @@ use Rattle.cml_text.proofs.BeginLemmas.{lexemes-begin, begin_separator, begin_op
 use Rattle.cml_text.proofs.PrintedLemmas.{Stops, run-append, all_of_both, IsNumberToken, printed_number, IsNameToken, printed_name}
 
 -- what begins with a byte goes on after it
-pub begins : (at b more : ℕ) (bytes : List ℕ) (word : List Lexeme) → beginning at b bytes ≡ record { word = word; more = more } → lexemes 0 at (b ∷ bytes) ≡ word ++ lexemes 0 (at + 1 + more) (drop more bytes)
+pub begins : (at b more : ℕ) (bytes : List ℕ) (word : List Lexeme) → beginning at b bytes
+    ≡ record { word = word; more = more } → lexemes 0 at (b ∷ bytes) ≡ word
+    ++ lexemes 0 (at + 1 + more) (drop more bytes)
 begins at b more bytes word e = lexemes-begin at b bytes ∙ ap (λ g. g.word ++ lexemes 0 (at + 1 + g.more) (drop g.more bytes)) e
 
 pub begins_alone : (at b : ℕ) (bytes : List ℕ) (word : List Lexeme) → beginning at b bytes ≡ record { word = word; more = 0 } → lexemes 0 at (b ∷ bytes) ≡ word ++ lexemes 0 (at + 1) bytes
@@ -70,7 +89,9 @@ literal_one b n bytes content h =
 pub literal_escaped : (content rest : List ℕ) → literal (flat_map escaped content ++ 34 ∷ rest) ≡ closed content (length (flat_map escaped content) + 1)
 literal_escaped [] rest = let one : 0 + 1 ≡ 1 = omega arith in literal_quote (34 ∷ rest) (omega arith) refl
 literal_escaped (b ∷ content) rest =
-    let count : length (escaped b) + (length (flat_map escaped content) + 1) ≡ length (escaped b ++ flat_map escaped content) + 1 = omega (arith, length-append (escaped b) (flat_map escaped content)) in
+    let count : length (escaped b) + (length (flat_map escaped content) + 1)
+    ≡ length (escaped b ++ flat_map escaped content) + 1 = omega
+    (arith, length-append (escaped b) (flat_map escaped content)) in
     ap literal (append_assoc (escaped b) (flat_map escaped content) (34 ∷ rest))
     ∙ literal_one b (length (flat_map escaped content) + 1) (flat_map escaped content ++ 34 ∷ rest) content (literal_escaped content rest)
     ∙ ap (closed (b ∷ content)) count
@@ -85,12 +106,19 @@ lex_text at content rest small =
     let place : at + 1 + (length (flat_map escaped content) + 1) ≡ at + length (quoted content) = omega (arith, count) in
     let word : literal_lexeme at (closed content (length (flat_map escaped content) + 1)) ≡ leaf (plain_text (span_from at (length (quoted content))) content) =
     rw fits (ap (λ n. leaf (plain_text (span_from at n) content)) count) in
-    let begin : beginning at 34 (flat_map escaped content ++ 34 ∷ rest) ≡ record { word = leaf (plain_text (span_from at (length (quoted content))) content) ∷ []; more = length (flat_map escaped content) + 1 } =
+    let begin : beginning at 34 (flat_map escaped content ++ 34 ∷ rest)
+    ≡ record {
+      word = leaf (plain_text (span_from at (length (quoted content))) content)
+          ∷ [];
+      more = length (flat_map escaped content) + 1;
+    } =
     begin_text at 34 (flat_map escaped content ++ 34 ∷ rest) refl ∙ ap (λ l. record { word = literal_lexeme at l ∷ []; more = literal_more l }) found
     ∙ ap (λ w. record { word = w ∷ []; more = length (flat_map escaped content) + 1 }) word in
     ap (λ t. lexemes 0 at (34 ∷ t)) inner
     ∙ begins at 34 (length (flat_map escaped content) + 1) (flat_map escaped content ++ 34 ∷ rest) (leaf (plain_text (span_from at (length (quoted content))) content) ∷ []) begin
-    ∙ ap (λ r. leaf (plain_text (span_from at (length (quoted content))) content) ∷ lexemes 0 (at + 1 + (length (flat_map escaped content) + 1)) r) (drop-append-add (flat_map escaped content) (34 ∷ rest) 1)
+    ∙ ap (λ r. leaf (plain_text (span_from at (length (quoted content))) content)
+    ∷ lexemes 0 (at + 1 + (length (flat_map escaped content) + 1)) r)
+    (drop-append-add (flat_map escaped content) (34 ∷ rest) 1)
     ∙ ap (λ n. leaf (plain_text (span_from at (length (quoted content))) content) ∷ lexemes 0 n rest) place
 
 -- the form where it stands when it is printed at a place
@@ -139,7 +167,9 @@ lex_list at span forms rest e =
     let inner : (printed_members forms ++ 41 ∷ []) ++ rest ≡ printed_members forms ++ 41 ∷ rest = append_assoc (printed_members forms) (41 ∷ []) rest in
     let close : at + 1 + length (printed_members forms) + 1 ≡ at + (1 + length (printed_members forms) + 1) = omega arith in
     let count : at + (1 + length (printed_members forms) + 1) ≡ at + length (printed_form (plain_list span forms)) = omega (arith, length-append (printed_members forms) (41 ∷ [])) in
-    let closes : lexemes 0 (at + 1 + length (printed_members forms)) (41 ∷ rest) ≡ closing (at + (1 + length (printed_members forms) + 1)) ∷ lexemes 0 (at + length (printed_form (plain_list span forms))) rest =
+    let closes : lexemes 0 (at + 1 + length (printed_members forms)) (41 ∷ rest)
+    ≡ closing (at + (1 + length (printed_members forms) + 1))
+    ∷ lexemes 0 (at + length (printed_form (plain_list span forms))) rest =
     begins_alone (at + 1 + length (printed_members forms)) 41 rest (closing (at + 1 + length (printed_members forms) + 1) ∷ []) (begin_closing (at + 1 + length (printed_members forms)) 41 rest refl)
     ∙ ap (λ n. closing n ∷ lexemes 0 n rest) close ∙ ap (λ n. closing (at + (1 + length (printed_members forms) + 1)) ∷ lexemes 0 n rest) count in
     begins_alone at 40 ((printed_members forms ++ 41 ∷ []) ++ rest) (opening at ∷ []) (begin_opening at 40 ((printed_members forms ++ 41 ∷ []) ++ rest) refl)

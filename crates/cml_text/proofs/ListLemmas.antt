@@ -7,7 +7,23 @@ use Rattle.std.proofs.lemmas.List.{length-append}
 use Rattle.std.proofs.lemmas.List.Elements.{All-head, All-tail}
 use Rattle.std.proofs.lemmas.Str.{IsUtf8-append}
 use Rattle.cml_text.specs.declared.sexpr.Span.{Span}
-use Rattle.cml_text.specs.Forms.{PlainSexpr, plain_name, plain_int, plain_text, plain_list, PlainForms, no_forms, forms_and, plain_forms, forms_list, nesting, nesting_of, nowhere, without_spans, all_without_spans}
+use Rattle.cml_text.specs.Forms.{
+  PlainSexpr,
+  plain_name,
+  plain_int,
+  plain_text,
+  plain_list,
+  PlainForms,
+  no_forms,
+  forms_and,
+  plain_forms,
+  forms_list,
+  nesting,
+  nesting_of,
+  nowhere,
+  without_spans,
+  all_without_spans,
+}
 use Rattle.cml_text.specs.Grammar.{Separates, Delimits, Ending, whole_text, inside_list, HaveNoLineFeed, EndsOrDelimits, Gives, IsGrammatical}
 use Rattle.cml_text.specs.Lexemes.{is_separator, span_from}
 use Rattle.cml_text.specs.Lines.{line}
@@ -185,14 +201,19 @@ cut_token (x ∷ token) behind (y ∷ text) none e =
     let r = cut_token token behind text (All-tail (λ b. Delimits b → ⊥) x token none) h.1 in
     (r.0, (r.1.0, ap (λ k. k ∷ text) (sym h.0) ∙ ap (λ t. x ∷ t) r.1.1))
 
-outside : (ending : Ending) (at place : ℕ) (all text : List ℕ) (forms : PlainForms) → Gives ending at all forms → ending ≡ inside_list → all ≡ line text → GivesAside whole_text place text (all_without_spans forms)
+outside : (ending : Ending) (at place : ℕ) (all text : List ℕ) (forms : PlainForms) → Gives ending at all forms → ending
+    ≡ inside_list → all ≡ line text → GivesAside whole_text place text (all_without_spans forms)
 outside ending at place all text forms (Gives.nothing e n) inner is = absurd (no_line text is)
 outside ending at place all [] forms (Gives.separator e n b bytes fs sep more) inner is =
     let h = heads is in none_aside place [] fs (nothing_left e (n + 1) bytes fs more h.1) (Gives.nothing whole_text place)
 outside ending at place all (y ∷ text) forms (Gives.separator e n b bytes fs sep more) inner is =
     let h = heads is in
     let r = outside e (n + 1) (place + 1) bytes text fs more inner h.1 in
-    of_text place (y ∷ text) (b ∷ text) (all_without_spans fs) (ap (λ k. k ∷ text) (sym h.0)) (record { found = r.found; given = Gives.separator whole_text place b text r.found sep r.given; same = r.same })
+    of_text place (y ∷ text) (b ∷ text) (all_without_spans fs) (ap (λ k. k ∷ text) (sym h.0)) (record {
+      found = r.found;
+      given = Gives.separator whole_text place b text r.found sep r.given;
+      same = r.same;
+    })
 outside ending at place all text forms (Gives.comment e n bytes behind fs none more) inner is =
     elim (cut_feed (59 ∷ bytes) behind text is) [
       | inl last ↦
@@ -260,7 +281,8 @@ no_closing ending at text rest forms (Gives.comment e n bytes behind fs none mor
 no_closing ending at text rest forms (Gives.last_comment n bytes none) is = let h = heads is in absurd (omega (arith, h.0))
 no_closing ending at text rest forms (Gives.list e n within behind members fs given more) is = let h = heads is in absurd (omega (arith, h.0))
 no_closing ending at text rest forms (Gives.literal e n spelling content behind fs stands small more) is = let h = heads is in absurd (omega (arith, h.0))
-no_closing ending at text rest forms (Gives.number e n token behind value fs tok num more) is = token_front 41 token behind rest (numeral_some token value num) tok.undivided Delimits.closing_parenthesis is
+no_closing ending at text rest forms (Gives.number e n token behind value fs tok num more) is = token_front 41 token
+    behind rest (numeral_some token value num) tok.undivided Delimits.closing_parenthesis is
 no_closing ending at text rest forms (Gives.name e n token behind fs tok named more) is = token_front 41 token behind rest (name_some token named) tok.undivided Delimits.closing_parenthesis is
 
 -- a line feed and a closing parenthesis at the end are after the comment, or end it

@@ -29,7 +29,8 @@ pub length-starts : (lists : List OpenList) → length (starts lists) ≡ length
 length-starts lists = length-reverse (map (λ l. l.start) lists) ∙ length-map lists (λ l. l.start)
 
 -- a list was opened
-pub takes_opening : (lists lists' : List OpenList) (forms forms' : List PlainSexpr) (list : OpenList) (at : ℕ) → length lists < 256 → lists' ≡ lists ++ list ∷ [] → list.start ≡ at → list.before.items ≡ forms → forms' ≡ [] →
+pub takes_opening : (lists lists' : List OpenList) (forms forms' : List PlainSexpr) (list : OpenList) (at : ℕ)
+    → length lists < 256 → lists' ≡ lists ++ list ∷ [] → list.start ≡ at → list.before.items ≡ forms → forms' ≡ [] →
     TakesWord (opening at) lists forms lists' forms'
 takes_opening lists lists' forms forms' list at room is starts_at before none =
     record {
@@ -52,7 +53,8 @@ opening_deep lists at rest deep =
     rw test refl
 
 -- a list was closed
-pub takes_closing : (lists lists' : List OpenList) (forms forms' : List PlainSexpr) (list : OpenList) (at : ℕ) (span : Span) → lists ≡ lists' ++ list ∷ [] → span.start ≡ list.start → span.end ≡ at + 1 →
+pub takes_closing : (lists lists' : List OpenList) (forms forms' : List PlainSexpr) (list : OpenList) (at : ℕ)
+    (span : Span) → lists ≡ lists' ++ list ∷ [] → span.start ≡ list.start → span.end ≡ at + 1 →
     forms' ≡ list.before.items ++ plain_list span (plain_forms forms) ∷ [] → TakesWord (closing (at + 1)) lists forms lists' forms'
 takes_closing lists lists' forms forms' list at span is starts_at ends_at made =
     record {

@@ -1,5 +1,38 @@
 -- What stands before a lexeme is read by itself.
-use Rattle.std.proofs.Common.{◌≡◌, ℕ, zero, suc, ◌+◌, ◌<◌, ◌≤◌, true, false, eqb, leb, List, [], ◌∷◌, ◌++◌, length, take, drop, refl, ap, sym, ◌∙◌, subst, arith, Option, Some, None, append_assoc, inl, inr, ◌⊎◌, ℤ}
+use Rattle.std.proofs.Common.{
+  ◌≡◌,
+  ℕ,
+  zero,
+  suc,
+  ◌+◌,
+  ◌<◌,
+  ◌≤◌,
+  true,
+  false,
+  eqb,
+  leb,
+  List,
+  [],
+  ◌∷◌,
+  ◌++◌,
+  length,
+  take,
+  drop,
+  refl,
+  ap,
+  sym,
+  ◌∙◌,
+  subst,
+  arith,
+  Option,
+  Some,
+  None,
+  append_assoc,
+  inl,
+  inr,
+  ◌⊎◌,
+  ℤ,
+}
 use Rattle.std.specs.List.{list_all, prefix_len}
 use Rattle.std.proofs.lemmas.Bool.Decides.{nat_tests}
 use Rattle.std.proofs.lemmas.List.{length-append}
@@ -7,7 +40,30 @@ use Rattle.std.proofs.Math.Seq.{drop-append-add}
 use Rattle.cml_text.specs.declared.fault.FaultKind.TheVariants.{Unclosed, Escape, Long}
 use Rattle.cml_text.specs.Faults.{PlainFault}
 use Rattle.cml_text.specs.FirstFaults.{IsAtFault}
-use Rattle.cml_text.specs.Lexemes.{is_separator, is_comment_byte, is_token_byte, is_number, is_name, number_value, number_lexeme, Literal, closed, endless, no_escape, literal, Lexeme, opening, closing, leaf, faulty, token_lexeme, literal_lexeme, literal_more, beginning, lexemes}
+use Rattle.cml_text.specs.Lexemes.{
+  is_separator,
+  is_comment_byte,
+  is_token_byte,
+  is_number,
+  is_name,
+  number_value,
+  number_lexeme,
+  Literal,
+  closed,
+  endless,
+  no_escape,
+  literal,
+  Lexeme,
+  opening,
+  closing,
+  leaf,
+  faulty,
+  token_lexeme,
+  literal_lexeme,
+  literal_more,
+  beginning,
+  lexemes,
+}
 use Rattle.cml_text.proofs.WordLemmas.{cases_test}
 use Rattle.cml_text.proofs.BeginLemmas.{begin_separator, begin_opening, begin_closing, begin_text, begin_token}
 use Rattle.cml_text.proofs.PrintedLemmas.{Stops}
@@ -155,7 +211,8 @@ literal_step at spelling content rest fits found =
     ap (λ t. lexemes 0 at (34 ∷ t)) (append_assoc spelling (34 ∷ []) rest) ∙ begins at 34 n (spelling ++ 34 ∷ rest) (word ∷ []) begin
     ∙ ap (λ r. word ∷ lexemes 0 (at + 1 + n) r) (drop-append-add spelling (34 ∷ rest) 1) ∙ ap (λ k. word ∷ lexemes 0 k rest) place
 
-cut_closed : (fuel : ℕ) (cut : Cutter fuel) (at : ℕ) (bytes content : List ℕ) (more : ℕ) (before : List Lexeme) (word : Lexeme) (after : List Lexeme) → length (34 ∷ bytes) ≤ suc fuel → AreSound before →
+cut_closed : (fuel : ℕ) (cut : Cutter fuel) (at : ℕ) (bytes content : List ℕ) (more : ℕ) (before : List Lexeme)
+    (word : Lexeme) (after : List Lexeme) → length (34 ∷ bytes) ≤ suc fuel → AreSound before →
     literal bytes ≡ closed content more → leb (length content) 4096 ≡ true → lexemes 0 at (34 ∷ bytes) ≡ before ++ word ∷ after → Cut at (34 ∷ bytes) before word
 cut_closed fuel cut at bytes content more before word after small sound found fits e =
     let l : ClosedAt bytes content more = closed_at bytes content more found in
@@ -185,7 +242,8 @@ cut_quote fuel cut at bytes (no_escape place) before word after small sound foun
     faulted at 34 0 bytes (record { kind = Escape; at = at + 1 + place }) before word after sound
     (begin_text at 34 bytes refl ∙ ap (λ k. record { word = literal_lexeme at k ∷ []; more = literal_more k }) found) e
 
-cut_token : (fuel : ℕ) (cut : Cutter fuel) (at b : ℕ) (bytes : List ℕ) (r : Run is_token_byte bytes) (before : List Lexeme) (word : Lexeme) (after : List Lexeme) → length (b ∷ bytes) ≤ suc fuel → AreSound before →
+cut_token : (fuel : ℕ) (cut : Cutter fuel) (at b : ℕ) (bytes : List ℕ) (r : Run is_token_byte bytes)
+    (before : List Lexeme) (word : Lexeme) (after : List Lexeme) → length (b ∷ bytes) ≤ suc fuel → AreSound before →
     is_token_byte b ≡ true → lexemes 0 at (b ∷ bytes) ≡ before ++ word ∷ after → Cut at (b ∷ bytes) before word
 cut_token fuel cut at b bytes r before word after small sound passes e =
     let piece : List ℕ = b ∷ r.front in
@@ -219,13 +277,17 @@ cut_first fuel cut at b bytes before word after small sound e =
                 elim (cases_test (eqb b 40)) [
                   | inl t2 ↦
                       let is : b ≡ 40 = grind (arith, nat_tests) in
-                      worded fuel cut at b bytes (b ∷ []) bytes (opening at) before word after (omega arith) sound refl (ap (λ g. g.word) (begin_opening at b bytes is)) (one_step at b bytes (opening at) (begin_opening at b bytes is))
+                      worded fuel cut at b bytes (b ∷ []) bytes (opening at) before word after (omega arith) sound refl
+                      (ap (λ g. g.word) (begin_opening at b bytes is))
+                      (one_step at b bytes (opening at) (begin_opening at b bytes is))
                       (λ front tail other same stop. one_step at b (front ++ tail) (opening at) (begin_opening at b (front ++ tail) is)) e
                   | inr t2 ↦
                       elim (cases_test (eqb b 41)) [
                         | inl t3 ↦
                             let is : b ≡ 41 = grind (arith, nat_tests) in
-                            worded fuel cut at b bytes (b ∷ []) bytes (closing (at + 1)) before word after (omega arith) sound refl (ap (λ g. g.word) (begin_closing at b bytes is)) (one_step at b bytes (closing (at + 1)) (begin_closing at b bytes is))
+                            worded fuel cut at b bytes (b ∷ []) bytes (closing (at + 1)) before word after (omega arith)
+                            sound refl (ap (λ g. g.word) (begin_closing at b bytes is))
+                            (one_step at b bytes (closing (at + 1)) (begin_closing at b bytes is))
                             (λ front tail other same stop. one_step at b (front ++ tail) (closing (at + 1)) (begin_closing at b (front ++ tail) is)) e
                         | inr t3 ↦
                             elim (cases_test (eqb b 34)) [

@@ -42,7 +42,8 @@ appended_run old new rest plain special bytes n count is front back added =
     (ap (λ p. p ++ flat_map escaped special) front ∙ ap (λ s. take n rest ++ flat_map escaped s) back ∙ ap (λ k. take k rest ++ flat_map escaped (drop k rest)) m ∙ sym (escaped_run rest))
 
 -- what follows them needs an escape, if anything follows
-pub run_needs_escape : (rest special bytes : List ℕ) (n : ℕ) → n ≡ prefix_len needs_no_escape bytes → bytes ≡ rest → special ≡ drop n rest → 0 < length special → needs_no_escape (get_or special 0 0) ≡ false
+pub run_needs_escape : (rest special bytes : List ℕ) (n : ℕ) → n ≡ prefix_len needs_no_escape bytes → bytes ≡ rest
+    → special ≡ drop n rest → 0 < length special → needs_no_escape (get_or special 0 0) ≡ false
 run_needs_escape rest special bytes n count is cut more =
     let m : n ≡ prefix_len needs_no_escape rest = count ∙ ap (prefix_len needs_no_escape) is in
     let shrunk : length special ≡ length rest - n = ap length cut ∙ length-drop n rest in
@@ -51,7 +52,8 @@ run_needs_escape rest special bytes n count is cut more =
     rw here (prefix_len_stops needs_no_escape rest 0 (omega arith))
 
 -- the escape of the first byte was appended
-pub appended_first : (old new special rest : List ℕ) → 0 < length special → new ≡ old ++ escaped (get_or special 0 0) → rest ≡ drop 1 special → new ++ flat_map escaped rest ≡ old ++ flat_map escaped special
+pub appended_first : (old new special rest : List ℕ) → 0 < length special → new ≡ old ++ escaped (get_or special 0 0)
+    → rest ≡ drop 1 special → new ++ flat_map escaped rest ≡ old ++ flat_map escaped special
 appended_first old new special rest some added cut =
     ap (λ t. t ++ flat_map escaped rest) added ∙ append_assoc old (escaped (get_or special 0 0)) (flat_map escaped rest)
     ∙ ap (λ t. old ++ t) (ap (λ r. escaped (get_or special 0 0) ++ flat_map escaped r) cut ∙ sym (escaped_first special some))
@@ -65,7 +67,8 @@ printed_behind-push (first ∷ forms) form =
 pub printed_members-first : (form : PlainSexpr) → printed_members (plain_forms (form ∷ [])) ≡ printed_form form
 printed_members-first form = append-nil (printed_form form)
 
-pub printed_members-push : (forms : List PlainSexpr) (form : PlainSexpr) → 0 < length forms → printed_members (plain_forms (forms ++ form ∷ [])) ≡ printed_members (plain_forms forms) ++ 32 ∷ printed_form form
+pub printed_members-push : (forms : List PlainSexpr) (form : PlainSexpr) → 0 < length forms
+    → printed_members (plain_forms (forms ++ form ∷ [])) ≡ printed_members (plain_forms forms) ++ 32 ∷ printed_form form
 printed_members-push [] form some = absurd (omega arith)
 printed_members-push (first ∷ forms) form some =
     ap (λ t. printed_form first ++ t) (printed_behind-push forms form) ∙ sym (append_assoc (printed_form first) (printed_behind (plain_forms forms)) (32 ∷ printed_form form))

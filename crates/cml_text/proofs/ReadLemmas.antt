@@ -24,7 +24,8 @@ read_nothing text lists forms e f =
     record { within = omega arith; words = rw (z, e, f) refl; faults = rw (z, e) refl }
 
 -- the place after a step
-behind_at : (text rest behind : List ℕ) (at : ℕ) → length rest ≤ length text → at ≡ length text - length rest → length behind < length rest → at + (length rest - length behind) ≡ length text - length behind
+behind_at : (text rest behind : List ℕ) (at : ℕ) → length rest ≤ length text → at ≡ length text - length rest
+    → length behind < length rest → at + (length rest - length behind) ≡ length text - length behind
 behind_at text rest behind at within is shorter = omega arith
 
 pub read_gap : (text rest behind : List ℕ) (lists : List OpenList) (forms : List PlainSexpr) (at : ℕ) → IsReadUpTo text lists forms rest → at ≡ length text - length rest → StepsTo at rest [] behind →
@@ -45,7 +46,8 @@ word_next text rest behind word at within is step =
     let place : at + (length rest - length behind) ≡ length text - length behind = behind_at text rest behind at within is step.shorter in
     ap (λ n. lexemes 0 n rest) (sym is) ∙ step.spelled ∙ ap (λ n. word ∷ lexemes 0 n behind) place
 
-pub read_word : (text rest behind : List ℕ) (lists lists' : List OpenList) (forms forms' : List PlainSexpr) (word : Lexeme) (at : ℕ) → IsReadUpTo text lists forms rest → at ≡ length text - length rest →
+pub read_word : (text rest behind : List ℕ) (lists lists' : List OpenList) (forms forms' : List PlainSexpr)
+    (word : Lexeme) (at : ℕ) → IsReadUpTo text lists forms rest → at ≡ length text - length rest →
     StepsTo at rest (word ∷ []) behind → TakesWord word lists forms lists' forms' → IsReadUpTo text lists' forms' behind
 read_word text rest behind lists lists' forms forms' word at up is step takes =
     let same = word_next text rest behind word at up.within is step in

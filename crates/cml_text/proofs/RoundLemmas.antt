@@ -11,7 +11,22 @@ use Rattle.std.proofs.lemmas.Grind.{flat_map-append}
 use Rattle.std.proofs.lemmas.List.{append-nil}
 use Rattle.std.proofs.lemmas.Str.{IsUtf8-nil, IsUtf8-append, IsUtf8-from_ascii, inside_one, encode_ascii}
 use Rattle.std.proofs.lemmas.Str.Ascii.{IsAscii-nil, IsAscii-cons}
-use Rattle.cml_text.specs.Forms.{PlainSexpr, plain_name, plain_int, plain_text, plain_list, PlainForms, no_forms, forms_and, plain_forms, nesting, nesting_of, nowhere, without_spans, all_without_spans}
+use Rattle.cml_text.specs.Forms.{
+  PlainSexpr,
+  plain_name,
+  plain_int,
+  plain_text,
+  plain_list,
+  PlainForms,
+  no_forms,
+  forms_and,
+  plain_forms,
+  nesting,
+  nesting_of,
+  nowhere,
+  without_spans,
+  all_without_spans,
+}
 use Rattle.cml_text.specs.Lexemes.{lexemes}
 use Rattle.cml_text.specs.Limits.{IsSmall, IsProper, AreProper}
 use Rattle.cml_text.specs.Printed.{escaped, needs_no_escape, quoted, printed_form, printed_members, printed_behind, printed}
@@ -101,7 +116,9 @@ mutual
   behind_utf8 : (forms : PlainForms) → AreProper forms → IsUtf8 (printed_behind forms)
   behind_utf8 no_forms proper = IsUtf8-nil
   behind_utf8 (forms_and form forms) proper =
-      IsUtf8-append (32 ∷ []) (printed_form form ++ printed_behind forms) (one_ascii 32 (omega arith)) (IsUtf8-append (printed_form form) (printed_behind forms) (form_utf8 form proper.0) (behind_utf8 forms proper.1))
+      IsUtf8-append (32 ∷ []) (printed_form form ++ printed_behind forms) (one_ascii 32 (omega arith))
+      (IsUtf8-append (printed_form form) (printed_behind forms) (form_utf8 form proper.0)
+      (behind_utf8 forms proper.1))
 
 printed_utf8 : (forms : List PlainSexpr) → AreProper (plain_forms forms) → IsUtf8 (printed forms)
 printed_utf8 [] proper = IsUtf8-nil

@@ -1,5 +1,37 @@
 -- Each form of a text is spelled by the slice at its span.
-use Rattle.std.proofs.Common.{◌≡◌, ℕ, zero, suc, ◌+◌, ◌-◌, ◌≤◌, true, eqb, leb, List, [], ◌∷◌, ◌++◌, length, take, drop, refl, ap, sym, ◌∙◌, subst, arith, Option, Some, None, append_assoc, inl, inr, ◌⊎◌, ℤ}
+use Rattle.std.proofs.Common.{
+  ◌≡◌,
+  ℕ,
+  zero,
+  suc,
+  ◌+◌,
+  ◌-◌,
+  ◌≤◌,
+  true,
+  eqb,
+  leb,
+  List,
+  [],
+  ◌∷◌,
+  ◌++◌,
+  length,
+  take,
+  drop,
+  refl,
+  ap,
+  sym,
+  ◌∙◌,
+  subst,
+  arith,
+  Option,
+  Some,
+  None,
+  append_assoc,
+  inl,
+  inr,
+  ◌⊎◌,
+  ℤ,
+}
 use Rattle.std.specs.List.{prefix_len}
 use Rattle.std.proofs.lemmas.Bool.Decides.{nat_tests}
 use Rattle.std.proofs.lemmas.List.{append-nil, length-append}
@@ -8,7 +40,31 @@ use Rattle.cml_text.specs.declared.sexpr.Span.{Span}
 use Rattle.cml_text.specs.declared.fault.FaultKind.TheVariants.{Long}
 use Rattle.cml_text.specs.Faults.{PlainFault}
 use Rattle.cml_text.specs.Forms.{PlainSexpr, plain_name, plain_int, plain_text, plain_list, PlainForms, no_forms, forms_and, plain_forms, span_of}
-use Rattle.cml_text.specs.Lexemes.{is_separator, is_comment_byte, is_token_byte, is_number, is_name, number_value, number_lexeme, Literal, closed, endless, no_escape, literal, Lexeme, opening, closing, leaf, faulty, span_from, token_lexeme, literal_lexeme, literal_more, beginning, lexemes}
+use Rattle.cml_text.specs.Lexemes.{
+  is_separator,
+  is_comment_byte,
+  is_token_byte,
+  is_number,
+  is_name,
+  number_value,
+  number_lexeme,
+  Literal,
+  closed,
+  endless,
+  no_escape,
+  literal,
+  Lexeme,
+  opening,
+  closing,
+  leaf,
+  faulty,
+  span_from,
+  token_lexeme,
+  literal_lexeme,
+  literal_more,
+  beginning,
+  lexemes,
+}
 use Rattle.cml_text.specs.Texts.{words, words_of}
 use Rattle.cml_text.specs.Spans.{bytes_at, IsSpelledAtSpan, IsAtSpan, AreAtSpans}
 use Rattle.cml_text.specs.Laws.{EachAtItsSpan}
@@ -191,7 +247,8 @@ behind_gap at b bytes w ws p none f =
     }
 
 -- the lexeme itself
-at_once : (at b : ℕ) (bytes : List ℕ) (w v : Lexeme) (ws vs : List Lexeme) (p : Piece at b bytes) → p.word ≡ v ∷ vs → StandAt at (length (b ∷ p.front)) (v ∷ vs) → lexemes 0 at (b ∷ bytes) ≡ w ∷ ws → FirstWord at (b ∷ bytes) w ws
+at_once : (at b : ℕ) (bytes : List ℕ) (w v : Lexeme) (ws vs : List Lexeme) (p : Piece at b bytes) → p.word ≡ v ∷ vs
+    → StandAt at (length (b ∷ p.front)) (v ∷ vs) → lexemes 0 at (b ∷ bytes) ≡ w ∷ ws → FirstWord at (b ∷ bytes) w ws
 at_once at b bytes w v ws vs p is stands e =
     let z : at + 0 ≡ at = omega arith in
     let alone_is : p.word ≡ v ∷ [] = is ∙ ap (λ t. v ∷ t) stands.0 in
@@ -234,7 +291,8 @@ first_word (suc fuel) at (b ∷ bytes) w ws small is e =
     ]
 
 -- the slice at the span spells the form
-slice_spelled : (text before bytes rest : List ℕ) (at : ℕ) (form : PlainSexpr) → at ≡ length before → text ≡ before ++ (bytes ++ rest) → span_of form ≡ span_from at (length bytes) → Cut at bytes rest (words form) →
+slice_spelled : (text before bytes rest : List ℕ) (at : ℕ) (form : PlainSexpr) → at ≡ length before → text ≡ before
+    ++ (bytes ++ rest) → span_of form ≡ span_from at (length bytes) → Cut at bytes rest (words form) →
     IsSpelledAtSpan text form
 slice_spelled text before bytes rest at form place parts span cut =
     let start : (span_of form).start ≡ at = ap (λ s. s.start) span in
@@ -312,7 +370,8 @@ found_list whole before text at span forms ws place parts f m g =
     let count : length (f.bytes ++ (m.bytes ++ (g.gap ++ g.bytes))) ≡ length f.bytes + (length m.bytes + (length g.gap + length g.bytes)) =
     length-append f.bytes (m.bytes ++ (g.gap ++ g.bytes)) ∙ ap (λ n. length f.bytes + n) (length-append m.bytes (g.gap ++ g.bytes) ∙ ap (λ n. length m.bytes + n) (length-append g.gap g.bytes)) in
     let ends : span.end ≡ at + length f.gap + length (f.bytes ++ (m.bytes ++ (g.gap ++ g.bytes))) = omega (arith, g.stands, count) in
-    let spans : span ≡ span_from (at + length f.gap) (length (f.bytes ++ (m.bytes ++ (g.gap ++ g.bytes)))) = span_same span (span_from (at + length f.gap) (length (f.bytes ++ (m.bytes ++ (g.gap ++ g.bytes))))) f.stands ends in
+    let spans : span ≡ span_from (at + length f.gap) (length (f.bytes ++ (m.bytes ++ (g.gap ++ g.bytes)))) = span_same
+    span (span_from (at + length f.gap) (length (f.bytes ++ (m.bytes ++ (g.gap ++ g.bytes))))) f.stands ends in
     let here : length (before ++ f.gap) ≡ length before + length f.gap = length-append before f.gap in
     let last : at + length f.gap + length (f.bytes ++ (m.bytes ++ (g.gap ++ g.bytes))) ≡ at + length f.gap + length f.bytes + length m.bytes + length g.gap + length g.bytes = omega (arith, count) in
     record {
@@ -339,7 +398,9 @@ found_both whole at text form forms ws f m =
     let P : ℕ → Type 0 = λ n. Cut n m.bytes m.rest (words_of forms) in
     let second : Cut (at + length (f.gap ++ f.bytes)) m.bytes m.rest (words_of forms) = subst P count m.cut in
     let first' : Cut at (f.gap ++ f.bytes) (m.bytes ++ m.rest) (words form) = λ ys same. first ys (subst (SameFront ys) (sym m.parts) same) in
-    let last : at + length ((f.gap ++ f.bytes) ++ m.bytes) ≡ at + length f.gap + length f.bytes + length m.bytes = omega (arith, length-append (f.gap ++ f.bytes) m.bytes, length-append f.gap f.bytes) in
+    let last : at + length ((f.gap ++ f.bytes) ++ m.bytes)
+    ≡ at + length f.gap + length f.bytes + length m.bytes = omega
+    (arith, length-append (f.gap ++ f.bytes) m.bytes, length-append f.gap f.bytes) in
     record {
       bytes = (f.gap ++ f.bytes) ++ m.bytes;
       rest = m.rest;
@@ -350,7 +411,8 @@ found_both whole at text form forms ws f m =
     }
 
 mutual
-  find_form : (form : PlainSexpr) (whole before text : List ℕ) (at : ℕ) (ws : List Lexeme) → at ≡ length before → whole ≡ before ++ text → lexemes 0 at text ≡ words form ++ ws → FoundForm whole at text form ws
+  find_form : (form : PlainSexpr) (whole before text : List ℕ) (at : ℕ) (ws : List Lexeme) → at ≡ length before → whole
+      ≡ before ++ text → lexemes 0 at text ≡ words form ++ ws → FoundForm whole at text form ws
   find_form (plain_name span bytes) whole before text at ws place parts e = found_leaf whole before text at (plain_name span bytes) ws place parts refl (λ h. h) e
   find_form (plain_int span value) whole before text at ws place parts e = found_leaf whole before text at (plain_int span value) ws place parts refl (λ h. h) e
   find_form (plain_text span content) whole before text at ws place parts e = found_leaf whole before text at (plain_text span content) ws place parts refl (λ h. h) e

@@ -46,7 +46,8 @@ groups_behind [] keyword behind e = cc
 groups_behind (first ∷ rest) keyword behind e = ap (λ fs. map group_from fs) (tail_of first rest (keyword_from first) keyword behind e)
 
 -- the forms after the head are no deeper than all
-pub nesting_behind : (forms : List PlainSexpr) (keyword : Keyword) (behind : List PlainSexpr) → head_of forms ≡ Some (keyword, behind) → nesting_of (plain_forms behind) ≤ nesting_of (plain_forms forms)
+pub nesting_behind : (forms : List PlainSexpr) (keyword : Keyword) (behind : List PlainSexpr) → head_of forms
+    ≡ Some (keyword, behind) → nesting_of (plain_forms behind) ≤ nesting_of (plain_forms forms)
 nesting_behind [] keyword behind e = cc
 nesting_behind (first ∷ rest) keyword behind e =
     let same : nesting_of (plain_forms rest) ≡ nesting_of (plain_forms behind) = ap (λ fs. nesting_of (plain_forms fs)) (tail_of first rest (keyword_from first) keyword behind e) in

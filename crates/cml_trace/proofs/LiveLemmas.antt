@@ -1,5 +1,35 @@
 -- Turns of a live trace, one after another.
-use Rattle.std.proofs.Common.{◌≡◌, ℕ, ◌+◌, ◌≤◌, Result, Ok, Err, OnErr, IfErr, List, [], ◌∷◌, ◌++◌, Option, Some, None, length, refl, ap, sym, ◌∙◌, subst, inl, inr, ⊎_elim, append_assoc, append-nil, length-append, arith}
+use Rattle.std.proofs.Common.{
+  ◌≡◌,
+  ℕ,
+  ◌+◌,
+  ◌≤◌,
+  Result,
+  Ok,
+  Err,
+  OnErr,
+  IfErr,
+  List,
+  [],
+  ◌∷◌,
+  ◌++◌,
+  Option,
+  Some,
+  None,
+  length,
+  refl,
+  ap,
+  sym,
+  ◌∙◌,
+  subst,
+  inl,
+  inr,
+  ⊎_elim,
+  append_assoc,
+  append-nil,
+  length-append,
+  arith,
+}
 use Rattle.std.specs.Result.{IsErrAnd}
 use Rattle.std.specs.Io.KnownBytes.{Consumes, Keeps}
 use Rattle.std.proofs.KnownBytes.{Appends-trans, Appends-nil, Appends-kept, Consumes-trans, Consumes-kept, Consumes-nil}
@@ -210,7 +240,8 @@ pub record Talking (v : PlainWorld) (begun : PlainBegun) (input output : Stream)
   pub done : AreDone empty_world whole text v
   pub written : Takes output text
 
-pub Talking-start : (v : PlainWorld) (begun : PlainBegun) (had held : Option (List ℕ)) → v ≡ empty_world → begun ≡ record { number = 1; bytes = [] } → Talking v begun (stream had had) (stream held held)
+pub Talking-start : (v : PlainWorld) (begun : PlainBegun) (had held : Option (List ℕ)) → v ≡ empty_world → begun
+    ≡ record { number = 1; bytes = [] } → Talking v begun (stream had had) (stream held held)
 Talking-start v begun had held empty first =
     let number : begun.number ≡ 1 + 0 = ap (λ (b : PlainBegun). b.number) first in
     record {

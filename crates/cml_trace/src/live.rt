@@ -77,7 +77,7 @@ impl Begun {
     fn is_not_ended(&self)
         ensures { HasNoFeed self.now.bytes }
     {
-        // Read for the proof alone, which uses what is promised of it.
+        // No effect: named here so that the prover knows what holds of it.
         let _ = &self.bytes;
     }
 

@@ -25,7 +25,10 @@ pub escaped-encode : (c : ℕ) → c ≢ 34 → c ≢ 92 → c ≢ 10 → escape
 unfolding encode
 escaped-encode c p q r = at (ltb c 128) (ltb c 2048) (ltb c 65536)
   where
-    at : (x y z : Bool) → escaped_text (cond x (c ∷ []) (cond y ((192 + c / 64) ∷ next c ∷ []) (cond z ((224 + c / 4096) ∷ next (c / 64) ∷ next c ∷ []) ((240 + c / 262144) ∷ next (c / 4096) ∷ next (c / 64) ∷ next c ∷ []))))
+    at : (x y z : Bool) → escaped_text (cond x (c ∷ [])
+        (cond y ((192 + c / 64) ∷ next c ∷ [])
+        (cond z ((224 + c / 4096) ∷ next (c / 64) ∷ next c ∷ [])
+        ((240 + c / 262144) ∷ next (c / 4096) ∷ next (c / 64) ∷ next c ∷ []))))
         ≡ cond x (c ∷ []) (cond y ((192 + c / 64) ∷ next c ∷ []) (cond z ((224 + c / 4096) ∷ next (c / 64) ∷ next c ∷ []) ((240 + c / 262144) ∷ next (c / 4096) ∷ next (c / 64) ∷ next c ∷ [])))
     at true y z = one c [] (escaped_byte-other c p q r) refl
     at false true z = one _ _ (big _ (omega arith)) (one _ _ (big _ (omega arith)) refl)

@@ -17,7 +17,7 @@ mutual
     no_groups : PlainGroups
     groups_and : PlainGroup → PlainGroups → PlainGroups
 
--- the groups of a list, as one term
+-- the groups of a list, as a `PlainGroups`
 abbrev pub groups : List PlainGroup → PlainGroups
 groups [] = no_groups
 groups (g ∷ gs) = groups_and g (groups gs)
@@ -79,7 +79,7 @@ scopes g = scopes_from 0 g
 abbrev pub nacks_of : List PlainScope → List ℕ
 nacks_of ss = map (λ s. s.nack) ss
 
--- the leaf of this number does not lie in the scope; in a scope without leaves none lies, so its nack fires at each choice
+-- the leaf of this number does not lie in the scope; no leaf lies in a scope without leaves, so its nack fires whichever leaf is chosen
 abbrev pub lies_outside : ℕ → PlainScope → Bool
 lies_outside n s = nat_lt n s.first || nat_le s.past n
 

@@ -3,7 +3,7 @@ use Rattle.std.specs.Prelude.{ℕ, ◌+◌, max, Bool, nat_le, ◌&&◌}
 use Rattle.cml_value.specs.Value.{PlainValue, pair, event, PlainValues, no_values, values_and, PlainFunction, function}
 use Rattle.cml_value.specs.Value.{PlainBase, always, send, swap, mswap, PlainEvent, never, leaf, choose, wrap, guard, with_nack, scope, PlainEvents, no_events, events_and}
 
--- The size, where `join` makes one of the sizes of two parts: with `max` it is the depth, with `+` the number of nodes. It is 1 for what has
+-- The size, where `join` makes one size of those of two parts: with `max` it is the depth, with `+` the number of nodes. It is 1 for what has
 -- no parts, such as an empty choice, else one more than that of the parts. An event value counts as its event, a leaf as its base event, and
 -- a function as the values that it has captured.
 abbrev mutual

@@ -65,12 +65,12 @@ mutual
     no_events : PlainEvents
     events_and : PlainEvent → PlainEvents → PlainEvents
 
--- the values of a list, as one term
+-- the values of a list, as a `PlainValues`
 abbrev pub values : List PlainValue → PlainValues
 values [] = no_values
 values (v ∷ vs) = values_and v (values vs)
 
--- the events of a list, as one term
+-- the events of a list, as a `PlainEvents`
 abbrev pub events : List PlainEvent → PlainEvents
 events [] = no_events
 events (e ∷ es) = events_and e (events es)

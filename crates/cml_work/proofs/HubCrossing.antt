@@ -7,7 +7,7 @@ use denote.Model.Local.{Parts, rows}
 use denote.Model.Goals.{send, sync, has_of, part_has}
 use denote.Model.Marks.{both_send, both_sync}
 use denote.Param.Send.{IsSend, IsSync, sendable}
-use denote.Param.SendFields.{declared_sync}
+use denote.Param.SendFields.{declared_send, declared_sync}
 use Rattle.std.specs.contracts.alloc.Global as Global
 use Rattle.std.specs.contracts.impls.GlobalAllocator.TheImpl.{ghosts as heap}
 use Rattle.std.proofs.Crossing.{crosses}
@@ -32,7 +32,9 @@ use Rattle.cml_step.specs.contracts.entries.Frame.TheKnot as frame
 use Rattle.cml_step.specs.contracts.entries.Frame as Frame
 use Rattle.cml_step.specs.declared.entries.Frame.TheDeep as frames
 use Rattle.cml_step.specs.contracts.machine.Machine as Machine
+use Rattle.cml_step.specs.contracts.undo.Undo as Undo
 use Rattle.cml_hub.specs.contracts.course.Course as Course
+use Rattle.cml_hub.specs.contracts.course.Course.TheInside as CourseParts
 use Rattle.cml_hub.specs.contracts.hub.Hub as Hub
 use Rattle.cml_stream.specs.contracts.counts.Counting as Counting
 use Rattle.cml_work.specs.contracts.locked.Locked as Locked
@@ -90,9 +92,16 @@ frame_sync = both_sync frame.frame frame.step frame.sizes frame_sends frame_sync
 machine_send : IsSend Machine.the_row
 machine_send = search (all_cross, frame_send, frame_sync) depth 60 fits 100000
 
+-- what undoes a slice
+undo_send : IsSend Undo.the_row
+undo_send = search (all_cross, machine_send) depth 60 fits 100000
+
 -- the hub
+course_parts : IsSend CourseParts.the_row
+course_parts = declared_send CourseParts.the_type (search (all_cross, index_send, book_send, machine_send, undo_send) depth 60 fits 100000)
+
 course_send : IsSend Course.the_row
-course_send = search (all_cross, index_send, book_send, machine_send) depth 60 fits 100000
+course_send = search (sendable, course_parts) depth 60 fits 100000
 
 hub_send : IsSend Hub.the_row
 hub_send = search (all_cross, course_send) depth 60 fits 100000

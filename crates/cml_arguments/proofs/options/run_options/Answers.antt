@@ -7,7 +7,8 @@ use Rattle.cml_arguments.proofs.Served.{count_is_number, counts, few, file_given
 use Rattle.cml_arguments.proofs.options.run_options.Goals as goal
 
 abbrev own : List Rule
-own = file_rule (codes "FILE") ∷ workers_rule (codes "workers") ∷ count_rule (codes "steps") ∷ any_rule (codes "seed") ∷ count_rule (codes "watch") ∷ option_rule (codes "record") ∷ option_rule (codes "draw") ∷ []
+own = file_rule (codes "FILE") ∷ workers_rule (codes "workers") ∷ count_rule (codes "steps") ∷ any_rule (codes "seed")
+    ∷ count_rule (codes "watch") ∷ option_rule (codes "record") ∷ option_rule (codes "draw") ∷ []
 
 pub given-requires : goal.given-requires
 given-requires c =

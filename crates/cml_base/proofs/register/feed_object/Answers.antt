@@ -9,7 +9,9 @@ returns-clause-states g c =
     let x = c.index_mut-object.result.now in
     let there : slice_get objects c.args.id ≡ Some x = get_there objects c.args.id x c.requires c.index_mut-object.ensures.value in
     rw (map-slice_set g.K.Source.state objects c.args.id c.feed.new.self)
-    (feeds_at g.K.Source.fed (map g.K.Source.state objects) c.args.id (g.K.Source.state x) (g.K.Source.state c.feed.new.self) c.args.feed c.feed.result (get-map g.K.Source.state objects c.args.id x there) c.feed.ensures.state)
+    (feeds_at g.K.Source.fed (map g.K.Source.state objects) c.args.id (g.K.Source.state x)
+    (g.K.Source.state c.feed.new.self) c.args.feed c.feed.result
+    (get-map g.K.Source.state objects c.args.id x there) c.feed.ensures.state)
 
 pub returns-clause-one : goal.returns-clause-one
 returns-clause-one g c = touches_one c.args.objects.now.items c.args.id c.feed.new.self

@@ -4,7 +4,7 @@ use Rattle.std.proofs.lemmas.List.{take_all}
 use Rattle.cml_value.specs.Group.{PlainGroup, choose, groups, bases}
 use Rattle.cml_value.specs.GroupViews.{plain_group}
 use Rattle.cml_book.specs.Entering.{entered, is_far}
-use Rattle.cml_book.proofs.Heights.{member_falls}
+use Rattle.cml_group.proofs.Heights.{member_falls}
 use Rattle.cml_book.proofs.Entered.{near_member, groups-entered}
 use Rattle.cml_book.proofs.entering.+entering.Goals as goal
 

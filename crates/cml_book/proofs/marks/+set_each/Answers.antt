@@ -1,7 +1,7 @@
 use Rattle.std.proofs.Common.{◌≡◌, ◌+◌, ◌&&◌, drop, ap, sym, ◌∙◌, arith}
 use Rattle.cml_value.specs.Group.{choose, groups, scopes, nacks_of}
 use Rattle.cml_value.specs.GroupViews.{plain_group}
-use Rattle.cml_book.proofs.Heights.{member_falls}
+use Rattle.cml_group.proofs.Heights.{member_falls}
 use Rattle.cml_book.specs.Sync.{with_each}
 use Rattle.cml_book.specs.NackMarks.{was_each_other}
 use Rattle.cml_book.proofs.Walks.{nacks_of_all, set_goes_on, other_goes_on, other_fails, other_holds}

@@ -11,4 +11,5 @@ unreachable-requires c =
     false≢true (c.in_default.ensures.room (room_found c.args.channels.now.items c.args.channel.0 _ there c.requires.room))
 
 pub returns-clause-ports : goal.returns-clause-ports
-returns-clause-ports c = port_added c.args.channels.now.items c.args.channel.0 c.index_mut-found.result.now _ c.args.port (found_there _ _ _ c.requires.there c.index_mut-found.ensures.value) c.in-Ok.ensures.ok
+returns-clause-ports c = port_added c.args.channels.now.items c.args.channel.0 c.index_mut-found.result.now _
+    c.args.port (found_there _ _ _ c.requires.there c.index_mut-found.ensures.value) c.in-Ok.ensures.ok

@@ -31,8 +31,12 @@ returns-clause-still g c =
 pub returns-clause-housed : goal.returns-clause-housed
 returns-clause-housed g c =
     let old = c.args.channels.now.items in
-    let port_channels : c.push_reserved.new.self.items ≡ c.args.port_channels.now.items ++ c.args.channel ∷ [] = c.push_reserved.ensures.items ∙ ap (λ (hs : List McastId). hs ++ c.args.channel ∷ []) c.in-Ok-reserve.ensures.items in
-    let more : ports_of c.add_at.new.channels.items ≡ with_port (ports_of old) c.args.channel.0 (length c.args.ports.now.objects) = c.add_at.ensures.ports ∙ ap (λ (ps : List (List ℕ)). with_port ps c.args.channel.0 c.len.result) c.room_at.ensures.ports
+    let port_channels : c.push_reserved.new.self.items ≡ c.args.port_channels.now.items ++ c.args.channel
+    ∷ [] = c.push_reserved.ensures.items
+    ∙ ap (λ (hs : List McastId). hs ++ c.args.channel ∷ []) c.in-Ok-reserve.ensures.items in
+    let more : ports_of c.add_at.new.channels.items
+    ≡ with_port (ports_of old) c.args.channel.0 (length c.args.ports.now.objects) = c.add_at.ensures.ports
+    ∙ ap (λ (ps : List (List ℕ)). with_port ps c.args.channel.0 c.len.result) c.room_at.ensures.ports
     ∙ ap (λ (n : ℕ). with_port (ports_of old) c.args.channel.0 n) c.len.ensures in
     let long : length c.make.new.self.objects ≡ suc (length c.args.ports.now.objects)
     = (let a = ap length c.in-Ok-make.ensures.objects in let b = length_push c.room.new.self.objects c.args.port in omega (arith, a, b, c.in-Ok-room.ensures.len)) in

@@ -1,7 +1,7 @@
 use Rattle.std.proofs.Common.{◌≡◌, ◌<◌, false, length, ap, sym, ◌∙◌, arith}
 use Rattle.cml_value.specs.Group.{choose, groups}
 use Rattle.cml_value.specs.GroupViews.{plain_group}
-use Rattle.cml_book.proofs.Heights.{member_falls}
+use Rattle.cml_group.proofs.Heights.{member_falls}
 use Rattle.cml_book.proofs.Walks.{bases_go_on, nacks_go_on}
 use Rattle.cml_book.proofs.walk.+walk_whole.Goals as goal
 use Rattle.cml_book.proofs.walk.+walk_whole.Goals.{then-branch, else-branch}

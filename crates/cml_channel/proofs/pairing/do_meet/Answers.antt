@@ -14,4 +14,6 @@ returns-then-leads c =
     let second : side_place c.args.second.now ≡ Some c.in-Some-Some.t = sym c.place-2.ensures ∙ c.in-Some-Some.is-1 in
     let led = sym c.leads.ensures ∙ c.if-leads.true in
     c.is.ensures 0 ∙ ap (λ w. is_of w q) c.partner_threads.ensures
-    ∙ sym (do_meet_by_place tid c.args.first.now q c.args.second.now ∙ ap (λ p. led_to tid q p (side_place c.args.second.now)) first ∙ ap (led_to tid q (Some s)) second ∙ ap (λ b. b && is_of (partner_threads s.object.kind tid) q) led)
+    ∙ sym (do_meet_by_place tid c.args.first.now q c.args.second.now
+    ∙ ap (λ p. led_to tid q p (side_place c.args.second.now)) first ∙ ap (led_to tid q (Some s)) second
+    ∙ ap (λ b. b && is_of (partner_threads s.object.kind tid) q) led)

@@ -26,12 +26,16 @@ loop-head-init c = record {
 pub returns-in_err-function-clause-gives : goal.returns-in_err-function-clause-gives
 returns-in_err-function-clause-gives c =
     let p = err_from_is_err_and c.from_residual.result c.from_residual.ensures.1 in
-    rw (p.1, p.2) (function-fails c.in_err-function.field-0.0 c.args.heads.now c.loop-head.statements c.as_slice-head-items.result.now c.loop-head.head-index c.head-item.result (map written c.loop-head.items.items) _
+    rw (p.1, p.2) (function-fails c.in_err-function.field-0.0 c.args.heads.now c.loop-head.statements
+    c.as_slice-head-items.result.now c.loop-head.head-index c.head-item.result (map written c.loop-head.items.items)
+    _
     c.loop-head-test.true c.head-item.is c.loop-head.invariant.left c.in_err-function.ensures.gives)
 
 pub loop-head-preserved : goal.loop-head-preserved
 loop-head-preserved c =
-    let next = function-next c.args.heads.now c.loop-head.statements c.function.new.count c.as_slice-head-items.result.now c.loop-head.head-index c.head-item.result (map written c.loop-head.items.items) (written c.in_ok-function.field-0) _
+    let next = function-next c.args.heads.now c.loop-head.statements c.function.new.count
+    c.as_slice-head-items.result.now c.loop-head.head-index c.head-item.result
+    (map written c.loop-head.items.items) (written c.in_ok-function.field-0) _
     c.loop-head-test.true c.head-item.is c.loop-head.invariant.left c.in_ok-function.ensures.gives in
     let count = count-next c.args.heads.now (plain_head c.head-item.result) c.loop-head.statements c.function.new.count c.loop-head.items.items c.in_ok-function.field-0
     c.in_ok-function.ensures.gives c.loop-head.invariant.counted c.loop-head.invariant.few in
@@ -40,7 +44,9 @@ loop-head-preserved c =
       few = count.1;
       whole = c.loop-head.invariant.whole;
       left = rw (c.in_ok-push.ensures.items, map_push written c.loop-head.items.items c.in_ok-function.field-0) next;
-      fits = rw c.in_ok-push.ensures.items (All-push (FunctionFits (arities_of c.args.heads.now)) c.loop-head.items.items c.in_ok-function.field-0 c.loop-head.invariant.fits c.in_ok-function.ensures.fits);
+      fits = rw c.in_ok-push.ensures.items
+          (All-push (FunctionFits (arities_of c.args.heads.now)) c.loop-head.items.items c.in_ok-function.field-0
+          c.loop-head.invariant.fits c.in_ok-function.ensures.fits);
       named = rw c.in_ok-push.ensures.items (names-next c.as_slice-head-items.result.now c.loop-head.head-index c.head-item.result c.loop-head.items.items c.in_ok-function.field-0 _
           c.loop-head-test.true c.head-item.is c.loop-head.invariant.named c.in_ok-function.ensures.name);
       same = rw c.in_ok-push.ensures.items (arities-next c.as_slice-head-items.result.now c.loop-head.head-index c.head-item.result c.loop-head.items.items c.in_ok-function.field-0 _
@@ -49,7 +55,8 @@ loop-head-preserved c =
 
 pub returns-clause-gives : goal.returns-clause-gives
 returns-clause-gives c =
-    function-end c.args.heads.now c.loop-head.statements c.as_slice-head-items.result.now c.loop-head.head-index (map written c.loop-head.items.items) _ (omega (arith, c.loop-head-test.false)) c.loop-head.invariant.left
+    function-end c.args.heads.now c.loop-head.statements c.as_slice-head-items.result.now c.loop-head.head-index
+    (map written c.loop-head.items.items) _ (omega (arith, c.loop-head-test.false)) c.loop-head.invariant.left
 
 pub returns-clause-order : goal.returns-clause-order
 returns-clause-order c =

@@ -18,7 +18,8 @@ expressions-expression-requires t c =
 pub expressions-returns-in_err-expression-clause-gives : goal.expressions-returns-in_err-expression-clause-gives
 expressions-returns-in_err-expression-clause-gives t c =
     let p = err_from_is_err_and c.from_residual.result c.from_residual.ensures.1 in
-    rw (p.1, p.2) (expr-fails c.in_err-expression.field-0.0 c.args.heads.now c.args.names.now c.args.forms.now c.loop-form.form-index c.form-item.result (map (expr_map (name_at c.args.names.now)) c.loop-form.items.items) _
+    rw (p.1, p.2) (expr-fails c.in_err-expression.field-0.0 c.args.heads.now c.args.names.now c.args.forms.now
+    c.loop-form.form-index c.form-item.result (map (expr_map (name_at c.args.names.now)) c.loop-form.items.items) _
     c.loop-form-test.true c.form-item.is c.loop-form.invariant.left c.in_err-expression.ensures.gives)
 
 pub expressions-loop-form-preserved : goal.expressions-loop-form-preserved
@@ -33,7 +34,9 @@ expressions-loop-form-preserved t c =
 
 pub expressions-returns-clause-gives : goal.expressions-returns-clause-gives
 expressions-returns-clause-gives t c =
-    expr-end c.args.heads.now c.args.names.now c.args.forms.now c.loop-form.form-index (map (expr_map (name_at c.args.names.now)) c.loop-form.items.items) _ (omega (arith, c.loop-form-test.false)) c.loop-form.invariant.left
+    expr-end c.args.heads.now c.args.names.now c.args.forms.now c.loop-form.form-index
+    (map (expr_map (name_at c.args.names.now)) c.loop-form.items.items) _ (omega (arith, c.loop-form-test.false))
+    c.loop-form.invariant.left
     ∙ ap (λ es. Ok es) (sym (exprs-map (name_at c.args.names.now) c.loop-form.items.items))
 
 pub expressions-returns-clause-count : goal.expressions-returns-clause-count

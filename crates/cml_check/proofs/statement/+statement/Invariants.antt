@@ -25,8 +25,8 @@ decreases-list_statement l = 5 * nesting_of (plain_forms l.behind.now) + 4
 abbrev pub decreases-if_statement : goal.decreases-if_statement
 decreases-if_statement l = 5 * nesting_of (plain_forms l.behind.now) + 3
 
-abbrev pub decreases-while_statement : goal.decreases-while_statement
-decreases-while_statement l = 5 * nesting_of (plain_forms l.behind.now) + 3
+abbrev pub decreases-tested_statement : goal.decreases-tested_statement
+decreases-tested_statement l = 5 * nesting_of (plain_forms l.behind.now) + 3
 
 abbrev pub decreases-block : goal.decreases-block
 decreases-block l = 5 * nesting l.form.now
@@ -37,8 +37,8 @@ decreases-statements l = 5 * nesting_of (plain_forms l.forms.now) + 1
 abbrev pub decreases-branch : goal.decreases-branch
 decreases-branch l = 5 * max (nesting l.then.now) (nesting l.other.now) + 2
 
-abbrev pub decreases-repeat : goal.decreases-repeat
-decreases-repeat l = 5 * nesting_of (plain_forms l.body.now) + 2
+abbrev pub decreases-tested : goal.decreases-tested
+decreases-tested l = 5 * nesting_of (plain_forms l.body.now) + 2
 
 abbrev pub decreases-do_block : goal.decreases-do_block
 decreases-do_block l = 5 * nesting_of (plain_forms l.behind.now) + 3

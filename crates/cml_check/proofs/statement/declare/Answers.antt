@@ -10,4 +10,6 @@ returns-clause-gives c =
 
 pub returns-clause-fits : goal.returns-clause-fits
 returns-clause-fits c =
-    let_fits (arities_of c.args.heads.now) c.args.scope.now.names _ _ c.in_ok-slot.slot (plain_source c.in_ok-given.given) c.in_ok-slot.ensures.names c.in_ok-slot.ensures.below c.in_ok-given.ensures.fits
+    let_fits (arities_of c.args.heads.now) c.args.scope.now.names _ _ c.in_ok-slot.slot
+    (plain_source c.in_ok-given.given) c.in_ok-slot.ensures.names c.in_ok-slot.ensures.below
+    c.in_ok-given.ensures.fits

@@ -24,11 +24,15 @@ loop-i-preserved c =
           let some = out_counted ms c.loop-i.i got in
           let left = c.loop-i.invariant.room_left in
           let pushed = w.push_back_reserved.ensures in
-          rw (w.queue-is, w.marks-is, pushed.items) (homing_out c.args.queue.now.items c.args.marks.now.items c.loop-i.i c.loop-i.queue.items ms _ _ _ c.loop-i.invariant got refl (omega (arith, some, left, pushed.len, pushed.capacity)))
+          rw (w.queue-is, w.marks-is, pushed.items)
+          (homing_out c.args.queue.now.items c.args.marks.now.items c.loop-i.i c.loop-i.queue.items ms _ _ _
+          c.loop-i.invariant got refl (omega (arith, some, left, pushed.len, pushed.capacity)))
           )
       | in-Ready w ↦ (
           let got = got_is ms c.loop-i.i c.index.result.now c.index.result.now lt c.index.ensures in
-          rw (w.queue-is, w.marks-is) (homing_here c.args.queue.now.items c.args.marks.now.items c.loop-i.i c.loop-i.queue.items ms _ c.index.result.now c.loop-i.invariant got (home_here c.index.result.now w.in-Ready.is))
+          rw (w.queue-is, w.marks-is) (homing_here c.args.queue.now.items c.args.marks.now.items c.loop-i.i
+          c.loop-i.queue.items ms _ c.index.result.now c.loop-i.invariant got
+          (home_here c.index.result.now w.in-Ready.is))
           )
     ]
 

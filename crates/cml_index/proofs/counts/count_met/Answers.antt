@@ -9,7 +9,8 @@ use Rattle.cml_index.specs.Heads.{heads_on}
 use Rattle.cml_index.specs.Live.{objects}
 use Rattle.cml_index.proofs.Parted.{filter_fewer}
 use Rattle.cml_index.proofs.Beside.{got, within}
-use Rattle.cml_index.proofs.Counted.{both_kept, total, size_on, all_met, sizes}
+use Rattle.cml_index.proofs.Counted.{both_kept, total, head_total_is, size_on, all_met, sizes}
+use Rattle.cml_index.proofs.Summed.{total-drop}
 use Rattle.cml_index.proofs.counts.count_met.Goals as goal
 
 pub overflow_add-count : goal.overflow_add-count
@@ -20,10 +21,24 @@ overflow_add-count c =
     let i = c.loop-i.i in
     let m = c.at.result in
     let on = λ (n : PairedId). length (heads_on os n) in
-    let step : total on (drop i keys) ≡ on m + total on (drop (i + 1) keys) = at_drop_more (total on) keys i m (within keys i m c.at.ensures) ∙ ap (λ n. on n + total on (drop (i + 1) keys)) (got keys i m c.at.ensures) in
+    let step : total on (drop i keys) ≡ on m + total on (drop (i + 1) keys) = at_drop_more (total on) keys i m
+    (within keys i m c.at.ensures)
+    ∙ ap (λ n. on n + total on (drop (i + 1) keys)) (got keys i m c.at.ensures) in
     let whole = all_met os keys c.len-i-end.ensures.once both in
     let few : length (filter (has_partner os) os) ≤ length os = filter_fewer (has_partner os) os in
     omega (arith, step, whole, few, c.loop-i.invariant.count, c.count_on-count.ensures.count, c.requires.all)
+
+pub loop-i-init : goal.loop-i-init
+loop-i-init c =
+    let os = offers_of c.args.core.now.entries.items in
+    let keys = objects c.args.core.now.live in
+    let rest = head_total_is os (drop c.kept_count-count.result.1 keys) in
+    let whole = head_total_is os keys in
+    let fewer = total-drop (size_on os) c.kept_count-count.result.1 keys in
+    record {
+      count = omega (arith, rest, whole, c.kept_count-count.ensures);
+      cost = omega (arith, fewer);
+    }
 
 pub loop-i-preserved : goal.loop-i-preserved
 loop-i-preserved c =
@@ -32,8 +47,13 @@ loop-i-preserved c =
     let i = c.loop-i.i in
     let m = c.at.result in
     let on = λ (n : PairedId). length (heads_on os n) in
-    let step : total on (drop i keys) ≡ on m + total on (drop (i + 1) keys) = at_drop_more (total on) keys i m (within keys i m c.at.ensures) ∙ ap (λ n. on n + total on (drop (i + 1) keys)) (got keys i m c.at.ensures) in
-    let wide : total (size_on os) (drop i keys) ≡ size_on os m + total (size_on os) (drop (i + 1) keys) = at_drop_more (total (size_on os)) keys i m (within keys i m c.at.ensures) ∙ ap (λ n. size_on os n + total (size_on os) (drop (i + 1) keys)) (got keys i m c.at.ensures) in
+    let step : total on (drop i keys) ≡ on m + total on (drop (i + 1) keys) = at_drop_more (total on) keys i m
+    (within keys i m c.at.ensures)
+    ∙ ap (λ n. on n + total on (drop (i + 1) keys)) (got keys i m c.at.ensures) in
+    let wide : total (size_on os) (drop i keys)
+    ≡ size_on os m + total (size_on os) (drop (i + 1) keys) = at_drop_more (total (size_on os)) keys i m
+    (within keys i m c.at.ensures)
+    ∙ ap (λ n. size_on os n + total (size_on os) (drop (i + 1) keys)) (got keys i m c.at.ensures) in
     let heads = ap length (c.requires.placed (Side true m)) in
     let others_ = ap length (c.requires.placed (Side false m)) in
     record {

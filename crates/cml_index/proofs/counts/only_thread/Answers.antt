@@ -17,4 +17,6 @@ returns-else-first-last-clause-value c q =
     let ps = c.args.lane.now.places in
     let first = c.look-first.ensures.value in
     let last : c.look-last.result ≡ get_or ps (length ps - 1) c.look-last.result = c.look-last.ensures.value ∙ ap (λ n. get_or ps (n - 1) c.look-last.result) c.len-len.ensures in
-    several ps c.look-first.result c.look-last.result c.requires.sorted c.requires.some (λ same. c.if-first-last.false (ap (λ (p : Place). p.tid.0) first ∙ same ∙ ap (λ (p : Place). p.tid.0) (sym last))) q
+    several ps c.look-first.result c.look-last.result c.requires.sorted c.requires.some
+    (λ same. c.if-first-last.false (ap (λ (p : Place). p.tid.0) first ∙ same
+    ∙ ap (λ (p : Place). p.tid.0) (sym last))) q

@@ -7,7 +7,8 @@ use Rattle.cml_index.proofs.OwnSeat.{no_seat}
 use Rattle.cml_index.proofs.entries.seats_below.Goals as goal
 
 pub loop-low-init : goal.loop-low-init
-loop-low-init c = let fewer : spec.count_seats c.args.tid.0 c.args.seats.now ≤ length c.args.seats.now = filter_fewer (λ (s : Seat). nat_lt s.tid.0 c.args.tid.0) c.args.seats.now in record { low = omega arith; high = fewer; within = omega arith }
+loop-low-init c = let fewer : spec.count_seats c.args.tid.0 c.args.seats.now ≤ length c.args.seats.now = filter_fewer (λ (s : Seat). nat_lt s.tid.0 c.args.tid.0) c.args.seats.now in
+    record { low = omega arith; high = fewer; within = omega arith }
 
 pub loop-low-preserved-then-seats-middle : goal.loop-low-preserved-then-seats-middle
 loop-low-preserved-then-seats-middle c =

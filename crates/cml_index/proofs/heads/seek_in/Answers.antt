@@ -20,7 +20,8 @@ loop-leaf-preserved c =
     (λ b is. c.is_head.ensures.value b is i ∙ ap (λ n. f (record { thread = n; leaf = i; base = b })) c.tid.ensures) in
     elim c.if-is_head.branch [
       | then-is_head+else-left-eq0 w ↦
-          let places : map place (filter f (leaves_from t i (drop i bs))) ≡ place_of t i ∷ map place rest = s.places ∙ ap (λ v. cond v (place_of t i ∷ map place rest) (map place rest)) w.if-is_head.true in
+          let places : map place (filter f (leaves_from t i (drop i bs))) ≡ place_of t i ∷ map place rest = s.places
+          ∙ ap (λ v. cond v (place_of t i ∷ map place rest) (map place rest)) w.if-is_head.true in
           let count : length (filter f (leaves_from t i (drop i bs))) ≡ suc (length rest) = s.count ∙ ap (λ v. cond v (suc (length rest)) (length rest)) w.if-is_head.true in
           let one : c.loop-leaf.left ≡ suc c.if-is_head.left = omega (arith, w.left-is, w.if-left-eq0.false) in
           record {
@@ -48,4 +49,6 @@ returns-then-left-eq0-clause-value c =
     let s = step f t i bs c.waits-wait-items.result.now _ c.is_head.result c.waits-wait-items.ensures.same c.loop-leaf-test.true
     (λ b is. c.is_head.ensures.value b is i ∙ ap (λ n. f (record { thread = n; leaf = i; base = b })) c.tid.ensures) in
     let places : map place (filter f (leaves_from t i (drop i bs))) ≡ place_of t i ∷ map place rest = s.places ∙ ap (λ v. cond v (place_of t i ∷ map place rest) (map place rest)) c.if-is_head.true in
-    sym c.loop-leaf.invariant.same ∙ first_one (place_of t i) (map place rest) (map place (filter f (leaves_from t i (drop i bs)))) c.loop-leaf.left places c.if-left-eq0.true ∙ ap Some (sym c.place.ensures)
+    sym c.loop-leaf.invariant.same ∙ first_one (place_of t i) (map place rest)
+    (map place (filter f (leaves_from t i (drop i bs)))) c.loop-leaf.left places c.if-left-eq0.true
+    ∙ ap Some (sym c.place.ensures)

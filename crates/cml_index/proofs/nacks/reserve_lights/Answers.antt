@@ -23,7 +23,9 @@ loop-light-preserved c =
       told = λ m. c.reserve.ensures.kept.same m ∙ c.loop-light.invariant.told m;
       there = subst (Every (λ l. spec.is_named c.reserve.new.flags.entries (Waiters l))) (sym (take_more xs i _ c.loop-light-test.true))
           (Every-append (λ l. spec.is_named c.reserve.new.flags.entries (Waiters l)) (take i xs) (get_or xs i _ ∷ [])
-          (Every-weaker (λ l. spec.is_named c.loop-light.flags.entries (Waiters l)) (λ l. spec.is_named c.reserve.new.flags.entries (Waiters l)) (take i xs) (λ l h. c.reserve.ensures.kept.named (Waiters l) h) c.loop-light.invariant.there)
+          (Every-weaker (λ l. spec.is_named c.loop-light.flags.entries (Waiters l))
+          (λ l. spec.is_named c.reserve.new.flags.entries (Waiters l)) (take i xs)
+          (λ l h. c.reserve.ensures.kept.named (Waiters l) h) c.loop-light.invariant.there)
           (c.in_ok-reserve.ensures.there, tt));
       kept = λ k h. c.reserve.ensures.kept.named k (c.loop-light.invariant.kept k h);
     }

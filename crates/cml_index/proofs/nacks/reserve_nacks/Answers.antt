@@ -13,7 +13,9 @@ loop-nack-preserved c =
       told = λ m. c.reserve.ensures.kept.same m ∙ c.loop-nack.invariant.told m;
       there = subst (Every (λ k. spec.is_named c.reserve.new.flags.entries (spec.slot_of_nack k))) (sym (take_more xs i 0 c.loop-nack-test.true))
           (Every-append (λ k. spec.is_named c.reserve.new.flags.entries (spec.slot_of_nack k)) (take i xs) (get_or xs i 0 ∷ [])
-          (Every-weaker (λ k. spec.is_named c.loop-nack.flags.entries (spec.slot_of_nack k)) (λ k. spec.is_named c.reserve.new.flags.entries (spec.slot_of_nack k)) (take i xs) (λ k h. c.reserve.ensures.kept.named (spec.slot_of_nack k) h) c.loop-nack.invariant.there)
+          (Every-weaker (λ k. spec.is_named c.loop-nack.flags.entries (spec.slot_of_nack k))
+          (λ k. spec.is_named c.reserve.new.flags.entries (spec.slot_of_nack k)) (take i xs)
+          (λ k h. c.reserve.ensures.kept.named (spec.slot_of_nack k) h) c.loop-nack.invariant.there)
           (c.in_ok-reserve.ensures.there, tt));
       kept = λ k h. c.reserve.ensures.kept.named k (c.loop-nack.invariant.kept k h);
     }

@@ -79,7 +79,9 @@ returns-clause-value c =
     let o = own_is c.args.tid c.args.lane.now.places c.look-place.result c.own_len-own.result
     (c.own_len-own.ensures ∙ ap (λ qs. length (filter (is_own c.args.tid) qs)) (sym c.requires.there)) c.requires.some
     (ap (λ (p : Place). p.tid.0) (sym c.look-place.ensures.value) ∙ c.if-place-tid.false) in
-    let its : (get_or ps 0 e).tid.0 ≡ tid.0 = ap (λ (p : Place). p.tid.0) (any_default ps 0 e c.look-place.result (enough tid ps c.requires.some) ∙ sym c.look-place.ensures.value) ∙ c.if-place-tid.false in
+    let its : (get_or ps 0 e).tid.0 ≡ tid.0 = ap (λ (p : Place). p.tid.0)
+    (any_default ps 0 e c.look-place.result (enough tid ps c.requires.some) ∙ sym c.look-place.ensures.value)
+    ∙ c.if-place-tid.false in
     let same : own ≡ 0 + own = omega arith in
     slice_get_read (others tid ps) _ 0 e refl c.requires.some
     (c.look.ensures.value ∙ ap (λ m. get_or ps m e) same ∙ sym (other_behind tid ps own 0 e c.requires.sorted o.whole c.requires.some (not_below (get_or ps 0 e).tid.0 tid.0 its)))
@@ -90,7 +92,9 @@ returns-clause-cost c =
     let o = own_is c.args.tid c.args.lane.now.places c.look-place.result c.own_len-own.result
     (c.own_len-own.ensures ∙ ap (λ qs. length (filter (is_own c.args.tid) qs)) (sym c.requires.there)) c.requires.some
     (ap (λ (p : Place). p.tid.0) (sym c.look-place.ensures.value) ∙ c.if-place-tid.false) in
-    let few = behind_at ps c.own_len-own.result c.look.result c.requires.sorted (slice_get_read ps (length ps) c.own_len-own.result c.look.result refl (omega (arith, o.whole, c.requires.some)) c.look.ensures.value) in
+    let few = behind_at ps c.own_len-own.result c.look.result c.requires.sorted
+    (slice_get_read ps (length ps) c.own_len-own.result c.look.result refl
+    (omega (arith, o.whole, c.requires.some)) c.look.ensures.value) in
     omega (arith, few, c.look-place.ensures.most, c.look.ensures.most, o.some)
 
 pub returns-clause-ahead : goal.returns-clause-ahead
@@ -99,5 +103,7 @@ returns-clause-ahead c =
     let o = own_is c.args.tid c.args.lane.now.places c.look-place.result c.own_len-own.result
     (c.own_len-own.ensures ∙ ap (λ qs. length (filter (is_own c.args.tid) qs)) (sym c.requires.there)) c.requires.some
     (ap (λ (p : Place). p.tid.0) (sym c.look-place.ensures.value) ∙ c.if-place-tid.false) in
-    let few = behind_at ps c.own_len-own.result c.look.result c.requires.sorted (slice_get_read ps (length ps) c.own_len-own.result c.look.result refl (omega (arith, o.whole, c.requires.some)) c.look.ensures.value) in
+    let few = behind_at ps c.own_len-own.result c.look.result c.requires.sorted
+    (slice_get_read ps (length ps) c.own_len-own.result c.look.result refl
+    (omega (arith, o.whole, c.requires.some)) c.look.ensures.value) in
     omega (arith, few)

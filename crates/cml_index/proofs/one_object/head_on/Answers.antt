@@ -25,7 +25,9 @@ head_in-requires-clause-within c =
     let hs = c.in-Some.heads.now.places in
     let there = c.in-Some.ensures ∙ c.requires.indexed.placed (Side true object) in
     let kind : one_lane object.kind ≡ false = sym c.one_lane.ensures ∙ c.if-one_lane.false in
-    let same : met_among Others (lane_at lanes (Side false object)) hs ≡ heads_on os object = ap (λ ps. met_among Others ps hs) (c.requires.indexed.placed (Side false object)) ∙ ap (λ ps. met_among Others (lane_of slot_of (Side false object) os) ps) there
+    let same : met_among Others (lane_at lanes (Side false object)) hs
+    ≡ heads_on os object = ap (λ ps. met_among Others ps hs) (c.requires.indexed.placed (Side false object))
+    ∙ ap (λ ps. met_among Others (lane_of slot_of (Side false object) os) ps) there
     ∙ sym (ap (λ b. met_among (λ tid. cond b (Above tid) (Others tid)) (lane_of slot_of (Side b object) os) (lane_of slot_of (Side true object) os)) kind) in
     subst (λ qs. c.args.k < length qs) (sym same) c.requires.within
 
@@ -39,7 +41,9 @@ returns-else-one_lane c = record {
         let hs = c.in-Some.heads.now.places in
         let there = c.in-Some.ensures ∙ c.requires.indexed.placed (Side true object) in
         let kind : one_lane object.kind ≡ false = sym c.one_lane.ensures ∙ c.if-one_lane.false in
-        let same : met_among Others (lane_at lanes (Side false object)) hs ≡ heads_on os object = ap (λ ps. met_among Others ps hs) (c.requires.indexed.placed (Side false object)) ∙ ap (λ ps. met_among Others (lane_of slot_of (Side false object) os) ps) there
+        let same : met_among Others (lane_at lanes (Side false object)) hs
+        ≡ heads_on os object = ap (λ ps. met_among Others ps hs) (c.requires.indexed.placed (Side false object))
+        ∙ ap (λ ps. met_among Others (lane_of slot_of (Side false object) os) ps) there
         ∙ sym (ap (λ b. met_among (λ tid. cond b (Above tid) (Others tid)) (lane_of slot_of (Side b object) os) (lane_of slot_of (Side true object) os)) kind) in
         ap (λ qs. slice_get qs c.args.k) (sym same) ∙ c.head_in.ensures.found.value;
     early = search rules;

@@ -15,18 +15,24 @@ returns-then-own-eq0-clause-value c =
     let ps = c.args.lane.now.places in
     let sum = own_and_others c.args.tid ps in
     let none : length (filter (is_own c.args.tid) ps) ≡ 0 = omega (arith, sum, c.requires.own, c.if-own-eq0.true) in
-    ap (λ qs. slice_get qs c.args.j) (others_all c.args.tid ps none) ∙ slice_get_read ps (length ps) c.args.j c.look-place.result refl (omega (arith, c.requires.own, c.requires.within)) c.look-place.ensures.value
+    ap (λ qs. slice_get qs c.args.j) (others_all c.args.tid ps none)
+    ∙ slice_get_read ps (length ps) c.args.j c.look-place.result refl
+    (omega (arith, c.requires.own, c.requires.within)) c.look-place.ensures.value
 
 pub returns-then-own-eq0-clause-cost : goal.returns-then-own-eq0-clause-cost
 returns-then-own-eq0-clause-cost c =
     let ps = c.args.lane.now.places in
-    let few = behind_at ps c.args.j c.look-place.result c.requires.sorted (slice_get_read ps (length ps) c.args.j c.look-place.result refl (omega (arith, c.requires.own, c.requires.within)) c.look-place.ensures.value) in
+    let few = behind_at ps c.args.j c.look-place.result c.requires.sorted
+    (slice_get_read ps (length ps) c.args.j c.look-place.result refl
+    (omega (arith, c.requires.own, c.requires.within)) c.look-place.ensures.value) in
     omega (arith, few, c.look-place.ensures.most)
 
 pub returns-then-own-eq0-clause-ahead : goal.returns-then-own-eq0-clause-ahead
 returns-then-own-eq0-clause-ahead c =
     let ps = c.args.lane.now.places in
-    let few = behind_at ps c.args.j c.look-place.result c.requires.sorted (slice_get_read ps (length ps) c.args.j c.look-place.result refl (omega (arith, c.requires.own, c.requires.within)) c.look-place.ensures.value) in
+    let few = behind_at ps c.args.j c.look-place.result c.requires.sorted
+    (slice_get_read ps (length ps) c.args.j c.look-place.result refl
+    (omega (arith, c.requires.own, c.requires.within)) c.look-place.ensures.value) in
     omega (arith, few)
 
 pub returns-then-place-tid-clause-value : goal.returns-then-place-tid-clause-value
@@ -35,18 +41,24 @@ returns-then-place-tid-clause-value c =
     let tid = c.args.tid in
     let d = c.look-place.result in
     let below : nat_lt (get_or ps c.args.j d).tid.0 tid.0 ≡ true = ap (λ (p : Place). nat_lt p.tid.0 tid.0) (sym c.look-place.ensures.value) ∙ lt_is _ tid.0 c.if-place-tid.true in
-    slice_get_read (others tid ps) _ c.args.j d refl c.requires.within (c.look-place.ensures.value ∙ sym (other_before tid ps c.args.j d c.requires.sorted (omega (arith, c.requires.own, c.requires.within)) below))
+    slice_get_read (others tid ps) _ c.args.j d refl c.requires.within
+    (c.look-place.ensures.value ∙ sym
+    (other_before tid ps c.args.j d c.requires.sorted (omega (arith, c.requires.own, c.requires.within)) below))
 
 pub returns-then-place-tid-clause-cost : goal.returns-then-place-tid-clause-cost
 returns-then-place-tid-clause-cost c =
     let ps = c.args.lane.now.places in
-    let few = behind_at ps c.args.j c.look-place.result c.requires.sorted (slice_get_read ps (length ps) c.args.j c.look-place.result refl (omega (arith, c.requires.own, c.requires.within)) c.look-place.ensures.value) in
+    let few = behind_at ps c.args.j c.look-place.result c.requires.sorted
+    (slice_get_read ps (length ps) c.args.j c.look-place.result refl
+    (omega (arith, c.requires.own, c.requires.within)) c.look-place.ensures.value) in
     omega (arith, few, c.look-place.ensures.most)
 
 pub returns-then-place-tid-clause-ahead : goal.returns-then-place-tid-clause-ahead
 returns-then-place-tid-clause-ahead c =
     let ps = c.args.lane.now.places in
-    let few = behind_at ps c.args.j c.look-place.result c.requires.sorted (slice_get_read ps (length ps) c.args.j c.look-place.result refl (omega (arith, c.requires.own, c.requires.within)) c.look-place.ensures.value) in
+    let few = behind_at ps c.args.j c.look-place.result c.requires.sorted
+    (slice_get_read ps (length ps) c.args.j c.look-place.result refl
+    (omega (arith, c.requires.own, c.requires.within)) c.look-place.ensures.value) in
     omega (arith, few)
 
 pub returns-clause-value : goal.returns-clause-value
@@ -63,11 +75,15 @@ returns-clause-value c =
 pub returns-clause-cost : goal.returns-clause-cost
 returns-clause-cost c =
     let ps = c.args.lane.now.places in
-    let few = behind_at ps (c.args.j + c.args.own) c.look.result c.requires.sorted (slice_get_read ps (length ps) (c.args.j + c.args.own) c.look.result refl (omega (arith, c.requires.own, c.requires.within)) c.look.ensures.value) in
+    let few = behind_at ps (c.args.j + c.args.own) c.look.result c.requires.sorted
+    (slice_get_read ps (length ps) (c.args.j + c.args.own) c.look.result refl
+    (omega (arith, c.requires.own, c.requires.within)) c.look.ensures.value) in
     omega (arith, few, c.look-place.ensures.most, c.look.ensures.most, c.if-own-eq0.false)
 
 pub returns-clause-ahead : goal.returns-clause-ahead
 returns-clause-ahead c =
     let ps = c.args.lane.now.places in
-    let few = behind_at ps (c.args.j + c.args.own) c.look.result c.requires.sorted (slice_get_read ps (length ps) (c.args.j + c.args.own) c.look.result refl (omega (arith, c.requires.own, c.requires.within)) c.look.ensures.value) in
+    let few = behind_at ps (c.args.j + c.args.own) c.look.result c.requires.sorted
+    (slice_get_read ps (length ps) (c.args.j + c.args.own) c.look.result refl
+    (omega (arith, c.requires.own, c.requires.within)) c.look.ensures.value) in
     omega (arith, few)

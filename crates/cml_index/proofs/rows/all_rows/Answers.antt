@@ -8,7 +8,9 @@ use Rattle.cml_index.proofs.Seeking.{no_rows}
 use Rattle.cml_index.proofs.rows.all_rows.Goals as goal
 
 pub returns-then-head_count-eq0 : goal.returns-then-head_count-eq0
-returns-then-head_count-eq0 c = c.new.ensures.items ∙ sym (no_rows (scan_of c.args.core.now.entries.items (spec.told c.args.core.now.flags.entries)) (sym c.head_count.ensures.count ∙ c.if-head_count-eq0.true))
+returns-then-head_count-eq0 c = c.new.ensures.items
+    ∙ sym (no_rows (scan_of c.args.core.now.entries.items (spec.told c.args.core.now.flags.entries))
+    (sym c.head_count.ensures.count ∙ c.if-head_count-eq0.true))
 
 pub loop-seat-preserved-in_default : goal.loop-seat-preserved-in_default
 loop-seat-preserved-in_default c =

@@ -28,7 +28,8 @@ returns-else-place-tid-clause-value c =
     let above : nat_lt d.tid.0 tid.0 ≡ false = ge_is _ tid.0 c.if-place-tid.false in
     let there : get_or ps c.args.j e ≡ d = any_default ps c.args.j e d (omega (arith, c.requires.own, c.requires.within)) ∙ sym seen in
     c.look.ensures.value
-    ∙ sym (other_behind tid ps c.args.own c.args.j e c.requires.sorted (omega (arith, same, c.requires.own)) (omega (arith, same, c.requires.within)) (ap (λ (p : Place). nat_lt p.tid.0 tid.0) there ∙ above))
+    ∙ sym (other_behind tid ps c.args.own c.args.j e c.requires.sorted (omega (arith, same, c.requires.own))
+    (omega (arith, same, c.requires.within)) (ap (λ (p : Place). nat_lt p.tid.0 tid.0) there ∙ above))
     ∙ ap (λ w. get_or (those w ps) c.args.j e) (sym c.in-Others.is)
 
 pub returns-in-Above-clause-value : goal.returns-in-Above-clause-value

@@ -8,6 +8,7 @@ use Rattle.cml_index.proofs.rows.push_pairs_of.Goals as goal
 pub loop-leaf-preserved : goal.loop-leaf-preserved
 loop-leaf-preserved c =
     let os = offers_of c.args.core.now.entries.items in
-    pair_step os c.args.entry.now.thread c.loop-leaf.leaf (bases c.args.entry.now.group) c.waits-wait-items.result.now _ c.loop-leaf.rows.items c.push_pairs.new.rows.items c.waits-wait-items.ensures.same c.loop-leaf-test.true
+    pair_step os c.args.entry.now.thread c.loop-leaf.leaf (bases c.args.entry.now.group) c.waits-wait-items.result.now _
+    c.loop-leaf.rows.items c.push_pairs.new.rows.items c.waits-wait-items.ensures.same c.loop-leaf-test.true
     (λ b is. c.in_ok-push_pairs.ensures b is ∙ ap (λ p. c.loop-leaf.rows.items ++ pairs_with os (offer_at p b)) c.place.ensures)
     ∙ c.loop-leaf.invariant

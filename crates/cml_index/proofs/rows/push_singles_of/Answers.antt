@@ -21,7 +21,8 @@ loop-leaf-preserved c =
     let one : Meet = Single (record { 0 = t }) i in
     let all : List Meet = map single (filter (λ o. lit_by told o.base) (leaves_from t i (drop i bs))) in
     let later : List Meet = map single (filter (λ o. lit_by told o.base) (leaves_from t (i + 1) (drop (i + 1) bs))) in
-    let step : all ≡ cond c.is_lit_by.result (one ∷ later) later = single_step told t i bs c.waits-wait-items.result.now _ c.is_lit_by.result c.waits-wait-items.ensures.same c.loop-leaf-test.true c.is_lit_by.ensures.value in
+    let step : all ≡ cond c.is_lit_by.result (one ∷ later) later = single_step told t i bs c.waits-wait-items.result.now
+    _ c.is_lit_by.result c.waits-wait-items.ensures.same c.loop-leaf-test.true c.is_lit_by.ensures.value in
     elim c.if-is_lit_by.branch [
       | then-is_lit_by+in_ok-push w ↦
           ap (λ rs. rs.items ++ later) w.rows-is

@@ -20,7 +20,9 @@ returns c t = at t (nat_eq c.args.tick t) refl
     at : (t : ℕ) (b : Bool) → nat_eq c.args.tick t ≡ b → IsLike (get nat_eq c.swap_remove.new.self t) (get nat_eq c.args.ticks.now t)
     at t true e =
         let gone : get nat_eq c.swap_remove.new.self t ≡ None = c.swap_remove.ensures.updates.0 t ∙ ap (λ b. cond b None (get nat_eq c.args.ticks.now t)) e in
-        subst (λ s. IsLike s (get nat_eq c.args.ticks.now t)) (sym gone) (empty (get nat_eq c.args.ticks.now t) (subst (λ j. IsEmpty (get nat_eq c.args.ticks.now j)) (same_number c.args.tick t e) c.requires))
+        subst (λ s. IsLike s (get nat_eq c.args.ticks.now t)) (sym gone)
+        (empty (get nat_eq c.args.ticks.now t)
+        (subst (λ j. IsEmpty (get nat_eq c.args.ticks.now j)) (same_number c.args.tick t e) c.requires))
     at t false e =
         let same : get nat_eq c.swap_remove.new.self t ≡ get nat_eq c.args.ticks.now t = c.swap_remove.ensures.updates.0 t ∙ ap (λ b. cond b None (get nat_eq c.args.ticks.now t)) e in
         subst (λ s. IsLike s (get nat_eq c.args.ticks.now t)) (sym same) (like (get nat_eq c.args.ticks.now t))

@@ -19,5 +19,14 @@ returns-clause-same c t = at t (nat_eq c.args.tick t) refl
         let now : get nat_eq c.insert.new.self c.args.tick ≡ Some c.new.result = search rules in
         let was : get nat_eq c.args.ticks.now c.args.tick ≡ None = search rules in
         subst (λ j. IsAlike (get nat_eq c.insert.new.self j) (get nat_eq c.args.ticks.now j)) (same_number c.args.tick t e)
-        (subst (λ s. IsAlike s (get nat_eq c.args.ticks.now c.args.tick)) (sym now) (subst (IsAlike (Some c.new.result)) (sym was) (record { places = c.new.ensures.lane; late = c.new.ensures.late; going = c.new.ensures.going; room = omega arith })))
-    at t false e = let same : get nat_eq c.insert.new.self t ≡ get nat_eq c.args.ticks.now t = search rules in subst (λ s. IsAlike s (get nat_eq c.args.ticks.now t)) (sym same) (alike (get nat_eq c.args.ticks.now t))
+        (subst (λ s. IsAlike s (get nat_eq c.args.ticks.now c.args.tick)) (sym now)
+        (subst (IsAlike (Some c.new.result)) (sym was)
+        (record {
+          places = c.new.ensures.lane;
+          late = c.new.ensures.late;
+          going = c.new.ensures.going;
+          room = omega
+              arith;
+        })))
+    at t false e = let same : get nat_eq c.insert.new.self t ≡ get nat_eq c.args.ticks.now t = search rules in subst
+        (λ s. IsAlike s (get nat_eq c.args.ticks.now t)) (sym same) (alike (get nat_eq c.args.ticks.now t))

@@ -23,4 +23,5 @@ add_branches-add_both-requires t c =
 
 pub add_branches-returns : goal.add_branches-returns
 add_branches-returns t c =
-    both_branches (map (λ s. s.now) c.args.found.now.items) _ c.args.behind.now c.then-item.result c.other-item.result (omega arith) (omega arith) c.then-item.is c.other-item.is c.in_ok-add_both.ensures
+    both_branches (map (λ s. s.now) c.args.found.now.items) _ c.args.behind.now c.then-item.result c.other-item.result
+    (omega arith) (omega arith) c.then-item.is c.other-item.is c.in_ok-add_both.ensures

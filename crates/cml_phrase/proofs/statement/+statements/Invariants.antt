@@ -5,7 +5,9 @@ use Rattle.cml_phrase.proofs.statement.+statements.Given as goal
 
 -- the statements that were added and those of the forms that are left are all
 abbrev pub invariant-add_statements-loop-form : goal.invariant-add_statements-loop-form
-invariant-add_statements-loop-form l = map (λ s. s.now) l.found.items ++ all_statements (plain_forms (drop l.form-index l.forms)) ≡ map (λ s. s.now) l.fn.found.items ++ all_statements (plain_forms l.forms)
+invariant-add_statements-loop-form l = map (λ s. s.now) l.found.items
+    ++ all_statements (plain_forms (drop l.form-index l.forms)) ≡ map (λ s. s.now) l.fn.found.items
+    ++ all_statements (plain_forms l.forms)
 
 abbrev pub decreases-add_statements : goal.decreases-add_statements
 decreases-add_statements l = 5 * nesting_of (plain_forms l.forms.now) + 1

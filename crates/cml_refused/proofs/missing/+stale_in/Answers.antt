@@ -1,7 +1,7 @@
 use Rattle.std.proofs.Common.{◌≡◌, ap, sym, ◌∙◌, arith}
 use Rattle.cml_value.specs.Group.{choose, groups}
 use Rattle.cml_value.specs.GroupViews.{plain_group}
-use Rattle.cml_refused.proofs.Heights.{member_falls}
+use Rattle.cml_group.proofs.Heights.{member_falls}
 use Rattle.cml_refused.proofs.missing.+stale_in.Goals as goal
 
 pub stale_in-found-requires : goal.stale_in-found-requires

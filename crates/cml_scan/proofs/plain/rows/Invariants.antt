@@ -6,7 +6,9 @@ use Rattle.cml_scan.proofs.plain.rows.Given as goal
 
 -- what was put there, and the single rows that are left, are the single rows of all
 abbrev pub invariant-loop-offer : goal.invariant-loop-offer
-invariant-loop-offer g l = l.rows.items ++ map single (filter (λ o. lit_by (g.L.Lights.is_lit l.lights) o.base) (drop l.offer-index l.offers)) ≡ map single (filter (λ o. lit_by (g.L.Lights.is_lit l.lights) o.base) l.offers)
+invariant-loop-offer g l = l.rows.items ++ map single
+    (filter (λ o. lit_by (g.L.Lights.is_lit l.lights) o.base) (drop l.offer-index l.offers))
+    ≡ map single (filter (λ o. lit_by (g.L.Lights.is_lit l.lights) o.base) l.offers)
 
 -- what was put there, and the rows of the heads that are left, are all rows
 abbrev pub invariant-loop-head : goal.invariant-loop-head

@@ -28,7 +28,9 @@ loop-done-preserved c =
 pub returns-then-not-quiet_step-clause-fits : goal.returns-then-not-quiet_step-clause-fits
 returns-then-not-quiet_step-clause-fits c =
     let f = c.function-f.result.now in
-    moved_fits c.args.program.now f c.args.call.now c.quiet_step.new.call c.requires.fits.there c.function-f.ensures.found (c.quiet_step.ensures.kept.same ∙ c.loop-done.invariant.func) c.quiet_step.ensures.kept.agree
+    moved_fits c.args.program.now f c.args.call.now c.quiet_step.new.call c.requires.fits.there
+    c.function-f.ensures.found (c.quiet_step.ensures.kept.same ∙ c.loop-done.invariant.func)
+    c.quiet_step.ensures.kept.agree
     (subst (λ w. WaitFits w (length f.names) (length c.quiet_step.new.call.slots.items)) (sym c.quiet_step.ensures.kept.runs) tt)
 
 pub returns-then-not-quiet_step-clause-goes : goal.returns-then-not-quiet_step-clause-goes

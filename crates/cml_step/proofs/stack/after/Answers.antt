@@ -35,8 +35,11 @@ returns-in-Goes-clause-meant c = λ hs h step e m.
 pub returns-in-Goes-clause-fits : goal.returns-in-Goes-clause-fits
 returns-in-Goes-clause-fits c =
     let p = c.args.program.now in
-    let s = c.requires.stands in
-    (stands_fits p c.args.stack.now s.rest s.top s.is s.beneath (subst (λ (d : Action). EntryStands p d s.top) c.in-Goes.is s.stands), ap (λ a. ask_agrees (arities p) (plain_ask a)) c.requires.nothing)
+    let s = c.requires.stands in (
+      stands_fits p c.args.stack.now s.rest s.top s.is s.beneath (subst (λ (d : Action). EntryStands p d s.top)
+          c.in-Goes.is s.stands),
+      ap (λ a. ask_agrees (arities p) (plain_ask a)) c.requires.nothing,
+    )
 
 pub returns-in-Asks-clause-meant : goal.returns-in-Asks-clause-meant
 returns-in-Asks-clause-meant c = λ hs h step e m.

@@ -38,7 +38,8 @@ returns-in-Some-clause-fits c =
     let e : Entry = c.in-Some.entry in
     let st : c.args.stack.now ≡ hs ++ plain_held e ∷ [] = sym c.stack.view_is ∙ ap (topped hs) c.in-Some.is in
     let new = plain_held c.deliver_to.new.entry in
-    delivered_fits p (hs ++ new ∷ []) hs new c.deliver_to.result c.args.asked.now refl c.requires.nothing (beneath_popped p hs (plain_held e) (subst (EachBeneath p) st c.requires.beneath)).0 c.deliver_to.ensures.fits
+    delivered_fits p (hs ++ new ∷ []) hs new c.deliver_to.result c.args.asked.now refl c.requires.nothing
+    (beneath_popped p hs (plain_held e) (subst (EachBeneath p) st c.requires.beneath)).0 c.deliver_to.ensures.fits
 
 pub deliver_to_call-requires-clause-fits : goal.deliver_to_call-requires-clause-fits
 deliver_to_call-requires-clause-fits c =
@@ -69,5 +70,10 @@ returns-in-Some-call-clause-fits c =
     let hs = s.below in
     let e : Entry = entry.Call c.in-Some-call.call in
     let g : Entry = entry.Call c.deliver_to_call.new.call in
-    let st : c.args.stack.now ≡ hs ++ plain_held e ∷ [] = sym c.stack.view_is ∙ ap (topped (called hs s.call)) (nothing_over s.over c.in_default.not-Some) ∙ ap (called hs) c.in-Some-call.is in
-    (stands_fits p (topped (hs ++ plain_held g ∷ []) s.over) hs (plain_held g) (ap (topped (hs ++ plain_held g ∷ [])) (nothing_over s.over c.in_default.not-Some)) (beneath_popped p hs (plain_held e) (subst (EachBeneath p) st c.requires.beneath)).0 c.deliver_to_call.ensures.fits, ap (λ a. ask_agrees (arities p) (plain_ask a)) c.requires.nothing)
+    let st : c.args.stack.now ≡ hs ++ plain_held e ∷ [] = sym c.stack.view_is ∙ ap (topped (called hs s.call)) (nothing_over s.over c.in_default.not-Some) ∙ ap (called hs) c.in-Some-call.is in (
+      stands_fits p (topped (hs ++ plain_held g ∷ []) s.over) hs (plain_held g)
+          (ap (topped (hs ++ plain_held g ∷ [])) (nothing_over s.over c.in_default.not-Some))
+          (beneath_popped p hs (plain_held e) (subst (EachBeneath p) st c.requires.beneath)).0
+          c.deliver_to_call.ensures.fits,
+      ap (λ a. ask_agrees (arities p) (plain_ask a)) c.requires.nothing,
+    )

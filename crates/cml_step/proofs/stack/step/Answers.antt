@@ -28,7 +28,8 @@ returns-in_err-did-in-Some-clause-meant c =
     let st : c.args.stack.now ≡ hs ++ plain_held e ∷ [] = sym c.stack.view_is ∙ ap (topped hs) c.in-Some.is in
     let new = plain_held c.step_of_entry.new.entry in
     same_error p c.from_residual.result c.in_err-did-in-Some.field-0.0 c.args.asked.now (next (text_of p) c.args.thread.0 (term_of p c.args.stack.now)) (hs ++ new ∷ []) c.from_residual.ensures.1
-    (subst (λ (t : Term). IsStep p (Err c.in_err-did-in-Some.field-0.0) c.args.asked.now (next (text_of p) c.args.thread.0 t) (hs ++ new ∷ [])) (sym (pushed_is p hs c.args.stack.now (plain_held e) st))
+    (subst (λ (t : Term). IsStep p (Err c.in_err-did-in-Some.field-0.0) c.args.asked.now
+    (next (text_of p) c.args.thread.0 t) (hs ++ new ∷ [])) (sym (pushed_is p hs c.args.stack.now (plain_held e) st))
     (moved_failed p c.in_err-did-in-Some.field-0.0 (held_entry p new) (term_of p hs) c.args.asked.now (next (text_of p) c.args.thread.0 (entry_view p e ∷ term_of p hs)) (hs ++ new ∷ [])
     (c.in_err-did-in-Some.ensures.moves (term_of p hs) (count_under p c.args.stack.now hs (plain_held e) c.len-entries.result st c.len-entries.ensures))))
 
@@ -105,7 +106,9 @@ returns-in_ok-did-in-Some-call-clause-meant c =
     let hs = s.below in
     let e : Entry = entry.Call c.in-Some-call.call in
     let st : c.args.stack.now ≡ hs ++ plain_held e ∷ [] = sym c.stack.view_is ∙ ap (topped (called hs s.call)) c.in-None.is ∙ ap (called hs) c.in-Some-call.is in
-    subst (λ (t : Term). IsStep p c.after-in-Some-call.result c.after-in-Some-call.new.asked (next (text_of p) c.args.thread.0 t) c.after-in-Some-call.new.stack) (sym (pushed_is p hs c.args.stack.now (plain_held e) st))
+    subst (λ (t : Term). IsStep p c.after-in-Some-call.result c.after-in-Some-call.new.asked
+    (next (text_of p) c.args.thread.0 t) c.after-in-Some-call.new.stack)
+    (sym (pushed_is p hs c.args.stack.now (plain_held e) st))
     (c.after-in-Some-call.ensures.meant hs (plain_held (entry.Call c.step_of_call.new.call)) (next (text_of p) c.args.thread.0 (entry_of p c.in-Some-call.call ∷ term_of p hs))
     (ap (topped (hs ++ plain_held (entry.Call c.step_of_call.new.call) ∷ [])) c.in-None.is)
     (c.in_ok-did-in-Some-call.ensures.moves (term_of p hs)))

@@ -16,7 +16,9 @@ deliver_to_call-requires-clause-fits c =
     let hs = s.below in
     let k : Call = c.in-Some.call in
     let v = c.in-Some-value_of_wraps.value in
-    let st : c.args.stack.now ≡ (hs ++ plain_held (entry.Call k) ∷ []) ++ wraps [] v ∷ [] = sym c.stack.view_is ∙ c.in-Some-value_of_wraps.ensures.gives (called hs s.call) ∙ ap (λ (o : Option Call). called hs o ++ wraps [] v ∷ []) c.in-Some.is in
+    let st : c.args.stack.now ≡ (hs ++ plain_held (entry.Call k) ∷ []) ++ wraps [] v ∷ [] = sym c.stack.view_is
+    ∙ c.in-Some-value_of_wraps.ensures.gives (called hs s.call)
+    ∙ ap (λ (o : Option Call). called hs o ++ wraps [] v ∷ []) c.in-Some.is in
     (under_wraps p hs k v (subst (StackFits p) st c.requires)).1
 
 pub deliver_to_call-requires-clause-agrees : goal.deliver_to_call-requires-clause-agrees
@@ -26,7 +28,9 @@ deliver_to_call-requires-clause-agrees c =
     let hs = s.below in
     let k : Call = c.in-Some.call in
     let v = c.in-Some-value_of_wraps.value in
-    let st : c.args.stack.now ≡ (hs ++ plain_held (entry.Call k) ∷ []) ++ wraps [] v ∷ [] = sym c.stack.view_is ∙ c.in-Some-value_of_wraps.ensures.gives (called hs s.call) ∙ ap (λ (o : Option Call). called hs o ++ wraps [] v ∷ []) c.in-Some.is in
+    let st : c.args.stack.now ≡ (hs ++ plain_held (entry.Call k) ∷ []) ++ wraps [] v ∷ [] = sym c.stack.view_is
+    ∙ c.in-Some-value_of_wraps.ensures.gives (called hs s.call)
+    ∙ ap (λ (o : Option Call). called hs o ++ wraps [] v ∷ []) c.in-Some.is in
     (under_wraps p hs k v (subst (StackFits p) st c.requires)).2.value
 
 pub returns-clause-fits : goal.returns-clause-fits
@@ -36,7 +40,9 @@ returns-clause-fits c =
     let hs = s.below in
     let k : Call = c.in-Some.call in
     let v = c.in-Some-value_of_wraps.value in
-    let st : c.args.stack.now ≡ (hs ++ plain_held (entry.Call k) ∷ []) ++ wraps [] v ∷ [] = sym c.stack.view_is ∙ c.in-Some-value_of_wraps.ensures.gives (called hs s.call) ∙ ap (λ (o : Option Call). called hs o ++ wraps [] v ∷ []) c.in-Some.is in
+    let st : c.args.stack.now ≡ (hs ++ plain_held (entry.Call k) ∷ []) ++ wraps [] v ∷ [] = sym c.stack.view_is
+    ∙ c.in-Some-value_of_wraps.ensures.gives (called hs s.call)
+    ∙ ap (λ (o : Option Call). called hs o ++ wraps [] v ∷ []) c.in-Some.is in
     let g = plain_held (entry.Call c.deliver_to_call.new.call) in
     stands_fits p (topped (hs ++ g ∷ []) c.clear.new.over) hs g (ap (topped (hs ++ g ∷ [])) c.clear.ensures) (under_wraps p hs k v (subst (StackFits p) st c.requires)).0 c.deliver_to_call.ensures.fits
 
@@ -47,7 +53,9 @@ returns-clause-goes c = λ self.
     let hs = s.below in
     let k : Call = c.in-Some.call in
     let v = c.in-Some-value_of_wraps.value in
-    let st : c.args.stack.now ≡ (hs ++ plain_held (entry.Call k) ∷ []) ++ wraps [] v ∷ [] = sym c.stack.view_is ∙ c.in-Some-value_of_wraps.ensures.gives (called hs s.call) ∙ ap (λ (o : Option Call). called hs o ++ wraps [] v ∷ []) c.in-Some.is in
+    let st : c.args.stack.now ≡ (hs ++ plain_held (entry.Call k) ∷ []) ++ wraps [] v ∷ [] = sym c.stack.view_is
+    ∙ c.in-Some-value_of_wraps.ensures.gives (called hs s.call)
+    ∙ ap (λ (o : Option Call). called hs o ++ wraps [] v ∷ []) c.in-Some.is in
     let d = c.deliver_to_call.new.call in
     let all : List PlainHeld = hs ++ plain_held (entry.Call d) ∷ [] in
     (term_of p all, value_through p self hs c.args.stack.now k d v st c.deliver_to_call.ensures.meant, ap (λ (o : Option Entry). term_of p (topped all o)) (sym c.clear.ensures))

@@ -50,7 +50,9 @@ returns-in-Some-clause-goes c = λ self.
     subst (λ (t : Term). GoesIn (text_of p) self c.quick_run-done.result t (term_of p all)) (sym (pushed_is p hs c.args.stack.now (plain_held e) st))
     (subst (λ (t : Term). GoesIn (text_of p) self c.quick_run-done.result (entry_of p k ∷ term_of p hs) t)
     (sym (pushed_is p new all (plain_held g) (ap (topped (new ++ plain_held g ∷ [])) none) ∙ ap (λ t. entry_of p c.quick_run-done.new.call ∷ t) (c.in_ok-lay_down.ensures.term p)))
-    (subst (λ (cs : List Call). GoesIn (text_of p) self c.quick_run-done.result (entry_of p k ∷ calls_on p cs (term_of p hs)) (entry_of p c.quick_run-done.new.call ∷ calls_on p c.quick_run-done.new.callers.items (term_of p hs)))
+    (subst (λ (cs : List Call). GoesIn (text_of p) self c.quick_run-done.result
+    (entry_of p k ∷ calls_on p cs (term_of p hs))
+    (entry_of p c.quick_run-done.new.call ∷ calls_on p c.quick_run-done.new.callers.items (term_of p hs)))
     c.new-callers.ensures.items
     (c.quick_run-done.ensures.goes self (term_of p hs) (c.room_above-room.ensures (term_of p hs) (term_length p hs ∙ sym c.len-beneath.ensures.len)))))
 

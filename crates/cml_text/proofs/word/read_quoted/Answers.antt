@@ -49,7 +49,11 @@ loop-rest-preserved c =
     let stop : is_plain (get_or c.split_at.result.1.now 0 0) ≡ false = run_stops _ _ _ _ c.plain_len.ensures c.as_bytes.ensures.value c.split_at.ensures.back (search rules) in (
       c.past_ascii-rest-in-loop-rest.utf8,
       up_to_escape _ _ _ (string_bytes c.push.new.self) _ c.in-Some.character up
-          (c.in_ok-push-in-Some.ensures.bytes ∙ ap (λ e. string_bytes c.push_str.new.self ++ e) (c.in_ok-push-in-Some.ensures.ascii (unescaped_low (get_or c.split_at.result.1.now 1 0) c.in-Some.character (search rules)))) (cc) (search rules) (search rules) stop (search rules),
+          (c.in_ok-push-in-Some.ensures.bytes
+          ∙ ap (λ e. string_bytes c.push_str.new.self ++ e)
+          (c.in_ok-push-in-Some.ensures.ascii
+          (unescaped_low (get_or c.split_at.result.1.now 1 0) c.in-Some.character (search rules)))) (cc)
+          (search rules) (search rules) stop (search rules),
     )
 
 pub returns : goal.returns

@@ -16,7 +16,10 @@ pub returns-in_err-form-in_default-clause-err : goal.returns-in_err-form-in_defa
 returns-in_err-form-in_default-clause-err c =
     let p = err_from_is_err_and c.from_residual-in_err-form-in_default.result c.from_residual-in_err-form-in_default.ensures.1 in
     rw (p.1, p.2)
-    (token_fault c.args.at _ _ _ _ _ c.requires.begins (token_byte (get_or c.args.text.now 0 0) (search rules) (search rules) (search rules) (search rules) (search rules)) c.token_len.ensures c.as_bytes-in_default.ensures.value c.split_at.ensures.front c.in_err-form-in_default.ensures.lexeme)
+    (token_fault c.args.at _ _ _ _ _ c.requires.begins
+    (token_byte (get_or c.args.text.now 0 0) (search rules) (search rules) (search rules) (search rules)
+    (search rules)) c.token_len.ensures c.as_bytes-in_default.ensures.value c.split_at.ensures.front
+    c.in_err-form-in_default.ensures.lexeme)
 
 pub returns-in-59-clause-ok : goal.returns-in-59-clause-ok
 returns-in-59-clause-ok c = comment_steps _ _ _ c.requires.begins (search rules) c.past_comment.ensures
@@ -30,4 +33,7 @@ returns-in-41-clause-ok c = closing_steps _ _ _ c.requires.begins (search rules)
 pub returns-in_ok-form-in_default-clause-ok : goal.returns-in_ok-form-in_default-clause-ok
 returns-in_ok-form-in_default-clause-ok c =
     rw (sym c.in_ok-form-in_default.ensures.lexeme)
-    (token_steps c.args.at _ _ _ _ _ c.requires.begins (token_byte (get_or c.args.text.now 0 0) (search rules) (search rules) (search rules) (search rules) (search rules)) c.token_len.ensures c.as_bytes-in_default.ensures.value c.split_at.ensures.front c.split_at.ensures.back)
+    (token_steps c.args.at _ _ _ _ _ c.requires.begins
+    (token_byte (get_or c.args.text.now 0 0) (search rules) (search rules) (search rules) (search rules)
+    (search rules)) c.token_len.ensures c.as_bytes-in_default.ensures.value c.split_at.ensures.front
+    c.split_at.ensures.back)

@@ -22,4 +22,5 @@ returns-clause-kept g c =
     let there : c.args.ivar.0 < length c.self.inside.ivars.objects = omega (arith, c.if-ivar-len.false, c.len.ensures) in
     let empty = sym c.ivar_is_full.ensures ∙ c.if-ivar_is_full.false in
     let done = put_done c.self.inside.ivars.objects c.feed.new.objects.objects c.args.ivar.0 c.args.value there empty c.in_default.ensures.states.ok in
-    rw (← c.self.view_is, done) (stays_kept _ _ _ _ _ _ refl refl c.in_default.ensures.told.entries (iput_true (the_view c.self.inside) _ _ c.args.ivar c.args.value there empty c.in_default.ensures.told.ok))
+    rw (← c.self.view_is, done) (stays_kept _ _ _ _ _ _ refl refl c.in_default.ensures.told.entries
+    (iput_true (the_view c.self.inside) _ _ c.args.ivar c.args.value there empty c.in_default.ensures.told.ok))

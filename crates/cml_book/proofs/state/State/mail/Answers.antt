@@ -27,4 +27,5 @@ returns-clause-kept g c =
     let there = long_enough c.self.inside.mailboxes.objects c.args.mailbox.0 (omega (arith, c.if-mailbox-len.false, c.len.ensures)) in
     let roomy = sym c.mailbox_is_full.ensures ∙ c.if-mailbox_is_full.false in
     let done = mail_done (queues_of c.self.inside.mailboxes.objects) (queues_of c.feed.new.objects.objects) c.args.mailbox.0 c.args.value roomy c.in_default.ensures.states.ok in
-    rw (← c.self.view_is, done) (stays_kept _ _ _ _ _ _ refl refl c.in_default.ensures.told.entries (mail_true (the_view c.self.inside) _ _ c.args.mailbox c.args.value there c.in_default.ensures.told.ok))
+    rw (← c.self.view_is, done) (stays_kept _ _ _ _ _ _ refl refl c.in_default.ensures.told.entries
+    (mail_true (the_view c.self.inside) _ _ c.args.mailbox c.args.value there c.in_default.ensures.told.ok))

@@ -17,7 +17,9 @@ loop-n-preserved c =
     let fits_off = c.loop-n.invariant.fits_off in
     record {
       leads_on = rw (add-one, c.push_light.ensures.lit) (split_step (light_of w) (leaves c.args.flat.now) c.loop-n.n c.leaf.result.now c.loop-n.lit.items _ c.leaf.ensures c.loop-n.invariant.leads_on);
-      leads_off = rw (add-one, c.push_light.ensures.unlit) (split_step (λ l. not (light_of w l)) (leaves c.args.flat.now) c.loop-n.n c.leaf.result.now c.loop-n.unlit.items _ c.leaf.ensures c.loop-n.invariant.leads_off);
+      leads_off = rw (add-one, c.push_light.ensures.unlit)
+          (split_step (λ l. not (light_of w l)) (leaves c.args.flat.now) c.loop-n.n c.leaf.result.now
+          c.loop-n.unlit.items _ c.leaf.ensures c.loop-n.invariant.leads_off);
       room_on = room_on ∙ c.loop-n.invariant.room_on;
       room_off = room_off ∙ c.loop-n.invariant.room_off;
       fits_on = omega arith;

@@ -22,7 +22,8 @@ loop-n-preserved c =
     let longer = left_longer p c.leaf.result.now c.loop-n.lights.items c.push_left_tick.new.lights.items c.push_left_tick.ensures.lights in
     let same = c.push_left_tick.ensures.room in
     record {
-      leads = left_step p c.args.flat.now c.loop-n.n c.leaf.result.now c.loop-n.lights.items c.push_left_tick.new.lights.items _ c.leaf.ensures c.loop-n.invariant.leads c.push_left_tick.ensures.lights;
+      leads = left_step p c.args.flat.now c.loop-n.n c.leaf.result.now c.loop-n.lights.items
+          c.push_left_tick.new.lights.items _ c.leaf.ensures c.loop-n.invariant.leads c.push_left_tick.ensures.lights;
       room = c.push_left_tick.ensures.room ∙ c.loop-n.invariant.room;
       fits = omega arith;
     }

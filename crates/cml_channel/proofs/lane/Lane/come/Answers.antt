@@ -17,12 +17,16 @@ placed c =
     let same : c.self.inside.places.items ≡ ps = ap (λ (v : PlainLane). v.places) c.self.view_is in
     let up : Ascends before ps = subst (Ascends before) same c.self.invariant in
     let pushed : c.deref_mut.result.now ≡ ps ++ run c.args.tid c.args.leaves.now = c.deref_mut.ensures.value ∙ c.push_run.ensures.items ∙ ap (λ xs. xs ++ run c.args.tid c.args.leaves.now) same in
-    let moved : c.move_tail_to.new.places ≡ take c.count_under-at.result ps ++ (run c.args.tid c.args.leaves.now ++ drop c.count_under-at.result ps) = c.move_tail_to.ensures.after ps (run c.args.tid c.args.leaves.now) pushed (sym c.len-tail.ensures) in
+    let moved : c.move_tail_to.new.places ≡ take c.count_under-at.result ps
+    ++ (run c.args.tid c.args.leaves.now ++ drop c.count_under-at.result ps) = c.move_tail_to.ensures.after ps
+    (run c.args.tid c.args.leaves.now) pushed (sym c.len-tail.ensures) in
     moved ∙ ap (λ k. take k ps ++ (run c.args.tid c.args.leaves.now ++ drop k ps)) c.count_under-at.ensures.count ∙ inserted c.args.tid c.args.leaves.now ps up c.requires.new
 
 pub returns-clause-places : goal.returns-clause-places
 returns-clause-places c =
-    written c.push_run.new.places.len c.move_tail_to.new.places (drop (length c.move_tail_to.new.places) c.push_run.new.places.items) (omega (arith, c.move_tail_to.ensures.len, c.deref_mut.ensures.len)) ∙ placed c
+    written c.push_run.new.places.len c.move_tail_to.new.places
+    (drop (length c.move_tail_to.new.places) c.push_run.new.places.items)
+    (omega (arith, c.move_tail_to.ensures.len, c.deref_mut.ensures.len)) ∙ placed c
 
 pub returns-clause-sorted : goal.returns-clause-sorted
 returns-clause-sorted c =

@@ -24,7 +24,9 @@ loop-low-preserved-then-is_under c =
     let same : c.self.inside.places.items ≡ ps = ap (λ (v : PlainLane). v.places) c.self.view_is in
     let up : Ascends before ps = subst (Ascends before) same c.self.invariant in
     let at = counted c.args.bound ps (c.loop-low.low + (c.loop-low.high - c.loop-low.low) / 2) c.look-seen.result up (omega arith) in
-    let is_in : under c.args.bound (get_or ps (c.loop-low.low + (c.loop-low.high - c.loop-low.low) / 2) c.look-seen.result) ≡ true = ap (under c.args.bound) (sym c.look-seen.ensures.value) ∙ sym c.is_under.ensures ∙ c.if-is_under.true in
+    let is_in : under c.args.bound (get_or ps (c.loop-low.low + (c.loop-low.high - c.loop-low.low) / 2)
+    c.look-seen.result) ≡ true = ap (under c.args.bound) (sym c.look-seen.ensures.value)
+    ∙ sym c.is_under.ensures ∙ c.if-is_under.true in
     let low : c.loop-low.low + (c.loop-low.high - c.loop-low.low) / 2 < count_under c.args.bound ps = at.below is_in in
     record {
       low = omega arith;
@@ -39,7 +41,9 @@ loop-low-preserved c =
     let same : c.self.inside.places.items ≡ ps = ap (λ (v : PlainLane). v.places) c.self.view_is in
     let up : Ascends before ps = subst (Ascends before) same c.self.invariant in
     let at = counted c.args.bound ps (c.loop-low.low + (c.loop-low.high - c.loop-low.low) / 2) c.look-seen.result up (omega arith) in
-    let is_out : under c.args.bound (get_or ps (c.loop-low.low + (c.loop-low.high - c.loop-low.low) / 2) c.look-seen.result) ≡ false = ap (under c.args.bound) (sym c.look-seen.ensures.value) ∙ sym c.is_under.ensures ∙ c.if-is_under.false in
+    let is_out : under c.args.bound (get_or ps (c.loop-low.low + (c.loop-low.high - c.loop-low.low) / 2)
+    c.look-seen.result) ≡ false = ap (under c.args.bound) (sym c.look-seen.ensures.value)
+    ∙ sym c.is_under.ensures ∙ c.if-is_under.false in
     record {
       low = c.loop-low.invariant.low;
       high = at.above is_out;

@@ -21,7 +21,8 @@ returns-clause-places c =
     let up : Ascends before ps = subst (Ascends before) same c.self.invariant in
     c.remove_run.ensures.items ∙ ap (λ xs. take c.count_under-at.result xs ++ drop (c.count_under-at.result + c.args.count) xs) same
     ∙ ap (λ k. take k ps ++ drop (k + c.args.count) ps) c.count_under-at.ensures.count
-    ∙ ap (λ n. take (length (filter (λ q. Rattle.cml_channel.specs.Lanes.under (Below c.args.tid) q) ps)) ps ++ drop (length (filter (λ q. Rattle.cml_channel.specs.Lanes.under (Below c.args.tid) q) ps) + n) ps) c.requires
+    ∙ ap (λ n. take (length (filter (λ q. Rattle.cml_channel.specs.Lanes.under (Below c.args.tid) q) ps)) ps
+    ++ drop (length (filter (λ q. Rattle.cml_channel.specs.Lanes.under (Below c.args.tid) q) ps) + n) ps) c.requires
     ∙ removed c.args.tid ps up
 
 pub returns-clause-sorted : goal.returns-clause-sorted

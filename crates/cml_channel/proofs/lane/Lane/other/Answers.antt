@@ -46,8 +46,15 @@ returns-after-j-low-clause-value c =
     let up : Ascends before ps = subst (Ascends before) (ap (λ (v : PlainLane). v.places) c.self.view_is) c.self.invariant in
     let same = ap (λ w. get_or (those w ps) c.args.j c.look.result) (sym c.in-Others.is) in
     elim c.if-j-low.branch [
-      | then-j-low w ↦ c.look.ensures.value ∙ ap (λ k. get_or ps k c.look.result) w.k-is ∙ sym (other_low tid ps c.args.j c.look.result up (omega (arith, c.count_under-low.ensures.count, w.if-j-low.true))) ∙ same
-      | else-j-low w ↦ c.look.ensures.value ∙ ap (λ k. get_or ps k c.look.result) (w.k-is ∙ ap (λ h. h + (c.args.j - c.count_under-low.result)) c.count_under-high.ensures.count ∙ ap (λ l. count_under (UpTo tid) ps + (c.args.j - l)) c.count_under-low.ensures.count) ∙ sym (other_high tid ps c.args.j c.look.result up (omega (arith, c.count_under-low.ensures.count, w.if-j-low.false))) ∙ same
+      | then-j-low w ↦ c.look.ensures.value ∙ ap (λ k. get_or ps k c.look.result) w.k-is
+          ∙ sym (other_low tid ps c.args.j c.look.result up
+          (omega (arith, c.count_under-low.ensures.count, w.if-j-low.true))) ∙ same
+      | else-j-low w ↦ c.look.ensures.value
+          ∙ ap (λ k. get_or ps k c.look.result)
+          (w.k-is ∙ ap (λ h. h + (c.args.j - c.count_under-low.result)) c.count_under-high.ensures.count
+          ∙ ap (λ l. count_under (UpTo tid) ps + (c.args.j - l)) c.count_under-low.ensures.count)
+          ∙ sym (other_high tid ps c.args.j c.look.result up
+          (omega (arith, c.count_under-low.ensures.count, w.if-j-low.false))) ∙ same
     ]
 
 pub returns-in-Above-clause-value : goal.returns-in-Above-clause-value

@@ -5,7 +5,9 @@ use Rattle.cml_check.proofs.head.Heads.takes.Goals as goal
 pub returns-in-Some : goal.returns-in-Some
 returns-in-Some c =
     let h = c.in-Some.ensures.lookup in
-    rw (← c.self.view_is, c.len.ensures.len) (sym (takes-some c.self.inside.items.items c.args.number c.args.count c.in-Some.head.now (rw (← c.deref.ensures.value) h.3.0) (rw (← c.deref.ensures.value) (h.3.1 c.in-Some.head.now))))
+    rw (← c.self.view_is, c.len.ensures.len)
+    (sym (takes-some c.self.inside.items.items c.args.number c.args.count c.in-Some.head.now
+    (rw (← c.deref.ensures.value) h.3.0) (rw (← c.deref.ensures.value) (h.3.1 c.in-Some.head.now))))
 
 pub returns-in-None : goal.returns-in-None
 returns-in-None c =

@@ -100,12 +100,15 @@ invariant_of-self-2 c =
           (rw (c.reserve-2.ensures.items, c.into_end-end.ensures.end) at (c.settle.ensures c.into_end-end.result.0 (set_there ms number.0 c.into_end-end.result.0 lt)));
     } in
     let items : c.push_reserved.new.self.items ≡ s.items.items ++ Turn number ∷ [] = c.push_reserved.ensures.items ∙ ap (λ xs. xs ++ Turn number ∷ []) c.reserve.ensures.items in
-    let output : string_bytes c.tell.new.output ≡ string_bytes s.output ++ string_bytes prepared.line = c.tell.ensures ∙ ap (λ xs. xs ++ c.as_str.result.now) c.prepare.ensures.bytes ∙ ap (λ xs. string_bytes s.output ++ xs) c.as_str.ensures.value in
+    let output : string_bytes c.tell.new.output ≡ string_bytes s.output ++ string_bytes prepared.line = c.tell.ensures
+    ∙ ap (λ xs. xs ++ c.as_str.result.now) c.prepare.ensures.bytes
+    ∙ ap (λ xs. string_bytes s.output ++ xs) c.as_str.ensures.value in
     let used : s.used + c.from.result ≡ s.used + ran.steps = ap (λ n. s.used + n) (c.from.ensures ∙ c.steps-steps.ensures.steps) in
     let asked : plain_ask c.into_end-end.result.1 ≡ ran.ask = c.into_end-end.ensures.ask in
     let known = turned_known k number ran.start ran.end ran.ask ran.steps prepared.done c.prepare.new.book (string_bytes prepared.line) c.settle.new.machines.items
     c.push_reserved.new.self.items s.deeds.origins.items c.note.new.deeds.origins.items s.deeds.faults c.note.new.deeds.faults c.self.invariant.0 turn items
-    (rw asked at c.note.ensures.origins ∙ ap (λ fs. fs ++ filter_map begotten (plain_done ran.ask prepared.done ∷ [])) c.reserve-3.ensures.items) (rw asked at c.note.ensures.faults) c.self.invariant.1 in (
+    (rw asked at c.note.ensures.origins ∙ ap (λ fs. fs ++ filter_map begotten (plain_done ran.ask prepared.done ∷ []))
+    c.reserve-3.ensures.items) (rw asked at c.note.ensures.faults) c.self.invariant.1 in (
       turned_leads_at k number ran.start ran.end ran.ask ran.steps prepared.done c.prepare.new.book (string_bytes prepared.line) c.settle.new.machines.items
           c.push_reserved.new.self.items (string_bytes c.tell.new.output) (s.used + c.from.result) items output used c.self.invariant.0 n turn,
       known,
@@ -145,7 +148,9 @@ returns-clause-ok c =
           (rw (c.reserve-2.ensures.items, c.into_end-end.ensures.end) at (c.settle.ensures c.into_end-end.result.0 (set_there ms number.0 c.into_end-end.result.0 lt)));
     } in
     let items : c.push_reserved.new.self.items ≡ s.items.items ++ Turn number ∷ [] = c.push_reserved.ensures.items ∙ ap (λ xs. xs ++ Turn number ∷ []) c.reserve.ensures.items in
-    let output : string_bytes c.tell.new.output ≡ string_bytes s.output ++ string_bytes prepared.line = c.tell.ensures ∙ ap (λ xs. xs ++ c.as_str.result.now) c.prepare.ensures.bytes ∙ ap (λ xs. string_bytes s.output ++ xs) c.as_str.ensures.value in
+    let output : string_bytes c.tell.new.output ≡ string_bytes s.output ++ string_bytes prepared.line = c.tell.ensures
+    ∙ ap (λ xs. xs ++ c.as_str.result.now) c.prepare.ensures.bytes
+    ∙ ap (λ xs. string_bytes s.output ++ xs) c.as_str.ensures.value in
     let used : s.used + c.from.result ≡ s.used + ran.steps = ap (λ n. s.used + n) (c.from.ensures ∙ c.steps-steps.ensures.steps) in
     let turns = turned_is_at k number ran.start ran.end ran.ask ran.steps prepared.done c.prepare.new.book (string_bytes prepared.line) c.settle.new.machines.items
     c.push_reserved.new.self.items (string_bytes c.tell.new.output) (s.used + c.from.result) items output used c.self.invariant.0 turn in

@@ -20,7 +20,9 @@ pub returns-clause-stands : goal.returns-clause-stands
 returns-clause-stands c =
     let s = c.self.inside in
     let k : PlainCourse = record { program = s.program; items = s.items.items; world = s.threads; machines = s.machines.items; output = string_bytes s.output; used = s.used } in
-    rw (← c.self.view_is) (machine_goes k c.args.thread.0 c.index.result.now c.self.invariant.0 (machine_keeps k c.args.thread.0 c.index.result.now c.self.invariant.0 (rw (← c.self.view_is) at c.requires) c.index.ensures))
+    rw (← c.self.view_is) (machine_goes k c.args.thread.0 c.index.result.now c.self.invariant.0
+    (machine_keeps k c.args.thread.0 c.index.result.now c.self.invariant.0 (rw (← c.self.view_is) at c.requires)
+    c.index.ensures))
 
 pub returns-clause-thread : goal.returns-clause-thread
 returns-clause-thread c =

@@ -36,7 +36,10 @@ invariant_of-self-in-Ok c =
     let may : MayTake s.threads c.args.item c.args.row = record { takes = c.requires.takes; allowed = ok; parties = parties; numbers = c.read_numbers.ensures } in
     let all = rw (is.1) at c.resume_all.ensures in (
       rw (c.push_reserved.ensures.items, c.reserve.ensures.items, is.0) (met_leads k c.args.item c.args.row c.resume_all.new.machines.items c.self.invariant.0 may all),
-      rw (c.push_reserved.ensures.items, c.reserve.ensures.items) (still_known (text_of s.program) s.items.items c.args.item (run_of k) s.deeds.origins.items s.deeds.faults c.self.invariant.0.leads (no_deed (text_of s.program) (run_of k) c.args.item c.args.row c.requires.takes) c.self.invariant.1),
+      rw (c.push_reserved.ensures.items, c.reserve.ensures.items)
+          (still_known (text_of s.program) s.items.items c.args.item (run_of k) s.deeds.origins.items s.deeds.faults
+          c.self.invariant.0.leads (no_deed (text_of s.program) (run_of k) c.args.item c.args.row c.requires.takes)
+          c.self.invariant.1),
     )
 
 pub returns-in-Ok-clause-ok : goal.returns-in-Ok-clause-ok

@@ -16,7 +16,9 @@ invariant_of-self-in-Ok c =
     let moves = clock_moves s.threads c.args.tick ok c.self.invariant.0.agrees.soon in
     let world = clocked_is s.threads c.clock.new.self c.args.tick c.in-Ok.field-0 moves c.in-Ok.ensures in (
       rw (c.push_reserved.ensures.items, c.reserve.ensures.items, world) (ticked_leads k c.args.tick c.self.invariant.0 ok),
-      rw (c.push_reserved.ensures.items, c.reserve.ensures.items) (still_known (text_of s.program) s.items.items (Clock c.args.tick) (run_of k) s.deeds.origins.items s.deeds.faults c.self.invariant.0.leads refl c.self.invariant.1),
+      rw (c.push_reserved.ensures.items, c.reserve.ensures.items)
+          (still_known (text_of s.program) s.items.items (Clock c.args.tick) (run_of k) s.deeds.origins.items
+          s.deeds.faults c.self.invariant.0.leads refl c.self.invariant.1),
     )
 
 pub unreachable-requires : goal.unreachable-requires

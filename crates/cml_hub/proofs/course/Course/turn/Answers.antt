@@ -51,7 +51,8 @@ settle-requires-clause-settles c = λ end is.
     let at = set_there ms c.args.thread.0 c.take_turn.new.machine lt in
     let same : c.take_turn.new.machine ≡ end = cc in
     subst (λ m. CanSettle m taken.prepared.done) same
-    (can_settle s.program (plain_ask c.take_turn.new.ask) c.take_turn.new.machine taken.prepared.done c.in_ok-taken.ensures.slice.fits c.in_ok-taken.ensures.slice.awaits c.in_ok-taken.ensures.done.fits)
+    (can_settle s.program (plain_ask c.take_turn.new.ask) c.take_turn.new.machine taken.prepared.done
+    c.in_ok-taken.ensures.slice.fits c.in_ok-taken.ensures.slice.awaits c.in_ok-taken.ensures.done.fits)
 
 pub invariant_of-self-2 : goal.invariant_of-self-2
 invariant_of-self-2 c =
@@ -63,7 +64,9 @@ invariant_of-self-2 c =
     let lt : c.args.thread.0 < length ms = omega (arith, machine_within k c.args.thread.0 c.self.invariant.0 run, ap length c.reserve-2.ensures.items) in
     let taken = c.in_ok-taken.taken in
     let end = c.take_turn.new.machine in
-    let turn : TurnDone k c.args.thread c.index_mut.result.now end (plain_ask c.take_turn.new.ask) taken.steps taken.prepared.done c.take_turn.new.book (string_bytes taken.prepared.line) c.settle.new.machines.items = record {
+    let turn : TurnDone k c.args.thread c.index_mut.result.now end (plain_ask c.take_turn.new.ask) taken.steps
+    taken.prepared.done c.take_turn.new.book (string_bytes taken.prepared.line) c.settle.new.machines.items =
+    record {
       runs = run;
       at = machine_at k c.args.thread.0 c.index_mut.result.now c.self.invariant.0 run index;
       slice = c.in_ok-taken.ensures.slice;
@@ -75,12 +78,19 @@ invariant_of-self-2 c =
     } in
     let n : IsNumber c.args.thread.0 = omega arith in
     let items : c.push_reserved.new.self.items ≡ s.items.items ++ Turn c.args.thread ∷ [] = c.push_reserved.ensures.items ∙ ap (λ xs. xs ++ Turn c.args.thread ∷ []) c.reserve.ensures.items in
-    let output : string_bytes c.tell.new.output ≡ string_bytes s.output ++ string_bytes taken.prepared.line = c.tell.ensures ∙ ap (λ xs. xs ++ c.as_str.result.now) c.take_turn.ensures.bytes ∙ ap (λ xs. string_bytes s.output ++ xs) c.as_str.ensures.value in
+    let output : string_bytes c.tell.new.output ≡ string_bytes s.output
+    ++ string_bytes taken.prepared.line = c.tell.ensures
+    ∙ ap (λ xs. xs ++ c.as_str.result.now) c.take_turn.ensures.bytes
+    ∙ ap (λ xs. string_bytes s.output ++ xs) c.as_str.ensures.value in
     let used : s.used + c.from.result ≡ s.used + taken.steps = ap (λ n. s.used + n) c.from.ensures in
-    let known = turned_known k c.args.thread c.index_mut.result.now end (plain_ask c.take_turn.new.ask) taken.steps taken.prepared.done c.take_turn.new.book (string_bytes taken.prepared.line) c.settle.new.machines.items
+    let known = turned_known k c.args.thread c.index_mut.result.now end (plain_ask c.take_turn.new.ask) taken.steps
+    taken.prepared.done c.take_turn.new.book (string_bytes taken.prepared.line) c.settle.new.machines.items
     c.push_reserved.new.self.items s.deeds.origins.items c.note.new.deeds.origins.items s.deeds.faults c.note.new.deeds.faults c.self.invariant.0 turn items
-    (c.note.ensures.origins ∙ ap (λ fs. fs ++ filter_map begotten (plain_done (plain_ask c.take_turn.new.ask) taken.prepared.done ∷ [])) c.reserve-3.ensures.items) c.note.ensures.faults c.self.invariant.1 in (
-      turned_leads_at k c.args.thread c.index_mut.result.now end (plain_ask c.take_turn.new.ask) taken.steps taken.prepared.done c.take_turn.new.book (string_bytes taken.prepared.line) c.settle.new.machines.items
+    (c.note.ensures.origins ∙ ap (λ fs. fs
+    ++ filter_map begotten (plain_done (plain_ask c.take_turn.new.ask) taken.prepared.done ∷ []))
+    c.reserve-3.ensures.items) c.note.ensures.faults c.self.invariant.1 in (
+      turned_leads_at k c.args.thread c.index_mut.result.now end (plain_ask c.take_turn.new.ask) taken.steps
+          taken.prepared.done c.take_turn.new.book (string_bytes taken.prepared.line) c.settle.new.machines.items
           c.push_reserved.new.self.items (string_bytes c.tell.new.output) (s.used + c.from.result) items output used c.self.invariant.0 n turn,
       known,
     )
@@ -106,7 +116,9 @@ returns-clause-ok c =
     let lt : c.args.thread.0 < length ms = omega (arith, machine_within k c.args.thread.0 c.self.invariant.0 run, ap length c.reserve-2.ensures.items) in
     let taken = c.in_ok-taken.taken in
     let end = c.take_turn.new.machine in
-    let turn : TurnDone k c.args.thread c.index_mut.result.now end (plain_ask c.take_turn.new.ask) taken.steps taken.prepared.done c.take_turn.new.book (string_bytes taken.prepared.line) c.settle.new.machines.items = record {
+    let turn : TurnDone k c.args.thread c.index_mut.result.now end (plain_ask c.take_turn.new.ask) taken.steps
+    taken.prepared.done c.take_turn.new.book (string_bytes taken.prepared.line) c.settle.new.machines.items =
+    record {
       runs = run;
       at = machine_at k c.args.thread.0 c.index_mut.result.now c.self.invariant.0 run index;
       slice = c.in_ok-taken.ensures.slice;
@@ -117,4 +129,6 @@ returns-clause-ok c =
           (rw c.reserve-2.ensures.items at (c.settle.ensures end (set_there ms c.args.thread.0 end lt)));
     } in
     rw (← c.self.view_is, c.gone-gone.ensures, c.push_reserved.ensures.items, c.reserve.ensures.items, c.tell.ensures, c.take_turn.ensures.bytes, c.as_str.ensures.value, c.from.ensures)
-    (turned_is k c.args.thread c.index_mut.result.now end (plain_ask c.take_turn.new.ask) taken.steps taken.prepared.done c.take_turn.new.book (string_bytes taken.prepared.line) c.settle.new.machines.items c.self.invariant.0 turn)
+    (turned_is k c.args.thread c.index_mut.result.now end (plain_ask c.take_turn.new.ask) taken.steps
+    taken.prepared.done c.take_turn.new.book (string_bytes taken.prepared.line) c.settle.new.machines.items
+    c.self.invariant.0 turn)

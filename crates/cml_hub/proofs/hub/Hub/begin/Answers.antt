@@ -16,11 +16,30 @@ add-requires-clause-more c =
 
 pub invariant_of-result : goal.invariant_of-result
 invariant_of-result c =
-    rw (c.add.ensures.marks, c.reserve.ensures.marks, c.new-marks.ensures.marks, c.add.ensures.queue, c.reserve.ensures.queue, c.new-marks.ensures.queue, c.new.ensures.items) (stands_begun c.args.program c.in_ok-course.course c.args.budget c.args.watch c.in_ok-course.ensures.ok c.requires.budget c.requires.watch)
+    rw (
+      c.add.ensures.marks,
+      c.reserve.ensures.marks,
+      c.new-marks.ensures.marks,
+      c.add.ensures.queue,
+      c.reserve.ensures.queue,
+      c.new-marks.ensures.queue,
+      c.new.ensures.items,
+    )
+    (stands_begun c.args.program c.in_ok-course.course c.args.budget c.args.watch c.in_ok-course.ensures.ok
+    c.requires.budget c.requires.watch)
 
 pub returns-in-Ok-clause-ok : goal.returns-in-Ok-clause-ok
 returns-in-Ok-clause-ok c =
-    rw (c.add.ensures.marks, c.reserve.ensures.marks, c.new-marks.ensures.marks, c.add.ensures.queue, c.reserve.ensures.queue, c.new-marks.ensures.queue, c.new.ensures.items) (begun_is c.args.program c.in_ok-course.course c.args.budget c.args.watch c.in_ok-course.ensures.ok)
+    rw (
+      c.add.ensures.marks,
+      c.reserve.ensures.marks,
+      c.new-marks.ensures.marks,
+      c.add.ensures.queue,
+      c.reserve.ensures.queue,
+      c.new-marks.ensures.queue,
+      c.new.ensures.items,
+    )
+    (begun_is c.args.program c.in_ok-course.course c.args.budget c.args.watch c.in_ok-course.ensures.ok)
 
 pub returns-in-Err-clause-err : goal.returns-in-Err-clause-err
 returns-in-Err-clause-err c =

@@ -13,4 +13,5 @@ invariant_of-self c =
 pub returns-clause-ok : goal.returns-clause-ok
 returns-clause-ok c =
     let s = c.self.inside in
-    rw (← c.self.view_is) (called_so s.course s.budget s.watch s.reports.items s.marks.marks c.call_back.new.self.marks s.marks.queue c.call_back.new.self.queue c.call_back.result c.call_back.ensures.ok c.call_back.ensures.order)
+    rw (← c.self.view_is) (called_so s.course s.budget s.watch s.reports.items s.marks.marks c.call_back.new.self.marks
+    s.marks.queue c.call_back.new.self.queue c.call_back.result c.call_back.ensures.ok c.call_back.ensures.order)

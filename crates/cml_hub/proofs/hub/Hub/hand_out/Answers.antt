@@ -28,4 +28,7 @@ invariant_of-self c =
 pub returns-clause-ok : goal.returns-clause-ok
 returns-clause-ok c =
     let s = c.self.inside in
-    rw (← c.self.view_is, c.hand_out.ensures.marks) (handed_out s.course s.budget s.watch s.reports.items s.marks.marks s.marks.queue c.hand_out.new.self.queue c.in-Some.thread.0 c.in_ok-machine.machine c.machine.result.now c.in-Some.ensures.ready c.machine.ensures.keeps c.machine.ensures.stands c.machine.ensures.thread c.in_ok-machine.ensures c.hand_out.ensures.queue)
+    rw (← c.self.view_is, c.hand_out.ensures.marks)
+    (handed_out s.course s.budget s.watch s.reports.items s.marks.marks s.marks.queue c.hand_out.new.self.queue
+    c.in-Some.thread.0 c.in_ok-machine.machine c.machine.result.now c.in-Some.ensures.ready c.machine.ensures.keeps
+    c.machine.ensures.stands c.machine.ensures.thread c.in_ok-machine.ensures c.hand_out.ensures.queue)

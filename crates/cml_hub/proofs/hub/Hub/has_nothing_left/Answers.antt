@@ -10,7 +10,11 @@ returns-then-is_still c =
     let s = c.self.inside in
     let w = s.course.world in
     let idle = idle_is w.threads s.marks.marks c.is_idle.result c.self.invariant.placed c.is_idle.ensures in
-    let both : c.if-is_idle.value ≡ (c.is_idle.result && is_empty (scan w)) = elim c.if-is_idle.branch [ then-is_idle v ↦ rw (v.if-is_idle.true) (v.value-is ∙ v.is_still.ensures) | else-is_idle v ↦ rw (v.if-is_idle.false) (v.value-is ∙ v.if-is_idle.false) ] in
+    let both : c.if-is_idle.value ≡ (c.is_idle.result && is_empty (scan w)) = elim c.if-is_idle.branch [
+      | then-is_idle v ↦ rw (v.if-is_idle.true) (v.value-is ∙ v.is_still.ensures)
+      | else-is_idle v
+          ↦ rw (v.if-is_idle.false) (v.value-is ∙ v.if-is_idle.false)
+    ] in
     rw (← c.self.view_is) (terminal_then w c.is_idle.result c.if-is_idle.value c.is_none.result c.next_alarm.result idle both c.if-is_still.true c.next_alarm.ensures c.is_none.ensures)
 
 pub returns-else-is_still : goal.returns-else-is_still
@@ -18,5 +22,9 @@ returns-else-is_still c =
     let s = c.self.inside in
     let w = s.course.world in
     let idle = idle_is w.threads s.marks.marks c.is_idle.result c.self.invariant.placed c.is_idle.ensures in
-    let both : c.if-is_idle.value ≡ (c.is_idle.result && is_empty (scan w)) = elim c.if-is_idle.branch [ then-is_idle v ↦ rw (v.if-is_idle.true) (v.value-is ∙ v.is_still.ensures) | else-is_idle v ↦ rw (v.if-is_idle.false) (v.value-is ∙ v.if-is_idle.false) ] in
+    let both : c.if-is_idle.value ≡ (c.is_idle.result && is_empty (scan w)) = elim c.if-is_idle.branch [
+      | then-is_idle v ↦ rw (v.if-is_idle.true) (v.value-is ∙ v.is_still.ensures)
+      | else-is_idle v
+          ↦ rw (v.if-is_idle.false) (v.value-is ∙ v.if-is_idle.false)
+    ] in
     rw (← c.self.view_is) (terminal_else w c.is_idle.result c.if-is_idle.value idle both c.if-is_still.false)

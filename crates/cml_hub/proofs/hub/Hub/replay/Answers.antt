@@ -24,7 +24,8 @@ pub returns-then-not-is_allowed : goal.returns-then-not-is_allowed
 returns-then-not-is_allowed c =
     let e : c.hub.inside.course ≡ c.loop-i.hub.course = ap (λ (x : Kept). x.course) c.hub.view_is in
     let leads = subst (λ (x : PlainCourse). stands (text_of x.program) x.items ≡ Some (run_of x)) e c.into_program.ensures.leads in
-    let b = bad_at c.args.program c.args.items.now c.loop-i.i (Turn (record { 0 = 0 })) c.loop-i.hub c.loop-i-test.true c.loop-i.invariant.program c.loop-i.invariant.items leads (sym c.if-not-is_allowed.ensures) in
+    let b = bad_at c.args.program c.args.items.now c.loop-i.i (Turn (record { 0 = 0 })) c.loop-i.hub c.loop-i-test.true
+    c.loop-i.invariant.program c.loop-i.invariant.items leads (sym c.if-not-is_allowed.ensures) in
     (c.into_program.ensures.program ∙ (ap (λ (x : PlainCourse). x.program) e ∙ c.loop-i.invariant.program), b.0, b.1)
 
 pub step-requires-clause-due : goal.step-requires-clause-due

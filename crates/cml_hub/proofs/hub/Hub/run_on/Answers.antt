@@ -1,5 +1,7 @@
-use Rattle.std.proofs.Common.{sym}
-use Rattle.cml_hub.proofs.Going.{alone_continues, continues_self, continues_more, continues_reported, still_continues, none_out_reported, none_out_same}
+use Rattle.std.proofs.Common.{inl, sym, subst}
+use Rattle.cml_hub.specs.Courses.{run_of}
+use Rattle.cml_hub.specs.Moves.{GoesIfLeft}
+use Rattle.cml_hub.proofs.Going.{alone_continues, continues_self, continues_more, continues_reported, still_continues, none_out_reported, none_out_same, over_not, over_spent, quiet_far}
 use Rattle.cml_hub.proofs.hub.Hub.run_on.Goals as goal
 
 pub returns-in_err-report-clause-more : goal.returns-in_err-report-clause-more
@@ -25,10 +27,12 @@ turns-preserved g c =
     let a = c.turns.self in
     let b = c.go_alone.new.self in
     let d = c.report-in-turns.new.self in
-    let k = c.in_ok-go_alone.ensures.ok in
+    let went = subst (λ o. GoesIfLeft a o b) c.if-not-branch.false c.in_ok-go_alone.ensures.ok in
+    let k = went.1 in
+    let going = over_not a.budget (run_of a.course) went.0 (sym c.turns-test.ensures.spent) in
     let r = c.in_ok-report-2.ensures.ok in
     record {
-      more = continues_more h b d (alone_continues h a b c.turns.invariant.more (record { leads = c.turns-test.ensures.leads; going = sym c.turns-test.ensures.over }) k) (continues_reported b d r);
+      more = continues_more h b d (alone_continues h a b c.turns.invariant.more (record { leads = c.turns-test.ensures.leads; going = going }) k) (continues_reported b d r);
       none_out = none_out_reported b d k.none_out r;
       due = r.none_due;
     }
@@ -42,8 +46,34 @@ returns-in_err-report-2-clause-more g c =
     let a = c.turns.self in
     let b = c.go_alone.new.self in
     let d = c.report-in-turns.new.self in
-    still_continues h b d (alone_continues h a b c.turns.invariant.more (record { leads = c.turns-test.ensures.leads; going = sym c.turns-test.ensures.over }) c.in_ok-go_alone.ensures.ok) c.in_err-report-2.ensures.err
+    let went = subst (λ o. GoesIfLeft a o b) c.if-not-branch.false c.in_ok-go_alone.ensures.ok in
+    let going = over_not a.budget (run_of a.course) went.0 (sym c.turns-test.ensures.spent) in
+    still_continues h b d (alone_continues h a b c.turns.invariant.more (record { leads = c.turns-test.ensures.leads; going = going }) went.1) c.in_err-report-2.ensures.err
 
 pub returns-in_err-report-2-clause-none_out : goal.returns-in_err-report-2-clause-none_out
 returns-in_err-report-2-clause-none_out g c =
-    none_out_same c.go_alone.new.self c.report-in-turns.new.self c.in_ok-go_alone.ensures.ok.none_out c.in_err-report-2.ensures.err
+    let went = subst (λ o. GoesIfLeft c.turns.self o c.go_alone.new.self) c.if-not-branch.false c.in_ok-go_alone.ensures.ok in
+    none_out_same c.go_alone.new.self c.report-in-turns.new.self went.1.none_out c.in_err-report-2.ensures.err
+
+pub returns-then-not-branch-clause-more : goal.returns-then-not-branch-clause-more
+returns-then-not-branch-clause-more g c =
+    let a = c.turns.self in
+    let b = c.go_alone.new.self in
+    let went = subst (λ o. GoesIfLeft a o b) c.if-not-branch.true c.in_ok-go_alone.ensures.ok in
+    still_continues c.args.self.now a b c.turns.invariant.more went.1
+
+pub returns-then-not-branch-clause-none_out : goal.returns-then-not-branch-clause-none_out
+returns-then-not-branch-clause-none_out g c =
+    let a = c.turns.self in
+    let b = c.go_alone.new.self in
+    let went = subst (λ o. GoesIfLeft a o b) c.if-not-branch.true c.in_ok-go_alone.ensures.ok in
+    none_out_same a b c.turns.invariant.none_out went.1
+
+pub returns-then-not-branch-clause-far : goal.returns-then-not-branch-clause-far
+returns-then-not-branch-clause-far g c =
+    let a = c.turns.self in
+    let b = c.go_alone.new.self in
+    quiet_far c.args.self.now a b c.args.steps (subst (λ o. GoesIfLeft a o b) c.if-not-branch.true c.in_ok-go_alone.ensures.ok)
+
+pub returns-clause-far : goal.returns-clause-far
+returns-clause-far g c = inl (over_spent c.turns.self.budget (run_of c.turns.self.course) (sym c.turns-test.ensures.spent))

@@ -9,7 +9,18 @@ returns-then-at-len c =
     let ss = c.self.inside.seats.items in
     let t = c.args.tid.0 in
     let at : c.seats_below-at.result ≡ spec.count_seats t ss = c.seats_below-at.ensures ∙ ap (spec.count_seats t) c.deref.ensures.value in
-    let past : (d : Seat) → spec.count_seats t ss < length ss → (get_or ss (spec.count_seats t ss) d).tid.0 ≢ t = λ d within is. absurd (omega (arith, at, within, c.if-at-len.true, c.len.ensures, c.deref.ensures.len, ap length c.deref.ensures.value)) in
+    let past : (d : Seat) → spec.count_seats t ss < length ss
+    → (get_or ss (spec.count_seats t ss) d).tid.0 ≢ t = λ d within is. absurd
+    (omega (
+      arith,
+      at,
+      within,
+      c.if-at-len.true,
+      c.len.ensures,
+      c.deref.ensures.len,
+      ap length
+          c.deref.ensures.value,
+    )) in
     rw (← c.self.view_is) (own_none t ss c.self.invariant.ascend c.self.invariant.own past)
 
 pub returns-then-seat-tid : goal.returns-then-seat-tid

@@ -15,7 +15,8 @@ overflow_add-self c =
 is_back : (c : goal.After-fill) → IsCome c.args.entry c.self.inside.seats.items c.fill.new.seats.items c.self.inside.pending
 is_back c =
     back_at c.self.inside.seats.items c.fill.new.seats.items c.self.inside.pending c.seats_below-at.result c.args.self.now.items c.args.entry c.tid-tid.result
-    c.self.invariant (c.seats_below-at.ensures ∙ ap (spec.count_seats c.tid-tid.result.0) c.deref.ensures.value) (ap (λ (x : spec.PlainEntries). x.items) c.self.view_is) (sym c.tid-tid.ensures) c.requires.new
+    c.self.invariant (c.seats_below-at.ensures ∙ ap (spec.count_seats c.tid-tid.result.0) c.deref.ensures.value)
+    (ap (λ (x : spec.PlainEntries). x.items) c.self.view_is) (sym c.tid-tid.ensures) c.requires.new
     (rw c.deref-2.ensures.value at (c.has_seat.ensures.0 c.if-has_seat.true)) c.fill.ensures.seats
 
 pub invariant_of-self : goal.invariant_of-self
@@ -35,7 +36,9 @@ not_both b off on_ = cc
 is_new : (c : goal.After-insert_in_room) → IsCome c.args.entry c.self.inside.seats.items c.insert_in_room.new.seats.items c.self.inside.pending
 is_new c =
     new_at c.self.inside.seats.items c.insert_in_room.new.seats.items c.self.inside.pending c.seats_below-at.result c.args.entry c.tid-tid.result
-    c.self.invariant (c.seats_below-at.ensures ∙ ap (spec.count_seats c.tid-tid.result.0) c.deref.ensures.value) (sym c.tid-tid.ensures) (λ f. not_both c.has_seat.result c.if-has_seat.false (c.has_seat.ensures.1 (rw c.deref-2.ensures.value f))) c.insert_in_room.ensures
+    c.self.invariant (c.seats_below-at.ensures ∙ ap (spec.count_seats c.tid-tid.result.0) c.deref.ensures.value)
+    (sym c.tid-tid.ensures) (λ f. not_both c.has_seat.result c.if-has_seat.false
+    (c.has_seat.ensures.1 (rw c.deref-2.ensures.value f))) c.insert_in_room.ensures
 
 pub invariant_of-self-else-has_seat : goal.invariant_of-self-else-has_seat
 invariant_of-self-else-has_seat c = (is_new c).seats

@@ -17,12 +17,14 @@ unreachable-requires c =
 is_gone : (c : goal.After-self-1) → IsGone c.args.tid c.self.inside.seats.items c.vacate.new.seats.items c.self.inside.pending c.in-Some.entry
 is_gone c =
     taken c.args.tid c.self.inside.seats.items c.vacate.new.seats.items c.self.inside.pending c.seats_below-at.result c.args.self.now.items c.vacate.result c.in-Some.entry
-    c.self.invariant (c.seats_below-at.ensures ∙ ap (spec.count_seats c.args.tid.0) c.deref.ensures.value) (ap (λ (x : spec.PlainEntries). x.items) c.self.view_is) c.requires c.vacate.ensures.seats c.vacate.ensures.entry c.in-Some.is
+    c.self.invariant (c.seats_below-at.ensures ∙ ap (spec.count_seats c.args.tid.0) c.deref.ensures.value) (ap (λ (x : spec.PlainEntries).
+    x.items) c.self.view_is) c.requires c.vacate.ensures.seats c.vacate.ensures.entry c.in-Some.is
 
 after_tidy : (c : goal.After-tidy) → IsGone c.args.tid c.self.inside.seats.items c.vacate.new.seats.items c.self.inside.pending c.in-Some.entry
 after_tidy c =
     taken c.args.tid c.self.inside.seats.items c.vacate.new.seats.items c.self.inside.pending c.seats_below-at.result c.args.self.now.items c.vacate.result c.in-Some.entry
-    c.self.invariant (c.seats_below-at.ensures ∙ ap (spec.count_seats c.args.tid.0) c.deref.ensures.value) (ap (λ (x : spec.PlainEntries). x.items) c.self.view_is) c.requires c.vacate.ensures.seats c.vacate.ensures.entry c.in-Some.is
+    c.self.invariant (c.seats_below-at.ensures ∙ ap (spec.count_seats c.args.tid.0) c.deref.ensures.value) (ap (λ (x : spec.PlainEntries).
+    x.items) c.self.view_is) c.requires c.vacate.ensures.seats c.vacate.ensures.entry c.in-Some.is
 
 pub invariant_of-self : goal.invariant_of-self
 invariant_of-self c = (is_gone c).seats

@@ -1,6 +1,5 @@
 use Rattle.std.proofs.Common.{◌≡◌, ◌∙◌, ℕ, List, [], refl, ap, arith}
 use Rattle.cml_value.specs.Group.{PlainGroup, never, scopes, nacks_of}
-use Rattle.cml_scan.specs.World.{PlainEntry}
 use Rattle.cml_index.specs.declared.entry.PendingThread.{PendingThread}
 use Rattle.cml_index.specs.declared.slot.Wait.{Wait}
 use Rattle.cml_index.specs.Waits.{IsPost}
@@ -16,7 +15,6 @@ fits p g ws ns group waits nacks post same = rw (group, waits, nacks) (post, sam
 pub invariant_of-self : goal.invariant_of-self
 invariant_of-self c =
     let p = c.match-renewed.self-inside.post.value in
-    let none : c.self.inside.post.value.group ≡ never = ap (λ (e : PlainEntry). e.group) (c.self.view_is ∙ c.rest.ensures) in
     elim c.match-renewed.branch [
       | in-Ok w ↦
           fits p c.args.group.now c.renewed.new.waits.items c.renewed.new.nacks.items
@@ -25,7 +23,7 @@ invariant_of-self c =
           (is_post c.args.group.now c.renewed.new.waits.items w.in-Ok.ensures.waits w.in-Ok.ensures.small) w.in-Ok.ensures.nacks
       | in-Err w ↦
           fits p never [] []
-          (ap (λ s. s.post.value.group) w.self-inside-is ∙ ap (λ v. v.group) c.deref_mut-post.ensures.value ∙ none)
-          (ap (λ s. s.post.value.waits.items) w.self-inside-is ∙ w.clear.ensures.items) (ap (λ s. s.post.value.nacks.items) w.self-inside-is ∙ w.clear-in-Err.ensures.items)
+          (ap (λ s. s.post.value.group) w.self-inside-is ∙ w.replace-in-Err.ensures.after ∙ w.new.ensures)
+          (ap (λ s. s.post.value.waits.items) w.self-inside-is ∙ w.clear-in-Err.ensures.items) (ap (λ s. s.post.value.nacks.items) w.self-inside-is ∙ w.clear-in-Err-2.ensures.items)
           (is_post never [] refl (omega arith)) refl
     ]

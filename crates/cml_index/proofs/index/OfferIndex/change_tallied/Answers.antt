@@ -19,34 +19,43 @@ use Rattle.cml_index.proofs.Going.{nacks_named, gone_many, cost_gone, cost_came}
 use Rattle.cml_index.proofs.index.OfferIndex.change_tallied.Goals as goal
 
 -- what was asked of the index, asked of its core
-asked : (x y : spec.PlainIndex) (gone : List Tid) (came here : Option (Tid × Bor PlainGroup)) (lit unlit : List Light) → x ≡ y → came ≡ here → CanChange y.entries gone came lit unlit → CanChange x.entries gone here lit unlit
+asked : (x y : spec.PlainIndex) (gone : List Tid) (came here : Option (Tid × Bor PlainGroup)) (lit unlit : List Light)
+    → x ≡ y → came ≡ here → CanChange y.entries gone came lit unlit → CanChange x.entries gone here lit unlit
 asked x y gone came here lit unlit same is ready = subst (λ (z : spec.PlainIndex). CanChange z.entries gone here lit unlit) (sym same) (subst (λ o. CanChange y.entries gone o lit unlit) is ready)
 
 -- what was told to the core was told to the index
 answered : {A E : Type 0} (r : Result A E) (x y new : spec.PlainIndex) (gone : List Tid) (came here : Option (Tid × Bor PlainGroup)) (lit unlit : List Light) (before after : ℕ) → x ≡ y → came ≡ here
     → spec.HasTold r (changed x.entries gone here) lit unlit x new before after → spec.HasTold r (changed y.entries gone came) lit unlit y new before after
 answered r x y new gone came here lit unlit before after same is told =
-    subst (λ (z : spec.PlainIndex). spec.HasTold r (changed z.entries gone came) lit unlit z new before after) same (subst (λ o. spec.HasTold r (changed x.entries gone o) lit unlit x new before after) (sym is) told)
+    subst (λ (z : spec.PlainIndex). spec.HasTold r (changed z.entries gone came) lit unlit z new before after) same
+    (subst (λ o. spec.HasTold r (changed x.entries gone o) lit unlit x new before after) (sym is) told)
 
 pub leave_only-requires-clause-ready : goal.leave_only-requires-clause-ready
 leave_only-requires-clause-ready c = asked (seen c.self.inside.core) c.args.self.now c.args.gone.now c.args.came None c.args.lit.now c.args.unlit.now c.self.view_is c.in-None.is c.requires.ready
 
 pub leave_and_come-requires-clause-ready : goal.leave_and_come-requires-clause-ready
-leave_and_come-requires-clause-ready c = asked (seen c.self.inside.core) c.args.self.now c.args.gone.now c.args.came (Some c.in-Some.comer) c.args.lit.now c.args.unlit.now c.self.view_is c.in-Some.is c.requires.ready
+leave_and_come-requires-clause-ready c = asked (seen c.self.inside.core) c.args.self.now c.args.gone.now c.args.came
+    (Some c.in-Some.comer) c.args.lit.now c.args.unlit.now c.self.view_is c.in-Some.is c.requires.ready
 
 pub returns-in-None-clause-told : goal.returns-in-None-clause-told
 returns-in-None-clause-told c =
-    answered c.leave_only.result (seen c.self.inside.core) c.args.self.now (seen c.leave_only.new.self) c.args.gone.now c.args.came None c.args.lit.now c.args.unlit.now c.args.tally.now c.leave_only.new.tally c.self.view_is c.in-None.is c.leave_only.ensures.told
+    answered c.leave_only.result (seen c.self.inside.core) c.args.self.now (seen c.leave_only.new.self) c.args.gone.now
+    c.args.came None c.args.lit.now c.args.unlit.now c.args.tally.now c.leave_only.new.tally c.self.view_is
+    c.in-None.is c.leave_only.ensures.told
 
 pub returns-in-Some-clause-told : goal.returns-in-Some-clause-told
 returns-in-Some-clause-told c =
-    answered c.leave_and_come.result (seen c.self.inside.core) c.args.self.now (seen c.leave_and_come.new.self) c.args.gone.now c.args.came (Some c.in-Some.comer) c.args.lit.now c.args.unlit.now c.args.tally.now c.leave_and_come.new.tally c.self.view_is c.in-Some.is c.leave_and_come.ensures.told
+    answered c.leave_and_come.result (seen c.self.inside.core) c.args.self.now (seen c.leave_and_come.new.self)
+    c.args.gone.now c.args.came (Some c.in-Some.comer) c.args.lit.now c.args.unlit.now c.args.tally.now
+    c.leave_and_come.new.tally c.self.view_is c.in-Some.is c.leave_and_come.ensures.told
 
 pub returns-in-None-clause-sure : goal.returns-in-None-clause-sure
 returns-in-None-clause-sure c = λ none nacks.
     let es = c.self.inside.core.entries.items in
     let all = subst (λ (x : spec.PlainIndex). All (IsNackOf (nacks_among c.args.gone.now x.entries)) c.args.lit.now) (sym c.self.view_is) nacks in
-    c.leave_only.ensures.sure (nacks_named (λ k. spec.is_named c.self.inside.core.flags.entries (spec.slot_of_nack k)) (λ l. spec.is_named c.self.inside.core.flags.entries (Waiters l)) (λ k. Rattle.std.proofs.Common.refl) (nacks_among c.args.gone.now es) c.args.lit.now
+    c.leave_only.ensures.sure (nacks_named (λ k. spec.is_named c.self.inside.core.flags.entries (spec.slot_of_nack k))
+    (λ l. spec.is_named c.self.inside.core.flags.entries (Waiters l)) (λ k. Rattle.std.proofs.Common.refl)
+    (nacks_among c.args.gone.now es) c.args.lit.now
     (nacks_left (λ k. spec.is_named c.self.inside.core.flags.entries (spec.slot_of_nack k)) (λ e. is_among c.args.gone.now e.thread) es c.self.invariant.0.named) all)
 
 pub returns-in-None-clause-cost : goal.returns-in-None-clause-cost

@@ -25,7 +25,9 @@ loop-wait-preserved c =
     let ss = map slot_in c.args.waits.now in
     let i = c.loop-wait.wait-index in
     record {
-      done = one_more (stands.HasCome c.args.tid) (come_twice c.args.tid) (stand_at c.args.self.now) (stand_at c.loop-wait.self) (stand_at c.come_of.new.self) (λ k. is_slot k c.slot.result) (λ k. has_slot k (take i ss)) (λ k. has_slot k (take (i + 1) ss))
+      done = one_more (stands.HasCome c.args.tid) (come_twice c.args.tid) (stand_at c.args.self.now)
+          (stand_at c.loop-wait.self) (stand_at c.come_of.new.self) (λ k. is_slot k c.slot.result)
+          (λ k. has_slot k (take i ss)) (λ k. has_slot k (take (i + 1) ss))
           (λ k. waits_more (is_slot k) c.args.waits.now i c.slot.result _ c.loop-wait-test.true c.slot.ensures) c.come_of.ensures.here c.come_of.ensures.elsewhere c.loop-wait.invariant.done;
       cost = λ digits few.
           let before = c.loop-wait.invariant.cost digits few in
@@ -42,8 +44,12 @@ returns-clause-lanes c k =
     let tid = c.args.tid in
     let lane = lane_at c.args.self.now k in
     decide (has_slot k (take c.loop-wait.wait-index ss))
-    (λ done. (c.loop-wait.invariant.done.0 k done).places ∙ joined_run tid (late_at c.args.self.now k) lane (c.requires.sorted k) (c.requires.new k) ∙ ap (λ ls. with_run tid ls lane) (c.requires.late k))
-    (λ left. ap stands.places_in (c.loop-wait.invariant.done.1 k left) ∙ sym (with_none tid lane (c.requires.sorted k) (c.requires.new k)) ∙ ap (λ ls. with_run tid ls lane) (sym (no_leaves k 0 ss (sym (ap (has_slot k) all) ∙ left))))
+    (λ done. (c.loop-wait.invariant.done.0 k done).places
+    ∙ joined_run tid (late_at c.args.self.now k) lane (c.requires.sorted k) (c.requires.new k)
+    ∙ ap (λ ls. with_run tid ls lane) (c.requires.late k))
+    (λ left. ap stands.places_in (c.loop-wait.invariant.done.1 k left)
+    ∙ sym (with_none tid lane (c.requires.sorted k) (c.requires.new k))
+    ∙ ap (λ ls. with_run tid ls lane) (sym (no_leaves k 0 ss (sym (ap (has_slot k) all) ∙ left))))
 
 pub returns-clause-late : goal.returns-clause-late
 returns-clause-late c k =

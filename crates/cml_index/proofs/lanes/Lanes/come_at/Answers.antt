@@ -8,7 +8,9 @@ use Rattle.cml_index.proofs.lanes.Lanes.come_at.Goals as goal
 pub returns-in-Listed-clause-cost : goal.returns-in-Listed-clause-cost
 returns-in-Listed-clause-cost c digits few =
     let to : Listed c.in-Listed.row c.in-Listed.number ≡ spot_of c.args.slot = sym c.in-Listed.is ∙ c.spot.ensures in
-    let is : slice_get c.row_mut.result.now.items c.in-Listed.number ≡ stand_at c.args.self.now c.args.slot = ap (λ v. slice_get v.items c.in-Listed.number) c.row_mut.ensures.value ∙ ap (stand_in c.args.self.now) to in
+    let is : slice_get c.row_mut.result.now.items c.in-Listed.number
+    ≡ stand_at c.args.self.now c.args.slot = ap (λ v. slice_get v.items c.in-Listed.number)
+    c.row_mut.ensures.value ∙ ap (stand_in c.args.self.now) to in
     c.come_in.ensures.cost digits (subst (ComesWithin digits) (sym is) few)
 
 pub returns-in-Tick-clause-cost : goal.returns-in-Tick-clause-cost

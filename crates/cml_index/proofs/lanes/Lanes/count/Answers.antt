@@ -14,5 +14,6 @@ loop-wait-preserved c k =
     decide (is_slot k c.slot.result)
     (λ on. counted_more (stand_at c.args.self.now k) (stand_at c.loop-wait.self k) (stand_at c.count_of.new.self k) i (length (slot_leaves k i (drop i ss))) (length rest) (length (slot_leaves k 0 ss))
     (ap length (left ∙ ap (λ b. cond b (i ∷ rest) rest) on)) (c.loop-wait.invariant k) (c.count_of.ensures.here k on))
-    (λ off. counted_same (stand_at c.args.self.now k) (stand_at c.loop-wait.self k) (stand_at c.count_of.new.self k) i (length (slot_leaves k i (drop i ss))) (length rest) (length (slot_leaves k 0 ss))
+    (λ off. counted_same (stand_at c.args.self.now k) (stand_at c.loop-wait.self k) (stand_at c.count_of.new.self k) i
+    (length (slot_leaves k i (drop i ss))) (length rest) (length (slot_leaves k 0 ss))
     (ap length (left ∙ ap (λ b. cond b (i ∷ rest) rest) off)) (c.count_of.ensures.elsewhere k off) (c.loop-wait.invariant k))

@@ -7,4 +7,5 @@ use Rattle.cml_index.proofs.lanes.Lanes.count_of.Goals as goal
 
 pub returns-in-Some-clause-here : goal.returns-in-Some-clause-here
 returns-in-Some-clause-here c k e =
-    subst (λ j. stands.CountsOneMore (stand_at c.args.self.now j) (stand_at c.count_at.new.self j)) (sym (same_slot_is k c.in-Some.slot (sym (ap (is_slot k) c.in-Some.is) ∙ e))) c.count_at.ensures.here
+    subst (λ j. stands.CountsOneMore (stand_at c.args.self.now j) (stand_at c.count_at.new.self j))
+    (sym (same_slot_is k c.in-Some.slot (sym (ap (is_slot k) c.in-Some.is) ∙ e))) c.count_at.ensures.here

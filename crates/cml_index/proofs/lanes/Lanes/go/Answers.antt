@@ -17,7 +17,9 @@ loop-wait-preserved c =
     let ss = map slot_in c.args.waits.now in
     let i = c.loop-wait.wait-index in
     record {
-      done = one_more (stands.HasGone c.args.tid) (go_twice c.args.tid) (stand_at c.count.new.self) (stand_at c.loop-wait.self) (stand_at c.go_of.new.self) (λ k. is_slot k c.slot.result) (λ k. has_slot k (take i ss)) (λ k. has_slot k (take (i + 1) ss))
+      done = one_more (stands.HasGone c.args.tid) (go_twice c.args.tid) (stand_at c.count.new.self)
+          (stand_at c.loop-wait.self) (stand_at c.go_of.new.self) (λ k. is_slot k c.slot.result)
+          (λ k. has_slot k (take i ss)) (λ k. has_slot k (take (i + 1) ss))
           (λ k. waits_more (is_slot k) c.args.waits.now i c.slot.result _ c.loop-wait-test.true c.slot.ensures) c.go_of.ensures.here c.go_of.ensures.elsewhere c.loop-wait.invariant.done;
       cost = λ digits few.
           let before = c.loop-wait.invariant.cost digits few in
@@ -28,7 +30,9 @@ loop-wait-preserved c =
     }
 
 -- a lane from which this many leaves go
-gone : (tid : Tid) (going leaves : ℕ) (ps : List Place) → (0 < going → going ≡ leaves) → (0 < length ps → going ≡ leaves) → leaves ≡ length (filter (is_own tid) ps) → stands.after_going tid going ps ≡ others tid ps
+gone : (tid : Tid) (going leaves : ℕ) (ps : List Place) → (0 < going → going ≡ leaves)
+    → (0 < length ps → going ≡ leaves) → leaves ≡ length (filter (is_own tid) ps) → stands.after_going tid going ps
+    ≡ others tid ps
 gone tid zero leaves [] a b all = refl
 gone tid zero leaves (p ∷ ps) a b all = let none : zero ≡ leaves = b (omega arith) in sym (others_all tid (p ∷ ps) (sym all ∙ sym none))
 gone tid (suc going) leaves ps a b all = ap (λ t. cond t (others tid ps) ps) (some going)
@@ -43,8 +47,13 @@ returns-clause-lanes c k =
     let tid = c.args.tid in
     let lane = lane_at c.args.self.now k in
     decide (has_slot k (take c.loop-wait.wait-index ss))
-    (λ done. (c.loop-wait.invariant.done.0 k done).places ∙ ap (stands.after_going tid (going_at c.count.new.self k)) (c.count.ensures.same k) ∙ gone tid (going_at c.count.new.self k) (length (slot_leaves k 0 ss)) lane (c.count.ensures.going k) (c.count.ensures.made k) (c.requires.all k))
-    (λ left. ap stands.places_in (c.loop-wait.invariant.done.1 k left) ∙ c.count.ensures.same k ∙ sym (others_all tid lane (sym (c.requires.all k) ∙ ap length (no_leaves k 0 ss (sym (ap (has_slot k) all) ∙ left)))))
+    (λ done. (c.loop-wait.invariant.done.0 k done).places
+    ∙ ap (stands.after_going tid (going_at c.count.new.self k)) (c.count.ensures.same k)
+    ∙ gone tid (going_at c.count.new.self k) (length (slot_leaves k 0 ss)) lane (c.count.ensures.going k)
+    (c.count.ensures.made k) (c.requires.all k))
+    (λ left. ap stands.places_in (c.loop-wait.invariant.done.1 k left) ∙ c.count.ensures.same k
+    ∙ sym (others_all tid lane (sym (c.requires.all k)
+    ∙ ap length (no_leaves k 0 ss (sym (ap (has_slot k) all) ∙ left)))))
 
 pub returns-clause-going : goal.returns-clause-going
 returns-clause-going c k =
@@ -52,7 +61,9 @@ returns-clause-going c k =
     let all : take c.loop-wait.wait-index ss ≡ ss = waits_all c.args.waits.now c.loop-wait.wait-index c.loop-wait-test.false in
     decide (has_slot k (take c.loop-wait.wait-index ss))
     (λ done. (c.loop-wait.invariant.done.0 k done).going)
-    (λ left. ap stands.going_in (c.loop-wait.invariant.done.1 k left) ∙ none (going_at c.count.new.self k) (length (slot_leaves k 0 ss)) (c.count.ensures.going k) (ap length (no_leaves k 0 ss (sym (ap (has_slot k) all) ∙ left))))
+    (λ left. ap stands.going_in (c.loop-wait.invariant.done.1 k left)
+    ∙ none (going_at c.count.new.self k) (length (slot_leaves k 0 ss)) (c.count.ensures.going k)
+    (ap length (no_leaves k 0 ss (sym (ap (has_slot k) all) ∙ left))))
   where
     none : (going leaves : ℕ) → (0 < going → going ≡ leaves) → leaves ≡ 0 → going ≡ 0
     none zero leaves a e = refl

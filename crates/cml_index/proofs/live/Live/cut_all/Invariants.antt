@@ -9,5 +9,6 @@ abbrev pub invariant-loop-wait : goal.invariant-loop-wait
 invariant-loop-wait l = record {
   was : (n : PairedId) → spec.have_side n (drop l.wait-index (map slot_in l.waits)) ≡ false → spec.is_in l.self n ≡ spec.is_live l.lanes n;
   over : (n : PairedId) → spec.is_live l.lanes n ≡ true → spec.is_in l.self n ≡ true;
+  counted : (n : PairedId) → spec.have_side n (drop l.wait-index (map slot_in l.waits)) ≡ false → spec.HasItsCount l.lanes l.self n;
   places : (n : PairedId) → spec.HasPlace l.fn.self n → spec.HasPlace l.self n;
 }

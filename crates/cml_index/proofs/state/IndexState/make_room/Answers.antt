@@ -7,7 +7,9 @@ use Rattle.cml_index.proofs.state.IndexState.make_room.Goals as goal
 pub returns-clause-indexed : goal.returns-clause-indexed
 returns-clause-indexed c =
     let s = c.make_places.new.self in
-    still_indexed s.entries.items s.lanes c.make_room.new.self s.live s.live s.flags.entries s.flags.entries s.leaves s.lit c.make_places.ensures.indexed c.make_room.ensures.same c.make_room.ensures.going (λ n. refl) (record { same = λ l. refl; named = λ k h. h })
+    still_indexed s.entries.items s.lanes c.make_room.new.self s.live s.live s.flags.entries s.flags.entries s.leaves
+    s.crossing s.lit c.make_places.ensures.indexed c.make_room.ensures.same c.make_room.ensures.going (λ n. refl)
+    (λ n. refl) (record { same = λ l. refl; named = λ k h. h })
 
 pub returns-clause-room : goal.returns-clause-room
 returns-clause-room c =

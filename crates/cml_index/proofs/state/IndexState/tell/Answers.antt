@@ -38,7 +38,9 @@ returns-then-lit-clause-indexed c =
     let waiters : c.len-waiters.result ≡ length (lane_of spec.slot_of (Waiters c.args.light) os) =
     c.len-waiters.ensures ∙ ap length (c.requires.indexed.placed (Waiters c.args.light)) in
     let many = retold_lit c.args.light c.args.lit old new c.flip.result c.if-lit.true c.if-flip.true c.flip.ensures.changed c.flip.ensures.told os in
-    told_indexed c.args.self.now.entries.items c.args.self.now.lanes c.args.self.now.live c.args.self.now.flags.entries c.flip.new.flags.entries c.args.self.now.leaves c.args.self.now.lit (c.args.self.now.lit + c.len-waiters.result) c.requires.indexed
+    told_indexed c.args.self.now.entries.items c.args.self.now.lanes c.args.self.now.live c.args.self.now.flags.entries
+    c.flip.new.flags.entries c.args.self.now.leaves c.args.self.now.crossing c.args.self.now.lit
+    (c.args.self.now.lit + c.len-waiters.result) c.requires.indexed
     (omega (arith, waiters, many, c.requires.indexed.alone)) c.flip.ensures.kept
 
 pub returns-else-lit-clause-indexed : goal.returns-else-lit-clause-indexed
@@ -49,7 +51,9 @@ returns-else-lit-clause-indexed c =
     let waiters : c.len-waiters.result ≡ length (lane_of spec.slot_of (Waiters c.args.light) os) =
     c.len-waiters.ensures ∙ ap length (c.requires.indexed.placed (Waiters c.args.light)) in
     let many = retold_unlit c.args.light c.args.lit old new c.flip.result c.if-lit.false c.if-flip.true c.flip.ensures.changed c.flip.ensures.told os in
-    told_indexed c.args.self.now.entries.items c.args.self.now.lanes c.args.self.now.live c.args.self.now.flags.entries c.flip.new.flags.entries c.args.self.now.leaves c.args.self.now.lit (c.args.self.now.lit - c.len-waiters.result) c.requires.indexed
+    told_indexed c.args.self.now.entries.items c.args.self.now.lanes c.args.self.now.live c.args.self.now.flags.entries
+    c.flip.new.flags.entries c.args.self.now.leaves c.args.self.now.crossing c.args.self.now.lit
+    (c.args.self.now.lit - c.len-waiters.result) c.requires.indexed
     (omega (arith, waiters, many, c.requires.indexed.alone)) c.flip.ensures.kept
 
 pub returns-else-flip-clause-indexed : goal.returns-else-flip-clause-indexed
@@ -57,5 +61,9 @@ returns-else-flip-clause-indexed c =
     let os = offers_of c.args.self.now.entries.items in
     let old = spec.told c.args.self.now.flags.entries in
     let new = spec.told c.flip.new.flags.entries in
-    told_indexed c.args.self.now.entries.items c.args.self.now.lanes c.args.self.now.live c.args.self.now.flags.entries c.flip.new.flags.entries c.args.self.now.leaves c.args.self.now.lit c.args.self.now.lit c.requires.indexed
-    (c.requires.indexed.alone ∙ sym (ap length (told_same old new (retold_same c.args.light c.args.lit old new c.flip.result c.if-flip.false c.flip.ensures.changed c.flip.ensures.told) os))) c.flip.ensures.kept
+    told_indexed c.args.self.now.entries.items c.args.self.now.lanes c.args.self.now.live c.args.self.now.flags.entries
+    c.flip.new.flags.entries c.args.self.now.leaves c.args.self.now.crossing c.args.self.now.lit c.args.self.now.lit
+    c.requires.indexed
+    (c.requires.indexed.alone ∙ sym (ap length
+    (told_same old new (retold_same c.args.light c.args.lit old new c.flip.result c.if-flip.false
+    c.flip.ensures.changed c.flip.ensures.told) os))) c.flip.ensures.kept

@@ -9,7 +9,9 @@ use Rattle.cml_index.specs.Slots.{late_at}
 use Rattle.cml_index.proofs.state.IndexState.tell_and_leave.Goals as goal
 
 pub tell_all-requires-2-clause-there : goal.tell_all-requires-2-clause-there
-tell_all-requires-2-clause-there c = λ on. Every-weaker (λ l. spec.is_named c.args.self.now.flags.entries (Waiters l)) (λ l. spec.is_named c.tell_all.new.self.flags.entries (Waiters l)) c.args.lit.now (λ l h. c.tell_all.ensures.kept (Waiters l) h) c.requires.named
+tell_all-requires-2-clause-there c = λ on. Every-weaker (λ l. spec.is_named c.args.self.now.flags.entries (Waiters l))
+    (λ l. spec.is_named c.tell_all.new.self.flags.entries (Waiters l)) c.args.lit.now
+    (λ l h. c.tell_all.ensures.kept (Waiters l) h) c.requires.named
 
 pub leave_all-requires-clause-there : goal.leave_all-requires-clause-there
 leave_all-requires-clause-there c = record {

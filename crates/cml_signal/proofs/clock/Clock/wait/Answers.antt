@@ -13,4 +13,6 @@ invariant_of-self-2 c =
     rw c.in_ok-insert.ensures.entries (All-values-insert_entry nat_cmp c.args.tick (c.leaves-leaves.result + 1) (λ n. 0 < n) c.self.inside.waited.entries c.self.invariant more)
 
 pub returns-clause-ok : goal.returns-clause-ok
-returns-clause-ok c = λ t. rw (← c.self.view_is) (adds_leaf c.self.inside.waited c.insert.new.self c.args.tick c.leaves-leaves.result (rw (← c.self.view_is) at c.leaves-leaves.ensures) c.in_ok-insert.ensures.updates.0 t)
+returns-clause-ok c = λ t. rw (← c.self.view_is)
+    (adds_leaf c.self.inside.waited c.insert.new.self c.args.tick c.leaves-leaves.result
+    (rw (← c.self.view_is) at c.leaves-leaves.ensures) c.in_ok-insert.ensures.updates.0 t)

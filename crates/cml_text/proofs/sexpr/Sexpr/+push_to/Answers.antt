@@ -16,7 +16,8 @@ loop-form-preserved t c = (
         (w.in_ok-push-in-List-2.ensures.bytes ∙ ap (λ e. string_bytes c.loop-form.text ++ e) (w.in_ok-push-in-List-2.ensures.ascii (omega arith)))
         (c.in_ok-push_to-in-List.ensures ∙ ap (λ s. string_bytes s ++ printed_form c.form-item.result) w.text-is)
     | else-not-is_first w ↦
-        first_member _ _ _ c.deref-form-items.result.now c.loop-form.form-index c.form-item.result (sym c.loop-form.invariant.0 ∙ (search rules)) c.loop-form-test.true c.form-item.is c.loop-form.invariant.1
+        first_member _ _ _ c.deref-form-items.result.now c.loop-form.form-index c.form-item.result
+        (sym c.loop-form.invariant.0 ∙ (search rules)) c.loop-form-test.true c.form-item.is c.loop-form.invariant.1
         (c.in_ok-push_to-in-List.ensures ∙ ap (λ s. string_bytes s ++ printed_form c.form-item.result) w.text-is)
   ],
 )

@@ -1,0 +1,83 @@
+use Rattle.std.proofs.Common.{◌≡◌, ◌++◌, ◌∷◌, [], Option, ap, sym, ◌∙◌, subst}
+use Rattle.cml_step.specs.declared.call.Call.{Call}
+use Rattle.cml_step.specs.declared.entry.Entry.{Entry}
+use Rattle.cml_step.specs.declared.entry.Entry.TheVariants as entry
+use Rattle.cml_step.specs.declared.journal.Journal.{Journal}
+use Rattle.cml_step.specs.Calls.{text_of}
+use Rattle.cml_step.specs.Machines.{PlainHeld, plain_held}
+use Rattle.cml_step.specs.Shared.{topped, called}
+use Rattle.cml_step.specs.Slices.{GoesIn, sliced}
+use Rattle.cml_step.specs.Stacks.{StackFits, term_of}
+use Rattle.cml_step.specs.Terms.{Term}
+use Rattle.cml_step.specs.Undone.{stood, stack_before}
+use Rattle.cml_step.proofs.SliceLemmas.{slice_then_asks}
+use Rattle.cml_step.proofs.still.begin_slice.Goals as goal
+
+pub still_steps-requires : goal.still_steps-requires
+still_steps-requires c =
+    let s = c.stack.inside in
+    let st : c.args.stack.now ≡ stood s.below c.in-Some.call s.over = sym c.stack.view_is ∙ ap (λ (o : Option Call). topped (called s.below o) s.over) c.in-Some.is in
+    subst (StackFits c.args.program.now) st c.requires.fits
+
+pub returns-then-asks_over-clause-begins : goal.returns-then-asks_over-clause-begins
+returns-then-asks_over-clause-begins c =
+    let p = c.args.program.now in
+    let s = c.stack.inside in
+    let hs = s.below in
+    let k = c.in-Some.call in
+    let d = c.still_steps.new.call in
+    let n = c.in-Some-still_steps.done in
+    let by = c.in-Some-still_steps.ensures in
+    let on = c.if-asks_over.true in
+    let all = hs ++ plain_held (entry.Call d) ∷ [] in
+    let event = c.asks_over.ensures.event on in
+    let stands = c.asks_over.ensures.fits on p all by.fits in
+    let st : c.args.stack.now ≡ stood hs k s.over = sym c.stack.view_is ∙ ap (λ (o : Option Call). topped (called hs o) s.over) c.in-Some.is in
+    record {
+      noted = record { below = hs; top = d; event = event.0; asked = event.1; now_is = event.2 all; before_is = st ∙ sym by.undone };
+      agrees = stands.1;
+      fits = stands.0;
+      meant = λ self. ap (λ ks. sliced (text_of p) self (term_of p ks)) st
+          ∙ slice_then_asks (text_of p) self n (term_of p (stood hs k s.over)) (term_of p (stood hs d c.still_steps.new.over)) (term_of p (stood hs d c.asks_over.new.over)) c.asks_over.new.asked
+          (by.goes self) (c.asks_over.ensures.within on) (c.asks_over.ensures.asks on p self all) (c.asks_over.ensures.something on);
+    }
+
+pub returns-in-Ok-clause-begins : goal.returns-in-Ok-clause-begins
+returns-in-Ok-clause-begins c =
+    let p = c.args.program.now in
+    let s = c.stack.inside in
+    let hs = s.below in
+    let k = c.in-Some.call in
+    let d = c.still_steps.new.call in
+    let n = c.in-Some-still_steps.done in
+    let by = c.in-Some-still_steps.ensures in
+    let stays = c.asks_over.ensures.stays c.if-asks_over.false in
+    let st : c.args.stack.now ≡ stood hs k s.over = sym c.stack.view_is ∙ ap (λ (o : Option Call). topped (called hs o) s.over) c.in-Some.is in
+    let same : stood hs d c.asks_over.new.over ≡ stood hs d c.still_steps.new.over = ap (stood hs d) stays.0 in
+    record {
+      spare_is = c.in-Ok.ensures.ok ∙ by.undone ∙ sym st;
+      asks = stays.1 ∙ c.requires.nothing;
+      fits = subst (StackFits p) (sym same) by.fits;
+      within = by.within;
+      goes = λ self.
+          subst (λ (t : Term). GoesIn (text_of p) self n t (term_of p (stood hs d c.asks_over.new.over))) (ap (term_of p) (sym st))
+          (subst (λ (t : Term). GoesIn (text_of p) self n (term_of p (stood hs k s.over)) t) (ap (term_of p) (sym same)) (by.goes self));
+    }
+
+pub returns-in-Err-clause-err : goal.returns-in-Err-clause-err
+returns-in-Err-clause-err c =
+    let s = c.stack.inside in
+    let hs = s.below in
+    let k = c.in-Some.call in
+    let d = c.still_steps.new.call in
+    let by = c.in-Some-still_steps.ensures in
+    let stays = c.asks_over.ensures.stays c.if-asks_over.false in
+    let back = c.put_back.ensures in
+    let j = c.copy_before.new.journal in
+    let st : c.args.stack.now ≡ stood hs k s.over = sym c.stack.view_is ∙ ap (λ (o : Option Call). topped (called hs o) s.over) c.in-Some.is in (
+      ap (λ (o : Option Entry). stood hs c.put_back.new.call o) back.over
+          ∙ ap (λ (h : PlainHeld). topped (hs ++ h ∷ []) j.over) back.call
+          ∙ ap (λ (x : Journal). stack_before hs x d) c.in-Err.ensures.err
+          ∙ by.undone ∙ sym st,
+      stays.1 ∙ c.requires.nothing,
+    )

@@ -1,0 +1,156 @@
+//! What a slice notes of the call on top, so that it can be undone.
+
+ghost use Rattle.std.specs.Prelude.{◌≡◌, ◌<◌, length, true, false, None, [], slice_set};
+ghost use Rattle.cml_step.specs.Calls.{slots_with, WaitFits};
+ghost use Rattle.cml_step.specs.Machines.{plain_held};
+ghost use Rattle.cml_step.specs.Undone.{unset as plain_unset, call_before, HasHead, HasNotes};
+
+use crate::call::{Call, Wait};
+use crate::entry::Entry;
+use cml_value::Value;
+use std::alloc::Global;
+use std::mem::replace;
+
+/// A slot that was set, and what it had.
+#[derive(Drop)]
+pub(crate) struct Noted {
+    pub(crate) slot: usize,
+    pub(crate) value: Value,
+}
+
+/// What is noted of a call: where it stood, what it waited for, where it had asked last, how many slots it had, what each had that was set
+/// (the last set comes last), and what stood over it.
+#[derive(Drop)]
+pub(crate) struct Journal {
+    pub(crate) at: usize,
+    pub(crate) wait: Wait,
+    pub(crate) asked: usize,
+    pub(crate) count: usize,
+    pub(crate) sets: Vec<Noted>,
+    pub(crate) over: Option<Entry>,
+}
+
+// Sets a slot, if it is there.
+#[tactic(auto, using(crate::proofs::UndoLemmas::set_past))]
+fn put_at(slots: &mut Vec<Value>, slot: usize, value: Value)
+    ensures { slots.new.items ≡ slice_set slots.old.items slot value }
+{
+    if slot >= slots.len() {
+        drop(value);
+        return;
+    }
+    slots[slot] = value;
+}
+
+// Gives each slot that was set what it had, the last set first.
+fn unset(slots: &mut Vec<Value>, sets: &mut Vec<Noted>)
+    ensures { slots.new.items ≡ plain_unset sets.old.items slots.old.items }
+{
+    while let Some(noted) = sets.pop() {
+        let Noted { slot, value } = noted;
+        put_at(slots, slot, value);
+    }
+}
+
+/// Puts the value into the slot, and notes what that had. Without memory nothing has changed.
+#[inline(always)]
+pub(crate) fn set_slot(
+    slots: &mut Vec<Value>,
+    slot: usize,
+    value: Value,
+    sets: &mut Vec<Noted>,
+) -> bool
+    requires { slot < length slots.old.items }
+    ensures set { result ≡ true → slots.new.items ≡ slice_set slots.old.items slot value }
+    ensures noted { plain_unset sets.new.items slots.new.items
+        ≡ plain_unset sets.old.items slots.old.items }
+    ensures count { length slots.new.items ≡ length slots.old.items }
+    ensures stays { result ≡ false → slots.new ≡ slots.old }
+{
+    let Ok(()) = sets.reserve(1) else {
+        drop(value);
+        return false;
+    };
+    let had = replace(&mut slots[slot], value);
+    sets.push_reserved(Noted { slot, value: had });
+    true
+}
+
+impl Journal {
+    /// Nothing is noted.
+    pub(crate) fn new(alloc: Global) -> Journal
+        ensures sets { result.sets.items ≡ [] }
+        ensures over { result.over ≡ None }
+    {
+        Journal {
+            at: 0,
+            wait: Wait::Runs,
+            asked: 0,
+            count: 0,
+            sets: Vec::new(alloc),
+            over: None,
+        }
+    }
+
+    /// Lets go what is noted.
+    pub(crate) fn clear(&mut self)
+        ensures sets { self.new.sets.items ≡ [] }
+        ensures over { self.new.over ≡ None }
+    {
+        self.sets.clear();
+        self.over = None;
+    }
+
+    /// BeginsSlice with this call, of which nothing was set yet.
+    pub(crate) fn begin(&mut self, call: &Call)
+        ensures head { HasHead self.new call.now }
+        ensures sets { self.new.sets.items ≡ [] }
+        ensures over { self.new.over ≡ None }
+    {
+        self.clear();
+        self.at = call.at;
+        self.wait = call.wait;
+        self.asked = call.asked;
+        self.count = call.slots.len();
+    }
+
+    /// Puts back into the call, and over it, what is noted. It takes no memory.
+    pub(crate) fn put_back(&mut self, over: &mut Option<Entry>, call: &mut Call)
+        ensures over { over.new ≡ self.old.over }
+        ensures call { plain_held (Entry.Call call.new) ≡ call_before self.old call.old }
+    {
+        *over = self.over.take();
+        call.at = self.at;
+        call.wait = self.wait;
+        call.asked = self.asked;
+        call.slots.truncate(self.count);
+        unset(&mut call.slots, &mut self.sets);
+    }
+}
+
+/// Gives the call the value for which it waits, and notes what its slot had. Without memory nothing has changed.
+pub(crate) fn fill_noted(call: &mut Call, value: Value, sets: &mut Vec<Noted>) -> bool
+    requires waits { WaitFits call.old.wait (length call.old.slots.items)
+        (length call.old.slots.items) }
+    ensures slots { result ≡ true → call.new.slots.items
+        ≡ slots_with call.old.wait value call.old.slots.items }
+    ensures runs { result ≡ true → call.new.wait ≡ Wait.Runs }
+    ensures place { (call.new.func ≡ call.old.func) × (call.new.at ≡ call.old.at) }
+    ensures noted { HasNotes sets.old.items call.old sets.new.items call.new }
+    ensures stays { result ≡ false → call.new ≡ call.old }
+{
+    match call.wait {
+        Wait::Gives(slot) => {
+            if !set_slot(&mut call.slots, slot, value, sets) {
+                return false;
+            }
+            call.wait = Wait::Runs;
+            true
+        }
+        Wait::Runs | Wait::Drops => {
+            drop(value);
+            call.wait = Wait::Runs;
+            true
+        }
+    }
+}
