@@ -13,31 +13,9 @@ use Rattle.clap.specs.Kinds.{or_else, range_kinds, values_kinds}
 use Rattle.clap.specs.Takes.{value_passes}
 use Rattle.clap.specs.Values.{is_request, refused_kind}
 use Rattle.clap.specs.ValueTests.{accepts}
-use Rattle.clap.specs.Walk.{
-  Held,
-  Row,
-  Rule,
-  Text,
-  action_of,
-  arg_by_id,
-  at_row,
-  default_rows,
-  has_row,
-  is_empty,
-  more_values,
-  most_values,
-  reacted,
-  reading_by,
-  settled,
-  settled_rows,
-  used,
-  used_as,
-  used_by_id,
-  values_or_missing,
-  with_default,
-  with_values,
-  without,
-}
+use Rattle.clap.specs.Walk.{Held, Row, Rule, Text, action_of, arg_by_id, at_row, default_rows, has_row, is_empty}
+use Rattle.clap.specs.Walk.{more_values, most_values, reacted, reading_by, settled, settled_rows, used, used_as}
+use Rattle.clap.specs.Walk.{used_by_id, values_or_missing, with_default, with_values, without}
 use Rattle.clap.specs.declared.builder.action.ArgAction.{ArgAction}
 use Rattle.clap.specs.declared.builder.action.ArgAction.TheVariants as action
 use Rattle.clap.specs.declared.builder.value_parser.Reading.{Reading}

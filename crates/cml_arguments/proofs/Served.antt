@@ -1,33 +1,7 @@
 -- What an argument that was served gives.
-use Rattle.std.proofs.Common.{
-  ◌≡◌,
-  ◌&&◌,
-  ◌≤◌,
-  ◌||◌,
-  ◌++◌,
-  ap,
-  ap₂,
-  ℕ,
-  Bool,
-  codes,
-  cond,
-  true,
-  false,
-  refl,
-  sym,
-  subst,
-  arith,
-  List,
-  [],
-  ◌∷◌,
-  Option,
-  Some,
-  None,
-  IfSome,
-  is_some,
-  option_map,
-  true≢false,
-}
+use Rattle.std.proofs.Common.{◌≡◌, ◌&&◌, ◌≤◌, ◌||◌, ◌++◌, ap, ap₂, ℕ, Bool, codes, cond, true, false, refl, sym}
+use Rattle.std.proofs.Common.{subst, arith, List, [], ◌∷◌, Option, Some, None, IfSome, is_some, option_map}
+use Rattle.std.proofs.Common.{true≢false}
 use Rattle.std.specs.Prelude.{Ok, Err, Result, option_and_then, slice_get, unwrap_or}
 use Rattle.std.specs.Int.{IsInRange}
 use Rattle.std.specs.List.{find, list_all}
@@ -45,25 +19,9 @@ use Rattle.clap.specs.declared.builder.value_parser.Reading.TheVariants.{AsWritt
 use Rattle.clap.specs.declared.builder.value_parser.ValueParser.TheVariants as vp
 use Rattle.clap.proofs.ValueTestLemmas.{Accepts-accepts, accepts-Accepts}
 use Rattle.clap.proofs.WalkLemmas.{both}
-use Rattle.cml_arguments.specs.Words.{
-  any_rule,
-  count_rule,
-  depth_rule,
-  file_rule,
-  flag_rule,
-  is_as_written,
-  is_flagged,
-  has_first_value,
-  is_served,
-  option_number,
-  number_rule,
-  runs_rule,
-  workers_rule,
-  IsCount,
-  IsDepth,
-  IsRuns,
-  IsWorkers,
-}
+use Rattle.cml_arguments.specs.Words.{any_rule, count_rule, depth_rule, file_rule, flag_rule, is_as_written}
+use Rattle.cml_arguments.specs.Words.{is_flagged, has_first_value, is_served, option_number, number_rule, runs_rule}
+use Rattle.cml_arguments.specs.Words.{workers_rule, IsCount, IsDepth, IsRuns, IsWorkers}
 
 pub as_written : (how : Reading) → is_as_written how ≡ true → how ≡ AsWritten
 as_written AsWritten plain = refl

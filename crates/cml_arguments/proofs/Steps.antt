@@ -6,75 +6,17 @@ use Rattle.std.specs.List.{fold}
 use Rattle.std.specs.Str.{bytes_eq, chars}
 use Rattle.clap.specs.Lexer.{long_of, short_of}
 use Rattle.clap.specs.Words.{Kinds, Shape}
-use Rattle.clap.specs.Faults.{
-  bundle_fault,
-  bundle_step_fault,
-  flag_word_fault,
-  flags_fault,
-  long_fault,
-  option_fault,
-  other_fault,
-  positional_fault,
-  react_fault,
-  settle_fault,
-  short_fault,
-  step_fault,
-  stray_fault,
-  turn_fault,
-  walk_fault,
-  word_fault,
-}
+use Rattle.clap.specs.Faults.{bundle_fault, bundle_step_fault, flag_word_fault, flags_fault, long_fault}
+use Rattle.clap.specs.Faults.{option_fault, other_fault, positional_fault, react_fault, settle_fault, short_fault}
+use Rattle.clap.specs.Faults.{step_fault, stray_fault, turn_fault, walk_fault, word_fault}
 use Rattle.clap.specs.Kinds.{or_else}
-use Rattle.clap.specs.Walk.{
-  Held,
-  Names,
-  Outcome,
-  Rule,
-  Step,
-  Text,
-  Waiting,
-  Walk,
-  after_flag,
-  after_step,
-  arg_by_id,
-  arg_by_index,
-  arg_by_long,
-  arg_by_short,
-  attached_value,
-  bundle,
-  bundle_met,
-  bundle_step,
-  done,
-  flag_met,
-  idle,
-  is_pending,
-  long_met,
-  long_or_other,
-  next,
-  option,
-  option_met,
-  option_word,
-  plain,
-  plain_word,
-  positional,
-  reacted,
-  refused,
-  settled,
-  short_met,
-  short_or_plain,
-  subcommand,
-  subcommand_met,
-  subcommand_or_other,
-  takes_several,
-  takes_values,
-  to_positional,
-  trailing,
-  value,
-  waits,
-  walked,
-  walked_from,
-  word_met,
-}
+use Rattle.clap.specs.Walk.{Held, Names, Outcome, Rule, Step, Text, Waiting, Walk, after_flag, after_step}
+use Rattle.clap.specs.Walk.{arg_by_id, arg_by_index, arg_by_long, arg_by_short, attached_value, bundle, bundle_met}
+use Rattle.clap.specs.Walk.{bundle_step, done, flag_met, idle, is_pending, long_met, long_or_other, next, option}
+use Rattle.clap.specs.Walk.{option_met, option_word, plain, plain_word, positional, reacted, refused, settled}
+use Rattle.clap.specs.Walk.{short_met, short_or_plain, subcommand, subcommand_met, subcommand_or_other}
+use Rattle.clap.specs.Walk.{takes_several, takes_values, to_positional, trailing, value, waits, walked, walked_from}
+use Rattle.clap.specs.Walk.{word_met}
 use Rattle.clap.specs.declared.error.kind.ErrorKind.TheVariants.{DisplayHelp, InvalidSubcommand, TooManyValues}
 use Rattle.cml_arguments.proofs.Filled.{Each, IsFit, IsPlainRule, found_each, neither, reacted_fit, settled_fit}
 

@@ -1,44 +1,7 @@
 -- The ticks that light, and those that nobody waits for any more.
-use Rattle.std.proofs.Common.{
-  ◌≡◌,
-  ℕ,
-  ◌+◌,
-  ◌<◌,
-  ◌≤◌,
-  Bool,
-  true,
-  false,
-  ◌&&◌,
-  ◌||◌,
-  nat_eq,
-  nat_lt,
-  nat_le,
-  cond,
-  List,
-  [],
-  ◌∷◌,
-  ◌++◌,
-  length,
-  map,
-  refl,
-  ap,
-  sym,
-  ◌∙◌,
-  arith,
-  zero,
-  suc,
-  Option,
-  Some,
-  None,
-  Result,
-  Ok,
-  Err,
-  IfOk,
-  append_assoc,
-  drop,
-  add-one,
-  length-append,
-}
+use Rattle.std.proofs.Common.{◌≡◌, ℕ, ◌+◌, ◌<◌, ◌≤◌, Bool, true, false, ◌&&◌, ◌||◌, nat_eq, nat_lt, nat_le, cond}
+use Rattle.std.proofs.Common.{List, [], ◌∷◌, ◌++◌, length, map, refl, ap, sym, ◌∙◌, arith, zero, suc, Option, Some}
+use Rattle.std.proofs.Common.{None, Result, Ok, Err, IfOk, append_assoc, drop, add-one, length-append}
 use Rattle.std.specs.Prelude.{Contains, ◌↔◌}
 use Rattle.std.specs.List.{filter, cons_option}
 use Rattle.std.proofs.lemmas.Bool.Decides.{nat_tests}

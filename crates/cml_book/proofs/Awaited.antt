@@ -1,37 +1,7 @@
 -- How many leaves of pending threads wait for a tick.
-use Rattle.std.proofs.Common.{
-  ◌≡◌,
-  ℕ,
-  ◌+◌,
-  ◌*◌,
-  ◌<◌,
-  ◌≤◌,
-  Bool,
-  true,
-  false,
-  cond,
-  List,
-  [],
-  ◌∷◌,
-  ◌++◌,
-  length,
-  map,
-  refl,
-  ap,
-  sym,
-  ◌∙◌,
-  arith,
-  zero,
-  suc,
-  Option,
-  Some,
-  None,
-  take,
-  zero-add,
-  add-one,
-  length-take,
-  slice_index_or,
-}
+use Rattle.std.proofs.Common.{◌≡◌, ℕ, ◌+◌, ◌*◌, ◌<◌, ◌≤◌, Bool, true, false, cond, List, [], ◌∷◌, ◌++◌, length, map}
+use Rattle.std.proofs.Common.{refl, ap, sym, ◌∙◌, arith, zero, suc, Option, Some, None, take, zero-add, add-one}
+use Rattle.std.proofs.Common.{length-take, slice_index_or}
 use Rattle.std.specs.Option.{option_map}
 use Rattle.std.specs.Prelude.{slice_set, slice_get, All, Contains, IfSome, IfNone}
 use Rattle.std.proofs.lemmas.Bool.Decides.{nat_tests}

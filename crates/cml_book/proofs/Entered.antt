@@ -5,33 +5,10 @@ use Rattle.std.proofs.lemmas.List.{length-map, map-append}
 use Rattle.std.proofs.lemmas.List.Folds.{list_any-append}
 use Rattle.cml_value.specs.Value.{PlainBase, after_ticks, PlainFunction}
 use Rattle.cml_value.specs.Limits.{base_depth, base_nodes, function_depth, function_nodes, is_within, max_depth, max_nodes}
-use Rattle.cml_value.specs.Group.{
-  PlainGroup,
-  never,
-  leaf,
-  choose,
-  wrap,
-  scope,
-  PlainGroups,
-  no_groups,
-  groups_and,
-  groups,
-  PlainLeaf,
-  wrapped_by,
-  leaves,
-  leaves_of_all,
-  leaf_count,
-  bases,
-  PlainScope,
-  scopes,
-  scopes_from,
-  scopes_from_all,
-  group_depth,
-  groups_depth,
-  group_nodes,
-  groups_nodes,
-  group_fits,
-}
+use Rattle.cml_value.specs.Group.{PlainGroup, never, leaf, choose, wrap, scope, PlainGroups, no_groups, groups_and}
+use Rattle.cml_value.specs.Group.{groups, PlainLeaf, wrapped_by, leaves, leaves_of_all, leaf_count, bases}
+use Rattle.cml_value.specs.Group.{PlainScope, scopes, scopes_from, scopes_from_all, group_depth, groups_depth}
+use Rattle.cml_value.specs.Group.{group_nodes, groups_nodes, group_fits}
 use Rattle.cml_book.specs.Entering.{entered_base, entered, entered_all}
 use Rattle.cml_book.proofs.Walks.{bases_of_all, bases-groups_and, bases-wrap}
 

@@ -1,39 +1,7 @@
 -- What a book keeps after each kind of change.
-use Rattle.std.proofs.Common.{
-  ◌≡◌,
-  ◌≢◌,
-  ℕ,
-  ◌+◌,
-  Bool,
-  true,
-  false,
-  not,
-  ◌||◌,
-  nat_eq,
-  nat_lt,
-  cond,
-  List,
-  [],
-  ◌∷◌,
-  ◌++◌,
-  length,
-  map,
-  nat_le,
-  refl,
-  ap,
-  sym,
-  ◌∙◌,
-  arith,
-  zero,
-  suc,
-  Option,
-  Some,
-  None,
-  Result,
-  Ok,
-  Err,
-  slice_index_or,
-}
+use Rattle.std.proofs.Common.{◌≡◌, ◌≢◌, ℕ, ◌+◌, Bool, true, false, not, ◌||◌, nat_eq, nat_lt, cond, List, [], ◌∷◌}
+use Rattle.std.proofs.Common.{◌++◌, length, map, nat_le, refl, ap, sym, ◌∙◌, arith, zero, suc, Option, Some, None}
+use Rattle.std.proofs.Common.{Result, Ok, Err, slice_index_or}
 use Rattle.std.specs.Prelude.{All, slice_get, slice_set}
 use Rattle.std.specs.List.{filter, list_any}
 use Rattle.std.proofs.lemmas.Bool.Decides.{nat_tests}

@@ -1,39 +1,7 @@
 -- What commands on objects do to what a book keeps.
-use Rattle.std.proofs.Common.{
-  ◌≡◌,
-  ◌≢◌,
-  ℕ,
-  ◌<◌,
-  Bool,
-  true,
-  false,
-  nat_eq,
-  nat_lt,
-  cond,
-  ◌||◌,
-  List,
-  [],
-  ◌∷◌,
-  ◌++◌,
-  length,
-  length-set,
-  map,
-  refl,
-  ap,
-  sym,
-  ◌∙◌,
-  subst,
-  arith,
-  zero,
-  suc,
-  Option,
-  Some,
-  None,
-  Result,
-  Ok,
-  Err,
-  slice_set,
-}
+use Rattle.std.proofs.Common.{◌≡◌, ◌≢◌, ℕ, ◌<◌, Bool, true, false, nat_eq, nat_lt, cond, ◌||◌, List, [], ◌∷◌, ◌++◌}
+use Rattle.std.proofs.Common.{length, length-set, map, refl, ap, sym, ◌∙◌, subst, arith, zero, suc, Option, Some}
+use Rattle.std.proofs.Common.{None, Result, Ok, Err, slice_set}
 use Rattle.std.specs.Prelude.{OnOk, OnErr, slice_get, is_some, is_none, unwrap_or}
 use Rattle.std.specs.Option.{option_map_or}
 use Rattle.std.proofs.lemmas.List.{map-id, length-map}

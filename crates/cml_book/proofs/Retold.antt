@@ -1,36 +1,7 @@
 -- What a table knows of the lights after it was told of some, each as it is.
-use Rattle.std.proofs.Common.{
-  ◌≡◌,
-  ℕ,
-  ◌<◌,
-  Bool,
-  true,
-  false,
-  not,
-  ◌&&◌,
-  ◌||◌,
-  nat_eq,
-  cond,
-  List,
-  [],
-  ◌∷◌,
-  ◌++◌,
-  length,
-  map,
-  refl,
-  ap,
-  sym,
-  ◌∙◌,
-  arith,
-  zero,
-  suc,
-  Option,
-  Some,
-  None,
-  slice_index_or,
-  append_assoc,
-  drop,
-}
+use Rattle.std.proofs.Common.{◌≡◌, ℕ, ◌<◌, Bool, true, false, not, ◌&&◌, ◌||◌, nat_eq, cond, List, [], ◌∷◌, ◌++◌}
+use Rattle.std.proofs.Common.{length, map, refl, ap, sym, ◌∙◌, arith, zero, suc, Option, Some, None, slice_index_or}
+use Rattle.std.proofs.Common.{append_assoc, drop}
 use Rattle.std.specs.Prelude.{slice_get}
 use Rattle.std.specs.Option.{option_map}
 use Rattle.std.specs.List.{filter, list_any, cons_option}

@@ -1,34 +1,7 @@
 -- The scope at a place of a list.
-use Rattle.std.proofs.Common.{
-  ◌≡◌,
-  ℕ,
-  zero,
-  suc,
-  ◌+◌,
-  ◌<◌,
-  Bool,
-  true,
-  false,
-  cond,
-  List,
-  [],
-  ◌∷◌,
-  ◌++◌,
-  length,
-  drop,
-  map,
-  refl,
-  ap,
-  sym,
-  ◌∙◌,
-  arith,
-  Some,
-  slice_index_or,
-  append_assoc,
-  subst,
-  length-append,
-  ◌≤◌,
-}
+use Rattle.std.proofs.Common.{◌≡◌, ℕ, zero, suc, ◌+◌, ◌<◌, Bool, true, false, cond, List, [], ◌∷◌, ◌++◌, length}
+use Rattle.std.proofs.Common.{drop, map, refl, ap, sym, ◌∙◌, arith, Some, slice_index_or, append_assoc, subst}
+use Rattle.std.proofs.Common.{length-append, ◌≤◌}
 use Rattle.std.specs.Prelude.{slice_get, slice_set}
 use Rattle.std.specs.List.{filter}
 use Rattle.cml_value.specs.Group.{PlainScope, nacks_of, lies_outside}

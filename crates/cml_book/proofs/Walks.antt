@@ -4,29 +4,9 @@ use Rattle.std.specs.List.{list_all, list_any}
 use Rattle.std.proofs.lemmas.List.{map-append}
 use Rattle.std.proofs.lemmas.List.Folds.{list_all-append}
 use Rattle.cml_value.specs.Value.{PlainBase, PlainFunction}
-use Rattle.cml_value.specs.Group.{
-  PlainGroup,
-  never,
-  leaf,
-  choose,
-  wrap,
-  scope,
-  PlainGroups,
-  no_groups,
-  groups_and,
-  groups,
-  PlainLeaf,
-  wrapped_by,
-  leaves,
-  leaves_of_all,
-  leaf_count,
-  bases,
-  PlainScope,
-  scopes,
-  scopes_from,
-  scopes_from_all,
-  nacks_of,
-}
+use Rattle.cml_value.specs.Group.{PlainGroup, never, leaf, choose, wrap, scope, PlainGroups, no_groups, groups_and}
+use Rattle.cml_value.specs.Group.{groups, PlainLeaf, wrapped_by, leaves, leaves_of_all, leaf_count, bases}
+use Rattle.cml_value.specs.Group.{PlainScope, scopes, scopes_from, scopes_from_all, nacks_of}
 use Rattle.std.specs.Prelude.{slice_get, slice_set}
 use Rattle.cml_book.specs.Entering.{is_far}
 use Rattle.cml_book.specs.Sync.{with_each}

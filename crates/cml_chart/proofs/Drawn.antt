@@ -8,48 +8,16 @@ use Rattle.cml_chart.specs.declared.mark.Shape.TheVariants.{Head, Spawn, Arrow, 
 use Rattle.cml_chart.specs.Xml.{escaped_words, element}
 use Rattle.cml_chart.specs.Marks.{ChartMark, row_height}
 use Rattle.cml_chart.specs.Frames.{ChartFrame, frame_of, line_from_left, level_of, note_of}
-use Rattle.cml_chart.specs.Figures.{
-  PlainSpot,
-  words_text,
-  path_text,
-  title_text,
-  cover_text,
-  note_text,
-  across_text,
-  line_text,
-  has_sign,
-  sign_class,
-  arrow_head,
-  sign_path,
-  sign_text,
-  has_words,
-  words_class,
-  words_right,
-  words_down,
-  words_spot,
-  said_text,
-  parts_text,
-  mark_text,
-  life_of,
-  life_text,
-}
+use Rattle.cml_chart.specs.Figures.{PlainSpot, words_text, path_text, title_text, cover_text, note_text}
+use Rattle.cml_chart.specs.Figures.{across_text, line_text, has_sign, sign_class, arrow_head, sign_path, sign_text}
+use Rattle.cml_chart.specs.Figures.{has_words, words_class, words_right, words_down, words_spot, said_text}
+use Rattle.cml_chart.specs.Figures.{parts_text, mark_text, life_of, life_text}
 use Rattle.cml_chart.specs.Pictures.{declaration, style_rules, style_text, box_words, root_attributes, content_text, framed_text, picture_text}
 use Rattle.cml_chart.specs.WellFormed.{IsWellFormed, attribute_text}
 use Rattle.cml_chart.proofs.Pieces.{Pieces, pieces-append, pieces-ascii, pieces-decimal, pieces-escaped_words}
-use Rattle.cml_chart.proofs.Contents.{
-  Attributes,
-  attributes-and,
-  attributes-one,
-  attributes-none,
-  right_element,
-  Contents,
-  contents-none,
-  contents-append,
-  contents-pieces,
-  contents-flat_map,
-  contents-lone,
-  contents-element,
-}
+use Rattle.cml_chart.proofs.Contents.{Attributes, attributes-and, attributes-one, attributes-none, right_element}
+use Rattle.cml_chart.proofs.Contents.{Contents, contents-none, contents-append, contents-pieces, contents-flat_map}
+use Rattle.cml_chart.proofs.Contents.{contents-lone, contents-element}
 
 title-drawn : (title : List ℕ) → Contents (title_text title)
 unfolding title_text

@@ -1,36 +1,7 @@
 -- What was checked stays right when more names are declared.
-use Rattle.std.proofs.Common.{
-  ◌≡◌,
-  ℕ,
-  zero,
-  suc,
-  ◌+◌,
-  ◌<◌,
-  ◌≤◌,
-  Bool,
-  true,
-  false,
-  ◌&&◌,
-  List,
-  [],
-  ◌∷◌,
-  ◌++◌,
-  length,
-  get_or,
-  map,
-  drop,
-  cond,
-  Ok,
-  Err,
-  append_assoc,
-  append-nil,
-  refl,
-  sym,
-  ap,
-  ◌∙◌,
-  arith,
-  nat_lt,
-}
+use Rattle.std.proofs.Common.{◌≡◌, ℕ, zero, suc, ◌+◌, ◌<◌, ◌≤◌, Bool, true, false, ◌&&◌, List, [], ◌∷◌, ◌++◌}
+use Rattle.std.proofs.Common.{length, get_or, map, drop, cond, Ok, Err, append_assoc, append-nil, refl, sym, ap}
+use Rattle.std.proofs.Common.{◌∙◌, arith, nat_lt}
 use Rattle.std.proofs.Math.ListN.{drop_of_length-le}
 use Rattle.cml_text.specs.Forms.{PlainSexpr, PlainForms, plain_forms, span_of}
 use Rattle.cml_check.specs.declared.fault.CheckFault.{CheckFault}

@@ -1,35 +1,6 @@
 -- The walk to the form that starts at a byte.
-use Rattle.std.proofs.Common.{
-  ◌≡◌,
-  ◌≢◌,
-  ℕ,
-  ℤ,
-  zero,
-  ◌+◌,
-  ◌-◌,
-  ◌<◌,
-  ◌≤◌,
-  List,
-  [],
-  ◌∷◌,
-  length,
-  get_or,
-  drop,
-  Option,
-  Some,
-  None,
-  sym,
-  ap,
-  ◌∙◌,
-  arith,
-  nat_eq,
-  true,
-  false,
-  suc,
-  add-one,
-  drop-cons,
-  cond,
-}
+use Rattle.std.proofs.Common.{◌≡◌, ◌≢◌, ℕ, ℤ, zero, ◌+◌, ◌-◌, ◌<◌, ◌≤◌, List, [], ◌∷◌, length, get_or, drop, Option}
+use Rattle.std.proofs.Common.{Some, None, sym, ap, ◌∙◌, arith, nat_eq, true, false, suc, add-one, drop-cons, cond}
 use Rattle.std.proofs.Math.ListN.{drop_of_length-le}
 use Rattle.std.proofs.lemmas.Bool.{lt-ltb, le-ltb}
 use Rattle.std.proofs.lemmas.Bool.Decides.{nat_tests}

@@ -4,25 +4,9 @@ use Rattle.std.specs.List.{flat_map}
 use Rattle.std.proofs.lemmas.Bool.Decides.{nat_tests}
 use Rattle.std.proofs.lemmas.List.{map-append}
 use Rattle.std.proofs.lemmas.List.Elements.{filter-append}
-use Rattle.cml_value.specs.Group.{
-  PlainGroup,
-  choose,
-  wrap,
-  scope,
-  PlainGroups,
-  no_groups,
-  groups_and,
-  groups,
-  PlainScope,
-  leaves,
-  leaf_count,
-  scopes,
-  scopes_from,
-  scopes_from_all,
-  nacks_of,
-  lies_outside,
-  lost,
-}
+use Rattle.cml_value.specs.Group.{PlainGroup, choose, wrap, scope, PlainGroups, no_groups, groups_and, groups}
+use Rattle.cml_value.specs.Group.{PlainScope, leaves, leaf_count, scopes, scopes_from, scopes_from_all, nacks_of}
+use Rattle.cml_value.specs.Group.{lies_outside, lost}
 use Rattle.cml_group.proofs.Leaves.{leaf_count-wrap, leaf_count-append}
 
 -- how many leaves the groups of a list have

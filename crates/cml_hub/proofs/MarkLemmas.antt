@@ -1,39 +1,7 @@
 -- Threads that come to the queue, and leave it.
-use Rattle.std.proofs.Common.{
-  ◌≡◌,
-  ◌≢◌,
-  ℕ,
-  zero,
-  suc,
-  ◌+◌,
-  ◌*◌,
-  ◌<◌,
-  ◌≤◌,
-  ◌^◌,
-  Bool,
-  true,
-  false,
-  not,
-  nat_eq,
-  List,
-  [],
-  ◌∷◌,
-  ◌++◌,
-  length,
-  take,
-  drop,
-  refl,
-  arith,
-  Some,
-  None,
-  sym,
-  ap,
-  ◌∙◌,
-  length-set,
-  length-append,
-  slice_index_or,
-  add-one,
-}
+use Rattle.std.proofs.Common.{◌≡◌, ◌≢◌, ℕ, zero, suc, ◌+◌, ◌*◌, ◌<◌, ◌≤◌, ◌^◌, Bool, true, false, not, nat_eq, List}
+use Rattle.std.proofs.Common.{[], ◌∷◌, ◌++◌, length, take, drop, refl, arith, Some, None, sym, ap, ◌∙◌, length-set}
+use Rattle.std.proofs.Common.{length-append, slice_index_or, add-one}
 use Rattle.std.specs.Prelude.{slice_get, slice_set, Option, OnSome, IsSome}
 use Rattle.std.specs.List.{list_any, remove}
 use Rattle.std.proofs.lemmas.Bool.Decides.{nat_tests}

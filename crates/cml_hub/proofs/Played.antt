@@ -1,35 +1,7 @@
 -- The run that a chooser makes, step by step.
-use Rattle.std.proofs.Common.{
-  ◌≡◌,
-  ℕ,
-  zero,
-  suc,
-  ◌+◌,
-  ◌<◌,
-  ◌≤◌,
-  Bool,
-  true,
-  false,
-  nat_eq,
-  List,
-  [],
-  ◌∷◌,
-  ◌++◌,
-  length,
-  refl,
-  ap,
-  sym,
-  subst,
-  ◌∙◌,
-  arith,
-  Option,
-  Some,
-  None,
-  length-set,
-  length-append,
-  append_assoc,
-  add-one,
-}
+use Rattle.std.proofs.Common.{◌≡◌, ℕ, zero, suc, ◌+◌, ◌<◌, ◌≤◌, Bool, true, false, nat_eq, List, [], ◌∷◌, ◌++◌}
+use Rattle.std.proofs.Common.{length, refl, ap, sym, subst, ◌∙◌, arith, Option, Some, None, length-set}
+use Rattle.std.proofs.Common.{length-append, append_assoc, add-one}
 use Rattle.std.specs.Prelude.{slice_get, slice_set, option_and_then, unwrap_or}
 use Rattle.std.specs.Option.{option_map_or}
 use Rattle.std.proofs.lemmas.Bool.Decides.{nat_tests}
@@ -51,27 +23,9 @@ use Rattle.cml_hub.specs.Dones.{ThreadsAfter}
 use Rattle.cml_hub.specs.Courses.{PlainCourse, run_of}
 use Rattle.cml_hub.specs.Kept.{Kept, Continues, is_out_of}
 use Rattle.cml_hub.specs.Moves.{lines_up, AddsItem, Reported, CalledBack}
-use Rattle.cml_hub.specs.Playing.{
-  Rules,
-  Played,
-  picked,
-  spent,
-  taking,
-  parties,
-  ready_after,
-  adds,
-  moved_by,
-  next_by,
-  played,
-  playing,
-  called_back,
-  GoesBy,
-  GoesIfLeftBy,
-  MovesBy,
-  PlaysOut,
-  PlaysOn,
-  BeginsRun,
-}
+use Rattle.cml_hub.specs.Playing.{Rules, Played, picked, spent, taking, parties, ready_after, adds, moved_by}
+use Rattle.cml_hub.specs.Playing.{next_by, played, playing, called_back, GoesBy, GoesIfLeftBy, MovesBy, PlaysOut}
+use Rattle.cml_hub.specs.Playing.{PlaysOn, BeginsRun}
 use Rattle.cml_hub.proofs.Queueing.{left_first}
 
 -- who is ready after a turn, by what became of the thread and by the worlds

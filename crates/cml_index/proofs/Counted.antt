@@ -1,34 +1,6 @@
 -- The leaves that have a partner, object by object.
-use Rattle.std.proofs.Common.{
-  ◌≡◌,
-  ℕ,
-  suc,
-  ◌+◌,
-  ◌≤◌,
-  Bool,
-  true,
-  false,
-  ◌||◌,
-  nat_eq,
-  nat_lt,
-  cond,
-  List,
-  [],
-  ◌∷◌,
-  ◌++◌,
-  append_assoc,
-  map,
-  length,
-  Option,
-  Some,
-  None,
-  refl,
-  ap,
-  sym,
-  subst,
-  ◌∙◌,
-  arith,
-}
+use Rattle.std.proofs.Common.{◌≡◌, ℕ, suc, ◌+◌, ◌≤◌, Bool, true, false, ◌||◌, nat_eq, nat_lt, cond, List, [], ◌∷◌}
+use Rattle.std.proofs.Common.{◌++◌, append_assoc, map, length, Option, Some, None, refl, ap, sym, subst, ◌∙◌, arith}
 use Rattle.std.specs.List.{filter, list_any, IsDistinct, AllByRecursion}
 use Rattle.std.proofs.lemmas.Bool.Decides.{nat_tests}
 use Rattle.std.proofs.lemmas.Map.Keys.{IsDistinct-head, IsDistinct-tail}

@@ -1,38 +1,7 @@
 -- The seat of a thread: who is in it, and what changes where a thread comes or goes.
-use Rattle.std.proofs.Common.{
-  ◌≡◌,
-  ◌≢◌,
-  ℕ,
-  zero,
-  suc,
-  ◌+◌,
-  ◌-◌,
-  ◌<◌,
-  Bool,
-  true,
-  false,
-  not,
-  nat_eq,
-  nat_lt,
-  List,
-  [],
-  ◌∷◌,
-  ◌++◌,
-  length,
-  take,
-  drop,
-  get_or,
-  Option,
-  Some,
-  None,
-  refl,
-  ap,
-  sym,
-  subst,
-  ◌∙◌,
-  arith,
-  length-append,
-}
+use Rattle.std.proofs.Common.{◌≡◌, ◌≢◌, ℕ, zero, suc, ◌+◌, ◌-◌, ◌<◌, Bool, true, false, not, nat_eq, nat_lt, List}
+use Rattle.std.proofs.Common.{[], ◌∷◌, ◌++◌, length, take, drop, get_or, Option, Some, None, refl, ap, sym, subst}
+use Rattle.std.proofs.Common.{◌∙◌, arith, length-append}
 use Rattle.std.specs.Prelude.{All, Any, slice_set, is_some}
 use Rattle.std.specs.List.{filter, insert, list_any}
 use Rattle.std.specs.Option.{option_copied}
@@ -45,26 +14,9 @@ use Rattle.cml_scan.specs.Table.{with_entry, without}
 use Rattle.cml_index.specs.declared.entries.Seat.{Seat}
 use Rattle.cml_index.specs.Seats.{with_one, seated, seat_before, is_its_own, count_seats, own_entries, IsEntryOf, AreSeats}
 use Rattle.cml_index.proofs.Parted.{gone_one, there_any}
-use Rattle.cml_index.proofs.Seated.{
-  its_thread,
-  own_between,
-  rest_between,
-  with_between,
-  sides_at,
-  sides_between,
-  seated-append,
-  seated_at,
-  seated_set,
-  seated_parts,
-  seated_full,
-  own_at,
-  own_set,
-  ascends_set,
-  seats_with,
-  full_ascend,
-  full_own,
-  is_empty,
-}
+use Rattle.cml_index.proofs.Seated.{its_thread, own_between, rest_between, with_between, sides_at, sides_between}
+use Rattle.cml_index.proofs.Seated.{seated-append, seated_at, seated_set, seated_parts, seated_full, own_at}
+use Rattle.cml_index.proofs.Seated.{own_set, ascends_set, seats_with, full_ascend, full_own, is_empty}
 
 equal : (a b : ℕ) → b ≡ a → nat_eq a b ≡ true
 equal a b h = grind (arith, nat_tests)

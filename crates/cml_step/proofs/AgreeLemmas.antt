@@ -7,31 +7,9 @@ use Rattle.cml_check.specs.declared.syntax.Unary.{Unary}
 use Rattle.cml_check.specs.declared.syntax.Unary.TheVariants as unary_of
 use Rattle.cml_check.specs.declared.syntax.Binary.{Binary}
 use Rattle.cml_check.specs.declared.syntax.Binary.TheVariants as binary_of
-use Rattle.cml_value.specs.Value.{
-  PlainValue,
-  unit,
-  int,
-  truth,
-  pair,
-  thread,
-  chan,
-  ivar,
-  mvar,
-  mailbox,
-  mchan,
-  port,
-  event,
-  PlainValues,
-  no_values,
-  values_and,
-  PlainFunction,
-  function,
-  values,
-  PlainEvent,
-  PlainBase,
-  events,
-  leaf,
-}
+use Rattle.cml_value.specs.Value.{PlainValue, unit, int, truth, pair, thread, chan, ivar, mvar, mailbox, mchan}
+use Rattle.cml_value.specs.Value.{port, event, PlainValues, no_values, values_and, PlainFunction, function, values}
+use Rattle.cml_value.specs.Value.{PlainEvent, PlainBase, events, leaf}
 use Rattle.cml_value.specs.Value as value
 use Rattle.cml_value.specs.Limits.{value_fits}
 use Rattle.cml_check.specs.Syntax.{PlainExpr, constant, number, text, variable, unary, binary, choose, wrap, guard, with_nack, PlainExprs, no_exprs, exprs_and}

@@ -22,26 +22,9 @@ use Rattle.cml_step.specs.Asks.{PlainAsk}
 use Rattle.cml_step.specs.Forced.{with_argument}
 use Rattle.cml_step.specs.Answers as await
 use Rattle.cml_step.specs.Answers.{PlainAwait, top_await, awaited_by, await_of}
-use Rattle.cml_step.specs.Steps.{
-  PlainStep,
-  goes_on,
-  asks,
-  fails,
-  ◌>>=◌,
-  is_below_limit,
-  pushed,
-  delivered,
-  act_step,
-  one_step,
-  two_step,
-  effect_step,
-  source_step,
-  statement_step,
-  call_step,
-  force_step,
-  wraps_step,
-  next,
-}
+use Rattle.cml_step.specs.Steps.{PlainStep, goes_on, asks, fails, ◌>>=◌, is_below_limit, pushed, delivered}
+use Rattle.cml_step.specs.Steps.{act_step, one_step, two_step, effect_step, source_step, statement_step, call_step}
+use Rattle.cml_step.specs.Steps.{force_step, wraps_step, next}
 use Rattle.cml_step.specs.Slices.{PlainSlice, carried, sliced_from}
 
 abbrev Waits : PlainStep → Type 0

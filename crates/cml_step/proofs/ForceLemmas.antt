@@ -1,30 +1,9 @@
 -- Events being forced, and the functions that are called for them, agree with the program.
 use Rattle.std.proofs.Common.{◌≡◌, ℕ, ◌+◌, true, List, [], ◌∷◌, ◌++◌, refl, ap, sym, ◌∙◌, subst, arith, Option, Some, None}
 use Rattle.std.proofs.lemmas.Bool.{and_parts, and_from}
-use Rattle.cml_value.specs.Value.{
-  PlainValue,
-  event,
-  PlainValues,
-  no_values,
-  values_and,
-  PlainFunction,
-  function,
-  func_of,
-  args_of,
-  values,
-  PlainEvent,
-  never,
-  leaf,
-  choose,
-  wrap,
-  guard,
-  with_nack,
-  scope,
-  PlainEvents,
-  no_events,
-  events_and,
-  nack,
-}
+use Rattle.cml_value.specs.Value.{PlainValue, event, PlainValues, no_values, values_and, PlainFunction, function}
+use Rattle.cml_value.specs.Value.{func_of, args_of, values, PlainEvent, never, leaf, choose, wrap, guard, with_nack}
+use Rattle.cml_value.specs.Value.{scope, PlainEvents, no_events, events_and, nack}
 use Rattle.cml_value.specs.Group.{PlainGroup, PlainGroups, no_groups, groups_and}
 use Rattle.cml_value.specs.Group as group
 use Rattle.cml_check.specs.Heads.{takes}

@@ -31,26 +31,9 @@ use Rattle.cml_step.specs.Answers as await
 use Rattle.cml_step.specs.Answers.{PlainAwait, top_await, awaited_by, await_of, answer_for, after_answer, with_nack_number, entries_to_come, IsShort}
 use Rattle.cml_step.specs.Machines.{PlainHeld, PlainMachine, held_entry, held_on, machine_term, AllHeldFit, Fits}
 use Rattle.cml_step.specs.Machines as held
-use Rattle.cml_step.specs.Steps.{
-  PlainStep,
-  goes_on,
-  asks,
-  fails,
-  ◌>>=◌,
-  is_below_limit,
-  pushed,
-  delivered,
-  act_step,
-  one_step,
-  two_step,
-  effect_step,
-  source_step,
-  statement_step,
-  call_step,
-  force_step,
-  wraps_step,
-  next,
-}
+use Rattle.cml_step.specs.Steps.{PlainStep, goes_on, asks, fails, ◌>>=◌, is_below_limit, pushed, delivered}
+use Rattle.cml_step.specs.Steps.{act_step, one_step, two_step, effect_step, source_step, statement_step, call_step}
+use Rattle.cml_step.specs.Steps.{force_step, wraps_step, next}
 use Rattle.cml_step.specs.Slices.{PlainSlice, carried, sliced_from}
 use Rattle.cml_step.proofs.AwaitLemmas.{begun_runs, sliced_waits}
 use Rattle.cml_step.proofs.AnswerLemmas.{answered_runs}

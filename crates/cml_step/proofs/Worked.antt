@@ -9,27 +9,9 @@ use Rattle.cml_check.specs.declared.syntax.Unary.TheVariants.{Recv, Always}
 use Rattle.cml_check.specs.declared.syntax.Binary.TheVariants.{Plus, Send, Swap}
 use Rattle.cml_check.specs.declared.syntax.Act.TheVariants.{Chan, SwapChan}
 use Rattle.cml_check.specs.declared.syntax.ActOnOne.TheVariants.{Sync, Print}
-use Rattle.cml_check.specs.Syntax.{
-  PlainItem,
-  Name,
-  PlainExpr,
-  constant,
-  number,
-  variable,
-  unary,
-  binary,
-  exprs,
-  act,
-  act_on_one,
-  value,
-  effect,
-  let_be,
-  just_do,
-  while_so,
-  return_with,
-  PlainStmt,
-  stmts,
-}
+use Rattle.cml_check.specs.Syntax.{PlainItem, Name, PlainExpr, constant, number, variable, unary, binary, exprs}
+use Rattle.cml_check.specs.Syntax.{act, act_on_one, value, effect, let_be, just_do, while_so, return_with}
+use Rattle.cml_check.specs.Syntax.{PlainStmt, stmts}
 use Rattle.cml_check.specs.Syntax as syntax
 use Rattle.cml_step.specs.declared.fault.Fault.TheVariants.{Kind, Deep, Stack}
 use Rattle.cml_step.specs.Terms.{Program, call_of}

@@ -101,7 +101,7 @@ impl Journal {
         self.over = None;
     }
 
-    /// BeginsSlice with this call, of which nothing was set yet.
+    /// Begins with this call, of which nothing was set yet.
     pub(crate) fn begin(&mut self, call: &Call)
         ensures head { HasHead self.new call.now }
         ensures sets { self.new.sets.items ≡ [] }

@@ -196,7 +196,7 @@ pub(crate) fn deliver_noted(
     ensures noted { HasNotes sets.old.items call.old sets.new.items call.new }
     ensures stays { result ≡ false → call.new ≡ call.old }
 {
-    // Read for the proof alone, which uses what is promised of it.
+    // No effect: named here so that the prover knows what holds of it.
     let _f = program.function(call.func);
     fill_noted(call, value, sets)
 }

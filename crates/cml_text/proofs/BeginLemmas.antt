@@ -8,26 +8,9 @@ use Rattle.cml_text.specs.declared.sexpr.Span.{Span}
 use Rattle.cml_text.specs.declared.fault.FaultKind.TheVariants.{Long}
 use Rattle.cml_text.specs.Faults.{PlainFault}
 use Rattle.cml_text.specs.Forms.{plain_text}
-use Rattle.cml_text.specs.Lexemes.{
-  is_separator,
-  is_comment_byte,
-  is_token_byte,
-  Literal,
-  closed,
-  literal,
-  Lexeme,
-  opening,
-  closing,
-  leaf,
-  faulty,
-  fault_at,
-  span_from,
-  literal_lexeme,
-  literal_more,
-  token_lexeme,
-  beginning,
-  lexemes,
-}
+use Rattle.cml_text.specs.Lexemes.{is_separator, is_comment_byte, is_token_byte, Literal, closed, literal, Lexeme}
+use Rattle.cml_text.specs.Lexemes.{opening, closing, leaf, faulty, fault_at, span_from, literal_lexeme}
+use Rattle.cml_text.specs.Lexemes.{literal_more, token_lexeme, beginning, lexemes}
 use Rattle.cml_text.specs.declared.fault.TextFault.{TextFault}
 use Rattle.cml_text.specs.declared.fault.TextFault.TheVariants as fault
 use Rattle.cml_text.specs.Steps.{StepsTo, IsLexeme, BeginsWithFault}

@@ -1,39 +1,7 @@
 -- What the lexemes of a text spell is what the grammar gives it.
-use Rattle.std.proofs.Common.{
-  ◌≡◌,
-  ◌≢◌,
-  ℕ,
-  zero,
-  suc,
-  ◌+◌,
-  ◌<◌,
-  ◌≤◌,
-  Bool,
-  true,
-  false,
-  not,
-  eqb,
-  leb,
-  List,
-  [],
-  ◌∷◌,
-  ◌++◌,
-  length,
-  drop,
-  refl,
-  ap,
-  sym,
-  ◌∙◌,
-  subst,
-  arith,
-  Option,
-  Some,
-  None,
-  append_assoc,
-  inl,
-  inr,
-  ℤ,
-}
+use Rattle.std.proofs.Common.{◌≡◌, ◌≢◌, ℕ, zero, suc, ◌+◌, ◌<◌, ◌≤◌, Bool, true, false, not, eqb, leb, List, []}
+use Rattle.std.proofs.Common.{◌∷◌, ◌++◌, length, drop, refl, ap, sym, ◌∙◌, subst, arith, Option, Some, None}
+use Rattle.std.proofs.Common.{append_assoc, inl, inr, ℤ}
 use Rattle.std.specs.List.{list_all}
 use Rattle.std.proofs.lemmas.Bool.{false≢true}
 use Rattle.std.proofs.lemmas.Bool.Decides.{nat_tests}
@@ -43,34 +11,10 @@ use Rattle.cml_text.specs.declared.sexpr.Span.{Span}
 use Rattle.cml_text.specs.declared.fault.FaultKind.TheVariants.{Long, Character}
 use Rattle.cml_text.specs.Faults.{PlainFault}
 use Rattle.cml_text.specs.Forms.{PlainSexpr, plain_name, plain_int, plain_text, plain_list, PlainForms, no_forms, forms_and, plain_forms}
-use Rattle.cml_text.specs.Lexemes.{
-  is_separator,
-  is_delimiter,
-  is_comment_byte,
-  is_token_byte,
-  is_number,
-  number_value,
-  is_name,
-  is_plain,
-  unescaped,
-  number_lexeme,
-  Literal,
-  closed,
-  endless,
-  no_escape,
-  literal,
-  Lexeme,
-  opening,
-  closing,
-  leaf,
-  faulty,
-  span_from,
-  token_lexeme,
-  literal_lexeme,
-  literal_more,
-  beginning,
-  lexemes,
-}
+use Rattle.cml_text.specs.Lexemes.{is_separator, is_delimiter, is_comment_byte, is_token_byte, is_number}
+use Rattle.cml_text.specs.Lexemes.{number_value, is_name, is_plain, unescaped, number_lexeme, Literal, closed}
+use Rattle.cml_text.specs.Lexemes.{endless, no_escape, literal, Lexeme, opening, closing, leaf, faulty, span_from}
+use Rattle.cml_text.specs.Lexemes.{token_lexeme, literal_lexeme, literal_more, beginning, lexemes}
 use Rattle.cml_text.specs.Texts.{words_of}
 use Rattle.cml_text.specs.Grammar.{Ending, whole_text, inside_list, EndsOrDelimits, StandsFor, Gives}
 use Rattle.cml_text.specs.Laws.{SpellsByTheGrammar}

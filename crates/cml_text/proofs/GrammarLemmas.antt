@@ -8,27 +8,9 @@ use Rattle.std.proofs.lemmas.List.{length-append}
 use Rattle.std.proofs.lemmas.Str.{IsUtf8-take, IsUtf8-drop, IsCharBoundary-after_ascii}
 use Rattle.std.proofs.Math.Seq.{drop-append_seam, take-append_seam, drop-append-add}
 use Rattle.cml_text.specs.Forms.{plain_text, plain_list, PlainForms, forms_and}
-use Rattle.cml_text.specs.Lexemes.{
-  is_separator,
-  is_delimiter,
-  is_comment_byte,
-  is_token_byte,
-  is_number,
-  is_plain,
-  closed,
-  with_front,
-  with_escape,
-  literal,
-  Lexeme,
-  opening,
-  closing,
-  leaf,
-  span_from,
-  literal_lexeme,
-  literal_more,
-  beginning,
-  lexemes,
-}
+use Rattle.cml_text.specs.Lexemes.{is_separator, is_delimiter, is_comment_byte, is_token_byte, is_number, is_plain}
+use Rattle.cml_text.specs.Lexemes.{closed, with_front, with_escape, literal, Lexeme, opening, closing, leaf}
+use Rattle.cml_text.specs.Lexemes.{span_from, literal_lexeme, literal_more, beginning, lexemes}
 use Rattle.cml_text.specs.Texts.{words_of}
 use Rattle.cml_text.specs.Grammar.{Separates, Delimits, Escapes, Ending, whole_text, inside_list, HaveNoLineFeed, EndsOrDelimits, StandsFor, Gives}
 use Rattle.cml_text.proofs.LiteralLemmas.{literal_plain, literal_quote}

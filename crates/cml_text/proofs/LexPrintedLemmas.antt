@@ -8,24 +8,9 @@ use Rattle.std.proofs.lemmas.List.{length-append}
 use Rattle.std.proofs.Math.Seq.{drop-append_seam, take-append_seam, drop-append-add}
 use Rattle.cml_text.specs.declared.sexpr.Span.{Span}
 use Rattle.cml_text.specs.Forms.{PlainSexpr, plain_name, plain_int, plain_text, plain_list, PlainForms, no_forms, forms_and}
-use Rattle.cml_text.specs.Lexemes.{
-  is_token_byte,
-  is_plain,
-  is_name,
-  closed,
-  with_front,
-  literal,
-  Lexeme,
-  opening,
-  closing,
-  leaf,
-  span_from,
-  token_lexeme,
-  literal_lexeme,
-  literal_more,
-  beginning,
-  lexemes,
-}
+use Rattle.cml_text.specs.Lexemes.{is_token_byte, is_plain, is_name, closed, with_front, literal, Lexeme, opening}
+use Rattle.cml_text.specs.Lexemes.{closing, leaf, span_from, token_lexeme, literal_lexeme, literal_more, beginning}
+use Rattle.cml_text.specs.Lexemes.{lexemes}
 use Rattle.cml_text.specs.Limits.{IsProper, AreProper}
 use Rattle.cml_text.specs.Printed.{escaped, quoted, printed_form, printed_members, printed_behind}
 use Rattle.cml_text.specs.Texts.{words, words_of}

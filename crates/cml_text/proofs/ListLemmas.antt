@@ -7,23 +7,9 @@ use Rattle.std.proofs.lemmas.List.{length-append}
 use Rattle.std.proofs.lemmas.List.Elements.{All-head, All-tail}
 use Rattle.std.proofs.lemmas.Str.{IsUtf8-append}
 use Rattle.cml_text.specs.declared.sexpr.Span.{Span}
-use Rattle.cml_text.specs.Forms.{
-  PlainSexpr,
-  plain_name,
-  plain_int,
-  plain_text,
-  plain_list,
-  PlainForms,
-  no_forms,
-  forms_and,
-  plain_forms,
-  forms_list,
-  nesting,
-  nesting_of,
-  nowhere,
-  without_spans,
-  all_without_spans,
-}
+use Rattle.cml_text.specs.Forms.{PlainSexpr, plain_name, plain_int, plain_text, plain_list, PlainForms, no_forms}
+use Rattle.cml_text.specs.Forms.{forms_and, plain_forms, forms_list, nesting, nesting_of, nowhere, without_spans}
+use Rattle.cml_text.specs.Forms.{all_without_spans}
 use Rattle.cml_text.specs.Grammar.{Separates, Delimits, Ending, whole_text, inside_list, HaveNoLineFeed, EndsOrDelimits, Gives, IsGrammatical}
 use Rattle.cml_text.specs.Lexemes.{is_separator, span_from}
 use Rattle.cml_text.specs.Lines.{line}

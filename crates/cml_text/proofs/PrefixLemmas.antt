@@ -1,38 +1,7 @@
 -- What stands before a lexeme is read by itself.
-use Rattle.std.proofs.Common.{
-  ◌≡◌,
-  ℕ,
-  zero,
-  suc,
-  ◌+◌,
-  ◌<◌,
-  ◌≤◌,
-  true,
-  false,
-  eqb,
-  leb,
-  List,
-  [],
-  ◌∷◌,
-  ◌++◌,
-  length,
-  take,
-  drop,
-  refl,
-  ap,
-  sym,
-  ◌∙◌,
-  subst,
-  arith,
-  Option,
-  Some,
-  None,
-  append_assoc,
-  inl,
-  inr,
-  ◌⊎◌,
-  ℤ,
-}
+use Rattle.std.proofs.Common.{◌≡◌, ℕ, zero, suc, ◌+◌, ◌<◌, ◌≤◌, true, false, eqb, leb, List, [], ◌∷◌, ◌++◌, length}
+use Rattle.std.proofs.Common.{take, drop, refl, ap, sym, ◌∙◌, subst, arith, Option, Some, None, append_assoc, inl}
+use Rattle.std.proofs.Common.{inr, ◌⊎◌, ℤ}
 use Rattle.std.specs.List.{list_all, prefix_len}
 use Rattle.std.proofs.lemmas.Bool.Decides.{nat_tests}
 use Rattle.std.proofs.lemmas.List.{length-append}
@@ -40,30 +9,10 @@ use Rattle.std.proofs.Math.Seq.{drop-append-add}
 use Rattle.cml_text.specs.declared.fault.FaultKind.TheVariants.{Unclosed, Escape, Long}
 use Rattle.cml_text.specs.Faults.{PlainFault}
 use Rattle.cml_text.specs.FirstFaults.{IsAtFault}
-use Rattle.cml_text.specs.Lexemes.{
-  is_separator,
-  is_comment_byte,
-  is_token_byte,
-  is_number,
-  is_name,
-  number_value,
-  number_lexeme,
-  Literal,
-  closed,
-  endless,
-  no_escape,
-  literal,
-  Lexeme,
-  opening,
-  closing,
-  leaf,
-  faulty,
-  token_lexeme,
-  literal_lexeme,
-  literal_more,
-  beginning,
-  lexemes,
-}
+use Rattle.cml_text.specs.Lexemes.{is_separator, is_comment_byte, is_token_byte, is_number, is_name, number_value}
+use Rattle.cml_text.specs.Lexemes.{number_lexeme, Literal, closed, endless, no_escape, literal, Lexeme, opening}
+use Rattle.cml_text.specs.Lexemes.{closing, leaf, faulty, token_lexeme, literal_lexeme, literal_more, beginning}
+use Rattle.cml_text.specs.Lexemes.{lexemes}
 use Rattle.cml_text.proofs.WordLemmas.{cases_test}
 use Rattle.cml_text.proofs.BeginLemmas.{begin_separator, begin_opening, begin_closing, begin_text, begin_token}
 use Rattle.cml_text.proofs.PrintedLemmas.{Stops}

@@ -11,22 +11,9 @@ use Rattle.std.proofs.lemmas.Grind.{flat_map-append}
 use Rattle.std.proofs.lemmas.List.{append-nil}
 use Rattle.std.proofs.lemmas.Str.{IsUtf8-nil, IsUtf8-append, IsUtf8-from_ascii, inside_one, encode_ascii}
 use Rattle.std.proofs.lemmas.Str.Ascii.{IsAscii-nil, IsAscii-cons}
-use Rattle.cml_text.specs.Forms.{
-  PlainSexpr,
-  plain_name,
-  plain_int,
-  plain_text,
-  plain_list,
-  PlainForms,
-  no_forms,
-  forms_and,
-  plain_forms,
-  nesting,
-  nesting_of,
-  nowhere,
-  without_spans,
-  all_without_spans,
-}
+use Rattle.cml_text.specs.Forms.{PlainSexpr, plain_name, plain_int, plain_text, plain_list, PlainForms, no_forms}
+use Rattle.cml_text.specs.Forms.{forms_and, plain_forms, nesting, nesting_of, nowhere, without_spans}
+use Rattle.cml_text.specs.Forms.{all_without_spans}
 use Rattle.cml_text.specs.Lexemes.{lexemes}
 use Rattle.cml_text.specs.Limits.{IsSmall, IsProper, AreProper}
 use Rattle.cml_text.specs.Printed.{escaped, needs_no_escape, quoted, printed_form, printed_members, printed_behind, printed}

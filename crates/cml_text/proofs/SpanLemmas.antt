@@ -1,37 +1,7 @@
 -- Each form of a text is spelled by the slice at its span.
-use Rattle.std.proofs.Common.{
-  ◌≡◌,
-  ℕ,
-  zero,
-  suc,
-  ◌+◌,
-  ◌-◌,
-  ◌≤◌,
-  true,
-  eqb,
-  leb,
-  List,
-  [],
-  ◌∷◌,
-  ◌++◌,
-  length,
-  take,
-  drop,
-  refl,
-  ap,
-  sym,
-  ◌∙◌,
-  subst,
-  arith,
-  Option,
-  Some,
-  None,
-  append_assoc,
-  inl,
-  inr,
-  ◌⊎◌,
-  ℤ,
-}
+use Rattle.std.proofs.Common.{◌≡◌, ℕ, zero, suc, ◌+◌, ◌-◌, ◌≤◌, true, eqb, leb, List, [], ◌∷◌, ◌++◌, length, take}
+use Rattle.std.proofs.Common.{drop, refl, ap, sym, ◌∙◌, subst, arith, Option, Some, None, append_assoc, inl, inr}
+use Rattle.std.proofs.Common.{◌⊎◌, ℤ}
 use Rattle.std.specs.List.{prefix_len}
 use Rattle.std.proofs.lemmas.Bool.Decides.{nat_tests}
 use Rattle.std.proofs.lemmas.List.{append-nil, length-append}
@@ -40,31 +10,10 @@ use Rattle.cml_text.specs.declared.sexpr.Span.{Span}
 use Rattle.cml_text.specs.declared.fault.FaultKind.TheVariants.{Long}
 use Rattle.cml_text.specs.Faults.{PlainFault}
 use Rattle.cml_text.specs.Forms.{PlainSexpr, plain_name, plain_int, plain_text, plain_list, PlainForms, no_forms, forms_and, plain_forms, span_of}
-use Rattle.cml_text.specs.Lexemes.{
-  is_separator,
-  is_comment_byte,
-  is_token_byte,
-  is_number,
-  is_name,
-  number_value,
-  number_lexeme,
-  Literal,
-  closed,
-  endless,
-  no_escape,
-  literal,
-  Lexeme,
-  opening,
-  closing,
-  leaf,
-  faulty,
-  span_from,
-  token_lexeme,
-  literal_lexeme,
-  literal_more,
-  beginning,
-  lexemes,
-}
+use Rattle.cml_text.specs.Lexemes.{is_separator, is_comment_byte, is_token_byte, is_number, is_name, number_value}
+use Rattle.cml_text.specs.Lexemes.{number_lexeme, Literal, closed, endless, no_escape, literal, Lexeme, opening}
+use Rattle.cml_text.specs.Lexemes.{closing, leaf, faulty, span_from, token_lexeme, literal_lexeme, literal_more}
+use Rattle.cml_text.specs.Lexemes.{beginning, lexemes}
 use Rattle.cml_text.specs.Texts.{words, words_of}
 use Rattle.cml_text.specs.Spans.{bytes_at, IsSpelledAtSpan, IsAtSpan, AreAtSpans}
 use Rattle.cml_text.specs.Laws.{EachAtItsSpan}

@@ -1,37 +1,7 @@
 -- A text without a fault spells forms.
-use Rattle.std.proofs.Common.{
-  ◌≡◌,
-  ℕ,
-  zero,
-  suc,
-  ◌+◌,
-  ◌-◌,
-  ◌<◌,
-  ◌≤◌,
-  eqb,
-  leb,
-  ltb,
-  List,
-  [],
-  ◌∷◌,
-  ◌++◌,
-  length,
-  take,
-  refl,
-  ap,
-  sym,
-  ◌∙◌,
-  subst,
-  arith,
-  Option,
-  Some,
-  None,
-  append_assoc,
-  inl,
-  inr,
-  ◌⊎◌,
-  ℤ,
-}
+use Rattle.std.proofs.Common.{◌≡◌, ℕ, zero, suc, ◌+◌, ◌-◌, ◌<◌, ◌≤◌, eqb, leb, ltb, List, [], ◌∷◌, ◌++◌, length}
+use Rattle.std.proofs.Common.{take, refl, ap, sym, ◌∙◌, subst, arith, Option, Some, None, append_assoc, inl, inr}
+use Rattle.std.proofs.Common.{◌⊎◌, ℤ}
 use Rattle.std.specs.List.{prefix_len}
 use Rattle.std.specs.Str.{IsUtf8, is_utf8}
 use Rattle.std.proofs.lemmas.Bool.Decides.{nat_tests}
@@ -40,28 +10,9 @@ use Rattle.std.proofs.lemmas.Str.{IsUtf8-from_is_utf8, is_utf8-from_IsUtf8}
 use Rattle.cml_text.specs.declared.sexpr.Span.{Span}
 use Rattle.cml_text.specs.declared.fault.FaultKind.TheVariants.{Deep, Stray, Unclosed}
 use Rattle.cml_text.specs.Forms.{PlainSexpr, plain_list, PlainForms, no_forms, forms_and, plain_forms, forms_list}
-use Rattle.cml_text.specs.Lexemes.{
-  is_separator,
-  is_token_byte,
-  is_number,
-  is_name,
-  number_value,
-  number_lexeme,
-  Literal,
-  closed,
-  endless,
-  no_escape,
-  literal,
-  Lexeme,
-  opening,
-  closing,
-  leaf,
-  faulty,
-  token_lexeme,
-  literal_lexeme,
-  beginning,
-  lexemes,
-}
+use Rattle.cml_text.specs.Lexemes.{is_separator, is_token_byte, is_number, is_name, number_value, number_lexeme}
+use Rattle.cml_text.specs.Lexemes.{Literal, closed, endless, no_escape, literal, Lexeme, opening, closing, leaf}
+use Rattle.cml_text.specs.Lexemes.{faulty, token_lexeme, literal_lexeme, beginning, lexemes}
 use Rattle.cml_text.specs.Texts.{Spells, words, words_of, first_fault, fault_of}
 use Rattle.cml_text.specs.Steps.{IsLeaf}
 use Rattle.cml_text.specs.Laws.{SpelledOrFaulty}

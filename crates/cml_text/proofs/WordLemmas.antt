@@ -1,41 +1,7 @@
 -- Where a text may be cut, what digits are worth, and how one lexeme follows another.
-use Rattle.std.proofs.Common.{
-  ◌≡◌,
-  ◌≢◌,
-  ℕ,
-  ◌+◌,
-  ◌<◌,
-  Bool,
-  true,
-  false,
-  cond,
-  ◌&&◌,
-  eqb,
-  List,
-  [],
-  ◌∷◌,
-  ◌++◌,
-  length,
-  get_or,
-  drop,
-  refl,
-  ap,
-  sym,
-  ◌∙◌,
-  subst,
-  arith,
-  Some,
-  None,
-  Result,
-  Ok,
-  Err,
-  ℤ,
-  w64,
-  rules,
-  ◌⊎◌,
-  inl,
-  inr,
-}
+use Rattle.std.proofs.Common.{◌≡◌, ◌≢◌, ℕ, ◌+◌, ◌<◌, Bool, true, false, cond, ◌&&◌, eqb, List, [], ◌∷◌, ◌++◌}
+use Rattle.std.proofs.Common.{length, get_or, drop, refl, ap, sym, ◌∙◌, subst, arith, Some, None, Result, Ok, Err}
+use Rattle.std.proofs.Common.{ℤ, w64, rules, ◌⊎◌, inl, inr}
 use Rattle.std.proofs.lemmas.Bool.{false≢true}
 use Rattle.std.specs.Result.{OkIff, result_ok}
 use Rattle.std.specs.Char.{is_ascii_digit, len_utf8, encode_utf8}

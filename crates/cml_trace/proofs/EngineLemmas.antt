@@ -1,38 +1,7 @@
 -- Where the engine stands between two lines.
-use Rattle.std.proofs.Common.{
-  ◌≡◌,
-  ℕ,
-  ◌+◌,
-  ◌<◌,
-  ◌≤◌,
-  Result,
-  Ok,
-  Err,
-  OnOk,
-  OnErr,
-  IfOk,
-  IfErr,
-  codes,
-  List,
-  [],
-  ◌∷◌,
-  ◌++◌,
-  Option,
-  length,
-  take,
-  drop,
-  refl,
-  ap,
-  sym,
-  ◌∙◌,
-  subst,
-  inl,
-  inr,
-  append_assoc,
-  append-nil,
-  length-append,
-  arith,
-}
+use Rattle.std.proofs.Common.{◌≡◌, ℕ, ◌+◌, ◌<◌, ◌≤◌, Result, Ok, Err, OnOk, OnErr, IfOk, IfErr, codes, List, []}
+use Rattle.std.proofs.Common.{◌∷◌, ◌++◌, Option, length, take, drop, refl, ap, sym, ◌∙◌, subst, inl, inr}
+use Rattle.std.proofs.Common.{append_assoc, append-nil, length-append, arith}
 use Rattle.std.proofs.lemmas.List.{take-append-drop}
 use Rattle.std.specs.Result.{IsErrAnd}
 use Rattle.std.specs.Io.KnownBytes.{Appends, Keeps}

@@ -1,47 +1,11 @@
 -- What the spellings of keywords name.
 use Rattle.std.proofs.Common.{refl}
-use Rattle.cml_trace.specs.declared.keyword.Keyword.TheVariants.{
-  Spawn,
-  Chan,
-  SwapChan,
-  IVar,
-  MVar,
-  Mailbox,
-  Mchan,
-  Port,
-  Copy,
-  IPut,
-  MPut,
-  Mail,
-  Multicast,
-  Nack,
-  Sync,
-  Rows,
-  Commit,
-  End,
-  Clock,
-  Never,
-  Choose,
-  Wrap,
-  Scope,
-  Always,
-  Send,
-  Recv,
-  Swap,
-  IGet,
-  MTake,
-  MGet,
-  MSwap,
-  MailRecv,
-  PortRecv,
-  Join,
-  At,
-  After,
-  True,
-  False,
-  Pair,
-  Thread,
-}
+use Rattle.cml_trace.specs.declared.keyword.Keyword.TheVariants.{Spawn, Chan, SwapChan, IVar, MVar, Mailbox, Mchan}
+use Rattle.cml_trace.specs.declared.keyword.Keyword.TheVariants.{Port, Copy, IPut, MPut, Mail, Multicast, Nack}
+use Rattle.cml_trace.specs.declared.keyword.Keyword.TheVariants.{Sync, Rows, Commit, End, Clock, Never, Choose}
+use Rattle.cml_trace.specs.declared.keyword.Keyword.TheVariants.{Wrap, Scope, Always, Send, Recv, Swap, IGet, MTake}
+use Rattle.cml_trace.specs.declared.keyword.Keyword.TheVariants.{MGet, MSwap, MailRecv, PortRecv, Join, At, After}
+use Rattle.cml_trace.specs.declared.keyword.Keyword.TheVariants.{True, False, Pair, Thread}
 use Rattle.cml_trace.specs.Laws.{SpellingNamesKeyword}
 
 pub spelling_names_keyword : SpellingNamesKeyword

@@ -1,41 +1,8 @@
 -- Where the first line of a text ends.
 use Rattle.std.proofs.lemmas.List.{drop_more, get_or-drop, take-append-drop}
-use Rattle.std.proofs.Common.{
-  below_more,
-  MatchOption,
-  Option,
-  Some,
-  None,
-  ◌≡◌,
-  ◌≢◌,
-  ℕ,
-  zero,
-  suc,
-  ◌+◌,
-  ◌-◌,
-  ◌<◌,
-  ◌≤◌,
-  ◌==◌,
-  Bool,
-  true,
-  false,
-  List,
-  [],
-  ◌∷◌,
-  ◌++◌,
-  length,
-  take,
-  drop,
-  get_or,
-  refl,
-  ap,
-  sym,
-  ◌∙◌,
-  arith,
-  length-drop,
-  take_all,
-  add-one,
-}
+use Rattle.std.proofs.Common.{below_more, MatchOption, Option, Some, None, ◌≡◌, ◌≢◌, ℕ, zero, suc, ◌+◌, ◌-◌, ◌<◌}
+use Rattle.std.proofs.Common.{◌≤◌, ◌==◌, Bool, true, false, List, [], ◌∷◌, ◌++◌, length, take, drop, get_or, refl}
+use Rattle.std.proofs.Common.{ap, sym, ◌∙◌, arith, length-drop, take_all, add-one}
 use Rattle.std.specs.List.{onto_first}
 use Rattle.std.proofs.lemmas.List.Splits.{slice_split-cons_yes, slice_split-cons_no, slice_split_none, length-slice_split}
 use Rattle.std.proofs.lemmas.List.Elements.{All-head, All-tail, All-same, All-from_get_or}

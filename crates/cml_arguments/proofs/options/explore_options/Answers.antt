@@ -3,21 +3,9 @@ use Rattle.std.specs.Prelude.{IfSome, unwrap_or}
 use Rattle.clap.proofs.WalkLemmas.{first_value-rows}
 use Rattle.clap.specs.Words.{found_of, rows_of}
 use Rattle.cml_arguments.specs.Words.{any_rule, count_rule, depth_rule, explore_command, file_rule, flag_rule, option_number, runs_rule, workers_rule, IsCount, IsDepth, IsRuns, IsWorkers}
-use Rattle.cml_arguments.proofs.Served.{
-  count_is_number,
-  counts,
-  deep,
-  depth_is_number,
-  few,
-  file_given,
-  many,
-  runs_are_number,
-  runs_count,
-  served_by_name,
-  steps_count,
-  workers_are_number,
-  workers_count,
-}
+use Rattle.cml_arguments.proofs.Served.{count_is_number, counts, deep, depth_is_number, few, file_given, many}
+use Rattle.cml_arguments.proofs.Served.{runs_are_number, runs_count, served_by_name, steps_count}
+use Rattle.cml_arguments.proofs.Served.{workers_are_number, workers_count}
 use Rattle.cml_arguments.proofs.options.explore_options.Goals as goal
 
 pub given-requires : goal.given-requires

@@ -9,26 +9,9 @@ use Rattle.cml_scan.specs.Table.{IsThere, IsNackOf, nacks_among, has_light}
 use Rattle.cml_book.specs.Clock.{bases_awaited}
 use Rattle.cml_book.specs.Keeping.{nack_light}
 use Rattle.cml_book.proofs.Dimmed.{apart_from, pair_apart}
-use Rattle.cml_book.proofs.Commits.{
-  Met,
-  met,
-  pair_parties,
-  found,
-  is_there,
-  waits_on,
-  second_waits,
-  sure_lights,
-  told_two,
-  told_both_out,
-  room_for_both,
-  room_same,
-  gone_two,
-  two_differ,
-  room_for_two,
-  keeps_pair,
-  chosen_meet,
-  pair_returns,
-}
+use Rattle.cml_book.proofs.Commits.{Met, met, pair_parties, found, is_there, waits_on, second_waits, sure_lights}
+use Rattle.cml_book.proofs.Commits.{told_two, told_both_out, room_for_both, room_same, gone_two, two_differ}
+use Rattle.cml_book.proofs.Commits.{room_for_two, keeps_pair, chosen_meet, pair_returns}
 use Rattle.cml_book.proofs.book.Book.commit_pair.Given.{Over}
 use Rattle.cml_book.proofs.book.Book.commit_pair.Goals.{In-Some-waiting}
 use Rattle.cml_book.proofs.book.Book.commit_pair.Goals as goal

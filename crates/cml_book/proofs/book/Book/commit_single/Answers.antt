@@ -8,27 +8,9 @@ use Rattle.cml_book.specs.Clock.{bases_awaited}
 use Rattle.cml_book.specs.Keeping.{nack_light}
 use Rattle.cml_book.proofs.Dimmed.{left_lights, apart_from, single_apart, can_give_after}
 use Rattle.cml_book.specs.Leaving.{turned_off, can_give}
-use Rattle.cml_book.proofs.Commits.{
-  Alone,
-  alone,
-  single_party,
-  single_gives,
-  flat_is,
-  found,
-  is_there,
-  waits_on,
-  sure_lights,
-  told_lights,
-  told_out,
-  room_for_out,
-  gone_one,
-  base_at,
-  chosen_at,
-  copied_after,
-  room_same,
-  keeps_single,
-  single_returns,
-}
+use Rattle.cml_book.proofs.Commits.{Alone, alone, single_party, single_gives, flat_is, found, is_there, waits_on}
+use Rattle.cml_book.proofs.Commits.{sure_lights, told_lights, told_out, room_for_out, gone_one, base_at, chosen_at}
+use Rattle.cml_book.proofs.Commits.{copied_after, room_same, keeps_single, single_returns}
 use Rattle.cml_book.proofs.book.Book.commit_single.Given.{Over}
 use Rattle.cml_book.proofs.book.Book.commit_single.Goals.{After-leaf-base}
 use Rattle.cml_book.proofs.book.Book.commit_single.Goals as goal

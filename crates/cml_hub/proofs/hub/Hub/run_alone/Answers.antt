@@ -2,21 +2,9 @@ use Rattle.std.proofs.Common.{inl, inr, sym, subst}
 use Rattle.cml_hub.specs.Courses.{run_of}
 use Rattle.cml_hub.specs.Moves.{GoesIfLeft}
 use Rattle.cml_hub.specs.Playing.{GoesIfLeftBy}
-use Rattle.cml_hub.proofs.Going.{
-  alone_continues,
-  continues_self,
-  continues_called,
-  continues_more,
-  continues_reported,
-  still_continues,
-  none_out_reported,
-  none_out_same,
-  below,
-  over_not,
-  over_spent,
-  over_quiet,
-  quiet_over,
-}
+use Rattle.cml_hub.proofs.Going.{alone_continues, continues_self, continues_called, continues_more}
+use Rattle.cml_hub.proofs.Going.{continues_reported, still_continues, none_out_reported, none_out_same, below}
+use Rattle.cml_hub.proofs.Going.{over_not, over_spent, over_quiet, quiet_over}
 use Rattle.cml_hub.proofs.Played.{way_called, way_reported, way_more, way_on, way_out, way_quiet}
 use Rattle.cml_hub.proofs.Onward.{on_err}
 use Rattle.cml_hub.proofs.hub.Hub.run_alone.Goals as goal
