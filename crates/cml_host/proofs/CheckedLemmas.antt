@@ -10,8 +10,8 @@ use Rattle.cml_host.specs.Checked.{IsChecked, IsCounted, IsShaped}
 use Rattle.cml_host.specs.Said.{FileOutcome, RefusalOutcome, SaidOutcome}
 use Rattle.cml_host.specs.Scripts.{PlainScript, IsScript, IsNoScript, IsOpened, IsNotOpened}
 use Rattle.cml_host.specs.Stores.{Content}
-use Rattle.cml_host.specs.declared.said.Refusal.{Refusal}
-use Rattle.cml_host.specs.declared.said.Refusal.TheVariants.{Unread, Wrong, Memory}
+use Rattle.cml_host.specs.declared.refusal.Refusal.{Refusal}
+use Rattle.cml_host.specs.declared.refusal.Refusal.TheVariants.{Unread, Wrong, Memory}
 use Rattle.cml_host.specs.declared.said.Said.{Said}
 use Rattle.cml_host.specs.declared.said.Said.TheVariants.{Written, Refused}
 use Rattle.cml_stream.specs.Streams.{Counted, IsIdle}

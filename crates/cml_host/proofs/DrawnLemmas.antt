@@ -19,8 +19,8 @@ use Rattle.cml_host.specs.Narrated.{IsSetUp, IsNotSetUp, tale_for}
 use Rattle.cml_host.specs.Said.{RefusalOutcome}
 use Rattle.cml_host.specs.declared.draw.Undrawn.{Undrawn}
 use Rattle.cml_host.specs.declared.draw.Undrawn.TheVariants.{Refused, TooMany}
-use Rattle.cml_host.specs.declared.said.Refusal.{Refusal}
-use Rattle.cml_host.specs.declared.said.Refusal.TheVariants as refusal
+use Rattle.cml_host.specs.declared.refusal.Refusal.{Refusal}
+use Rattle.cml_host.specs.declared.refusal.Refusal.TheVariants as refusal
 use Rattle.cml_host.proofs.NarratedLemmas.{whole_unfit}
 use Rattle.cml_host.proofs.ScriptLemmas.{whole_plan}
 

@@ -10,8 +10,8 @@ use Rattle.cml_host.specs.Closed.{PlainSubject}
 use Rattle.cml_host.specs.Narrated.{IsUnfit, PlanTold, TextExplained, IsSetUp, IsNotSetUp}
 use Rattle.cml_host.specs.Replaying.{IsNotRead}
 use Rattle.cml_host.specs.Said.{RefusalOutcome}
-use Rattle.cml_host.specs.declared.said.Refusal.{Refusal}
-use Rattle.cml_host.specs.declared.said.Refusal.TheVariants.{Unread, Wrong, Memory}
+use Rattle.cml_host.specs.declared.refusal.Refusal.{Refusal}
+use Rattle.cml_host.specs.declared.refusal.Refusal.TheVariants.{Unread, Wrong, Memory}
 use Rattle.cml_host.proofs.ScriptLemmas.{whole_no_schedule, whole_plan}
 
 -- ---- a text, from its first bytes

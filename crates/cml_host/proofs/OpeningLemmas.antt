@@ -9,8 +9,8 @@ use Rattle.cml_host.specs.Said.{RefusalOutcome, RefusedOutcome, refusal_of}
 use Rattle.cml_host.specs.Stores.{Content, MayFail}
 use Rattle.cml_host.specs.declared.opening.NotOpened.{NotOpened}
 use Rattle.cml_host.specs.declared.opening.NotOpened.TheVariants as opening
-use Rattle.cml_host.specs.declared.said.Refusal.{Refusal}
-use Rattle.cml_host.specs.declared.said.Refusal.TheVariants.{Unread, Wrong, Memory}
+use Rattle.cml_host.specs.declared.refusal.Refusal.{Refusal}
+use Rattle.cml_host.specs.declared.refusal.Refusal.TheVariants.{Unread, Wrong, Memory}
 use Rattle.cml_host.specs.declared.store.StoreFault.{StoreFault}
 use Rattle.cml_host.specs.declared.store.StoreFault.TheVariants as store_fault
 use Rattle.cml_host.proofs.RanLemmas.{not_scripted}

@@ -22,8 +22,8 @@ use Rattle.cml_work.specs.Works.{IsWorked, GoesOnFrom}
 use Rattle.cml_host.specs.declared.picture.Picture.{Picture}
 use Rattle.cml_host.specs.declared.picture.Picture.TheVariants as drawing
 use Rattle.cml_host.specs.declared.run.Record.{Record}
-use Rattle.cml_host.specs.declared.said.Refusal.{Refusal}
-use Rattle.cml_host.specs.declared.said.Refusal.TheVariants.{Unread, Wrong, Memory}
+use Rattle.cml_host.specs.declared.refusal.Refusal.{Refusal}
+use Rattle.cml_host.specs.declared.refusal.Refusal.TheVariants.{Unread, Wrong, Memory}
 use Rattle.cml_host.specs.declared.workers.Cause.{Cause}
 use Rattle.cml_host.specs.declared.workers.Cause.TheVariants as cause
 use Rattle.cml_host.specs.declared.workers.Stopped.{Stopped}

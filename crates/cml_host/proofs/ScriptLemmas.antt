@@ -14,8 +14,8 @@ use Rattle.cml_host.specs.Scripts.{PlainScript, IsScript, IsNoScript, IsOpened, 
 use Rattle.cml_host.specs.Stores.{Content, unknown, nothing, bytes, IsLoaded, MayFail}
 use Rattle.cml_host.specs.declared.store.StoreFault.{StoreFault}
 use Rattle.cml_host.specs.declared.store.StoreFault.TheVariants as store_fault
-use Rattle.cml_host.specs.declared.said.Refusal.{Refusal}
-use Rattle.cml_host.specs.declared.said.Refusal.TheVariants.{Unread, Wrong, Memory}
+use Rattle.cml_host.specs.declared.refusal.Refusal.{Refusal}
+use Rattle.cml_host.specs.declared.refusal.Refusal.TheVariants.{Unread, Wrong, Memory}
 use Rattle.cml_host.proofs.TextLemmas.{all_or_long, not_spelled, whole_fault_told}
 
 -- ---- scripts

@@ -10,8 +10,8 @@ use Rattle.cml_host.specs.Closed.{PlainSubject}
 use Rattle.cml_host.specs.Replaying.{IsNoRun}
 use Rattle.cml_host.specs.Said.{RefusalOutcome}
 use Rattle.cml_host.specs.Shrunk.{IsShorterBy, ScheduleTold, TextShrunk}
-use Rattle.cml_host.specs.declared.said.Refusal.{Refusal}
-use Rattle.cml_host.specs.declared.said.Refusal.TheVariants.{Unread, Wrong, Memory}
+use Rattle.cml_host.specs.declared.refusal.Refusal.{Refusal}
+use Rattle.cml_host.specs.declared.refusal.Refusal.TheVariants.{Unread, Wrong, Memory}
 use Rattle.cml_host.specs.declared.shrink.Shorter.{Shorter}
 use Rattle.cml_host.proofs.ScriptLemmas.{whole_plan, whole_wrong}
 

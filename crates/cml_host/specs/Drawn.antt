@@ -20,7 +20,7 @@ use Rattle.cml_host.specs.Stores.{Content}
 use Rattle.cml_host.specs.Written.{TextOutcome}
 use Rattle.cml_host.specs.declared.draw.Undrawn.{Undrawn}
 use Rattle.cml_host.specs.declared.draw.Undrawn.TheVariants.{Refused, TooMany}
-use Rattle.cml_host.specs.declared.said.Refusal.TheVariants as refusal
+use Rattle.cml_host.specs.declared.refusal.Refusal.TheVariants as refusal
 
 -- the number of the last item that is drawn: that which is asked for, or the last of all
 abbrev pub last_drawn : Option ℕ → List Item → ℕ

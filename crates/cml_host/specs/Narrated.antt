@@ -20,8 +20,8 @@ use Rattle.cml_host.specs.Said.{MemoryOutcome}
 use Rattle.cml_host.specs.Stores.{Content}
 use Rattle.cml_host.specs.Told.{cannot_write}
 use Rattle.cml_host.specs.Written.{TextOutcome}
-use Rattle.cml_host.specs.declared.said.Refusal.{Refusal}
-use Rattle.cml_host.specs.declared.said.Refusal.TheVariants as refusal
+use Rattle.cml_host.specs.declared.refusal.Refusal.{Refusal}
+use Rattle.cml_host.specs.declared.refusal.Refusal.TheVariants as refusal
 use Rattle.cml_host.specs.declared.explain.Halt.{Halt}
 use Rattle.cml_host.specs.declared.explain.Halt.TheVariants.{Memory, Write}
 

@@ -9,8 +9,8 @@ use Rattle.cml_host.specs.Scripts.{PlainScript, IsOpened, IsNotOpened, NoScriptO
 use Rattle.cml_host.specs.Stores.{Content, IsLoaded, MayBeRefused}
 use Rattle.cml_host.specs.declared.opening.NotOpened.{NotOpened}
 use Rattle.cml_host.specs.declared.opening.NotOpened.TheVariants as opening
-use Rattle.cml_host.specs.declared.said.Refusal.{Refusal}
-use Rattle.cml_host.specs.declared.said.Refusal.TheVariants.{Unread, Wrong, Memory}
+use Rattle.cml_host.specs.declared.refusal.Refusal.{Refusal}
+use Rattle.cml_host.specs.declared.refusal.Refusal.TheVariants.{Unread, Wrong, Memory}
 
 -- What is said of what a command did with the text of a schedule, and a program, whose script this is: it wrote this to the output and that to the
 -- errors, and ended with this status.

@@ -24,8 +24,8 @@ use Rattle.cml_host.specs.Scripts.{PlainScript, IsOpened, NoScriptOutcome}
 use Rattle.cml_host.specs.Servers.{NoFunctionOutcome, first_unknown, server_numbers, server_names}
 use Rattle.cml_host.specs.Told.{IsRunOf, AllReported, whole_output, IsNotTold}
 use Rattle.cml_host.specs.Closed.{PlainAsked, PlainSubject, asked_of, IsClosed}
-use Rattle.cml_host.specs.declared.said.Refusal.{Refusal}
-use Rattle.cml_host.specs.declared.said.Refusal.TheVariants.{Unread, Wrong, Memory}
+use Rattle.cml_host.specs.declared.refusal.Refusal.{Refusal}
+use Rattle.cml_host.specs.declared.refusal.Refusal.TheVariants.{Unread, Wrong, Memory}
 
 -- the text is a schedule that says this
 abbrev pub IsSchedule : List ℕ → PlainPlan → Type 0

@@ -18,8 +18,8 @@ use Rattle.cml_host.specs.declared.said.Said.{Said}
 use Rattle.cml_host.specs.declared.said.Said.TheVariants.{Written, Refused}
 use Rattle.cml_host.specs.declared.store.StoreFault.{StoreFault}
 use Rattle.cml_host.specs.declared.store.StoreFault.TheVariants as store_fault
-use Rattle.cml_host.specs.declared.said.Refusal.{Refusal}
-use Rattle.cml_host.specs.declared.said.Refusal.TheVariants as refusal
+use Rattle.cml_host.specs.declared.refusal.Refusal.{Refusal}
+use Rattle.cml_host.specs.declared.refusal.Refusal.TheVariants as refusal
 use Rattle.cml_trace.specs.Replies.{line}
 use Rattle.cml_stream.specs.Streams.{Counted, IsIdle, Says}
 

@@ -11,8 +11,8 @@ use Rattle.cml_stream.specs.Streams.{Counted, Says}
 use Rattle.cml_host.specs.Stores.{Content, MayBeRefused}
 use Rattle.cml_host.specs.Said.{IsText, RefusedOutcome, text_told, script_told}
 use Rattle.cml_host.specs.declared.script.Script.{Script}
-use Rattle.cml_host.specs.declared.said.Refusal.{Refusal}
-use Rattle.cml_host.specs.declared.said.Refusal.TheVariants.{Unread, Wrong, Memory}
+use Rattle.cml_host.specs.declared.refusal.Refusal.{Refusal}
+use Rattle.cml_host.specs.declared.refusal.Refusal.TheVariants.{Unread, Wrong, Memory}
 
 -- a script: its text, its forms, and its program
 pub record PlainScript : Type 0 where

@@ -8,8 +8,8 @@ use Rattle.cml_stream.specs.Streams.{Counted, Says}
 use Rattle.cml_text.specs.Lines.{line}
 use Rattle.cml_arguments.specs.declared.EndOptions.{EndOptions}
 use Rattle.cml_host.specs.Scripts.{PlainScript}
-use Rattle.cml_host.specs.declared.said.Refusal.{Refusal}
-use Rattle.cml_host.specs.declared.said.Refusal.TheVariants.{Unread, Wrong, Memory}
+use Rattle.cml_host.specs.declared.refusal.Refusal.{Refusal}
+use Rattle.cml_host.specs.declared.refusal.Refusal.TheVariants.{Unread, Wrong, Memory}
 
 -- the number of the function of this name, if the script has one
 abbrev pub function_numbered : PlainScript → Name → Option ℕ

@@ -6,7 +6,8 @@ ghost use Rattle.cml_host.specs.Checked.{IsChecked, IsCounted};
 ghost use Rattle.cml_host.specs.Said.{FileOutcome};
 ghost use Rattle.cml_host.specs.Stores.{IsUnchanged};
 
-use crate::said::{Said, finish, refuse};
+use crate::refusal::refuse;
+use crate::said::{Said, finish};
 use crate::script::open_script;
 use crate::store::Store;
 use cml_check::Prog;

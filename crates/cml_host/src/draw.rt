@@ -14,7 +14,7 @@ use crate::explain::begin;
 use crate::item::explain_item;
 use crate::opening::{REFUSED, open_both, refuse_opening};
 use crate::output::{say, send_text};
-use crate::said::{Refusal, refuse};
+use crate::refusal::{Refusal, refuse};
 use crate::store::Store;
 use crate::tell::let_go;
 use cml_arguments::PartOptions;

@@ -20,8 +20,8 @@ ghost use Rattle.cml_arguments.specs.Words.{IsDepth, IsRuns, saved_name};
 
 use crate::explain::Halt;
 use crate::output::say;
-use crate::reason::Reason;
-use crate::said::{refuse, with_why};
+use crate::reason::{Reason, with_why};
+use crate::refusal::refuse;
 use crate::script::{Script, open_script};
 use crate::servers::find_servers;
 use crate::store::Store;

@@ -6,8 +6,9 @@ ghost use Rattle.cml_host.specs.Formatted.{IsPrinted};
 ghost use Rattle.cml_host.specs.Said.{FileOutcome};
 ghost use Rattle.cml_host.specs.Stores.{IsUnchanged};
 
-use crate::said::{Said, TEXT_LIMIT, finish, refuse_file, refuse_text};
-use crate::source::Source;
+use crate::refusal::refuse_file;
+use crate::said::{Said, finish, refuse_text};
+use crate::source::{Source, TEXT_LIMIT};
 use crate::store::Store;
 use cml_stream::Counting;
 use cml_text::{print, read};

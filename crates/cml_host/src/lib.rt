@@ -14,6 +14,7 @@ mod opening;
 mod output;
 mod picture;
 mod reason;
+mod refusal;
 mod replay;
 mod reports;
 mod run;

@@ -7,8 +7,8 @@ ghost use Rattle.cml_host.specs.Opening.{AreOpened, NotOpenedOutcome, AreNotOpen
 ghost use Rattle.cml_host.specs.Stores.{IsUnchanged};
 
 use crate::close::{Subject, subject_of};
+use crate::refusal::{Refusal, refuse};
 use crate::replay::SCHEDULE_LIMIT;
-use crate::said::{Refusal, refuse};
 use crate::script::open_script;
 use crate::store::Store;
 use cml_check::Prog;

@@ -1,7 +1,11 @@
-//! Why a file can't be read or written.
+//! Why a file can't be read or written: the reasons, in the words of the system, and the line that says one of them.
 
-ghost use Rattle.std.specs.Prelude.{◌≡◌};
+ghost use Rattle.std.specs.Prelude.{◌≡◌, IfOk, Some};
+ghost use Rattle.std.specs.String.{string_bytes};
+ghost use Rattle.cml_host.specs.Said as spec;
 ghost use Rattle.cml_host.specs.Stores.{system_words};
+
+use std::alloc::{AllocError, Global};
 
 /// Why a file can't be read or written.
 #[derive(Clone, Copy, Debug, PartialEq, Eq)]
@@ -49,4 +53,49 @@ impl Reason {
             Reason::Busy => "Text file busy",
         }
     }
+}
+
+/// The line, and then why the file of this name is refused, where that is explained and known.
+///
+/// # Errors
+/// Out of memory.
+pub fn with_why(
+    alloc: Global,
+    line: &[u8],
+    name: &str,
+    explains: bool,
+    why: Option<Reason>,
+) -> Result<Vec<u8>, AllocError>
+    ensures { IfOk result (λ told. told.items ≡ spec.with_why explains name.now why line.now) }
+{
+    match why {
+        Some(reason) => with_reason(alloc, line, name, explains, reason),
+        None => Vec::from_slice(alloc, line),
+    }
+}
+
+// The same where it is known why.
+fn with_reason(
+    alloc: Global,
+    line: &[u8],
+    name: &str,
+    explains: bool,
+    reason: Reason,
+) -> Result<Vec<u8>, AllocError>
+    ensures { IfOk result (λ told. told.items ≡ spec.with_why explains name.now (Some reason) line.now) }
+{
+    let mut told = Vec::from_slice(alloc, line)?;
+    if explains {
+        let behind = reason_line(alloc, name, reason)?;
+        told.extend_from_slice(behind.as_bytes())?;
+    }
+    Ok(told)
+}
+
+// The line that says why.
+fn reason_line(alloc: Global, name: &str, reason: Reason) -> Result<String, AllocError>
+    ensures { IfOk result (λ told. string_bytes told ≡ spec.reason_line name.now reason) }
+{
+    let words = reason.words();
+    format!(in alloc; "{name}: {words}\n")
 }

@@ -11,7 +11,7 @@ ghost use Rattle.cml_text.specs.Lines.{line};
 
 use crate::close::{Asked, ask, close, explains, say_end};
 use crate::item::explain_item;
-use crate::said::{Refusal, refuse};
+use crate::refusal::{Refusal, refuse};
 use crate::script::{Script, open_script};
 use crate::servers::find_servers;
 use crate::store::Store;

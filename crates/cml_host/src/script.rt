@@ -4,8 +4,8 @@ ghost use Rattle.std.specs.Prelude.{IfOk, IfErr};
 ghost use Rattle.cml_host.specs.Scripts.{IsScript, IsOpened, IsProgramOf, IsNoProgram, IsNotMade, IsNotOpened, plain_script};
 ghost use Rattle.cml_host.specs.Stores.{IsUnchanged};
 
-use crate::said::{Refusal, TEXT_LIMIT};
-use crate::source::{Source, tell_script, tell_text};
+use crate::refusal::Refusal;
+use crate::source::{Source, TEXT_LIMIT, tell_script, tell_text};
 use crate::store::Store;
 use cml_check::{CheckFault, Prog, check};
 use cml_text::{Sexpr, TextFault, read};

@@ -5,7 +5,7 @@ ghost use Rattle.cml_host.specs.Scripts.{plain_script};
 ghost use Rattle.cml_host.specs.Servers as spec;
 ghost use Rattle.cml_host.specs.Servers.{IsNotNumbered, numbers_in, unknown_line};
 
-use crate::said::Refusal;
+use crate::refusal::Refusal;
 use crate::script::Script;
 use cml_phrase::function_name;
 use std::alloc::{AllocError, Global};

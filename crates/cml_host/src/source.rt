@@ -9,6 +9,9 @@ use cml_explain::{explain_script, explain_text};
 use cml_text::{FaultKind, Sexpr, TextFault};
 use std::alloc::{AllocError, Global};
 
+/// The most bytes of a text.
+pub const TEXT_LIMIT: usize = 1_048_576;
+
 /// A text that is read.
 #[derive(Clone, Copy)]
 pub struct Source<'a> {

@@ -21,8 +21,8 @@ ghost use Rattle.cml_trace.specs.Live.{max_turns, HasTurnCause, IsFlushed};
 
 use crate::close::{Subject, subject_of};
 use crate::output::say;
+use crate::refusal::refuse;
 use crate::run::{make_record, save_record};
-use crate::said::refuse;
 use crate::script::{Script, open_script};
 use crate::store::Store;
 use crate::tell::let_go;

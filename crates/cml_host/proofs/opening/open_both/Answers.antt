@@ -4,7 +4,7 @@ use Rattle.cml_host.specs.Opening.{AreNotOpened}
 use Rattle.cml_host.specs.Scripts.{plain_script}
 use Rattle.cml_host.specs.Stores.{Content, IsLoaded}
 use Rattle.cml_host.specs.declared.opening.NotOpened.TheVariants.{Schedule}
-use Rattle.cml_host.specs.declared.said.Refusal.{Refusal}
+use Rattle.cml_host.specs.declared.refusal.Refusal.{Refusal}
 use Rattle.cml_host.proofs.OpeningLemmas.{not_held}
 use Rattle.cml_host.proofs.opening.open_both.Goals as goal
 
