@@ -33,6 +33,8 @@ mod scans;
 #[cfg(test)]
 mod schedules;
 #[cfg(test)]
+mod stacks;
+#[cfg(test)]
 mod tables;
 #[cfg(test)]
 mod texts;

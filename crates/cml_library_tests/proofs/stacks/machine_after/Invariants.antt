@@ -1,7 +1,7 @@
 use Rattle.std.proofs.Common.{◌≡◌}
 use Rattle.cml_step.specs.Answers.{top_await, nothing}
 use Rattle.cml_step.specs.Machines.{machine_term, Fits}
-use Rattle.cml_library_tests.proofs.machines.machine_after.Given as goal
+use Rattle.cml_library_tests.proofs.stacks.machine_after.Given as goal
 
 -- the machine fits the program and runs
 abbrev pub invariant-loop : goal.invariant-loop
