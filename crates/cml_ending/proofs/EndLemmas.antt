@@ -65,7 +65,8 @@ same_behind f g (at_tick t) h = refl
 same_behind f g (after_ticks d) h = refl
 same_behind f g (nack k) h = refl
 
-same_told : (w : PlainWorld) (began : List PlainFunction) (f g : ℕ → Option ℕ) (bs : List PlainBase) → SameWhere f g (list_any is_on_mvar bs) → map (base_told w began f) bs ≡ map (base_told w began g) bs
+same_told : (w : PlainWorld) (began : List PlainFunction) (f g : ℕ → Option ℕ) (bs : List PlainBase)
+    → SameWhere f g (list_any is_on_mvar bs) → map (base_told w began f) bs ≡ map (base_told w began g) bs
 same_told w began f g [] h = refl
 same_told w began f g (b ∷ bs) h =
     let rest = same_told w began f g bs (same_rest f g (is_on_mvar b) (list_any is_on_mvar bs) h) in
@@ -144,7 +145,10 @@ said_some (Ok done) s end e budget b items is waits runs none o p q w r n not_so
     let rn = run_count s.world in
     let test : (wn + rn == 0) ≡ false = sym (ap (λ k. k + rn == 0) w) ∙ (sym (ap (λ k. waits + k == 0) r) ∙ (sym n ∙ not_so)) in
     let same : opening_line waits runs e b is ≡ opening_line wn rn end budget items =
-    ap (λ k. opening_line k runs e b is) w ∙ (ap (λ k. opening_line wn k e b is) r ∙ (ap (λ k. opening_line wn rn k b is) ee ∙ (ap (λ k. opening_line wn rn end k is) be ∙ ap (λ k. opening_line wn rn end budget k) ie))) in
+    ap (λ k. opening_line k runs e b is) w
+    ∙ (ap (λ k. opening_line wn k e b is) r
+    ∙ (ap (λ k. opening_line wn rn k b is) ee
+    ∙ (ap (λ k. opening_line wn rn end k is) be ∙ ap (λ k. opening_line wn rn end budget k) ie))) in
     appended_two o (opening_line waits runs e b is) (left_lines s) p q first rest
     ∙ (ap (λ line. o ++ (line ++ left_lines s)) same
     ∙ ap (λ text. o ++ text) (sym (not_picked (wn + rn == 0) [] (opening_line wn rn end budget items ++ left_lines s) test)))

@@ -84,7 +84,8 @@ joins (Ok x) f seed end ks ts i k t new old same at is view more =
 joins (Err y) f seed end ks ts i k t new old same at is view more = tt
 
 -- Where memory was not enough, nothing has changed.
-pub joins_not : {K T E : Type 0} (r : Result T E) (f : K → List Detail) (ks : List K) (ts : List PlainTally) (i : ℕ) (t new : PlainTally) (old : List PlainClass) → t ≡ get_or ts i t → old ≡ with_details (map f ks) ts
+pub joins_not : {K T E : Type 0} (r : Result T E) (f : K → List Detail) (ks : List K) (ts : List PlainTally) (i : ℕ)
+    (t new : PlainTally) (old : List PlainClass) → t ≡ get_or ts i t → old ≡ with_details (map f ks) ts
     → OnErr r (new ≡ t) → OnErr r (with_details (map f ks) (set ts i new) ≡ old)
 joins_not (Ok x) f ks ts i t new old is view same = tt
 joins_not (Err y) f ks ts i t new old is view same =
@@ -97,7 +98,8 @@ begins_not (Err y) f ks new_ks ts new_ts old view same =
     ap (λ k. with_details (map f k) new_ts) same.0 ∙ (ap (with_details (map f ks)) same.1 ∙ sym view)
 
 -- It begins a class, if memory was enough.
-pub begins : {K T E : Type 0} (r : Result T E) (f : K → List Detail) (seed : ℕ) (end : Finish) (ks : List K) (ts : List PlainTally) (new_details : List (List Detail)) (new_tallies : List PlainTally) (old : List PlainClass)
+pub begins : {K T E : Type 0} (r : Result T E) (f : K → List Detail) (seed : ℕ) (end : Finish) (ks : List K)
+    (ts : List PlainTally) (new_details : List (List Detail)) (new_tallies : List PlainTally) (old : List PlainClass)
     → length ks ≡ length ts → list_any (λ x. alike end.details (f x)) ks ≡ false → old ≡ with_details (map f ks) ts
     → OnOk r (new_details ≡ map f ks ++ end.details ∷ []) → OnOk r (new_tallies ≡ ts ++ first_run seed end ∷ [])
     → OnOk r (with_details new_details new_tallies ≡ classed seed end old)

@@ -23,6 +23,7 @@ one_thread_more c falls threads i o p all h is so_far =
     ∙ (append_assoc o (thread_details c falls i t) rest
     ∙ (ap (λ x. o ++ x) (sym (at_drop_more (threads_details c falls i) threads i running h)) ∙ so_far)))
 
-pub no_thread_more : (c : PlainCourse) (falls : ℕ → Option PlainFall) (threads : List PlainThread) (i : ℕ) (o all : List Detail) → length threads ≤ i → o ++ threads_details c falls i (drop i threads) ≡ all → o ≡ all
+pub no_thread_more : (c : PlainCourse) (falls : ℕ → Option PlainFall) (threads : List PlainThread) (i : ℕ)
+    (o all : List Detail) → length threads ≤ i → o ++ threads_details c falls i (drop i threads) ≡ all → o ≡ all
 no_thread_more c falls threads i o all h so_far =
     sym (append-nil o) ∙ (ap (λ rest. o ++ threads_details c falls i rest) (sym (drop_all i threads h)) ∙ so_far)

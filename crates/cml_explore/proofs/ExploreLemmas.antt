@@ -73,7 +73,8 @@ gathered_more first es n e at =
     let last : n ≡ first + length finishes = omega arith in
     same_parts _ _ _ _ _ _ (ap (λ l. classed_all first l []) (map_more es e) ∙ classed_more first finishes n e.finish [] last) (length_push es e) (all_more es e)
 
-few_if : (b : Bool) (n : ℕ) (end : Finish) (c : PlainClass) (cs rest : List PlainClass) → c.tally.runs ≤ n → All (λ (x : PlainClass). x.tally.runs ≤ n + 1) cs → All (λ (x : PlainClass). x.tally.runs ≤ n + 1) rest
+few_if : (b : Bool) (n : ℕ) (end : Finish) (c : PlainClass) (cs rest : List PlainClass) → c.tally.runs ≤ n
+    → All (λ (x : PlainClass). x.tally.runs ≤ n + 1) cs → All (λ (x : PlainClass). x.tally.runs ≤ n + 1) rest
     → All (λ (x : PlainClass). x.tally.runs ≤ n + 1) (if b then record c { tally = grown c.tally end } ∷ cs else c ∷ rest)
 few_if true n end c cs rest h old new = All-cons (λ (x : PlainClass). x.tally.runs ≤ n + 1) (record c { tally = grown c.tally end }) cs (omega arith) old
 few_if false n end c cs rest h old new = All-cons (λ (x : PlainClass). x.tally.runs ≤ n + 1) c rest (omega arith) new
@@ -86,7 +87,9 @@ few_classed n seed end (c ∷ cs) few =
     few_if (alike end.details c.details) n end c cs (classed seed end cs) (All-head P c cs few)
     (All-weaker P (λ (x : PlainClass). x.tally.runs ≤ n + 1) (λ x h. omega arith) cs rest) (few_classed n seed end cs rest)
 
-few_all : (n seed : ℕ) (ends : List Finish) (cs : List PlainClass) (m : ℕ) → m ≡ n + length ends → All (λ (x : PlainClass). x.tally.runs ≤ n) cs → All (λ (x : PlainClass). x.tally.runs ≤ m) (classed_all seed ends cs)
+few_all : (n seed : ℕ) (ends : List Finish) (cs : List PlainClass) (m : ℕ) → m ≡ n + length ends
+    → All (λ (x : PlainClass). x.tally.runs ≤ n) cs
+    → All (λ (x : PlainClass). x.tally.runs ≤ m) (classed_all seed ends cs)
 few_all n seed [] cs m at few = All-weaker (λ (x : PlainClass). x.tally.runs ≤ n) (λ (x : PlainClass). x.tally.runs ≤ m) (λ x h. omega (arith, at, h)) cs few
 few_all n seed (e ∷ ends) cs m at few =
     let next : m ≡ (n + 1) + length ends = omega (arith, at) in
@@ -173,7 +176,8 @@ made_so true p asked made so_far h is = let same : made.runs ≡ asked.runs = gr
 made_so false p asked made so_far h is = let few : made.runs < asked.runs = grind (arith, nat_tests) in (so_far, few)
 
 -- a run was added, which a hub has made by the seed
-pub added_by : {E : Type 0} (r : Result Bool E) (p : List (PlainItem ℕ)) (budget : ℕ) (order : Order) (servers : List ℕ) (until : Option Until) (seed : ℕ) (h : Kept) (old new : PlainExplored) → IsSeedRun p budget order seed h
+pub added_by : {E : Type 0} (r : Result Bool E) (p : List (PlainItem ℕ)) (budget : ℕ) (order : Order) (servers : List ℕ)
+    (until : Option Until) (seed : ℕ) (h : Kept) (old new : PlainExplored) → IsSeedRun p budget order seed h
     → IfOk r (λ s. (e : PlainEnded) × IsEndOf servers h e × (new ≡ with_ended seed e old) × (s ≡ stops until e))
     → IfOk r (λ s. (e : PlainEnded) × EndsSoBy p budget order servers seed e × (new ≡ with_ended seed e old) × (s ≡ stops until e))
 added_by (Ok s) p budget order servers until seed h old new run is = (is.0, (h, run, is.1), is.2, is.3)
@@ -189,7 +193,8 @@ at_most p asked made is =
     ]
 
 -- one run more, by its parts
-pub added_hub : (old : PlainExplored) (cs new_classes : List PlainClass) (n m : ℕ) (was well now : Bool) (seed : ℕ) (finish : Finish) (e : PlainEnded) → record { classes = cs; runs = n; well = was } ≡ old
+pub added_hub : (old : PlainExplored) (cs new_classes : List PlainClass) (n m : ℕ) (was well now : Bool) (seed : ℕ)
+    (finish : Finish) (e : PlainEnded) → record { classes = cs; runs = n; well = was } ≡ old
     → finish ≡ e.finish → new_classes ≡ classed seed finish cs → m ≡ n + 1 → well ≡ is_well e → now ≡ (was && well) → record { classes = new_classes; runs = m; well = now } ≡ with_ended seed e old
 added_hub old cs new_classes n m was well now seed finish e view is made more well_is both =
     same_parts _ _ _ _ _ _ (made ∙ ap (λ f. classed seed f cs) is) more (both ∙ ap (λ b. was && b) well_is) ∙ ap (with_ended seed e) view

@@ -1,5 +1,7 @@
 -- A class of a later part among classes.
-use Rattle.std.proofs.Common.{◌≡◌, ℕ, zero, suc, ◌+◌, ◌<◌, ◌≤◌, Bool, true, false, if◌then◌else◌, ◌||◌, List, [], ◌∷◌, ◌++◌, map, length, take, get_or, set, ◌^◌, Some, refl, sym, ap, subst, ◌∙◌, arith}
+use Rattle.std.proofs.Common.{◌≡◌, ℕ, zero, suc, ◌+◌, ◌<◌, ◌≤◌, Bool, true, false, if◌then◌else◌, ◌||◌, List, []}
+use Rattle.std.proofs.Common.{◌∷◌, ◌++◌, map, length, take, get_or, set, ◌^◌, Some, refl, sym, ap, subst, ◌∙◌}
+use Rattle.std.proofs.Common.{arith}
 use Rattle.std.specs.Prelude.{position, slice_get, Result, Ok, Err, OnOk}
 use Rattle.std.proofs.lemmas.List.Quantifiers.{position-Some}
 use Rattle.std.proofs.lemmas.List.Sums.{sum_by-cons}
@@ -78,7 +80,8 @@ abbrev class_of : List Detail → PlainTally → PlainClass
 class_of ds t = record { details = ds; tally = t }
 
 -- It joins its class, if memory was enough.
-pub joins_class : {K T E : Type 0} (r : Result T E) (f : K → List Detail) (ds own : List Detail) (u : PlainTally) (ks : List K) (ts : List PlainTally) (i : ℕ) (k : K) (t new : PlainTally) (old : List PlainClass)
+pub joins_class : {K T E : Type 0} (r : Result T E) (f : K → List Detail) (ds own : List Detail) (u : PlainTally)
+    (ks : List K) (ts : List PlainTally) (i : ℕ) (k : K) (t new : PlainTally) (old : List PlainClass)
     → length ks ≡ length ts → position (λ x. alike ds (f x)) ks ≡ Some i → t ≡ get_or ts i t → old ≡ with_details (map f ks) ts → ds ≡ own
     → OnOk r (new ≡ both_tallies t u)
     → OnOk r (with_details (map f ks) (set ts i new) ≡ class_joined old (class_of own u))
@@ -91,7 +94,9 @@ joins_class (Ok x) f ds own u ks ts i k t new old same at is view copied more =
 joins_class (Err y) f ds own u ks ts i k t new old same at is view copied more = tt
 
 -- It is a class more, if memory was enough.
-pub begins_class : {K T E : Type 0} (r : Result T E) (f : K → List Detail) (ds own : List Detail) (u copy : PlainTally) (ks : List K) (ts : List PlainTally) (new_details : List (List Detail)) (new_tallies : List PlainTally) (old : List PlainClass)
+pub begins_class : {K T E : Type 0} (r : Result T E) (f : K → List Detail) (ds own : List Detail) (u copy : PlainTally)
+    (ks : List K) (ts : List PlainTally) (new_details : List (List Detail)) (new_tallies : List PlainTally)
+    (old : List PlainClass)
     → length ks ≡ length ts → list_any (λ x. alike ds (f x)) ks ≡ false → old ≡ with_details (map f ks) ts → ds ≡ own → copy ≡ tally_alone u
     → OnOk r (new_details ≡ map f ks ++ ds ∷ []) → OnOk r (new_tallies ≡ ts ++ copy ∷ [])
     → OnOk r (with_details new_details new_tallies ≡ class_joined old (class_of own u))
@@ -104,7 +109,8 @@ begins_class (Err y) f ds own u copy ks ts new_details new_tallies old same none
 
 -- ---- runs are counted
 
-joined_runs_if : (b : Bool) (c d : PlainClass) (cs rest : List PlainClass) → runs_of rest ≡ runs_of cs + d.tally.runs → runs_of (if b then joined_class c d ∷ cs else c ∷ rest) ≡ runs_of (c ∷ cs) + d.tally.runs
+joined_runs_if : (b : Bool) (c d : PlainClass) (cs rest : List PlainClass) → runs_of rest ≡ runs_of cs + d.tally.runs
+    → runs_of (if b then joined_class c d ∷ cs else c ∷ rest) ≡ runs_of (c ∷ cs) + d.tally.runs
 joined_runs_if true c d cs rest more =
     let f : PlainClass → ℕ = λ x. x.tally.runs in
     omega (arith, sum_by-cons f (joined_class c d) cs, sum_by-cons f c cs)

@@ -174,7 +174,9 @@ joined_any_if true ds f c cs some rest = some
 joined_any_if false ds f c cs some rest = either (alike ds c.details) _ _ some rest
 
 -- what is there stays, once a class has joined
-joined_any : (ds : List Detail) (f : PlainClass) (cs : List PlainClass) → list_any (λ (x : PlainClass). alike ds x.details) cs ≡ true → list_any (λ (x : PlainClass). alike ds x.details) (class_joined cs f) ≡ true
+joined_any : (ds : List Detail) (f : PlainClass) (cs : List PlainClass)
+    → list_any (λ (x : PlainClass). alike ds x.details) cs ≡ true
+    → list_any (λ (x : PlainClass). alike ds x.details) (class_joined cs f) ≡ true
 joined_any ds f [] some = cc
 joined_any ds f (c ∷ cs) some = joined_any_if (alike f.details c.details) ds f c cs some (joined_any ds f cs)
 
@@ -201,7 +203,9 @@ abbrev Apart : List PlainClass → Type 0
 Apart [] = Unit {0}
 Apart (d ∷ ds) = (list_any (λ (x : PlainClass). alike d.details x.details) ds ≡ false) × Apart ds
 
-none_same : (ds es : List Detail) (cs : List PlainClass) → alike ds es ≡ true → list_any (λ (x : PlainClass). alike es x.details) cs ≡ false → list_any (λ (x : PlainClass). alike ds x.details) cs ≡ false
+none_same : (ds es : List Detail) (cs : List PlainClass) → alike ds es ≡ true
+    → list_any (λ (x : PlainClass). alike es x.details) cs ≡ false
+    → list_any (λ (x : PlainClass). alike ds x.details) cs ≡ false
 none_same ds es [] same none = refl
 none_same ds es (c ∷ cs) same none =
     neither _ _ (alike_laws.congr ds es c.details same ∙ first_not (alike es c.details) _ none) (none_same ds es cs same (second_not (alike es c.details) _ none))

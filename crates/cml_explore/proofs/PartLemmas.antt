@@ -1,5 +1,7 @@
 -- What a part comes to with what was made before.
-use Rattle.std.proofs.Common.{◌≡◌, inr, ℕ, zero, suc, ◌+◌, ◌-◌, ◌*◌, ◌<◌, ◌≤◌, ◌^◌, min, Bool, true, false, if◌then◌else◌, ◌||◌, List, [], ◌∷◌, ◌++◌, map, length, get_or, refl, sym, ap, subst, ◌∙◌, arith}
+use Rattle.std.proofs.Common.{◌≡◌, inr, ℕ, zero, suc, ◌+◌, ◌-◌, ◌*◌, ◌<◌, ◌≤◌, ◌^◌, min, Bool, true, false}
+use Rattle.std.proofs.Common.{if◌then◌else◌, ◌||◌, List, [], ◌∷◌, ◌++◌, map, length, get_or, refl, sym, ap, subst}
+use Rattle.std.proofs.Common.{◌∙◌, arith}
 use Rattle.std.specs.Prelude.{Result, Ok, Err, IfOk}
 use Rattle.std.specs.declared.alloc.AllocError.{AllocError}
 use Rattle.std.proofs.lemmas.List.{append_assoc, length-append, length_push, map-append}
@@ -20,7 +22,8 @@ use Rattle.cml_explore.proofs.MergeLemmas.{merged_is}
 
 -- ---- the runs of the classes are the runs that were made
 
-counted_if : (b : Bool) (end : Finish) (c : PlainClass) (cs rest : List PlainClass) → runs_of rest ≡ runs_of cs + 1 → runs_of (if b then record c { tally = grown c.tally end } ∷ cs else c ∷ rest) ≡ runs_of (c ∷ cs) + 1
+counted_if : (b : Bool) (end : Finish) (c : PlainClass) (cs rest : List PlainClass) → runs_of rest ≡ runs_of cs + 1
+    → runs_of (if b then record c { tally = grown c.tally end } ∷ cs else c ∷ rest) ≡ runs_of (c ∷ cs) + 1
 counted_if true end c cs rest more =
     let f : PlainClass → ℕ = λ x. x.tally.runs in
     omega (arith, sum_by-cons f (record c { tally = grown c.tally end }) cs, sum_by-cons f c cs)
@@ -80,7 +83,9 @@ neither true b e f = cc
 neither false b e f = f
 
 module _ (p : List (PlainItem ℕ)) (asked : Asked) where
-  each_append : (seed : ℕ) (xs ys : List PlainEnded) (n : ℕ) → n ≡ seed + length xs → EachEnds p asked.budget asked.order asked.servers.now seed xs → EachEnds p asked.budget asked.order asked.servers.now n ys
+  each_append : (seed : ℕ) (xs ys : List PlainEnded) (n : ℕ) → n ≡ seed + length xs
+      → EachEnds p asked.budget asked.order asked.servers.now seed xs
+      → EachEnds p asked.budget asked.order asked.servers.now n ys
       → EachEnds p asked.budget asked.order asked.servers.now seed (xs ++ ys)
   each_append seed [] ys n at each more =
       let here : n ≡ seed = omega arith in
@@ -135,7 +140,8 @@ copy_fits p asked one other new none so_far few =
     let there = counted_so_far p asked other so_far in
     record { runs = omega (arith, none, few); classes = omega (arith, here, there, none, few) }
 
-pub copied : (p : List (PlainItem ℕ)) (asked : Asked) (one other copy : PlainExplored) → SoFar p asked one → one.runs ≡ 0 → SoFar p asked other → copy ≡ parts_merged one other → SoFar p asked copy × (copy.runs ≡ other.runs)
+pub copied : (p : List (PlainItem ℕ)) (asked : Asked) (one other copy : PlainExplored) → SoFar p asked one → one.runs
+    ≡ 0 → SoFar p asked other → copy ≡ parts_merged one other → SoFar p asked copy × (copy.runs ≡ other.runs)
 copied p asked one other copy new none so_far is =
     let at : asked.first ≡ asked.first + one.runs = omega (arith, none) in
     let many : copy.runs ≡ one.runs + other.runs = ap (λ (m : PlainExplored). m.runs) is in
@@ -207,7 +213,8 @@ module _ (p : List (PlainItem ℕ)) (asked : Asked) (so_far : PlainExplored) (ro
       (subst (IsExplored p asked) (sym j.merged) (joined_last p asked one j.made.made here (round.first + k * round.size) own_runs at_part has in_asked), omega (arith, runs, own, one_more, many))
 
 -- all parts were joined
-round_made : (p : List (PlainItem ℕ)) (asked : Asked) (so_far : PlainExplored) (round : Round) (count : ℕ) (made : PlainExplored) → IsRound asked so_far round → 0 < count → 0 < round.left → SoFar p asked made
+round_made : (p : List (PlainItem ℕ)) (asked : Asked) (so_far : PlainExplored) (round : Round) (count : ℕ)
+    (made : PlainExplored) → IsRound asked so_far round → 0 < count → 0 < round.left → SoFar p asked made
     → made.runs ≡ so_far.runs + min (count * round.size) round.left → (so_far.runs < made.runs) × (made.runs ≤ asked.runs)
 round_made p asked so_far round zero made is some left here many = absurd (omega (arith, some))
 round_made p asked so_far round (suc n) made is some left here many =
@@ -217,7 +224,9 @@ round_made p asked so_far round (suc n) made is some left here many =
     (omega (arith, many, size, left, more), omega (arith, many, all))
 
 -- no part has come yet
-pub round_begins : (p : List (PlainItem ℕ)) (asked : Asked) (so_far : PlainExplored) (round : Round) (count : ℕ) (parts all : List (Result Part AllocError)) (made : PlainExplored) → IsRound asked so_far round → AreInside round count
+pub round_begins : (p : List (PlainItem ℕ)) (asked : Asked) (so_far : PlainExplored) (round : Round) (count : ℕ)
+    (parts all : List (Result Part AllocError)) (made : PlainExplored) → IsRound asked so_far round
+    → AreInside round count
     → AreParts p asked round count parts → length parts ≡ count → all ≡ parts → SoFar p asked made → made.runs ≡ so_far.runs → IsAmidRound p asked so_far count all 0 made
 round_begins p asked so_far round count parts all made is inside are long same here many = record {
   round = round;
@@ -229,7 +238,9 @@ round_begins p asked so_far round count parts all made is inside are long same h
   many = omega (arith, many);
 }
 
-module _ (p : List (PlainItem ℕ)) (asked : Asked) (so_far : PlainExplored) (count : ℕ) (parts : List (Result Part AllocError)) (k : ℕ) (made : PlainExplored) (amid : IsAmidRound p asked so_far count parts k made)
+module _ (p : List (PlainItem ℕ)) (asked : Asked) (so_far : PlainExplored) (count : ℕ)
+    (parts : List (Result Part AllocError)) (k : ℕ) (made : PlainExplored)
+    (amid : IsAmidRound p asked so_far count parts k made)
     (part : Result Part AllocError) (at : part ≡ get_or parts k part) (lt : k < length parts) where
   few : k < count
   few = let long = amid.long in omega (arith, long, lt)
@@ -249,7 +260,9 @@ module _ (p : List (PlainItem ℕ)) (asked : Asked) (so_far : PlainExplored) (co
   next_last new b e j = part_last p asked so_far amid.round amid.is k (amid.inside k few) made amid.here amid.many part gave new b e j
 
 -- all parts have come
-pub round_ends : (p : List (PlainItem ℕ)) (asked : Asked) (so_far : PlainExplored) (count : ℕ) (parts : List (Result Part AllocError)) (k : ℕ) (made : PlainExplored) → IsAmidRound p asked so_far count parts k made → k ≡ length parts → 0 < count
+pub round_ends : (p : List (PlainItem ℕ)) (asked : Asked) (so_far : PlainExplored) (count : ℕ)
+    (parts : List (Result Part AllocError)) (k : ℕ) (made : PlainExplored)
+    → IsAmidRound p asked so_far count parts k made → k ≡ length parts → 0 < count
     → so_far.runs < asked.runs → (so_far.runs < made.runs) × (made.runs ≤ asked.runs)
 round_ends p asked so_far count parts k made amid all some more =
     let left = amid.is.left in

@@ -16,13 +16,17 @@ use Rattle.cml_explore.specs.Merges.{HasPart, part_asked, AreParts, ArePartsPlac
 
 -- ---- nothing lies at any place
 
-nothing_there : (places : List (Option (Result Part AllocError))) → All (λ (o : Option (Result Part AllocError)). o ≡ None) places → (k : ℕ) (part : Result Part AllocError) → slice_get places k ≡ Some (Some part) → ⊥
+nothing_there : (places : List (Option (Result Part AllocError)))
+    → All (λ (o : Option (Result Part AllocError)). o ≡ None) places → (k : ℕ) (part : Result Part AllocError)
+    → slice_get places k ≡ Some (Some part) → ⊥
 nothing_there places none k part is =
     let at : get_or places k (Some part) ≡ Some part = get_or_from_slice_get places k (Some part) (Some part) is in
     let no : get_or places k (Some part) ≡ None = All-get_or (λ (o : Option (Result Part AllocError)). o ≡ None) places k (Some part) (slice_get_within places k (Some part) is) none in
     grind (arith, at, no)
 
-pub none_placed : (p : List (PlainItem ℕ)) (asked : Asked) (round : Round) (places : List (Option (Result Part AllocError))) → All (λ (o : Option (Result Part AllocError)). o ≡ None) places → ArePartsPlaced p asked round places
+pub none_placed : (p : List (PlainItem ℕ)) (asked : Asked) (round : Round)
+    (places : List (Option (Result Part AllocError))) → All (λ (o : Option (Result Part AllocError)). o ≡ None) places
+    → ArePartsPlaced p asked round places
 none_placed p asked round places none = λ k part is. absurd (nothing_there places none k (Ok part) is)
 
 -- ---- one part more, in order
@@ -30,7 +34,8 @@ none_placed p asked round places none = λ k part is. absurd (nothing_there plac
 abbrev IsMade : List (PlainItem ℕ) → Asked → Round → ℕ → Result Part AllocError → Type 0
 IsMade p asked round k r = IfOk r (λ part. HasPart p (part_asked asked round k) part.stopped part.made)
 
-module _ (p : List (PlainItem ℕ)) (asked : Asked) (round : Round) (n : ℕ) (parts : List (Result Part AllocError)) (long : length parts ≡ n) (are : AreParts p asked round n parts) (part : Result Part AllocError)
+module _ (p : List (PlainItem ℕ)) (asked : Asked) (round : Round) (n : ℕ) (parts : List (Result Part AllocError))
+    (long : length parts ≡ n) (are : AreParts p asked round n parts) (part : Result Part AllocError)
     (is : IsMade p asked round n part) where
   at_place : (k : ℕ) (d : Result Part AllocError) → k < n + 1 → (k < n) ⊎ (n ≤ k) → IsMade p asked round k (get_or (parts ++ part ∷ []) k d)
   at_place k d lt (inl below) =
@@ -44,6 +49,8 @@ module _ (p : List (PlainItem ℕ)) (asked : Asked) (round : Round) (n : ℕ) (p
 
 -- ---- one part more is taken
 
-pub taken_more : (p : List (PlainItem ℕ)) (asked : Asked) (round : Round) (count : ℕ) (taken : List Taken) (number : ℕ) (part : Result Part AllocError) → ArePartsTaken p asked round count taken → number < count → IsMade p asked round number part
+pub taken_more : (p : List (PlainItem ℕ)) (asked : Asked) (round : Round) (count : ℕ) (taken : List Taken) (number : ℕ)
+    (part : Result Part AllocError) → ArePartsTaken p asked round count taken → number < count
+    → IsMade p asked round number part
     → ArePartsTaken p asked round count (taken ++ record { number = number; part = part } ∷ [])
 taken_more p asked round count taken number part are few is = All-push (IsPartTaken p asked round count) taken (record { number = number; part = part }) are (few, is)

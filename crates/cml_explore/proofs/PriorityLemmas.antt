@@ -12,7 +12,9 @@ use Rattle.cml_explore.specs.Generators.{by_generator}
 use Rattle.cml_explore.specs.Draws.{RunsDrawn}
 use Rattle.cml_explore.specs.Lots.{ready_from}
 use Rattle.cml_explore.specs.Finishes.{PlaysByPriority}
-use Rattle.cml_explore.specs.Priorities.{Numbers, number_drawn, numbers_drawn, PlainPriorities, begun_priorities, all_begun, highest, actor, item_of_actor, party_of, lowered, with_state, acted, next_of_begun, next_by_priority, by_priority}
+use Rattle.cml_explore.specs.Priorities.{Numbers, number_drawn, numbers_drawn, PlainPriorities, begun_priorities}
+use Rattle.cml_explore.specs.Priorities.{all_begun, highest, actor, item_of_actor, party_of, lowered, with_state}
+use Rattle.cml_explore.specs.Priorities.{acted, next_of_begun, next_by_priority, by_priority}
 
 -- one number more was drawn
 pub draws_one : (above span count x : ℕ) (old new : List ℕ) (state next : Lcg) (end : Numbers) → length old < count → new ≡ old ++ (above + x) ∷ []

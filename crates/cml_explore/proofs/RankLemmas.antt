@@ -52,12 +52,14 @@ numbers_below n [] all = All-nil (λ (k : ℕ). k < n)
 numbers_below n (r ∷ ranks) all =
     All-cons (λ (k : ℕ). k < n) r.1 (map (λ (r : Rank). r.1) ranks) (All-head (λ (r : Rank). r.1 < n) r ranks all) (numbers_below n ranks (All-tail (λ (r : Rank). r.1 < n) r ranks all))
 
-pub ranked_so : {E : Type 0} (r : Result (Vec ℕ Global) E) (cs : List PlainClass) (ranks slice : List Rank) → AreRanked cs ranks → slice ≡ ranks → IfOk r (λ numbers. numbers.items ≡ map (λ (r : Rank). r.1) slice)
+pub ranked_so : {E : Type 0} (r : Result (Vec ℕ Global) E) (cs : List PlainClass) (ranks slice : List Rank)
+    → AreRanked cs ranks → slice ≡ ranks → IfOk r (λ numbers. numbers.items ≡ map (λ (r : Rank). r.1) slice)
     → IfOk r (λ numbers. AreInRank cs numbers.items)
 ranked_so (Ok numbers) cs ranks slice ranked same is = (ranks, ranked, is ∙ ap (map (λ (r : Rank). r.1)) same)
 ranked_so (Err e) cs ranks slice ranked same is = tt
 
-pub ranked_below : {E : Type 0} (r : Result (Vec ℕ Global) E) (cs : List PlainClass) (ranks slice : List Rank) → AreRanked cs ranks → slice ≡ ranks → IfOk r (λ numbers. numbers.items ≡ map (λ (r : Rank). r.1) slice)
+pub ranked_below : {E : Type 0} (r : Result (Vec ℕ Global) E) (cs : List PlainClass) (ranks slice : List Rank)
+    → AreRanked cs ranks → slice ≡ ranks → IfOk r (λ numbers. numbers.items ≡ map (λ (r : Rank). r.1) slice)
     → IfOk r (λ numbers. All (λ (k : ℕ). k < length cs) numbers.items)
 ranked_below (Ok numbers) cs ranks slice ranked same is =
     let n = length cs in

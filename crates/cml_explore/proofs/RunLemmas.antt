@@ -52,7 +52,9 @@ ran_out_ok (Ok h) copy p budget order span seed begun same begins leads ran =
 ran_out_ok (Err e) copy p budget order span seed begun same begins leads ran = tt
 
 -- how long the run is in which threads have their turns in order
-pub queue_long : (p : List (PlainItem ℕ)) (budget span seed n : ℕ) (h : Kept) → IsRunWithin p budget orders.Queue span seed h → n ≡ length h.course.items → n + 1 ≡ points_span (text_of p) budget (seeded seed)
+pub queue_long : (p : List (PlainItem ℕ)) (budget span seed n : ℕ) (h : Kept)
+    → IsRunWithin p budget orders.Queue span seed h → n ≡ length h.course.items → n + 1
+    ≡ points_span (text_of p) budget (seeded seed)
 queue_long p budget span seed n h run long =
     ap (λ k. k + 1) (long ∙ ap (λ (g : Played Lcg). length g.items) run.plays.1)
 

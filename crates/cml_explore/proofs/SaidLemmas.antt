@@ -14,7 +14,9 @@ use Rattle.cml_explore.specs.Ranks.{Rank, AreRanked}
 use Rattle.cml_explore.specs.Words.{class_line, widths_of}
 use Rattle.cml_explore.specs.Answers.{LeftBySeed, ClassSaid, AllSaid, runs_line, IsToldOfRuns}
 
-pub class_said : {T E : Type 0} (r : Result T E) (forms : List PlainSexpr) (places : List (List Place)) (p : List (PlainItem ℕ)) (budget : ℕ) (order : Order) (seed : ℕ) (w : Widths) (c : PlainClass) (old mid new : List ℕ) → seed ≡ c.tally.first
+pub class_said : {T E : Type 0} (r : Result T E) (forms : List PlainSexpr) (places : List (List Place))
+    (p : List (PlainItem ℕ)) (budget : ℕ) (order : Order) (seed : ℕ) (w : Widths) (c : PlainClass)
+    (old mid new : List ℕ) → seed ≡ c.tally.first
     → mid ≡ old ++ class_line w c → OnOk r (LeftBySeed forms places p budget order seed mid new)
     → OnOk r ((said : List ℕ) × ClassSaid places forms p budget order w c said × (new ≡ old ++ said))
 class_said (Ok x) forms places p budget order seed w c old mid new first line left =
@@ -25,9 +27,12 @@ class_said (Ok x) forms places p budget order seed w c old mid new first line le
     )
 class_said (Err y) forms places p budget order seed w c old mid new first line left = tt
 
-pub told_of_runs : (name text : List ℕ) (forms : List PlainSexpr) (places : List (List Place)) (p : List (PlainItem ℕ)) (asked : Asked) (made : PlainExplored) (classes : List PlainClass) (ranks slice : List Rank) (w : Widths)
+pub told_of_runs : (name text : List ℕ) (forms : List PlainSexpr) (places : List (List Place)) (p : List (PlainItem ℕ))
+    (asked : Asked) (made : PlainExplored) (classes : List PlainClass) (ranks slice : List Rank) (w : Widths)
     (begun head said : List ℕ) (runs : ℕ) → places ≡ all_places text forms → classes ≡ made.classes → AreRanked classes ranks → slice ≡ ranks → w ≡ widths_of classes → begun ≡ [] → runs ≡ made.runs
-    → head ≡ begun ++ runs_line name asked.first runs → (lines : List ℕ) × AllSaid places forms p asked.budget asked.order w classes slice lines × (said ≡ head ++ lines) → IsToldOfRuns name text forms p asked made said
+    → head ≡ begun ++ runs_line name asked.first runs → (lines : List ℕ)
+    × AllSaid places forms p asked.budget asked.order w classes slice lines × (said ≡ head ++ lines)
+    → IsToldOfRuns name text forms p asked made said
 told_of_runs name text forms places p asked made classes ranks slice w begun head said runs at own ranked same wide empty many first all =
     let wide_so : w ≡ widths_of made.classes = wide ∙ ap widths_of own in
     let head_so : head ≡ runs_line name asked.first made.runs = first ∙ (ap (λ l. l ++ runs_line name asked.first runs) empty ∙ ap (runs_line name asked.first) many) in

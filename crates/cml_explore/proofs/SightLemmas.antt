@@ -55,7 +55,8 @@ same_takers : (p : PlainCourse) (takers : Takers) → KnowsTakers (text_of p.pro
 same_takers p takers knows = λ i m. knows m i
 
 -- the lines of the threads of a run
-pub left_by : {T E : Type 0} (r : Result T E) (forms : List PlainSexpr) (places : List (List Place)) (c : PlainCourse) (takers : Takers) (falls : ℕ → Option PlainFall) (spots : List (Option Spot)) (old new : List ℕ)
+pub left_by : {T E : Type 0} (r : Result T E) (forms : List PlainSexpr) (places : List (List Place)) (c : PlainCourse)
+    (takers : Takers) (falls : ℕ → Option PlainFall) (spots : List (Option Spot)) (old new : List ℕ)
     → KnowsTakers (text_of c.program) c.items takers → AreFalls c.program c.items falls → AreSpotsToTell c falls spots
     → OnOk r (new ≡ old ++ all_left (record {
       forms = forms;

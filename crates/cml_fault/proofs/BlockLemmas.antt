@@ -34,7 +34,8 @@ fault_said k p q m a t o x y z none e own f same g =
     z_is ∙ (ap (λ w. w ++ why) f ∙ (append_assoc x says why ∙ ap (λ w. w ++ (says ++ why)) x_is))
 
 -- what is said of a thread that stood so
-pub told_so : {T E : Type 0} (r : Result T E) (k : Known) (p q : List (PlainItem ℕ)) (m : PlainMachine) (a : PlainAsk) (words : List ℕ) (held calls : List PlainHeld) (places frames : List Frame) (vs : List PlainValue)
+pub told_so : {T E : Type 0} (r : Result T E) (k : Known) (p q : List (PlainItem ℕ)) (m : PlainMachine) (a : PlainAsk)
+    (words : List ℕ) (held calls : List PlainHeld) (places frames : List Frame) (vs : List PlainValue)
     (o n : List ℕ) →
     q ≡ p → words ≡ thread_fault k p m a → held ≡ calls_down m.stack → calls ≡ held → AreFrames q calls places → frames ≡ places → vs ≡ first_values calls →
     OnOk r (n ≡ o ++ block_lines k words frames vs) → OnOk r (IsAdded (IsToldOf k p m a) o n)

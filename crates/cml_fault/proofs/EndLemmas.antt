@@ -13,7 +13,8 @@ use Rattle.cml_fault.specs.Blocks.{AreBlocks}
 use Rattle.cml_fault.specs.Faulted.{known_where, others_line, FaultedSo}
 use Rattle.cml_fault.proofs.FailureLemmas.{counted, no_faults}
 
-pub none_said : (name text : List ℕ) (forms : List PlainSexpr) (c : PlainCourse) (n : ℕ) (shown : List ℕ) → n ≡ fault_count (text_of c.program) c.items → n ≡ 0 → shown ≡ [] → FaultedSo name text forms c shown
+pub none_said : (name text : List ℕ) (forms : List PlainSexpr) (c : PlainCourse) (n : ℕ) (shown : List ℕ) → n
+    ≡ fault_count (text_of c.program) c.items → n ≡ 0 → shown ≡ [] → FaultedSo name text forms c shown
 none_said name text forms c n shown is none empty =
     let count : fault_count (text_of c.program) c.items ≡ 0 = sym is ∙ none in
     let all : ℕ = length (failures (text_of c.program) c.items) in

@@ -1,5 +1,7 @@
 -- What was shown, told and saved of many runs, one thing after another.
-use Rattle.std.proofs.Common.{◌≡◌, ◌∙◌, ◌+◌, ◌++◌, ◌∷◌, [], ℕ, suc, Bool, true, false, List, Option, Some, None, Result, Ok, Err, OnErr, ◌<◌, get_or, take, drop, drop-cons, length, refl, sym, ap, subst, inl, inr, add-one, add-zero, append-nil, append_assoc, arith}
+use Rattle.std.proofs.Common.{◌≡◌, ◌∙◌, ◌+◌, ◌++◌, ◌∷◌, [], ℕ, suc, Bool, true, false, List, Option, Some, None}
+use Rattle.std.proofs.Common.{Result, Ok, Err, OnErr, ◌<◌, get_or, take, drop, drop-cons, length, refl, sym, ap}
+use Rattle.std.proofs.Common.{subst, inl, inr, add-one, add-zero, append-nil, append_assoc, arith}
 use Rattle.std.specs.Prelude.{slice_get}
 use Rattle.std.specs.Fmt.{decimal}
 use Rattle.std.specs.Option.{option_map_or}
@@ -18,7 +20,11 @@ use Rattle.cml_stream.specs.Counts.{counted}
 use Rattle.cml_stream.specs.Streams.{Counted, stream, counted_stream, Says, Takes, TakesStart}
 use Rattle.cml_arguments.specs.Words.{saved_name}
 use Rattle.cml_arguments.specs.declared.ExploreOptions.{ExploreOptions}
-use Rattle.cml_host.specs.Exploring.{AreSaved, AsksForRuns, ClassesKept, File, FilesKept, IsNotSaved, LeavesAll, MadeAll, MadeErased, MadeTold, NotShown, ProgramExplored, RanOut, RunsTold, ScriptExplored, ShownFrom, SomeSaved, StopsBehind, StopsErased, StopsShowing, UnsavedTold, erased, erasure, file_of, judged, shortest_of, files_from, saved_start, shown_in_all, shown_at, shown_next, shown_so_far, shown_to}
+use Rattle.cml_host.specs.Exploring.{AreSaved, AsksForRuns, ClassesKept, File, FilesKept, IsNotSaved, LeavesAll}
+use Rattle.cml_host.specs.Exploring.{MadeAll, MadeErased, MadeTold, NotShown, ProgramExplored, RanOut, RunsTold}
+use Rattle.cml_host.specs.Exploring.{ScriptExplored, ShownFrom, SomeSaved, StopsBehind, StopsErased, StopsShowing}
+use Rattle.cml_host.specs.Exploring.{UnsavedTold, erased, erasure, file_of, judged, shortest_of, files_from}
+use Rattle.cml_host.specs.Exploring.{saved_start, shown_in_all, shown_at, shown_next, shown_so_far, shown_to}
 use Rattle.cml_host.specs.Running.{unsaved_told}
 use Rattle.cml_host.specs.Scripts.{PlainScript}
 use Rattle.cml_host.specs.Stores.{Content, Shelf, IsReplacedBy, IsSaved, IsUnchanged}

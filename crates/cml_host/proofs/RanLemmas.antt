@@ -29,7 +29,11 @@ use Rattle.cml_host.specs.declared.workers.Cause.TheVariants as cause
 use Rattle.cml_host.specs.declared.workers.Stopped.{Stopped}
 use Rattle.cml_host.specs.Closed.{PlainAsked, PlainClosing, asked_of, IsClosed, IsClosing, IsHubAt, SaysEnd}
 use Rattle.cml_host.specs.Replaying.{IsHubOf, IsNotRun, OpenedReplayed, ReplayOutcome, ReplayTold, ScheduleOutcome}
-use Rattle.cml_host.specs.Running.{HasEnded, PlainSaving, PlainWanted, IsPictureFor, IsRecorded, PictureKept, PictureRefused, RecordBroke, EndOutcome, saving_of, unsaved_told, ReportsAreLive, IsRunBy, IsChosen, Plays, PlaysChosen, ProgramOutcome, RunOutcome, BegunOutcome, OpenedOutcome, AreToldBy, IsStopped, StopOutcome, EndedOutcome, IsEnded, IsNotEnded, IsMade, IsKept, IsNotKept}
+use Rattle.cml_host.specs.Running.{HasEnded, PlainSaving, PlainWanted, IsPictureFor, IsRecorded, PictureKept}
+use Rattle.cml_host.specs.Running.{PictureRefused, RecordBroke, EndOutcome, saving_of, unsaved_told, ReportsAreLive}
+use Rattle.cml_host.specs.Running.{IsRunBy, IsChosen, Plays, PlaysChosen, ProgramOutcome, RunOutcome, BegunOutcome}
+use Rattle.cml_host.specs.Running.{OpenedOutcome, AreToldBy, IsStopped, StopOutcome, EndedOutcome, IsEnded}
+use Rattle.cml_host.specs.Running.{IsNotEnded, IsMade, IsKept, IsNotKept}
 use Rattle.cml_host.specs.Servers.{IsNotNumbered, first_unknown, server_numbers, server_names}
 use Rattle.cml_host.specs.Said.{RefusalOutcome}
 use Rattle.cml_host.specs.Scripts.{PlainScript, IsOpened, IsNotOpened, NoScriptOutcome}

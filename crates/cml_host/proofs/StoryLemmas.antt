@@ -1,5 +1,7 @@
 -- Stories, item by item, and how they are told.
-use Rattle.std.proofs.Common.{◌≡◌, ◌∙◌, ◌+◌, ◌<◌, ◌≤◌, ℕ, Bool, true, false, List, [], ◌∷◌, ◌++◌, Option, Result, Err, IfErr, length, take, drop, get_or, inl, inr, refl, sym, ap, subst, append_assoc, append-nil, arith}
+use Rattle.std.proofs.Common.{◌≡◌, ◌∙◌, ◌+◌, ◌<◌, ◌≤◌, ℕ, Bool, true, false, List, [], ◌∷◌, ◌++◌, Option, Result}
+use Rattle.std.proofs.Common.{Err, IfErr, length, take, drop, get_or, inl, inr, refl, sym, ap, subst, append_assoc}
+use Rattle.std.proofs.Common.{append-nil, arith}
 use Rattle.std.proofs.lemmas.List.{take_more, take_all, take-append-drop, drop_more, drop_all, get_or_default, length-take-le}
 use Rattle.std.specs.Fmt.{decimal}
 use Rattle.cml_text.specs.Forms.{PlainSexpr}
@@ -12,7 +14,9 @@ use Rattle.cml_schedule.specs.declared.item.Item.{Item}
 use Rattle.cml_stream.specs.Streams.{Counted, Stream, stream, counted_stream, Takes, TakesStart}
 use Rattle.cml_arguments.specs.declared.PartOptions.{PartOptions}
 use Rattle.cml_host.specs.Closed.{PlainSubject}
-use Rattle.cml_host.specs.Narrated.{is_asked_for, TellsWhere, IsStory, StoryBroke, StoryEnds, PlanTold, IsTellingOf, HaltOutcome, IsHeldUp, HasToldFirst, StoryCut, Spills, EndTold, ItemRefused, tale_for, broken_by}
+use Rattle.cml_host.specs.Narrated.{is_asked_for, TellsWhere, IsStory, StoryBroke, StoryEnds, PlanTold, IsTellingOf}
+use Rattle.cml_host.specs.Narrated.{HaltOutcome, IsHeldUp, HasToldFirst, StoryCut, Spills, EndTold, ItemRefused}
+use Rattle.cml_host.specs.Narrated.{tale_for, broken_by}
 use Rattle.cml_host.specs.Written.{TextOutcome}
 use Rattle.cml_host.specs.declared.explain.Halt.{Halt}
 use Rattle.cml_host.specs.declared.explain.Halt.TheVariants.{Memory, Write}

@@ -1,5 +1,7 @@
 -- Going through a run by hand, turn by turn.
-use Rattle.std.proofs.Common.{◌≡◌, ◌≢◌, inl, inr, ℕ, ◌==◌, ◌<◌, Bool, true, false, cond, List, [], ◌∷◌, ◌++◌, length, Option, Result, Ok, Err, OnErr, IfErr, refl, sym, ap, subst, ◌∙◌, append_assoc, arith}
+use Rattle.std.proofs.Common.{◌≡◌, ◌≢◌, inl, inr, ℕ, ◌==◌, ◌<◌, Bool, true, false, cond, List, [], ◌∷◌, ◌++◌}
+use Rattle.std.proofs.Common.{length, Option, Result, Ok, Err, OnErr, IfErr, refl, sym, ap, subst, ◌∙◌}
+use Rattle.std.proofs.Common.{append_assoc, arith}
 use Rattle.std.specs.Io.KnownBytes.{Keeps, Appends}
 use Rattle.std.specs.Result.{IsErrAnd}
 use Rattle.std.proofs.KnownBytes.{Appends-nil, Appends-trans, Appends-kept, Consumes-nil, Consumes-trans, Consumes-kept}
@@ -170,7 +172,9 @@ cut_start s h asked had held mid took = record {
   written = subst (λ bs. TakesStart (stream held mid) bs) (sym (append-nil asked)) took;
 }
 
-module _ (s : ByHand) (before : List ℕ) (old : Kept) (begun left : List ℕ) (mid : Kept) (had has have held hold holds : Option (List ℕ)) (t : TalksOn s before old begun left mid (stream had has) (stream held hold)) where
+module _ (s : ByHand) (before : List ℕ) (old : Kept) (begun left : List ℕ) (mid : Kept)
+    (had has have held hold holds : Option (List ℕ))
+    (t : TalksOn s before old begun left mid (stream had has) (stream held hold)) where
   said_on : (more : List ℕ) → Appends hold holds more → Appends held holds (before ++ (t.told ++ more))
   said_on more took =
       subst (Appends held holds) (append_assoc before t.told more) (Appends-trans held hold holds (before ++ t.told) more t.written took)

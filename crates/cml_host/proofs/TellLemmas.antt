@@ -7,7 +7,9 @@ use Rattle.cml_monitor.specs.Reports.{PlainReport}
 use Rattle.cml_scan.specs.World.{pending}
 use Rattle.cml_stream.specs.Streams.{Counted, stream, counted_stream, Takes, TakesStart, Says, IsIdle}
 use Rattle.cml_host.specs.Closed.{SaysEnd}
-use Rattle.cml_host.specs.Told.{reports_text, end_line, whole_output, cannot_write, SaysAfter, SaysStill, Breaks, ReportsBroke, MemoryBroke, OutputBroke, OutputNotTold, IsTold, IsToldWith, IsNotTold, IsCutOff}
+use Rattle.cml_host.specs.Told.{reports_text, end_line, whole_output, cannot_write, SaysAfter, SaysStill, Breaks}
+use Rattle.cml_host.specs.Told.{ReportsBroke, MemoryBroke, OutputBroke, OutputNotTold, IsTold, IsToldWith}
+use Rattle.cml_host.specs.Told.{IsNotTold, IsCutOff}
 
 -- a text, and then a prefix of one more
 pub start_behind : (a b c : Option (List ℕ)) (text more : List ℕ) →

@@ -16,7 +16,9 @@ use Rattle.cml_book.specs.Resumes.{PlainResume}
 use Rattle.cml_book.specs.Commit.{awaited, group_awaited, base_or_unit, wraps_or_none, base_awaited, given, taken, resume, hands, settled, released, after, commit}
 use Rattle.cml_book.proofs.Commits.{commit_is}
 use Rattle.cml_book.proofs.NackLemmas.{get-set_other}
-use Rattle.cml_rules.specs.Rules.{Sequel, branches, Offers, Alone, at_any_time, gets, reads, takes, replaces, mailed, posted, joins, comes, fires, Communicate, sends, swaps, Waits, went_on, given_to, Synchronizes, alone, together}
+use Rattle.cml_rules.specs.Rules.{Sequel, branches, Offers, Alone, at_any_time, gets, reads, takes, replaces}
+use Rattle.cml_rules.specs.Rules.{mailed, posted, joins, comes, fires, Communicate, sends, swaps, Waits, went_on}
+use Rattle.cml_rules.specs.Rules.{given_to, Synchronizes, alone, together}
 use Rattle.cml_rules.specs.Places.{ends_at, row_of}
 use Rattle.cml_rules.specs.Laws.{StepsAreCommits}
 use Rattle.cml_rules.proofs.Derivations.{leaf_is}

@@ -87,7 +87,8 @@ any_first P x xs h = (0, x, omega arith, refl, h)
 any_second : {X : Type 0} (P : X → Type 0) (x y : X) (xs : List X) → P y → Any P (x ∷ y ∷ xs)
 any_second P x y xs h = (1, y, omega arith, refl, h)
 
-step_fires : {w w' : PlainWorld} {c : Committed} → NacksLive w → (d : Synchronizes w w' c) (k : ℕ) → slice_get w'.nacks k ≡ Some fired → (slice_get w.nacks k ≡ Some fired) ⊎ Any (FiresBy w k) (those_in d)
+step_fires : {w w' : PlainWorld} {c : Committed} → NacksLive w → (d : Synchronizes w w' c) (k : ℕ)
+    → slice_get w'.nacks k ≡ Some fired → (slice_get w.nacks k ≡ Some fired) ⊎ Any (FiresBy w k) (those_in d)
 step_fires {w = w} n (alone t g b s v w' p d h) k e =
     ⊎_elim
     (λ named. inr (any_first (FiresBy w k) _ [] (fires_by w n t k g b s d p named)))

@@ -71,7 +71,13 @@ single_step w t n h =
     let o = offered w t n h.0 h.1 in
     let r = o.ends in
     let l = lit_happens w r.base (ap (lit w) o.same ∙ h.2) in (
-      record { next = went_on l.1 t.0 o.group r.sequel; gives = record { head = given_to t.0 l.0 r.sequel; partner = None }; derivation = alone t.0 o.group r.base r.sequel l.0 l.1 o.waits r.derivation l.2 },
+      record {
+        next = went_on l.1 t.0 o.group r.sequel;
+        gives = record
+            { head = given_to t.0 l.0 r.sequel; partner = None };
+        derivation = alone t.0 o.group r.base r.sequel l.0 l.1
+            o.waits r.derivation l.2;
+      },
       ap (Single t) r.at,
     )
 

@@ -72,13 +72,16 @@ pub pass_goes : (g : Goal) (old mid new : PlainSearch) (one other now : Bool) (d
     → Steps g (NeededFrom g old.items done) old one mid → Steps g (number < length mid.items → NeededBy g mid.items number) mid other new
     → Steps g (NeededFrom g old.items (done + 1)) old now new
 pass_goes g old mid new one other now done number is e s t =
-    subst (λ (b : Bool). Steps g (NeededFrom g old.items (done + 1)) old b new) (sym is) (join_steps g (NeededFrom g old.items done) (number < length mid.items → NeededBy g mid.items number) (NeededFrom g old.items (done + 1)) old mid new one other s t
+    subst (λ (b : Bool). Steps g (NeededFrom g old.items (done + 1)) old b new) (sym is)
+    (join_steps g (NeededFrom g old.items done) (number < length mid.items → NeededBy g mid.items number)
+    (NeededFrom g old.items (done + 1)) old mid new one other s t
     (λ same from here i h k.
     let there : number < length mid.items = omega (arith, ap length same) in
     one_more g old.items done number e from (subst (λ (items : List Item). NeededBy g items number) same (here there)) i h k
     (is_or_before (length old.items) i done number e k)))
 
-pub pass_ends : (g : Goal) (old new : PlainSearch) (came : Bool) (done : ℕ) → length old.items ≤ done → Steps g (NeededFrom g old.items done) old came new → Steps g (MinimalTo g old.items) old came new
+pub pass_ends : (g : Goal) (old new : PlainSearch) (came : Bool) (done : ℕ) → length old.items ≤ done
+    → Steps g (NeededFrom g old.items done) old came new → Steps g (MinimalTo g old.items) old came new
 pass_ends g old new came done h s = step_as g (NeededFrom g old.items done) (MinimalTo g old.items) old new came s (λ from i k. from i k (omega arith))
 
 -- what holds after a step, whatever came of it

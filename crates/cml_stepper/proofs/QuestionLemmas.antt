@@ -1,5 +1,7 @@
 -- The question, part for part.
-use Rattle.std.proofs.Common.{◌≡◌, ℕ, suc, ◌+◌, ◌<◌, ◌≤◌, nat_eq, Bool, true, false, ◌&&◌, cond, List, [], ◌∷◌, ◌++◌, length, get_or, take, drop, Option, subst, refl, sym, ap, ◌∙◌, arith, append_assoc}
+use Rattle.std.proofs.Common.{◌≡◌, ℕ, suc, ◌+◌, ◌<◌, ◌≤◌, nat_eq, Bool, true, false, ◌&&◌, cond, List, [], ◌∷◌}
+use Rattle.std.proofs.Common.{◌++◌, length, get_or, take, drop, Option, subst, refl, sym, ap, ◌∙◌, arith}
+use Rattle.std.proofs.Common.{append_assoc}
 use Rattle.std.specs.Prelude.{codes}
 use Rattle.std.specs.Fmt.{decimal}
 use Rattle.std.proofs.lemmas.List.{append-nil, drop_all, length-drop, take-take, drop-take, at_drop_more, at_drop_all}
@@ -15,7 +17,9 @@ use Rattle.cml_hub.specs.Kept.{Kept}
 use Rattle.cml_hub.specs.Runs.{terminal, ending, next_alarm}
 use Rattle.cml_ending.specs.declared.standing.Spot.{Spot}
 use Rattle.cml_narrative.specs.Tales.{began_in}
-use Rattle.cml_stepper.specs.Questions.{ByHand, listed_limit, offered_line, row_lines, more_rows, listed_rows, running_from, turn_lines, is_still, clock_line_of, offers_by, offers_text, ended_text, TellsEnd, OffersSo, SaysOffers}
+use Rattle.cml_stepper.specs.Questions.{ByHand, listed_limit, offered_line, row_lines, more_rows, listed_rows}
+use Rattle.cml_stepper.specs.Questions.{running_from, turn_lines, is_still, clock_line_of, offers_by, offers_text}
+use Rattle.cml_stepper.specs.Questions.{ended_text, TellsEnd, OffersSo, SaysOffers}
 
 -- ---- rows
 

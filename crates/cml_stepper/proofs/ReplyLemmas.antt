@@ -1,5 +1,7 @@
 -- What is said to an answer, and that what it names may happen.
-use Rattle.std.proofs.Common.{◌≡◌, ℕ, zero, suc, ◌+◌, ◌-◌, ◌<◌, Bool, true, false, not, ◌&&◌, ◌||◌, nat_eq, cond, List, [], ◌∷◌, ◌++◌, length, take, drop, Option, Some, None, subst, refl, sym, ap, ◌∙◌, arith, append_assoc}
+use Rattle.std.proofs.Common.{◌≡◌, ℕ, zero, suc, ◌+◌, ◌-◌, ◌<◌, Bool, true, false, not, ◌&&◌, ◌||◌, nat_eq, cond}
+use Rattle.std.proofs.Common.{List, [], ◌∷◌, ◌++◌, length, take, drop, Option, Some, None, subst, refl, sym, ap}
+use Rattle.std.proofs.Common.{◌∙◌, arith, append_assoc}
 use Rattle.std.specs.Prelude.{codes, option_map, slice_get}
 use Rattle.std.specs.Option.{option_or, option_map_or}
 use Rattle.std.specs.List.{list_any}
@@ -35,7 +37,8 @@ pub none_next : (rows all : List Meet) (told : List ℕ) → rows ≡ take 1 (dr
 none_next rows [] told first none is = is
 none_next rows (row ∷ all) told first none is = absurd (omega (arith, ap length first))
 
-pub many_next : (rows all : List Meet) (told : List ℕ) → rows ≡ take 1 (drop 0 all) → 0 < length rows → told ≡ codes "more than one row can be taken: a number takes one" ++ 10 ∷ [] → told ≡ no_next_line all
+pub many_next : (rows all : List Meet) (told : List ℕ) → rows ≡ take 1 (drop 0 all) → 0 < length rows → told
+    ≡ codes "more than one row can be taken: a number takes one" ++ 10 ∷ [] → told ≡ no_next_line all
 many_next rows [] told first some is = absurd (omega (arith, ap length first))
 many_next rows (row ∷ all) told first some is = is
 
@@ -98,7 +101,9 @@ first_runs : (n : ℕ) (ts : List PlainThread) (t : ℕ) → first_running n ts 
 first_runs n [] t e = absurd cc
 first_runs n (x ∷ ts) t e = at (runs x) refl e (first_runs (n + 1) ts t)
   where
-    at : (b : Bool) → runs x ≡ b → cond b (Some n) (first_running (n + 1) ts) ≡ Some t → (first_running (n + 1) ts ≡ Some t → (k : ℕ) × (t ≡ n + 1 + k) × (option_map_or runs (slice_get ts k) false ≡ true))
+    at : (b : Bool) → runs x ≡ b → cond b (Some n) (first_running (n + 1) ts) ≡ Some t
+        → (first_running (n + 1) ts ≡ Some t → (k : ℕ) × (t ≡ n + 1 + k)
+        × (option_map_or runs (slice_get ts k) false ≡ true))
         → (k : ℕ) × (t ≡ n + k) × (option_map_or runs (slice_get (x ∷ ts) k) false ≡ true)
     at true so e more = let same : n ≡ t = same_Some n t e in (0, omega arith, so)
     at false so e more = let m = more e in (suc m.0, omega (arith, m.1), m.2)
@@ -150,7 +155,8 @@ all_three true true false p q r = cc
 all_three true false z p q r = cc
 all_three false y z p q r = cc
 
-only_allowed : (w : PlainWorld) (item : Item) (rows : List Meet) (alarm : Option ℕ) → any_runs w ≡ false → scan w ≡ rows → next_alarm w ≡ alarm → Some item ≡ only_by w rows alarm → is_allowed w item ≡ true
+only_allowed : (w : PlainWorld) (item : Item) (rows : List Meet) (alarm : Option ℕ) → any_runs w ≡ false → scan w ≡ rows
+    → next_alarm w ≡ alarm → Some item ≡ only_by w rows alarm → is_allowed w item ≡ true
 only_allowed w item [] None still none no_alarm e = absurd cc
 only_allowed w item [] (Some tick) still none next e =
     subst (λ i. is_allowed w i ≡ true) (sym (same_Some item (Clock tick) e))
@@ -160,7 +166,9 @@ only_allowed w item (row ∷ []) alarm still only next e =
     subst (λ i. is_allowed w i ≡ true) (sym (same_Some item (taking w row) e)) (taking_allowed w row has)
 only_allowed w item (row ∷ second ∷ rows) alarm still more next e = absurd cc
 
-next_allowed : (w : PlainWorld) (n : ℕ) (o : Option ℕ) (item : Item) → o ≡ option_or (first_running n (drop n w.threads)) (first_running 0 w.threads) → Some item ≡ next_named w o → is_allowed w item ≡ true
+next_allowed : (w : PlainWorld) (n : ℕ) (o : Option ℕ) (item : Item) → o
+    ≡ option_or (first_running n (drop n w.threads)) (first_running 0 w.threads) → Some item ≡ next_named w o
+    → is_allowed w item ≡ true
 next_allowed w n (Some t) item is e =
     subst (λ i. is_allowed w i ≡ true) (sym (same_Some item (turn_of_number t) e)) (either_runs w n t (first_running n (drop n w.threads)) refl is)
 next_allowed w n None item is e =
@@ -209,13 +217,16 @@ undoes_some (item ∷ items) s old new said some undoes = undoes
 pub quit_does : (s : ByHand) (what : Typed) (old : Kept) (said : List ℕ) → what ≡ typed.Quit → said ≡ [] → DoneAt s what old true old said
 quit_does s what old said is none = subst (λ x. DoneAt s x old true old said) (sym is) (refl, refl, none)
 
-pub undo_does : (s : ByHand) (what : Typed) (old new : Kept) (ends : Bool) (said : List ℕ) → what ≡ typed.Undo → ends ≡ false → UndoesLast old.course.items s old new said → DoneAt s what old ends new said
+pub undo_does : (s : ByHand) (what : Typed) (old new : Kept) (ends : Bool) (said : List ℕ) → what ≡ typed.Undo → ends
+    ≡ false → UndoesLast old.course.items s old new said → DoneAt s what old ends new said
 undo_does s what old new ends said is on undoes = subst (λ x. DoneAt s x old ends new said) (sym is) (on, undoes)
 
-pub waits_does : (s : ByHand) (what : Typed) (old new : Kept) (ends : Bool) (told said : List ℕ) → what ≡ typed.Waits → ends ≡ false → TellsEnd s old told → StaysSaid old new told said → DoneAt s what old ends new said
+pub waits_does : (s : ByHand) (what : Typed) (old new : Kept) (ends : Bool) (told said : List ℕ) → what ≡ typed.Waits
+    → ends ≡ false → TellsEnd s old told → StaysSaid old new told said → DoneAt s what old ends new said
 waits_does s what old new ends told said is on ended stays = subst (λ x. DoneAt s x old ends new said) (sym is) (on, (told, ended, stays))
 
-pub list_does : (s : ByHand) (what : Typed) (n : ℕ) (old new : Kept) (ends : Bool) (words said : List ℕ) → what ≡ typed.List n → ends ≡ false → words ≡ list_text s.forms old.course n → StaysSaid old new words said
+pub list_does : (s : ByHand) (what : Typed) (n : ℕ) (old new : Kept) (ends : Bool) (words said : List ℕ) → what
+    ≡ typed.List n → ends ≡ false → words ≡ list_text s.forms old.course n → StaysSaid old new words said
     → DoneAt s what old ends new said
 list_does s what n old new ends words said is on listed stays =
     subst (λ x. DoneAt s x old ends new said) (sym is) (on, stays_as old new words (list_text s.forms old.course n) said listed stays)
@@ -227,7 +238,8 @@ MovesSo s what old new said = TakesNamed s what (item_typed old.course.world old
 pub row_does : (s : ByHand) (what : Typed) (n : ℕ) (old new : Kept) (ends : Bool) (said : List ℕ) → what ≡ typed.Row n → ends ≡ false → MovesSo s what old new said → DoneAt s what old ends new said
 row_does s what n old new ends said is on moves = subst (λ x. DoneAt s x old ends new said) (sym is) (on, subst (λ x. MovesSo s x old new said) is moves)
 
-pub turn_does : (s : ByHand) (what : Typed) (t : Tid) (old new : Kept) (ends : Bool) (said : List ℕ) → what ≡ typed.Turn t → ends ≡ false → MovesSo s what old new said → DoneAt s what old ends new said
+pub turn_does : (s : ByHand) (what : Typed) (t : Tid) (old new : Kept) (ends : Bool) (said : List ℕ) → what
+    ≡ typed.Turn t → ends ≡ false → MovesSo s what old new said → DoneAt s what old ends new said
 turn_does s what t old new ends said is on moves = subst (λ x. DoneAt s x old ends new said) (sym is) (on, subst (λ x. MovesSo s x old new said) is moves)
 
 pub next_does : (s : ByHand) (what : Typed) (old new : Kept) (ends : Bool) (said : List ℕ) → what ≡ typed.Next → ends ≡ false → MovesSo s what old new said → DoneAt s what old ends new said

@@ -61,7 +61,9 @@ lit_rows is_lit alone xs (y ∷ ys) up here = at (is_lit y.base) refl (lit_rows 
     own e = partners_own is_lit xs y up here.0 ∙ rw (e, none_kept is_lit alone y xs e) refl
 
     at : (b : Bool) → is_lit y.base ≡ b → flat_map (partners_of (rows_of is_lit xs)) (map place (filter (λ o. is_lit o.base) ys)) ≡ map single (filter (λ o. is_lit o.base) ys)
-        → flat_map (partners_of (rows_of is_lit xs)) (map place (cond b (y ∷ filter (λ o. is_lit o.base) ys) (filter (λ o. is_lit o.base) ys))) ≡ map single (cond b (y ∷ filter (λ o. is_lit o.base) ys) (filter (λ o. is_lit o.base) ys))
+        → flat_map (partners_of (rows_of is_lit xs))
+        (map place (cond b (y ∷ filter (λ o. is_lit o.base) ys) (filter (λ o. is_lit o.base) ys)))
+        ≡ map single (cond b (y ∷ filter (λ o. is_lit o.base) ys) (filter (λ o. is_lit o.base) ys))
     at true e k = ap (λ rs. rs ++ flat_map (partners_of (rows_of is_lit xs)) (map place (filter (λ o. is_lit o.base) ys))) (own e) ∙ ap (λ rs. single y ∷ rs) k
     at false e k = k
 

@@ -46,7 +46,8 @@ session_both s h mid last (l ∷ lines) more said told ends held on =
       ),
     )
 
-behind_keeps : (stops : Bool) (h last : Kept) (lines : List (List ℕ)) (ends : Bool) (said : List ℕ) (On : Type 0) → (On → KeepsBoth h last) → ComesBehind stops h lines ends last said On → KeepsBoth h last
+behind_keeps : (stops : Bool) (h last : Kept) (lines : List (List ℕ)) (ends : Bool) (said : List ℕ) (On : Type 0)
+    → (On → KeepsBoth h last) → ComesBehind stops h lines ends last said On → KeepsBoth h last
 behind_keeps true h last lines ends said On step held = same_keeps h last held.2
 behind_keeps false h last lines ends said On step held = step held
 

@@ -82,12 +82,16 @@ group_sync = both_sync group.frame group.step group.sizes group_sends group_sync
 -- programs: expressions, and statements over these
 module _ (p : Parts expression.frame) (s : (j : expressions.the_members) → IsSend (rows expression.frame p j)) (y : (j : expressions.the_members) → IsSync (rows expression.frame p j)) where
   expression_sends : (i : expressions.the_members) → IsSend (rows expression.frame (expression.step p) i)
-  expression_sends expressions.member-Expr = has_of expression.frame send (expression.step p) expressions.member-Expr (part_has send (expression.view-Expr p) (search (sendable, crosses) depth 60 fits 100000))
-  expression_sends expressions.member-Exprs = has_of expression.frame send (expression.step p) expressions.member-Exprs (part_has send (expression.view-Exprs p) (search (sendable, crosses) depth 60 fits 100000))
+  expression_sends expressions.member-Expr = has_of expression.frame send (expression.step p) expressions.member-Expr
+      (part_has send (expression.view-Expr p) (search (sendable, crosses) depth 60 fits 100000))
+  expression_sends expressions.member-Exprs = has_of expression.frame send (expression.step p) expressions.member-Exprs
+      (part_has send (expression.view-Exprs p) (search (sendable, crosses) depth 60 fits 100000))
 
   expression_syncs : (i : expressions.the_members) → IsSync (rows expression.frame (expression.step p) i)
-  expression_syncs expressions.member-Expr = has_of expression.frame sync (expression.step p) expressions.member-Expr (part_has sync (expression.view-Expr p) (search (sendable, crosses) depth 60 fits 100000))
-  expression_syncs expressions.member-Exprs = has_of expression.frame sync (expression.step p) expressions.member-Exprs (part_has sync (expression.view-Exprs p) (search (sendable, crosses) depth 60 fits 100000))
+  expression_syncs expressions.member-Expr = has_of expression.frame sync (expression.step p) expressions.member-Expr
+      (part_has sync (expression.view-Expr p) (search (sendable, crosses) depth 60 fits 100000))
+  expression_syncs expressions.member-Exprs = has_of expression.frame sync (expression.step p) expressions.member-Exprs
+      (part_has sync (expression.view-Exprs p) (search (sendable, crosses) depth 60 fits 100000))
 
 pub expression_send : IsSend Expr.the_row
 expression_send = both_send expression.frame expression.step expression.sizes expression_sends expression_syncs expressions.member-Expr
@@ -105,12 +109,16 @@ pub ruleset expressions_cross = (expression_send, expression_sync, expressions_s
 
 module _ (p : Parts statement.frame) (s : (j : statements.the_members) → IsSend (rows statement.frame p j)) (y : (j : statements.the_members) → IsSync (rows statement.frame p j)) where
   statement_sends : (i : statements.the_members) → IsSend (rows statement.frame (statement.step p) i)
-  statement_sends statements.member-Block = has_of statement.frame send (statement.step p) statements.member-Block (part_has send (statement.view-Block p) (search (sendable, crosses, expressions_cross) depth 60 fits 100000))
-  statement_sends statements.member-Stmt = has_of statement.frame send (statement.step p) statements.member-Stmt (part_has send (statement.view-Stmt p) (search (sendable, crosses, expressions_cross) depth 60 fits 100000))
+  statement_sends statements.member-Block = has_of statement.frame send (statement.step p) statements.member-Block
+      (part_has send (statement.view-Block p) (search (sendable, crosses, expressions_cross) depth 60 fits 100000))
+  statement_sends statements.member-Stmt = has_of statement.frame send (statement.step p) statements.member-Stmt
+      (part_has send (statement.view-Stmt p) (search (sendable, crosses, expressions_cross) depth 60 fits 100000))
 
   statement_syncs : (i : statements.the_members) → IsSync (rows statement.frame (statement.step p) i)
-  statement_syncs statements.member-Block = has_of statement.frame sync (statement.step p) statements.member-Block (part_has sync (statement.view-Block p) (search (sendable, crosses, expressions_cross) depth 60 fits 100000))
-  statement_syncs statements.member-Stmt = has_of statement.frame sync (statement.step p) statements.member-Stmt (part_has sync (statement.view-Stmt p) (search (sendable, crosses, expressions_cross) depth 60 fits 100000))
+  statement_syncs statements.member-Block = has_of statement.frame sync (statement.step p) statements.member-Block
+      (part_has sync (statement.view-Block p) (search (sendable, crosses, expressions_cross) depth 60 fits 100000))
+  statement_syncs statements.member-Stmt = has_of statement.frame sync (statement.step p) statements.member-Stmt
+      (part_has sync (statement.view-Stmt p) (search (sendable, crosses, expressions_cross) depth 60 fits 100000))
 
 pub block_send : IsSend Block.the_row
 block_send = both_send statement.frame statement.step statement.sizes statement_sends statement_syncs statements.member-Block

@@ -15,7 +15,9 @@ returns c =
       stands = subst (AreSpots h.course) (sym c.as_slice-2.ensures.value) c.in_ok-spots.ensures.spots;
       text_is = whole_end c.args.name.now c.args.text.now c.args.forms.now h c.as_slice-2.result.now _ c.as_slice-3.result.now (taker_in c.in_ok-takers.takers) _ _ _ _
           (places_of_all c.as_slice.ensures.value ∙ c.in_ok-places.ensures)
-          (c.as_slice-3.ensures.value ∙ (c.in_ok-turns.ensures ∙ (ap (λ xs. turn_counts xs c.len.result) c.schedule.ensures.items ∙ ap (turn_counts h.course.items) (many ∙ c.in_ok-spots.ensures.count))))
+          (c.as_slice-3.ensures.value ∙ (c.in_ok-turns.ensures
+          ∙ (ap (λ xs. turn_counts xs c.len.result) c.schedule.ensures.items
+          ∙ ap (turn_counts h.course.items) (many ∙ c.in_ok-spots.ensures.count))))
           c.in_ok-takers.ensures c.faults.ensures c.new-out.ensures.items c.in_ok-push_left.ensures c.in_ok-push_faults.ensures;
     }
 

@@ -8,4 +8,5 @@ use Rattle.cml_ending.proofs.end.push_left_lines.Goals as goal
 pub returns : goal.returns
 returns c =
     two_ok _ _ _ _ _ _ c.in_ok-push_lines.ensures
-    (subst (λ nexts. OnOk c.push_ring.result (c.push_ring.new.out.items ≡ c.push_lines.new.out.items ++ ring_line (ring_among nexts))) (c.as_slice.ensures.value ∙ c.in_ok-nexts.ensures) c.push_ring.ensures)
+    (subst (λ nexts. OnOk c.push_ring.result (c.push_ring.new.out.items ≡ c.push_lines.new.out.items
+    ++ ring_line (ring_among nexts))) (c.as_slice.ensures.value ∙ c.in_ok-nexts.ensures) c.push_ring.ensures)

@@ -9,7 +9,10 @@ use Rattle.cml_ending.proofs.end.run_count.Goals as goal
 
 pub loop-t-preserved : goal.loop-t-preserved
 loop-t-preserved c = record {
-  so_far = run_more c.args.hub.now.course.world.threads c.loop-t.t c.loop-t.count c.is_running.result c.one_if-count.result (omega (arith, ap (λ (w : PlainWorld). length w.threads) c.book-book.ensures)) (c.is_running.ensures ∙ ap (λ (w : PlainWorld). option_map_or runs (slice_get w.threads c.loop-t.t) false) c.book-book.ensures) c.one_if-count.ensures.one c.loop-t.invariant.so_far;
+  so_far = run_more c.args.hub.now.course.world.threads c.loop-t.t c.loop-t.count c.is_running.result
+      c.one_if-count.result (omega (arith, ap (λ (w : PlainWorld). length w.threads) c.book-book.ensures))
+      (c.is_running.ensures ∙ ap (λ (w : PlainWorld). option_map_or runs (slice_get w.threads c.loop-t.t) false)
+      c.book-book.ensures) c.one_if-count.ensures.one c.loop-t.invariant.so_far;
   few = omega arith;
 }
 

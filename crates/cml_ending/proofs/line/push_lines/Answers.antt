@@ -6,8 +6,11 @@ use Rattle.cml_ending.proofs.line.push_lines.Goals as goal
 
 pub loop-t-preserved : goal.loop-t-preserved
 loop-t-preserved c =
-    one_line_more (plain_stage c.args.stage.now) c.args.stage.now.hub.now.course.world.threads c.loop-t.t _ _ _ (omega (arith, ap (λ (w : PlainWorld). length w.threads) c.book.ensures)) c.in_ok-push_line.ensures c.loop-t.invariant
+    one_line_more (plain_stage c.args.stage.now) c.args.stage.now.hub.now.course.world.threads c.loop-t.t _ _ _
+    (omega (arith, ap (λ (w : PlainWorld). length w.threads) c.book.ensures)) c.in_ok-push_line.ensures
+    c.loop-t.invariant
 
 pub returns : goal.returns
 returns c =
-    no_line_more (plain_stage c.args.stage.now) c.args.stage.now.hub.now.course.world.threads c.loop-t.t _ _ (omega (arith, ap (λ (w : PlainWorld). length w.threads) c.book.ensures)) c.loop-t.invariant
+    no_line_more (plain_stage c.args.stage.now) c.args.stage.now.hub.now.course.world.threads c.loop-t.t _ _
+    (omega (arith, ap (λ (w : PlainWorld). length w.threads) c.book.ensures)) c.loop-t.invariant

@@ -31,4 +31,5 @@ loop-i-preserved c =
 
 pub returns : goal.returns
 returns c =
-    knows_all (text_of c.args.hub.now.course.program) c.args.hub.now.course.items c.schedule-items.result.now c.loop-i.i c.loop-i.takers c.schedule-items.ensures.items c.loop-i-test.false c.loop-i.invariant.knows
+    knows_all (text_of c.args.hub.now.course.program) c.args.hub.now.course.items c.schedule-items.result.now c.loop-i.i
+    c.loop-i.takers c.schedule-items.ensures.items c.loop-i-test.false c.loop-i.invariant.knows

@@ -14,14 +14,16 @@ returns-in-None c =
 pub returns-then-thread-start : goal.returns-then-thread-start
 returns-then-thread-start c =
     ap Some c.in_ok-push-2.ensures.items
-    ∙ arrives c.args.nexts.now c.loop-step.way.items c.args.start c.in-Some.thread (length c.args.nexts.now) c.loop-step._step _ c.loop-step-test.true c.if-thread-start.true (rw c.in-Some.is at c.loop-step.invariant)
+    ∙ arrives c.args.nexts.now c.loop-step.way.items c.args.start c.in-Some.thread (length c.args.nexts.now)
+    c.loop-step._step _ c.loop-step-test.true c.if-thread-start.true (rw c.in-Some.is at c.loop-step.invariant)
 
 pub loop-step-preserved : goal.loop-step-preserved
 loop-step-preserved c =
     let n = length c.args.nexts.now - (c.loop-step._step + 1) in
     ap (λ w. onward w (way_to c.args.nexts.now c.args.start n c.next_of-next-in-loop-step.result)) c.in_ok-push-2.ensures.items
     ∙ (ap (λ t. onward (c.loop-step.way.items ++ c.in-Some.thread ∷ []) (way_to c.args.nexts.now c.args.start n t)) c.next_of-next-in-loop-step.ensures
-    ∙ steps_on c.args.nexts.now c.loop-step.way.items c.args.start c.in-Some.thread (length c.args.nexts.now) c.loop-step._step _ c.loop-step-test.true c.if-thread-start.false (rw c.in-Some.is at c.loop-step.invariant))
+    ∙ steps_on c.args.nexts.now c.loop-step.way.items c.args.start c.in-Some.thread (length c.args.nexts.now)
+    c.loop-step._step _ c.loop-step-test.true c.if-thread-start.false (rw c.in-Some.is at c.loop-step.invariant))
 
 pub returns : goal.returns
 returns c =

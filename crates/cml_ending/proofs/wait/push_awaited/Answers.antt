@@ -9,4 +9,6 @@ pub returns : goal.returns
 returns c =
     let h = c.args.hub.now.course in
     let many : c.len.result ≡ length c.in_ok-bases.bases.items = omega (arith, c.in_ok-bases.bases.ok.0) in
-    said_of_group _ c.args.forms.now h.world (origins (text_of h.program) h.items) (taker_in c.args.takers.now) c.args.group.now _ _ _ _ _ _ _ _ c.in_ok-bases.ensures c.as_slice.ensures.value c.first_of.ensures c.in_ok-told.ensures c.as_slice-2.ensures.value many c.push_events.ensures
+    said_of_group _ c.args.forms.now h.world (origins (text_of h.program) h.items) (taker_in c.args.takers.now)
+    c.args.group.now _ _ _ _ _ _ _ _ c.in_ok-bases.ensures c.as_slice.ensures.value c.first_of.ensures
+    c.in_ok-told.ensures c.as_slice-2.ensures.value many c.push_events.ensures

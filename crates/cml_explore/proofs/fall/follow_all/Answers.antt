@@ -39,14 +39,18 @@ loop-i-preserved c =
       none_out = c.in_ok-follow_item.ensures.none_out;
       takers = knows_more (text_of c.loop-i.second.course.program) (text_of c.args.hub.now.course.program) c.loop-i.second.course.items items item c.loop-i.i c.loop-i.takers c.follow.new.self
           (ap text_of inv.program) inv.items (taken_more items c.loop-i.i item within is) c.in_ok-follow.ensures.ok inv.takers;
-      falls = falls_more c.loop-i.second.course.program c.args.hub.now.course.program c.loop-i.second.course.items c.follow_item.new.second.course.items (take c.loop-i.i items) (take (c.loop-i.i + 1) items)
+      falls = falls_more c.loop-i.second.course.program c.args.hub.now.course.program c.loop-i.second.course.items
+          c.follow_item.new.second.course.items (take c.loop-i.i items) (take (c.loop-i.i + 1) items)
           (fall_in c.loop-i.falls) (fall_in c.follow_item.new.falls) inv.program inv.items more c.in_ok-follow_item.ensures.falls inv.falls;
     }
 
 pub returns-clause-takers : goal.returns-clause-takers
 returns-clause-takers c =
-    knows_all (text_of c.args.hub.now.course.program) c.args.hub.now.course.items c.schedule-items.result.now c.loop-i.i c.loop-i.takers c.schedule-items.ensures.items c.loop-i-test.false c.loop-i.invariant.takers
+    knows_all (text_of c.args.hub.now.course.program) c.args.hub.now.course.items c.schedule-items.result.now c.loop-i.i
+    c.loop-i.takers c.schedule-items.ensures.items c.loop-i-test.false c.loop-i.invariant.takers
 
 pub returns-clause-falls : goal.returns-clause-falls
 returns-clause-falls c =
-    subst (λ items. AreFalls c.args.hub.now.course.program items (fall_in c.loop-i.falls)) (take_all c.loop-i.i c.schedule-items.result.now c.loop-i-test.false ∙ c.schedule-items.ensures.items) c.loop-i.invariant.falls
+    subst (λ items. AreFalls c.args.hub.now.course.program items (fall_in c.loop-i.falls))
+    (take_all c.loop-i.i c.schedule-items.result.now c.loop-i-test.false ∙ c.schedule-items.ensures.items)
+    c.loop-i.invariant.falls

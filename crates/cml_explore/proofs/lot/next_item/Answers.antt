@@ -7,12 +7,16 @@ pub returns-in-None-clause-item : goal.returns-in-None-clause-item
 returns-in-None-clause-item c =
     let ready = c.args.ready.now in
     c.row_item_by_lot.ensures.item
-    ∙ sym (ap (λ d. d.0) (lot_row c.args.hub.now.course.world c.args.chooser.now c.pick.new.self ready (length ready) c.row_choices.result (length ready + c.row_choices.result) c.pick.result c.requires refl c.row_choices.ensures refl
+    ∙ sym (ap (λ d. d.0) (lot_row c.args.hub.now.course.world c.args.chooser.now c.pick.new.self ready (length ready)
+    c.row_choices.result (length ready + c.row_choices.result) c.pick.result c.requires refl c.row_choices.ensures
+    refl
     c.if-choices-eq0.false c.pick.ensures.picked c.pick.ensures.next (sym (slice_get_past ready c.pick.result c.in-None.ensures.lookup.3))))
 
 pub returns-in-None-clause-state : goal.returns-in-None-clause-state
 returns-in-None-clause-state c =
     let ready = c.args.ready.now in
     c.row_item_by_lot.ensures.state
-    ∙ sym (ap (λ d. d.1) (lot_row c.args.hub.now.course.world c.args.chooser.now c.pick.new.self ready (length ready) c.row_choices.result (length ready + c.row_choices.result) c.pick.result c.requires refl c.row_choices.ensures refl
+    ∙ sym (ap (λ d. d.1) (lot_row c.args.hub.now.course.world c.args.chooser.now c.pick.new.self ready (length ready)
+    c.row_choices.result (length ready + c.row_choices.result) c.pick.result c.requires refl c.row_choices.ensures
+    refl
     c.if-choices-eq0.false c.pick.ensures.picked c.pick.ensures.next (sym (slice_get_past ready c.pick.result c.in-None.ensures.lookup.3))))

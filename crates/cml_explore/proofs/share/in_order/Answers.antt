@@ -11,7 +11,9 @@ pub loop-number-preserved : goal.loop-number-preserved
 loop-number-preserved c =
     let long = length_push c.loop-number.parts.items c.found_part-part.result in
     let many = c.loop-number.invariant.many in
-    let pushed = parts_pushed c.args.program.now c.args.asked.now c.args.round c.loop-number.number c.loop-number.parts.items many c.loop-number.invariant.parts c.found_part-part.result c.found_part-part.ensures in
+    let pushed = parts_pushed c.args.program.now c.args.asked.now c.args.round c.loop-number.number
+    c.loop-number.parts.items many c.loop-number.invariant.parts c.found_part-part.result
+    c.found_part-part.ensures in
     record {
       long = c.lift-found.ensures.long ∙ c.loop-number.invariant.long;
       placed = c.lift-found.ensures.placed c.args.program.now c.args.asked.now c.args.round c.loop-number.invariant.placed;

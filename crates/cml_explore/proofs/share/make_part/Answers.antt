@@ -12,14 +12,16 @@ add-requires-clause-few c = is_few c.args.program.now c.args.asked.now _ c.makin
 pub returns-then-stops : goal.returns-then-stops
 returns-then-stops c =
     let e = c.in_ok-stops.ensures.added in
-    stopped_so c.args.program.now c.args.asked.now c.making.made c.add.new.self e.0 c.making.invariant.so_far _ (ap (λ n. c.args.asked.now.first + n) c.runs-so_many.ensures) e.1 e.2 (sym e.3 ∙ c.if-stops.true) (omega arith)
+    stopped_so c.args.program.now c.args.asked.now c.making.made c.add.new.self e.0 c.making.invariant.so_far _
+    (ap (λ n. c.args.asked.now.first + n) c.runs-so_many.ensures) e.1 e.2 (sym e.3 ∙ c.if-stops.true) (omega arith)
 
 pub making-preserved : goal.making-preserved
 making-preserved c =
     let e = c.in_ok-stops.ensures.added in
     let more : c.add.new.self.runs ≡ c.making.made.runs + 1 = ap (λ (m : PlainExplored). m.runs) e.2 in
     record {
-      so_far = goes_on c.args.program.now c.args.asked.now c.making.made c.add.new.self e.0 c.making.invariant.so_far _ (ap (λ n. c.args.asked.now.first + n) c.runs-so_many.ensures) e.1 e.2 (sym e.3 ∙ c.if-stops.false);
+      so_far = goes_on c.args.program.now c.args.asked.now c.making.made c.add.new.self e.0 c.making.invariant.so_far _
+          (ap (λ n. c.args.asked.now.first + n) c.runs-so_many.ensures) e.1 e.2 (sym e.3 ∙ c.if-stops.false);
       few = omega (arith, more);
     }
 

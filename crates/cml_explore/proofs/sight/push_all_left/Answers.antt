@@ -6,8 +6,11 @@ use Rattle.cml_explore.proofs.sight.push_all_left.Goals as goal
 
 pub loop-t-preserved : goal.loop-t-preserved
 loop-t-preserved c =
-    one_left_more (plain_sight c.args.sight.now) c.args.sight.now.hub.now.course.world.threads c.loop-t.t _ _ _ (omega (arith, ap (λ (w : PlainWorld). length w.threads) c.book.ensures)) c.in_ok-push_left.ensures c.loop-t.invariant
+    one_left_more (plain_sight c.args.sight.now) c.args.sight.now.hub.now.course.world.threads c.loop-t.t _ _ _
+    (omega (arith, ap (λ (w : PlainWorld). length w.threads) c.book.ensures)) c.in_ok-push_left.ensures
+    c.loop-t.invariant
 
 pub returns : goal.returns
 returns c =
-    no_left_more (plain_sight c.args.sight.now) c.args.sight.now.hub.now.course.world.threads c.loop-t.t _ _ (omega (arith, ap (λ (w : PlainWorld). length w.threads) c.book.ensures)) c.loop-t.invariant
+    no_left_more (plain_sight c.args.sight.now) c.args.sight.now.hub.now.course.world.threads c.loop-t.t _ _
+    (omega (arith, ap (λ (w : PlainWorld). length w.threads) c.book.ensures)) c.loop-t.invariant

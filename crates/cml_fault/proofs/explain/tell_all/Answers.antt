@@ -8,7 +8,9 @@ pub tell_item-requires-clause-allowed : goal.tell_item-requires-clause-allowed
 tell_item-requires-clause-allowed c =
     let items = c.schedule-items.result.now in
     let within : c.loop-i.i < length items = omega arith in
-    next_allowed items c.args.sources.now.hub.now.course c.loop-i.second.course c.loop-i.i (get_or items c.loop-i.i (Turn (record { 0 = 0 }))) within (item_at items c.loop-i.i (Turn (record { 0 = 0 })) within)
+    next_allowed items c.args.sources.now.hub.now.course c.loop-i.second.course c.loop-i.i
+    (get_or items c.loop-i.i (Turn (record { 0 = 0 }))) within
+    (item_at items c.loop-i.i (Turn (record { 0 = 0 })) within)
     c.schedule-items.ensures.items c.schedule-items.ensures.leads c.loop-i.invariant.program c.loop-i.invariant.items c.schedule-so_far.ensures.leads
 
 pub loop-i-preserved : goal.loop-i-preserved
@@ -23,7 +25,9 @@ loop-i-preserved c =
       program = c.in_ok-tell_item.ensures.program ∙ inv.program;
       items = more;
       none_out = c.in_ok-tell_item.ensures.none_out;
-      blocks = blocks_more (plain_sources c.args.sources.now) c.loop-i.second.course.program c.args.sources.now.hub.now.course.program items c.loop-i.second.course.items c.tell_item.new.second.course.items c.loop-i.i
+      blocks = blocks_more (plain_sources c.args.sources.now) c.loop-i.second.course.program
+          c.args.sources.now.hub.now.course.program items c.loop-i.second.course.items
+          c.tell_item.new.second.course.items c.loop-i.i
           c.loop-i.out.items c.tell_item.new.out.items inv.program inv.items more c.in_ok-tell_item.ensures.told inv.blocks;
     }
 

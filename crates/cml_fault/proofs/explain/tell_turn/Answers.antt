@@ -19,8 +19,11 @@ returns c = record {
   program = always _ c.in_ok-come.ensures.program;
   items = always _ c.in_ok-come.ensures.items;
   none_out = always _ c.in_ok-come.ensures.none_out;
-  told = turn_told _ (plain_sources c.args.sources.now) c.args.second.now.course c.come-2.new.hub.course c.args.sources.now.hub.now.course.program c.args.thread c.in_ok-kept.kept c.faults-before.result c.faults-after.result
+  told = turn_told _ (plain_sources c.args.sources.now) c.args.second.now.course c.come-2.new.hub.course
+      c.args.sources.now.hub.now.course.program c.args.thread c.in_ok-kept.kept c.faults-before.result
+      c.faults-after.result
       c.args.out.now.items c.push_failure.new.out.items
       c.schedule-so_far.ensures.leads c.requires.program c.in_ok-kept.ensures.machine c.in_ok-kept.ensures.thread
-      c.in_ok-come.ensures.program c.in_ok-come.ensures.items c.faults-before.ensures c.faults-after.ensures c.if-after-before.false (omega (arith, c.if-before-ge-BLOCK_LIMIT.false)) c.push_failure.ensures;
+      c.in_ok-come.ensures.program c.in_ok-come.ensures.items c.faults-before.ensures c.faults-after.ensures
+      c.if-after-before.false (omega (arith, c.if-before-ge-BLOCK_LIMIT.false)) c.push_failure.ensures;
 }

@@ -13,7 +13,8 @@ returns-in_ok-told_item-in-Err-BadItem-clause-err c =
       fits,
       (
         c.in-Err-BadItem.number,
-        subst (λ (p : List (PlainItem ℕ)). IsBadItem (plain_asked c.args.asked.now).subject c.args.text.now p c.args.plan.now.items c.in-Err-BadItem.number c.in_ok-told_item-in-Err-BadItem.field-0.items)
+        subst (λ (p : List (PlainItem ℕ)). IsBadItem (plain_asked c.args.asked.now).subject c.args.text.now p
+            c.args.plan.now.items c.in-Err-BadItem.number c.in_ok-told_item-in-Err-BadItem.field-0.items)
             same c.in_ok-told_item-in-Err-BadItem.ensures,
       ),
     )

@@ -11,7 +11,9 @@ returns-in-Ok-clause-ran g c =
     c.tell_run-status.new.out.calls c.tell_run-status.new.out.failed in
     let errors = counted_stream (g.E.Write.contents c.args.err.now.stream.now) (g.E.Write.contents c.tell_run-status.new.err.stream.now)
     c.tell_run-status.new.err.calls c.tell_run-status.new.err.failed in
-    scheduled (plain_asked c.args.asked.now) c.args.program c.args.options.now.watch c.args.options.now.schedule.now (g.S.Store.holds c.args.store.now c.args.options.now.schedule.now) c.in-Ok.hub output errors c.tell_run-status.result
+    scheduled (plain_asked c.args.asked.now) c.args.program c.args.options.now.watch c.args.options.now.schedule.now
+    (g.S.Store.holds c.args.store.now c.args.options.now.schedule.now) c.in-Ok.hub output errors
+    c.tell_run-status.result
     c.in-Ok.ensures.ok c.tell_run-status.ensures.told
 
 pub returns-in-Err-clause-ran : goal.returns-in-Err-clause-ran

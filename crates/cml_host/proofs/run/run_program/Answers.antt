@@ -15,4 +15,6 @@ returns-in-Ok-clause-ran g c =
     let output = counted_stream (g.O.Write.contents c.args.out.now.stream.now) (g.O.Write.contents c.run_begun.new.out.stream.now) c.run_begun.new.out.calls c.run_begun.new.out.failed in
     let errors = counted_stream (g.E.Write.contents c.args.err.now.stream.now) (g.E.Write.contents c.run_begun.new.err.stream.now) c.run_begun.new.err.calls c.run_begun.new.err.failed in
     let store : Shelf = record { before = g.S.Store.holds c.args.store.now; after = g.S.Store.holds c.run_begun.new.store } in
-    inl (subst (λ (p : List (PlainItem ℕ)). ProgramOutcome (plain_asked c.args.asked.now) (plain_saving c.args.saving.now) p c.args.options.now output errors store c.run_begun.result) c.in-Ok.ensures.ok.program c.run_begun.ensures.ran)
+    inl (subst (λ (p : List (PlainItem ℕ)). ProgramOutcome (plain_asked c.args.asked.now)
+    (plain_saving c.args.saving.now) p c.args.options.now output errors store c.run_begun.result)
+    c.in-Ok.ensures.ok.program c.run_begun.ensures.ran)

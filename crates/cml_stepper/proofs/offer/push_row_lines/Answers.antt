@@ -12,7 +12,9 @@ loop-k-init c =
 pub loop-k-preserved : goal.loop-k-preserved
 loop-k-preserved c =
     let course = c.args.hub.now.course in
-    lines_more c.args.forms.now course.world (began_in course) c.args.first c.loop-k.k c.args.rows.now _ c.loop-k.out.items c.push_row_line.new.out.items _ (omega arith) c.in_ok-push_row_line.ensures c.loop-k.invariant
+    lines_more c.args.forms.now course.world (began_in course) c.args.first c.loop-k.k c.args.rows.now _
+    c.loop-k.out.items c.push_row_line.new.out.items _ (omega arith) c.in_ok-push_row_line.ensures
+    c.loop-k.invariant
 
 pub returns : goal.returns
 returns c =

@@ -27,7 +27,8 @@ loop-k-preserved g c =
     let less : c.saturating_sub-left.result ≡ c.loop-k.left - length (partners_of all c.head-head.result) = omega (arith, c.in_ok-count.ensures.count) in
     record {
       few = omega (arith, ap length c.in_ok-count.ensures.rows, length-take c.args.limit (c.loop-k.rows.items ++ drop c.loop-k.left (partners_of all c.head-head.result)));
-      so_far = one_head c.args.limit c.loop-k.left c.loop-k.k all c.loop-k.rows.items c.push_partners.new.rows.items c.head-head.result c.saturating_sub-left.result c.head-head.ensures c.in_ok-count.ensures.rows less
+      so_far = one_head c.args.limit c.loop-k.left c.loop-k.k all c.loop-k.rows.items c.push_partners.new.rows.items
+          c.head-head.result c.saturating_sub-left.result c.head-head.ensures c.in_ok-count.ensures.rows less
           ∙ c.loop-k.invariant.so_far;
     }
 

@@ -9,7 +9,8 @@ returns-in_err-send_line-clause-sent g c =
     let b = g.W.Write.contents c.loop-thread.writer.stream.now in
     let d = g.W.Write.contents c.send_line.new.writer.stream.now in
     let is : c.from_residual.result ≡ Err c.in_err-send_line.field-0.0 = search rules in
-    rw is (lines_ended waits_line a b d c.args.threads.now c.loop-thread.thread-index _ c.as_str.result.now c.loop-thread-test.true (c.as_str.ensures.value ∙ c.wait_line.ensures) c.loop-thread.invariant.0
+    rw is (lines_ended waits_line a b d c.args.threads.now c.loop-thread.thread-index _ c.as_str.result.now
+    c.loop-thread-test.true (c.as_str.ensures.value ∙ c.wait_line.ensures) c.loop-thread.invariant.0
     c.in_err-send_line.ensures.sent)
 
 pub loop-thread-preserved : goal.loop-thread-preserved

@@ -11,7 +11,9 @@ use Rattle.cml_work.proofs.watching.watch_all.Goals as goal
 pub loop-init : goal.loop-init
 loop-init g c =
     let none = sym c.new-seen.ensures.items in (
-      subst (λ (l : List PlainReport). Rattle.std.specs.Io.KnownBytes.Appends (g.W.Write.contents c.args.writer.now.stream.now) (g.W.Write.contents c.args.writer.now.stream.now) (texts_of l)) none (Appends-nil _),
+      subst (λ (l : List PlainReport). Rattle.std.specs.Io.KnownBytes.Appends
+          (g.W.Write.contents c.args.writer.now.stream.now) (g.W.Write.contents c.args.writer.now.stream.now)
+          (texts_of l)) none (Appends-nil _),
       c.mark-mark.ensures,
       subst (λ (l : List PlainReport). BeginsWith (shown_of c.mark-mark.result) l) none (shown_of c.mark-mark.result, refl),
       refl,

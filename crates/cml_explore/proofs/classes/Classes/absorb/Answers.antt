@@ -7,4 +7,5 @@ absorb_class-requires c = leaves_room c.args.self.now c.args.later.now _ c.loop-
 
 pub loop-number-preserved : goal.loop-number-preserved
 loop-number-preserved c =
-    joined_next c.args.self.now c.args.later.now c.loop-number.self c.absorb_class.new.self c.loop-number.number (plain_class c.class.result) c.class.ensures c.loop-number.invariant c.in_ok-absorb_class.ensures
+    joined_next c.args.self.now c.args.later.now c.loop-number.self c.absorb_class.new.self c.loop-number.number
+    (plain_class c.class.result) c.class.ensures c.loop-number.invariant c.in_ok-absorb_class.ensures

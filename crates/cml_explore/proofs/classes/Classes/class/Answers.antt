@@ -10,5 +10,6 @@ unreachable-requires c =
 
 pub returns : goal.returns
 returns c =
-    class_is (λ d. d.items) c.self.inside.details.keys c.self.inside.tallies.items c.args.number c.in-Some.details.now c.index.result.now c.as_slice.result.now c.args.self.now c.self.invariant c.self.view_is c.requires
+    class_is (λ d. d.items) c.self.inside.details.keys c.self.inside.tallies.items c.args.number c.in-Some.details.now
+    c.index.result.now c.as_slice.result.now c.args.self.now c.self.invariant c.self.view_is c.requires
     c.in-Some.ensures.key c.index.ensures c.as_slice.ensures.value

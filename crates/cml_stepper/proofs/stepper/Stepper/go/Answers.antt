@@ -14,5 +14,7 @@ returns-clause-goes c =
       tells = t.told;
       asked = asked;
       asks = subst (λ (s : ByHand). IsQuestion s c.tell.new.hub asked) t.script c.in_ok-question.ensures;
-      said_is = goes_said c.in_ok-text.text.items _ asked c.in_ok-said.said.items c.args.hub.now.course c.tell.new.hub.course c.printed_len-before.result c.printed_len-before.ensures c.in_ok-push_printed.ensures c.in_ok-said.ensures;
+      said_is = goes_said c.in_ok-text.text.items _ asked c.in_ok-said.said.items c.args.hub.now.course
+          c.tell.new.hub.course c.printed_len-before.result c.printed_len-before.ensures c.in_ok-push_printed.ensures
+          c.in_ok-said.ensures;
     }

@@ -6,7 +6,9 @@ use Rattle.cml_stepper.proofs.stepper.Stepper.undo_last.Goals as goal
 pub returns-then-count-eq0-clause-undoes : goal.returns-then-count-eq0-clause-undoes
 returns-then-count-eq0-clause-undoes c =
     let h = c.args.hub.now in
-    undoes_none h.course.items (script_of c.args.self.now) h h c.in_ok-words.words.items c.in_ok-stayed.stayed.text.items (omega (arith, ap length c.schedule-count.ensures.items)) c.in_ok-words.ensures c.in_ok-stayed.ensures.stays
+    undoes_none h.course.items (script_of c.args.self.now) h h c.in_ok-words.words.items
+    c.in_ok-stayed.stayed.text.items (omega (arith, ap length c.schedule-count.ensures.items)) c.in_ok-words.ensures
+    c.in_ok-stayed.ensures.stays
 
 pub returns-clause-undoes : goal.returns-clause-undoes
 returns-clause-undoes c =
