@@ -41,7 +41,7 @@ pub record Goes (g : Goal) (old new : PlainSearch) : Type 0 where
   pub no_longer : length new.items ≤ length old.items
   pub tries : new.left ≤ old.left
 
--- steps until nothing more can be left out, unless no try is left
+-- steps until no item can be left out by itself, nor one thread's items from some point on, unless no try is left
 pub record SearchSettles (g : Goal) (old new : PlainSearch) : Type 0 where
   pub goes : Goes g old new
   pub minimal : (new.left ≡ 0) ⊎ MinimalTo g new.items

@@ -22,7 +22,7 @@ abbrev pub IsMinimal : List (PlainItem ℕ) → ℕ → List Detail → List Ite
 IsMinimal p budget details items = (i : ℕ) → i < length items → IsNeeded p budget details items i
 
 -- The schedule of this program that was found for the given items: it can be followed from the start and ends as they do, it is not longer
--- than they are, and nothing can be left out of it, unless all tries were used.
+-- than they are, and no item of it can be left out by itself, nor one thread's items from some point on, unless all tries were used.
 pub record IsShrunk (p : List (PlainItem ℕ)) (budget : ℕ) (given : List Item) (tries : ℕ) (found : PlainShrunk) : Type 0 where
   pub details : List Detail
   pub ended : EndsWith p budget given details

@@ -246,7 +246,8 @@ impl Search {
         Ok(changed)
     }
 
-    /// Goes through the items again and again, until nothing more can be left out or no try is left.
+    /// Goes through the items again and again, until no item can be left out by itself, nor a thread's items from some point on, or no try
+    /// is left.
     ///
     /// # Errors
     /// Out of memory.
