@@ -7,7 +7,10 @@ use Rattle.cml_step.specs.declared.entry.Entry.{Entry}
 use Rattle.cml_step.specs.declared.entry.Entry.TheVariants as entry
 use Rattle.cml_step.specs.declared.journal.Noted.{Noted}
 use Rattle.cml_step.specs.declared.journal.Journal.{Journal}
-use Rattle.cml_step.specs.Machines.{PlainHeld, call, force, plain_held}
+use Rattle.cml_step.specs.declared.ask.Ask.{Ask}
+use Rattle.cml_step.specs.declared.still.Begun.{Begun}
+use Rattle.cml_step.specs.Begins.{BeginsSlice}
+use Rattle.cml_step.specs.Machines.{PlainHeld, PlainMachine, call, force, plain_held}
 use Rattle.cml_step.specs.Shared.{topped, called, HasNoCallOnTop}
 use Rattle.cml_step.specs.Undone.{unset, call_before, stack_before, stood, HasHead, HasSlotsOf, HasNotes}
 use Rattle.cml_step.proofs.CallLemmas.{take_all}
@@ -119,3 +122,15 @@ pub fits_filled : (p : List (PlainItem ℕ)) (c d : Call) (v : PlainValue) (b : 
     (b ≡ true → d.slots.items ≡ slots_with c.wait v c.slots.items) → (b ≡ true → d.wait ≡ wait.Runs) → (b ≡ false → d ≡ c) → CallFits p d
 fits_filled p c d v true h g f s r n = filled_fits p c d v h g f (r refl) (s refl)
 fits_filled p c d v false h g f s r n = subst (CallFits p) (sym (n refl)) h
+
+-- a slice has begun the way that is known
+pub begins_as : (p : List (PlainItem ℕ)) {x y : Begun} (j : Journal) (a : Ask) (old new spare : List PlainHeld) → x ≡ y →
+    BeginsSlice p x j a old new spare → BeginsSlice p y j a old new spare
+begins_as p j a old new spare is begins = subst (λ (x : Begun). BeginsSlice p x j a old new spare) is begins
+
+abbrev pub machine_of : ℕ → List PlainHeld → PlainMachine
+machine_of thread hs = record { thread = thread; stack = hs }
+
+-- a machine whose stack is what it was
+pub machine_was : {thread : ℕ} {now before : List PlainHeld} {m : PlainMachine} → now ≡ before → machine_of thread before ≡ m → machine_of thread now ≡ m
+machine_was {thread = n} same view = ap (machine_of n) same ∙ view

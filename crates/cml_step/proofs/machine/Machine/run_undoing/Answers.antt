@@ -1,11 +1,8 @@
 use Rattle.std.proofs.Common.{◌≡◌, ℕ, ap, sym, ◌∙◌, subst, Result, Ok}
 use Rattle.std.specs.Prelude.{IfOk, OnErr}
-use Rattle.cml_step.specs.declared.ask.Ask.TheVariants as asks_of
-use Rattle.cml_step.specs.declared.still.Begun.{Begun}
 use Rattle.cml_step.specs.Answers as await
 use Rattle.cml_step.specs.Answers.{top_await}
 use Rattle.cml_step.specs.AskViews.{plain_ask}
-use Rattle.cml_step.specs.Begins.{BeginsSlice, AsksStill, GoesStill}
 use Rattle.cml_step.specs.Calls.{text_of}
 use Rattle.cml_step.specs.Machines.{PlainMachine, machine_term, Fits}
 use Rattle.cml_step.specs.Rans.{IsSlice}
@@ -13,165 +10,120 @@ use Rattle.cml_step.specs.Slices.{GoesIn}
 use Rattle.cml_step.specs.Stacks.{term_of}
 use Rattle.cml_step.specs.Undone.{IsNotedStack}
 use Rattle.cml_step.proofs.RanLemmas.{slice_made}
-use Rattle.cml_step.proofs.UndoLemmas.{on_ok}
+use Rattle.cml_step.proofs.UndoLemmas.{begins_as, machine_of, machine_was, on_ok}
 use Rattle.cml_step.proofs.machine.Machine.run_undoing.Goals as goal
 
 pub returns-in-Asks-clause-meant : goal.returns-in-Asks-clause-meant
 returns-in-Asks-clause-meant c =
     let p = c.args.program.now in
-    let m : PlainMachine = record { thread = c.self.inside.thread.0; stack = c.self.inside.stack } in
     let b = c.begin_slice.new in
-    let h : AsksStill p c.in-Asks.steps b.journal b.asked m.stack b.stack =
-    subst (λ (x : Begun). BeginsSlice p x b.journal b.asked m.stack b.stack b.spare) c.in-Asks.is c.in_ok-begun.ensures.begins in
+    let h = begins_as p b.journal b.asked c.self.inside.stack b.stack b.spare c.in-Asks.is c.in_ok-begun.ensures.begins in
+    let m = machine_of c.self.inside.thread.0 c.self.inside.stack in
     let r : Result ℕ (Unit {0}) = Ok c.in-Asks.steps in
-    subst (λ (x : PlainMachine). IsSlice (record { program = p; start = x; end = record { thread = m.thread; stack = b.stack }; ask = plain_ask b.asked; steps = c.in-Asks.steps })) c.self.view_is
+    let end = machine_of m.thread b.stack in
+    subst (λ (x : PlainMachine). IsSlice (record { program = p; start = x; end = end; ask = plain_ask b.asked; steps = c.in-Asks.steps })) c.self.view_is
     (slice_made p m b.stack r b.asked (subst (Fits p) (sym c.self.view_is) c.requires.fits)
-    (subst (λ x. top_await (machine_term p x) ≡ await.nothing) (sym c.self.view_is) c.requires.awaits) (h.meant m.thread) h.fits h.agrees)
+    (subst (λ (x : PlainMachine). top_await (machine_term p x) ≡ await.nothing) (sym c.self.view_is) c.requires.awaits) (h.meant m.thread) h.fits h.agrees)
 
 pub returns-in-Asks-clause-undo : goal.returns-in-Asks-clause-undo
 returns-in-Asks-clause-undo c =
     let p = c.args.program.now in
-    let m : PlainMachine = record { thread = c.self.inside.thread.0; stack = c.self.inside.stack } in
     let b = c.begin_slice.new in
-    let h : AsksStill p c.in-Asks.steps b.journal b.asked m.stack b.stack =
-    subst (λ (x : Begun). BeginsSlice p x b.journal b.asked m.stack b.stack b.spare) c.in-Asks.is c.in_ok-begun.ensures.begins in
+    let h = begins_as p b.journal b.asked c.self.inside.stack b.stack b.spare c.in-Asks.is c.in_ok-begun.ensures.begins in
     (ap (λ (x : PlainMachine). x.thread) (sym c.self.view_is), subst (λ (x : PlainMachine). IsNotedStack b.journal b.stack x.stack) c.self.view_is h.noted)
 
 pub run_on-requires-clause-fits : goal.run_on-requires-clause-fits
 run_on-requires-clause-fits c =
     let p = c.args.program.now in
-    let th = c.self.inside.thread.0 in
     let b = c.begin_slice.new in
-    let h : GoesStill p c.in-Goes.done b.asked c.self.inside.stack b.stack b.spare =
-    subst (λ (x : Begun). BeginsSlice p x b.journal b.asked c.self.inside.stack b.stack b.spare) c.in-Goes.is c.in_ok-begun.ensures.begins in
-    let first : PlainMachine = record { thread = th; stack = b.spare } in
-    let was : first ≡ c.args.self.now = ap (λ hs. record { thread = th; stack = hs }) h.spare_is ∙ c.self.view_is in
-    (subst (Fits p) (sym was) c.requires.fits, h.fits)
+    let h = begins_as p b.journal b.asked c.self.inside.stack b.stack b.spare c.in-Goes.is c.in_ok-begun.ensures.begins in
+    (subst (Fits p) (sym (machine_was h.spare_is c.self.view_is)) c.requires.fits, h.fits)
 
 pub run_on-requires-clause-awaits : goal.run_on-requires-clause-awaits
 run_on-requires-clause-awaits c =
     let p = c.args.program.now in
-    let th = c.self.inside.thread.0 in
     let b = c.begin_slice.new in
-    let h : GoesStill p c.in-Goes.done b.asked c.self.inside.stack b.stack b.spare =
-    subst (λ (x : Begun). BeginsSlice p x b.journal b.asked c.self.inside.stack b.stack b.spare) c.in-Goes.is c.in_ok-begun.ensures.begins in
-    let first : PlainMachine = record { thread = th; stack = b.spare } in
-    let was : first ≡ c.args.self.now = ap (λ hs. record { thread = th; stack = hs }) h.spare_is ∙ c.self.view_is in
-    subst (λ (m : PlainMachine). top_await (machine_term p m) ≡ await.nothing) (sym was) c.requires.awaits
+    let h = begins_as p b.journal b.asked c.self.inside.stack b.stack b.spare c.in-Goes.is c.in_ok-begun.ensures.begins in
+    subst (λ (m : PlainMachine). top_await (machine_term p m) ≡ await.nothing) (sym (machine_was h.spare_is c.self.view_is)) c.requires.awaits
 
 pub run_on-requires-clause-nothing : goal.run_on-requires-clause-nothing
 run_on-requires-clause-nothing c =
     let p = c.args.program.now in
-    let th = c.self.inside.thread.0 in
     let b = c.begin_slice.new in
-    let h : GoesStill p c.in-Goes.done b.asked c.self.inside.stack b.stack b.spare =
-    subst (λ (x : Begun). BeginsSlice p x b.journal b.asked c.self.inside.stack b.stack b.spare) c.in-Goes.is c.in_ok-begun.ensures.begins in
-    let first : PlainMachine = record { thread = th; stack = b.spare } in
-    let was : first ≡ c.args.self.now = ap (λ hs. record { thread = th; stack = hs }) h.spare_is ∙ c.self.view_is in
+    let h = begins_as p b.journal b.asked c.self.inside.stack b.stack b.spare c.in-Goes.is c.in_ok-begun.ensures.begins in
     h.asks
 
 pub run_on-requires-clause-goes : goal.run_on-requires-clause-goes
 run_on-requires-clause-goes c =
     let p = c.args.program.now in
-    let th = c.self.inside.thread.0 in
     let b = c.begin_slice.new in
-    let h : GoesStill p c.in-Goes.done b.asked c.self.inside.stack b.stack b.spare =
-    subst (λ (x : Begun). BeginsSlice p x b.journal b.asked c.self.inside.stack b.stack b.spare) c.in-Goes.is c.in_ok-begun.ensures.begins in
-    let first : PlainMachine = record { thread = th; stack = b.spare } in
-    let was : first ≡ c.args.self.now = ap (λ hs. record { thread = th; stack = hs }) h.spare_is ∙ c.self.view_is in
-    (h.within, subst (λ hs. GoesIn (text_of p) th c.in-Goes.done (term_of p hs) (term_of p b.stack)) (sym h.spare_is) (h.goes th))
+    let h = begins_as p b.journal b.asked c.self.inside.stack b.stack b.spare c.in-Goes.is c.in_ok-begun.ensures.begins in
+    let n = c.self.inside.thread.0 in
+    (h.within, subst (λ hs. GoesIn (text_of p) n c.in-Goes.done (term_of p hs) (term_of p b.stack)) (sym h.spare_is) (h.goes n))
 
 pub returns-in-Goes-clause-meant : goal.returns-in-Goes-clause-meant
 returns-in-Goes-clause-meant c =
     let p = c.args.program.now in
-    let th = c.self.inside.thread.0 in
     let b = c.begin_slice.new in
-    let h : GoesStill p c.in-Goes.done b.asked c.self.inside.stack b.stack b.spare =
-    subst (λ (x : Begun). BeginsSlice p x b.journal b.asked c.self.inside.stack b.stack b.spare) c.in-Goes.is c.in_ok-begun.ensures.begins in
-    let first : PlainMachine = record { thread = th; stack = b.spare } in
-    let was : first ≡ c.args.self.now = ap (λ hs. record { thread = th; stack = hs }) h.spare_is ∙ c.self.view_is in
-    subst (λ (m : PlainMachine). IfOk c.run_on.result (λ steps. IsSlice (record { program = p; start = m; end = c.run_on.new.self; ask = plain_ask c.run_on.new.asked; steps = steps })))
-    was c.run_on.ensures.meant
+    let h = begins_as p b.journal b.asked c.self.inside.stack b.stack b.spare c.in-Goes.is c.in_ok-begun.ensures.begins in
+    let d = c.run_on.new in
+    subst (λ (m : PlainMachine). IfOk c.run_on.result (λ steps. IsSlice (record { program = p; start = m; end = d.self; ask = plain_ask d.asked; steps = steps })))
+    (machine_was h.spare_is c.self.view_is) c.run_on.ensures.meant
 
 pub returns-in-Goes-clause-undo : goal.returns-in-Goes-clause-undo
 returns-in-Goes-clause-undo c =
     let p = c.args.program.now in
-    let th = c.self.inside.thread.0 in
     let b = c.begin_slice.new in
-    let h : GoesStill p c.in-Goes.done b.asked c.self.inside.stack b.stack b.spare =
-    subst (λ (x : Begun). BeginsSlice p x b.journal b.asked c.self.inside.stack b.stack b.spare) c.in-Goes.is c.in_ok-begun.ensures.begins in
-    let first : PlainMachine = record { thread = th; stack = b.spare } in
-    let was : first ≡ c.args.self.now = ap (λ hs. record { thread = th; stack = hs }) h.spare_is ∙ c.self.view_is in
-    on_ok c.run_on.result (λ e. sym (e ∙ was)) c.run_on.ensures.spare
+    let h = begins_as p b.journal b.asked c.self.inside.stack b.stack b.spare c.in-Goes.is c.in_ok-begun.ensures.begins in
+    on_ok c.run_on.result (λ e. sym (e ∙ machine_was h.spare_is c.self.view_is)) c.run_on.ensures.spare
 
 pub returns-in-Goes-clause-err : goal.returns-in-Goes-clause-err
 returns-in-Goes-clause-err c =
     let p = c.args.program.now in
-    let th = c.self.inside.thread.0 in
     let b = c.begin_slice.new in
-    let h : GoesStill p c.in-Goes.done b.asked c.self.inside.stack b.stack b.spare =
-    subst (λ (x : Begun). BeginsSlice p x b.journal b.asked c.self.inside.stack b.stack b.spare) c.in-Goes.is c.in_ok-begun.ensures.begins in
-    let first : PlainMachine = record { thread = th; stack = b.spare } in
-    let was : first ≡ c.args.self.now = ap (λ hs. record { thread = th; stack = hs }) h.spare_is ∙ c.self.view_is in
-    subst (λ (m : PlainMachine). OnErr c.run_on.result (c.run_on.new.self ≡ m)) was c.run_on.ensures.err
+    let h = begins_as p b.journal b.asked c.self.inside.stack b.stack b.spare c.in-Goes.is c.in_ok-begun.ensures.begins in
+    subst (λ (m : PlainMachine). OnErr c.run_on.result (c.run_on.new.self ≡ m)) (machine_was h.spare_is c.self.view_is) c.run_on.ensures.err
 
 pub run_asking-requires-clause-fits : goal.run_asking-requires-clause-fits
 run_asking-requires-clause-fits c =
     let p = c.args.program.now in
-    let th = c.self.inside.thread.0 in
     let b = c.begin_slice.new in
-    let h : (b.stack ≡ c.self.inside.stack) × (b.asked ≡ asks_of.Nothing) = subst (λ (x : Begun). BeginsSlice p x b.journal b.asked c.self.inside.stack b.stack b.spare) c.in-Not.is c.in_ok-begun.ensures.begins in
-    let first : PlainMachine = record { thread = th; stack = b.stack } in
-    let was : first ≡ c.args.self.now = ap (λ hs. record { thread = th; stack = hs }) h.0 ∙ c.self.view_is in
-    subst (Fits p) (sym was) c.requires.fits
+    let h = begins_as p b.journal b.asked c.self.inside.stack b.stack b.spare c.in-Not.is c.in_ok-begun.ensures.begins in
+    subst (Fits p) (sym (machine_was h.0 c.self.view_is)) c.requires.fits
 
 pub run_asking-requires-clause-awaits : goal.run_asking-requires-clause-awaits
 run_asking-requires-clause-awaits c =
     let p = c.args.program.now in
-    let th = c.self.inside.thread.0 in
     let b = c.begin_slice.new in
-    let h : (b.stack ≡ c.self.inside.stack) × (b.asked ≡ asks_of.Nothing) = subst (λ (x : Begun). BeginsSlice p x b.journal b.asked c.self.inside.stack b.stack b.spare) c.in-Not.is c.in_ok-begun.ensures.begins in
-    let first : PlainMachine = record { thread = th; stack = b.stack } in
-    let was : first ≡ c.args.self.now = ap (λ hs. record { thread = th; stack = hs }) h.0 ∙ c.self.view_is in
-    subst (λ (m : PlainMachine). top_await (machine_term p m) ≡ await.nothing) (sym was) c.requires.awaits
+    let h = begins_as p b.journal b.asked c.self.inside.stack b.stack b.spare c.in-Not.is c.in_ok-begun.ensures.begins in
+    subst (λ (m : PlainMachine). top_await (machine_term p m) ≡ await.nothing) (sym (machine_was h.0 c.self.view_is)) c.requires.awaits
 
 pub run_asking-requires-clause-nothing : goal.run_asking-requires-clause-nothing
 run_asking-requires-clause-nothing c =
     let p = c.args.program.now in
-    let th = c.self.inside.thread.0 in
     let b = c.begin_slice.new in
-    let h : (b.stack ≡ c.self.inside.stack) × (b.asked ≡ asks_of.Nothing) = subst (λ (x : Begun). BeginsSlice p x b.journal b.asked c.self.inside.stack b.stack b.spare) c.in-Not.is c.in_ok-begun.ensures.begins in
-    let first : PlainMachine = record { thread = th; stack = b.stack } in
-    let was : first ≡ c.args.self.now = ap (λ hs. record { thread = th; stack = hs }) h.0 ∙ c.self.view_is in
+    let h = begins_as p b.journal b.asked c.self.inside.stack b.stack b.spare c.in-Not.is c.in_ok-begun.ensures.begins in
     h.1
 
 pub returns-in-Not-clause-meant : goal.returns-in-Not-clause-meant
 returns-in-Not-clause-meant c =
     let p = c.args.program.now in
-    let th = c.self.inside.thread.0 in
     let b = c.begin_slice.new in
-    let h : (b.stack ≡ c.self.inside.stack) × (b.asked ≡ asks_of.Nothing) = subst (λ (x : Begun). BeginsSlice p x b.journal b.asked c.self.inside.stack b.stack b.spare) c.in-Not.is c.in_ok-begun.ensures.begins in
-    let first : PlainMachine = record { thread = th; stack = b.stack } in
-    let was : first ≡ c.args.self.now = ap (λ hs. record { thread = th; stack = hs }) h.0 ∙ c.self.view_is in
-    subst (λ (m : PlainMachine). IfOk c.run_asking.result (λ steps. IsSlice (record { program = p; start = m; end = c.run_asking.new.self; ask = plain_ask c.run_asking.new.asked; steps = steps })))
-    was c.run_asking.ensures.meant
+    let h = begins_as p b.journal b.asked c.self.inside.stack b.stack b.spare c.in-Not.is c.in_ok-begun.ensures.begins in
+    let d = c.run_asking.new in
+    subst (λ (m : PlainMachine). IfOk c.run_asking.result (λ steps. IsSlice (record { program = p; start = m; end = d.self; ask = plain_ask d.asked; steps = steps })))
+    (machine_was h.0 c.self.view_is) c.run_asking.ensures.meant
 
 pub returns-in-Not-clause-undo : goal.returns-in-Not-clause-undo
 returns-in-Not-clause-undo c =
     let p = c.args.program.now in
-    let th = c.self.inside.thread.0 in
     let b = c.begin_slice.new in
-    let h : (b.stack ≡ c.self.inside.stack) × (b.asked ≡ asks_of.Nothing) = subst (λ (x : Begun). BeginsSlice p x b.journal b.asked c.self.inside.stack b.stack b.spare) c.in-Not.is c.in_ok-begun.ensures.begins in
-    let first : PlainMachine = record { thread = th; stack = b.stack } in
-    let was : first ≡ c.args.self.now = ap (λ hs. record { thread = th; stack = hs }) h.0 ∙ c.self.view_is in
-    on_ok c.run_asking.result (λ e. sym (e ∙ was)) c.run_asking.ensures.spare
+    let h = begins_as p b.journal b.asked c.self.inside.stack b.stack b.spare c.in-Not.is c.in_ok-begun.ensures.begins in
+    on_ok c.run_asking.result (λ e. sym (e ∙ machine_was h.0 c.self.view_is)) c.run_asking.ensures.spare
 
 pub returns-in-Not-clause-err : goal.returns-in-Not-clause-err
 returns-in-Not-clause-err c =
     let p = c.args.program.now in
-    let th = c.self.inside.thread.0 in
     let b = c.begin_slice.new in
-    let h : (b.stack ≡ c.self.inside.stack) × (b.asked ≡ asks_of.Nothing) = subst (λ (x : Begun). BeginsSlice p x b.journal b.asked c.self.inside.stack b.stack b.spare) c.in-Not.is c.in_ok-begun.ensures.begins in
-    let first : PlainMachine = record { thread = th; stack = b.stack } in
-    let was : first ≡ c.args.self.now = ap (λ hs. record { thread = th; stack = hs }) h.0 ∙ c.self.view_is in
-    subst (λ (m : PlainMachine). OnErr c.run_asking.result (c.run_asking.new.self ≡ m)) was c.run_asking.ensures.err
+    let h = begins_as p b.journal b.asked c.self.inside.stack b.stack b.spare c.in-Not.is c.in_ok-begun.ensures.begins in
+    subst (λ (m : PlainMachine). OnErr c.run_asking.result (c.run_asking.new.self ≡ m)) (machine_was h.0 c.self.view_is) c.run_asking.ensures.err
