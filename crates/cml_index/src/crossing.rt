@@ -1,6 +1,6 @@
 //! Groups with leaves on both sides of one channel.
 
-ghost use Rattle.std.specs.Prelude.{◌≡◌, if◌then◌else◌, map};
+ghost use Rattle.std.specs.Prelude.{◌≡◌, ◌≤◌, if◌then◌else◌, map};
 ghost use Rattle.std.specs.List.{list_any};
 ghost use Rattle.cml_index.specs.Slots.{slot_in};
 ghost use Rattle.cml_index.specs.Crossing as spec;
@@ -62,12 +62,10 @@ fn has_both(waits: &[Wait]) -> bool
 
 // Whether these leaves, which are those of one group, may stand on both sides of one channel. Those of a large group are not compared: it
 // is enough that it has leaves on sides of both kinds.
+#[inline(never)]
 fn crosses(waits: &[Wait]) -> bool
     ensures { result ≡ spec.crosses (map slot_in waits.now) }
 {
-    if waits.len() < 2 {
-        return false;
-    }
     if !has_side(waits, true) {
         return false;
     }
@@ -78,8 +76,24 @@ fn crosses(waits: &[Wait]) -> bool
 }
 
 // How many threads with these leaves may stand on both sides of one channel: this one, or none.
+#[inline(always)]
 pub(crate) fn crossers(waits: &[Wait]) -> usize
     ensures { result ≡ (if spec.crosses (map slot_in waits.now) then 1 else 0) }
 {
+    if waits.len() < 2 {
+        return 0;
+    }
     if crosses(waits) { 1 } else { 0 }
+}
+
+// The same, where it is known that they are not more than this: where that is 0, no leaf is gone through.
+#[inline(always)]
+pub(crate) fn crossers_within(most: usize, waits: &[Wait]) -> usize
+    requires { (if spec.crosses (map slot_in waits.now) then 1 else 0) ≤ most }
+    ensures { result ≡ (if spec.crosses (map slot_in waits.now) then 1 else 0) }
+{
+    if most == 0 {
+        return 0;
+    }
+    crossers(waits)
 }

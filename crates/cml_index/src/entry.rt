@@ -1,6 +1,6 @@
 //! A pending thread, and what the index keeps of its group.
 
-ghost use Rattle.std.specs.Prelude.{◌≡◌, ◌≤◌, ◌<◌, ◌^◌, ◌++◌, [], length, map, IfOk};
+ghost use Rattle.std.specs.Prelude.{◌≡◌, ◌≤◌, ◌<◌, ◌^◌, ◌++◌, ◌∷◌, [], length, map, IfOk};
 ghost use Rattle.cml_value.specs.Group.{bases, scopes, nacks_of, never};
 ghost use Rattle.cml_index.specs.Posts.{slot_of};
 ghost use Rattle.cml_index.specs.Slots.{slot_in};
@@ -57,6 +57,28 @@ fn number(count: usize) -> Result<u32, AllocError>
     u32::try_from(count).map_err(|_| AllocError)
 }
 
+// Appends what a leaf waits for.
+#[inline(always)]
+fn push_wait(all: &mut Vec<Wait>, wait: Wait) -> Result<(), AllocError>
+    ensures { IfOk result (λ _. all.new.items ≡ all.old.items ++ wait ∷ []) }
+{
+    all.reserve(1)?;
+    all.push_reserved(wait);
+    Ok(())
+}
+
+// Appends what the group's leaves wait for, and the nacks of its scopes. Most groups are one leaf.
+#[inline(always)]
+fn push_group(all: &mut Vec<Wait>, nacks: &mut Vec<u32>, group: &Group) -> Result<(), AllocError>
+    ensures waits { IfOk result (λ _. all.new.items ≡ all.old.items ++ map leaf_wait (bases group.now)) }
+    ensures nacks { IfOk result (λ _. nacks.new.items ≡ nacks.old.items ++ nacks_of (scopes group.now)) }
+{
+    match group.kind() {
+        GroupKind::Leaf(b) => push_wait(all, Wait::of(b)),
+        _ => push_waits(all, nacks, group),
+    }
+}
+
 // Appends what the group's leaves wait for, and the nacks of its scopes. Where memory runs out, what was appended until then stays.
 #[tactic(auto, using(crate::proofs::Waits::wait_steps, crate::proofs::Scopes::nack_steps))]
 fn push_waits(all: &mut Vec<Wait>, nacks: &mut Vec<u32>, group: &Group) -> Result<(), AllocError>
@@ -65,14 +87,11 @@ fn push_waits(all: &mut Vec<Wait>, nacks: &mut Vec<u32>, group: &Group) -> Resul
 {
     match group.kind() {
         GroupKind::Never => Ok(()),
-        GroupKind::Leaf(b) => {
-            all.push(Wait::of(b))?;
-            Ok(())
-        }
+        GroupKind::Leaf(b) => push_wait(all, Wait::of(b)),
         GroupKind::Choose(members) => {
             for member in members.iter() {
                 match member.kind() {
-                    GroupKind::Leaf(b) => all.push(Wait::of(b))?,
+                    GroupKind::Leaf(b) => push_wait(all, Wait::of(b))?,
                     _ => push_waits(all, nacks, member)?,
                 }
             }
@@ -94,7 +113,7 @@ fn renewed(waits: &mut Vec<Wait>, nacks: &mut Vec<u32>, group: &Group) -> Result
     ensures small { IfOk result (λ _. length waits.new.items < 2 ^ 32) }
     ensures group { IfOk result (λ copy. copy ≡ group.now) }
 {
-    push_waits(waits, nacks, group)?;
+    push_group(waits, nacks, group)?;
     let _count = number(waits.len())?;
     group.copy()
 }

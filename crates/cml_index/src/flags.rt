@@ -84,6 +84,24 @@ pub(crate) fn count_lit(flags: &Flags, waits: &[Wait], tally: &mut Tally) -> usi
     count
 }
 
+// The same, where it is known that not more than this many can be: where that is 0, no leaf is looked at.
+#[inline(always)]
+pub(crate) fn count_lit_within(
+    most: usize,
+    flags: &Flags,
+    waits: &[Wait],
+    tally: &mut Tally,
+) -> usize
+    requires { length (filter (lit_wait (spec.told flags.now.entries)) waits.now) ≤ most }
+    ensures count { result ≡ length (filter (lit_wait (spec.told flags.now.entries)) waits.now) }
+    ensures cost { tally.new ≤ tally.old + 2 * length waits.now }
+{
+    if most == 0 {
+        return 0;
+    }
+    count_lit(flags, waits, tally)
+}
+
 // Reserves the place of a light of which nothing was told. What was told of any light stays.
 pub(crate) fn reserve(flags: &mut Flags, light: Light) -> Result<(), AllocError>
     ensures kept { spec.OnlyReserves flags.old.entries flags.new.entries }

@@ -5,18 +5,20 @@ ghost use Rattle.std.specs.Borrow.{sem};
 ghost use Rattle.std.specs.Option.{option_copied};
 ghost use Rattle.cml_scan.specs.Order.{Every, Ascends, before};
 ghost use Rattle.cml_channel.specs.Lanes.{is_own, is_others, others, with_run};
+ghost use Rattle.cml_channel.specs.declared.pairing.PairedKind.TheVariants.{Swap};
 ghost use Rattle.cml_index.specs.declared.slot.Slot.{Slot};
+ghost use Rattle.cml_index.specs.declared.slot.Slot.TheVariants.{Waiters};
 ghost use Rattle.cml_index.specs.Slot.{same_slot};
 ghost use Rattle.cml_index.specs.Slots as spec;
 ghost use Rattle.cml_index.specs.Stands as stands;
 ghost use Rattle.cml_index.specs.Slots.{slot_in};
 
-use crate::slot::{LaneKind, Slot, Spot, Wait};
+use crate::slot::{LaneKind, Slot, Spot, Wait, spot_of_light};
 use crate::stand::{
     LaneState, Ticks, come_in, come_tick, count_in, count_tick, forget_tick, forgo_in, forgo_tick,
     go_in, go_tick, note_in, note_tick,
 };
-use cml_channel::{Lane, Tally};
+use cml_channel::{Lane, PairedKind, Tally};
 use cml_scan::Light;
 use cml_value::Tid;
 use indexmap::IndexMap;
@@ -88,19 +90,6 @@ impl Lanes {
         match row {
             LaneKind::Senders => &mut self.senders,
             LaneKind::Receivers => &mut self.receivers,
-            _ => self.other_row_mut(row),
-        }
-    }
-
-    // The same, in a function of its own, since most are those of channels.
-    #[inline(never)]
-    fn other_row_mut(&mut self, row: LaneKind) -> &mut Vec<LaneState>
-        ensures* writes_back { sem 𝓛 (LendsRow self.entry row result) }
-        ensures value { result.now ≡ stands.lanes_in self.old row }
-    {
-        match row {
-            LaneKind::Senders => &mut self.senders,
-            LaneKind::Receivers => &mut self.receivers,
             LaneKind::Swappers => &mut self.swappers,
             LaneKind::Swapped => &mut self.swapped,
             LaneKind::IVars => &mut self.ivars,
@@ -112,12 +101,73 @@ impl Lanes {
         }
     }
 
+    // The lanes of one side of the objects of one kind.
+    #[inline(always)]
+    fn side(&self, kind: PairedKind, heads: bool) -> &Vec<LaneState>
+        ensures { result.now ≡ stands.lanes_in self.now (stands.side_row kind heads) }
+    {
+        match kind {
+            PairedKind::Channel => {
+                if heads {
+                    &self.senders
+                } else {
+                    &self.receivers
+                }
+            }
+            PairedKind::Swap => { if heads { &self.swappers } else { &self.swapped } }
+        }
+    }
+
+    // The lanes of one side of the objects of one kind, to change them. Most are those of channels.
+    #[inline(always)]
+    fn side_mut(&mut self, kind: PairedKind, heads: bool) -> &mut Vec<LaneState>
+        ensures* writes_back { sem 𝓛 (LendsRow self.entry (stands.side_row kind heads) result) }
+        ensures value { result.now ≡ stands.lanes_in self.old (stands.side_row kind heads) }
+    {
+        match kind {
+            PairedKind::Channel => {
+                if heads {
+                    &mut self.senders
+                } else {
+                    &mut self.receivers
+                }
+            }
+            PairedKind::Swap => self.swap_mut(heads),
+        }
+    }
+
+    // Those of the swap channels, in a function of its own.
+    #[inline(never)]
+    fn swap_mut(&mut self, heads: bool) -> &mut Vec<LaneState>
+        ensures* writes_back { sem 𝓛 (LendsRow self.entry (stands.side_row Swap heads) result) }
+        ensures value { result.now ≡ stands.lanes_in self.old (stands.side_row Swap heads) }
+    {
+        if heads {
+            &mut self.swappers
+        } else {
+            &mut self.swapped
+        }
+    }
+
     // What stands in the slot, if it was made.
     #[inline(always)]
     pub(crate) fn stand(&self, slot: Slot) -> Option<&LaneState>
         ensures { option_copied result ≡ stands.stand_at self.now slot }
     {
-        match slot.spot() {
+        match slot {
+            Slot::Side { heads, object } => {
+                self.side(object.kind, heads).get(object.number as usize)
+            }
+            Slot::Waiters(light) => self.stand_of(light),
+        }
+    }
+
+    // The same for those who wait for the light, in a function of its own, since most leaves wait at channels.
+    #[inline(never)]
+    fn stand_of(&self, light: Light) -> Option<&LaneState>
+        ensures { option_copied result ≡ stands.stand_at self.now (Waiters light) }
+    {
+        match spot_of_light(light) {
             Spot::Listed { row, number } => self.row(row).get(number as usize),
             Spot::Tick(tick) => self.ticks.get(&tick),
         }
@@ -151,7 +201,26 @@ impl Lanes {
         ensures elsewhere { (k : Slot) → same_slot k slot ≡ false →
             stands.IsAlike (stands.stand_at self.new k) (stands.stand_at self.old k) }
     {
-        match slot.spot() {
+        match slot {
+            Slot::Side { heads, object } => note_in(
+                self.side_mut(object.kind, heads),
+                alloc,
+                object.number as usize,
+                leaf,
+            ),
+            Slot::Waiters(light) => self.note_waiter(alloc, light, leaf),
+        }
+    }
+
+    // The same at the lane of those who wait for the light.
+    #[inline(never)]
+    fn note_waiter(&mut self, alloc: Global, light: Light, leaf: u32) -> Result<(), AllocError>
+        ensures here { stands.IsNoted result leaf (stands.stand_at self.old (Waiters light))
+            (stands.stand_at self.new (Waiters light)) }
+        ensures elsewhere { (k : Slot) → same_slot k (Waiters light) ≡ false →
+            stands.IsAlike (stands.stand_at self.new k) (stands.stand_at self.old k) }
+    {
+        match spot_of_light(light) {
             Spot::Listed { row, number } => {
                 note_in(self.row_mut(row), alloc, number as usize, leaf)
             }
@@ -186,7 +255,29 @@ impl Lanes {
         ensures cost { (digits : ℕ) → stands.ComesWithin digits (stands.stand_at self.old slot) →
             tally.new ≤ tally.old + digits }
     {
-        match slot.spot() {
+        match slot {
+            Slot::Side { heads, object } => come_in(
+                self.side_mut(object.kind, heads),
+                object.number as usize,
+                tid,
+                tally,
+            ),
+            Slot::Waiters(light) => self.come_waiter(light, tid, tally),
+        }
+    }
+
+    // The same at the lane of those who wait for the light.
+    #[inline(never)]
+    fn come_waiter(&mut self, light: Light, tid: Tid, tally: &mut Tally)
+        requires { stands.CanCome tid (stands.stand_at self.old (Waiters light)) }
+        ensures here { stands.HasCome tid (stands.stand_at self.old (Waiters light))
+            (stands.stand_at self.new (Waiters light)) }
+        ensures elsewhere { (k : Slot) → same_slot k (Waiters light) ≡ false →
+            stands.stand_at self.new k ≡ stands.stand_at self.old k }
+        ensures cost { (digits : ℕ) → stands.ComesWithin digits (stands.stand_at self.old (Waiters light)) →
+            tally.new ≤ tally.old + digits }
+    {
+        match spot_of_light(light) {
             Spot::Listed { row, number } => {
                 come_in(self.row_mut(row), number as usize, tid, tally)
             }
@@ -213,7 +304,24 @@ impl Lanes {
         ensures elsewhere { (k : Slot) → same_slot k slot ≡ false →
             stands.stand_at self.new k ≡ stands.stand_at self.old k }
     {
-        match slot.spot() {
+        match slot {
+            Slot::Side { heads, object } => {
+                count_in(self.side_mut(object.kind, heads), object.number as usize)
+            }
+            Slot::Waiters(light) => self.count_waiter(light),
+        }
+    }
+
+    // The same at the lane of those who wait for the light.
+    #[inline(never)]
+    fn count_waiter(&mut self, light: Light)
+        requires { stands.going_in (stands.stand_at self.old (Waiters light)) < 18446744073709551615 }
+        ensures here { stands.CountsOneMore (stands.stand_at self.old (Waiters light))
+            (stands.stand_at self.new (Waiters light)) }
+        ensures elsewhere { (k : Slot) → same_slot k (Waiters light) ≡ false →
+            stands.stand_at self.new k ≡ stands.stand_at self.old k }
+    {
+        match spot_of_light(light) {
             Spot::Listed { row, number } => count_in(self.row_mut(row), number as usize),
             Spot::Tick(tick) => count_tick(&mut self.ticks, tick),
         }
@@ -228,7 +336,29 @@ impl Lanes {
         ensures cost { (digits : ℕ) → stands.GoesWithin digits (stands.stand_at self.old slot) →
             tally.new ≤ tally.old + digits }
     {
-        match slot.spot() {
+        match slot {
+            Slot::Side { heads, object } => go_in(
+                self.side_mut(object.kind, heads),
+                object.number as usize,
+                tid,
+                tally,
+            ),
+            Slot::Waiters(light) => self.go_waiter(light, tid, tally),
+        }
+    }
+
+    // The same at the lane of those who wait for the light.
+    #[inline(never)]
+    fn go_waiter(&mut self, light: Light, tid: Tid, tally: &mut Tally)
+        requires { stands.CanGo tid (stands.stand_at self.old (Waiters light)) }
+        ensures here { stands.HasGone tid (stands.stand_at self.old (Waiters light))
+            (stands.stand_at self.new (Waiters light)) }
+        ensures elsewhere { (k : Slot) → same_slot k (Waiters light) ≡ false →
+            stands.stand_at self.new k ≡ stands.stand_at self.old k }
+        ensures cost { (digits : ℕ) → stands.GoesWithin digits (stands.stand_at self.old (Waiters light)) →
+            tally.new ≤ tally.old + digits }
+    {
+        match spot_of_light(light) {
             Spot::Listed { row, number } => go_in(self.row_mut(row), number as usize, tid, tally),
             Spot::Tick(tick) => go_tick(&mut self.ticks, tick, tid, tally),
         }

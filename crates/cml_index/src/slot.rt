@@ -99,7 +99,7 @@ fn lane_kind_of(kind: PairedKind, heads: bool) -> LaneKind
 }
 
 // Where the lane of those who wait for the light is kept.
-fn spot_of_light(light: Light) -> Spot
+pub(crate) fn spot_of_light(light: Light) -> Spot
     ensures { result ≡ light_spot light }
 {
     let (row, number) = match light {

@@ -136,6 +136,7 @@ fn make_more(row: &mut Vec<LaneState>, alloc: Global, number: usize) -> Result<(
 }
 
 // The leaf is to come to this stand, which is made if it was not.
+#[inline(always)]
 pub(crate) fn note_in(
     row: &mut Vec<LaneState>,
     alloc: Global,
@@ -161,6 +162,7 @@ fn note_there(row: &mut Vec<LaneState>, number: usize, leaf: u32) -> Result<(), 
 }
 
 // The same as `LaneState::come`, at this number.
+#[inline(always)]
 pub(crate) fn come_in(row: &mut Vec<LaneState>, number: usize, tid: Tid, tally: &mut Tally)
     requires { spec.CanCome tid (slice_get row.old.items number) }
     ensures here { spec.HasCome tid (slice_get row.old.items number) (slice_get row.new.items number) }
@@ -186,6 +188,7 @@ pub(crate) fn forgo_in(row: &mut Vec<LaneState>, number: usize)
 }
 
 // One more leaf is to go from this stand, if it was made.
+#[inline(always)]
 pub(crate) fn count_in(row: &mut Vec<LaneState>, number: usize)
     requires { spec.going_in (slice_get row.old.items number) < 18446744073709551615 }
     ensures here { spec.CountsOneMore (slice_get row.old.items number) (slice_get row.new.items number) }
@@ -198,6 +201,7 @@ pub(crate) fn count_in(row: &mut Vec<LaneState>, number: usize)
 }
 
 // The leaves that were to go from this stand go.
+#[inline(always)]
 pub(crate) fn go_in(row: &mut Vec<LaneState>, number: usize, tid: Tid, tally: &mut Tally)
     requires { spec.CanGo tid (slice_get row.old.items number) }
     ensures here { spec.HasGone tid (slice_get row.old.items number) (slice_get row.new.items number) }

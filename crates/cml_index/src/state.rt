@@ -16,10 +16,10 @@ ghost use Rattle.cml_index.specs.declared.slot.Slot.TheVariants.{Waiters};
 ghost use Rattle.cml_index.specs.Slots.{HaveDigits};
 ghost use Rattle.cml_index.specs.Waits.{leaf_wait};
 
-use crate::crossing::crossers;
+use crate::crossing::{crossers, crossers_within};
 use crate::entries::Entries;
 use crate::entry::Entry;
-use crate::flags::{Flags, count_lit, flip};
+use crate::flags::{Flags, count_lit, count_lit_within, flip};
 use crate::lanes::Lanes;
 use crate::live::Live;
 use crate::nacks::reserve_nacks;
@@ -71,12 +71,12 @@ impl IndexState {
         ensures freed { HasFreed self.old self.new }
     {
         let entry = self.entries.take(tid);
-        let lit = count_lit(&self.flags, entry.waits(), tally);
+        let lit = count_lit_within(self.lit, &self.flags, entry.waits(), tally);
         self.lit -= lit;
         self.leaves -= entry.waits().len();
         self.lanes.go(tid, entry.waits(), tally);
         self.live.cut_all(&self.lanes, entry.waits());
-        self.crossing -= crossers(entry.waits());
+        self.crossing -= crossers_within(self.crossing, entry.waits());
         keep(&mut self.spares, entry);
     }
 

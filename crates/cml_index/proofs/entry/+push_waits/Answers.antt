@@ -6,7 +6,7 @@ use Rattle.cml_scan.proofs.Heights.{member_below}
 use Rattle.cml_index.specs.Waits.{leaf_wait}
 use Rattle.cml_index.proofs.Waits.{waits_of_all, waits-groups_and}
 use Rattle.cml_index.proofs.Scopes.{nacks_of_all, nacks-groups_and}
-use Rattle.cml_index.proofs.entry.+push_waits.Goals.{in-Leaf-kind+in_ok-push-in-Leaf-kind, in_default+in_ok-push_waits-in_default}
+use Rattle.cml_index.proofs.entry.+push_waits.Goals.{in-Leaf-kind+in_ok-push_wait-in-Leaf-kind, in_default+in_ok-push_waits-in_default}
 use Rattle.cml_index.proofs.entry.+push_waits.Goals as goal
 
 -- a member of a choice lies lower than the choice
@@ -30,13 +30,13 @@ loop-member-preserved t c =
     let waits : map leaf_wait (bases item) ++ waits_of_all later ≡ waits_of_all (groups (drop i xs)) = sym (waits-groups_and item later) ∙ ap (λ gs. waits_of_all (groups gs)) (sym split) in
     let nacks : nacks_of (scopes item) ++ nacks_of_all later ≡ nacks_of_all (groups (drop i xs)) = sym (nacks-groups_and item later) ∙ ap (λ gs. nacks_of_all (groups gs)) (sym split) in
     elim c.match-kind-2.branch [
-      | in-Leaf-kind+in_ok-push-in-Leaf-kind w ↦
+      | in-Leaf-kind+in_ok-push_wait-in-Leaf-kind w ↦
           let is = rw w.in-Leaf-kind.is at c.kind-in-loop-member.ensures in
           let one : map leaf_wait (bases item) ≡ w.of-in-Leaf-kind.result ∷ [] = ap (λ g. map leaf_wait (bases g)) (sym is) ∙ ap (λ x. x ∷ []) (sym w.of-in-Leaf-kind.ensures) in
           let none : nacks_of (scopes item) ≡ [] = ap (λ g. nacks_of (scopes g)) (sym is) in
           record {
             waits = ap (λ v. v.items ++ waits_of_all later) w.all-is
-                ∙ ap (λ ws. ws ++ waits_of_all later) (w.in_ok-push-in-Leaf-kind.ensures.items ∙ ap (λ ws. c.loop-member.all.items ++ ws) (sym one))
+                ∙ ap (λ ws. ws ++ waits_of_all later) (w.in_ok-push_wait-in-Leaf-kind.ensures ∙ ap (λ ws. c.loop-member.all.items ++ ws) (sym one))
                 ∙ append_assoc c.loop-member.all.items (map leaf_wait (bases item)) (waits_of_all later)
                 ∙ ap (λ ws. c.loop-member.all.items ++ ws) waits
                 ∙ c.loop-member.invariant.waits;

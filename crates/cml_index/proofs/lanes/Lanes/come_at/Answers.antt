@@ -1,20 +1,13 @@
-use Rattle.std.proofs.Common.{◌≡◌, nat_eq, ap, sym, subst, ◌∙◌}
+use Rattle.std.proofs.Common.{◌≡◌, ap, sym, subst, ◌∙◌}
 use Rattle.std.specs.Prelude.{slice_get}
-use Rattle.indexmap.specs.IndexMap.{get}
-use Rattle.cml_index.specs.declared.slot.Spot.TheVariants.{Listed, Tick}
-use Rattle.cml_index.specs.Stands.{ComesWithin, spot_of, stand_at, stand_in}
+use Rattle.cml_index.specs.Stands.{ComesWithin, stand_at}
 use Rattle.cml_index.proofs.lanes.Lanes.come_at.Goals as goal
 
-pub returns-in-Listed-clause-cost : goal.returns-in-Listed-clause-cost
-returns-in-Listed-clause-cost c digits few =
-    let to : Listed c.in-Listed.row c.in-Listed.number ≡ spot_of c.args.slot = sym c.in-Listed.is ∙ c.spot.ensures in
-    let is : slice_get c.row_mut.result.now.items c.in-Listed.number
-    ≡ stand_at c.args.self.now c.args.slot = ap (λ v. slice_get v.items c.in-Listed.number)
-    c.row_mut.ensures.value ∙ ap (stand_in c.args.self.now) to in
+pub returns-in-Side-clause-cost : goal.returns-in-Side-clause-cost
+returns-in-Side-clause-cost c digits few =
+    let is : slice_get c.side_mut.result.now.items c.in-Side.object.number ≡ stand_at c.args.self.now c.args.slot = ap (λ v. slice_get v.items c.in-Side.object.number)
+    c.side_mut.ensures.value ∙ ap (stand_at c.args.self.now) (sym c.in-Side.is) in
     c.come_in.ensures.cost digits (subst (ComesWithin digits) (sym is) few)
 
-pub returns-in-Tick-clause-cost : goal.returns-in-Tick-clause-cost
-returns-in-Tick-clause-cost c digits few =
-    let to : Tick c.in-Tick.tick ≡ spot_of c.args.slot = sym c.in-Tick.is ∙ c.spot.ensures in
-    let is : get nat_eq c.args.self.now.ticks c.in-Tick.tick ≡ stand_at c.args.self.now c.args.slot = ap (stand_in c.args.self.now) to in
-    c.come_tick.ensures.cost digits (subst (ComesWithin digits) (sym is) few)
+pub returns-in-Waiters-clause-cost : goal.returns-in-Waiters-clause-cost
+returns-in-Waiters-clause-cost c digits few = c.come_waiter.ensures.cost digits (subst (λ k. ComesWithin digits (stand_at c.args.self.now k)) c.in-Waiters.is few)

@@ -23,14 +23,25 @@ use Rattle.cml_index.proofs.Waits.{waits_lit}
 use Rattle.cml_index.proofs.Parted.{gone_one, left_lane, left_rest, left_count, left_all, nacks_left, move_cost, filter_fewer}
 use Rattle.cml_index.proofs.state.IndexState.leave.Goals as goal
 
+pub count_lit_within-lit-requires : goal.count_lit_within-lit-requires
+count_lit_within-lit-requires c =
+    let told = spec.told c.args.self.now.flags.entries in
+    let es = c.args.self.now.entries.items in
+    let d = c.take-entry.result in
+    let own : filter (λ e. nat_eq c.args.tid.0 e.thread) es ≡ d ∷ [] = c.take-entry.ensures.own in
+    let many = left_count (lit_by told) c.args.tid.0 es d own in
+    let count : length (filter (lit_wait told) c.waits.result.now) ≡ length (filter (lit_by told) (bases d.group)) = ap (λ ws. length (filter (lit_wait told) ws)) c.waits.ensures.same
+    ∙ waits_lit told (bases d.group) in
+    omega (arith, many, count, c.requires.indexed.alone)
+
 pub overflow_sub-self : goal.overflow_sub-self
 overflow_sub-self c =
     let es = c.args.self.now.entries.items in
     let d = c.take-entry.result in
     let own : filter (λ e. nat_eq c.args.tid.0 e.thread) es ≡ d ∷ [] = c.take-entry.ensures.own in
     let many = left_count (lit_by (spec.told c.args.self.now.flags.entries)) c.args.tid.0 es d own in
-    let count : c.count_lit-lit.result ≡ length
-    (filter (lit_by (spec.told c.args.self.now.flags.entries)) (bases d.group)) = c.count_lit-lit.ensures.count
+    let count : c.count_lit_within-lit.result ≡ length
+    (filter (lit_by (spec.told c.args.self.now.flags.entries)) (bases d.group)) = c.count_lit_within-lit.ensures.count
     ∙ ap (λ ws. length (filter (lit_wait (spec.told c.args.self.now.flags.entries)) ws)) c.waits.ensures.same
     ∙ waits_lit (spec.told c.args.self.now.flags.entries) (bases d.group) in
     omega (arith, many, count, c.requires.indexed.alone)
@@ -103,13 +114,22 @@ cut_all-requires-clause-counted c n e on two =
     let same : lane_at c.go.new.self k ≡ lane_at lanes k = c.go.ensures.lanes k ∙ others_all c.args.tid (lane_at lanes k) zero_ in
     c.requires.indexed.counted n on two ∙ ap length (sym same)
 
+pub crossers_within-requires : goal.crossers_within-requires
+crossers_within-requires c =
+    let es = c.args.self.now.entries.items in
+    let d = c.take-entry.result in
+    let own : filter (λ e. nat_eq c.args.tid.0 e.thread) es ≡ d ∷ [] = c.take-entry.ensures.own in
+    let many = left_those spec.is_crosser c.args.tid.0 es d own in
+    let crossing : one_if (crosses (map slot_in c.waits-5.result.now)) 1 ≡ one_if (spec.is_crosser d) 1 = ap (λ ss. one_if (crosses ss) 1) c.waits-5.ensures.slots in
+    omega (arith, many, crossing, c.requires.indexed.cross)
+
 pub overflow_sub-self-3 : goal.overflow_sub-self-3
 overflow_sub-self-3 c =
     let es = c.args.self.now.entries.items in
     let d = c.take-entry.result in
     let own : filter (λ e. nat_eq c.args.tid.0 e.thread) es ≡ d ∷ [] = c.take-entry.ensures.own in
     let many = left_those spec.is_crosser c.args.tid.0 es d own in
-    let crossing : c.crossers.result ≡ one_if (spec.is_crosser d) 1 = c.crossers.ensures ∙ ap (λ ss. one_if (crosses ss) 1) c.waits-5.ensures.slots in
+    let crossing : c.crossers_within.result ≡ one_if (spec.is_crosser d) 1 = c.crossers_within.ensures ∙ ap (λ ss. one_if (crosses ss) 1) c.waits-5.ensures.slots in
     omega (arith, many, crossing, c.requires.indexed.cross)
 
 pub returns-clause-entries : goal.returns-clause-entries
@@ -127,12 +147,12 @@ returns-clause-indexed c =
     let count : length c.waits-2.result.now ≡ length (bases d.group) = c.waits-2.ensures.many in
     let after : length (offers_of c.take-entry.new.self.items) ≡ length (offers_of (filter (λ e. not (nat_eq c.args.tid.0 e.thread)) es)) = ap (λ xs. length (offers_of xs)) rest in
     let many_cross = left_those spec.is_crosser c.args.tid.0 es d own in
-    let crossing : c.crossers.result ≡ one_if (spec.is_crosser d) 1 = c.crossers.ensures ∙ ap (λ ss. one_if (crosses ss) 1) c.waits-5.ensures.slots in
+    let crossing : c.crossers_within.result ≡ one_if (spec.is_crosser d) 1 = c.crossers_within.ensures ∙ ap (λ ss. one_if (crosses ss) 1) c.waits-5.ensures.slots in
     let after_cross : length (filter spec.is_crosser c.take-entry.new.self.items)
     ≡ length (filter spec.is_crosser (filter (λ e. not (nat_eq c.args.tid.0 e.thread)) es)) = ap
     (λ xs. length (filter spec.is_crosser xs)) rest in
     let many_lit = left_count lit c.args.tid.0 es d own in
-    let count_lit : c.count_lit-lit.result ≡ length (filter lit (bases d.group)) = c.count_lit-lit.ensures.count
+    let count_lit : c.count_lit_within-lit.result ≡ length (filter lit (bases d.group)) = c.count_lit_within-lit.ensures.count
     ∙ ap (λ ws. length (filter (lit_wait (spec.told c.args.self.now.flags.entries)) ws)) c.waits.ensures.same
     ∙ waits_lit (spec.told c.args.self.now.flags.entries) (bases d.group) in
     let after_lit : length (spec.lit_offers c.args.self.now.flags.entries c.take-entry.new.self.items)
@@ -179,7 +199,7 @@ returns-clause-cost c digits few =
     let left = c.args.self.now.leaves - length (bases d.group) in
     let whole : c.args.self.now.leaves ≡ length (bases d.group) + left = omega (arith, many, c.requires.indexed.all) in
     let rest : c.args.self.now.leaves - length c.waits-2.result.now ≡ left = ap (λ n. c.args.self.now.leaves - n) count in
-    let one : c.count_lit-lit.new.tally ≤ c.args.tally.now + 2 * length (bases d.group) = omega (arith, c.count_lit-lit.ensures.cost, count1) in
+    let one : c.count_lit_within-lit.new.tally ≤ c.args.tally.now + 2 * length (bases d.group) = omega (arith, c.count_lit_within-lit.ensures.cost, count1) in
     let two = c.go.ensures.cost digits few in
-    let sum = move_cost c.args.tally.now c.count_lit-lit.new.tally c.go.new.tally (length (bases d.group)) _ left digits one two (omega (arith, c.waits-3.ensures.many)) in
+    let sum = move_cost c.args.tally.now c.count_lit_within-lit.new.tally c.go.new.tally (length (bases d.group)) _ left digits one two (omega (arith, c.waits-3.ensures.many)) in
     rw (rest) (rw (← whole) at sum)
