@@ -98,7 +98,7 @@ impl SidePlace {
 }
 
 /// Whether leaves of the two threads that wait for these base events communicate, the first as the head. The program does not ask this: of
-/// a row that is named it asks `do_meet` of `cml_index`, and partners are looked for in lanes.
+/// two given leaves it asks `do_meet` of `cml_index`, and partners are looked for in lanes.
 #[tactic(auto, using(crate::proofs::Pairs::do_meet_by_place))]
 pub fn do_meet(head: Tid, first: &Base, other: Tid, second: &Base) -> bool
     ensures { result ≡ do_meet_in_scan head.0 first.now other.0 second.now }

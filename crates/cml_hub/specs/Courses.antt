@@ -111,7 +111,7 @@ pub record Turns (old : PlainCourse) (thread : Tid) (gone : AfterTurn) (new : Pl
   pub threads : ThreadsAfter thread.0 gone old.world.threads new.world.threads
   pub used : old.used < new.used
 
--- the item takes the row: as any row, or as an exchange
+-- the item takes the row: by a plain commit, or by an exchange
 abbrev pub TakesRow : Item → Meet → Type 0
 TakesRow (Commit taken) row = taken ≡ row
 TakesRow (Exchange taken) row = taken ≡ row

@@ -23,7 +23,7 @@ struct PendingThread {
     nacks: Vec<u32>,
 }
 
-// A pending thread, with its group. It is 8 bytes long, since all entries after it are moved when one comes or goes.
+// A pending thread, with its group. It is one pointer, so that seats are small: a thread that has no seat moves all seats after its place.
 #[derive(Drop)]
 pub(crate) struct Entry {
     // the thread, with its group and what its leaves wait for
