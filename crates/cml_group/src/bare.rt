@@ -87,8 +87,8 @@ pub fn is_flat(group: &Group) -> bool
     }
 }
 
-/// How many leaves the group has, none of which is listed: it is flat as it stands, or has no leaves. A choice that has none begins
-/// with no base event.
+/// How many leaves the group has, none of which is listed: it is flat as it stands, or has no leaves. A choice without leaves does not
+/// begin with a base event.
 #[inline(never)]
 #[tactic(auto, using(crate::proofs::Listed::own_count_bare))]
 pub fn own_count(group: &Group) -> usize

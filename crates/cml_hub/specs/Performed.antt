@@ -48,7 +48,7 @@ abbrev pub spoken : PlainValue → List ℕ
 spoken (text bytes) = bytes
 spoken v = shown v
 
--- Each ask but nothing, a yield, a print and the time is a command of the book, done for the thread of this number.
+-- Each ask is a command of the book, done for the thread of this number, except `nothing`, `yield`, `print` and `now`.
 abbrev pub asked : PlainWorld → ℕ → PlainAsk → Outcome PlainDone
 asked w t ask.nothing = Ok (w, goes)
 asked w t ask.yield = Ok (w, gets (a_value unit))

@@ -75,7 +75,7 @@ impl Model for Hub {
     }) h.marks.marks };
 }
 
-// Sets the thread's mark after its turn. A thread that begins is queued before it.
+// Sets the thread's mark after its turn. A thread that began by the turn is queued first, and then this one.
 fn place(marks: &mut ReadyQueue, thread: Tid, gone: AfterTurn)
     requires there { thread.0 < length marks.old.marks }
     requires next { IsNext gone marks.old.marks }
@@ -220,7 +220,7 @@ impl Hub {
         self.course.items()
     }
 
-    /// What was printed, with the lines of faults.
+    /// The output: what was printed, with the lines of faults. (The `out` of clauses is something else: which slices are out.)
     pub fn out(&self) -> &str
         ensures { result.now ≡ self.now.course.output }
     {

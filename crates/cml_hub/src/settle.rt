@@ -12,7 +12,7 @@ use cml_book::{Committed, Resume};
 use cml_step::Machine;
 use cml_value::{Tid, Value, ValueKind};
 
-// Adds the machine of a thread that begins, after the others. It is not inlined, so that the stack frames of its callers hold no machine.
+// Adds, after the others, the machine of a thread that begins. It is not inlined, so that the frame of other turns need not hold a machine.
 #[inline(never)]
 fn push_child(machines: &mut Vec<Machine>, child: Box<Machine>)
     requires { vec_len machines.old < vec_capacity machines.old }

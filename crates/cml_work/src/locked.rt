@@ -20,8 +20,8 @@ use std::sync::Wait;
 // How many steps of the budget turns in place use before the lock is let go.
 const BURST: u32 = 4096;
 
-// What lies under the lock: a hub that goes on from the opening, who chooses, whether the workers are to stop, whether they all have
-// ended, of how many reports the watcher was told, the workers that wait, and the mark of the keeper, who knows a beginning of the hub's
+// What lies under the lock: a hub that goes on from the opening; the chooser of its rows; whether the workers are to stop, and whether all
+// have ended; of how many reports the watcher was told; the workers that wait; and the mark of the keeper, which knows a prefix of the hub's
 // reports that has all that the watcher was shown.
 #[derive(Drop)]
 pub(crate) struct Locked<O: Opening, C: Chooser + Drop> {
@@ -174,7 +174,7 @@ impl<O: Opening, C: Chooser + Drop> Locked<O, C> {
         !self.is_stopped && !self.waiters.are_wanted() && !self.hub.has_out()
     }
 
-    // Runs turns in place, until some thousand steps are used.
+    // Runs turns in place, until about 4,000 steps of the budget are used.
     fn run_here(&mut self, alloc: Global) -> Result<(), AllocError>
         requires { NoneOut self.old.hub }
         ensures flags { HaveOneState self.old self.new }

@@ -1,7 +1,7 @@
 //! What one thread was shown of a list that only grows, while others have it under a lock.
 //!
-//! The keeper's mark lies under the lock with the list, and knows a beginning of it that has all that anybody was shown. Each other mark
-//! knows a beginning of what the keeper knew. Marks have no bytes: they are for the proofs alone.
+//! The keeper's mark lies under the lock with the list, and knows a prefix of it that has all that anybody was shown. Each other mark
+//! knows a prefix of what the keeper knew. Marks have no bytes: they are for the proofs alone.
 
 ghost use Rattle.std.specs.Prelude.{◌≡◌, [], IfOk};
 ghost use Rattle.cml_work.specs.Marks.{known_of, shown_of, IsKeeper, WasShown, BeginsWith};
@@ -79,7 +79,7 @@ impl Join<Known> for All {
     ghost spent = { nobody };
 }
 
-/// What ties the marks together.
+/// What ties the marks together: a cell of the toolchain's, made with a rule that each access to it keeps.
 pub type Board = RuledSeqCell<[u64; 1], Known, Grows, 1>;
 
 /// What one thread was shown.

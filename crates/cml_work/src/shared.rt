@@ -181,7 +181,7 @@ impl<O: Opening, C: Chooser + Drop> Desk for Shared<O, C> {
         self.find_job(rt, alloc, locked)
     }
 
-    // Who gives a slice back so may not come for the next: another worker is woken.
+    // A worker that gives a slice back by this call may not come for the next one, so another worker is woken.
     fn give<R: Wait>(&self, rt: &R, alloc: Global, ran: Ran) -> Result<(), GiveFault> {
         let mut locked = self.locked.lock(rt);
         let answer = locked.give(alloc, ran);

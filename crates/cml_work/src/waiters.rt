@@ -10,7 +10,7 @@ use cml_schedule::Item;
 // Of how many slices the mean is taken, about.
 const SPAN: u64 = 16;
 
-// From how many steps a slice on, in the mean, more than one worker is of use.
+// The mean of steps per slice from which on more than one worker is of use.
 const LONG: u64 = 128;
 
 // How many steps the slices before the first are taken to have had: as many as there may be.
