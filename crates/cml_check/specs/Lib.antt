@@ -15,6 +15,7 @@ pub mod Shape
 pub mod Sizes
 pub mod InOrder
 pub mod HeadViews
+pub mod Returned
 pub mod Parts
 pub mod ExpressionParts
 pub mod StatementParts

@@ -1,14 +1,10 @@
 //! The effects that forms are, and what a `let` gives its variable.
 
-ghost use Rattle.std.specs.Prelude.{◌≡◌, IfOk, Some, length, true};
+ghost use Rattle.std.specs.Prelude.{◌≡◌, Some};
 ghost use Rattle.cml_text.specs.Forms.{plain_forms, span_of};
-ghost use Rattle.cml_check.specs.Syntax.{effect_map, source_map, name_at};
-ghost use Rattle.cml_check.specs.StmtViews.{plain_effect, plain_source};
-ghost use Rattle.cml_check.specs.Checked.{Finds};
-ghost use Rattle.cml_check.specs.Heads.{arities_of};
 ghost use Rattle.cml_check.specs.Statements as spec;
 ghost use Rattle.cml_check.specs.Statements.{effect_in, source_by, source_in, form_source};
-ghost use Rattle.cml_check.specs.InOrder.{effect_fits, source_fits};
+ghost use Rattle.cml_check.specs.Returned.{FindsEffect, EffectIsInOrder, FindsSource, SourceIsInOrder};
 ghost use Rattle.cml_check.specs.declared.word.Word.TheVariants as words;
 
 use crate::expression::{expression, function_call, list_expression};
@@ -32,10 +28,8 @@ pub fn effect(
     behind: &[Sexpr],
 ) -> Result<Effect, CheckFault>
     ensures gives { let behind = plain_forms behind.now in
-        Finds (λ e. effect_map (name_at names.now) (plain_effect e)) result
-        (effect_in heads.now names.now (span_of form.now) word behind) }
-    ensures fits { let arities = arities_of heads.now in
-        IfOk result (λ e. effect_fits arities (length names.now) (plain_effect e) ≡ true) }
+        FindsEffect names.now result (effect_in heads.now names.now (span_of form.now) word behind) }
+    ensures fits { EffectIsInOrder heads.now names.now result }
 {
     match word {
         Some(Word::Act(act)) => simple(heads, names, form, act, behind),
@@ -58,10 +52,8 @@ fn simple(
     behind: &[Sexpr],
 ) -> Result<Effect, CheckFault>
     ensures gives { let behind = plain_forms behind.now in
-        Finds (λ e. effect_map (name_at names.now) (plain_effect e)) result
-        (effect_in heads.now names.now (span_of form.now) (Some (words.Act act)) behind) }
-    ensures fits { let arities = arities_of heads.now in
-        IfOk result (λ e. effect_fits arities (length names.now) (plain_effect e) ≡ true) }
+        FindsEffect names.now result (effect_in heads.now names.now (span_of form.now) (Some (words.Act act)) behind) }
+    ensures fits { EffectIsInOrder heads.now names.now result }
 {
     match behind {
         [] => Ok(Effect::Act(act)),
@@ -79,10 +71,8 @@ fn mvar(
     behind: &[Sexpr],
 ) -> Result<Effect, CheckFault>
     ensures gives { let behind = plain_forms behind.now in
-        Finds (λ e. effect_map (name_at names.now) (plain_effect e)) result
-        (effect_in heads.now names.now (span_of form.now) (Some words.MVar) behind) }
-    ensures fits { let arities = arities_of heads.now in
-        IfOk result (λ e. effect_fits arities (length names.now) (plain_effect e) ≡ true) }
+        FindsEffect names.now result (effect_in heads.now names.now (span_of form.now) (Some words.MVar) behind) }
+    ensures fits { EffectIsInOrder heads.now names.now result }
 {
     if behind.is_empty() {
         return Ok(Effect::Act(Act::MVar));
@@ -105,10 +95,8 @@ fn on_one(
     behind: &[Sexpr],
 ) -> Result<Effect, CheckFault>
     ensures gives { let behind = plain_forms behind.now in
-        Finds (λ e. effect_map (name_at names.now) (plain_effect e)) result
-        (effect_in heads.now names.now (span_of form.now) (Some (words.ActOnOne act)) behind) }
-    ensures fits { let arities = arities_of heads.now in
-        IfOk result (λ e. effect_fits arities (length names.now) (plain_effect e) ≡ true) }
+        FindsEffect names.now result (effect_in heads.now names.now (span_of form.now) (Some (words.ActOnOne act)) behind) }
+    ensures fits { EffectIsInOrder heads.now names.now result }
 {
     let [p] = behind else {
         return Err(fault_at(CheckKind::Form, form));
@@ -128,10 +116,8 @@ fn on_two(
     behind: &[Sexpr],
 ) -> Result<Effect, CheckFault>
     ensures gives { let behind = plain_forms behind.now in
-        Finds (λ e. effect_map (name_at names.now) (plain_effect e)) result
-        (effect_in heads.now names.now (span_of form.now) (Some (words.ActOnTwo act)) behind) }
-    ensures fits { let arities = arities_of heads.now in
-        IfOk result (λ e. effect_fits arities (length names.now) (plain_effect e) ≡ true) }
+        FindsEffect names.now result (effect_in heads.now names.now (span_of form.now) (Some (words.ActOnTwo act)) behind) }
+    ensures fits { EffectIsInOrder heads.now names.now result }
 {
     let [p, q] = behind else {
         return Err(fault_at(CheckKind::Form, form));
@@ -151,10 +137,8 @@ fn call(
     behind: &[Sexpr],
 ) -> Result<Effect, CheckFault>
     ensures gives { let behind = plain_forms behind.now in
-        Finds (λ e. effect_map (name_at names.now) (plain_effect e)) result
-        (effect_in heads.now names.now (span_of form.now) (Some words.Call) behind) }
-    ensures fits { let arities = arities_of heads.now in
-        IfOk result (λ e. effect_fits arities (length names.now) (plain_effect e) ≡ true) }
+        FindsEffect names.now result (effect_in heads.now names.now (span_of form.now) (Some words.Call) behind) }
+    ensures fits { EffectIsInOrder heads.now names.now result }
 {
     let (number, values) = function_call(alloc, heads, names, form, 0, behind)?;
     Ok(Effect::Call(number, values))
@@ -170,10 +154,8 @@ fn spawn(
     behind: &[Sexpr],
 ) -> Result<Effect, CheckFault>
     ensures gives { let behind = plain_forms behind.now in
-        Finds (λ e. effect_map (name_at names.now) (plain_effect e)) result
-        (effect_in heads.now names.now (span_of form.now) (Some words.Spawn) behind) }
-    ensures fits { let arities = arities_of heads.now in
-        IfOk result (λ e. effect_fits arities (length names.now) (plain_effect e) ≡ true) }
+        FindsEffect names.now result (effect_in heads.now names.now (span_of form.now) (Some words.Spawn) behind) }
+    ensures fits { EffectIsInOrder heads.now names.now result }
 {
     let (number, values) = function_call(alloc, heads, names, form, 0, behind)?;
     Ok(Effect::Spawn(number, values))
@@ -202,10 +184,8 @@ pub fn source(
     names: &Names<'_>,
     form: &Sexpr,
 ) -> Result<Source, CheckFault>
-    ensures gives { let found = source_in heads.now names.now form.now in
-        Finds (λ s. source_map (name_at names.now) (plain_source s)) result found }
-    ensures fits { let arities = arities_of heads.now in
-        IfOk result (λ s. source_fits arities (length names.now) (plain_source s) ≡ true) }
+    ensures gives { FindsSource names.now result (source_in heads.now names.now form.now) }
+    ensures fits { SourceIsInOrder heads.now names.now result }
 {
     match headed(form) {
         Some((first, behind)) => list_source(alloc, heads, names, form, word_from(first), behind),
@@ -220,10 +200,8 @@ fn form_value(
     names: &Names<'_>,
     form: &Sexpr,
 ) -> Result<Source, CheckFault>
-    ensures gives { let found = form_source heads.now names.now form.now in
-        Finds (λ s. source_map (name_at names.now) (plain_source s)) result found }
-    ensures fits { let arities = arities_of heads.now in
-        IfOk result (λ s. source_fits arities (length names.now) (plain_source s) ≡ true) }
+    ensures gives { FindsSource names.now result (form_source heads.now names.now form.now) }
+    ensures fits { SourceIsInOrder heads.now names.now result }
 {
     let value = expression(alloc, heads, names, form)?;
     Ok(Source::Value(value))
@@ -240,10 +218,8 @@ fn list_source(
     behind: &[Sexpr],
 ) -> Result<Source, CheckFault>
     ensures gives { let behind = plain_forms behind.now in
-        Finds (λ s. source_map (name_at names.now) (plain_source s)) result
-        (source_by heads.now names.now (span_of form.now) word behind) }
-    ensures fits { let arities = arities_of heads.now in
-        IfOk result (λ s. source_fits arities (length names.now) (plain_source s) ≡ true) }
+        FindsSource names.now result (source_by heads.now names.now (span_of form.now) word behind) }
+    ensures fits { SourceIsInOrder heads.now names.now result }
 {
     if is_effect(word) {
         let done = effect(alloc, heads, names, form, word, behind)?;

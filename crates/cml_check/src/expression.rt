@@ -2,12 +2,13 @@
 
 ghost use Rattle.std.specs.Prelude.{◌≡◌, ℕ, ◌+◌, ◌≤◌, IfOk, List, Some, length, true};
 ghost use Rattle.cml_text.specs.Forms.{plain_forms, span_of};
-ghost use Rattle.cml_check.specs.Syntax.{expr_map, exprs_map, call_map, name_at};
+ghost use Rattle.cml_check.specs.Syntax.{exprs_map, call_map, name_at};
 ghost use Rattle.cml_check.specs.Checked.{Finds};
 ghost use Rattle.cml_check.specs.Heads.{arities_of, takes, function_in};
 ghost use Rattle.cml_check.specs.Expressions.{count, name_in, expr_in, list_in, exprs_in, called_in};
 ghost use Rattle.cml_check.specs.ExpressionParts.{unary_in, binary_in, wrap_in, choose_in, guard_in, nack_in};
 ghost use Rattle.cml_check.specs.InOrder.{expr_fits, exprs_fit, exprs_count};
+ghost use Rattle.cml_check.specs.Returned.{FindsExpr, ExprIsInOrder};
 ghost use Rattle.cml_check.specs.Words.{word_of as word_spelled};
 ghost use Rattle.cml_check.specs.declared.word.Word.TheVariants as words;
 
@@ -30,10 +31,8 @@ pub fn expression(
     names: &Names<'_>,
     form: &Sexpr,
 ) -> Result<Expr, CheckFault>
-    ensures gives { let found = expr_in heads.now names.now form.now in
-        Finds (expr_map (name_at names.now)) result found }
-    ensures fits { let arities = arities_of heads.now in
-        IfOk result (λ e. expr_fits arities (length names.now) e ≡ true) }
+    ensures gives { FindsExpr names.now result (expr_in heads.now names.now form.now) }
+    ensures fits { ExprIsInOrder heads.now names.now result }
 {
     if let Some((first, behind)) = headed(form) {
         return list_expression(alloc, heads, names, form, word_from(first), behind);
@@ -57,8 +56,7 @@ pub fn expression(
 #[tactic(auto, using(crate::proofs::NameLemmas::positioned, crate::proofs::NameLemmas::unpositioned))]
 fn named(names: &Names<'_>, form: &Sexpr, name: &str) -> Result<Expr, CheckFault>
     ensures gives { let word = word_spelled name.now in
-        Finds (expr_map (name_at names.now)) result
-        (name_in names.now (span_of form.now) name.now word) }
+        FindsExpr names.now result (name_in names.now (span_of form.now) name.now word) }
     ensures fits { (arities : List ℕ) →
         IfOk result (λ e. expr_fits arities (length names.now) e ≡ true) }
 {
@@ -88,10 +86,8 @@ pub fn list_expression(
     behind: &[Sexpr],
 ) -> Result<Expr, CheckFault>
     ensures gives { let behind = plain_forms behind.now in
-        Finds (expr_map (name_at names.now)) result
-        (list_in heads.now names.now (span_of form.now) word behind) }
-    ensures fits { let arities = arities_of heads.now in
-        IfOk result (λ e. expr_fits arities (length names.now) e ≡ true) }
+        FindsExpr names.now result (list_in heads.now names.now (span_of form.now) word behind) }
+    ensures fits { ExprIsInOrder heads.now names.now result }
 {
     match word {
         Some(Word::Unary(operator)) => unary(alloc, heads, names, form, operator, behind),
@@ -116,10 +112,8 @@ fn unary(
     behind: &[Sexpr],
 ) -> Result<Expr, CheckFault>
     ensures gives { let behind = plain_forms behind.now in
-        Finds (expr_map (name_at names.now)) result
-        (unary_in heads.now names.now (span_of form.now) operator behind) }
-    ensures fits { let arities = arities_of heads.now in
-        IfOk result (λ e. expr_fits arities (length names.now) e ≡ true) }
+        FindsExpr names.now result (unary_in heads.now names.now (span_of form.now) operator behind) }
+    ensures fits { ExprIsInOrder heads.now names.now result }
 {
     let [p] = behind else {
         return Err(fault_at(CheckKind::Form, form));
@@ -143,10 +137,8 @@ fn binary(
     behind: &[Sexpr],
 ) -> Result<Expr, CheckFault>
     ensures gives { let behind = plain_forms behind.now in
-        Finds (expr_map (name_at names.now)) result
-        (binary_in heads.now names.now (span_of form.now) operator behind) }
-    ensures fits { let arities = arities_of heads.now in
-        IfOk result (λ e. expr_fits arities (length names.now) e ≡ true) }
+        FindsExpr names.now result (binary_in heads.now names.now (span_of form.now) operator behind) }
+    ensures fits { ExprIsInOrder heads.now names.now result }
 {
     let [p, q] = behind else {
         return Err(fault_at(CheckKind::Form, form));
@@ -169,11 +161,8 @@ fn choose(
     names: &Names<'_>,
     behind: &[Sexpr],
 ) -> Result<Expr, CheckFault>
-    ensures gives { let behind = plain_forms behind.now in
-        Finds (expr_map (name_at names.now)) result
-        (choose_in heads.now names.now behind) }
-    ensures fits { let arities = arities_of heads.now in
-        IfOk result (λ e. expr_fits arities (length names.now) e ≡ true) }
+    ensures gives { FindsExpr names.now result (choose_in heads.now names.now (plain_forms behind.now)) }
+    ensures fits { ExprIsInOrder heads.now names.now result }
 {
     let members = expressions(alloc, heads, names, behind)?;
     Ok(Expr {
@@ -192,10 +181,8 @@ fn wrap(
     behind: &[Sexpr],
 ) -> Result<Expr, CheckFault>
     ensures gives { let behind = plain_forms behind.now in
-        Finds (expr_map (name_at names.now)) result
-        (wrap_in heads.now names.now (span_of form.now) behind) }
-    ensures fits { let arities = arities_of heads.now in
-        IfOk result (λ e. expr_fits arities (length names.now) e ≡ true) }
+        FindsExpr names.now result (wrap_in heads.now names.now (span_of form.now) behind) }
+    ensures fits { ExprIsInOrder heads.now names.now result }
 {
     let [event, name, captured @ ..] = behind else {
         return Err(fault_at(CheckKind::Form, form));
@@ -220,10 +207,8 @@ fn guard(
     behind: &[Sexpr],
 ) -> Result<Expr, CheckFault>
     ensures gives { let behind = plain_forms behind.now in
-        Finds (expr_map (name_at names.now)) result
-        (guard_in heads.now names.now (span_of form.now) behind) }
-    ensures fits { let arities = arities_of heads.now in
-        IfOk result (λ e. expr_fits arities (length names.now) e ≡ true) }
+        FindsExpr names.now result (guard_in heads.now names.now (span_of form.now) behind) }
+    ensures fits { ExprIsInOrder heads.now names.now result }
 {
     let (number, values) = function_call(alloc, heads, names, form, 0, behind)?;
     Ok(Expr {
@@ -242,10 +227,8 @@ fn with_nack(
     behind: &[Sexpr],
 ) -> Result<Expr, CheckFault>
     ensures gives { let behind = plain_forms behind.now in
-        Finds (expr_map (name_at names.now)) result
-        (nack_in heads.now names.now (span_of form.now) behind) }
-    ensures fits { let arities = arities_of heads.now in
-        IfOk result (λ e. expr_fits arities (length names.now) e ≡ true) }
+        FindsExpr names.now result (nack_in heads.now names.now (span_of form.now) behind) }
+    ensures fits { ExprIsInOrder heads.now names.now result }
 {
     let (number, values) = function_call(alloc, heads, names, form, 1, behind)?;
     Ok(Expr {
@@ -266,8 +249,7 @@ pub fn function_call(
 ) -> Result<(u32, Exprs), CheckFault>
     requires few { more ≤ 1 }
     ensures gives { let behind = plain_forms behind.now in
-        Finds (call_map (name_at names.now)) result
-        (called_in heads.now names.now (span_of form.now) more behind) }
+        Finds (call_map (name_at names.now)) result (called_in heads.now names.now (span_of form.now) more behind) }
     ensures fits { let arities = arities_of heads.now in
         IfOk result (λ call. exprs_fit arities (length names.now) call.1 ≡ true) }
     ensures takes { let arities = arities_of heads.now in

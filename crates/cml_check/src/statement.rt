@@ -1,14 +1,12 @@
 //! The statements that forms are.
 
-ghost use Rattle.std.specs.Prelude.{◌≡◌, IfOk, OnOk, Some, length, true};
+ghost use Rattle.std.specs.Prelude.{◌≡◌, OnOk};
 ghost use Rattle.cml_text.specs.Forms.{plain_forms, span_of};
-ghost use Rattle.cml_check.specs.Syntax.{stmt_map, stmts_map, name_at};
 ghost use Rattle.cml_check.specs.Checked.{Finds};
-ghost use Rattle.cml_check.specs.Heads.{arities_of};
 ghost use Rattle.cml_check.specs.Statements as spec;
 ghost use Rattle.cml_check.specs.Statements.{statement_counted, stmt_in, stmt_by, block_in, behind_do, stmts_in};
+ghost use Rattle.cml_check.specs.Returned.{FindsStmt, FindsStmts, StmtIsInOrder, StmtsAreInOrder};
 ghost use Rattle.cml_check.specs.StatementParts.{Grows, let_of, let_in, set_in, if_of, if_in, tested_of, tested_in, return_in, do_in};
-ghost use Rattle.cml_check.specs.InOrder.{stmt_fits, stmts_fit};
 
 use crate::effect::{effect, source};
 use crate::expression::expression;
@@ -41,10 +39,8 @@ fn statement<'a>(
     scope: &mut Scope<'a>,
     form: &'a Sexpr,
 ) -> Result<Stmt, CheckFault>
-    ensures gives { let found = stmt_in heads.now scope.old form.now in
-        Finds (λ s. (stmt_map (name_at scope.new.names) s, scope.new)) result found }
-    ensures fits { let slots = length scope.new.names in
-        IfOk result (λ s. stmt_fits (arities_of heads.now) slots s ≡ true) }
+    ensures gives { FindsStmt scope.new result (stmt_in heads.now scope.old form.now) }
+    ensures fits { StmtIsInOrder heads.now scope.new result }
     ensures grows { OnOk result (Grows scope.old.names scope.new.names) }
 {
     match headed(form) {
@@ -72,9 +68,8 @@ fn list_statement<'a>(
     behind: &'a [Sexpr],
 ) -> Result<Stmt, CheckFault>
     ensures gives { let found = stmt_by heads.now scope.old (span_of form.now) word (plain_forms behind.now) in
-        Finds (λ s. (stmt_map (name_at scope.new.names) s, scope.new)) result found }
-    ensures fits { let slots = length scope.new.names in
-        IfOk result (λ s. stmt_fits (arities_of heads.now) slots s ≡ true) }
+        FindsStmt scope.new result found }
+    ensures fits { StmtIsInOrder heads.now scope.new result }
     ensures grows { OnOk result (Grows scope.old.names scope.new.names) }
 {
     match word {
@@ -96,10 +91,8 @@ fn let_statement<'a>(
     form: &'a Sexpr,
     behind: &'a [Sexpr],
 ) -> Result<Stmt, CheckFault>
-    ensures gives { let found = let_in heads.now scope.old (span_of form.now) (plain_forms behind.now) in
-        Finds (λ s. (stmt_map (name_at scope.new.names) s, scope.new)) result found }
-    ensures fits { let slots = length scope.new.names in
-        IfOk result (λ s. stmt_fits (arities_of heads.now) slots s ≡ true) }
+    ensures gives { FindsStmt scope.new result (let_in heads.now scope.old (span_of form.now) (plain_forms behind.now)) }
+    ensures fits { StmtIsInOrder heads.now scope.new result }
     ensures grows { OnOk result (Grows scope.old.names scope.new.names) }
 {
     let [name, given] = behind else {
@@ -117,10 +110,8 @@ fn declare<'a>(
     name: &'a Sexpr,
     given: &'a Sexpr,
 ) -> Result<Stmt, CheckFault>
-    ensures gives { let found = let_of heads.now scope.old name.now given.now in
-        Finds (λ s. (stmt_map (name_at scope.new.names) s, scope.new)) result found }
-    ensures fits { let slots = length scope.new.names in
-        IfOk result (λ s. stmt_fits (arities_of heads.now) slots s ≡ true) }
+    ensures gives { FindsStmt scope.new result (let_of heads.now scope.old name.now given.now) }
+    ensures fits { StmtIsInOrder heads.now scope.new result }
     ensures grows { OnOk result (Grows scope.old.names scope.new.names) }
 {
     let name = free_name(name)?;
@@ -140,10 +131,8 @@ fn set_statement<'a>(
     form: &'a Sexpr,
     behind: &'a [Sexpr],
 ) -> Result<Stmt, CheckFault>
-    ensures gives { let found = set_in heads.now scope.old (span_of form.now) (plain_forms behind.now) in
-        Finds (λ s. (stmt_map (name_at scope.new.names) s, scope.new)) result found }
-    ensures fits { let slots = length scope.new.names in
-        IfOk result (λ s. stmt_fits (arities_of heads.now) slots s ≡ true) }
+    ensures gives { FindsStmt scope.new result (set_in heads.now scope.old (span_of form.now) (plain_forms behind.now)) }
+    ensures fits { StmtIsInOrder heads.now scope.new result }
     ensures grows { OnOk result (Grows scope.old.names scope.new.names) }
 {
     let [name, value] = behind else {
@@ -166,10 +155,8 @@ fn if_statement<'a>(
     form: &'a Sexpr,
     behind: &'a [Sexpr],
 ) -> Result<Stmt, CheckFault>
-    ensures gives { let found = if_in heads.now scope.old (span_of form.now) (plain_forms behind.now) in
-        Finds (λ s. (stmt_map (name_at scope.new.names) s, scope.new)) result found }
-    ensures fits { let slots = length scope.new.names in
-        IfOk result (λ s. stmt_fits (arities_of heads.now) slots s ≡ true) }
+    ensures gives { FindsStmt scope.new result (if_in heads.now scope.old (span_of form.now) (plain_forms behind.now)) }
+    ensures fits { StmtIsInOrder heads.now scope.new result }
     ensures grows { OnOk result (Grows scope.old.names scope.new.names) }
 {
     let [condition, then, other] = behind else {
@@ -189,10 +176,8 @@ fn branch<'a>(
     then: &'a Sexpr,
     other: &'a Sexpr,
 ) -> Result<Stmt, CheckFault>
-    ensures gives { let found = if_of heads.now scope.old condition.now then.now other.now in
-        Finds (λ s. (stmt_map (name_at scope.new.names) s, scope.new)) result found }
-    ensures fits { let slots = length scope.new.names in
-        IfOk result (λ s. stmt_fits (arities_of heads.now) slots s ≡ true) }
+    ensures gives { FindsStmt scope.new result (if_of heads.now scope.old condition.now then.now other.now) }
+    ensures fits { StmtIsInOrder heads.now scope.new result }
     ensures grows { OnOk result (Grows scope.old.names scope.new.names) }
 {
     let condition = expression(alloc, heads, &scope.names, condition)?;
@@ -215,9 +200,8 @@ fn tested_statement<'a>(
     behind: &'a [Sexpr],
 ) -> Result<Stmt, CheckFault>
     ensures gives { let found = tested_in heads.now scope.old (span_of form.now) word (plain_forms behind.now) in
-        Finds (λ s. (stmt_map (name_at scope.new.names) s, scope.new)) result found }
-    ensures fits { let slots = length scope.new.names in
-        IfOk result (λ s. stmt_fits (arities_of heads.now) slots s ≡ true) }
+        FindsStmt scope.new result found }
+    ensures fits { StmtIsInOrder heads.now scope.new result }
     ensures grows { OnOk result (Grows scope.old.names scope.new.names) }
 {
     let [condition, body @ ..] = behind else {
@@ -237,10 +221,8 @@ fn tested<'a>(
     condition: &'a Sexpr,
     body: &'a [Sexpr],
 ) -> Result<Stmt, CheckFault>
-    ensures gives { let found = tested_of heads.now scope.old word condition.now (plain_forms body.now) in
-        Finds (λ s. (stmt_map (name_at scope.new.names) s, scope.new)) result found }
-    ensures fits { let slots = length scope.new.names in
-        IfOk result (λ s. stmt_fits (arities_of heads.now) slots s ≡ true) }
+    ensures gives { FindsStmt scope.new result (tested_of heads.now scope.old word condition.now (plain_forms body.now)) }
+    ensures fits { StmtIsInOrder heads.now scope.new result }
     ensures grows { OnOk result (Grows scope.old.names scope.new.names) }
 {
     let condition = expression(alloc, heads, &scope.names, condition)?;
@@ -267,10 +249,8 @@ fn return_statement<'a>(
     form: &'a Sexpr,
     behind: &'a [Sexpr],
 ) -> Result<Stmt, CheckFault>
-    ensures gives { let found = return_in heads.now scope.old (span_of form.now) (plain_forms behind.now) in
-        Finds (λ s. (stmt_map (name_at scope.new.names) s, scope.new)) result found }
-    ensures fits { let slots = length scope.new.names in
-        IfOk result (λ s. stmt_fits (arities_of heads.now) slots s ≡ true) }
+    ensures gives { FindsStmt scope.new result (return_in heads.now scope.old (span_of form.now) (plain_forms behind.now)) }
+    ensures fits { StmtIsInOrder heads.now scope.new result }
     ensures grows { OnOk result (Grows scope.old.names scope.new.names) }
 {
     let [value] = behind else {
@@ -292,10 +272,8 @@ fn effect_statement<'a>(
     word: Option<Word>,
     behind: &'a [Sexpr],
 ) -> Result<Stmt, CheckFault>
-    ensures gives { let found = do_in heads.now scope.old (span_of form.now) word (plain_forms behind.now) in
-        Finds (λ s. (stmt_map (name_at scope.new.names) s, scope.new)) result found }
-    ensures fits { let slots = length scope.new.names in
-        IfOk result (λ s. stmt_fits (arities_of heads.now) slots s ≡ true) }
+    ensures gives { FindsStmt scope.new result (do_in heads.now scope.old (span_of form.now) word (plain_forms behind.now)) }
+    ensures fits { StmtIsInOrder heads.now scope.new result }
     ensures grows { OnOk result (Grows scope.old.names scope.new.names) }
 {
     let done = effect(alloc, heads, &scope.names, form, word, behind)?;
@@ -313,10 +291,8 @@ fn block<'a>(
     scope: &mut Scope<'a>,
     form: &'a Sexpr,
 ) -> Result<Block, CheckFault>
-    ensures gives { let found = block_in heads.now scope.old form.now in
-        Finds (λ ss. (stmts_map (name_at scope.new.names) ss, scope.new)) result found }
-    ensures fits { let slots = length scope.new.names in
-        IfOk result (λ ss. stmts_fit (arities_of heads.now) slots ss ≡ true) }
+    ensures gives { FindsStmts scope.new result (block_in heads.now scope.old form.now) }
+    ensures fits { StmtsAreInOrder heads.now scope.new result }
     ensures grows { OnOk result (Grows scope.old.names scope.new.names) }
 {
     match headed(form) {
@@ -336,10 +312,8 @@ fn do_block<'a>(
     behind: &'a [Sexpr],
 ) -> Result<Block, CheckFault>
     ensures gives { let found = stmts_in heads.now scope.old (plain_forms behind.now) in
-        Finds (λ ss. (stmts_map (name_at scope.new.names) ss, scope.new)) result
-        (behind_do (span_of form.now) word found) }
-    ensures fits { let slots = length scope.new.names in
-        IfOk result (λ ss. stmts_fit (arities_of heads.now) slots ss ≡ true) }
+        FindsStmts scope.new result (behind_do (span_of form.now) word found) }
+    ensures fits { StmtsAreInOrder heads.now scope.new result }
     ensures grows { OnOk result (Grows scope.old.names scope.new.names) }
 {
     match word {
@@ -356,10 +330,8 @@ pub fn statements<'a>(
     scope: &mut Scope<'a>,
     forms: &'a [Sexpr],
 ) -> Result<Block, CheckFault>
-    ensures gives { let found = stmts_in heads.now scope.old (plain_forms forms.now) in
-        Finds (λ ss. (stmts_map (name_at scope.new.names) ss, scope.new)) result found }
-    ensures fits { let slots = length scope.new.names in
-        IfOk result (λ ss. stmts_fit (arities_of heads.now) slots ss ≡ true) }
+    ensures gives { FindsStmts scope.new result (stmts_in heads.now scope.old (plain_forms forms.now)) }
+    ensures fits { StmtsAreInOrder heads.now scope.new result }
     ensures grows { OnOk result (Grows scope.old.names scope.new.names) }
 {
     let mut items = Vec::new(alloc);
