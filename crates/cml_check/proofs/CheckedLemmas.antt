@@ -1,9 +1,14 @@
 -- Checking one part after another.
-use Rattle.std.proofs.Common.{◌≡◌, ℕ, suc, ◌+◌, ◌<◌, List, ◌∷◌, drop, length, get_or, refl, ap, sym, subst, ◌∙◌, add-one}
+use Rattle.std.proofs.Common.{◌≡◌, ℕ, suc, ◌+◌, ◌<◌, List, ◌∷◌, drop, length, get_or, Ok, Err, refl, ap, sym, subst, ◌∙◌, add-one}
 use Rattle.std.proofs.Math.Seq.{drop-cons}
 use Rattle.cml_check.specs.declared.fault.CheckFault.{CheckFault}
 use Rattle.cml_check.specs.declared.fault.CheckFault.TheVariants as fault
 use Rattle.cml_check.specs.Checked.{Checked, ◌>>=◌, Fails}
+
+-- two parts and then a third are one part and then two
+pub after : {A B C : Type 0} (r : Checked A) (f : A → Checked B) (g : B → Checked C) → ((r >>= f) >>= g) ≡ (r >>= λ x. f x >>= g)
+after (Ok x) f g = refl
+after (Err e) f g = refl
 
 -- where the first part fails, both do
 pub fails-bind : {A B : Type 0} (e : CheckFault) (r : Checked A) (f : A → Checked B) → Fails e r → Fails e (r >>= f)

@@ -18,7 +18,7 @@ use Rattle.cml_check.specs.Expressions.{count, name_in, expr_in, list_in, exprs_
 use Rattle.cml_check.specs.ExpressionParts.{unary_in, binary_in, wrap_in, choose_in, guard_in, nack_in}
 use Rattle.cml_check.specs.Parts.{is_headed}
 use Rattle.cml_check.specs.InOrder.{expr_fits, exprs_fit, exprs_count}
-use Rattle.cml_check.proofs.CheckedLemmas.{fails-as, drop-at}
+use Rattle.cml_check.proofs.CheckedLemmas.{after, fails-as, drop-at}
 
 -- how many forms a list has
 pub count_forms : (forms : List PlainSexpr) → count (plain_forms forms) ≡ length forms
@@ -45,18 +45,12 @@ pub empty_form : (heads : List PlainHead) (names : List Name) (form : PlainSexpr
 unfolding expr_in
 empty_form heads names (plain_list span no_forms) forms h e = refl
 empty_form heads names (plain_list span (forms_and first behind)) forms h e = absurd (true≢false h)
-empty_form heads names (plain_name span name) forms h e = absurd cc
-empty_form heads names (plain_int span z) forms h e = absurd cc
-empty_form heads names (plain_text span bytes) forms h e = absurd cc
+empty_form heads names form forms h e = absurd cc
 
 pub list_form : (heads : List PlainHead) (names : List Name) (form first : PlainSexpr) (behind : PlainForms) → form ≡ plain_list (span_of form) (forms_and first behind) →
     expr_in heads names form ≡ list_in heads names (span_of form) (word_from first) behind
 unfolding expr_in
 list_form heads names form first behind h = ap (expr_in heads names) h
-
-after : {A B C : Type 0} (r : Checked A) (f : A → Checked B) (g : B → Checked C) → ((r >>= f) >>= g) ≡ (r >>= λ x. f x >>= g)
-after (Ok x) f g = refl
-after (Err e) f g = refl
 
 -- two first parts alike
 same_step : {A B : Type 0} (r : Checked A) (f g : A → Checked B) → ((x : A) → f x ≡ g x) → (r >>= f) ≡ (r >>= g)
@@ -66,46 +60,38 @@ same_step (Err e) f g h = refl
 pub list_unary : (heads : List PlainHead) (names : List Name) (span : Span) (op : Unary) (forms : PlainForms) →
     list_in heads names span (Some (word.Unary op)) forms ≡ unary_in heads names span op forms
 unfolding list_in unary_in
-list_unary heads names span op no_forms = refl
 list_unary heads names span op (forms_and p no_forms) = refl
-list_unary heads names span op (forms_and p (forms_and q forms)) = refl
+list_unary heads names span op forms = refl
 
 pub no_unary : (heads : List PlainHead) (names : List Name) (span : Span) (op : Unary) (behind : List PlainSexpr) → length behind ≢ 1 →
     unary_in heads names span op (plain_forms behind) ≡ check_fault Form span
 unfolding unary_in
-no_unary heads names span op [] h = refl
 no_unary heads names span op (p ∷ []) h = absurd (h refl)
-no_unary heads names span op (p ∷ q ∷ behind) h = refl
+no_unary heads names span op behind h = refl
 
 pub no_binary : (heads : List PlainHead) (names : List Name) (span : Span) (op : Binary) (behind : List PlainSexpr) → length behind ≢ 2 →
     binary_in heads names span op (plain_forms behind) ≡ check_fault Form span
 unfolding binary_in
-no_binary heads names span op [] h = refl
-no_binary heads names span op (p ∷ []) h = refl
 no_binary heads names span op (p ∷ q ∷ []) h = absurd (h refl)
-no_binary heads names span op (p ∷ q ∷ r ∷ behind) h = refl
+no_binary heads names span op behind h = refl
 
 pub no_wrap : (heads : List PlainHead) (names : List Name) (span : Span) (behind : List PlainSexpr) → length behind < 2 →
     wrap_in heads names span (plain_forms behind) ≡ check_fault Form span
 unfolding wrap_in
-no_wrap heads names span [] h = refl
-no_wrap heads names span (p ∷ []) h = refl
 no_wrap heads names span (p ∷ q ∷ behind) h = absurd (omega arith)
+no_wrap heads names span behind h = refl
 
 pub list_binary : (heads : List PlainHead) (names : List Name) (span : Span) (op : Binary) (forms : PlainForms) →
     list_in heads names span (Some (word.Binary op)) forms ≡ binary_in heads names span op forms
 unfolding list_in binary_in
-list_binary heads names span op no_forms = refl
-list_binary heads names span op (forms_and p no_forms) = refl
 list_binary heads names span op (forms_and p (forms_and q no_forms)) = refl
-list_binary heads names span op (forms_and p (forms_and q (forms_and r forms))) = refl
+list_binary heads names span op forms = refl
 
 pub list_wrap : (heads : List PlainHead) (names : List Name) (span : Span) (forms : PlainForms) →
     list_in heads names span (Some word.Wrap) forms ≡ wrap_in heads names span forms
 unfolding list_in wrap_in
-list_wrap heads names span no_forms = refl
-list_wrap heads names span (forms_and p no_forms) = refl
 list_wrap heads names span (forms_and p (forms_and f forms)) = refl
+list_wrap heads names span forms = refl
 
 pub list_choose : (heads : List PlainHead) (names : List Name) (span : Span) (forms : PlainForms) →
     list_in heads names span (Some word.Choose) forms ≡ choose_in heads names forms

@@ -6,11 +6,10 @@ use Rattle.cml_check.specs.declared.fault.CheckFault.{CheckFault}
 use Rattle.cml_check.specs.declared.head.Head.{Head}
 use Rattle.cml_check.specs.Syntax.{Name, PlainItem}
 use Rattle.cml_check.specs.Checked.{Checked, ◌>>=◌, Fails}
-use Rattle.cml_check.specs.Heads.{PlainHead, arities_of}
+use Rattle.cml_check.specs.Heads.{PlainHead}
 use Rattle.cml_check.specs.HeadViews.{plain_head, plain_heads}
-use Rattle.cml_check.specs.InOrder.{arities, names_of}
 use Rattle.cml_check.specs.Shape.{function_by, functions_in}
-use Rattle.cml_check.proofs.CheckedLemmas.{fails-as, drop-at}
+use Rattle.cml_check.proofs.CheckedLemmas.{after, fails-as, drop-at}
 
 abbrev pub front : List (PlainItem Name) → Checked (List (PlainItem Name)) → Checked (List (PlainItem Name))
 front fs found = found >>= λ rest. Ok (fs ++ rest)
@@ -28,10 +27,6 @@ front-push fs f (Err e) = refl
 
 abbrev walk : List PlainHead → List PlainHead → PlainItem Name × ℕ → Checked (List (PlainItem Name))
 walk heads left f = functions_in heads f.1 left >>= before f.0
-
-after : {A B C : Type 0} (r : Checked A) (f : A → Checked B) (g : B → Checked C) → ((r >>= f) >>= g) ≡ (r >>= λ x. f x >>= g)
-after (Ok x) f g = refl
-after (Err e) f g = refl
 
 step : (heads : List PlainHead) (count : ℕ) (hs : List Head) (i : ℕ) (head : Head) → i < length hs → head ≡ get_or hs i head →
     functions_in heads count (plain_heads (drop i hs)) ≡ (function_by heads count (plain_head head) >>= walk heads (plain_heads (drop (i + 1) hs)))
@@ -59,31 +54,18 @@ unfolding functions_in
 function-end heads count hs i fs all le inv =
     sym inv ∙ ap (λ xs. front fs (functions_in heads count (plain_heads xs))) (drop_of_length-le hs le) ∙ ap (λ x. Ok x) (append-nil fs)
 
-pub arities-next : (hs : List Head) (i : ℕ) (head : Head) (fs : List (PlainItem ℕ)) (f : PlainItem ℕ) (all : List ℕ) → i < length hs → head ≡ get_or hs i head →
-    arities fs ++ arities_of (plain_heads (drop i hs)) ≡ all → f.arity ≡ length head.parameters → arities (fs ++ f ∷ []) ++ arities_of (plain_heads (drop (i + 1) hs)) ≡ all
-arities-next hs i head fs f all lt is inv same =
-    ap (λ xs. xs ++ arities_of (plain_heads (drop (i + 1) hs))) (map_push (λ (f : PlainItem ℕ). f.arity) fs f)
-    ∙ append_assoc (arities fs) (f.arity ∷ []) (arities_of (plain_heads (drop (i + 1) hs)))
-    ∙ ap (λ n. arities fs ++ n ∷ arities_of (plain_heads (drop (i + 1) hs))) same
-    ∙ ap (λ xs. arities fs ++ arities_of (plain_heads xs)) (sym (drop-at hs i head lt is)) ∙ inv
+-- what the functions so far have and what the heads that are left have is what all have: one function more
+pub had-next : {A : Type 0} (has : PlainItem ℕ → A) (given : PlainHead → A) (hs : List Head) (i : ℕ) (head : Head) (fs : List (PlainItem ℕ)) (f : PlainItem ℕ) (all : List A) →
+    i < length hs → head ≡ get_or hs i head → map has fs ++ map given (plain_heads (drop i hs)) ≡ all → has f ≡ given (plain_head head) →
+    map has (fs ++ f ∷ []) ++ map given (plain_heads (drop (i + 1) hs)) ≡ all
+had-next has given hs i head fs f all lt is inv same =
+    ap (λ xs. xs ++ map given (plain_heads (drop (i + 1) hs))) (map_push has fs f)
+    ∙ append_assoc (map has fs) (has f ∷ []) (map given (plain_heads (drop (i + 1) hs)))
+    ∙ ap (λ x. map has fs ++ x ∷ map given (plain_heads (drop (i + 1) hs))) same
+    ∙ ap (λ xs. map has fs ++ map given (plain_heads xs)) (sym (drop-at hs i head lt is)) ∙ inv
 
-pub arities-end : (hs : List Head) (i : ℕ) (fs : List (PlainItem ℕ)) (all : List ℕ) → length hs ≤ i →
-    arities fs ++ arities_of (plain_heads (drop i hs)) ≡ all → arities fs ≡ all
-arities-end hs i fs all le inv =
-    sym (append-nil (arities fs)) ∙ ap (λ xs. arities fs ++ arities_of (plain_heads xs)) (sym (drop_of_length-le hs le)) ∙ inv
-
-abbrev pub head_names : List PlainHead → List Name
-head_names heads = map (λ head. head.name) heads
-
-pub names-next : (hs : List Head) (i : ℕ) (head : Head) (fs : List (PlainItem ℕ)) (f : PlainItem ℕ) (all : List Name) → i < length hs → head ≡ get_or hs i head →
-    names_of fs ++ head_names (plain_heads (drop i hs)) ≡ all → f.name ≡ head.name.now → names_of (fs ++ f ∷ []) ++ head_names (plain_heads (drop (i + 1) hs)) ≡ all
-names-next hs i head fs f all lt is inv same =
-    ap (λ xs. xs ++ head_names (plain_heads (drop (i + 1) hs))) (map_push (λ (f : PlainItem ℕ). f.name) fs f)
-    ∙ append_assoc (names_of fs) (f.name ∷ []) (head_names (plain_heads (drop (i + 1) hs)))
-    ∙ ap (λ n. names_of fs ++ n ∷ head_names (plain_heads (drop (i + 1) hs))) same
-    ∙ ap (λ xs. names_of fs ++ head_names (plain_heads xs)) (sym (drop-at hs i head lt is)) ∙ inv
-
-pub names-end : (hs : List Head) (i : ℕ) (fs : List (PlainItem ℕ)) (all : List Name) → length hs ≤ i →
-    names_of fs ++ head_names (plain_heads (drop i hs)) ≡ all → names_of fs ≡ all
-names-end hs i fs all le inv =
-    sym (append-nil (names_of fs)) ∙ ap (λ xs. names_of fs ++ head_names (plain_heads xs)) (sym (drop_of_length-le hs le)) ∙ inv
+-- where no head is left
+pub had-end : {A : Type 0} (has : PlainItem ℕ → A) (given : PlainHead → A) (hs : List Head) (i : ℕ) (fs : List (PlainItem ℕ)) (all : List A) →
+    length hs ≤ i → map has fs ++ map given (plain_heads (drop i hs)) ≡ all → map has fs ≡ all
+had-end has given hs i fs all le inv =
+    sym (append-nil (map has fs)) ∙ ap (λ xs. map has fs ++ map given (plain_heads xs)) (sym (drop_of_length-le hs le)) ∙ inv

@@ -9,7 +9,7 @@ use Rattle.cml_check.specs.declared.statement.Scope.{Scope}
 use Rattle.cml_check.specs.Checked.{Checked, ◌>>=◌, Fails}
 use Rattle.cml_check.specs.Names.{has_name, with_name}
 use Rattle.cml_check.specs.Statements.{statement_counted, stmt_in, stmts_in}
-use Rattle.cml_check.proofs.CheckedLemmas.{fails-as, drop-at}
+use Rattle.cml_check.proofs.CheckedLemmas.{after, fails-as, drop-at}
 use Rattle.std.proofs.lemmas.Bool.{ltb-true, lt-ltb, and_parts, and_from}
 use Rattle.std.proofs.lemmas.List.{length-append}
 use Rattle.cml_check.specs.Syntax.{Name, PlainExpr, constant, number, text, variable, unary, binary, choose, wrap, guard, with_nack, PlainExprs, no_exprs, exprs_and, expr_map, exprs_map, name_at}
@@ -246,10 +246,6 @@ stmts-fit_push ar slots [] s h g = and_from (stmt_fits ar slots s) true g refl
 stmts-fit_push ar slots (d ∷ ss) s h g =
     let p = and_parts (stmt_fits ar slots d) (stmts_fit ar slots (stmts ss)) h in
     and_from (stmt_fits ar slots d) _ p.0 (stmts-fit_push ar slots ss s p.1 g)
-
-after : {A B C : Type 0} (r : Checked A) (f : A → Checked B) (g : B → Checked C) → ((r >>= f) >>= g) ≡ (r >>= λ x. f x >>= g)
-after (Ok x) f g = refl
-after (Err e) f g = refl
 
 abbrev walk : List PlainHead → PlainForms → PlainStmt Name × Scope → Checked (PlainStmts Name × Scope)
 walk heads forms s = stmts_in heads s.1 forms >>= behind s.0

@@ -61,10 +61,8 @@ place-some heads n head lt is =
 
 pub no_parameters : (form : PlainSexpr) → is_list form ≡ false → parameters_in form ≡ check_fault Form (span_of form)
 unfolding parameters_in
-no_parameters (plain_name span name) h = refl
-no_parameters (plain_int span z) h = refl
-no_parameters (plain_text span bytes) h = refl
 no_parameters (plain_list span forms) h = absurd (true≢false h)
+no_parameters form h = refl
 
 pub list_parameters : (form : PlainSexpr) (forms : PlainForms) → form ≡ plain_list (span_of form) forms → parameters_in form ≡ parameters_from [] forms
 unfolding parameters_in
@@ -95,11 +93,8 @@ parameter-end found forms i all le inv = sym inv ∙ ap (λ fs. parameters_from 
 
 pub no_head : (form : PlainSexpr) → is_headed form ≡ false → head_in form ≡ check_fault Form (span_of form)
 unfolding head_in
-no_head (plain_name span name) h = refl
-no_head (plain_int span z) h = refl
-no_head (plain_text span bytes) h = refl
-no_head (plain_list span no_forms) h = refl
 no_head (plain_list span (forms_and first behind)) h = absurd (true≢false h)
+no_head form h = refl
 
 pub headed_head : (form first : PlainSexpr) (behind : PlainForms) → form ≡ plain_list (span_of form) (forms_and first behind) → head_in form ≡ head_by (span_of form) (word_from first) behind
 unfolding head_in
@@ -107,9 +102,8 @@ headed_head form first behind h = ap head_in h
 
 pub short_head : (span : Span) (behind : List PlainSexpr) → length behind < 2 → head_by span (Some word.Fn) (plain_forms behind) ≡ check_fault Form span
 unfolding head_by
-short_head span [] h = refl
-short_head span (a ∷ []) h = refl
 short_head span (a ∷ b ∷ behind) h = absurd (omega arith)
+short_head span behind h = refl
 
 step : (found : List PlainHead) (forms : List PlainSexpr) (i : ℕ) (form : PlainSexpr) (all : Checked (List PlainHead)) →
     i < length forms → form ≡ get_or forms i form → heads_from found (drop i forms) ≡ all → heads_from found (form ∷ drop (i + 1) forms) ≡ all

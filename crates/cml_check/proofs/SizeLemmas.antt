@@ -79,27 +79,8 @@ behind_count scope (Ok at) first rest is h g = behind_first scope.statements at 
 behind_count scope (Err e) first rest is h g = tt
 
 behind_word : (n : ℕ) (span : Span) (first : Option Word) (found : Checked (PlainStmts Name × Scope)) → Counts n found → Counts n (behind_do span first found)
-behind_word n span None found h = tt
-behind_word n span (Some word.Fn) found h = tt
 behind_word n span (Some word.Do) found h = h
-behind_word n span (Some word.Let) found h = tt
-behind_word n span (Some word.Set) found h = tt
-behind_word n span (Some word.If) found h = tt
-behind_word n span (Some (word.Tested test)) found h = tt
-behind_word n span (Some word.Return) found h = tt
-behind_word n span (Some word.Call) found h = tt
-behind_word n span (Some word.Spawn) found h = tt
-behind_word n span (Some word.Choose) found h = tt
-behind_word n span (Some word.Wrap) found h = tt
-behind_word n span (Some word.Guard) found h = tt
-behind_word n span (Some word.WithNack) found h = tt
-behind_word n span (Some word.MVar) found h = tt
-behind_word n span (Some (word.Constant c)) found h = tt
-behind_word n span (Some (word.Unary o)) found h = tt
-behind_word n span (Some (word.Binary o)) found h = tt
-behind_word n span (Some (word.Act a)) found h = tt
-behind_word n span (Some (word.ActOnOne a)) found h = tt
-behind_word n span (Some (word.ActOnTwo a)) found h = tt
+behind_word n span first found h = tt
 
 -- an effect is one statement
 done : (heads : List PlainHead) (scope : Scope) (span : Span) (first : Option Word) (forms : PlainForms) →
@@ -110,62 +91,27 @@ mutual
   unfolding stmt_in stmt_by block_in stmts_in
 
   stmt_counts : (heads : List PlainHead) (scope : Scope) (form : PlainSexpr) → CountsOne scope.statements (stmt_in heads scope form)
-  stmt_counts heads scope (plain_name span name) = tt
-  stmt_counts heads scope (plain_int span z) = tt
-  stmt_counts heads scope (plain_text span bytes) = tt
-  stmt_counts heads scope (plain_list span no_forms) = tt
   stmt_counts heads scope (plain_list span (forms_and first behind)) = by_counts heads scope span (word_from first) behind
+  stmt_counts heads scope form = tt
 
   by_counts : (heads : List PlainHead) (scope : Scope) (span : Span) (first : Option Word) (forms : PlainForms) → CountsOne scope.statements (stmt_by heads scope span first forms)
-  by_counts heads scope span (Some word.Let) no_forms = done heads scope span (Some word.Let) no_forms
-  by_counts heads scope span (Some word.Let) (forms_and x no_forms) = done heads scope span (Some word.Let) (forms_and x no_forms)
   by_counts heads scope span (Some word.Let) (forms_and x (forms_and r no_forms)) =
       past scope.statements (free_name x) _ (λ name. past scope.statements (source_in heads scope.names r) _ (λ source. (refl, λ le. le)))
-  by_counts heads scope span (Some word.Let) (forms_and x (forms_and r (forms_and y forms))) = done heads scope span (Some word.Let) (forms_and x (forms_and r (forms_and y forms)))
-  by_counts heads scope span (Some word.Set) no_forms = done heads scope span (Some word.Set) no_forms
-  by_counts heads scope span (Some word.Set) (forms_and x no_forms) = done heads scope span (Some word.Set) (forms_and x no_forms)
   by_counts heads scope span (Some word.Set) (forms_and x (forms_and p no_forms)) =
       past scope.statements (variable_in scope.names x) _ (λ name. past scope.statements (expr_in heads scope.names p) _ (λ e. (refl, λ le. le)))
-  by_counts heads scope span (Some word.Set) (forms_and x (forms_and p (forms_and y forms))) = done heads scope span (Some word.Set) (forms_and x (forms_and p (forms_and y forms)))
-  by_counts heads scope span (Some word.If) no_forms = done heads scope span (Some word.If) no_forms
-  by_counts heads scope span (Some word.If) (forms_and p no_forms) = done heads scope span (Some word.If) (forms_and p no_forms)
-  by_counts heads scope span (Some word.If) (forms_and p (forms_and x no_forms)) = done heads scope span (Some word.If) (forms_and p (forms_and x no_forms))
   by_counts heads scope span (Some word.If) (forms_and p (forms_and x (forms_and y no_forms))) =
       past scope.statements (expr_in heads scope.names p) _
       (λ e. if_first scope.statements e (block_in heads scope x) (λ s. block_in heads s y)
       (block_counts heads scope x) (λ s. block_counts heads s y))
-  by_counts heads scope span (Some word.If) (forms_and p (forms_and x (forms_and y (forms_and z forms)))) =
-      done heads scope span (Some word.If) (forms_and p (forms_and x (forms_and y (forms_and z forms))))
-  by_counts heads scope span (Some (word.Tested test)) no_forms = done heads scope span (Some (word.Tested test)) no_forms
   by_counts heads scope span (Some (word.Tested test)) (forms_and p forms) =
       past scope.statements (expr_in heads scope.names p) _ (λ e. tested_one scope.statements test e (stmts_in heads scope forms) (stmts_counts heads scope forms))
-  by_counts heads scope span (Some word.Return) no_forms = done heads scope span (Some word.Return) no_forms
   by_counts heads scope span (Some word.Return) (forms_and p no_forms) = past scope.statements (expr_in heads scope.names p) _ (λ e. (refl, λ le. le))
-  by_counts heads scope span (Some word.Return) (forms_and p (forms_and y forms)) = done heads scope span (Some word.Return) (forms_and p (forms_and y forms))
-  by_counts heads scope span None forms = done heads scope span None forms
-  by_counts heads scope span (Some word.Fn) forms = done heads scope span (Some word.Fn) forms
-  by_counts heads scope span (Some word.Do) forms = done heads scope span (Some word.Do) forms
-  by_counts heads scope span (Some word.Call) forms = done heads scope span (Some word.Call) forms
-  by_counts heads scope span (Some word.Spawn) forms = done heads scope span (Some word.Spawn) forms
-  by_counts heads scope span (Some word.Choose) forms = done heads scope span (Some word.Choose) forms
-  by_counts heads scope span (Some word.Wrap) forms = done heads scope span (Some word.Wrap) forms
-  by_counts heads scope span (Some word.Guard) forms = done heads scope span (Some word.Guard) forms
-  by_counts heads scope span (Some word.WithNack) forms = done heads scope span (Some word.WithNack) forms
-  by_counts heads scope span (Some word.MVar) forms = done heads scope span (Some word.MVar) forms
-  by_counts heads scope span (Some (word.Constant c)) forms = done heads scope span (Some (word.Constant c)) forms
-  by_counts heads scope span (Some (word.Unary o)) forms = done heads scope span (Some (word.Unary o)) forms
-  by_counts heads scope span (Some (word.Binary o)) forms = done heads scope span (Some (word.Binary o)) forms
-  by_counts heads scope span (Some (word.Act a)) forms = done heads scope span (Some (word.Act a)) forms
-  by_counts heads scope span (Some (word.ActOnOne a)) forms = done heads scope span (Some (word.ActOnOne a)) forms
-  by_counts heads scope span (Some (word.ActOnTwo a)) forms = done heads scope span (Some (word.ActOnTwo a)) forms
+  by_counts heads scope span first forms = done heads scope span first forms
 
   block_counts : (heads : List PlainHead) (scope : Scope) (form : PlainSexpr) → Counts scope.statements (block_in heads scope form)
-  block_counts heads scope (plain_name span name) = tt
-  block_counts heads scope (plain_int span z) = tt
-  block_counts heads scope (plain_text span bytes) = tt
-  block_counts heads scope (plain_list span no_forms) = tt
   block_counts heads scope (plain_list span (forms_and first behind)) =
       behind_word scope.statements span (word_from first) (stmts_in heads scope behind) (stmts_counts heads scope behind)
+  block_counts heads scope form = tt
 
   stmts_counts : (heads : List PlainHead) (scope : Scope) (forms : PlainForms) → Counts scope.statements (stmts_in heads scope forms)
   stmts_counts heads scope no_forms = (omega arith, λ le. le)

@@ -26,22 +26,19 @@ pub no_mvar : (heads : List PlainHead) (names : List Name) (span : Span) (behind
 unfolding effect_in
 no_mvar heads names span [] h g = absurd (h refl)
 no_mvar heads names span (p ∷ []) h g = absurd (g refl)
-no_mvar heads names span (p ∷ q ∷ behind) h g = refl
+no_mvar heads names span behind h g = refl
 
 pub no_act_on_one : (heads : List PlainHead) (names : List Name) (span : Span) (a : ActOnOne) (behind : List PlainSexpr) → length behind ≢ 1 →
     effect_in heads names span (Some (word.ActOnOne a)) (plain_forms behind) ≡ check_fault Form span
 unfolding effect_in
-no_act_on_one heads names span a [] h = refl
 no_act_on_one heads names span a (p ∷ []) h = absurd (h refl)
-no_act_on_one heads names span a (p ∷ q ∷ behind) h = refl
+no_act_on_one heads names span a behind h = refl
 
 pub no_act_on_two : (heads : List PlainHead) (names : List Name) (span : Span) (a : ActOnTwo) (behind : List PlainSexpr) → length behind ≢ 2 →
     effect_in heads names span (Some (word.ActOnTwo a)) (plain_forms behind) ≡ check_fault Form span
 unfolding effect_in
-no_act_on_two heads names span a [] h = refl
-no_act_on_two heads names span a (p ∷ []) h = refl
 no_act_on_two heads names span a (p ∷ q ∷ []) h = absurd (h refl)
-no_act_on_two heads names span a (p ∷ q ∷ r ∷ behind) h = refl
+no_act_on_two heads names span a behind h = refl
 
 pub headed_source : (heads : List PlainHead) (names : List Name) (form first : PlainSexpr) (behind : PlainForms) → form ≡ plain_list (span_of form) (forms_and first behind) →
     source_in heads names form ≡ source_by heads names (span_of form) (word_from first) behind
@@ -50,8 +47,5 @@ headed_source heads names form first behind h = ap (source_in heads names) h
 
 pub plain_form_source : (heads : List PlainHead) (names : List Name) (form : PlainSexpr) → is_headed form ≡ false → source_in heads names form ≡ form_source heads names form
 unfolding source_in
-plain_form_source heads names (plain_name span name) h = refl
-plain_form_source heads names (plain_int span z) h = refl
-plain_form_source heads names (plain_text span bytes) h = refl
-plain_form_source heads names (plain_list span no_forms) h = refl
 plain_form_source heads names (plain_list span (forms_and first behind)) h = absurd (true≢false h)
+plain_form_source heads names form h = refl

@@ -28,11 +28,8 @@ headed_stmt heads scope form first behind h = ap (stmt_in heads scope) h
 
 pub no_stmt : (heads : List PlainHead) (scope : Scope) (form : PlainSexpr) → is_headed form ≡ false → stmt_in heads scope form ≡ check_fault Form (span_of form)
 unfolding stmt_in
-no_stmt heads scope (plain_name span name) h = refl
-no_stmt heads scope (plain_int span z) h = refl
-no_stmt heads scope (plain_text span bytes) h = refl
-no_stmt heads scope (plain_list span no_forms) h = refl
 no_stmt heads scope (plain_list span (forms_and first behind)) h = absurd (true≢false h)
+no_stmt heads scope form h = refl
 
 pub headed_block : (heads : List PlainHead) (scope : Scope) (form first : PlainSexpr) (behind : PlainForms) → form ≡ plain_list (span_of form) (forms_and first behind) →
     block_in heads scope form ≡ behind_do (span_of form) (word_from first) (stmts_in heads scope behind)
@@ -41,73 +38,54 @@ headed_block heads scope form first behind h = ap (block_in heads scope) h
 
 pub no_block : (heads : List PlainHead) (scope : Scope) (form : PlainSexpr) → is_headed form ≡ false → block_in heads scope form ≡ check_fault Form (span_of form)
 unfolding block_in
-no_block heads scope (plain_name span name) h = refl
-no_block heads scope (plain_int span z) h = refl
-no_block heads scope (plain_text span bytes) h = refl
-no_block heads scope (plain_list span no_forms) h = refl
 no_block heads scope (plain_list span (forms_and first behind)) h = absurd (true≢false h)
+no_block heads scope form h = refl
 
 pub list_let : (heads : List PlainHead) (scope : Scope) (span : Span) (forms : PlainForms) → stmt_by heads scope span (Some word.Let) forms ≡ let_in heads scope span forms
 unfolding stmt_by let_in let_of effect_in
-list_let heads scope span no_forms = refl
-list_let heads scope span (forms_and x no_forms) = refl
 list_let heads scope span (forms_and x (forms_and r no_forms)) = refl
-list_let heads scope span (forms_and x (forms_and r (forms_and y forms))) = refl
+list_let heads scope span forms = refl
 
 pub list_set : (heads : List PlainHead) (scope : Scope) (span : Span) (forms : PlainForms) → stmt_by heads scope span (Some word.Set) forms ≡ set_in heads scope span forms
 unfolding stmt_by set_in effect_in
-list_set heads scope span no_forms = refl
-list_set heads scope span (forms_and x no_forms) = refl
 list_set heads scope span (forms_and x (forms_and r no_forms)) = refl
-list_set heads scope span (forms_and x (forms_and r (forms_and y forms))) = refl
+list_set heads scope span forms = refl
 
 pub list_if : (heads : List PlainHead) (scope : Scope) (span : Span) (forms : PlainForms) → stmt_by heads scope span (Some word.If) forms ≡ if_in heads scope span forms
 unfolding stmt_by if_in if_of effect_in
-list_if heads scope span no_forms = refl
-list_if heads scope span (forms_and x no_forms) = refl
-list_if heads scope span (forms_and x (forms_and r no_forms)) = refl
-list_if heads scope span (forms_and x (forms_and r (forms_and y no_forms))) = refl
-list_if heads scope span (forms_and x (forms_and r (forms_and y (forms_and z forms)))) = refl
+list_if heads scope span (forms_and p (forms_and x (forms_and y no_forms))) = refl
+list_if heads scope span forms = refl
 
 pub list_tested : (heads : List PlainHead) (scope : Scope) (span : Span) (test : Tested) (forms : PlainForms)
     → stmt_by heads scope span (Some (word.Tested test)) forms ≡ tested_in heads scope span test forms
 unfolding stmt_by tested_in tested_of effect_in
 list_tested heads scope span test no_forms = refl
-list_tested heads scope span test (forms_and x forms) = refl
+list_tested heads scope span test (forms_and p forms) = refl
 
 pub list_return : (heads : List PlainHead) (scope : Scope) (span : Span) (forms : PlainForms) → stmt_by heads scope span (Some word.Return) forms ≡ return_in heads scope span forms
 unfolding stmt_by return_in effect_in
-list_return heads scope span no_forms = refl
-list_return heads scope span (forms_and x no_forms) = refl
-list_return heads scope span (forms_and x (forms_and r forms)) = refl
+list_return heads scope span (forms_and p no_forms) = refl
+list_return heads scope span forms = refl
 
 pub no_let : (heads : List PlainHead) (scope : Scope) (span : Span) (behind : List PlainSexpr) → length behind ≢ 2 → let_in heads scope span (plain_forms behind) ≡ check_fault Form span
 unfolding let_in
-no_let heads scope span [] h = refl
-no_let heads scope span (p ∷ []) h = refl
 no_let heads scope span (p ∷ q ∷ []) h = absurd (h refl)
-no_let heads scope span (p ∷ q ∷ r ∷ behind) h = refl
+no_let heads scope span behind h = refl
 
 pub no_set : (heads : List PlainHead) (scope : Scope) (span : Span) (behind : List PlainSexpr) → length behind ≢ 2 → set_in heads scope span (plain_forms behind) ≡ check_fault Form span
 unfolding set_in
-no_set heads scope span [] h = refl
-no_set heads scope span (p ∷ []) h = refl
 no_set heads scope span (p ∷ q ∷ []) h = absurd (h refl)
-no_set heads scope span (p ∷ q ∷ r ∷ behind) h = refl
+no_set heads scope span behind h = refl
 
 pub no_if : (heads : List PlainHead) (scope : Scope) (span : Span) (behind : List PlainSexpr) → length behind ≢ 3 → if_in heads scope span (plain_forms behind) ≡ check_fault Form span
 unfolding if_in
-no_if heads scope span [] h = refl
-no_if heads scope span (p ∷ []) h = refl
-no_if heads scope span (p ∷ q ∷ []) h = refl
 no_if heads scope span (p ∷ q ∷ r ∷ []) h = absurd (h refl)
-no_if heads scope span (p ∷ q ∷ r ∷ s ∷ behind) h = refl
+no_if heads scope span behind h = refl
 
 pub no_return : (heads : List PlainHead) (scope : Scope) (span : Span) (behind : List PlainSexpr) → length behind ≢ 1 → return_in heads scope span (plain_forms behind) ≡ check_fault Form span
 unfolding return_in
-no_return heads scope span [] h = refl
 no_return heads scope span (p ∷ []) h = absurd (h refl)
-no_return heads scope span (p ∷ q ∷ behind) h = refl
+no_return heads scope span behind h = refl
 
 pub let_gives : (ar : List ℕ) (heads : List PlainHead) (scope : Scope) (x r : PlainSexpr) (name : Name) (new : List Name) (slot : ℕ) (given : PlainSource ℕ) →
     free_name x ≡ Ok name → source_in heads scope.names r ≡ Ok (source_map (name_at scope.names) given) → new ≡ with_name scope.names name → name_at new slot ≡ name →

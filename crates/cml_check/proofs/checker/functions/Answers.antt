@@ -1,4 +1,4 @@
-use Rattle.std.proofs.Common.{◌≡◌, sym, arith, map, refl, subst}
+use Rattle.std.proofs.Common.{◌≡◌, sym, arith, length, map, refl, subst}
 use Rattle.std.specs.Prelude.{All, List}
 use Rattle.std.proofs.lemmas.Result.{err_from_is_err_and}
 use Rattle.std.proofs.lemmas.List.{map_push}
@@ -7,7 +7,7 @@ use Rattle.cml_check.specs.Syntax.{written}
 use Rattle.cml_check.specs.Heads.{arities_of}
 use Rattle.cml_check.specs.InOrder.{FunctionFits, arities}
 use Rattle.cml_check.specs.Shape.{functions_in}
-use Rattle.cml_check.proofs.FunctionLemmas.{front_nil, function-fails, function-next, function-end, arities-next, arities-end, names-next, names-end}
+use Rattle.cml_check.proofs.FunctionLemmas.{front_nil, function-fails, function-next, function-end, had-next, had-end}
 use Rattle.cml_check.specs.HeadViews.{plain_head}
 use Rattle.cml_check.proofs.SizeLemmas.{count-next}
 use Rattle.cml_check.proofs.checker.functions.Goals as goal
@@ -47,10 +47,12 @@ loop-head-preserved c =
       fits = rw c.in_ok-push.ensures.items
           (All-push (FunctionFits (arities_of c.args.heads.now)) c.loop-head.items.items c.in_ok-function.field-0
           c.loop-head.invariant.fits c.in_ok-function.ensures.fits);
-      named = rw c.in_ok-push.ensures.items (names-next c.as_slice-head-items.result.now c.loop-head.head-index c.head-item.result c.loop-head.items.items c.in_ok-function.field-0 _
+      named = rw c.in_ok-push.ensures.items
+          (had-next (λ f. f.name) (λ head. head.name) c.as_slice-head-items.result.now c.loop-head.head-index c.head-item.result c.loop-head.items.items c.in_ok-function.field-0 _
           c.loop-head-test.true c.head-item.is c.loop-head.invariant.named c.in_ok-function.ensures.name);
-      same = rw c.in_ok-push.ensures.items (arities-next c.as_slice-head-items.result.now c.loop-head.head-index c.head-item.result c.loop-head.items.items c.in_ok-function.field-0 _
-          c.loop-head-test.true c.head-item.is c.loop-head.invariant.same c.in_ok-function.ensures.arity);
+      same = rw c.in_ok-push.ensures.items
+          (had-next (λ f. f.arity) (λ head. length head.parameters) c.as_slice-head-items.result.now c.loop-head.head-index c.head-item.result c.loop-head.items.items
+          c.in_ok-function.field-0 _ c.loop-head-test.true c.head-item.is c.loop-head.invariant.same c.in_ok-function.ensures.arity);
     }
 
 pub returns-clause-gives : goal.returns-clause-gives
@@ -58,14 +60,17 @@ returns-clause-gives c =
     function-end c.args.heads.now c.loop-head.statements c.as_slice-head-items.result.now c.loop-head.head-index
     (map written c.loop-head.items.items) _ (omega (arith, c.loop-head-test.false)) c.loop-head.invariant.left
 
+pub returns-clause-arities : goal.returns-clause-arities
+returns-clause-arities c =
+    had-end (λ f. f.arity) (λ head. length head.parameters) c.as_slice-head-items.result.now c.loop-head.head-index c.loop-head.items.items _
+    (omega (arith, c.loop-head-test.false)) c.loop-head.invariant.same
+
 pub returns-clause-order : goal.returns-clause-order
 returns-clause-order c =
-    let same : arities c.loop-head.items.items ≡ arities_of c.args.heads.now =
-    arities-end c.as_slice-head-items.result.now c.loop-head.head-index c.loop-head.items.items _ (omega (arith, c.loop-head-test.false)) c.loop-head.invariant.same in
+    let same : arities c.loop-head.items.items ≡ arities_of c.args.heads.now = returns-clause-arities c in
     subst (λ (ar : List _). All (FunctionFits ar) c.loop-head.items.items) (sym same) c.loop-head.invariant.fits
 
-pub returns-clause-arities : goal.returns-clause-arities
-returns-clause-arities c = arities-end c.as_slice-head-items.result.now c.loop-head.head-index c.loop-head.items.items _ (omega (arith, c.loop-head-test.false)) c.loop-head.invariant.same
-
 pub returns-clause-names : goal.returns-clause-names
-returns-clause-names c = names-end c.as_slice-head-items.result.now c.loop-head.head-index c.loop-head.items.items _ (omega (arith, c.loop-head-test.false)) c.loop-head.invariant.named
+returns-clause-names c =
+    had-end (λ f. f.name) (λ head. head.name) c.as_slice-head-items.result.now c.loop-head.head-index c.loop-head.items.items _
+    (omega (arith, c.loop-head-test.false)) c.loop-head.invariant.named

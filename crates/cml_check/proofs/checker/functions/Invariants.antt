@@ -2,11 +2,11 @@ use Rattle.std.proofs.Common.{◌≡◌, ◌≤◌, ◌++◌, map, drop}
 use Rattle.std.specs.Prelude.{All}
 use Rattle.cml_check.specs.Syntax.{written}
 use Rattle.cml_check.specs.Heads.{arities_of}
-use Rattle.cml_check.specs.HeadViews.{plain_heads}
+use Rattle.cml_check.specs.HeadViews.{plain_heads, head_names}
 use Rattle.cml_check.specs.InOrder.{FunctionFits, arities, names_of}
 use Rattle.cml_check.specs.Shape.{functions_in}
 use Rattle.cml_check.specs.Sizes.{statements_of}
-use Rattle.cml_check.proofs.FunctionLemmas.{front, head_names}
+use Rattle.cml_check.proofs.FunctionLemmas.{front}
 use Rattle.cml_check.proofs.checker.functions.Given as goal
 
 -- what was found, and what is left, is what all are; each function so far is in order; the arities and the names are those of the heads;
