@@ -8,7 +8,7 @@ use Rattle.std.proofs.lemmas.Bool.{lt-ltb, le-ltb}
 use Rattle.std.proofs.lemmas.List.{map_push}
 use Rattle.std.proofs.lemmas.Option.{slice_get-map, unwrap_or-slice_get, slice_get_read, slice_get_cases}
 use mathlib.Core.Bool.{true≢false}
-use Rattle.cml_text.specs.Forms.{PlainSexpr, plain_name, plain_int, plain_text, plain_list, PlainForms, no_forms, forms_and, plain_forms, span_of}
+use Rattle.cml_text.specs.Forms.{PlainSexpr, plain_list, PlainForms, forms_and, plain_forms, span_of}
 use Rattle.cml_check.specs.declared.fault.CheckFault.{CheckFault}
 use Rattle.cml_check.specs.declared.fault.CheckKind.TheVariants.{Form, Double, Limit}
 use Rattle.cml_check.specs.declared.head.Head.{Head}

@@ -2,7 +2,7 @@
 use Rattle.std.proofs.Common.{◌≡◌, ◌≢◌, ◌<◌, ℕ, true, false, List, [], ◌∷◌, length, Some, Ok, refl, ap, ◌&&◌, nat_lt}
 use mathlib.Core.Bool.{true≢false}
 use Rattle.cml_text.specs.declared.sexpr.Span.{Span}
-use Rattle.cml_text.specs.Forms.{PlainSexpr, plain_name, plain_int, plain_text, plain_list, PlainForms, no_forms, forms_and, plain_forms, span_of}
+use Rattle.cml_text.specs.Forms.{PlainSexpr, plain_list, PlainForms, no_forms, forms_and, plain_forms, span_of}
 use Rattle.cml_check.specs.declared.fault.CheckKind.TheVariants.{Form}
 use Rattle.cml_check.specs.declared.statement.Scope.{Scope}
 use Rattle.cml_check.specs.declared.word.Tested.{Tested}
