@@ -206,9 +206,9 @@ counts_there t ts i g waited waits c = let a = awaited-resume t 0 i ts g waits i
 take_all : (g : PlainGroup) (n : ℕ) → n ≡ leaf_count g → take n (bases g) ≡ bases g
 take_all g n e = let size = length-map (leaves g) (λ (l : PlainLeaf). l.base) in ap (λ k. take k (bases g)) (e ∙ sym size) ∙ take-length (bases g)
 
-pub all_there : (t : ℕ) (ts : List PlainThread) (i n : ℕ) (g : PlainGroup) (waited : List (ℕ × ℕ)) → slice_get ts i ≡ Some (pending_on g) → n ≡ leaf_count g → Counts ts waited
+pub all_there : (t : ℕ) (g : PlainGroup) (n : ℕ) (waited : List (ℕ × ℕ)) → n ≡ leaf_count g → times_awaited t (bases g) ≤ leaves_at waited t
     → times_awaited t (take n (bases g)) ≤ leaves_at waited t
-all_there t ts i n g waited waits e c = rw (take_all g n e) (counts_there t ts i g waited waits c)
+all_there t g n waited e there = rw (take_all g n e) there
 
 pub all_left : (g : PlainGroup) (n : ℕ) (waited waited' : List (ℕ × ℕ)) → n ≡ leaf_count g → ((t : ℕ) → leaves_at waited' t + times_awaited t (take n (bases g)) ≡ leaves_at waited t)
     → (t : ℕ) → leaves_at waited' t + times_awaited t (bases g) ≡ leaves_at waited t

@@ -1,5 +1,6 @@
 pub mod Pendings
 pub mod Awaited
+pub mod Quiet
 pub mod LightLemmas
 pub mod NackLemmas
 pub mod Retold

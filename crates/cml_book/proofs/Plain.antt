@@ -13,7 +13,8 @@ use Rattle.cml_book.specs.declared.refusal.Refusal.TheVariants as refusal
 use Rattle.cml_book.specs.Entering.{entered_base, entered, entered_all, is_far}
 use Rattle.cml_book.specs.Outcomes.{first_if, first_of_both, thread_refusal}
 use Rattle.cml_book.specs.Sync.{base_exists, group_exists, can_enter, sync_refusal}
-use Rattle.cml_book.specs.Walks.{enters_as_it_is, IsWhole, IsPlain, IsStanding, shape_refusal}
+use Rattle.cml_book.specs.Walks.{enters_as_it_is, enters_quietly, IsWhole, IsQuiet, IsPlain, IsStanding, shape_refusal}
+use Rattle.cml_book.specs.Keeping.{has_no_light, is_lightless}
 use Rattle.cml_book.proofs.Walks.{bases_of_all, bases-wrap, bases-groups_and, any_far}
 
 both_true : (a b : Bool) → a && b ≡ true → (a ≡ true) × (b ≡ true)
@@ -142,6 +143,22 @@ standing_whole w g false stands = stands.enter
 pub standing_stays : (w : PlainWorld) (g : PlainGroup) (standing : Option Bool) → IsStanding w g standing → is_some standing ≡ true → IsWhole w g
 standing_stays w g None stands some = cc
 standing_stays w g (Some scoped) stands some = standing_whole w g scoped stands
+
+-- a quiet group is whole, and looks at no light
+pub quiet_whole : (w : PlainWorld) (g : PlainGroup) → IsQuiet w g → IsWhole w g
+quiet_whole w g quiet = all_so (enters_quietly w) (enters_as_it_is w) (λ b h. (both_true (has_no_light b) (enters_as_it_is w b) h).1) (bases g) quiet
+
+quiet_lightless : (w : PlainWorld) (g : PlainGroup) → IsQuiet w g → is_lightless g ≡ true
+quiet_lightless w g quiet = all_so (enters_quietly w) has_no_light (λ b h. (both_true (has_no_light b) (enters_as_it_is w b) h).0) (bases g) quiet
+
+-- so it is as it enters
+pub quiet_enters : (w : PlainWorld) (tick : ℕ) (g : PlainGroup) → IsQuiet w g → is_lightless (entered tick g) ≡ true
+quiet_enters w tick g quiet = ap is_lightless (group_stays w tick g (quiet_whole w g quiet)) ∙ quiet_lightless w g quiet
+
+pub quiet_stands : (w : PlainWorld) (g : PlainGroup) (scoped : Bool) → IsQuiet w g
+    → (scoped ≡ false → list_all (λ k. false) (nacks_of (scopes g)) ≡ true) → IsStanding w g (Some scoped)
+quiet_stands w g true quiet none = quiet_whole w g quiet
+quiet_stands w g false quiet none = record { enter = quiet_whole w g quiet; no_scope = none refl }
 
 -- the refusals of a whole group that come last, where those before don't fit
 pub whole_many : (why : Option Refusal) (there many fits : Bool) → why ≡ None → there ≡ true → not many ≡ false

@@ -40,6 +40,10 @@ bases_go_on p gs i g h is passes =
     ap (λ (x : PlainGroups). list_all p (bases_of_all x)) (groups-drop gs i g h is) ∙ ap (list_all p) (bases-groups_and g rest) in
     both ∙ list_all-append p (bases g) (bases_of_all rest) ∙ ap (λ (b : Bool). b && list_all p (bases_of_all rest)) passes
 
+-- the one base event of a leaf passes
+pub leaf_passes : (p : PlainBase → Bool) (b : PlainBase) (g : PlainGroup) → leaf b ≡ g → p b ≡ true → list_all p (bases g) ≡ true
+leaf_passes p b g is h = ap (λ (x : PlainGroup). list_all p (bases x)) (sym is) ∙ ap (λ s. s && true) h
+
 pub ruleset base_steps = (bases-wrap, bases-groups_and, list_all-append)
 
 -- the nacks of the scopes of all groups of a list
@@ -79,6 +83,10 @@ nacks_go_on p gs i g h is passes =
     let both : list_all p (nacks_of_all (groups (drop i gs))) ≡ list_all p (nacks_of (scopes g) ++ nacks_of_all rest) =
     ap (λ (x : PlainGroups). list_all p (nacks_of_all x)) (groups-drop gs i g h is) ∙ ap (list_all p) (nacks-groups_and g rest) in
     both ∙ list_all-append p (nacks_of (scopes g)) (nacks_of_all rest) ∙ ap (λ (b : Bool). b && list_all p (nacks_of_all rest)) passes
+
+-- a leaf has no scope
+pub leaf_plain : (b : PlainBase) (g : PlainGroup) → leaf b ≡ g → list_all (λ k. false) (nacks_of (scopes g)) ≡ true
+leaf_plain b g is = ap (λ (x : PlainGroup). list_all (λ k. false) (nacks_of (scopes x))) (sym is)
 
 pub ruleset nack_steps = (nacks-groups_and, list_all-append)
 

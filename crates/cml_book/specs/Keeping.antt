@@ -1,6 +1,6 @@
 -- What a book keeps at all times.
-use Rattle.std.specs.Prelude.{ℕ, ◌≡◌, ◌+◌, ◌*◌, ◌≤◌, ◌==◌, Bool, true, false, List, [], length, All, Option, Some, slice_get, count_by}
-use Rattle.std.specs.List.{flat_map, filter_map}
+use Rattle.std.specs.Prelude.{ℕ, ◌≡◌, ◌+◌, ◌*◌, ◌≤◌, ◌==◌, Bool, true, false, List, [], length, All, Option, Some, is_none, slice_get, count_by}
+use Rattle.std.specs.List.{flat_map, filter_map, list_all}
 use Rattle.cml_value.specs.Group.{PlainGroup, bases, scopes, nacks_of, leaf_count}
 use Rattle.cml_group.specs.LaidOut.{max_leaves}
 use Rattle.cml_scan.specs.World.{PlainThread, PlainNack, fresh_of, live, PlainWorld, PlainEntry, pending, pending_from}
@@ -56,6 +56,23 @@ awaits_tick t _ = false
 -- how many of these base events wait for the tick
 abbrev pub times_awaited : ℕ → List PlainBase → ℕ
 times_awaited t bs = count_by (awaits_tick t) bs
+
+-- the base event waits for no tick
+abbrev pub has_no_tick : PlainBase → Bool
+has_no_tick (at_tick t) = false
+has_no_tick _ = true
+
+-- the base event looks at no light
+abbrev pub has_no_light : PlainBase → Bool
+has_no_light b = is_none (light_seen b)
+
+-- no leaf of the group waits for a tick
+abbrev pub is_tickless : PlainGroup → Bool
+is_tickless g = list_all has_no_tick (bases g)
+
+-- no leaf of the group looks at a light
+abbrev pub is_lightless : PlainGroup → Bool
+is_lightless g = list_all has_no_light (bases g)
 
 -- what is counted for each tick are the leaves of the group that wait for it
 abbrev pub CountsLeaves : List (ℕ × ℕ) → PlainGroup → Type 0

@@ -1,5 +1,5 @@
 -- What is checked of a thread and its group before the thread waits.
-use Rattle.std.specs.Prelude.{◌≡◌, ℕ, Bool, true, false, not, nat_lt, Option, None, Some, slice_get}
+use Rattle.std.specs.Prelude.{◌≡◌, ◌&&◌, ℕ, Bool, true, false, not, nat_lt, Option, None, Some, slice_get}
 use Rattle.std.specs.List.{list_all, list_any}
 use Rattle.std.specs.Option.{option_map_or}
 use Rattle.cml_value.specs.Value.{PlainBase, at_tick, after_ticks}
@@ -11,6 +11,7 @@ use Rattle.cml_book.specs.declared.refusal.Refusal.TheVariants as refusal
 use Rattle.cml_book.specs.Entering.{is_far, max_tick}
 use Rattle.cml_book.specs.Outcomes.{first_if, first_of_both, thread_refusal}
 use Rattle.cml_book.specs.Sync.{base_exists, group_exists}
+use Rattle.cml_book.specs.Keeping.{has_no_light}
 
 -- the thread runs
 abbrev pub runs : PlainThread → Bool
@@ -40,7 +41,15 @@ enters_as_it_is w b = base_exists w b
 abbrev pub IsWhole : PlainWorld → PlainGroup → Type 0
 IsWhole w g = list_all (enters_as_it_is w) (bases g) ≡ true
 
--- the same, and no scope is in it
+-- the base event looks at no light, names what exists, and enters as it is: it is over a channel, or always there
+abbrev pub enters_quietly : PlainWorld → PlainBase → Bool
+enters_quietly w b = has_no_light b && enters_as_it_is w b
+
+-- all base events of the group do so
+abbrev pub IsQuiet : PlainWorld → PlainGroup → Type 0
+IsQuiet w g = list_all (enters_quietly w) (bases g) ≡ true
+
+-- the group is whole, and no scope is in it
 pub record IsPlain (w : PlainWorld) (g : PlainGroup) : Type 0 where
   pub enter : IsWhole w g
   pub no_scope : list_all (λ k. false) (nacks_of (scopes g)) ≡ true

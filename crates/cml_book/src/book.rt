@@ -145,10 +145,10 @@ impl<T: Table> Book<T> {
         ensures { Does result (sync_spec.sync self.old thread.0 group.now) self.old self.new }
     {
         let standing = self.state.standing(group);
-        if let Some(why) = self.state.sync_refusal(thread, group, standing) {
+        if let Some(why) = self.state.sync_refusal(thread, group, standing.scoped) {
             return Err(Fault::Refused(why));
         }
-        let flat = self.state.entered(alloc, group, standing.is_some())?;
+        let flat = self.state.entered(alloc, group, standing)?;
         let Ok(()) = make_room(&mut self.lit, &mut self.unlit, &flat) else {
             drop(flat);
             return Err(Fault::Memory);

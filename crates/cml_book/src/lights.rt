@@ -7,12 +7,13 @@ ghost use Rattle.cml_value.specs.Group.{bases, leaf_count, group_fits};
 ghost use Rattle.cml_group.specs.LaidOut.{max_leaves};
 ghost use Rattle.cml_scan.specs.Light.{light_of};
 ghost use Rattle.cml_book.specs.Entering.{is_far, entered};
-ghost use Rattle.cml_book.specs.Walks.{IsWhole};
-ghost use Rattle.cml_book.specs.Keeping.{lights_in};
+ghost use Rattle.cml_book.specs.Walks.{IsStanding, IsQuiet};
+ghost use Rattle.cml_book.specs.Keeping.{lights_in, is_lightless};
 
 use crate::counted::Counted;
 use crate::entering::entering;
 use crate::state::State;
+use crate::walk::Standing;
 use cml_group::{FlatFault, flatten};
 use cml_scan::{Light, Lights, light};
 use cml_value::{Base, Group};
@@ -31,16 +32,23 @@ fn entered_group(alloc: Global, group: &Group, tick: u64, stays: bool) -> Result
 }
 
 // The same, laid flat.
-fn laid_flat(alloc: Global, group: &Group, tick: u64, stays: bool) -> Result<Counted, AllocError>
+fn laid_flat(
+    alloc: Global,
+    group: &Group,
+    tick: u64,
+    stays: bool,
+    lightless: bool,
+) -> Result<Counted, AllocError>
     requires near { list_any (is_far tick) (bases group.now) ≡ false }
     requires few { leaf_count group.now ≤ max_leaves }
     requires fits { group_fits group.now ≡ true }
     requires stays { stays ≡ true → entered tick group.now ≡ group.now }
+    requires lightless { lightless ≡ true → is_lightless (entered tick group.now) ≡ true }
     ensures { IfOk result (λ flat. flat ≡ entered tick group.now) }
 {
     let entered = entered_group(alloc, group, tick, stays)?;
     match flatten(alloc, entered) {
-        Ok(flat) => Counted::new(alloc, flat),
+        Ok(flat) => Counted::new(alloc, flat, lightless),
         Err(FlatFault::Memory(_)) => Err(AllocError),
         Err(FlatFault::Leaves(_)) => unreachable!(),
         Err(FlatFault::Deep(_)) => unreachable!(),
@@ -48,15 +56,27 @@ fn laid_flat(alloc: Global, group: &Group, tick: u64, stays: bool) -> Result<Cou
 }
 
 impl State {
-    /// The group as it enters now. One of which that is known enters as it is.
-    pub fn entered(&self, alloc: Global, group: &Group, stays: bool) -> Result<Counted, AllocError>
+    /// The group as it enters now. How it stands is known.
+    pub fn entered(
+        &self,
+        alloc: Global,
+        group: &Group,
+        standing: Standing,
+    ) -> Result<Counted, AllocError>
         requires near { list_any (is_far self.now.tick) (bases group.now) ≡ false }
         requires few { leaf_count group.now ≤ max_leaves }
         requires fits { group_fits group.now ≡ true }
-        requires stays { stays ≡ true → IsWhole self.now group.now }
+        requires standing { IsStanding self.now group.now standing.scoped }
+        requires quiet { standing.quiet ≡ true → IsQuiet self.now group.now }
         ensures { IfOk result (λ flat. flat ≡ entered self.now.tick group.now) }
     {
-        laid_flat(alloc, group, self.now(), stays)
+        laid_flat(
+            alloc,
+            group,
+            self.now(),
+            standing.scoped.is_some(),
+            standing.quiet,
+        )
     }
 
     /// Appends the lights that the leaves wait for: those that are lit to the first list, the others to the second. There is room for them.
@@ -67,6 +87,9 @@ impl State {
         ensures unlit { unlit.new.items ≡ unlit.old.items ++ filter (λ l. not (light_of self.now l)) (lights_in (bases flat.now)) }
         ensures room { (vec_capacity lit.new ≡ vec_capacity lit.old) × (vec_capacity unlit.new ≡ vec_capacity unlit.old) }
     {
+        if flat.is_lightless() {
+            return;
+        }
         for n in 0..flat.len() {
             self.push_light(lit, unlit, flat.leaf(n));
         }

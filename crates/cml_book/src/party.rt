@@ -23,7 +23,6 @@ use crate::counted::Counted;
 use crate::nacks::{enter, settle};
 use crate::state::{State, put};
 use crate::thread::Thread;
-use crate::ticks::uncount_ticks;
 use cml_base::{Register, Source};
 use cml_group::{Chosen, Flat};
 use cml_scan::{Light, Meet};
@@ -221,7 +220,7 @@ fn release(threads: &mut Vec<Thread>, clock: &mut Clock, thread: Tid) -> Flat
     let Some(counted) = threads[place].flat() else {
         unreachable!();
     };
-    uncount_ticks(clock, counted.flat(), counted.len());
+    counted.uncount_ticks(clock);
     let Some(flat) = threads[place].release() else {
         unreachable!();
     };

@@ -134,6 +134,20 @@ impl State {
             ++ lights_in (filter (is_left (bases_awaited (pending self.now)) (bases flat.now) (bases_of other.entry)) (bases flat.now)) }
         ensures room { vec_capacity lights.new ≡ vec_capacity lights.old }
     {
+        if flat.is_tickless() {
+            return;
+        }
+        self.push_each_left(lights, flat, other);
+    }
+
+    // The same, where it is not known that no leaf of the group waits for a tick.
+    #[inline(never)]
+    fn push_each_left(&self, lights: &mut Vec<Light>, flat: &Counted, other: Option<&Counted>)
+        requires { length lights.old.items + leaf_count flat.now ≤ vec_capacity lights.old }
+        ensures lights { lights.new.items ≡ lights.old.items
+            ++ lights_in (filter (is_left (bases_awaited (pending self.now)) (bases flat.now) (bases_of other.entry)) (bases flat.now)) }
+        ensures room { vec_capacity lights.new ≡ vec_capacity lights.old }
+    {
         for n in 0..flat.len() {
             self.push_left_tick(lights, flat, other, flat.leaf(n));
         }

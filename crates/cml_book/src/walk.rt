@@ -8,7 +8,7 @@ ghost use Rattle.cml_book.specs.Entering.{is_far};
 ghost use Rattle.cml_book.specs.Sync as spec;
 ghost use Rattle.cml_book.specs.Sync.{base_exists, is_fresh_for};
 ghost use Rattle.cml_book.specs.Outcomes.{first_if};
-ghost use Rattle.cml_book.specs.Walks.{shape_refusal, enters_as_it_is, IsPlain, IsWhole, IsStanding};
+ghost use Rattle.cml_book.specs.Walks.{shape_refusal, enters_as_it_is, enters_quietly, IsPlain, IsWhole, IsStanding, IsQuiet};
 
 use crate::refusal::Refusal;
 use crate::state::State;
@@ -46,7 +46,11 @@ pub(crate) fn all_bases<P: BaseTest>(test: &P, group: &Group) -> bool
         GroupKind::Leaf(b) => test.passes(b),
         GroupKind::Choose(gs) => {
             for g in gs.iter() {
-                if !all_bases(test, g) {
+                let holds = match g.kind() {
+                    GroupKind::Leaf(b) => test.passes(b),
+                    _ => all_bases(test, g),
+                };
+                if !holds {
                     return false;
                 }
             }
@@ -77,6 +81,14 @@ pub(crate) fn all_nacks<P: NackTest>(test: &P, group: &Group) -> bool
     }
 }
 
+// That no scope is in a leaf, where its base event passes.
+fn walk_leaf<P: BaseTest>(test: &P, base: &Base) -> Option<bool>
+    ensures passes { IfSome result (λ scoped. P.passes test.now base.now ≡ true) }
+    ensures plain { IfSome result (λ scoped. scoped ≡ false) }
+{
+    if test.passes(base) { Some(false) } else { None }
+}
+
 /// Whether a scope is in the group, where all its base events pass. The walk stops at the first that does not.
 #[tactic(auto, using(crate::proofs::Walks::base_steps, crate::proofs::Walks::nack_steps))]
 pub(crate) fn walk_whole<P: BaseTest>(test: &P, group: &Group) -> Option<bool>
@@ -86,11 +98,15 @@ pub(crate) fn walk_whole<P: BaseTest>(test: &P, group: &Group) -> Option<bool>
 {
     match group.kind() {
         GroupKind::Never => Some(false),
-        GroupKind::Leaf(b) => { if test.passes(b) { Some(false) } else { None } }
+        GroupKind::Leaf(b) => walk_leaf(test, b),
         GroupKind::Choose(gs) => {
             let mut scoped = false;
             for g in gs.iter() {
-                if walk_whole(test, g)? {
+                let found = match g.kind() {
+                    GroupKind::Leaf(b) => walk_leaf(test, b)?,
+                    _ => walk_whole(test, g)?,
+                };
+                if found {
                     scoped = true;
                 }
             }
@@ -172,6 +188,36 @@ impl<'a> BaseTest for AsItIs<'a> {
     }
 }
 
+// What exists: a base event must name what does, enter as it is, and look at no light.
+#[derive(Drop)]
+struct Quiet<'a> {
+    state: &'a State,
+}
+
+impl<'a> BaseTest for Quiet<'a> {
+    ghost passes = { λ s b. enters_quietly s.state.now b };
+
+    fn passes(&self, base: &Base) -> bool {
+        let state = self.state;
+        match base.kind() {
+            BaseKind::Always(_) => true,
+            BaseKind::Send(c, _) => c.0 < state.channels,
+            BaseKind::Recv(c) => c.0 < state.channels,
+            BaseKind::Swap(s, _) => s.0 < state.swaps,
+            _ => false,
+        }
+    }
+}
+
+/// What is known of a group.
+#[derive(Clone, Copy)]
+pub struct Standing {
+    /// That it enters as it is and names what exists; and then, whether a scope is in it.
+    pub scoped: Option<bool>,
+    /// That no leaf of it looks at a light either.
+    pub quiet: bool,
+}
+
 // A thread that begins to wait: the nack of a scope must be fresh, and this thread's.
 #[derive(Drop)]
 struct FreshFor<'a> {
@@ -191,11 +237,22 @@ impl<'a> NackTest for FreshFor<'a> {
 }
 
 impl State {
-    /// Whether the group has a scope, where it is known that it enters as it is and names what exists: one walk says so.
-    pub fn standing(&self, group: &Group) -> Option<bool>
-        ensures { IsStanding self.now group.now result }
+    /// What is known of the group. One walk says it of a group over channels alone; of another, two, the first of which stops at the first
+    /// light.
+    pub fn standing(&self, group: &Group) -> Standing
+        ensures standing { IsStanding self.now group.now result.scoped }
+        ensures quiet { result.quiet ≡ true → IsQuiet self.now group.now }
     {
-        walk_whole(&AsItIs { state: self }, group)
+        match walk_whole(&Quiet { state: self }, group) {
+            Some(scoped) => Standing {
+                scoped: Some(scoped),
+                quiet: true,
+            },
+            None => Standing {
+                scoped: walk_whole(&AsItIs { state: self }, group),
+                quiet: false,
+            },
+        }
     }
 
     // Why the thread can't wait on the group, which enters as it is and has no scope, if it can't.

@@ -1,14 +1,14 @@
 use Rattle.std.proofs.Common.{◌<◌, ◌∙◌, sym, ap, arith, length}
 use Rattle.std.specs.Option.{option_copied, option_and_then}
 use Rattle.cml_book.specs.Threads.{flat_of}
-use Rattle.cml_book.proofs.Awaited.{waits_at, all_there, all_left, counts-resume}
+use Rattle.cml_book.proofs.Awaited.{waits_at, counts_there, counts-resume}
 use Rattle.cml_book.proofs.party.release.Goals as goal
 
-pub uncount_ticks-requires-clause-counted : goal.uncount_ticks-requires-clause-counted
-uncount_ticks-requires-clause-counted c =
+pub uncount_ticks-requires : goal.uncount_ticks-requires
+uncount_ticks-requires c =
     let below : c.args.thread.0 < length c.args.threads.now.items = omega (arith, c.if-place-len.false, c.len.ensures) in
     let waits = waits_at _ c.args.thread.0 _ _ c.in-Some.counted.now below c.index.ensures (sym c.flat.ensures ∙ ap option_copied c.in-Some.is) in
-    λ t. rw (c.flat-2.ensures) (all_there t _ _ _ _ _ waits c.len-2.ensures c.requires.counts)
+    λ t. counts_there t _ c.args.thread.0 c.in-Some.counted.now _ waits c.requires.counts
 
 pub returns-clause-group : goal.returns-clause-group
 returns-clause-group c =
@@ -20,5 +20,4 @@ pub returns-clause-counts : goal.returns-clause-counts
 returns-clause-counts c =
     let below : c.args.thread.0 < length c.args.threads.now.items = omega (arith, c.if-place-len.false, c.len.ensures) in
     let waits = waits_at _ c.args.thread.0 _ _ c.in-Some.counted.now below c.index.ensures (sym c.flat.ensures ∙ ap option_copied c.in-Some.is) in
-    let left = rw (c.flat-2.ensures) at c.uncount_ticks.ensures.left in
-    rw c.release.ensures.runs (counts-resume _ c.args.thread.0 c.in-Some.counted.now _ _ waits (all_left c.in-Some.counted.now _ _ _ c.len-2.ensures left) c.requires.counts)
+    rw c.release.ensures.runs (counts-resume _ c.args.thread.0 c.in-Some.counted.now _ _ waits c.uncount_ticks.ensures.left c.requires.counts)

@@ -5,14 +5,13 @@ use Rattle.cml_scan.specs.Light.{light_of}
 use Rattle.cml_scan.specs.declared.object.Light.{Light}
 use Rattle.cml_book.specs.Sync.{sync_refusal, waiting}
 use Rattle.cml_book.specs.Keeping.{lights_in, Room, Keeps}
-use Rattle.cml_book.specs.Walks.{IsWhole}
+use Rattle.cml_book.specs.Walks.{IsStanding, IsQuiet}
 use Rattle.cml_book.proofs.Pendings.{running_is_new}
 use Rattle.cml_book.proofs.Accepted.{Accepted, accepted}
 use Rattle.cml_book.proofs.Commits.{flat_is, found}
 use Rattle.cml_book.proofs.Keepings.{keeps_same, keeps_roomier}
 use Rattle.cml_book.proofs.Syncs.{sync_refused, sync_accepted, apart_of, enters_flat, keeps_arrives, waits_now, fresh_now, entered_now, back_now, fits_same, grows_same}
 use Rattle.cml_book.proofs.AwaitedLights.{split_all}
-use Rattle.cml_book.proofs.Plain.{standing_stays}
 use Rattle.cml_book.proofs.book.Book.sync.Given.{Over}
 use Rattle.cml_book.proofs.book.Book.sync.Goals.{In_default}
 use Rattle.cml_book.proofs.book.Book.sync.Goals as goal
@@ -37,10 +36,13 @@ returns-in_default-wait g c =
     let none : sync_refusal c.self.inside.state c.args.thread.0 c.args.group.now ≡ None = sym c.sync_refusal.ensures.why ∙ c.in_default.is in
     (rw (← c.self.view_is) (rw (sync_accepted c.self.inside.state c.args.thread.0 c.args.group.now none) refl), c.in_default-wait.ensures.err ∙ c.sync_refusal.ensures.same ∙ c.self.view_is)
 
-pub entered-requires-clause-stays : goal.entered-requires-clause-stays
-entered-requires-clause-stays g c = λ is.
-    let whole = standing_stays c.self.inside.state c.args.group.now c.standing-standing.result c.standing-standing.ensures (sym c.is_some.ensures ∙ is) in
-    subst (λ (x : PlainWorld). IsWhole x c.args.group.now) (sym c.sync_refusal.ensures.same) whole
+pub entered-requires-clause-standing : goal.entered-requires-clause-standing
+entered-requires-clause-standing g c =
+    subst (λ (x : PlainWorld). IsStanding x c.args.group.now c.standing-standing.result.scoped) (sym c.sync_refusal.ensures.same) c.standing-standing.ensures.standing
+
+pub entered-requires-clause-quiet : goal.entered-requires-clause-quiet
+entered-requires-clause-quiet g c = λ is.
+    subst (λ (x : PlainWorld). IsQuiet x c.args.group.now) (sym c.sync_refusal.ensures.same) (c.standing-standing.ensures.quiet is)
 
 -- the wait is not refused
 none_here : (g : Over) (c : In_default g) → sync_refusal c.sync_refusal.new.self c.args.thread.0 c.args.group.now ≡ None

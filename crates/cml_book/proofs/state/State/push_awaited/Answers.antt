@@ -1,8 +1,21 @@
-use Rattle.std.proofs.Common.{not, add-one, length, length-append, ap, ◌∙◌, arith}
-use Rattle.cml_value.specs.Group.{leaves}
+use Rattle.std.proofs.Common.{not, ◌++◌, add-one, length, length-append, ap, sym, ◌∙◌, arith}
+use Rattle.std.specs.List.{filter}
+use Rattle.std.proofs.lemmas.List.{append-nil}
+use Rattle.cml_value.specs.Group.{bases, leaves}
 use Rattle.cml_scan.specs.Light.{light_of}
 use Rattle.cml_book.proofs.AwaitedLights.{split_step, split_few}
+use Rattle.cml_book.proofs.Quiet.{none_lit}
 use Rattle.cml_book.proofs.state.State.push_awaited.Goals as goal
+
+pub returns-then-is_lightless-clause-lit : goal.returns-then-is_lightless-clause-lit
+returns-then-is_lightless-clause-lit c =
+    let none = none_lit (bases c.args.flat.now) (c.is_lightless.ensures c.if-is_lightless.true) in
+    sym (append-nil c.args.lit.now.items) ∙ ap (λ ls. c.args.lit.now.items ++ filter (light_of c.args.self.now) ls) (sym none)
+
+pub returns-then-is_lightless-clause-unlit : goal.returns-then-is_lightless-clause-unlit
+returns-then-is_lightless-clause-unlit c =
+    let none = none_lit (bases c.args.flat.now) (c.is_lightless.ensures c.if-is_lightless.true) in
+    sym (append-nil c.args.unlit.now.items) ∙ ap (λ ls. c.args.unlit.now.items ++ filter (λ l. not (light_of c.args.self.now l)) ls) (sym none)
 
 pub loop-n-preserved : goal.loop-n-preserved
 loop-n-preserved c =

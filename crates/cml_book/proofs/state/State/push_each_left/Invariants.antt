@@ -6,7 +6,7 @@ use Rattle.cml_scan.specs.World.{pending}
 use Rattle.cml_book.specs.Clock.{bases_awaited}
 use Rattle.cml_book.specs.Keeping.{lights_in}
 use Rattle.cml_book.specs.Leaving.{is_left, bases_of}
-use Rattle.cml_book.proofs.state.State.push_left_ticks.Given as goal
+use Rattle.cml_book.proofs.state.State.push_each_left.Given as goal
 
 -- what stands there, and what is left, are the lights of all; and there is room for what is left
 abbrev pub invariant-loop-n : goal.invariant-loop-n
