@@ -2,7 +2,7 @@ use Rattle.std.proofs.Common.{◌<◌, ◌∙◌, sym, ap, arith, length}
 use Rattle.std.specs.Option.{option_copied, option_and_then}
 use Rattle.cml_book.specs.Threads.{flat_of}
 use Rattle.cml_book.proofs.Awaited.{waits_at, counts_there, counts-resume}
-use Rattle.cml_book.proofs.party.release.Goals as goal
+use Rattle.cml_book.proofs.pending.release.Goals as goal
 
 pub uncount_ticks-requires : goal.uncount_ticks-requires
 uncount_ticks-requires c =

@@ -1,34 +1,27 @@
-//! The parties of a row that is taken.
+//! Pending threads: how a thread begins to wait on a group, is withdrawn, and goes on from one of its leaves.
 
-ghost use Rattle.std.specs.Prelude.{◌≡◌, ℕ, ◌<◌, ◌≤◌, ◌+◌, ◌^◌, ◌++◌, true, false, Some, None, IsTrue, IsOk, IsSome, IfOk, OnOk, OnErr, length, map, slice_get, slice_set};
-ghost use Rattle.std.specs.Option.{option_copied, option_and_then, option_map_or};
-ghost use Rattle.std.specs.Vec.{vec_capacity};
+ghost use Rattle.std.specs.Prelude.{◌≡◌, ℕ, ◌<◌, ◌≤◌, ◌+◌, ◌^◌, Some, IsSome, OnOk, OnErr, slice_get, slice_set};
+ghost use Rattle.std.specs.Option.{option_copied, option_and_then};
 ghost use Rattle.cml_value.specs.Group.{bases, leaf_count, scopes, nacks_of, lost};
-ghost use Rattle.cml_base.specs.Registered.{lit_at};
 ghost use Rattle.cml_signal.specs.Clocks.{leaves_at};
 ghost use Rattle.cml_group.specs.LaidOut.{max_leaves};
 ghost use Rattle.cml_group.specs.Leaves.{pick, numbers};
 ghost use Rattle.cml_scan.specs.World.{running, pending_on, live};
 ghost use Rattle.cml_book.specs.Outcomes.{with_thread};
 ghost use Rattle.cml_book.specs.Sync.{with_each};
-ghost use Rattle.cml_book.specs.Commit as spec;
-ghost use Rattle.cml_book.specs.Commit.{awaited, base_awaited, group_awaited, released, settled, copied, is_read};
+ghost use Rattle.cml_book.specs.Commit.{awaited, group_awaited, released, settled};
 ghost use Rattle.cml_book.specs.Keeping.{AreFresh, AreLiveNacks, Counts, times_awaited};
-ghost use Rattle.cml_book.specs.Leaving.{can_give, turned_off};
 ghost use Rattle.cml_book.specs.Parties.{WaitsOn};
-ghost use Rattle.cml_book.specs.Swaps.{is_swap, are_swaps};
 ghost use Rattle.cml_book.specs.Threads.{flat_of};
 
 use crate::counted::Counted;
 use crate::nacks::{enter, settle};
 use crate::state::{State, put};
 use crate::thread::Thread;
-use cml_base::{Register, Source};
+use cml_base::Register;
 use cml_group::{Chosen, Flat};
-use cml_scan::{Light, Meet};
 use cml_signal::{Clock, NackCell};
-use cml_syncvar::MVarWant;
-use cml_value::{Base, BaseKind, Tid, Value, ValueKind};
+use cml_value::Tid;
 use std::alloc::AllocError;
 
 impl State {
@@ -77,32 +70,6 @@ impl State {
         }
     }
 
-    /// Whether the row is a pair, and both its leaves are swaps.
-    pub fn are_swaps(&self, row: &Meet) -> bool
-        ensures { result ≡ are_swaps self.now row.now }
-    {
-        match row {
-            Meet::Single { .. } => false,
-            Meet::Pair {
-                head,
-                head_leaf,
-                other,
-                other_leaf,
-            } => self.swaps_at(*head, *head_leaf) && self.swaps_at(*other, *other_leaf),
-        }
-    }
-
-    // Whether the thread waits, and swaps at this leaf of its group.
-    fn swaps_at(&self, thread: Tid, leaf: u32) -> bool
-        ensures { result ≡ is_swap (base_awaited self.now thread.0 leaf) }
-    {
-        let Some(flat) = self.waiting(thread) else {
-            return false;
-        };
-        let place = leaf as usize;
-        place < flat.len() && matches!(flat.leaf(place).kind(), BaseKind::Swap(_, _))
-    }
-
     /// Has the thread go on from this leaf of its group, and settles the group's nacks: each fires or is held.
     pub fn go_on(&mut self, thread: Tid, leaf: u32) -> Chosen
         requires { WaitsOn self.old.threads self.old.nacks thread.0 leaf (group_awaited self.old thread.0) }
@@ -115,92 +82,6 @@ impl State {
         settle_all(&mut self.nacks, &self.threads, thread, leaf as usize);
         let flat = release(&mut self.threads, &mut self.clock, thread);
         flat.choose(leaf as usize)
-    }
-
-    /// The copy that `given` needs for the base event, which can be taken alone.
-    ///
-    /// # Errors
-    /// Out of memory, where the event reads a variable and leaves its value there.
-    pub fn spare(&self, base: &Base) -> Result<Option<Value>, AllocError>
-        requires { can_give self.now base.now ≡ true }
-        ensures copy { IfOk result (λ copy. copy ≡ copied self.now base.now) }
-        ensures sure { is_read base.now ≡ false → IsOk result }
-    {
-        match base.kind() {
-            BaseKind::IGet(i) => spare_of(&self.ivars, i.0, &()),
-            BaseKind::MGet(m) => spare_of(&self.mvars, m.0, &MVarWant::Get),
-            _ => Ok(None),
-        }
-    }
-
-    /// Takes the base event alone: changes its object, and returns its value. The copy is the one that `spare` returned.
-    pub fn given(&mut self, base: Base, copy: Option<Value>) -> Value
-        requires stock { can_give self.old base ≡ true }
-        requires copy { copy ≡ copied self.old base }
-        ensures value { result ≡ spec.given self.old base }
-        ensures world { self.new ≡ spec.taken self.old base }
-    {
-        match base.into_kind() {
-            BaseKind::Always(value) => value,
-            BaseKind::IGet(i) => self.ivars.give(i.0, (), copy),
-            BaseKind::MTake(m) => self.mvars.give(m.0, MVarWant::Take, copy),
-            BaseKind::MGet(m) => self.mvars.give(m.0, MVarWant::Get, copy),
-            BaseKind::MSwap(m, value) => self.mvars.give(m.0, MVarWant::Swap(value), copy),
-            BaseKind::MailRecv(b) => self.mailboxes.give(b.0, (), copy),
-            BaseKind::PortRecv(p) => self.ports.give(p.0, (), copy),
-            _ => Value::new(ValueKind::Unit),
-        }
-    }
-
-    /// Appends the light that is turned off when the base event is taken alone, if one is. There is room for it.
-    pub fn push_turned_off(&self, lights: &mut Vec<Light>, base: &Base)
-        requires stock { can_give self.now base.now ≡ true }
-        requires room { length lights.old.items + 1 ≤ vec_capacity lights.old }
-        ensures lights { lights.new.items ≡ lights.old.items ++ turned_off self.now base.now }
-        ensures room { vec_capacity lights.new ≡ vec_capacity lights.old }
-    {
-        match base.kind() {
-            BaseKind::MTake(m) => lights.push_reserved(Light::MVar(*m)),
-            BaseKind::MailRecv(b) => {
-                if !stays_lit(&self.mailboxes, b.0, &()) {
-                    lights.push_reserved(Light::Mbox(*b));
-                }
-            }
-            BaseKind::PortRecv(p) => {
-                if !stays_lit(&self.ports, p.0, &()) {
-                    lights.push_reserved(Light::Port(*p));
-                }
-            }
-            _ => (),
-        }
-    }
-}
-
-// The copy that the object of this number, which is lit, needs for the want.
-fn spare_of<K: Source>(
-    objects: &Register<K>,
-    id: u32,
-    want: &K::Want,
-) -> Result<Option<Value>, AllocError>
-    requires { IsTrue (lit_at K.is_lit (map K.state objects.now.objects) id) }
-    ensures { IfOk result (λ copy. copy ≡
-        option_map_or (λ s. K.spared s want.now) (slice_get (map K.state objects.now.objects) id) None) }
-{
-    match objects.get(id) {
-        Some(object) => object.spare(want),
-        None => Ok(None),
-    }
-}
-
-// Whether the object of this number, which is lit, stays lit after it gave its value to this want (a take, a read, a swap).
-fn stays_lit<K: Source>(objects: &Register<K>, id: u32, want: &K::Want) -> bool
-    requires { IsTrue (lit_at K.is_lit (map K.state objects.now.objects) id) }
-    ensures { result ≡
-        option_map_or (λ s. K.is_lit (K.after s want.now)) (slice_get (map K.state objects.now.objects) id) false }
-{
-    match objects.get(id) {
-        Some(object) => object.stays_lit_after(want),
-        None => false,
     }
 }
 
