@@ -205,7 +205,7 @@ impl Narrator<'_> {
         Ok(words)
     }
 
-    // TellsItem a turn.
+    // Tells of a turn.
     #[tactic(auto, using(crate::proofs::TellLemmas::unfollowed))]
     fn tell_turn(
         &mut self,
@@ -227,7 +227,7 @@ impl Narrator<'_> {
         }
     }
 
-    // TellsItem a turn that comes to this.
+    // Tells of a turn that comes to this.
     fn tell_planned(
         &mut self,
         alloc: Global,
@@ -258,7 +258,7 @@ impl Narrator<'_> {
         Ok(true)
     }
 
-    // TellsItem a commit.
+    // Tells of a commit.
     fn tell_commit(
         &mut self,
         alloc: Global,
@@ -287,7 +287,7 @@ impl Narrator<'_> {
         Ok(true)
     }
 
-    // TellsItem a move of the time.
+    // Tells of a move of the time.
     fn tell_clock(
         &mut self,
         alloc: Global,

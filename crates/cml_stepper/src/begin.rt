@@ -11,7 +11,7 @@ use cml_text::Sexpr;
 use std::alloc::{AllocError, Global};
 
 impl<'a> Stepper<'a> {
-    /// HappensSaid through a run of the script of this name, text and forms, from its first item on.
+    /// Goes through a run of the script of this name, text and forms, from its first item on.
     ///
     /// # Errors
     /// Out of memory.
