@@ -1,5 +1,5 @@
 -- Groups of which no leaf waits for a tick, or of which no leaf looks at a light.
-use Rattle.std.proofs.Common.{◌≡◌, ℕ, Bool, true, false, cond, List, [], ◌∷◌, refl, ap, ◌∙◌, Option, Some, None}
+use Rattle.std.proofs.Common.{◌≡◌, ℕ, true, false, cond, List, [], ◌∷◌, refl, ap, ◌∙◌, Option, Some, None}
 use Rattle.std.specs.Prelude.{is_none}
 use Rattle.std.specs.List.{list_all, filter, cons_option}
 use Rattle.std.proofs.lemmas.Bool.{and_parts, and_from}

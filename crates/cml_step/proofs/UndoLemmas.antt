@@ -1,7 +1,7 @@
 -- What is noted of a call, and undone.
 use Rattle.std.specs.Prelude.{OnOk}
 use Rattle.std.proofs.Common.{Result, Ok, Err, ◌≡◌, ◌≤◌, ℕ, zero, suc, Bool, true, false, Option, Some, None, List, [], ◌∷◌, ◌++◌, length, take, set, get_or, refl, ap, sym, ◌∙◌, subst, arith}
-use Rattle.cml_value.specs.Value.{PlainValue, PlainEvent}
+use Rattle.cml_value.specs.Value.{PlainValue}
 use Rattle.cml_step.specs.declared.call.Call.{Call}
 use Rattle.cml_step.specs.declared.entry.Entry.{Entry}
 use Rattle.cml_step.specs.declared.entry.Entry.TheVariants as entry
@@ -10,9 +10,9 @@ use Rattle.cml_step.specs.declared.journal.Journal.{Journal}
 use Rattle.cml_step.specs.declared.ask.Ask.{Ask}
 use Rattle.cml_step.specs.declared.still.Begun.{Begun}
 use Rattle.cml_step.specs.Begins.{BeginsSlice}
-use Rattle.cml_step.specs.Machines.{PlainHeld, PlainMachine, call, force, plain_held}
-use Rattle.cml_step.specs.Shared.{topped, called, HasNoCallOnTop}
-use Rattle.cml_step.specs.Undone.{unset, call_before, stack_before, stood, HasHead, HasSlotsOf, HasNotes}
+use Rattle.cml_step.specs.Machines.{PlainHeld, PlainMachine, call, plain_held}
+use Rattle.cml_step.specs.Shared.{topped, called, HasNoCall, HasNoCallOnTop}
+use Rattle.cml_step.specs.Undone.{unset, call_before, stack_before, stood, wrapped, HasHead, HasSlotsOf, HasNotes}
 use Rattle.cml_step.proofs.CallLemmas.{take_all}
 use Rattle.cml_check.specs.Syntax.{PlainItem}
 use Rattle.cml_check.specs.InOrder.{arities}
@@ -56,7 +56,7 @@ pub same_had : (old : Call) → HasSlotsOf old old
 same_had old = kept_had old old refl refl
 
 -- the call as it was, where what was set is noted, and slots may have been added since
-pub before_same : (below : List PlainHeld) (j : Journal) (old mid new : Call) (over : Option Entry) → HasHead j old → j.over ≡ over → HasNotes [] old j.sets.items mid → HasSlotsOf mid new →
+pub before_same : (below : List PlainHeld) (j : Journal) (old mid new : Call) (over : Option Entry) → HasHead j old → wrapped j.over ≡ over → HasNotes [] old j.sets.items mid → HasSlotsOf mid new →
     stack_before below j new ≡ stood below old over
 before_same below j old mid new over head is noted had =
     let many : j.count ≡ length mid.slots.items = head.count ∙ sym noted.count in
@@ -66,14 +66,16 @@ before_same below j old mid new over head is noted had =
     ∙ ap (λ at. call old.func at (unset j.sets.items (take j.count new.slots.items)) j.wait) head.at
     ∙ ap (λ vs. call old.func old.at vs j.wait) slots
     ∙ ap (λ w. call old.func old.at old.slots.items w) head.wait in
-    ap (λ h. topped (below ++ h ∷ []) j.over) same ∙ ap (λ o. topped (below ++ plain_held (entry.Call old) ∷ []) o) is
+    ap (λ h. topped (below ++ h ∷ []) (wrapped j.over)) same ∙ ap (λ o. topped (below ++ plain_held (entry.Call old) ∷ []) o) is
 
--- the same call, as the journal has it
+-- a call of the same function with the same slots, as the journal has it
+pub kept_before : (j : Journal) (c d : Call) → d.func ≡ c.func → d.slots.items ≡ c.slots.items → call_before j d ≡ call_before j c
+kept_before j c d f s =
+    ap (λ n. call n j.at (unset j.sets.items (take j.count d.slots.items)) j.wait) f
+    ∙ ap (λ vs. call c.func j.at (unset j.sets.items (take j.count vs)) j.wait) s
+
 pub same_before : (j : Journal) (c d : Call) → plain_held (entry.Call d) ≡ plain_held (entry.Call c) → call_before j d ≡ call_before j c
-same_before j c d is =
-    let f : d.func ≡ c.func = cc in
-    let s : d.slots.items ≡ c.slots.items = cc in
-    ap (λ n. call n j.at (unset j.sets.items (take j.count d.slots.items)) j.wait) f ∙ ap (λ vs. call c.func j.at (unset j.sets.items (take j.count vs)) j.wait) s
+same_before j c d is = kept_before j c d (cc) (cc)
 
 -- a run of the call on top, over which nothing stands
 pub run_in : (p : List (PlainItem ℕ)) (self n : ℕ) (hs : List PlainHeld) (c d : Call) (over : Option Entry) → over ≡ None →
@@ -86,21 +88,40 @@ run_in p self n hs c d over none goes =
 pub run_fits : (p : List (PlainItem ℕ)) (hs : List PlainHeld) (c d : Call) (over : Option Entry) → over ≡ None → StackFits p (stood hs c over) → CallFits p d → StackFits p (stood hs d over)
 run_fits p hs c d over none fits f = same_fits p hs (stood hs c over) (stood hs d over) c d (ap (stood hs c) none) (ap (stood hs d) none) fits f
 
--- where an event stands over a call, that call lies in its place
+-- the entry is a call
+held_call : (e : Entry) (c : Call) → plain_held e ≡ plain_held (entry.Call c) → (d : Call) × (e ≡ entry.Call d)
+held_call (entry.Call d) c h = (d, refl)
+held_call (entry.Force g asked) c h = absurd (cc)
+held_call (entry.Wraps w) c h = absurd (cc)
+
+no_call_held : (e : Entry) (c : Call) → HasNoCall (Some e) → plain_held e ≡ plain_held (entry.Call c) → ⊥
+no_call_held e c free h = let d = held_call e c h in free d.0 (ap Some d.1)
+
+-- a call over which no other stands lies in its place
 abbrev pub IsPlaced : Option Call → List PlainHeld → List PlainHeld → Call → Type 0
 IsPlaced own hs below c = (d : Call) × (own ≡ Some d) × (hs ≡ below) × (plain_held (entry.Call d) ≡ plain_held (entry.Call c))
 
-pub in_place : (hs : List PlainHeld) (own : Option Call) (over : Option Entry) → (over ≡ None → own ≡ None → hs ≡ []) → (own ≡ None → HasNoCallOnTop hs) →
-    (below : List PlainHeld) (c : Call) (x : PlainEvent) (w : Bool) → topped (called hs own) over ≡ (below ++ plain_held (entry.Call c) ∷ []) ++ force x w ∷ [] → IsPlaced own hs below c
+pub in_place : (hs : List PlainHeld) (own : Option Call) (over : Option Entry) → (over ≡ None → own ≡ None → hs ≡ []) →
+    (own ≡ None → HasNoCallOnTop hs) → HasNoCall over → (below : List PlainHeld) (c : Call) (on : Option Entry) → HasNoCall on →
+    topped (called hs own) over ≡ stood below c on → IsPlaced own hs below c
 unfolding HasNoCallOnTop
-in_place hs None None empty placed below c x w e = absurd (nothing_on_top (below ++ plain_held (entry.Call c) ∷ []) (force x w) (sym e ∙ empty refl refl))
-in_place hs (Some d) None empty placed below c x w e =
-    let t = top_and_rest hs (below ++ plain_held (entry.Call c) ∷ []) (plain_held (entry.Call d)) (force x w) e in
-    let n : plain_held (entry.Call d) ≡ force x w = t.1 in absurd (cc)
-in_place hs None (Some o) empty placed below c x w e =
-    absurd (placed refl below c (top_and_rest hs (below ++ plain_held (entry.Call c) ∷ []) (plain_held o) (force x w) e).0)
-in_place hs (Some d) (Some o) empty placed below c x w e =
-    let t = top_and_rest (hs ++ plain_held (entry.Call d) ∷ []) (below ++ plain_held (entry.Call c) ∷ []) (plain_held o) (force x w) e in
+in_place hs None None empty placed free below c None none e = absurd (nothing_on_top below (plain_held (entry.Call c)) (sym e ∙ empty refl refl))
+in_place hs None None empty placed free below c (Some o) none e =
+    absurd (nothing_on_top (below ++ plain_held (entry.Call c) ∷ []) (plain_held o) (sym e ∙ empty refl refl))
+in_place hs (Some d) None empty placed free below c None none e =
+    let r = top_and_rest hs below (plain_held (entry.Call d)) (plain_held (entry.Call c)) e in
+    (d, refl, r.0, r.1)
+in_place hs (Some d) None empty placed free below c (Some o) none e =
+    let t = top_and_rest hs (below ++ plain_held (entry.Call c) ∷ []) (plain_held (entry.Call d)) (plain_held o) e in
+    absurd (no_call_held o d none (sym t.1))
+in_place hs None (Some x) empty placed free below c None none e =
+    absurd (no_call_held x c free (top_and_rest hs below (plain_held x) (plain_held (entry.Call c)) e).1)
+in_place hs None (Some x) empty placed free below c (Some o) none e =
+    absurd (placed refl below c (top_and_rest hs (below ++ plain_held (entry.Call c) ∷ []) (plain_held x) (plain_held o) e).0)
+in_place hs (Some d) (Some x) empty placed free below c None none e =
+    absurd (no_call_held x c free (top_and_rest (hs ++ plain_held (entry.Call d) ∷ []) below (plain_held x) (plain_held (entry.Call c)) e).1)
+in_place hs (Some d) (Some x) empty placed free below c (Some o) none e =
+    let t = top_and_rest (hs ++ plain_held (entry.Call d) ∷ []) (below ++ plain_held (entry.Call c) ∷ []) (plain_held x) (plain_held o) e in
     let r = top_and_rest hs below (plain_held (entry.Call d)) (plain_held (entry.Call c)) t.0 in
     (d, refl, r.0, r.1)
 

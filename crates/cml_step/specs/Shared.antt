@@ -50,6 +50,14 @@ HoldsNoValue [] = Unit {0}
 HoldsNoValue (call f at slots w ∷ hs) = (slots ≡ []) × HoldsNoValue hs
 HoldsNoValue (h ∷ hs) = ⊥
 
+-- the entry is no call
+abbrev pub IsNoCall : Entry → Type 0
+IsNoCall e = (c : Call) → e ≡ entry.Call c → ⊥
+
+-- no call stands there
+abbrev pub HasNoCall : Option Entry → Type 0
+HasNoCall over = (c : Call) → over ≡ Some (entry.Call c) → ⊥
+
 -- the top one of these entries, if there is one, is no call
 unfoldable pub HasNoCallOnTop : List PlainHeld → Type 0
 HasNoCallOnTop hs = (gs : List PlainHeld) (c : Call) → hs ≡ gs ++ plain_held (entry.Call c) ∷ [] → ⊥

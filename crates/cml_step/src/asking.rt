@@ -144,6 +144,7 @@ fn ask_waits(
     ensures agrees { result ≡ true → ask_agrees (arities program.now) (plain_ask asked.new) ≡ true }
     ensures something { result ≡ true → asked.new ≡ Ask.Nothing → ⊥ }
     ensures stays { result ≡ false → (call.new ≡ call.old) × (asked.new ≡ asked.old) }
+    ensures kept { (call.new.func ≡ call.old.func) × (call.new.slots ≡ call.old.slots) }
     ensures fits { CallFits program.now call.new }
 {
     match effect_asked(program, f, effect, call.slots.as_slice()) {
@@ -168,6 +169,7 @@ pub(crate) fn ask_step(program: &Prog, call: &mut Call, asked: &mut Ask) -> bool
     ensures agrees { result ≡ true → ask_agrees (arities program.now) (plain_ask asked.new) ≡ true }
     ensures something { result ≡ true → asked.new ≡ Ask.Nothing → ⊥ }
     ensures stays { result ≡ false → (call.new ≡ call.old) × (asked.new ≡ asked.old) }
+    ensures kept { (call.new.func ≡ call.old.func) × (call.new.slots ≡ call.old.slots) }
     ensures fits { CallFits program.now call.new }
 {
     if call.wait != Wait::Runs {

@@ -2,7 +2,7 @@
 
 ghost use Rattle.std.specs.Prelude.{◌≡◌, ◌↔◌, ◌++◌, ◌+◌, ◌<◌, ◌≤◌, ◌∷◌, List, [], false, None, length, IfOk, OnErr, IsTrue, MatchOption, option_copied};
 ghost use Rattle.cml_step.specs.Machines.{PlainHeld, plain_held};
-ghost use Rattle.cml_step.specs.Shared.{TakesOff, frame_entries, left_of, topped, called, plain_seen, entries_left, HoldsNoValue, HasNoCallOnTop};
+ghost use Rattle.cml_step.specs.Shared.{TakesOff, frame_entries, left_of, topped, called, plain_seen, entries_left, HoldsNoValue, IsNoCall, HasNoCall, HasNoCallOnTop};
 ghost use Rattle.cml_step.specs.Undone.{stack_before};
 
 use crate::call::Call;
@@ -212,7 +212,7 @@ impl Frames {
 }
 
 /// The entries of a stack that takes steps. What is on top lies in the stack itself: a call, and over it what it waits for, if there is
-/// such an entry. Where both places are empty nothing is on the stack, and no call lies below an empty place.
+/// such an entry. No other call stands over it. Where both places are empty nothing is on the stack, and no call lies below an empty place.
 #[derive(Drop)]
 pub(crate) struct Stack {
     pub(crate) over: Option<Entry>,
@@ -230,13 +230,13 @@ impl Model for Stack {
 
     ghost coded = { coded_list held_code };
 
-    ghost use Rattle.cml_step.specs.Shared.{topped, called, HasNoCallOnTop};
+    ghost use Rattle.cml_step.specs.Shared.{topped, called, HasNoCall, HasNoCallOnTop};
 
     ghost view = { λ a. topped (called a.below a.call) a.over };
 
     // So an answer that puts nothing on the stack takes no memory, and neither does what is put back into a call.
     ghost invariant = { λ a. (a.over ≡ None → a.call ≡ None → a.below ≡ [])
-        × (a.call ≡ None → HasNoCallOnTop a.below) };
+        × (a.call ≡ None → HasNoCallOnTop a.below) × HasNoCall a.over };
 }
 
 // Makes the entry a copy of the other, if there is one.
@@ -248,6 +248,7 @@ fn copy_over_into(
     ensures same { IfOk result (λ _. (hs : List PlainHeld) →
         topped hs mine.new ≡ topped hs other.now) }
     ensures there { IfOk result (λ _. mine.new ≡ None → other.now ≡ None) }
+    ensures no_call { HasNoCall mine.old → HasNoCall other.now → HasNoCall mine.new }
 {
     match other {
         None => {
@@ -417,6 +418,7 @@ fn lift(
     ensures same { IfOk result (λ _. topped (called below.new call.new) over.new ≡ below.old) }
     ensures lifted { over.new ≡ None → call.new ≡ None → below.new ≡ [] }
     ensures raised { call.new ≡ None → HasNoCallOnTop below.new }
+    ensures no_call { HasNoCall over.new }
 {
     let all = replace(below, Frames::new());
     let (entry, rest) = all.parts(alloc)?;
@@ -532,6 +534,7 @@ impl Stack {
     // Puts another entry on top.
     #[tactic(auto, using(crate::proofs::StackLemmas::no_call_in_none))]
     fn push_over(&mut self, alloc: Global, entry: Entry) -> Result<(), AllocError>
+        requires { IsNoCall entry }
         ensures items { IfOk result (λ _. self.new ≡ self.old ++ plain_held entry ∷ []) }
     {
         if self.over.is_none() {

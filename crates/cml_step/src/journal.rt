@@ -3,10 +3,11 @@
 ghost use Rattle.std.specs.Prelude.{◌≡◌, ◌<◌, length, true, false, None, [], slice_set};
 ghost use Rattle.cml_step.specs.Calls.{slots_with, WaitFits};
 ghost use Rattle.cml_step.specs.Machines.{plain_held};
-ghost use Rattle.cml_step.specs.Undone.{unset as plain_unset, call_before, HasHead, HasNotes};
+ghost use Rattle.cml_step.specs.Shared.{HasNoCall};
+ghost use Rattle.cml_step.specs.Undone.{unset as plain_unset, call_before, wrapped, HasHead, HasNotes};
 
 use crate::call::{Call, Wait};
-use crate::entry::Entry;
+use crate::entry::{Entry, Wraps};
 use cml_value::Value;
 use std::alloc::Global;
 use std::mem::replace;
@@ -19,7 +20,7 @@ pub(crate) struct Noted {
 }
 
 /// What is noted of a call: where it stood, what it waited for, where it had asked last, how many slots it had, what each had that was set
-/// (the last set comes last), and what stood over it.
+/// (the last set comes last), and the wraps that stood over it, if there were such.
 #[derive(Drop)]
 pub(crate) struct Journal {
     pub(crate) at: usize,
@@ -27,7 +28,7 @@ pub(crate) struct Journal {
     pub(crate) asked: usize,
     pub(crate) count: usize,
     pub(crate) sets: Vec<Noted>,
-    pub(crate) over: Option<Entry>,
+    pub(crate) over: Option<Wraps>,
 }
 
 // Sets a slot, if it is there.
@@ -116,15 +117,27 @@ impl Journal {
 
     /// Puts back into the call, and over it, what is noted. It takes no memory.
     pub(crate) fn put_back(&mut self, over: &mut Option<Entry>, call: &mut Call)
-        ensures over { over.new ≡ self.old.over }
+        ensures over { over.new ≡ wrapped self.old.over }
+        ensures no_call { HasNoCall over.new }
         ensures call { plain_held (Entry.Call call.new) ≡ call_before self.old call.old }
     {
-        *over = self.over.take();
+        *over = as_entry(self.over.take());
         call.at = self.at;
         call.wait = self.wait;
         call.asked = self.asked;
         call.slots.truncate(self.count);
         unset(&mut call.slots, &mut self.sets);
+    }
+}
+
+// The wraps as an entry, if they are there.
+fn as_entry(over: Option<Wraps>) -> Option<Entry>
+    ensures same { result ≡ wrapped over }
+    ensures no_call { HasNoCall result }
+{
+    match over {
+        Some(wraps) => Some(Entry::Wraps(wraps)),
+        None => None,
     }
 }
 

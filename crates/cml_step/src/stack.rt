@@ -12,6 +12,7 @@ ghost use Rattle.cml_step.specs.Steps as steps;
 ghost use Rattle.cml_step.specs.Steps.{PlainStep};
 ghost use Rattle.cml_step.specs.Calls.{text_of, entry_of, MovesTo, ActionAgrees};
 ghost use Rattle.cml_step.specs.Machines.{PlainHeld, force as plain_force, plain_held, held_entry};
+ghost use Rattle.cml_step.specs.Shared.{IsNoCall};
 ghost use Rattle.cml_step.specs.Stacks.{entry_view, term_of, EntryFits, BeneathFits, EachBeneath, StackFits, IsStep, StepFits, CallFits, WrapsFit, IsDelivered, EntryStands, TopStands};
 
 use crate::ask::Ask;
@@ -133,6 +134,7 @@ fn deliver_to(alloc: Global, program: &Prog, entry: &mut Entry, value: Value) ->
         (entry_view program.now entry.new) below
         (steps.delivered value (entry_view program.now entry.old ∷ below)) }
     ensures fits { IfOk result (λ _. EntryFits program.now entry.new) }
+    ensures no_call { IsNoCall entry.old → IsNoCall entry.new }
 {
     match entry {
         Entry::Call(call) => {
@@ -352,6 +354,7 @@ fn step_of_entry(
         (entry_view program.now entry.old ∷ below)) }
     ensures stands { IfOk result (λ did. EntryStands program.now did (plain_held entry.new)) }
     ensures did { ActionAgrees (arities program.now) result }
+    ensures no_call { IsNoCall entry.old → IsNoCall entry.new }
 {
     match entry {
         Entry::Call(call) => step_of_call(alloc, thread, program, call),

@@ -1,24 +1,24 @@
 //! The first steps of a slice, as long as they stay in the call on top: what they change is noted, so nothing is copied.
 
-ghost use Rattle.std.specs.Prelude.{◌≡◌, ◌<◌, ◌≤◌, ◌+◌, ℕ, Bool, List, [], ◌∷◌, ◌++◌, true, false, None, OnErr, IfOk, IfSome, length};
-ghost use Rattle.cml_value.specs.Value.{PlainEvent};
+ghost use Rattle.std.specs.Prelude.{◌≡◌, ◌<◌, ◌≤◌, ◌+◌, ℕ, List, [], ◌∷◌, ◌++◌, true, false, None, OnErr, IfOk, IfSome, length};
 ghost use Rattle.cml_check.specs.Syntax.{PlainItem};
 ghost use Rattle.cml_check.specs.InOrder.{arities};
 ghost use Rattle.cml_step.specs.Agrees.{ask_agrees};
 ghost use Rattle.cml_step.specs.AskViews.{plain_ask};
 ghost use Rattle.cml_step.specs.Begins.{BeginsSlice};
 ghost use Rattle.cml_step.specs.Calls.{text_of};
-ghost use Rattle.cml_step.specs.Machines.{PlainHeld, force as plain_force, wraps as plain_wraps};
-ghost use Rattle.cml_step.specs.Shared.{topped};
+ghost use Rattle.cml_step.specs.Machines.{PlainHeld, wraps as plain_wraps};
+ghost use Rattle.cml_step.specs.Shared.{topped, HasNoCall};
 ghost use Rattle.cml_step.specs.Slices.{GoesIn, max_steps};
 ghost use Rattle.cml_step.specs.Stacks.{StackFits, term_of};
 ghost use Rattle.cml_step.specs.Steps.{next, asks};
-ghost use Rattle.cml_step.specs.Undone.{stood, stack_before, HasHead, HasSlotsOf, HasNotes, IsNotedStack};
+ghost use Rattle.cml_step.specs.Undone.{stood, stack_before, wrapped, HasHead, HasSlotsOf, HasNotes, IsNotedStack};
 
 use crate::ask::Ask;
+use crate::asking::ask_step;
 use crate::call::Call;
 use crate::entries::{Frames, Stack};
-use crate::entry::Entry;
+use crate::entry::{Entry, Wraps};
 use crate::journal::Journal;
 use crate::noted::{deliver_noted, noted_run};
 use crate::stack::MAX_ENTRIES;
@@ -45,6 +45,22 @@ fn value_over(over: &Option<Entry>) -> Option<Value>
     }
 }
 
+// The wraps that stand there, taken away.
+fn taken(over: &mut Option<Entry>) -> Option<Wraps>
+    requires { (w : Wraps) × (over.old ≡ Some (Entry.Wraps w)) }
+    ensures wraps { wrapped result ≡ over.old }
+    ensures none { over.new ≡ None }
+{
+    match over.take() {
+        Some(Entry::Wraps(wraps)) => Some(wraps),
+        // Wraps stand there.
+        other => {
+            drop(other);
+            None
+        }
+    }
+}
+
 // Where wraps of which no function is left stand over the call, a copy of their value is delivered to it, and the journal has them. Returns
 // how many steps that was; where another entry stands over the call nothing has changed.
 fn deliver_over(
@@ -63,7 +79,7 @@ fn deliver_over(
         (term_of program.now (stood below.now call.old over.old))
         (term_of program.now (stood below.now call.new over.new)))) }
     ensures head { IfSome result (λ _. HasHead journal.new call.old
-        × (journal.new.over ≡ over.old)) }
+        × (wrapped journal.new.over ≡ over.old)) }
     ensures noted { IfSome result (λ _. HasNotes [] call.old journal.new.sets.items call.new) }
     ensures stays { result ≡ None → (call.new ≡ call.old) × (over.new ≡ over.old) }
 {
@@ -71,7 +87,7 @@ fn deliver_over(
     if !deliver_noted(program, call, value, &mut journal.sets) {
         return None;
     }
-    journal.over = over.take();
+    journal.over = taken(over);
     Some(1)
 }
 
@@ -90,7 +106,7 @@ fn begin_noted(
         (term_of program.now (stood below.now call.old over.old))
         (term_of program.now (stood below.now call.new over.new)))) }
     ensures head { IfSome result (λ _. HasHead journal.new call.old
-        × (journal.new.over ≡ over.old)) }
+        × (wrapped journal.new.over ≡ over.old)) }
     ensures noted { IfSome result (λ _. HasNotes [] call.old journal.new.sets.items call.new) }
     ensures stays { result ≡ None → (call.new ≡ call.old) × (over.new ≡ over.old) }
 {
@@ -119,6 +135,7 @@ fn put_over(
         (term_of program.now (stood below.now call.old over.old))
         (term_of program.now (stood below.now call.new over.new)) }
     ensures had { HasSlotsOf call.old call.new }
+    ensures no_call { HasNoCall over.new }
 {
     if below.len() >= MAX_ENTRIES - 1 {
         return 0;
@@ -153,6 +170,7 @@ fn still_steps(
         (term_of program.now (stood below.now call.new over.new))) }
     ensures undone { IfSome result (λ _. stack_before below.now journal.new call.new
         ≡ stood below.now call.old over.old) }
+    ensures no_call { HasNoCall over.old → HasNoCall over.new }
     ensures stays { result ≡ None → (call.new ≡ call.old) × (over.new ≡ over.old) }
 {
     let first = begin_noted(program, below, over, call, journal)?;
@@ -172,8 +190,7 @@ fn asks_over(over: &mut Option<Entry>, asked: &mut Ask, done: u32) -> bool
     ensures fits { result ≡ true → (p : List (PlainItem ℕ)) (hs : List PlainHeld) →
         StackFits p (topped hs over.old)
         → StackFits p (topped hs over.new) × (ask_agrees (arities p) (plain_ask asked.new) ≡ true) }
-    ensures event { result ≡ true → (e : PlainEvent) × (w : Bool) × ((hs : List PlainHeld) →
-        topped hs over.new ≡ hs ++ plain_force e w ∷ []) }
+    ensures no_call { HasNoCall over.old → HasNoCall over.new }
     ensures something { result ≡ true → asked.new ≡ Ask.Nothing → ⊥ }
     ensures within { result ≡ true → done < max_steps }
     ensures stays { result ≡ false → (over.new ≡ over.old) × (asked.new ≡ asked.old) }
@@ -187,6 +204,36 @@ fn asks_over(over: &mut Option<Entry>, asked: &mut Ask, done: u32) -> bool
         }
     }
     false
+}
+
+// Whether a step is left after this many, and nothing stands over the call, which asks something where it stands. Else nothing has changed.
+#[inline(always)]
+fn asks_call(
+    program: &Prog,
+    below: &Frames,
+    over: &Option<Entry>,
+    call: &mut Call,
+    asked: &mut Ask,
+    done: u32,
+) -> bool
+    requires { StackFits program.now (stood below.now call.old over.now) }
+    ensures asks { result ≡ true → (self : ℕ) →
+        next (text_of program.now) self (term_of program.now (stood below.now call.old over.now))
+        ≡ asks (plain_ask asked.new) (term_of program.now (stood below.now call.new over.now)) }
+    ensures fits { result ≡ true → StackFits program.now (stood below.now call.new over.now) }
+    ensures agrees { result ≡ true → ask_agrees (arities program.now) (plain_ask asked.new) ≡ true }
+    ensures something { result ≡ true → asked.new ≡ Ask.Nothing → ⊥ }
+    ensures within { result ≡ true → done < max_steps }
+    ensures kept { (call.new.func ≡ call.old.func) × (call.new.slots ≡ call.old.slots) }
+    ensures stays { result ≡ false → (call.new ≡ call.old) × (asked.new ≡ asked.old) }
+{
+    if done >= MAX_STEPS {
+        return false;
+    }
+    if over.is_some() {
+        return false;
+    }
+    ask_step(program, call, asked)
 }
 
 /// How a slice has begun: not at all; with this many steps, of which the last asks; or with this many that go on.
@@ -226,6 +273,9 @@ pub(crate) fn begin_slice(
     if asks_over(&mut stack.over, asked, done) {
         return Ok(Begun::Asks(done + 1));
     }
+    if asks_call(program, &stack.below, &stack.over, call, asked, done) {
+        return Ok(Begun::Asks(done + 1));
+    }
     match spare.copy_before(alloc, call, &stack.below, journal) {
         Ok(()) => Ok(Begun::Goes(done)),
         Err(error) => {
@@ -235,14 +285,14 @@ pub(crate) fn begin_slice(
     }
 }
 
-/// Undoes what the journal has of the call on top, over which an event stands. It takes no memory.
+/// Undoes what the journal has of the call on top. It takes no memory.
 pub(crate) fn undo_noted(stack: &mut Stack, journal: &mut Journal)
     ensures { (before : List PlainHeld) → IsNotedStack journal.old stack.old before
         → stack.new ≡ before }
 {
     match &mut stack.call {
         Some(call) => journal.put_back(&mut stack.over, call),
-        // An event stands over a call, so that is there.
+        // The journal has what the call on top was, so that is there.
         None => {}
     }
 }

@@ -1,5 +1,4 @@
-use Rattle.std.proofs.Common.{◌≡◌, ◌++◌, ◌∷◌, [], ◌+◌, ◌<◌, length, ap, sym, ◌∙◌, subst, refl, List, arith, false}
-use Rattle.cml_step.specs.declared.call.Call.{Call}
+use Rattle.std.proofs.Common.{◌++◌, ◌∷◌, [], ◌+◌, ◌<◌, length, ap, sym, ◌∙◌, subst, refl, List, arith, false}
 use Rattle.cml_step.specs.declared.entry.Entry.TheVariants as entry
 use Rattle.cml_step.specs.Machines.{PlainHeld, plain_held}
 use Rattle.cml_step.specs.Machines as held

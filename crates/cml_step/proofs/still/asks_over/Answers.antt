@@ -27,9 +27,6 @@ returns-in-Force-clause-fits c = λ on p hs fits.
     let r = group_fits p hs (topped hs c.args.over.now) (hs ++ held.force x w ∷ []) x v w st refl fits in
     (r.0, c.asks_group.ensures.agrees on (arities p) r.1)
 
-pub returns-in-Force-clause-event : goal.returns-in-Force-clause-event
-returns-in-Force-clause-event c = λ on. (c.in-Force.forcing, c.asks_group.new.waits, λ hs. refl)
-
 pub returns-in-Force-clause-stays : goal.returns-in-Force-clause-stays
 returns-in-Force-clause-stays c = λ off.
     let same = c.asks_group.ensures.stays off in

@@ -1,6 +1,6 @@
-use Rattle.std.proofs.Common.{[], List, sym, ◌∙◌, subst, refl}
+use Rattle.std.proofs.Common.{[], List, ap, sym, ◌∙◌, subst, refl}
 use Rattle.cml_step.specs.declared.journal.Noted.{Noted}
-use Rattle.cml_step.specs.Undone.{HasNotes}
+use Rattle.cml_step.specs.Undone.{wrapped, HasNotes}
 use Rattle.cml_step.proofs.StackLemmas.{none_over}
 use Rattle.cml_step.proofs.UndoLemmas.{unset_same}
 use Rattle.cml_step.proofs.still.begin_noted.Goals as goal
@@ -9,7 +9,7 @@ pub returns-clause-none : goal.returns-clause-none
 returns-clause-none c = none_over c.args.over.now (sym c.is_some.ensures ∙ c.if-is_some.false)
 
 pub returns-clause-head : goal.returns-clause-head
-returns-clause-head c = (c.begin.ensures.head, c.begin.ensures.over ∙ sym (none_over c.args.over.now (sym c.is_some.ensures ∙ c.if-is_some.false)))
+returns-clause-head c = (c.begin.ensures.head, ap wrapped c.begin.ensures.over ∙ sym (none_over c.args.over.now (sym c.is_some.ensures ∙ c.if-is_some.false)))
 
 pub returns-clause-noted : goal.returns-clause-noted
 returns-clause-noted c =

@@ -4,14 +4,15 @@ use Rattle.cml_step.specs.declared.entry.Entry.{Entry}
 use Rattle.cml_step.specs.declared.entry.Entry.TheVariants as entry
 use Rattle.cml_step.specs.Machines.{PlainHeld, plain_held}
 use Rattle.cml_step.specs.Shared.{topped}
-use Rattle.cml_step.specs.Undone.{stood, stack_before}
+use Rattle.cml_step.specs.Undone.{stood, stack_before, wrapped}
 use Rattle.cml_step.proofs.UndoLemmas.{in_place, same_before}
 use Rattle.cml_step.proofs.still.undo_noted.Goals as goal
 
 pub returns-in-None : goal.returns-in-None
 returns-in-None c = λ before is.
     let s = c.stack.inside in
-    let at = in_place s.below s.call s.over c.stack.invariant.0 c.stack.invariant.1 is.below is.top is.event is.asked (c.stack.view_is ∙ is.now_is) in
+    let i = c.stack.invariant in
+    let at = in_place s.below s.call s.over i.0 i.1 i.2 is.below is.top is.over is.no_call (c.stack.view_is ∙ is.now_is) in
     let there = sym c.in-None.is ∙ at.1 in
     absurd (cc)
 
@@ -20,10 +21,11 @@ returns-in-Some c = λ before is.
     let s = c.stack.inside in
     let j = c.args.journal.now in
     let k : Call = c.in-Some.call in
-    let at = in_place s.below s.call s.over c.stack.invariant.0 c.stack.invariant.1 is.below is.top is.event is.asked (c.stack.view_is ∙ is.now_is) in
+    let i = c.stack.invariant in
+    let at = in_place s.below s.call s.over i.0 i.1 i.2 is.below is.top is.over is.no_call (c.stack.view_is ∙ is.now_is) in
     let there = sym c.in-Some.is ∙ at.1 in
     let own : k ≡ at.0 = cc in
     ap (λ (o : Option Entry). stood s.below c.put_back.new.call o) c.put_back.ensures.over
-    ∙ ap (λ (h : PlainHeld). topped (s.below ++ h ∷ []) j.over) (c.put_back.ensures.call ∙ same_before j is.top k (ap (λ (d : Call). plain_held (entry.Call d)) own ∙ at.3))
+    ∙ ap (λ (h : PlainHeld). topped (s.below ++ h ∷ []) (wrapped j.over)) (c.put_back.ensures.call ∙ same_before j is.top k (ap (λ (d : Call). plain_held (entry.Call d)) own ∙ at.3))
     ∙ ap (λ (hs : List PlainHeld). stack_before hs j is.top) at.2
     ∙ sym is.before_is
