@@ -32,8 +32,8 @@ abbrev pub side_place : PlainBase → Option SidePlace
 side_place b =
     option_or (placed Channel channels.channel_of channels.is_sender (channels.side_in b)) (placed Swap swaps.channel_of swaps.can_stand_first (swaps.side_in b))
 
--- The first is a head, and the second stands where those are whom the first meets: on the other side of the object, or, where all sides
--- are alike, on the same side.
+-- The first is a head, and the second stands in the lane of those that the first can meet: on the other side of the object, or, where all
+-- sides are alike, on the same side.
 abbrev pub leads : SidePlace → SidePlace → Bool
 leads s t = s.heads && (same_object s.object t.object && beq (one_lane s.object.kind) t.heads)
 

@@ -63,7 +63,7 @@ begun_between old new = if length new.threads == length old.threads then [] else
 abbrev pub ready_after : PlainWorld → PlainWorld → Tid → List Tid
 ready_after old new t = begun_between old new ++ (if is_running new t.0 then t ∷ [] else [])
 
--- one item more, which is allowed where the run stands; then these threads are ready, by the world, and the chooser is this
+-- one item more, which is allowed where the run stands; then the threads that `queue` gives for the new world are ready, and the chooser is this
 abbrev pub adds : {C : Type 0} → Program → Played C → Item → (PlainWorld → List Tid) → C → Option (Played C)
 adds p g item queue chooser =
     option_map (λ r. record { items = g.items ++ item ∷ []; run = r; queue = queue r.world; chooser = chooser }) (advance p g.run item)

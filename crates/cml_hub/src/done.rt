@@ -15,7 +15,7 @@ pub(crate) enum Done {
     Gets(Value),
     // It gets a fresh nack, and goes on. The room lies apart, so that what most turns come to is small.
     Takes(Box<NackRoom>),
-    // This thread begins, and the one that asked goes on with its number.
+    // This thread begins. The one that asked gets the new thread as its answer, and goes on.
     Spawns(Box<Machine>),
     // What it prints is printed, and it goes on.
     Prints,
@@ -32,7 +32,7 @@ pub(crate) enum Done {
 pub(crate) enum AfterTurn {
     // It goes on.
     On,
-    // This thread begins, and it goes on.
+    // This thread begins, and the one that had the turn goes on.
     With(Tid),
     // It runs no more.
     Off,

@@ -528,7 +528,7 @@ impl Hub {
     }
 
     // Adds an item, where no slice is out: a turn of the first ready thread; or, where none is ready, a row or a tick. Returns whether
-    // anything was left to do, so that whether a row can be taken is asked once.
+    // anything was left to do: so a run asks only once whether a row can be taken.
     fn go_alone<C: Chooser>(&mut self, alloc: Global, chooser: &mut C) -> Result<bool, AllocError>
         requires none_out { NoneOut self.old }
         requires due { NoneDue self.old }
@@ -698,8 +698,8 @@ impl Hub {
         self.report(alloc)
     }
 
-    /// The schedule as a text, in version 2: the budget, the size of the program, a line for each item, and `end`. Where it has at most
-    /// 67,108,864 bytes, [`cml_schedule::read_schedule`] reads it as just that.
+    /// The schedule as a text, in version 2: the budget, the size of the program (how many functions and statements it has), a line for each
+    /// item, and `end`. Where the text has at most 67,108,864 bytes, [`cml_schedule::read_schedule`] reads it as this very schedule.
     ///
     /// # Errors
     /// Out of memory.

@@ -22,7 +22,7 @@ pub(crate) struct TurnMade {
     pub(crate) prepared: Prepared,
 }
 
-// Runs a slice of the thread's machine where it stands, writes what it asks into `ask`, which is `Nothing` before, and makes that ready.
+// Runs a slice of the thread's machine where it stands, writes what it asks into `ask` (`Nothing` before), and has the book do that.
 // Where memory runs out the undo puts the machine back to what it was. In the end the undo holds no value.
 pub(crate) fn take_turn(
     alloc: Global,

@@ -26,7 +26,7 @@ abbrev pub TakesOnce : {E : Type 0} → Kept → Result Found E → Kept → Typ
 TakesOnce old (Ok f) new = Extends old new × TakesJob old f new × NoneDue new
 TakesOnce old (Err e) new = Extends old new × (new.out ≡ old.out)
 
--- a worker is to wait although nobody has looked: a slice is out, and nothing has changed
+-- a worker is to wait, without a look at whether the hub has a job: a slice is out, and nothing has changed
 abbrev pub RestsBeside : {E : Type 0} → Kept → Result Found E → Kept → Type 0
 RestsBeside old r new = (r ≡ Ok found.Wait) × (new ≡ old) × (NoneOut old → ⊥)
 

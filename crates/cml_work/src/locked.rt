@@ -21,8 +21,8 @@ use std::sync::Wait;
 const BURST: u32 = 4096;
 
 // What lies under the lock: a hub that goes on from the opening; the chooser of its rows; whether the workers are to stop, and whether all
-// have ended; of how many reports the watcher was told; the workers that wait; and the mark of the keeper, which knows a prefix of the hub's
-// reports that has all that the watcher was shown.
+// have ended; of how many reports the watcher was told; the workers that wait; and the lock's own mark (`keeper`), which knows a prefix of the
+// hub's reports that has all that the watcher was shown.
 #[derive(Drop)]
 pub(crate) struct Locked<O: Opening, C: Chooser + Drop> {
     hub: Hub,
@@ -203,8 +203,8 @@ impl<O: Opening, C: Chooser + Drop> Locked<O, C> {
         self.run_here(alloc)
     }
 
-    // What a worker finds that asks for a job. Where slices are short it is to wait while one is out, although nobody has looked; and where
-    // none is out it runs turns in place first. Then it finds what `find` finds.
+    // What a worker finds that asks for a job. Where slices are short, it is to wait while one is out, without a look at whether a thread
+    // is ready; where none is out, it runs turns in place first. Then it finds what `find` finds.
     pub(crate) fn look(&mut self, alloc: Global) -> Result<Found, AllocError>
         ensures job { IfOk result (λ found. IsJob O.opening.program found) }
         ensures flags { HaveOneState self.old self.new }
