@@ -237,8 +237,8 @@ impl<'a> NackTest for FreshFor<'a> {
 }
 
 impl State {
-    /// What is known of the group. One walk says it of a group over channels alone; of another, two, the first of which stops at the first
-    /// light.
+    /// What is known of the group. A first walk stops at a base event that looks at a light, names what does not exist, or does not enter
+    /// as it is; then a second walk asks all but the lights.
     pub fn standing(&self, group: &Group) -> Standing
         ensures standing { IsStanding self.now group.now result.scoped }
         ensures quiet { result.quiet ≡ true → IsQuiet self.now group.now }

@@ -56,7 +56,7 @@ abbrev pub parties : Meet → List Tid
 parties (Single t n) = t ∷ []
 parties (Pair h i o j) = h ∷ o ∷ []
 
--- Who is ready after a turn of the thread t and comes last: a thread that has begun by it, and then the thread itself, where it still runs.
+-- The thread that began between these worlds, if one did. (`ready_after`: it is ready behind the others, and behind it t, where t still runs.)
 abbrev pub begun_between : PlainWorld → PlainWorld → List Tid
 begun_between old new = if length new.threads == length old.threads then [] else record { 0 = length old.threads } ∷ []
 

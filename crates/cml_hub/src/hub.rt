@@ -441,7 +441,7 @@ impl Hub {
     }
 
     /// Returns what there is to do next. It makes the report that is due, takes rows that the chooser picks and moves the time, until a
-    /// thread is ready, or there is nothing to do before a slice comes back, or nothing at all. The machine of the first thread that is
+    /// thread is ready, or there is nothing to do before a slice comes back, or the run is over. The machine of the first thread that is
     /// ready is handed out, for [`cml_step::slice`]; the slice is to be given back by [`Hub::give`].
     ///
     /// # Errors

@@ -77,7 +77,7 @@ fn find(alloc: Global, goal: &Goal<'_>, given: &[Item], tries: u64) -> Result<Se
 /// a schedule that is not longer than the shortest so far; the given one is replayed once more at first. Turns of one thread are put
 /// together where that makes no difference to how the run ends.
 ///
-/// It takes at most so many times as long as a replay of the given schedule, and memory for two copies of it beside what a replay takes.
+/// It makes at most `tries` + 1 replays (twice as many where threads end at faults), and takes memory for a replay and two schedules.
 ///
 /// # Errors
 /// The first of the given items that is not allowed where it stands; or out of memory.

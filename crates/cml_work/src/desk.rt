@@ -37,7 +37,7 @@ pub trait Desk {
     /// Whether it was stopped.
     ghost stopped: { Self → Type 0 };
 
-    /// The machine of a thread to run, with its program; `None` where nothing is left to do. It may wait.
+    /// The machine of a thread to run, with its program; `None` where there is nothing more to hand out. It may wait.
     ///
     /// # Errors
     /// Out of memory.

@@ -156,8 +156,8 @@ pub(crate) fn is_still(started: &Started, hub: &Hub, before: usize) -> bool
     started.is_none() && hub.schedule().len() == before
 }
 
-// What comes of a run with a watcher, once all have ended: of the hub that the workers have left, whether nothing has begun, and the reports
-// that the watcher saw, with why it gave up, if it did.
+// What comes of a run with a watcher, once all have ended. It is made from the hub that the workers have left, from whether nothing has
+// begun, and from the reports that the watcher saw (with why the watcher gave up, if it did).
 pub(crate) fn finished<C: Chooser + Drop, W: Write>(
     alloc: Global,
     hub: Hub,

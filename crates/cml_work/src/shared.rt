@@ -129,7 +129,7 @@ impl<O: Opening, C: Chooser + Drop> Shared<O, C> {
         locked
     }
 
-    // The next job, for a worker that has the lock; `None` where nothing is left to do.
+    // The next job, for a worker that has the lock; `None` where the run is over or the workers are to stop.
     fn find_job<'a, R: Wait>(
         &'a self,
         rt: &R,
