@@ -67,6 +67,7 @@ impl Group {
     ghost use Rattle.cml_value.specs.Group.{choose, wrap, scope, groups};
 
     /// The group of this kind.
+    #[inline(always)]
     pub fn new(kind: GroupKind) -> Group
         ensures { result ≡ plain_group kind }
     {
@@ -179,7 +180,7 @@ impl GroupKind {
     {
         Ok(match self {
             GroupKind::Never => GroupKind::Never,
-            GroupKind::Leaf(b) => GroupKind::Leaf(b.copy()?),
+            GroupKind::Leaf(b) => GroupKind::Leaf(b.again()?),
             GroupKind::Choose(gs) => GroupKind::Choose(Arc::try_clone(gs)?),
             GroupKind::Wrap(g, f) => {
                 let shared = Arc::try_clone(g)?;

@@ -372,14 +372,24 @@ impl Value {
     pub fn copy(&self) -> Result<Value, AllocError>
         ensures { IfOk result (λ v. v ≡ self.now) }
     {
-        let kind = self.kind.copy()?;
+        let kind = self.kind.again()?;
+        Ok(Value { kind })
+    }
+
+    // The same, written out where it is called: a value then goes to its place in registers.
+    #[inline(always)]
+    fn again(&self) -> Result<Value, AllocError>
+        ensures { IfOk result (λ v. v ≡ self.now) }
+    {
+        let kind = self.kind.again()?;
         Ok(Value { kind })
     }
 }
 
 impl ValueKind {
     // The same, with another owner of what it shares.
-    fn copy(&self) -> Result<ValueKind, AllocError>
+    #[inline(always)]
+    fn again(&self) -> Result<ValueKind, AllocError>
         ensures { IfOk result (λ k. plain_value k ≡ plain_value self.now) }
     {
         Ok(match self {
@@ -479,23 +489,42 @@ impl Base {
     pub fn copy(&self) -> Result<Base, AllocError>
         ensures { IfOk result (λ b. b ≡ self.now) }
     {
-        let kind = match &self.kind {
-            BaseKind::Always(v) => BaseKind::Always(v.copy()?),
-            BaseKind::Send(c, v) => BaseKind::Send(*c, v.copy()?),
+        let kind = self.kind.again()?;
+        Ok(Base { kind })
+    }
+
+    // The same, written out where it is called.
+    #[inline(always)]
+    pub(crate) fn again(&self) -> Result<Base, AllocError>
+        ensures { IfOk result (λ b. b ≡ self.now) }
+    {
+        let kind = self.kind.again()?;
+        Ok(Base { kind })
+    }
+}
+
+impl BaseKind {
+    // The same, with another owner of what it shares.
+    #[inline(always)]
+    pub(crate) fn again(&self) -> Result<BaseKind, AllocError>
+        ensures { IfOk result (λ k. plain_base k ≡ plain_base self.now) }
+    {
+        Ok(match self {
+            BaseKind::Always(v) => BaseKind::Always(v.again()?),
+            BaseKind::Send(c, v) => BaseKind::Send(*c, v.again()?),
             BaseKind::Recv(c) => BaseKind::Recv(*c),
-            BaseKind::Swap(s, v) => BaseKind::Swap(*s, v.copy()?),
+            BaseKind::Swap(s, v) => BaseKind::Swap(*s, v.again()?),
             BaseKind::IGet(i) => BaseKind::IGet(*i),
             BaseKind::MTake(m) => BaseKind::MTake(*m),
             BaseKind::MGet(m) => BaseKind::MGet(*m),
-            BaseKind::MSwap(m, v) => BaseKind::MSwap(*m, v.copy()?),
+            BaseKind::MSwap(m, v) => BaseKind::MSwap(*m, v.again()?),
             BaseKind::MailRecv(b) => BaseKind::MailRecv(*b),
             BaseKind::PortRecv(p) => BaseKind::PortRecv(*p),
             BaseKind::Join(t) => BaseKind::Join(*t),
             BaseKind::At(tick) => BaseKind::At(*tick),
             BaseKind::After(delay) => BaseKind::After(*delay),
             BaseKind::Nack(k) => BaseKind::Nack(*k),
-        };
-        Ok(Base { kind })
+        })
     }
 }
 

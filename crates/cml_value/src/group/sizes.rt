@@ -20,6 +20,7 @@ impl Group {
 
 impl GroupKind {
     // What is to be kept with a group of this kind. It looks at each part once, and no deeper.
+    #[inline(always)]
     pub(crate) fn size(&self) -> Size
         ensures depth { result.depth ≡ kept (group_depth (plain_group self.now)) }
         ensures nodes { result.nodes ≡ kept (group_nodes (plain_group self.now)) }
