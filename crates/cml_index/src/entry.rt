@@ -1,7 +1,7 @@
 //! A pending thread, and what the index keeps of its group.
 
 ghost use Rattle.std.specs.Prelude.{◌≡◌, ◌≤◌, ◌<◌, ◌^◌, ◌++◌, ◌∷◌, [], length, map, IfOk};
-ghost use Rattle.cml_value.specs.Group.{bases, scopes, nacks_of, never};
+ghost use Rattle.cml_value.specs.Group.{bases, scopes, nacks_of};
 ghost use Rattle.cml_index.specs.Posts.{slot_of};
 ghost use Rattle.cml_index.specs.Slots.{slot_in};
 ghost use Rattle.cml_index.specs.Waits.{leaf_wait};
@@ -11,22 +11,30 @@ use cml_scan::Place;
 use cml_value::{Group, GroupKind, Tid};
 use std::alloc::{AllocError, Global};
 use std::marker::Model;
-use std::mem::replace;
+use std::snapshot::Snapshot;
 
-// A pending thread, with its group.
+// A pending thread, and what is kept of its group.
 #[derive(Drop)]
 struct PendingThread {
     tid: Tid,
-    group: Group,
+    // the group, as clauses see it: it has no bytes, and owns nothing
+    group: Snapshot<Group>,
+    // what its leaves wait for
     waits: Vec<Wait>,
     // the nacks of the group's scopes
     nacks: Vec<u32>,
 }
 
-// A pending thread, with its group. It is one pointer, so that seats are small: a thread that has no seat moves all seats after its place.
+// A pending thread, and what is kept of its group: what its leaves wait for, and the nacks of its scopes. It is one pointer, so that
+// seats are small: a thread that has no seat moves all seats after its place.
 #[derive(Drop)]
 pub(crate) struct Entry {
-    // the thread, with its group and what its leaves wait for
+    post: Box<PendingThread>,
+}
+
+// The lists of a thread that has gone, for the next that comes.
+#[derive(Drop)]
+pub(crate) struct Spare {
     post: Box<PendingThread>,
 }
 
@@ -41,10 +49,10 @@ impl Model for Entry {
 
     ghost coded = { entry_code };
 
-    ghost view = { λ e. record { thread = e.post.value.tid.0; group = e.post.value.group } };
+    ghost view = { λ e. record { thread = e.post.value.tid.0; group = e.post.value.group.value } };
 
-    ghost invariant = { λ e. (IsPost e.post.value.group e.post.value.waits.items)
-        × (e.post.value.nacks.items ≡ nacks_of (scopes e.post.value.group)) };
+    ghost invariant = { λ e. (IsPost e.post.value.group.value e.post.value.waits.items)
+        × (e.post.value.nacks.items ≡ nacks_of (scopes e.post.value.group.value)) };
 }
 
 // An entry is kept for another thread only if its lists have room for at most this many.
@@ -105,29 +113,61 @@ fn push_waits(all: &mut Vec<Wait>, nacks: &mut Vec<u32>, group: &Group) -> Resul
     }
 }
 
-// A copy of the group, and what its leaves wait for and the nacks of its scopes in these lists, which were empty.
-fn renewed(waits: &mut Vec<Wait>, nacks: &mut Vec<u32>, group: &Group) -> Result<Group, AllocError>
+// What the group's leaves wait for and the nacks of its scopes, in these lists, which were empty.
+#[inline(always)]
+fn list(waits: &mut Vec<Wait>, nacks: &mut Vec<u32>, group: &Group) -> Result<(), AllocError>
     requires empty { (waits.old.items ≡ []) × (nacks.old.items ≡ []) }
     ensures nacks { IfOk result (λ _. nacks.new.items ≡ nacks_of (scopes group.now)) }
     ensures waits { IfOk result (λ _. waits.new.items ≡ map leaf_wait (bases group.now)) }
     ensures small { IfOk result (λ _. length waits.new.items < 2 ^ 32) }
-    ensures group { IfOk result (λ copy. copy ≡ group.now) }
 {
     push_group(waits, nacks, group)?;
     let _count = number(waits.len())?;
-    group.copy()
+    Ok(())
+}
+
+// Becomes what is kept of this thread and this group, in the lists that it has.
+fn refill(post: &mut PendingThread, tid: Tid, group: &Group) -> Result<(), AllocError>
+    ensures tid { IfOk result (λ _. post.new.tid ≡ tid) }
+    ensures group { IfOk result (λ _. post.new.group.value ≡ group.now) }
+    ensures nacks { IfOk result (λ _. post.new.nacks.items ≡ nacks_of (scopes group.now)) }
+    ensures waits { IfOk result (λ _. post.new.waits.items ≡ map leaf_wait (bases group.now)) }
+    ensures small { IfOk result (λ _. length post.new.waits.items < 2 ^ 32) }
+{
+    post.tid = tid;
+    post.group = Snapshot::of(group);
+    post.waits.clear();
+    post.nacks.clear();
+    list(&mut post.waits, &mut post.nacks, group)
+}
+
+impl Spare {
+    // The entry of this thread and this group, in these lists.
+    pub(crate) fn renew(self, tid: Tid, group: &Group) -> Result<Entry, AllocError>
+        ensures { IfOk result (λ e. e ≡ record { thread = tid.0; group = group.now }) }
+    {
+        let mut post = self.post;
+        match refill(&mut post, tid, group) {
+            Ok(()) => Ok(Entry { post }),
+            Err(error) => {
+                drop(post);
+                Err(error)
+            }
+        }
+    }
 }
 
 impl Entry {
-    // The thread with a copy of the group.
+    // The entry of this thread and this group, in lists of its own. Most threads take the lists of one that has gone.
+    #[inline(never)]
     pub(crate) fn new(alloc: Global, tid: Tid, group: &Group) -> Result<Entry, AllocError>
         ensures { IfOk result (λ e. e ≡ record { thread = tid.0; group = group.now }) }
     {
         let (mut waits, mut nacks) = (Vec::new(alloc), Vec::new(alloc));
-        let group = renewed(&mut waits, &mut nacks, group)?;
+        list(&mut waits, &mut nacks, group)?;
         let post = PendingThread {
             tid,
-            group,
+            group: Snapshot::of(group),
             waits,
             nacks,
         };
@@ -136,42 +176,15 @@ impl Entry {
         })
     }
 
-    // Becomes the entry of this thread, with a copy of the group, in the lists that it has. Where memory runs out it holds no group.
-    pub(crate) fn renew(&mut self, tid: Tid, group: &Group) -> Result<(), AllocError>
-        ensures { IfOk result (λ _. self.new ≡ record { thread = tid.0; group = group.now }) }
-    {
-        let post = &mut *self.post;
-        post.tid = tid;
-        post.waits.clear();
-        post.nacks.clear();
-        match renewed(&mut post.waits, &mut post.nacks, group) {
-            Ok(copy) => {
-                drop(replace(&mut post.group, copy));
-                Ok(())
-            }
-            Err(error) => {
-                drop(replace(&mut post.group, Group::new(GroupKind::Never)));
-                post.waits.clear();
-                post.nacks.clear();
-                Err(error)
-            }
-        }
-    }
-
     // Whether its lists have room for at most `SHORT` leaves and as many nacks. Longer lists would hold memory that no
     // thread needs.
     pub(crate) fn is_short(&self) -> bool {
         self.post.waits.capacity() <= SHORT && self.post.nacks.capacity() <= SHORT
     }
 
-    // Lets the group go, and keeps its lists.
-    pub(crate) fn rest(&mut self)
-        ensures { self.new ≡ record { thread = self.old.thread; group = never } }
-    {
-        let post = &mut *self.post;
-        post.group = Group::new(GroupKind::Never);
-        post.waits.clear();
-        post.nacks.clear();
+    // Its lists, for the next thread that comes.
+    pub(crate) fn rest(self) -> Spare {
+        Spare { post: self.post }
     }
 
     pub(crate) fn tid(&self) -> Tid

@@ -196,14 +196,14 @@ impl Lanes {
     }
 
     // Notes at the lane that the leaf is to come. The lane is made, if it is not there yet.
-    fn note(&mut self, alloc: Global, slot: Slot, leaf: u32) -> Result<(), AllocError>
-        ensures here { stands.IsNoted result leaf (stands.stand_at self.old slot) (stands.stand_at self.new slot) }
-        ensures elsewhere { (k : Slot) → same_slot k slot ≡ false →
+    fn note(&mut self, alloc: Global, slot: &Slot, leaf: u32) -> Result<(), AllocError>
+        ensures here { stands.IsNoted result leaf (stands.stand_at self.old slot.now) (stands.stand_at self.new slot.now) }
+        ensures elsewhere { (k : Slot) → same_slot k slot.now ≡ false →
             stands.IsAlike (stands.stand_at self.new k) (stands.stand_at self.old k) }
     {
         match slot {
             Slot::Side { heads, object } => note_in(
-                self.side_mut(object.kind, heads),
+                self.side_mut(object.kind, *heads),
                 alloc,
                 object.number as usize,
                 leaf,
@@ -214,13 +214,13 @@ impl Lanes {
 
     // The same at the lane of those who wait for the light.
     #[inline(never)]
-    fn note_waiter(&mut self, alloc: Global, light: Light, leaf: u32) -> Result<(), AllocError>
-        ensures here { stands.IsNoted result leaf (stands.stand_at self.old (Waiters light))
-            (stands.stand_at self.new (Waiters light)) }
-        ensures elsewhere { (k : Slot) → same_slot k (Waiters light) ≡ false →
+    fn note_waiter(&mut self, alloc: Global, light: &Light, leaf: u32) -> Result<(), AllocError>
+        ensures here { stands.IsNoted result leaf (stands.stand_at self.old (Waiters light.now))
+            (stands.stand_at self.new (Waiters light.now)) }
+        ensures elsewhere { (k : Slot) → same_slot k (Waiters light.now) ≡ false →
             stands.IsAlike (stands.stand_at self.new k) (stands.stand_at self.old k) }
     {
-        match spot_of_light(light) {
+        match spot_of_light(*light) {
             Spot::Listed { row, number } => {
                 note_in(self.row_mut(row), alloc, number as usize, leaf)
             }
@@ -229,14 +229,14 @@ impl Lanes {
     }
 
     // Notes that the leaf is to come to the lane, if it waits in one.
-    fn note_of(&mut self, alloc: Global, slot: Option<Slot>, leaf: u32) -> Result<(), AllocError>
+    fn note_of(&mut self, alloc: Global, slot: Option<&Slot>, leaf: u32) -> Result<(), AllocError>
         ensures same { (k : Slot) → spec.lane_at self.new k ≡ spec.lane_at self.old k }
         ensures going { (k : Slot) → spec.going_at self.new k ≡ spec.going_at self.old k }
         ensures kept { (k : Slot) → spec.room_at self.old k ≤ spec.room_at self.new k }
-        ensures here { OnOk result ((k : Slot) → spec.is_slot k slot ≡ true →
+        ensures here { OnOk result ((k : Slot) → spec.is_slot k (option_copied slot.entry) ≡ true →
             (spec.late_at self.new k ≡ spec.late_at self.old k ++ leaf ∷ [])
             × (length (spec.late_at self.new k) ≤ spec.room_at self.new k)) }
-        ensures elsewhere { (k : Slot) → spec.is_slot k slot ≡ false →
+        ensures elsewhere { (k : Slot) → spec.is_slot k (option_copied slot.entry) ≡ false →
             spec.late_at self.new k ≡ spec.late_at self.old k }
         ensures none { OnErr result ((k : Slot) → spec.late_at self.new k ≡ spec.late_at self.old k) }
     {
@@ -247,17 +247,17 @@ impl Lanes {
     }
 
     // Puts into the lane the leaves that were noted there.
-    fn come_at(&mut self, slot: Slot, tid: Tid, tally: &mut Tally)
-        requires { stands.CanCome tid (stands.stand_at self.old slot) }
-        ensures here { stands.HasCome tid (stands.stand_at self.old slot) (stands.stand_at self.new slot) }
-        ensures elsewhere { (k : Slot) → same_slot k slot ≡ false →
+    fn come_at(&mut self, slot: &Slot, tid: Tid, tally: &mut Tally)
+        requires { stands.CanCome tid (stands.stand_at self.old slot.now) }
+        ensures here { stands.HasCome tid (stands.stand_at self.old slot.now) (stands.stand_at self.new slot.now) }
+        ensures elsewhere { (k : Slot) → same_slot k slot.now ≡ false →
             stands.stand_at self.new k ≡ stands.stand_at self.old k }
-        ensures cost { (digits : ℕ) → stands.ComesWithin digits (stands.stand_at self.old slot) →
+        ensures cost { (digits : ℕ) → stands.ComesWithin digits (stands.stand_at self.old slot.now) →
             tally.new ≤ tally.old + digits }
     {
         match slot {
             Slot::Side { heads, object } => come_in(
-                self.side_mut(object.kind, heads),
+                self.side_mut(object.kind, *heads),
                 object.number as usize,
                 tid,
                 tally,
@@ -268,16 +268,16 @@ impl Lanes {
 
     // The same at the lane of those who wait for the light.
     #[inline(never)]
-    fn come_waiter(&mut self, light: Light, tid: Tid, tally: &mut Tally)
-        requires { stands.CanCome tid (stands.stand_at self.old (Waiters light)) }
-        ensures here { stands.HasCome tid (stands.stand_at self.old (Waiters light))
-            (stands.stand_at self.new (Waiters light)) }
-        ensures elsewhere { (k : Slot) → same_slot k (Waiters light) ≡ false →
+    fn come_waiter(&mut self, light: &Light, tid: Tid, tally: &mut Tally)
+        requires { stands.CanCome tid (stands.stand_at self.old (Waiters light.now)) }
+        ensures here { stands.HasCome tid (stands.stand_at self.old (Waiters light.now))
+            (stands.stand_at self.new (Waiters light.now)) }
+        ensures elsewhere { (k : Slot) → same_slot k (Waiters light.now) ≡ false →
             stands.stand_at self.new k ≡ stands.stand_at self.old k }
-        ensures cost { (digits : ℕ) → stands.ComesWithin digits (stands.stand_at self.old (Waiters light)) →
+        ensures cost { (digits : ℕ) → stands.ComesWithin digits (stands.stand_at self.old (Waiters light.now)) →
             tally.new ≤ tally.old + digits }
     {
-        match spot_of_light(light) {
+        match spot_of_light(*light) {
             Spot::Listed { row, number } => {
                 come_in(self.row_mut(row), number as usize, tid, tally)
             }
@@ -298,15 +298,15 @@ impl Lanes {
     }
 
     // Counts at the lane, if it was made, one more leaf that is to go.
-    fn count_at(&mut self, slot: Slot)
-        requires { stands.going_in (stands.stand_at self.old slot) < 18446744073709551615 }
-        ensures here { stands.CountsOneMore (stands.stand_at self.old slot) (stands.stand_at self.new slot) }
-        ensures elsewhere { (k : Slot) → same_slot k slot ≡ false →
+    fn count_at(&mut self, slot: &Slot)
+        requires { stands.going_in (stands.stand_at self.old slot.now) < 18446744073709551615 }
+        ensures here { stands.CountsOneMore (stands.stand_at self.old slot.now) (stands.stand_at self.new slot.now) }
+        ensures elsewhere { (k : Slot) → same_slot k slot.now ≡ false →
             stands.stand_at self.new k ≡ stands.stand_at self.old k }
     {
         match slot {
             Slot::Side { heads, object } => {
-                count_in(self.side_mut(object.kind, heads), object.number as usize)
+                count_in(self.side_mut(object.kind, *heads), object.number as usize)
             }
             Slot::Waiters(light) => self.count_waiter(light),
         }
@@ -314,31 +314,31 @@ impl Lanes {
 
     // The same at the lane of those who wait for the light.
     #[inline(never)]
-    fn count_waiter(&mut self, light: Light)
-        requires { stands.going_in (stands.stand_at self.old (Waiters light)) < 18446744073709551615 }
-        ensures here { stands.CountsOneMore (stands.stand_at self.old (Waiters light))
-            (stands.stand_at self.new (Waiters light)) }
-        ensures elsewhere { (k : Slot) → same_slot k (Waiters light) ≡ false →
+    fn count_waiter(&mut self, light: &Light)
+        requires { stands.going_in (stands.stand_at self.old (Waiters light.now)) < 18446744073709551615 }
+        ensures here { stands.CountsOneMore (stands.stand_at self.old (Waiters light.now))
+            (stands.stand_at self.new (Waiters light.now)) }
+        ensures elsewhere { (k : Slot) → same_slot k (Waiters light.now) ≡ false →
             stands.stand_at self.new k ≡ stands.stand_at self.old k }
     {
-        match spot_of_light(light) {
+        match spot_of_light(*light) {
             Spot::Listed { row, number } => count_in(self.row_mut(row), number as usize),
             Spot::Tick(tick) => count_tick(&mut self.ticks, tick),
         }
     }
 
     // Takes out of the lane the leaves that were counted there.
-    fn go_at(&mut self, slot: Slot, tid: Tid, tally: &mut Tally)
-        requires { stands.CanGo tid (stands.stand_at self.old slot) }
-        ensures here { stands.HasGone tid (stands.stand_at self.old slot) (stands.stand_at self.new slot) }
-        ensures elsewhere { (k : Slot) → same_slot k slot ≡ false →
+    fn go_at(&mut self, slot: &Slot, tid: Tid, tally: &mut Tally)
+        requires { stands.CanGo tid (stands.stand_at self.old slot.now) }
+        ensures here { stands.HasGone tid (stands.stand_at self.old slot.now) (stands.stand_at self.new slot.now) }
+        ensures elsewhere { (k : Slot) → same_slot k slot.now ≡ false →
             stands.stand_at self.new k ≡ stands.stand_at self.old k }
-        ensures cost { (digits : ℕ) → stands.GoesWithin digits (stands.stand_at self.old slot) →
+        ensures cost { (digits : ℕ) → stands.GoesWithin digits (stands.stand_at self.old slot.now) →
             tally.new ≤ tally.old + digits }
     {
         match slot {
             Slot::Side { heads, object } => go_in(
-                self.side_mut(object.kind, heads),
+                self.side_mut(object.kind, *heads),
                 object.number as usize,
                 tid,
                 tally,
@@ -349,29 +349,29 @@ impl Lanes {
 
     // The same at the lane of those who wait for the light.
     #[inline(never)]
-    fn go_waiter(&mut self, light: Light, tid: Tid, tally: &mut Tally)
-        requires { stands.CanGo tid (stands.stand_at self.old (Waiters light)) }
-        ensures here { stands.HasGone tid (stands.stand_at self.old (Waiters light))
-            (stands.stand_at self.new (Waiters light)) }
-        ensures elsewhere { (k : Slot) → same_slot k (Waiters light) ≡ false →
+    fn go_waiter(&mut self, light: &Light, tid: Tid, tally: &mut Tally)
+        requires { stands.CanGo tid (stands.stand_at self.old (Waiters light.now)) }
+        ensures here { stands.HasGone tid (stands.stand_at self.old (Waiters light.now))
+            (stands.stand_at self.new (Waiters light.now)) }
+        ensures elsewhere { (k : Slot) → same_slot k (Waiters light.now) ≡ false →
             stands.stand_at self.new k ≡ stands.stand_at self.old k }
-        ensures cost { (digits : ℕ) → stands.GoesWithin digits (stands.stand_at self.old (Waiters light)) →
+        ensures cost { (digits : ℕ) → stands.GoesWithin digits (stands.stand_at self.old (Waiters light.now)) →
             tally.new ≤ tally.old + digits }
     {
-        match spot_of_light(light) {
+        match spot_of_light(*light) {
             Spot::Listed { row, number } => go_in(self.row_mut(row), number as usize, tid, tally),
             Spot::Tick(tick) => go_tick(&mut self.ticks, tick, tid, tally),
         }
     }
 
     // Puts the noted leaves into the lane, if there is one.
-    fn come_of(&mut self, slot: Option<Slot>, tid: Tid, tally: &mut Tally)
-        requires { (k : Slot) → spec.is_slot k slot ≡ true → stands.CanCome tid (stands.stand_at self.old k) }
-        ensures here { (k : Slot) → spec.is_slot k slot ≡ true →
+    fn come_of(&mut self, slot: Option<&Slot>, tid: Tid, tally: &mut Tally)
+        requires { (k : Slot) → spec.is_slot k (option_copied slot) ≡ true → stands.CanCome tid (stands.stand_at self.old k) }
+        ensures here { (k : Slot) → spec.is_slot k (option_copied slot.entry) ≡ true →
             stands.HasCome tid (stands.stand_at self.old k) (stands.stand_at self.new k) }
-        ensures elsewhere { (k : Slot) → spec.is_slot k slot ≡ false →
+        ensures elsewhere { (k : Slot) → spec.is_slot k (option_copied slot.entry) ≡ false →
             stands.stand_at self.new k ≡ stands.stand_at self.old k }
-        ensures cost { (digits : ℕ) → ((k : Slot) → spec.is_slot k slot ≡ true →
+        ensures cost { (digits : ℕ) → ((k : Slot) → spec.is_slot k (option_copied slot.entry) ≡ true →
             stands.ComesWithin digits (stands.stand_at self.old k)) → tally.new ≤ tally.old + digits }
     {
         if let Some(slot) = slot {
@@ -392,11 +392,11 @@ impl Lanes {
     }
 
     // Counts one more leaf that is to go from the lane, if there is one.
-    fn count_of(&mut self, slot: Option<Slot>)
-        requires { (k : Slot) → spec.is_slot k slot ≡ true → stands.going_in (stands.stand_at self.old k) < 18446744073709551615 }
-        ensures here { (k : Slot) → spec.is_slot k slot ≡ true →
+    fn count_of(&mut self, slot: Option<&Slot>)
+        requires { (k : Slot) → spec.is_slot k (option_copied slot) ≡ true → stands.going_in (stands.stand_at self.old k) < 18446744073709551615 }
+        ensures here { (k : Slot) → spec.is_slot k (option_copied slot.entry) ≡ true →
             stands.CountsOneMore (stands.stand_at self.old k) (stands.stand_at self.new k) }
-        ensures elsewhere { (k : Slot) → spec.is_slot k slot ≡ false →
+        ensures elsewhere { (k : Slot) → spec.is_slot k (option_copied slot.entry) ≡ false →
             stands.stand_at self.new k ≡ stands.stand_at self.old k }
     {
         if let Some(slot) = slot {
@@ -405,13 +405,13 @@ impl Lanes {
     }
 
     // Takes the counted leaves out of the lane, if there is one.
-    fn go_of(&mut self, slot: Option<Slot>, tid: Tid, tally: &mut Tally)
-        requires { (k : Slot) → spec.is_slot k slot ≡ true → stands.CanGo tid (stands.stand_at self.old k) }
-        ensures here { (k : Slot) → spec.is_slot k slot ≡ true →
+    fn go_of(&mut self, slot: Option<&Slot>, tid: Tid, tally: &mut Tally)
+        requires { (k : Slot) → spec.is_slot k (option_copied slot) ≡ true → stands.CanGo tid (stands.stand_at self.old k) }
+        ensures here { (k : Slot) → spec.is_slot k (option_copied slot.entry) ≡ true →
             stands.HasGone tid (stands.stand_at self.old k) (stands.stand_at self.new k) }
-        ensures elsewhere { (k : Slot) → spec.is_slot k slot ≡ false →
+        ensures elsewhere { (k : Slot) → spec.is_slot k (option_copied slot.entry) ≡ false →
             stands.stand_at self.new k ≡ stands.stand_at self.old k }
-        ensures cost { (digits : ℕ) → ((k : Slot) → spec.is_slot k slot ≡ true →
+        ensures cost { (digits : ℕ) → ((k : Slot) → spec.is_slot k (option_copied slot.entry) ≡ true →
             stands.GoesWithin digits (stands.stand_at self.old k)) → tally.new ≤ tally.old + digits }
     {
         if let Some(slot) = slot {
@@ -445,7 +445,7 @@ impl Lanes {
             spec.late_at self.new k ≡ [] }
     {
         for (leaf, wait) in waits.iter().enumerate() {
-            self.note_of(alloc, wait.slot(), leaf as u32)?;
+            self.note_of(alloc, wait.slot_ref(), leaf as u32)?;
         }
         Ok(())
     }
@@ -465,7 +465,7 @@ impl Lanes {
             tally.new ≤ tally.old + length waits.now * digits }
     {
         for wait in waits {
-            self.come_of(wait.slot(), tid, tally);
+            self.come_of(wait.slot_ref(), tid, tally);
         }
     }
 
@@ -514,7 +514,7 @@ impl Lanes {
             spec.going_at self.new k ≡ length (spec.slot_leaves k 0 (map slot_in waits.now)) }
     {
         for wait in waits {
-            self.count_of(wait.slot());
+            self.count_of(wait.slot_ref());
         }
     }
 
@@ -533,7 +533,7 @@ impl Lanes {
     {
         self.count(waits);
         for wait in waits {
-            self.go_of(wait.slot(), tid, tally);
+            self.go_of(wait.slot_ref(), tid, tally);
         }
     }
 }

@@ -1,6 +1,7 @@
 //! The lanes in which offers stand.
 
 ghost use Rattle.std.specs.Prelude.{◌≡◌, ℕ, length, map};
+ghost use Rattle.std.specs.Option.{option_copied};
 ghost use Rattle.cml_index.specs.Posts.{slot_of};
 ghost use Rattle.cml_index.specs.Stands.{side_row, light_spot, spot_of};
 ghost use Rattle.cml_index.specs.Slots.{is_slot, slot_leaves, slot_in};
@@ -44,6 +45,17 @@ impl Wait {
     // The lane in which the leaf stands, if it stands in one.
     pub(crate) fn slot(self) -> Option<Slot>
         ensures { result ≡ slot_in self }
+    {
+        match self {
+            Wait::In(slot) => Some(slot),
+            _ => None,
+        }
+    }
+
+    // The same, where it is kept: no part of it is read before it is needed.
+    #[inline(always)]
+    pub(crate) fn slot_ref(&self) -> Option<&Slot>
+        ensures { option_copied result ≡ slot_in self.now }
     {
         match self {
             Wait::In(slot) => Some(slot),

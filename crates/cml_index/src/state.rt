@@ -18,7 +18,7 @@ ghost use Rattle.cml_index.specs.Waits.{leaf_wait};
 
 use crate::crossing::{crossers, crossers_within};
 use crate::entries::Entries;
-use crate::entry::Entry;
+use crate::entry::{Entry, Spare};
 use crate::flags::{Flags, count_lit, count_lit_within, flip};
 use crate::lanes::Lanes;
 use crate::live::Live;
@@ -41,19 +41,17 @@ pub(crate) struct IndexState {
     pub(crate) lit: usize,
     // how many threads may stand on both sides of one channel
     pub(crate) crossing: usize,
-    // entries of threads that have gone, whose lists serve the next that come; they hold no group
-    pub(crate) spares: Vec<Entry>,
+    // lists of threads that have gone, which serve the next that come
+    pub(crate) spares: Vec<Spare>,
 }
 
-// How many entries of threads that have gone are kept.
+// Of how many threads that have gone the lists are kept.
 const SPARES: usize = 64;
 
-// Keeps the entry for the next thread that comes, where there is room and its lists are short.
-fn keep(spares: &mut Vec<Entry>, entry: Entry) {
-    let mut entry = entry;
+// Keeps the entry's lists for the next thread that comes, where there is room and they are short.
+fn keep(spares: &mut Vec<Spare>, entry: Entry) {
     if spares.len() < spares.capacity() && entry.is_short() {
-        entry.rest();
-        spares.push_reserved(entry);
+        spares.push_reserved(entry.rest());
     }
 }
 
@@ -97,7 +95,7 @@ impl IndexState {
         }
     }
 
-    // The thread with a copy of the group, in the lists of one that has gone, if one is kept.
+    // The entry of the thread and the group, in the lists of one that has gone, if such are kept.
     pub(crate) fn entry(
         &mut self,
         alloc: Global,
@@ -115,7 +113,7 @@ impl IndexState {
             self.spares.reserve(SPARES)?;
         }
         match self.spares.pop() {
-            Some(spare) => renewed(spare, tid, group),
+            Some(spare) => spare.renew(tid, group),
             None => Entry::new(alloc, tid, group),
         }
     }
@@ -201,20 +199,6 @@ impl IndexState {
         self.live.add_all(&self.lanes, entry.waits());
         self.crossing += crossers(entry.waits());
         self.entries.put(entry);
-    }
-}
-
-// The entry for this thread and this group.
-fn renewed(entry: Entry, tid: Tid, group: &Group) -> Result<Entry, AllocError>
-    ensures { IfOk result (λ e. e ≡ record { thread = tid.0; group = group.now }) }
-{
-    let mut entry = entry;
-    match entry.renew(tid, group) {
-        Ok(()) => Ok(entry),
-        Err(error) => {
-            drop(entry);
-            Err(error)
-        }
     }
 }
 

@@ -3,6 +3,7 @@ use Rattle.cml_index.specs.Slots.{slot_in, has_slot, is_slot, lane_at, late_at}
 use Rattle.cml_index.specs.Stands as stands
 use Rattle.cml_index.specs.Stands.{stand_at}
 use Rattle.std.proofs.Common.{nat_lt}
+use Rattle.std.specs.Option.{option_copied}
 use Rattle.cml_scan.specs.Order.{Ascends}
 use Rattle.cml_channel.specs.Lanes.{with_run}
 use Rattle.cml_index.proofs.Walks.{waits_more, waits_all, no_leaves, one_more, joined_run, with_none, leaves_at-ascend, decide}
@@ -26,9 +27,9 @@ loop-wait-preserved c =
     let i = c.loop-wait.wait-index in
     record {
       done = one_more (stands.HasCome c.args.tid) (come_twice c.args.tid) (stand_at c.args.self.now)
-          (stand_at c.loop-wait.self) (stand_at c.come_of.new.self) (λ k. is_slot k c.slot.result)
+          (stand_at c.loop-wait.self) (stand_at c.come_of.new.self) (λ k. is_slot k (option_copied c.slot_ref.result))
           (λ k. has_slot k (take i ss)) (λ k. has_slot k (take (i + 1) ss))
-          (λ k. waits_more (is_slot k) c.args.waits.now i c.slot.result _ c.loop-wait-test.true c.slot.ensures) c.come_of.ensures.here c.come_of.ensures.elsewhere c.loop-wait.invariant.done;
+          (λ k. waits_more (is_slot k) c.args.waits.now i (option_copied c.slot_ref.result) _ c.loop-wait-test.true c.slot_ref.ensures) c.come_of.ensures.here c.come_of.ensures.elsewhere c.loop-wait.invariant.done;
       cost = λ digits few.
           let before = c.loop-wait.invariant.cost digits few in
           let one = c.come_of.ensures.cost digits (λ k e some. decide (has_slot k (take i ss))

@@ -5,7 +5,7 @@ use Rattle.cml_index.proofs.lanes.Lanes.come_at.Goals as goal
 
 pub returns-in-Side-clause-cost : goal.returns-in-Side-clause-cost
 returns-in-Side-clause-cost c digits few =
-    let is : slice_get c.side_mut.result.now.items c.in-Side.object.number ≡ stand_at c.args.self.now c.args.slot = ap (λ v. slice_get v.items c.in-Side.object.number)
+    let is : slice_get c.side_mut.result.now.items c.in-Side.object.number ≡ stand_at c.args.self.now c.args.slot.now = ap (λ v. slice_get v.items c.in-Side.object.number)
     c.side_mut.ensures.value ∙ ap (stand_at c.args.self.now) (sym c.in-Side.is) in
     c.come_in.ensures.cost digits (subst (ComesWithin digits) (sym is) few)
 

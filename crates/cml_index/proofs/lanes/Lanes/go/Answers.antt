@@ -9,6 +9,7 @@ use Rattle.cml_value.specs.declared.number.Tid.{Tid}
 use Rattle.cml_channel.specs.Lanes.{others, is_own}
 use Rattle.cml_index.proofs.Walks.{waits_more, waits_all, no_leaves, one_more, others_all, decide}
 use Rattle.std.proofs.lemmas.Bool.Decides.{nat_tests}
+use Rattle.std.specs.Option.{option_copied}
 use Rattle.cml_index.proofs.Stood.{go_twice}
 use Rattle.cml_index.proofs.lanes.Lanes.go.Goals as goal
 
@@ -18,9 +19,9 @@ loop-wait-preserved c =
     let i = c.loop-wait.wait-index in
     record {
       done = one_more (stands.HasGone c.args.tid) (go_twice c.args.tid) (stand_at c.count.new.self)
-          (stand_at c.loop-wait.self) (stand_at c.go_of.new.self) (λ k. is_slot k c.slot.result)
+          (stand_at c.loop-wait.self) (stand_at c.go_of.new.self) (λ k. is_slot k (option_copied c.slot_ref.result))
           (λ k. has_slot k (take i ss)) (λ k. has_slot k (take (i + 1) ss))
-          (λ k. waits_more (is_slot k) c.args.waits.now i c.slot.result _ c.loop-wait-test.true c.slot.ensures) c.go_of.ensures.here c.go_of.ensures.elsewhere c.loop-wait.invariant.done;
+          (λ k. waits_more (is_slot k) c.args.waits.now i (option_copied c.slot_ref.result) _ c.loop-wait-test.true c.slot_ref.ensures) c.go_of.ensures.here c.go_of.ensures.elsewhere c.loop-wait.invariant.done;
       cost = λ digits few.
           let before = c.loop-wait.invariant.cost digits few in
           let one = c.go_of.ensures.cost digits (λ k e some. decide (has_slot k (take i ss))
