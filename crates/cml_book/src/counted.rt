@@ -54,7 +54,7 @@ pub struct Counted {
     // that it is known that no leaf looks at a light
     lightless: bool,
     // how many leaves wait for each tick, where there are more than a few
-    ticks: Option<Clock>,
+    ticks: Option<Box<Clock>>,
 }
 
 impl Model for Counted {
@@ -70,7 +70,7 @@ impl Model for Counted {
 
     ghost view = { λ c. c.flat };
 
-    ghost invariant = { λ c. (leaf_count c.flat ≤ max_leaves) × IfSome c.ticks (λ clock. CountsLeaves clock.waited c.flat)
+    ghost invariant = { λ c. (leaf_count c.flat ≤ max_leaves) × IfSome c.ticks (λ clock. CountsLeaves clock.value.waited c.flat)
         × (c.tickless ≡ true → is_tickless c.flat ≡ true) × (c.lightless ≡ true → is_lightless c.flat ≡ true) };
 }
 
@@ -96,6 +96,10 @@ impl Counted {
         let mut ticks = Clock::new(alloc);
         let Ok(()) = count_ticks(&mut ticks, &flat) else {
             drop(ticks);
+            drop(flat);
+            return Err(AllocError);
+        };
+        let Ok(ticks) = Box::new(alloc, ticks) else {
             drop(flat);
             return Err(AllocError);
         };

@@ -1,16 +1,15 @@
 -- The leaves of a group that is flat as it stands; and that all leaves of any other are listed.
-use Rattle.std.proofs.Common.{◌≡◌, ℕ, zero, suc, ◌+◌, ◌<◌, Bool, true, false, cond, Option, Some, None, List, [], ◌∷◌, length, get_or, nat_eq, refl, sym, subst, ap, ◌∙◌, arith}
+use Rattle.std.proofs.Common.{◌≡◌, ℕ, zero, suc, ◌+◌, ◌<◌, true, Option, Some, None, List, [], ◌∷◌, length, filter, refl, ap, ◌∙◌, arith}
 use Rattle.std.proofs.lemmas.Bool.{false≢true, and_parts}
-use Rattle.std.proofs.lemmas.Bool.Decides.{nat_tests}
 use Rattle.std.specs.Option.{option_map}
 use Rattle.std.specs.List.{slice_get}
 use Rattle.cml_value.specs.Value.{PlainBase, PlainFunction}
-use Rattle.cml_value.specs.Group.{PlainGroup, leaf, choose, PlainGroups, no_groups, groups_and, groups, PlainLeaf, leaves, leaf_count, scopes, scopes_from_all}
+use Rattle.cml_value.specs.Group.{PlainGroup, leaf, choose, PlainGroups, no_groups, groups_and, groups, PlainLeaf, PlainScope, leaf_count, scopes, scopes_from_all, nacks_of, lies_outside, lost}
 use Rattle.cml_value.specs.GroupViews.{plain_group}
 use Rattle.cml_value.specs.declared.value.Base.{Base}
 use Rattle.cml_value.specs.declared.group.GroupKind.{GroupKind}
 use Rattle.cml_value.specs.declared.group.GroupKind.TheVariants as group_kind
-use Rattle.cml_group.specs.LaidOut.{is_bare, is_bare_leaf, are_bare_leaves, is_flat, listed_leaves}
+use Rattle.cml_group.specs.LaidOut.{is_bare, are_bare_leaves, is_flat}
 use Rattle.cml_group.specs.Leaves.{pick, leaf_base, leaf_wraps}
 
 -- a choice among base events without a value has a leaf for each member
@@ -57,43 +56,10 @@ flat_scopes (leaf b) h = refl
 flat_scopes (choose gs) h = scopes_of_bare 0 gs h
 flat_scopes _ h = absurd (false≢true h)
 
--- where no leaf is listed and there is one, the group is flat as it stands
-unlisted : (flat : Bool) (n : ℕ) (ls : List PlainLeaf) → cond flat [] ls ≡ [] → n < length ls → flat ≡ true
-unlisted true n ls e h = refl
-unlisted false n ls e h = absurd (let k : length ls ≡ 0 = rw e refl in omega arith)
+pub flat_lost : (g : PlainGroup) (n : ℕ) → is_flat g ≡ true → lost g n ≡ []
+flat_lost g n h = ap (λ (ss : List PlainScope). nacks_of (filter (lies_outside n) ss)) (flat_scopes g h)
 
-pub unlisted_is_flat : (g : PlainGroup) (n : ℕ) → listed_leaves g ≡ [] → n < leaf_count g → is_flat g ≡ true
-unlisted_is_flat g n e h = unlisted (is_flat g) n (leaves g) e h
-
--- where a leaf is listed, all are
-all_of : (flat : Bool) (ls : List PlainLeaf) → 0 < length (cond flat [] ls) → cond flat [] ls ≡ ls
-all_of true ls h = absurd (omega arith)
-all_of false ls h = refl
-
-pub all_listed : (g : PlainGroup) → 0 < length (listed_leaves g) → listed_leaves g ≡ leaves g
-all_listed g h = all_of (is_flat g) (leaves g) h
-
--- the same of a list that has this length
-empty : (n : ℕ) (b : Bool) → b ≡ nat_eq n 0 → b ≡ true → n ≡ 0
-empty n b e h = grind (arith, nat_tests)
-
-not_empty : (n : ℕ) (b : Bool) → b ≡ nat_eq n 0 → b ≡ false → 0 < n
-not_empty n b e h = grind (arith, nat_tests)
-
-no_items : (ls : List PlainLeaf) → length ls ≡ 0 → ls ≡ []
-no_items [] h = refl
-no_items (l ∷ ls) h = absurd (omega arith)
-
-pub none_listed : (g : PlainGroup) (ls : List PlainLeaf) (n : ℕ) (b : Bool) → n ≡ length ls → ls ≡ listed_leaves g → b ≡ nat_eq n 0 → b ≡ true → listed_leaves g ≡ []
-none_listed g ls n b len are e h = let none = empty n b e h in sym are ∙ no_items ls (omega arith)
-
-pub kept_all : (g : PlainGroup) (ls : List PlainLeaf) (n : ℕ) (b : Bool) → n ≡ length ls → ls ≡ listed_leaves g → b ≡ nat_eq n 0 → b ≡ false → ls ≡ leaves g
-kept_all g ls n b len are e h =
-    let some = not_empty n b e h in
-    let filled : 0 < length ls = omega arith in
-    are ∙ all_listed g (subst (λ (l : List PlainLeaf). 0 < length l) are filled)
-
--- a leaf that is not listed is its base event
+-- a leaf of a group that is flat as it stands is its base event
 parts : (o : Option PlainLeaf) (b : PlainBase) (fs : List PlainFunction) → option_map (λ l. l.base) o ≡ Some b → option_map (λ l. l.wraps) o ≡ Some fs → o ≡ Some (record { base = b; wraps = fs })
 parts None b fs e f = cc
 parts (Some l) b fs e f =
@@ -101,15 +67,8 @@ parts (Some l) b fs e f =
     let q : l.wraps ≡ fs = cc in
     ap (λ (x : PlainBase). Some (record { base = x; wraps = l.wraps })) p ∙ ap (λ (xs : List PlainFunction). Some (record { base = b; wraps = xs })) q
 
-pub unlisted_leaf : (g : PlainGroup) (n : ℕ) (b : PlainBase) → listed_leaves g ≡ [] → n < leaf_count g → leaf_base g n ≡ Some b → pick g n ≡ Some (record { base = b; wraps = [] })
-unlisted_leaf g n b e h at = parts (pick g n) b [] at (flat_wraps g n (unlisted_is_flat g n e h) h)
-
--- a choice of which no leaf is listed, and which begins with a base event without a value, has as many leaves as members
-pub own_count_bare : (gs : List PlainGroup) (g : PlainGroup) → listed_leaves (choose (groups gs)) ≡ [] → 0 < length gs
-    → g ≡ get_or gs 0 g → is_bare_leaf g ≡ true → leaf_count (choose (groups gs)) ≡ length gs
-own_count_bare [] g e k at h = absurd (omega arith)
-own_count_bare (leaf b ∷ gs) g e k at h = bare_count (leaf b ∷ gs) (unlisted_is_flat (choose (groups (leaf b ∷ gs))) 0 e (omega arith))
-own_count_bare (f ∷ gs) g e k at h = absurd (false≢true (rw at at h))
+pub flat_leaf : (g : PlainGroup) (n : ℕ) (b : PlainBase) → is_flat g ≡ true → n < leaf_count g → leaf_base g n ≡ Some b → pick g n ≡ Some (record { base = b; wraps = [] })
+flat_leaf g n b e h at = parts (pick g n) b [] at (flat_wraps g n e h)
 
 -- a group that is a base event is of that kind
 pub leaf_kind : (k : GroupKind) (b : PlainBase) → plain_group k ≡ leaf b → ((x : Base) → k ≡ group_kind.Leaf x → ⊥) → ⊥

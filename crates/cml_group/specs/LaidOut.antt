@@ -1,5 +1,5 @@
 -- What a flat group keeps: the group, its leaves and its scopes.
-use Rattle.std.specs.Prelude.{◌≡◌, ◌≤◌, ℕ, Bool, ◌&&◌, if◌then◌else◌, List, [], length, true, false}
+use Rattle.std.specs.Prelude.{◌≡◌, ◌≤◌, ℕ, Bool, ◌&&◌, List, length, true, false}
 use Rattle.cml_value.specs.Value.{PlainBase, always, send, swap, mswap}
 use Rattle.cml_value.specs.Group.{PlainGroup, leaf, choose, PlainGroups, no_groups, groups_and, PlainLeaf, PlainScope, leaves, leaf_count, scopes, nacks_of, group_fits}
 use Rattle.cml_group.specs.Leaves.{numbers}
@@ -38,14 +38,9 @@ is_flat (leaf b) = true
 is_flat (choose gs) = are_bare_leaves gs
 is_flat g = false
 
--- the leaves for which there is a list: none of a group that is flat as it stands
-abbrev pub listed_leaves : PlainGroup → List PlainLeaf
-listed_leaves g = if is_flat g then [] else leaves g
-
--- these are the leaves that are listed, the scopes and the nacks of the group, and the list of nacks has room for all of them
+-- these are the leaves, the scopes and the nacks of the group, and the list of nacks has room for all of them
 pub record IsLaidOut (g : PlainGroup) (ls : List PlainLeaf) (ss : List PlainScope) (ks : List NackId) (room : ℕ) : Type 0 where
-  pub leaves_are : ls ≡ listed_leaves g
+  pub leaves_are : ls ≡ leaves g
   pub scopes_are : ss ≡ scopes g
   pub nacks_are : numbers ks ≡ nacks_of (scopes g)
   pub has_room : length ss ≤ room
-  pub within : leaf_count g ≤ max_leaves

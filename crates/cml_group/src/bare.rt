@@ -1,9 +1,9 @@
 //! Groups that are flat as they stand: base events, and choices among base events that carry no value. No list of leaves is
 //! kept for them.
 
-ghost use Rattle.std.specs.Prelude.{◌≡◌, ◌<◌, true, [], length, slice_get};
+ghost use Rattle.std.specs.Prelude.{◌≡◌, ◌<◌, true, length, slice_get};
 ghost use Rattle.cml_value.specs.Group.{groups, leaf, leaf_count};
-ghost use Rattle.cml_group.specs.LaidOut.{is_bare, is_bare_leaf, are_bare_leaves, is_flat, listed_leaves};
+ghost use Rattle.cml_group.specs.LaidOut.{is_bare, is_bare_leaf, are_bare_leaves, is_flat};
 ghost use Rattle.cml_group.specs.Leaves.{leaf_base};
 
 use cml_value::{Base, BaseKind, Group, GroupKind};
@@ -87,23 +87,15 @@ pub fn is_flat(group: &Group) -> bool
     }
 }
 
-/// How many leaves the group has, none of which is listed: it is flat as it stands, or has no leaves. A choice without leaves does not
-/// begin with a base event.
-#[inline(never)]
-#[tactic(auto, using(crate::proofs::Listed::own_count_bare))]
+/// How many leaves the group has, which is flat as it stands.
 pub fn own_count(group: &Group) -> usize
-    requires { listed_leaves group.now ≡ [] }
+    requires { is_flat group.now ≡ true }
     ensures { result ≡ leaf_count group.now }
 {
     match group.kind() {
         GroupKind::Leaf(_) => 1,
-        GroupKind::Choose(members) => {
-            if members.is_empty() || !is_bare_leaf(&members[0]) {
-                return 0;
-            }
-            members.len()
-        }
-        _ => 0,
+        GroupKind::Choose(members) => members.len(),
+        _ => unreachable!(),
     }
 }
 

@@ -4,7 +4,7 @@ ghost use Rattle.std.specs.Prelude.{◌≡◌, ◌≤◌, ◌<◌, length, map, 
 ghost use Rattle.std.specs.Vec.{vec_capacity};
 ghost use Rattle.cml_value.specs.Group.{PlainGroup, leaf_count, scopes, nacks_of, lies_outside, lost};
 ghost use Rattle.cml_group.specs.Leaves.{pick, leaf_base, leaf_wraps, numbers};
-ghost use Rattle.cml_group.specs.LaidOut.{IsWithinLimits, listed_leaves};
+ghost use Rattle.cml_group.specs.LaidOut.{IsWithinLimits, IsLaidOut};
 ghost use Rattle.cml_group.specs.Faults.{Refuses};
 
 use crate::bare::{is_flat, own_base, own_count, own_leaf};
@@ -20,18 +20,23 @@ use std::marker::Model;
 pub struct Flat {
     group: Group,
     // none where the group is flat as it stands: its leaves are read off it
+    listed: Option<Box<Lists>>,
+    alloc: Global,
+}
+
+// The leaves and the branches of a group that is not flat as it stands, and its nacks.
+#[derive(Drop)]
+struct Lists {
     leaves: Vec<Leaf>,
     branches: Branches,
     nacks: Vec<NackId>,
-    // the functions of such leaves: none
-    unwrapped: Vec<FnRef>,
 }
 
 impl Model for Flat {
-    ghost use Rattle.std.specs.Prelude.{◌≡◌, []};
-    ghost use Rattle.cml_value.specs.Group.{PlainGroup};
+    ghost use Rattle.std.specs.Prelude.{◌≡◌, ◌≤◌, true, IfSome, IfNone};
+    ghost use Rattle.cml_value.specs.Group.{PlainGroup, leaf_count};
     ghost use Rattle.cml_value.specs.GroupCodes.{group_code};
-    ghost use Rattle.cml_group.specs.LaidOut.{IsLaidOut};
+    ghost use Rattle.cml_group.specs.LaidOut.{IsLaidOut, is_flat, max_leaves};
     ghost use Rattle.std.specs.Vec.{vec_capacity};
 
     ghost Value = { PlainGroup };
@@ -40,8 +45,9 @@ impl Model for Flat {
 
     ghost view = { λ a. a.group };
 
-    ghost invariant = { λ a. (IsLaidOut a.group a.leaves.items a.branches.items a.nacks.items (vec_capacity a.nacks))
-        × (a.unwrapped.items ≡ []) };
+    ghost invariant = { λ a. (leaf_count a.group ≤ max_leaves)
+        × IfNone a.listed (is_flat a.group ≡ true)
+        × IfSome a.listed (λ b. IsLaidOut a.group b.value.leaves.items b.value.branches.items b.value.nacks.items (vec_capacity b.value.nacks)) };
 }
 
 /// What choosing a leaf leads to.
@@ -68,6 +74,24 @@ fn fill(nacks: &mut Vec<NackId>, branches: &[Branch], leaf: usize)
     }
 }
 
+// Whether the leaf lies outside the branch at this place.
+fn loses_at(branches: &[Branch], leaf: usize, place: usize) -> bool
+    requires { place < length branches.now }
+    ensures { slice_get (map (lies_outside leaf) branches.now) place ≡ Some result }
+{
+    let branch = &branches[place];
+    leaf < branch.first || branch.past <= leaf
+}
+
+// The nacks of those branches in which the leaf does not lie.
+fn lost_among(alloc: Global, branches: &[Branch], leaf: usize) -> Result<Vec<NackId>, AllocError>
+    ensures { IfOk result (λ ks. numbers ks.items ≡ nacks_of (filter (lies_outside leaf) branches.now)) }
+{
+    let mut nacks = Vec::with_capacity(alloc, branches.len())?;
+    fill(&mut nacks, branches, leaf);
+    Ok(nacks)
+}
+
 // The nacks of the branches, in a list with room for all of them.
 fn nacks_in(alloc: Global, branches: &[Branch]) -> Result<Vec<NackId>, AllocError>
     ensures nacks { IfOk result (λ ks. numbers ks.items ≡ nacks_of branches.now) }
@@ -88,24 +112,24 @@ fn first_room(group: &Group) -> usize {
     }
 }
 
-// Fills the lists, which are empty, with the leaves of the group that are listed and with its scopes.
-#[tactic(auto, using(crate::proofs::Listed::flat_scopes))]
-fn lay_listed(
-    group: &Group,
-    alloc: Global,
-    leaves: &mut Vec<Leaf>,
-    branches: &mut Branches,
-) -> Result<(), AllocError>
-    requires no_leaves { leaves.old.items ≡ [] }
-    requires no_branches { branches.old.items ≡ [] }
-    ensures leaves { OnOk result (leaves.new.items ≡ listed_leaves group.now) }
-    ensures scopes { OnOk result (branches.new.items ≡ scopes group.now) }
+// What is listed of the group.
+#[inline(never)]
+fn lists_of(group: &Group, alloc: Global) -> Result<Box<Lists>, AllocError>
+    ensures { IfOk result (λ b. IsLaidOut group.now b.value.leaves.items b.value.branches.items b.value.nacks.items (vec_capacity b.value.nacks)) }
 {
-    if is_flat(group) {
-        return Ok(());
-    }
-    leaves.reserve(first_room(group))?;
-    lay(group, alloc, leaves, branches)
+    let mut leaves = Vec::with_capacity(alloc, first_room(group))?;
+    let mut branches = Vec::new(alloc);
+    lay(group, alloc, &mut leaves, &mut branches)?;
+    let nacks = nacks_in(alloc, branches.as_slice())?;
+    let lists = Box::new(
+        alloc,
+        Lists {
+            leaves,
+            branches,
+            nacks,
+        },
+    )?;
+    Ok(lists)
 }
 
 /// The group laid flat: a thread offers its leaves. All that [`Flat::choose`] will hand out is reserved here.
@@ -126,18 +150,18 @@ pub fn flatten(alloc: Global, group: Group) -> Result<Flat, FlatFault>
     if !group.fits() {
         return Err(FlatFault::Deep(group));
     }
-    let mut leaves = Vec::new(alloc);
-    let mut branches = Vec::new(alloc);
-    if lay_listed(&group, alloc, &mut leaves, &mut branches).is_err() {
-        return Err(FlatFault::Memory(group));
-    }
-    match nacks_in(alloc, branches.as_slice()) {
-        Ok(nacks) => Ok(Flat {
+    if is_flat(&group) {
+        return Ok(Flat {
             group,
-            leaves,
-            branches,
-            nacks,
-            unwrapped: Vec::new(alloc),
+            listed: None,
+            alloc,
+        });
+    }
+    match lists_of(&group, alloc) {
+        Ok(lists) => Ok(Flat {
+            group,
+            listed: Some(lists),
+            alloc,
         }),
         Err(_) => Err(FlatFault::Memory(group)),
     }
@@ -156,10 +180,9 @@ impl Flat {
         ensures len { result ≡ leaf_count self.now }
         ensures few { result ≤ MAX_LEAVES }
     {
-        match self.group.kind() {
-            GroupKind::Leaf(_) => 1,
-            _ if self.leaves.is_empty() => own_count(&self.group),
-            _ => self.leaves.len(),
+        match &self.listed {
+            None => own_count(&self.group),
+            Some(listed) => listed.leaves.len(),
         }
     }
 
@@ -168,10 +191,9 @@ impl Flat {
         requires { n < leaf_count self.now }
         ensures { leaf_base self.now n ≡ Some result.now }
     {
-        match self.group.kind() {
-            GroupKind::Leaf(base) => base,
-            _ if self.leaves.is_empty() => own_leaf(&self.group, n),
-            _ => &self.leaves[n].base,
+        match &self.listed {
+            None => own_leaf(&self.group, n),
+            Some(listed) => &listed.leaves[n].base,
         }
     }
 
@@ -180,10 +202,10 @@ impl Flat {
         requires { n < leaf_count self.now }
         ensures { leaf_wraps self.now n ≡ Some result.now }
     {
-        if self.leaves.is_empty() {
-            return &self.unwrapped;
+        match &self.listed {
+            None => &[],
+            Some(listed) => &listed.leaves[n].wraps,
         }
-        &self.leaves[n].wraps
     }
 
     /// The nacks of all scopes, from the left, an outer one before those in it.
@@ -191,7 +213,10 @@ impl Flat {
         ensures nacks { numbers result.now ≡ nacks_of (scopes self.now) }
         ensures len { length result.now ≡ length (scopes self.now) }
     {
-        &self.nacks
+        match &self.listed {
+            None => &[],
+            Some(listed) => &listed.nacks,
+        }
     }
 
     /// Whether the nack of the scope at this place fires where the leaf is chosen: the leaf lies outside the scope.
@@ -200,8 +225,10 @@ impl Flat {
         requires scope { scope < length (scopes self.now) }
         ensures { slice_get (map (lies_outside n) (scopes self.now)) scope ≡ Some result }
     {
-        let branch = &self.branches.as_slice()[scope];
-        n < branch.first || branch.past <= n
+        match &self.listed {
+            None => unreachable!(),
+            Some(listed) => loses_at(listed.branches.as_slice(), n, scope),
+        }
     }
 
     /// The nacks that fire where the leaf is chosen, in the order of [`Flat::scopes`].
@@ -212,10 +239,10 @@ impl Flat {
         requires { n < leaf_count self.now }
         ensures { IfOk result (λ ks. numbers ks.items ≡ lost self.now n) }
     {
-        let branches = self.branches.as_slice();
-        let mut nacks = Vec::with_capacity(alloc, branches.len())?;
-        fill(&mut nacks, branches, n);
-        Ok(nacks)
+        match &self.listed {
+            None => Ok(Vec::new(alloc)),
+            Some(listed) => lost_among(alloc, listed.branches.as_slice(), n),
+        }
     }
 
     /// The leaf, chosen. It takes no memory: the lists were reserved by [`flatten`].
@@ -227,24 +254,38 @@ impl Flat {
     {
         let Flat {
             group,
-            mut leaves,
-            branches,
-            mut nacks,
-            unwrapped,
+            listed,
+            alloc,
         } = self;
-        fill(&mut nacks, branches.as_slice(), n);
-        let Leaf { base, wraps } = if leaves.is_empty() {
-            Leaf {
+        match listed {
+            None => Chosen {
                 base: own_base(group, n),
-                wraps: unwrapped,
-            }
-        } else {
-            leaves.swap_remove(n)
-        };
-        Chosen {
-            base,
-            wraps,
-            lost: nacks,
+                wraps: Vec::new(alloc),
+                lost: Vec::new(alloc),
+            },
+            Some(listed) => choose_listed(Box::into_inner(listed), n),
         }
+    }
+}
+
+// The leaf of this number among those that are listed, chosen.
+#[inline(never)]
+fn choose_listed(listed: Lists, n: usize) -> Chosen
+    requires leaf { n < length listed.leaves.items }
+    requires room { length listed.branches.items ≤ vec_capacity listed.nacks }
+    ensures leaf { slice_get listed.leaves.items n ≡ Some (record { base = result.base; wraps = result.wraps.items }) }
+    ensures lost { numbers result.lost.items ≡ nacks_of (filter (lies_outside n) listed.branches.items) }
+{
+    let Lists {
+        mut leaves,
+        branches,
+        mut nacks,
+    } = listed;
+    fill(&mut nacks, branches.as_slice(), n);
+    let Leaf { base, wraps } = leaves.swap_remove(n);
+    Chosen {
+        base,
+        wraps,
+        lost: nacks,
     }
 }
