@@ -1,7 +1,7 @@
 //! The forcing of an event.
 
-ghost use Rattle.std.specs.Prelude.{◌≡◌, ◌↔◌, IsTrue, ◌∷◌, ◌+◌, true, Some, IfOk, IfErr, IfSome, OnOk, OnErr, is_some};
-ghost use Rattle.cml_value.specs.Value.{PlainFunction, PlainEvent, guard, scope};
+ghost use Rattle.std.specs.Prelude.{◌≡◌, ◌↔◌, IsTrue, ◌∷◌, ◌+◌, true, Some, IfOk, IfErr, IfSome, OnOk, OnErr, is_some, MatchOption};
+ghost use Rattle.cml_value.specs.Value.{PlainFunction, PlainEvent, leaf, guard, scope};
 ghost use Rattle.cml_value.specs.Limits.{event_nodes, event_fits, max_nodes};
 ghost use Rattle.cml_group.specs.Force.{calls, needs_nack, unforced, replaced, given_nack, event_of, AwaitsEvent, AwaitsNack};
 ghost use Rattle.cml_group.specs.Asks.{Asks, RefusesAnswer};
@@ -177,6 +177,29 @@ impl Forcing {
                 Ok(Forcing { part, room })
             }
             Err(_) => Err(AllocFailed { value: event }),
+        }
+    }
+
+    /// The forcing of a base event, of which nothing is left to be forced. It takes no memory.
+    #[inline(always)]
+    pub fn of_base(base: Base) -> Forcing
+        ensures { result ≡ leaf base }
+    {
+        Forcing {
+            part: Part::Whole(Group::new(GroupKind::Leaf(base))),
+            room: None,
+        }
+    }
+
+    /// The group that the event was forced to, if nothing is asked for.
+    #[inline(always)]
+    pub fn whole(&self) -> Option<&Group>
+        ensures { MatchOption result (unforced self.now ≡ None → ⊥)
+            (λ g. (unforced self.now ≡ None) × (event_of g.now ≡ self.now)) }
+    {
+        match &self.part {
+            Part::Whole(group) => Some(group),
+            Part::Open(_, _) => None,
         }
     }
 

@@ -226,9 +226,8 @@ answers_count n (Ok vs) (Err e) g a = absurd (cc)
 answers_count n (Err e) found g a = tt
 
 -- an event that was found
-pub offer_agrees : (fs : List ℕ) (r : Option PlainEvent) (found : Found PlainValue) → IfSome r (λ x. found ≡ Ok (event x)) → Agrees fs found → IfSome r (λ x. event_agrees fs x ≡ true)
-offer_agrees fs (Some x) found g a = subst (Agrees fs) g a
-offer_agrees fs None found g a = tt
+pub offer_agrees : (fs : List ℕ) (x : PlainEvent) (found : Found PlainValue) → found ≡ Ok (event x) → Agrees fs found → event_agrees fs x ≡ true
+offer_agrees fs x found g a = subst (Agrees fs) g a
 
 -- the same of a value that is found
 pub message_agrees : (fs : List ℕ) (r : Option PlainValue) (found : Found PlainValue) → IfSome r (λ v. found ≡ Ok v) → Agrees fs found → IfSome r (λ v. value_agrees fs v ≡ true)

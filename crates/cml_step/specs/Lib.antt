@@ -26,3 +26,4 @@ pub mod Nacks
 pub mod Undone
 pub mod Undos
 pub mod Begins
+pub mod Puts

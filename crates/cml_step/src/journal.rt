@@ -98,8 +98,12 @@ impl Journal {
         ensures sets { self.new.sets.items ≡ [] }
         ensures over { self.new.over ≡ None }
     {
-        self.sets.clear();
-        self.over = None;
+        if !self.sets.is_empty() {
+            self.sets.clear();
+        }
+        if self.over.is_some() {
+            self.over = None;
+        }
     }
 
     /// Begins with this call, of which nothing was set yet.

@@ -1,15 +1,20 @@
 //! Events that are found without a value made of them. `None` says nothing: then the value is to be found in full, where each fault is told.
 
-ghost use Rattle.std.specs.Prelude.{◌≡◌, Ok, IfSome};
+ghost use Rattle.std.specs.Prelude.{◌≡◌, true, false, Some, Ok, IfSome};
 ghost use Rattle.cml_value.specs.Value.{chan, mailbox, mvar, event, leaf};
 ghost use Rattle.cml_value.specs.Views.{plain_base};
 ghost use Rattle.cml_step.specs.Operators.{built};
 ghost use Rattle.cml_step.specs.Variables.{slot_value};
 ghost use Rattle.cml_step.specs.Evaluate.{evaluate};
+ghost use Rattle.cml_step.specs.Puts.{event_over, IsPut};
+ghost use Rattle.cml_check.specs.Syntax.{binary};
 
+use crate::entry::Entry;
 use crate::number::quick_int;
 use cml_check::{Binary, Expr, ExprKind, Unary};
+use cml_group::Forcing;
 use cml_value::{Base, BaseKind, ChanId, Event, EventKind, MVarId, MboxId, Value, ValueKind};
+use std::alloc::Global;
 
 // The channel that an expression is, where it is a variable.
 fn channel(slots: &[Value], e: &Expr) -> Option<ChanId>
@@ -78,6 +83,14 @@ pub(crate) fn message(slots: &[Value], e: &Expr) -> Option<Value>
     }
 }
 
+// Puts the forcing of the base event there.
+#[inline(always)]
+fn put_base(kind: BaseKind, over: &mut Option<Entry>)
+    ensures { over.new ≡ Some (Entry.Force (leaf (plain_base kind)) false) }
+{
+    *over = Some(Entry::Force(Forcing::of_base(Base::new(kind)), false));
+}
+
 // The base event, if it is within the limits.
 fn offered(kind: BaseKind) -> Option<Event>
     ensures { IfSome result (λ e. built (event (leaf (plain_base kind))) ≡ Ok (event e)) }
@@ -117,29 +130,109 @@ pub(crate) fn is_quick(e: &Expr) -> bool {
     }
 }
 
-/// The event that an expression is, where it is a variable, or a receive, a send or a take, that can be found so and has no fault.
-pub(crate) fn quick_event(slots: &[Value], e: &Expr) -> Option<Event>
-    ensures { IfSome result (λ x. evaluate (slot_value slots.now) e.now ≡ Ok (event x)) }
+// Begins to force the event there. Without memory nothing has changed.
+fn put_forced(alloc: Global, held: Event, over: &mut Option<Entry>) -> bool
+    ensures put { result ≡ true → over.new ≡ Some (Entry.Force held false) }
+    ensures stays { result ≡ false → over.new ≡ over.old }
+{
+    match Forcing::start(alloc, held) {
+        Ok(forcing) => {
+            *over = Some(Entry::Force(forcing, false));
+            true
+        }
+        Err(back) => {
+            drop(back);
+            false
+        }
+    }
+}
+
+// Puts the event there that a slot has, if it has one, to be forced. Else nothing has changed.
+#[inline(never)]
+fn put_variable(alloc: Global, slots: &[Value], at: usize, over: &mut Option<Entry>) -> bool
+    ensures found { result ≡ true → slot_value slots.now at ≡ event (event_over over.new) }
+    ensures put { result ≡ true → IsPut over.new }
+    ensures stays { result ≡ false → over.new ≡ over.old }
+{
+    match event_at(slots, at) {
+        Some(held) => put_forced(alloc, held, over),
+        None => false,
+    }
+}
+
+// Puts a send of what a variable has there, to be forced, if it can be found so. Else nothing has changed.
+#[inline(never)]
+fn put_message(alloc: Global, slots: &[Value], d: &Expr, e: &Expr, over: &mut Option<Entry>) -> bool
+    ensures found { result ≡ true →
+        evaluate (slot_value slots.now) (binary Binary.Send d.now e.now)
+        ≡ Ok (event (event_over over.new)) }
+    ensures put { result ≡ true → IsPut over.new }
+    ensures stays { result ≡ false → over.new ≡ over.old }
+{
+    let Some(to) = channel(slots, d) else {
+        return false;
+    };
+    let Some(what) = message(slots, e) else {
+        return false;
+    };
+    match offered(BaseKind::Send(to, what)) {
+        Some(held) => put_forced(alloc, held, over),
+        None => false,
+    }
+}
+
+// The same, where a number is sent without more ado.
+#[inline(always)]
+fn put_send(alloc: Global, slots: &[Value], d: &Expr, e: &Expr, over: &mut Option<Entry>) -> bool
+    ensures found { result ≡ true →
+        evaluate (slot_value slots.now) (binary Binary.Send d.now e.now)
+        ≡ Ok (event (event_over over.new)) }
+    ensures put { result ≡ true → IsPut over.new }
+    ensures stays { result ≡ false → over.new ≡ over.old }
+{
+    let Some(z) = quick_int(slots, e) else {
+        return put_message(alloc, slots, d, e, over);
+    };
+    let Some(to) = channel(slots, d) else {
+        return false;
+    };
+    put_base(BaseKind::Send(to, Value::new(ValueKind::Int(z))), over);
+    true
+}
+
+/// Puts the event that an expression is there, to be forced, where it is a variable, or a receive, a send or a take, that can be found so
+/// and has no fault. Else nothing has changed.
+#[inline(always)]
+pub(crate) fn put_event(alloc: Global, slots: &[Value], e: &Expr, over: &mut Option<Entry>) -> bool
+    ensures found { result ≡ true →
+        evaluate (slot_value slots.now) e.now ≡ Ok (event (event_over over.new)) }
+    ensures put { result ≡ true → IsPut over.new }
+    ensures stays { result ≡ false → over.new ≡ over.old }
 {
     match &e.kind {
-        ExprKind::Variable(at) => event_at(slots, *at),
+        ExprKind::Variable(at) => put_variable(alloc, slots, *at, over),
         ExprKind::Unary(Unary::Recv, e) => {
-            let from = channel(slots, e)?;
-            offered(BaseKind::Recv(from))
+            let Some(from) = channel(slots, e) else {
+                return false;
+            };
+            put_base(BaseKind::Recv(from), over);
+            true
         }
         ExprKind::Unary(Unary::MailRecv, e) => {
-            let from = mailbox_in(slots, e)?;
-            offered(BaseKind::MailRecv(from))
+            let Some(from) = mailbox_in(slots, e) else {
+                return false;
+            };
+            put_base(BaseKind::MailRecv(from), over);
+            true
         }
         ExprKind::Unary(Unary::MTake, e) => {
-            let from = variable_in(slots, e)?;
-            offered(BaseKind::MTake(from))
+            let Some(from) = variable_in(slots, e) else {
+                return false;
+            };
+            put_base(BaseKind::MTake(from), over);
+            true
         }
-        ExprKind::Binary(Binary::Send, d, e) => {
-            let to = channel(slots, d)?;
-            let what = message(slots, e)?;
-            offered(BaseKind::Send(to, what))
-        }
-        _ => None,
+        ExprKind::Binary(Binary::Send, d, e) => put_send(alloc, slots, d, e, over),
+        _ => false,
     }
 }

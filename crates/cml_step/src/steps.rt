@@ -197,13 +197,10 @@ fn put_found(alloc: Global, program: &Prog, stack: &mut Stack) -> u32
     let Some(call) = &mut stack.call else {
         return 0;
     };
-    match sync_step(alloc, program, call) {
-        Some(forcing) => {
-            stack.over = Some(Entry::Force(forcing, false));
-            1
-        }
-        None => 0,
+    if sync_step(alloc, program, call, &mut stack.over) {
+        return 1;
     }
+    0
 }
 
 // The same. Whether the call on top is at such a synchronization is looked first.

@@ -143,13 +143,10 @@ fn put_over(
     if !at_sync(program, call) {
         return 0;
     }
-    match sync_step(alloc, program, call) {
-        Some(forcing) => {
-            *over = Some(Entry::Force(forcing, false));
-            1
-        }
-        None => 0,
+    if sync_step(alloc, program, call, over) {
+        return 1;
     }
+    0
 }
 
 // Takes the first steps, as long as they stay in the call on top of these entries, and the journal has what they change. Returns how many

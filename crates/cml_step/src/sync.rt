@@ -1,7 +1,7 @@
 //! A quick way to make a `sync`, for an event that is found without a value made of it. `None` is no refusal: the quick way does not apply.
 //! Then the step is made in full, and that tells each fault.
 
-ghost use Rattle.std.specs.Prelude.{◌≡◌, ℕ, ◌<◌, List, ◌∷◌, length, true, false, None, Some, Ok, slice_get, IfSome};
+ghost use Rattle.std.specs.Prelude.{◌≡◌, ℕ, ◌<◌, List, ◌∷◌, length, true, false, Some, Ok, slice_get};
 ghost use Rattle.cml_value.specs.Value.{event as plain_event};
 ghost use Rattle.cml_check.specs.Syntax.{effect_map, expr_map, name_at};
 ghost use Rattle.cml_check.specs.Syntax as syntax;
@@ -11,7 +11,8 @@ ghost use Rattle.cml_check.specs.InOrder.{FunctionFits, arities, effect_fits, ex
 ghost use Rattle.cml_check.specs.Layout.{left};
 ghost use Rattle.cml_check.specs.Follows.{Follows, instr_fits};
 ghost use Rattle.cml_check.specs.InstrViews.{plain_instr};
-ghost use Rattle.cml_group.specs.Force.{unforced};
+ghost use Rattle.cml_value.specs.Group.{leaf};
+ghost use Rattle.cml_value.specs.Views.{plain_base};
 ghost use Rattle.cml_step.specs.Agrees.{all_agree, event_agrees, ask_agrees};
 ghost use Rattle.cml_step.specs.AskViews.{plain_ask};
 ghost use Rattle.cml_step.specs.Variables.{bound, value_of};
@@ -22,51 +23,73 @@ ghost use Rattle.cml_step.specs.Steps as steps;
 ghost use Rattle.cml_step.specs.Steps.{pushed, asks};
 ghost use Rattle.cml_step.specs.Stacks.{CallFits};
 ghost use Rattle.cml_step.specs.Undone.{HasSlotsOf};
+ghost use Rattle.cml_step.specs.Puts.{event_over, IsPut};
 
 use crate::ask::Ask;
 use crate::call::{Call, Wait, pad};
-use crate::offer::{is_quick, quick_event};
-use crate::stack::group_ready;
+use crate::entry::Entry;
+use crate::offer::{is_quick, put_event};
 use cml_check::{ActOnOne, Effect, Expr, Function, Instr, Prog, Source};
-use cml_group::{Forcing, Next};
-use cml_value::{Event, Value};
+use cml_group::Forcing;
+use cml_value::{Base, BaseKind, Group, GroupKind, Value, ValueKind};
 use std::alloc::Global;
 
-// The value of an expression in a call, if it is an event that is found without making a `Value` of it; else `None`.
+// Puts the value of an expression in a call there, if it is an event that is found without making a `Value` of it. Else nothing has changed.
 #[inline(always)]
 #[tactic(auto, using(crate::proofs::VariableLemmas::evaluate_named))]
-fn event_in(program: &Prog, f: &Function, slots: &[Value], e: &Expr) -> Option<Event>
+fn event_in(
+    alloc: Global,
+    program: &Prog,
+    f: &Function,
+    slots: &[Value],
+    e: &Expr,
+    over: &mut Option<Entry>,
+) -> bool
     requires fits { expr_fits (arities program.now) (length f.now.names) e.now ≡ true }
     requires distinct { AreDistinct f.now.names }
     requires agree { all_agree (arities program.now) slots.now ≡ true }
     ensures gives { let of = value_of (bound f.now.names slots.now) in
-        IfSome result (λ x.
-        meaning.evaluate of (expr_map (name_at f.now.names) e.now) ≡ Ok (plain_event x)) }
-    ensures agrees { IfSome result (λ x. event_agrees (arities program.now) x ≡ true) }
+        result ≡ true →
+        meaning.evaluate of (expr_map (name_at f.now.names) e.now)
+        ≡ Ok (plain_event (event_over over.new)) }
+    ensures agrees { result ≡ true →
+        event_agrees (arities program.now) (event_over over.new) ≡ true }
+    ensures put { result ≡ true → IsPut over.new }
+    ensures stays { result ≡ false → over.new ≡ over.old }
 {
-    quick_event(slots, e)
+    put_event(alloc, slots, e, over)
 }
 
-// The event that an effect synchronizes on, where it does and the event can be found so.
+// The same of the event that an effect synchronizes on, where it does.
 #[inline(always)]
-fn event_of_effect(program: &Prog, f: &Function, effect: &Effect, slots: &[Value]) -> Option<Event>
+fn event_of_effect(
+    alloc: Global,
+    program: &Prog,
+    f: &Function,
+    effect: &Effect,
+    slots: &[Value],
+    over: &mut Option<Entry>,
+) -> bool
     requires fits { effect_fits (arities program.now) (length f.now.names)
         (plain_effect effect.now) ≡ true }
     requires function { FunctionFits (arities program.now) f.now }
     requires agree { all_agree (arities program.now) slots.now ≡ true }
-    ensures gives { (self : ℕ) (term : Term) → IfSome result (λ x.
+    ensures gives { result ≡ true → (self : ℕ) (term : Term) →
         steps.effect_step (text_of program.now) self (bound f.now.names slots.now)
         (effect_map (name_at f.now.names) (plain_effect effect.now)) term
-        ≡ pushed (force x false) term) }
-    ensures agrees { IfSome result (λ x. event_agrees (arities program.now) x ≡ true) }
+        ≡ pushed (force (event_over over.new) false) term }
+    ensures agrees { result ≡ true →
+        event_agrees (arities program.now) (event_over over.new) ≡ true }
+    ensures put { result ≡ true → IsPut over.new }
+    ensures stays { result ≡ false → over.new ≡ over.old }
 {
     match effect {
-        Effect::ActOnOne(ActOnOne::Sync, e) => event_in(program, f, slots, e),
-        _ => None,
+        Effect::ActOnOne(ActOnOne::Sync, e) => event_in(alloc, program, f, slots, e, over),
+        _ => false,
     }
 }
 
-// The call waits for what the effect gives, and goes on at `next`. Where its event is not found so nothing has changed.
+// The call waits for what the effect gives, and goes on at `next`: the event stands there. Where that is not found so nothing has changed.
 fn waits(
     alloc: Global,
     program: &Prog,
@@ -75,31 +98,33 @@ fn waits(
     wait: Wait,
     next: usize,
     call: &mut Call,
-) -> Option<Forcing>
+    over: &mut Option<Entry>,
+) -> bool
     requires fits { effect_fits (arities program.now) (length f.now.names)
         (plain_effect effect.now) ≡ true }
     requires function { (FunctionFits (arities program.now) f.now)
         × (slice_get program.now call.old.func ≡ Some f.now) }
     requires call { CallFits program.now call.old }
     requires waits { WaitFits wait (length f.now.names) (length call.old.slots.items) }
-    ensures gives { (self : ℕ) (below : Term) → IfSome result (λ x.
+    ensures gives { result ≡ true → (self : ℕ) (below : Term) →
         steps.effect_step (text_of program.now) self (variables_of f.now call.old)
         (effect_map (name_at f.now.names) (plain_effect effect.now))
         (call_at f.now next call.old.slots.items wait ∷ below)
-        ≡ pushed (force x false) (entry_of program.now call.new ∷ below)) }
-    ensures stays { result ≡ None → call.new ≡ call.old }
+        ≡ pushed (force (event_over over.new) false) (entry_of program.now call.new ∷ below) }
+    ensures put { result ≡ true → IsPut over.new }
+    ensures stays { result ≡ false → (call.new ≡ call.old) × (over.new ≡ over.old) }
     ensures kept { (call.new.slots ≡ call.old.slots) × (call.new.func ≡ call.old.func) }
     ensures fits { CallFits program.now call.new }
-    ensures agrees { IfSome result (λ x. event_agrees (arities program.now) x ≡ true) }
+    ensures agrees { result ≡ true →
+        event_agrees (arities program.now) (event_over over.new) ≡ true }
 {
-    let event = event_of_effect(program, f, effect, call.slots.as_slice())?;
-    let Ok(forcing) = Forcing::start(alloc, event) else {
-        return None;
-    };
+    if !event_of_effect(alloc, program, f, effect, call.slots.as_slice(), over) {
+        return false;
+    }
     call.asked = call.at;
     call.at = next;
     call.wait = wait;
-    Some(forcing)
+    true
 }
 
 // The same of an effect whose answer a slot is given. Where its event is not found so nothing has changed but that slots may have been added.
@@ -111,28 +136,32 @@ fn let_waits(
     slot: usize,
     next: usize,
     call: &mut Call,
-) -> Option<Forcing>
+    over: &mut Option<Entry>,
+) -> bool
     requires slot { slot < length f.now.names }
     requires fits { effect_fits (arities program.now) (length f.now.names)
         (plain_effect effect.now) ≡ true }
     requires function { (FunctionFits (arities program.now) f.now)
         × (slice_get program.now call.old.func ≡ Some f.now) }
     requires call { (CallFits program.now call.old) × (call.old.wait ≡ Wait.Runs) }
-    ensures gives { (self : ℕ) (below : Term) → IfSome result (λ x.
+    ensures gives { result ≡ true → (self : ℕ) (below : Term) →
         let source = syntax.effect (effect_map (name_at f.now.names) (plain_effect effect.now)) in
         steps.source_step (text_of program.now) self (name_at f.now.names slot) source
         (statements_at f.now next) (variables_of f.now call.old) below
-        ≡ pushed (force x false) (entry_of program.now call.new ∷ below)) }
-    ensures stays { result ≡ None → entry_of program.now call.new
-        ≡ entry_of program.now call.old }
+        ≡ pushed (force (event_over over.new) false) (entry_of program.now call.new ∷ below) }
+    ensures put { result ≡ true → IsPut over.new }
+    ensures stays { result ≡ false → (entry_of program.now call.new
+        ≡ entry_of program.now call.old) × (over.new ≡ over.old) }
     ensures had { HasSlotsOf call.old call.new }
     ensures fits { CallFits program.now call.new }
-    ensures agrees { IfSome result (λ x. event_agrees (arities program.now) x ≡ true) }
+    ensures agrees { result ≡ true →
+        event_agrees (arities program.now) (event_over over.new) ≡ true }
 {
     let Ok(()) = pad(&mut call.slots, slot) else {
-        return None;
+        return false;
     };
-    waits(alloc, program, f, effect, Wait::Gives(slot), next, call)
+    let wait = Wait::Gives(slot);
+    waits(alloc, program, f, effect, wait, next, call, over)
 }
 
 // The same of an instruction.
@@ -143,7 +172,8 @@ fn synced(
     f: &Function,
     instr: &Instr,
     call: &mut Call,
-) -> Option<Forcing>
+    over: &mut Option<Entry>,
+) -> bool
     requires here { let left_at = left f.now.body in
         Follows left_at (plain_instr instr.now) (left_at call.old.at) }
     requires fits { let slots = length f.now.names in
@@ -151,23 +181,29 @@ fn synced(
     requires function { (FunctionFits (arities program.now) f.now)
         × (slice_get program.now call.old.func ≡ Some f.now) }
     requires call { (CallFits program.now call.old) × (call.old.wait ≡ Wait.Runs) }
-    ensures gives { (self : ℕ) (below : Term) → IfSome result (λ x.
+    ensures gives { result ≡ true → (self : ℕ) (below : Term) →
         let here = statements_at f.now call.old.at in
         steps.call_step (text_of program.now) self here (variables_of f.now call.old) below
-        ≡ pushed (force x false) (entry_of program.now call.new ∷ below)) }
-    ensures stays { result ≡ None → entry_of program.now call.new
-        ≡ entry_of program.now call.old }
+        ≡ pushed (force (event_over over.new) false) (entry_of program.now call.new ∷ below) }
+    ensures put { result ≡ true → IsPut over.new }
+    ensures stays { result ≡ false → (entry_of program.now call.new
+        ≡ entry_of program.now call.old) × (over.new ≡ over.old) }
     ensures had { HasSlotsOf call.old call.new }
     ensures fits { CallFits program.now call.new }
-    ensures agrees { IfSome result (λ x. event_agrees (arities program.now) x ≡ true) }
+    ensures agrees { result ≡ true →
+        event_agrees (arities program.now) (event_over over.new) ≡ true }
 {
     match instr {
         Instr::Let(slot, source, next) => match source {
-            Source::Effect(effect) => let_waits(alloc, program, f, effect, *slot, *next, call),
-            Source::Value(_) => None,
+            Source::Effect(effect) => {
+                let_waits(alloc, program, f, effect, *slot, *next, call, over)
+            }
+            Source::Value(_) => false,
         },
-        Instr::Do(effect, next) => waits(alloc, program, f, effect, Wait::Drops, *next, call),
-        _ => None,
+        Instr::Do(effect, next) => {
+            waits(alloc, program, f, effect, Wait::Drops, *next, call, over)
+        }
+        _ => false,
     }
 }
 
@@ -207,33 +243,107 @@ pub(crate) fn at_sync(program: &Prog, call: &Call) -> bool
     }
 }
 
-/// The event that is to be forced, where the call is at a synchronization on one that can be found so: then the call waits. Else nothing
-/// has changed but that slots may have been added.
+/// Where the call is at a synchronization on an event that can be found so, the event stands over it, to be forced, and the call waits. Else
+/// nothing has changed but that slots may have been added.
 #[tactic(auto, using(crate::proofs::UndoLemmas::same_had))]
-pub(crate) fn sync_step(alloc: Global, program: &Prog, call: &mut Call) -> Option<Forcing>
+pub(crate) fn sync_step(
+    alloc: Global,
+    program: &Prog,
+    call: &mut Call,
+    over: &mut Option<Entry>,
+) -> bool
     requires { CallFits program.now call.old }
-    ensures gives { (self : ℕ) (below : Term) → IfSome result (λ x.
+    ensures gives { result ≡ true → (self : ℕ) (below : Term) →
         steps.next (text_of program.now) self (entry_of program.now call.old ∷ below)
-        ≡ pushed (force x false) (entry_of program.now call.new ∷ below)) }
-    ensures stays { result ≡ None → entry_of program.now call.new
-        ≡ entry_of program.now call.old }
+        ≡ pushed (force (event_over over.new) false) (entry_of program.now call.new ∷ below) }
+    ensures put { result ≡ true → IsPut over.new }
+    ensures stays { result ≡ false → (entry_of program.now call.new
+        ≡ entry_of program.now call.old) × (over.new ≡ over.old) }
     ensures had { HasSlotsOf call.old call.new }
     ensures fits { CallFits program.now call.new }
-    ensures agrees { IfSome result (λ x. event_agrees (arities program.now) x ≡ true) }
+    ensures agrees { result ≡ true →
+        event_agrees (arities program.now) (event_over over.new) ≡ true }
 {
     if call.wait != Wait::Runs {
-        return None;
+        return false;
     }
     let f = program.function(call.func);
     match f.instr(call.at) {
-        Some(instr) => synced(alloc, program, f, instr, call),
-        None => None,
+        Some(instr) => synced(alloc, program, f, instr, call, over),
+        None => false,
+    }
+}
+
+// Asks to synchronize on another owner of the group. Without memory nothing has changed.
+#[inline(never)]
+fn asks_copy(group: &Group, asked: &mut Ask) -> bool
+    ensures ask { result ≡ true → asked.new ≡ Ask.Sync group.now }
+    ensures stays { result ≡ false → asked.new ≡ asked.old }
+{
+    match group.copy() {
+        Ok(copy) => {
+            *asked = Ask::Sync(copy);
+            true
+        }
+        Err(_) => false,
+    }
+}
+
+// Asks to synchronize on the base event.
+#[inline(always)]
+fn asks_leaf(kind: BaseKind, asked: &mut Ask)
+    ensures { asked.new ≡ Ask.Sync (leaf (plain_base kind)) }
+{
+    *asked = Ask::Sync(Group::new(GroupKind::Leaf(Base::new(kind))));
+}
+
+// Asks to synchronize on the group, which is this base event.
+#[inline(always)]
+fn asks_base(group: &Group, base: &Base, asked: &mut Ask) -> bool
+    requires { group.now ≡ leaf base.now }
+    ensures ask { result ≡ true → asked.new ≡ Ask.Sync group.now }
+    ensures stays { result ≡ false → asked.new ≡ asked.old }
+{
+    match base.kind() {
+        BaseKind::Recv(from) => {
+            asks_leaf(BaseKind::Recv(*from), asked);
+            true
+        }
+        BaseKind::MailRecv(from) => {
+            asks_leaf(BaseKind::MailRecv(*from), asked);
+            true
+        }
+        BaseKind::MTake(from) => {
+            asks_leaf(BaseKind::MTake(*from), asked);
+            true
+        }
+        BaseKind::Send(to, value) => match value.kind() {
+            ValueKind::Int(z) => {
+                asks_leaf(BaseKind::Send(*to, Value::new(ValueKind::Int(*z))), asked);
+                true
+            }
+            _ => asks_copy(group, asked),
+        },
+        _ => asks_copy(group, asked),
+    }
+}
+
+// Asks to synchronize on the group. Without memory nothing has changed.
+#[inline(always)]
+fn asks_on(group: &Group, asked: &mut Ask) -> bool
+    ensures ask { result ≡ true → asked.new ≡ Ask.Sync group.now }
+    ensures stays { result ≡ false → asked.new ≡ asked.old }
+{
+    match group.kind() {
+        GroupKind::Leaf(base) => asks_base(group, base, asked),
+        _ => asks_copy(group, asked),
     }
 }
 
 /// Where an event that is being forced has nothing left to be forced, and its group is not asked for yet, it is asked for now. Else nothing
 /// has changed.
 #[inline(never)]
+#[tactic(auto, using(crate::proofs::ForceLemmas::group_of_event))]
 pub(crate) fn asks_group(forcing: &Forcing, waits: &mut bool, asked: &mut Ask) -> bool
     ensures meant { result ≡ true → (p : Program) (self : ℕ) (below : Term) →
         steps.next p self (force forcing.now waits.old ∷ below)
@@ -246,13 +356,12 @@ pub(crate) fn asks_group(forcing: &Forcing, waits: &mut bool, asked: &mut Ask) -
     if *waits {
         return false;
     }
-    let Ok(Next::Ready) = forcing.next() else {
+    let Some(group) = forcing.whole() else {
         return false;
     };
-    let Ok(group) = group_ready(forcing) else {
+    if !asks_on(group, asked) {
         return false;
-    };
+    }
     *waits = true;
-    *asked = Ask::Sync(group);
     true
 }

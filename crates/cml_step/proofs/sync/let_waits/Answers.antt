@@ -4,7 +4,7 @@ use Rattle.cml_step.proofs.QuickLemmas.{runs_fits}
 use Rattle.cml_step.proofs.sync.let_waits.Goals as goal
 
 pub returns-clause-gives : goal.returns-clause-gives
-returns-clause-gives c = λ self below. rw (← c.pad.ensures.same c.args.f.now.names) (c.waits.ensures.gives self below)
+returns-clause-gives c = λ on self below. rw (← c.pad.ensures.same c.args.f.now.names) (c.waits.ensures.gives on self below)
 
 pub waits-requires-clause-call : goal.waits-requires-clause-call
 waits-requires-clause-call c =

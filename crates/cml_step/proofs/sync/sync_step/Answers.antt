@@ -1,8 +1,8 @@
 use Rattle.std.proofs.Common.{◌≡◌, ◌∷◌, ◌∙◌, ap, sym, subst, rules, false}
-use Rattle.std.specs.Prelude.{IfSome}
 use Rattle.cml_step.specs.Calls.{text_of, entry_of}
 use Rattle.cml_step.specs.Steps.{PlainStep, next, pushed}
 use Rattle.cml_step.specs.Terms.{force}
+use Rattle.cml_step.specs.Puts.{event_over}
 use Rattle.cml_step.proofs.CallLemmas.{steps_there}
 use Rattle.cml_step.proofs.StackLemmas.{fun_at}
 use Rattle.cml_step.proofs.QuickLemmas.{entry_there}
@@ -13,11 +13,11 @@ synced-requires-clause-function c =
     (c.function-f.ensures.fits, fun_at c.args.program.now c.args.call.now.func c.function-f.result.now c.requires.there c.function-f.ensures.found)
 
 pub returns-in-Some-clause-gives : goal.returns-in-Some-clause-gives
-returns-in-Some-clause-gives c = λ self below.
+returns-in-Some-clause-gives c = λ on self below.
     let p = c.args.program.now in
     let f = c.function-f.result.now in
-    subst (λ (s : PlainStep). IfSome c.synced.result (λ x. s ≡ pushed (force x false) (entry_of p c.synced.new.call ∷ below)))
+    subst (λ (s : PlainStep). s ≡ pushed (force (event_over c.synced.new.over) false) (entry_of p c.synced.new.call ∷ below))
     (sym
     (ap (λ e. next (text_of p) self (e ∷ below)) (entry_there p f c.args.call.now (fun_at p c.args.call.now.func f c.requires.there c.function-f.ensures.found))
     ∙ steps_there (text_of p) self f c.args.call.now below (search rules)))
-    (c.synced.ensures.gives self below)
+    (c.synced.ensures.gives on self below)
