@@ -38,6 +38,11 @@ is_flat (leaf b) = true
 is_flat (choose gs) = are_bare_leaves gs
 is_flat g = false
 
+-- a choice among base events that carry no value
+abbrev pub is_bare_choice : PlainGroup → Bool
+is_bare_choice (choose gs) = are_bare_leaves gs
+is_bare_choice g = false
+
 -- these are the leaves, the scopes and the nacks of the group, and the list of nacks has room for all of them
 pub record IsLaidOut (g : PlainGroup) (ls : List PlainLeaf) (ss : List PlainScope) (ks : List NackId) (room : ℕ) : Type 0 where
   pub leaves_are : ls ≡ leaves g

@@ -3,7 +3,7 @@
 
 ghost use Rattle.std.specs.Prelude.{◌≡◌, ◌<◌, true, length, slice_get};
 ghost use Rattle.cml_value.specs.Group.{groups, leaf, leaf_count};
-ghost use Rattle.cml_group.specs.LaidOut.{is_bare, is_bare_leaf, are_bare_leaves, is_flat};
+ghost use Rattle.cml_group.specs.LaidOut.{is_bare, is_bare_leaf, are_bare_leaves, is_bare_choice, is_flat};
 ghost use Rattle.cml_group.specs.Leaves.{leaf_base};
 
 use cml_value::{Base, BaseKind, Group, GroupKind};
@@ -82,6 +82,16 @@ pub fn is_flat(group: &Group) -> bool
 {
     match group.kind() {
         GroupKind::Leaf(_) => true,
+        GroupKind::Choose(members) => are_bare_leaves(members),
+        _ => false,
+    }
+}
+
+/// Whether the group is a choice among base events that carry no value.
+pub fn is_bare_choice(group: &Group) -> bool
+    ensures { result ≡ is_bare_choice group.now }
+{
+    match group.kind() {
         GroupKind::Choose(members) => are_bare_leaves(members),
         _ => false,
     }

@@ -15,6 +15,7 @@ mod part;
 use crate::fault::ForceFault;
 use crate::force::frame::{Frame, FrameKind, room_in_scope, room_of, spend_within};
 use crate::force::part::{Hole, Part, climb, force};
+use crate::forced::Forced;
 use cml_value::{
     Base, BaseKind, Event, EventKind, FnRef, Group, GroupKind, MAX_DEPTH, MAX_NODES, NackId, Value,
 };
@@ -162,6 +163,41 @@ impl Forcing {
     }
 }
 
+// The forcing of a choice that was forced before, as one more owner of its group.
+fn found(event: &Event, forced: &Forced) -> Option<Forcing>
+    ensures { IfSome result (λ forcing. forcing ≡ event.now) }
+{
+    let group = forced.find(event)?;
+    match group.copy() {
+        Ok(copy) => Some(Forcing {
+            part: Part::Whole(copy),
+            room: None,
+        }),
+        Err(_) => None,
+    }
+}
+
+// The forcing of this choice: of one that was forced before, or anew.
+#[inline(never)]
+fn start_choice(
+    alloc: Global,
+    event: Event,
+    forced: &mut Forced,
+) -> Result<Forcing, AllocFailed<Event>>
+    ensures ok { IfOk result (λ forcing. forcing ≡ event) }
+    ensures err { IfErr result (λ back. back.value ≡ event) }
+{
+    if let Some(forcing) = found(&event, forced) {
+        drop(event);
+        return Ok(forcing);
+    }
+    let forcing = Forcing::start(alloc, event)?;
+    if let Part::Whole(group) = &forcing.part {
+        forced.keep(group);
+    }
+    Ok(forcing)
+}
+
 impl Forcing {
     /// The forcing of this event, up to its first guard or withNack.
     ///
@@ -177,6 +213,25 @@ impl Forcing {
                 Ok(Forcing { part, room })
             }
             Err(_) => Err(AllocFailed { value: event }),
+        }
+    }
+
+    /// The forcing of this event, as [`Forcing::start`] begins it. A choice among base events that carry no value is shared if it was forced
+    /// before, and kept to be shared if it was not.
+    ///
+    /// # Errors
+    /// Out of memory; the event comes back.
+    pub fn start_again(
+        alloc: Global,
+        event: Event,
+        forced: &mut Forced,
+    ) -> Result<Forcing, AllocFailed<Event>>
+        ensures ok { IfOk result (λ forcing. forcing ≡ event) }
+        ensures err { IfErr result (λ back. back.value ≡ event) }
+    {
+        match event.kind() {
+            EventKind::Choose(_) => start_choice(alloc, event, forced),
+            _ => Forcing::start(alloc, event),
         }
     }
 

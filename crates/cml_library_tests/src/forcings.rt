@@ -1,7 +1,7 @@
 //! What forcings of events ask for, and what they end with.
 
 use crate::making::{MEMORY, group, make, many};
-use cml_group::{ForceFault, Forcing, Next};
+use cml_group::{Forced, ForceFault, Forcing, Next};
 use cml_value::{Event, FnRef, Group, GroupKind, NackId};
 use std::process::Abort;
 
@@ -202,4 +202,45 @@ fn many_answers(rt: HostRuntime) {
     assert!(rt; group_forced.nodes() == 20001, "all");
     drop(group_forced);
     drop(made);
+}
+
+// Events that are forced one after another: the same choice again, others that differ from it in one place or in their number, more choices
+// than are kept, and what is not kept.
+const AGAIN: [&str; 19] = [
+    "(choose (recv 0) (recv 1))",
+    "(choose (recv 0) (recv 1))",
+    "(choose (recv 1) (recv 0))",
+    "(choose (recv 0))",
+    "(choose (recv 0) (recv 1) (recv 1))",
+    "(choose (recv 0) (mtake 1))",
+    "(choose (recv 0) (send 1 5))",
+    "(choose (recv 0) (recv 1))",
+    "(choose)",
+    "(choose (choose (recv 0) (recv 1)))",
+    "(choose (mtake 0) (iget 1))",
+    "(choose (mtake 0) (iget 2))",
+    "(choose (mailrecv 0) (portrecv 1))",
+    "(choose (join 0) (at 1))",
+    "(choose (after 0) (mget 1))",
+    "(choose (recv 7) (recv 8))",
+    "(choose (recv 0) (recv 1))",
+    "(recv 0)",
+    "(choose (mtake 0) (iget 2))",
+];
+
+#[test]
+fn choices_forced_again(rt: HostRuntime) {
+    let mut kept = Forced::new(rt.alloc());
+    for text in &AGAIN {
+        let mut made = make(&rt, text);
+        let event = made.event(&rt);
+        let forcing = Forcing::start_again(rt.alloc(), event, &mut kept).expect(&rt, MEMORY);
+        let group_forced = forced(&rt, forcing);
+        let wanted = group(&rt, text);
+        assert!(rt; group_forced.same(&wanted), "{text}");
+        drop(group_forced);
+        drop(wanted);
+        drop(made);
+    }
+    drop(kept);
 }

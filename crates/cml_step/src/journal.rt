@@ -8,6 +8,7 @@ ghost use Rattle.cml_step.specs.Undone.{unset as plain_unset, call_before, wrapp
 
 use crate::call::{Call, Wait};
 use crate::entry::{Entry, Wraps};
+use cml_group::Forced;
 use cml_value::Value;
 use std::alloc::Global;
 use std::mem::replace;
@@ -29,6 +30,8 @@ pub(crate) struct Journal {
     pub(crate) count: usize,
     pub(crate) sets: Vec<Noted>,
     pub(crate) over: Option<Wraps>,
+    // the choices that were forced before, by any slice: they hold no value
+    pub(crate) forced: Forced,
 }
 
 // Sets a slot, if it is there.
@@ -90,6 +93,7 @@ impl Journal {
             count: 0,
             sets: Vec::new(alloc),
             over: None,
+            forced: Forced::new(alloc),
         }
     }
 

@@ -12,7 +12,7 @@ ghost use Rattle.cml_check.specs.Syntax.{binary};
 use crate::entry::Entry;
 use crate::number::quick_int;
 use cml_check::{Binary, Expr, ExprKind, Unary};
-use cml_group::Forcing;
+use cml_group::{Forced, Forcing};
 use cml_value::{Base, BaseKind, ChanId, Event, EventKind, MVarId, MboxId, Value, ValueKind};
 use std::alloc::Global;
 
@@ -131,11 +131,11 @@ pub(crate) fn is_quick(e: &Expr) -> bool {
 }
 
 // Begins to force the event there. Without memory nothing has changed.
-fn put_forced(alloc: Global, held: Event, over: &mut Option<Entry>) -> bool
+fn put_forced(alloc: Global, held: Event, over: &mut Option<Entry>, forced: &mut Forced) -> bool
     ensures put { result ≡ true → over.new ≡ Some (Entry.Force held false) }
     ensures stays { result ≡ false → over.new ≡ over.old }
 {
-    match Forcing::start(alloc, held) {
+    match Forcing::start_again(alloc, held, forced) {
         Ok(forcing) => {
             *over = Some(Entry::Force(forcing, false));
             true
@@ -149,20 +149,33 @@ fn put_forced(alloc: Global, held: Event, over: &mut Option<Entry>) -> bool
 
 // Puts the event there that a slot has, if it has one, to be forced. Else nothing has changed.
 #[inline(never)]
-fn put_variable(alloc: Global, slots: &[Value], at: usize, over: &mut Option<Entry>) -> bool
+fn put_variable(
+    alloc: Global,
+    slots: &[Value],
+    at: usize,
+    over: &mut Option<Entry>,
+    forced: &mut Forced,
+) -> bool
     ensures found { result ≡ true → slot_value slots.now at ≡ event (event_over over.new) }
     ensures put { result ≡ true → IsPut over.new }
     ensures stays { result ≡ false → over.new ≡ over.old }
 {
     match event_at(slots, at) {
-        Some(held) => put_forced(alloc, held, over),
+        Some(held) => put_forced(alloc, held, over, forced),
         None => false,
     }
 }
 
 // Puts a send of what a variable has there, to be forced, if it can be found so. Else nothing has changed.
 #[inline(never)]
-fn put_message(alloc: Global, slots: &[Value], d: &Expr, e: &Expr, over: &mut Option<Entry>) -> bool
+fn put_message(
+    alloc: Global,
+    slots: &[Value],
+    d: &Expr,
+    e: &Expr,
+    over: &mut Option<Entry>,
+    forced: &mut Forced,
+) -> bool
     ensures found { result ≡ true →
         evaluate (slot_value slots.now) (binary Binary.Send d.now e.now)
         ≡ Ok (event (event_over over.new)) }
@@ -176,14 +189,21 @@ fn put_message(alloc: Global, slots: &[Value], d: &Expr, e: &Expr, over: &mut Op
         return false;
     };
     match offered(BaseKind::Send(to, what)) {
-        Some(held) => put_forced(alloc, held, over),
+        Some(held) => put_forced(alloc, held, over, forced),
         None => false,
     }
 }
 
 // The same, where a number is sent without more ado.
 #[inline(always)]
-fn put_send(alloc: Global, slots: &[Value], d: &Expr, e: &Expr, over: &mut Option<Entry>) -> bool
+fn put_send(
+    alloc: Global,
+    slots: &[Value],
+    d: &Expr,
+    e: &Expr,
+    over: &mut Option<Entry>,
+    forced: &mut Forced,
+) -> bool
     ensures found { result ≡ true →
         evaluate (slot_value slots.now) (binary Binary.Send d.now e.now)
         ≡ Ok (event (event_over over.new)) }
@@ -191,7 +211,7 @@ fn put_send(alloc: Global, slots: &[Value], d: &Expr, e: &Expr, over: &mut Optio
     ensures stays { result ≡ false → over.new ≡ over.old }
 {
     let Some(z) = quick_int(slots, e) else {
-        return put_message(alloc, slots, d, e, over);
+        return put_message(alloc, slots, d, e, over, forced);
     };
     let Some(to) = channel(slots, d) else {
         return false;
@@ -203,14 +223,20 @@ fn put_send(alloc: Global, slots: &[Value], d: &Expr, e: &Expr, over: &mut Optio
 /// Puts the event that an expression is there, to be forced, where it is a variable, or a receive, a send or a take, that can be found so
 /// and has no fault. Else nothing has changed.
 #[inline(always)]
-pub(crate) fn put_event(alloc: Global, slots: &[Value], e: &Expr, over: &mut Option<Entry>) -> bool
+pub(crate) fn put_event(
+    alloc: Global,
+    slots: &[Value],
+    e: &Expr,
+    over: &mut Option<Entry>,
+    forced: &mut Forced,
+) -> bool
     ensures found { result ≡ true →
         evaluate (slot_value slots.now) e.now ≡ Ok (event (event_over over.new)) }
     ensures put { result ≡ true → IsPut over.new }
     ensures stays { result ≡ false → over.new ≡ over.old }
 {
     match &e.kind {
-        ExprKind::Variable(at) => put_variable(alloc, slots, *at, over),
+        ExprKind::Variable(at) => put_variable(alloc, slots, *at, over, forced),
         ExprKind::Unary(Unary::Recv, e) => {
             let Some(from) = channel(slots, e) else {
                 return false;
@@ -232,7 +258,7 @@ pub(crate) fn put_event(alloc: Global, slots: &[Value], e: &Expr, over: &mut Opt
             put_base(BaseKind::MTake(from), over);
             true
         }
-        ExprKind::Binary(Binary::Send, d, e) => put_send(alloc, slots, d, e, over),
+        ExprKind::Binary(Binary::Send, d, e) => put_send(alloc, slots, d, e, over, forced),
         _ => false,
     }
 }

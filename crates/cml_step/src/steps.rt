@@ -23,6 +23,7 @@ use crate::quick::{quick_run, room_above};
 use crate::stack::{MAX_ENTRIES, deliver_to_call, step};
 use crate::sync::{asks_group, at_sync, sync_step};
 use cml_check::Prog;
+use cml_group::Forced;
 use cml_value::{Tid, Value, ValueKind};
 use std::alloc::{AllocError, Global};
 use std::mem::replace;
@@ -197,7 +198,9 @@ fn put_found(alloc: Global, program: &Prog, stack: &mut Stack) -> u32
     let Some(call) = &mut stack.call else {
         return 0;
     };
-    if sync_step(alloc, program, call, &mut stack.over) {
+    // here nothing is kept
+    let mut forced = Forced::new(alloc);
+    if sync_step(alloc, program, call, &mut stack.over, &mut forced) {
         return 1;
     }
     0

@@ -25,6 +25,7 @@ use crate::stack::MAX_ENTRIES;
 use crate::steps::{MAX_STEPS, are_done};
 use crate::sync::{asks_group, at_sync, sync_step};
 use cml_check::Prog;
+use cml_group::Forced;
 use cml_value::Value;
 use std::alloc::{AllocError, Global};
 
@@ -126,6 +127,7 @@ fn put_over(
     below: &Frames,
     over: &mut Option<Entry>,
     call: &mut Call,
+    forced: &mut Forced,
 ) -> u32
     requires none { over.old ≡ None }
     requires fits { StackFits program.now (stood below.now call.old over.old) }
@@ -143,7 +145,7 @@ fn put_over(
     if !at_sync(program, call) {
         return 0;
     }
-    if sync_step(alloc, program, call, over) {
+    if sync_step(alloc, program, call, over, forced) {
         return 1;
     }
     0
@@ -173,7 +175,7 @@ fn still_steps(
     let first = begin_noted(program, below, over, call, journal)?;
     let most = MAX_STEPS - 1 - first;
     let set = noted_run(alloc, program, call, &mut journal.sets, most);
-    let put = put_over(alloc, program, below, over, call);
+    let put = put_over(alloc, program, below, over, call, &mut journal.forced);
     Some(first + set + put)
 }
 

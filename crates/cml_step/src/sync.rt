@@ -30,7 +30,7 @@ use crate::call::{Call, Wait, pad};
 use crate::entry::Entry;
 use crate::offer::{is_quick, put_event};
 use cml_check::{ActOnOne, Effect, Expr, Function, Instr, Prog, Source};
-use cml_group::Forcing;
+use cml_group::{Forced, Forcing};
 use cml_value::{Base, BaseKind, Group, GroupKind, Value, ValueKind};
 use std::alloc::Global;
 
@@ -44,6 +44,7 @@ fn event_in(
     slots: &[Value],
     e: &Expr,
     over: &mut Option<Entry>,
+    forced: &mut Forced,
 ) -> bool
     requires fits { expr_fits (arities program.now) (length f.now.names) e.now ≡ true }
     requires distinct { AreDistinct f.now.names }
@@ -57,7 +58,7 @@ fn event_in(
     ensures put { result ≡ true → IsPut over.new }
     ensures stays { result ≡ false → over.new ≡ over.old }
 {
-    put_event(alloc, slots, e, over)
+    put_event(alloc, slots, e, over, forced)
 }
 
 // The same of the event that an effect synchronizes on, where it does.
@@ -69,6 +70,7 @@ fn event_of_effect(
     effect: &Effect,
     slots: &[Value],
     over: &mut Option<Entry>,
+    forced: &mut Forced,
 ) -> bool
     requires fits { effect_fits (arities program.now) (length f.now.names)
         (plain_effect effect.now) ≡ true }
@@ -84,7 +86,7 @@ fn event_of_effect(
     ensures stays { result ≡ false → over.new ≡ over.old }
 {
     match effect {
-        Effect::ActOnOne(ActOnOne::Sync, e) => event_in(alloc, program, f, slots, e, over),
+        Effect::ActOnOne(ActOnOne::Sync, e) => event_in(alloc, program, f, slots, e, over, forced),
         _ => false,
     }
 }
@@ -99,6 +101,7 @@ fn waits(
     next: usize,
     call: &mut Call,
     over: &mut Option<Entry>,
+    forced: &mut Forced,
 ) -> bool
     requires fits { effect_fits (arities program.now) (length f.now.names)
         (plain_effect effect.now) ≡ true }
@@ -118,7 +121,15 @@ fn waits(
     ensures agrees { result ≡ true →
         event_agrees (arities program.now) (event_over over.new) ≡ true }
 {
-    if !event_of_effect(alloc, program, f, effect, call.slots.as_slice(), over) {
+    if !event_of_effect(
+        alloc,
+        program,
+        f,
+        effect,
+        call.slots.as_slice(),
+        over,
+        forced,
+    ) {
         return false;
     }
     call.asked = call.at;
@@ -137,6 +148,7 @@ fn let_waits(
     next: usize,
     call: &mut Call,
     over: &mut Option<Entry>,
+    forced: &mut Forced,
 ) -> bool
     requires slot { slot < length f.now.names }
     requires fits { effect_fits (arities program.now) (length f.now.names)
@@ -161,7 +173,7 @@ fn let_waits(
         return false;
     };
     let wait = Wait::Gives(slot);
-    waits(alloc, program, f, effect, wait, next, call, over)
+    waits(alloc, program, f, effect, wait, next, call, over, forced)
 }
 
 // The same of an instruction.
@@ -173,6 +185,7 @@ fn synced(
     instr: &Instr,
     call: &mut Call,
     over: &mut Option<Entry>,
+    forced: &mut Forced,
 ) -> bool
     requires here { let left_at = left f.now.body in
         Follows left_at (plain_instr instr.now) (left_at call.old.at) }
@@ -196,12 +209,22 @@ fn synced(
     match instr {
         Instr::Let(slot, source, next) => match source {
             Source::Effect(effect) => {
-                let_waits(alloc, program, f, effect, *slot, *next, call, over)
+                let_waits(alloc, program, f, effect, *slot, *next, call, over, forced)
             }
             Source::Value(_) => false,
         },
         Instr::Do(effect, next) => {
-            waits(alloc, program, f, effect, Wait::Drops, *next, call, over)
+            waits(
+                alloc,
+                program,
+                f,
+                effect,
+                Wait::Drops,
+                *next,
+                call,
+                over,
+                forced,
+            )
         }
         _ => false,
     }
@@ -251,6 +274,7 @@ pub(crate) fn sync_step(
     program: &Prog,
     call: &mut Call,
     over: &mut Option<Entry>,
+    forced: &mut Forced,
 ) -> bool
     requires { CallFits program.now call.old }
     ensures gives { result ≡ true → (self : ℕ) (below : Term) →
@@ -269,7 +293,7 @@ pub(crate) fn sync_step(
     }
     let f = program.function(call.func);
     match f.instr(call.at) {
-        Some(instr) => synced(alloc, program, f, instr, call, over),
+        Some(instr) => synced(alloc, program, f, instr, call, over, forced),
         None => false,
     }
 }
