@@ -5,6 +5,7 @@ ghost use Rattle.std.specs.List.{list_any};
 ghost use Rattle.std.specs.Vec.{vec_capacity};
 ghost use Rattle.cml_scan.specs.declared.meet.Place.{Place};
 ghost use Rattle.cml_scan.specs.Order.{Every, Ascends, before};
+ghost use Rattle.cml_channel.specs.declared.lane.Bound.TheVariants.{Below};
 ghost use Rattle.cml_channel.specs.Lanes as spec;
 
 use crate::tally::Tally;
@@ -127,6 +128,7 @@ impl Lane {
     }
 
     /// How many offers are of the threads that `partner_threads` names.
+    #[inline(always)]
     pub fn others_count(&self, partner_threads: PartnerThreads, tally: &mut Tally) -> usize
         ensures count { result ≡ length (spec.those partner_threads self.now.places) }
         ensures cost { (digits : ℕ) → length self.now.places < 2 ^ digits →
@@ -196,6 +198,7 @@ impl Lane {
     ///
     /// # Errors
     /// Out of memory. The offers are as they were.
+    #[inline(always)]
     pub fn reserve(&mut self, additional: usize) -> Result<(), AllocError>
         ensures same { self.new.places ≡ self.old.places }
         ensures ok { OnOk result (additional ≤ self.new.room) }
@@ -229,6 +232,24 @@ impl Lane {
         ensures cost { (digits : ℕ) → length self.old.places < 2 ^ digits → tally.new ≤ tally.old + digits }
     {
         let at = self.count_under(Bound::Below(tid), tally);
+        if at == self.len() {
+            push_run(&mut self.places, tid, leaves);
+        } else {
+            self.come_before(at, tid, leaves);
+        }
+    }
+
+    // Adds the offers of these leaves before others, behind this many.
+    #[inline(never)]
+    fn come_before(&mut self, at: usize, tid: Tid, leaves: &[u32])
+        requires at { at ≡ length (filter (spec.under (Below tid)) self.old.places) }
+        requires room { length leaves.now ≤ self.old.room }
+        requires new { Every (spec.is_others tid) self.old.places }
+        requires ascend { Ascends nat_lt leaves.now }
+        ensures places { self.new.places ≡ spec.with_run tid leaves.now self.old.places }
+        ensures sorted { Ascends before self.new.places }
+        ensures room { self.old.room ≤ self.new.room + length leaves.now }
+    {
         if at == 0 && leaves.len() <= self.free {
             self.free -= leaves.len();
             write_run(&mut self.places, self.free, tid, leaves);
@@ -248,7 +269,25 @@ impl Lane {
         ensures cost { (digits : ℕ) → length self.old.places < 2 ^ digits → tally.new ≤ tally.old + digits }
     {
         let at = self.count_under(Bound::Below(tid), tally);
-        if at == 0 && count < self.len() {
+        if at + count == self.len() {
+            self.places.truncate(self.free + at);
+        } else {
+            self.go_before(at, tid, count);
+        }
+    }
+
+    // Removes all offers of the thread, which stand before others, behind this many.
+    #[inline(never)]
+    fn go_before(&mut self, at: usize, tid: Tid, count: usize)
+        requires at { at ≡ length (filter (spec.under (Below tid)) self.old.places) }
+        requires count { count ≡ length (filter (spec.is_own tid) self.old.places) }
+        ensures places { self.new.places ≡ spec.others tid self.old.places }
+        ensures sorted { Ascends before self.new.places }
+        ensures room { self.old.room ≤ self.new.room }
+    {
+        // No effect: named here so that the prover knows what holds of it.
+        let _ = &self.places;
+        if at == 0 {
             self.free += count;
         } else {
             remove_run(&mut self.places, self.free + at, count);
