@@ -5,6 +5,7 @@ ghost use Rattle.std.specs.List.{list_any};
 ghost use Rattle.std.specs.Vec.{vec_capacity};
 ghost use Rattle.cml_scan.specs.declared.meet.Place.{Place};
 ghost use Rattle.cml_scan.specs.Order.{Every, Ascends, before};
+ghost use Rattle.cml_channel.specs.declared.lane.Bound.TheVariants.{Below};
 ghost use Rattle.cml_channel.specs.Lanes as spec;
 
 use crate::tally::Tally;
@@ -47,20 +48,23 @@ enum Bound {
 /// are put in and taken out together. An offer can be read only by [`Lane::look`], which counts the look.
 #[derive(Drop)]
 pub struct Lane {
+    // The offers, after free places: an offer that goes from the front leaves its place free.
     places: Vec<Place>,
+    // How many free places there are at the front.
+    free: usize,
 }
 
 impl Model for Lane {
-    ghost use Rattle.std.specs.Prelude.{◌-◌, vec_len};
+    ghost use Rattle.std.specs.Prelude.{◌≤◌, ◌-◌, drop, vec_len};
     ghost use Rattle.std.specs.Vec.{vec_capacity};
     ghost use Rattle.cml_scan.specs.Order.{Ascends, before};
     ghost use Rattle.cml_channel.specs.Lanes.{PlainLane};
 
     ghost Value = { PlainLane };
 
-    ghost view = { λ l. record { places = l.places.items; room = vec_capacity l.places - vec_len l.places } };
+    ghost view = { λ l. record { places = drop l.free l.places.items; room = vec_capacity l.places - vec_len l.places } };
 
-    ghost invariant = { λ l. Ascends before l.places.items };
+    ghost invariant = { λ l. (l.free ≤ vec_len l.places) × Ascends before (drop l.free l.places.items) };
 }
 
 impl Lane {
@@ -70,6 +74,7 @@ impl Lane {
     {
         Lane {
             places: Vec::new(alloc),
+            free: 0,
         }
     }
 
@@ -77,10 +82,11 @@ impl Lane {
     pub fn len(&self) -> usize
         ensures { result ≡ length self.now.places }
     {
-        self.places.len()
+        self.places.len() - self.free
     }
 
     /// The offer at this place in the order.
+    #[inline(always)]
     pub fn look(&self, k: usize, tally: &mut Tally) -> Place
         requires { k < length self.now.places }
         ensures value { result ≡ slice_index_or self.now.places k result }
@@ -89,7 +95,7 @@ impl Lane {
         ensures most { tally.new ≤ tally.old + 1 }
     {
         tally.add();
-        self.places[k]
+        self.places[self.free + k]
     }
 
     // How many offers stand below the bound.
@@ -97,8 +103,10 @@ impl Lane {
         ensures count { result ≡ length (filter (spec.under bound) self.now.places) }
         ensures cost { (digits : ℕ) → length self.now.places < 2 ^ digits → tally.new ≤ tally.old + digits }
     {
+        // No effect: named here so that the prover knows what holds of it.
+        let _ = &self.places;
         let mut low = 0;
-        let mut high = self.places.len();
+        let mut high = self.len();
         while low < high {
             let middle = low + (high - low) / 2;
             let seen = self.look(middle, tally);
@@ -120,6 +128,7 @@ impl Lane {
     }
 
     /// How many offers are of the threads that `partner_threads` names.
+    #[inline(always)]
     pub fn others_count(&self, partner_threads: PartnerThreads, tally: &mut Tally) -> usize
         ensures count { result ≡ length (spec.those partner_threads self.now.places) }
         ensures cost { (digits : ℕ) → length self.now.places < 2 ^ digits →
@@ -189,12 +198,27 @@ impl Lane {
     ///
     /// # Errors
     /// Out of memory. The offers are as they were.
+    #[inline(always)]
     pub fn reserve(&mut self, additional: usize) -> Result<(), AllocError>
         ensures same { self.new.places ≡ self.old.places }
         ensures ok { OnOk result (additional ≤ self.new.room) }
         ensures kept { self.old.room ≤ self.new.room }
     {
+        if self.free > self.len() {
+            self.close_up();
+        }
         self.places.reserve(additional)
+    }
+
+    // Takes the free places away from the front.
+    #[inline(never)]
+    fn close_up(&mut self)
+        ensures same { self.new.places ≡ self.old.places }
+        ensures kept { self.old.room ≤ self.new.room }
+    {
+        let free = self.free;
+        remove_run(&mut self.places, 0, free);
+        self.free = 0;
     }
 
     /// Adds the offers of these leaves of the thread, for which there is room. It takes no memory.
@@ -208,9 +232,32 @@ impl Lane {
         ensures cost { (digits : ℕ) → length self.old.places < 2 ^ digits → tally.new ≤ tally.old + digits }
     {
         let at = self.count_under(Bound::Below(tid), tally);
-        let tail = self.len();
-        push_run(&mut self.places, tid, leaves);
-        move_tail_to(&mut self.places, tail, at);
+        if at == self.len() {
+            push_run(&mut self.places, tid, leaves);
+        } else {
+            self.come_before(at, tid, leaves);
+        }
+    }
+
+    // Adds the offers of these leaves before others, behind this many.
+    #[inline(never)]
+    fn come_before(&mut self, at: usize, tid: Tid, leaves: &[u32])
+        requires at { at ≡ length (filter (spec.under (Below tid)) self.old.places) }
+        requires room { length leaves.now ≤ self.old.room }
+        requires new { Every (spec.is_others tid) self.old.places }
+        requires ascend { Ascends nat_lt leaves.now }
+        ensures places { self.new.places ≡ spec.with_run tid leaves.now self.old.places }
+        ensures sorted { Ascends before self.new.places }
+        ensures room { self.old.room ≤ self.new.room + length leaves.now }
+    {
+        if at == 0 && leaves.len() <= self.free {
+            self.free -= leaves.len();
+            write_run(&mut self.places, self.free, tid, leaves);
+        } else {
+            let tail = self.places.len();
+            push_run(&mut self.places, tid, leaves);
+            move_tail_to(&mut self.places, tail, self.free + at);
+        }
     }
 
     /// Removes all offers of the thread, of which there are this many. It takes no memory.
@@ -222,7 +269,29 @@ impl Lane {
         ensures cost { (digits : ℕ) → length self.old.places < 2 ^ digits → tally.new ≤ tally.old + digits }
     {
         let at = self.count_under(Bound::Below(tid), tally);
-        remove_run(&mut self.places, at, count);
+        if at + count == self.len() {
+            self.places.truncate(self.free + at);
+        } else {
+            self.go_before(at, tid, count);
+        }
+    }
+
+    // Removes all offers of the thread, which stand before others, behind this many.
+    #[inline(never)]
+    fn go_before(&mut self, at: usize, tid: Tid, count: usize)
+        requires at { at ≡ length (filter (spec.under (Below tid)) self.old.places) }
+        requires count { count ≡ length (filter (spec.is_own tid) self.old.places) }
+        ensures places { self.new.places ≡ spec.others tid self.old.places }
+        ensures sorted { Ascends before self.new.places }
+        ensures room { self.old.room ≤ self.new.room }
+    {
+        // No effect: named here so that the prover knows what holds of it.
+        let _ = &self.places;
+        if at == 0 {
+            self.free += count;
+        } else {
+            remove_run(&mut self.places, self.free + at, count);
+        }
     }
 }
 
@@ -244,6 +313,22 @@ fn push_run(places: &mut Vec<Place>, tid: Tid, leaves: &[u32])
 {
     for leaf in leaves {
         places.push_reserved(Place { tid, leaf: *leaf });
+    }
+}
+
+// Writes the offers of these leaves of one thread from the place `at` on. It takes no memory.
+fn write_run(places: &mut [Place], at: usize, tid: Tid, leaves: &[u32])
+    requires { at + length leaves.now ≤ length places.old }
+    ensures len { length places.new ≡ length places.old }
+    ensures items { drop at places.new ≡ spec.run tid leaves.now ++ drop (at + length leaves.now) places.old }
+{
+    let mut left = leaves.len();
+    while left > 0 {
+        left -= 1;
+        places[at + left] = Place {
+            tid,
+            leaf: leaves[left],
+        };
     }
 }
 

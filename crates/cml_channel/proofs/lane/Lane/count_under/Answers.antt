@@ -1,4 +1,4 @@
-use Rattle.std.proofs.Common.{◌≡◌, ◌≤◌, ◌<◌, ◌+◌, ◌-◌, ◌/◌, length, get_or, arith, ap, subst, sym, ◌∙◌, true, false}
+use Rattle.std.proofs.Common.{◌≡◌, ◌≤◌, ◌<◌, ◌+◌, ◌-◌, ◌/◌, length, drop, get_or, arith, ap, subst, sym, ◌∙◌, true, false}
 use Rattle.cml_scan.specs.Order.{Ascends, before}
 use Rattle.cml_channel.specs.Lanes.{PlainLane, under}
 use Rattle.cml_channel.proofs.Counts.{count_under, counted, halved, filter_fewer}
@@ -7,9 +7,7 @@ use Rattle.cml_channel.proofs.lane.Lane.count_under.Goals as goal
 pub loop-low-init : goal.loop-low-init
 loop-low-init c =
     let ps = c.args.self.now.places in
-    let same : c.self.inside.places.items ≡ ps = ap (λ (v : PlainLane). v.places) c.self.view_is in
-    let long : length c.self.inside.places.items ≡ length ps = ap length same in
-    let all : c.len-high.result ≡ length ps = omega (arith, c.self.inside.places.ok.0, c.len-high.ensures, long) in
+    let all : c.len-high.result ≡ length ps = c.len-high.ensures in
     let fewer : count_under c.args.bound ps ≤ length ps = filter_fewer (under c.args.bound) ps in
     record {
       low = omega arith;
@@ -21,8 +19,8 @@ loop-low-init c =
 pub loop-low-preserved-then-is_under : goal.loop-low-preserved-then-is_under
 loop-low-preserved-then-is_under c =
     let ps = c.args.self.now.places in
-    let same : c.self.inside.places.items ≡ ps = ap (λ (v : PlainLane). v.places) c.self.view_is in
-    let up : Ascends before ps = subst (Ascends before) same c.self.invariant in
+    let same : drop c.self.inside.free c.self.inside.places.items ≡ ps = ap (λ (v : PlainLane). v.places) c.self.view_is in
+    let up : Ascends before ps = subst (Ascends before) same c.self.invariant.1 in
     let at = counted c.args.bound ps (c.loop-low.low + (c.loop-low.high - c.loop-low.low) / 2) c.look-seen.result up (omega arith) in
     let is_in : under c.args.bound (get_or ps (c.loop-low.low + (c.loop-low.high - c.loop-low.low) / 2)
     c.look-seen.result) ≡ true = ap (under c.args.bound) (sym c.look-seen.ensures.value)
@@ -38,8 +36,8 @@ loop-low-preserved-then-is_under c =
 pub loop-low-preserved : goal.loop-low-preserved
 loop-low-preserved c =
     let ps = c.args.self.now.places in
-    let same : c.self.inside.places.items ≡ ps = ap (λ (v : PlainLane). v.places) c.self.view_is in
-    let up : Ascends before ps = subst (Ascends before) same c.self.invariant in
+    let same : drop c.self.inside.free c.self.inside.places.items ≡ ps = ap (λ (v : PlainLane). v.places) c.self.view_is in
+    let up : Ascends before ps = subst (Ascends before) same c.self.invariant.1 in
     let at = counted c.args.bound ps (c.loop-low.low + (c.loop-low.high - c.loop-low.low) / 2) c.look-seen.result up (omega arith) in
     let is_out : under c.args.bound (get_or ps (c.loop-low.low + (c.loop-low.high - c.loop-low.low) / 2)
     c.look-seen.result) ≡ false = ap (under c.args.bound) (sym c.look-seen.ensures.value)

@@ -1,40 +1,46 @@
-use Rattle.std.proofs.Common.{◌≡◌, ◌+◌, ◌++◌, length, filter, take, drop, arith, ap, subst, sym, ◌∙◌}
+use Rattle.std.proofs.Common.{◌≡◌, ◌+◌, ◌-◌, ◌++◌, length, take, drop, arith, ap, subst, sym, ◌∙◌}
+use Rattle.std.proofs.lemmas.List.{length-drop}
 use Rattle.cml_scan.specs.Order.{Ascends, before}
 use Rattle.cml_channel.specs.declared.lane.Bound.TheVariants.{Below}
-use Rattle.cml_channel.specs.Lanes.{PlainLane, is_own, is_others, others}
-use Rattle.cml_channel.proofs.Counts.{others_many, removed, Ascends-filter}
+use Rattle.cml_channel.specs.Lanes.{PlainLane, is_others}
+use Rattle.cml_channel.proofs.Counts.{count_under, others_many, removed, Ascends-filter}
+use Rattle.cml_channel.proofs.Free.{cut_off}
 use Rattle.cml_channel.proofs.lane.Lane.go.Goals as goal
 
-pub remove_run-requires : goal.remove_run-requires
-remove_run-requires c =
+pub overflow_add-at : goal.overflow_add-at
+overflow_add-at c =
     let ps = c.args.self.now.places in
-    let same : c.self.inside.places.items ≡ ps = ap (λ (v : PlainLane). v.places) c.self.view_is in
-    let long : length c.self.inside.places.items ≡ length ps = ap length same in
-    let up : Ascends before ps = subst (Ascends before) same c.self.invariant in
+    let same : drop c.self.inside.free c.self.inside.places.items ≡ ps = ap (λ (v : PlainLane). v.places) c.self.view_is in
+    let long : length ps ≡ length c.self.inside.places.items - c.self.inside.free = ap length (sym same) ∙ length-drop c.self.inside.free c.self.inside.places.items in
+    let up : Ascends before ps = subst (Ascends before) same c.self.invariant.1 in
     let m = others_many c.args.tid ps up in
-    omega (arith, m.own, m.high, c.count_under-at.ensures.count, c.requires)
+    omega (arith, long, m.own, m.high, c.self.invariant.0, c.self.inside.places.ok.0, c.self.inside.places.ok, c.count_under-at.ensures.count, c.requires)
 
-pub returns-clause-places : goal.returns-clause-places
-returns-clause-places c =
+pub returns-then-at-count-clause-places : goal.returns-then-at-count-clause-places
+returns-then-at-count-clause-places c =
     let ps = c.args.self.now.places in
-    let same : c.self.inside.places.items ≡ ps = ap (λ (v : PlainLane). v.places) c.self.view_is in
-    let up : Ascends before ps = subst (Ascends before) same c.self.invariant in
-    c.remove_run.ensures.items ∙ ap (λ xs. take c.count_under-at.result xs ++ drop (c.count_under-at.result + c.args.count) xs) same
-    ∙ ap (λ k. take k ps ++ drop (k + c.args.count) ps) c.count_under-at.ensures.count
-    ∙ ap (λ n. take (length (filter (λ q. Rattle.cml_channel.specs.Lanes.under (Below c.args.tid) q) ps)) ps
-    ++ drop (length (filter (λ q. Rattle.cml_channel.specs.Lanes.under (Below c.args.tid) q) ps) + n) ps) c.requires
+    let kept = c.self.inside.places.items in
+    let free = c.self.inside.free in
+    let at = count_under (Below c.args.tid) ps in
+    let same : drop free kept ≡ ps = ap (λ (v : PlainLane). v.places) c.self.view_is in
+    let up : Ascends before ps = subst (Ascends before) same c.self.invariant.1 in
+    let last : at + c.args.count ≡ length ps = ap (λ n. n + c.args.count) (sym c.count_under-at.ensures.count) ∙ c.if-at-count.true ∙ c.len.ensures in
+    ap (drop free) (c.truncate.ensures.items ∙ ap (λ k. take (free + k) kept) c.count_under-at.ensures.count)
+    ∙ cut_off kept ps free at c.args.count same last
+    ∙ ap (λ n. take at ps ++ drop (at + n) ps) c.requires
     ∙ removed c.args.tid ps up
 
-pub returns-clause-sorted : goal.returns-clause-sorted
-returns-clause-sorted c =
+pub returns-then-at-count-clause-sorted : goal.returns-then-at-count-clause-sorted
+returns-then-at-count-clause-sorted c =
     let ps = c.args.self.now.places in
-    let same : c.self.inside.places.items ≡ ps = ap (λ (v : PlainLane). v.places) c.self.view_is in
-    let up : Ascends before ps = subst (Ascends before) same c.self.invariant in
-    subst (Ascends before) (sym (returns-clause-places c)) (Ascends-filter (is_others c.args.tid) ps up)
+    let same : drop c.self.inside.free c.self.inside.places.items ≡ ps = ap (λ (v : PlainLane). v.places) c.self.view_is in
+    let up : Ascends before ps = subst (Ascends before) same c.self.invariant.1 in
+    subst (Ascends before) (sym (returns-then-at-count-clause-places c)) (Ascends-filter (is_others c.args.tid) ps up)
 
 pub invariant_of-self : goal.invariant_of-self
 invariant_of-self c =
     let ps = c.args.self.now.places in
-    let same : c.self.inside.places.items ≡ ps = ap (λ (v : PlainLane). v.places) c.self.view_is in
-    let up : Ascends before ps = subst (Ascends before) same c.self.invariant in
-    subst (Ascends before) (sym (returns-clause-places c)) (Ascends-filter (is_others c.args.tid) ps up)
+    let same : drop c.self.inside.free c.self.inside.places.items ≡ ps = ap (λ (v : PlainLane). v.places) c.self.view_is in
+    let long : length ps ≡ length c.self.inside.places.items - c.self.inside.free = ap length (sym same) ∙ length-drop c.self.inside.free c.self.inside.places.items in
+    let last : c.count_under-at.result + c.args.count ≡ length ps = c.if-at-count.true ∙ c.len.ensures in
+    (omega (arith, long, last, c.self.invariant.0, c.self.inside.places.ok.0, c.truncate.ensures.len), returns-then-at-count-clause-sorted c)

@@ -10,7 +10,7 @@ pub returns-else-first-tid-clause-value : goal.returns-else-first-tid-clause-val
 returns-else-first-tid-clause-value c =
     let ps = c.args.self.now.places in
     let tid = c.in-Others.tid in
-    let up : Ascends before ps = subst (Ascends before) (ap (λ (v : PlainLane). v.places) c.self.view_is) c.self.invariant in
+    let up : Ascends before ps = subst (Ascends before) (ap (λ (v : PlainLane). v.places) c.self.view_is) c.self.invariant.1 in
     let at_end : c.look-last.result ≡ get_or ps (length ps - 1) c.look-last.result = c.look-last.ensures.value ∙ ap (λ n. get_or ps (n - 1) c.look-last.result) c.len-len.ensures in
     let begins : (get_or ps 0 c.look-first.result).tid.0 ≡ tid.0 = sym (ap (λ (p : Place). p.tid.0) c.look-first.ensures.value) ∙ c.if-first-tid.false in
     ap (λ (p : Place). not (nat_eq p.tid.0 tid.0)) at_end ∙ last_tells tid ps c.look-first.result c.look-last.result up (omega arith) begins
@@ -20,7 +20,7 @@ pub returns-in-Above-clause-value : goal.returns-in-Above-clause-value
 returns-in-Above-clause-value c =
     let ps = c.args.self.now.places in
     let tid = c.in-Above.tid in
-    let up : Ascends before ps = subst (Ascends before) (ap (λ (v : PlainLane). v.places) c.self.view_is) c.self.invariant in
+    let up : Ascends before ps = subst (Ascends before) (ap (λ (v : PlainLane). v.places) c.self.view_is) c.self.invariant.1 in
     let at_end : c.look-last.result ≡ get_or ps (length ps - 1) c.look-last.result = c.look-last.ensures.value ∙ ap (λ n. get_or ps (n - 1) c.look-last.result) c.len-len.ensures in
     ap (λ (p : Place). nat_lt tid.0 p.tid.0) at_end ∙ last_above tid ps c.look-last.result up (omega arith)
     ∙ ap (λ w. list_any (is_of w) ps) (sym c.in-Above.is)

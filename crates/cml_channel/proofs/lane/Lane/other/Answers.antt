@@ -9,7 +9,7 @@ use Rattle.cml_channel.proofs.lane.Lane.other.Goals.{then-j-low, else-j-low}
 pub look-requires : goal.look-requires
 look-requires c =
     let ps = c.args.self.now.places in
-    let up : Ascends before ps = subst (Ascends before) (ap (λ (v : PlainLane). v.places) c.self.view_is) c.self.invariant in
+    let up : Ascends before ps = subst (Ascends before) (ap (λ (v : PlainLane). v.places) c.self.view_is) c.self.invariant.1 in
     let m = others_many c.in-Others.tid ps up in
     let same = ap (λ w. length (those w ps)) c.in-Others.is in
     elim c.if-j-low.branch [
@@ -20,7 +20,7 @@ look-requires c =
 pub overflow_add-k : goal.overflow_add-k
 overflow_add-k c =
     let ps = c.args.self.now.places in
-    let up : Ascends before ps = subst (Ascends before) (ap (λ (v : PlainLane). v.places) c.self.view_is) c.self.invariant in
+    let up : Ascends before ps = subst (Ascends before) (ap (λ (v : PlainLane). v.places) c.self.view_is) c.self.invariant.1 in
     let m = others_many c.in-Others.tid ps up in
     let same = ap (λ w. length (those w ps)) c.in-Others.is in
     omega (arith, same, m.many, m.low, m.high, c.requires, c.count_under-low.ensures.count, c.count_under-high.ensures.count, c.len-len.ensures, c.len-len.type_inv)
@@ -43,7 +43,7 @@ pub returns-after-j-low-clause-value : goal.returns-after-j-low-clause-value
 returns-after-j-low-clause-value c =
     let ps = c.args.self.now.places in
     let tid = c.in-Others.tid in
-    let up : Ascends before ps = subst (Ascends before) (ap (λ (v : PlainLane). v.places) c.self.view_is) c.self.invariant in
+    let up : Ascends before ps = subst (Ascends before) (ap (λ (v : PlainLane). v.places) c.self.view_is) c.self.invariant.1 in
     let same = ap (λ w. get_or (those w ps) c.args.j c.look.result) (sym c.in-Others.is) in
     elim c.if-j-low.branch [
       | then-j-low w ↦ c.look.ensures.value ∙ ap (λ k. get_or ps k c.look.result) w.k-is
@@ -62,7 +62,7 @@ returns-in-Above-clause-value c =
     let ps = c.args.self.now.places in
     let tid = c.in-Above.tid in
     let r = c.look-in-Above.result in
-    let up : Ascends before ps = subst (Ascends before) (ap (λ (v : PlainLane). v.places) c.self.view_is) c.self.invariant in
+    let up : Ascends before ps = subst (Ascends before) (ap (λ (v : PlainLane). v.places) c.self.view_is) c.self.invariant.1 in
     c.look-in-Above.ensures.value ∙ ap (λ h. get_or ps (h + c.args.j) r) c.count_under-high-in-Above.ensures.count
     ∙ sym (above_at tid ps c.args.j r up)
     ∙ ap (λ w. get_or (those w ps) c.args.j r) (sym c.in-Above.is)
