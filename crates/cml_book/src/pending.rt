@@ -71,6 +71,7 @@ impl State {
     }
 
     /// Has the thread go on from this leaf of its group, and settles the group's nacks: each fires or is held.
+    #[inline(always)]
     pub fn go_on(&mut self, thread: Tid, leaf: u32) -> Chosen
         requires { WaitsOn self.old.threads self.old.nacks thread.0 leaf (group_awaited self.old thread.0) }
         ensures world { self.new ≡ released self.old thread.0 leaf }
@@ -86,6 +87,7 @@ impl State {
 }
 
 // Has the thread run from now on. Returns the group that it waited on, whose ticks are counted no more.
+#[inline(always)]
 fn release(threads: &mut Vec<Thread>, clock: &mut Clock, thread: Tid) -> Flat
     requires waits { IsSome (option_and_then flat_of (slice_get threads.old.items thread.0)) }
     requires counts { Counts threads.old.items clock.old.waited }

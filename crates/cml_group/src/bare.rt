@@ -123,6 +123,7 @@ pub fn own_leaf(group: &Group, n: usize) -> &Base
 }
 
 /// The same leaf, for whoever chose it. It takes no memory.
+#[inline(always)]
 pub fn own_base(group: Group, n: usize) -> Base
     requires flat { is_flat group ≡ true }
     requires leaf { n < leaf_count group }

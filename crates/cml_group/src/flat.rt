@@ -246,6 +246,7 @@ impl Flat {
     }
 
     /// The leaf, chosen. It takes no memory: the lists were reserved by [`flatten`].
+    #[inline(always)]
     pub fn choose(self, n: usize) -> Chosen
         requires { n < leaf_count self }
         ensures leaf { pick self n
