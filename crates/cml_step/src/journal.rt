@@ -80,6 +80,22 @@ pub(crate) fn set_slot(
     true
 }
 
+// Lets go what was noted of slots.
+#[inline(never)]
+fn forget_sets(sets: &mut Vec<Noted>)
+    ensures { sets.new.items ≡ [] }
+{
+    sets.clear();
+}
+
+// Lets go the wraps.
+#[inline(never)]
+fn forget_over(over: &mut Option<Wraps>)
+    ensures { over.new ≡ None }
+{
+    *over = None;
+}
+
 impl Journal {
     /// Nothing is noted.
     pub(crate) fn new(alloc: Global) -> Journal
@@ -98,15 +114,16 @@ impl Journal {
     }
 
     /// Lets go what is noted.
+    #[inline(always)]
     pub(crate) fn clear(&mut self)
         ensures sets { self.new.sets.items ≡ [] }
         ensures over { self.new.over ≡ None }
     {
         if !self.sets.is_empty() {
-            self.sets.clear();
+            forget_sets(&mut self.sets);
         }
         if self.over.is_some() {
-            self.over = None;
+            forget_over(&mut self.over);
         }
     }
 
@@ -149,12 +166,12 @@ fn as_entry(over: Option<Wraps>) -> Option<Entry>
     }
 }
 
-/// Gives the call the value for which it waits, and notes what its slot had. Without memory nothing has changed.
-pub(crate) fn fill_noted(call: &mut Call, value: Value, sets: &mut Vec<Noted>) -> bool
+/// Gives the call a copy of the value for which it waits, and notes what its slot had. Without memory nothing has changed.
+pub(crate) fn fill_noted(call: &mut Call, value: &Value, sets: &mut Vec<Noted>) -> bool
     requires waits { WaitFits call.old.wait (length call.old.slots.items)
         (length call.old.slots.items) }
     ensures slots { result ≡ true → call.new.slots.items
-        ≡ slots_with call.old.wait value call.old.slots.items }
+        ≡ slots_with call.old.wait value.now call.old.slots.items }
     ensures runs { result ≡ true → call.new.wait ≡ Wait.Runs }
     ensures place { (call.new.func ≡ call.old.func) × (call.new.at ≡ call.old.at) }
     ensures noted { HasNotes sets.old.items call.old sets.new.items call.new }
@@ -162,14 +179,16 @@ pub(crate) fn fill_noted(call: &mut Call, value: Value, sets: &mut Vec<Noted>) -
 {
     match call.wait {
         Wait::Gives(slot) => {
-            if !set_slot(&mut call.slots, slot, value, sets) {
+            let Ok(copy) = value.copy() else {
+                return false;
+            };
+            if !set_slot(&mut call.slots, slot, copy, sets) {
                 return false;
             }
             call.wait = Wait::Runs;
             true
         }
         Wait::Runs | Wait::Drops => {
-            drop(value);
             call.wait = Wait::Runs;
             true
         }

@@ -180,17 +180,17 @@ pub(crate) fn noted_run(
     done
 }
 
-/// Delivers the value to the call, and notes what its slot had. Without memory nothing has changed.
+/// Delivers a copy of the value to the call, if a slot is given it, and notes what its slot had. Without memory nothing has changed.
 pub(crate) fn deliver_noted(
     program: &Prog,
     call: &mut Call,
-    value: Value,
+    value: &Value,
     sets: &mut Vec<Noted>,
 ) -> bool
     requires fits { CallFits program.now call.old }
-    requires agrees { value_agrees (arities program.now) value ≡ true }
+    requires agrees { value_agrees (arities program.now) value.now ≡ true }
     ensures meant { result ≡ true → (below : Term) →
-        steps.delivered value (entry_of program.now call.old ∷ below)
+        steps.delivered value.now (entry_of program.now call.old ∷ below)
         ≡ goes_on (entry_of program.now call.new ∷ below) }
     ensures fits { CallFits program.now call.new }
     ensures noted { HasNotes sets.old.items call.old sets.new.items call.new }

@@ -29,19 +29,17 @@ use cml_group::Forced;
 use cml_value::Value;
 use std::alloc::{AllocError, Global};
 
-// A copy of the value of wraps of which no function is left.
-fn value_over(over: &Option<Entry>) -> Option<Value>
+// The value of wraps of which no function is left.
+#[inline(always)]
+fn value_over(over: &Option<Entry>) -> Option<&Value>
     ensures { IfSome result (λ v. (hs : List PlainHeld) →
-        topped hs over.now ≡ hs ++ plain_wraps [] v ∷ []) }
+        topped hs over.now ≡ hs ++ plain_wraps [] v.now ∷ []) }
 {
     if !are_done(over) {
         return None;
     }
     match over {
-        Some(Entry::Wraps(wraps)) => match wraps.value.copy() {
-            Ok(value) => Some(value),
-            Err(_) => None,
-        },
+        Some(Entry::Wraps(wraps)) => Some(&wraps.value),
         _ => None,
     }
 }
@@ -62,7 +60,7 @@ fn taken(over: &mut Option<Entry>) -> Option<Wraps>
     }
 }
 
-// Where wraps of which no function is left stand over the call, a copy of their value is delivered to it, and the journal has them. Returns
+// Where wraps of which no function is left stand over the call, their value is delivered to it, and the journal has them. Returns
 // how many steps that was; where another entry stands over the call nothing has changed.
 fn deliver_over(
     program: &Prog,

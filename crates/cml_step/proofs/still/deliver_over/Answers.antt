@@ -24,7 +24,7 @@ deliver_noted-requires-clause-fits c =
     let p = c.args.program.now in
     let hs = c.args.below.now in
     let k = c.args.call.now in
-    let v = c.in_ok-value.value in
+    let v = c.in_ok-value.value.now in
     (under_wraps p hs k v (subst (StackFits p) (c.in_ok-value.ensures (hs ++ plain_held (entry.Call k) ∷ [])) c.requires.fits)).1
 
 pub deliver_noted-requires-clause-agrees : goal.deliver_noted-requires-clause-agrees
@@ -32,7 +32,7 @@ deliver_noted-requires-clause-agrees c =
     let p = c.args.program.now in
     let hs = c.args.below.now in
     let k = c.args.call.now in
-    let v = c.in_ok-value.value in
+    let v = c.in_ok-value.value.now in
     (under_wraps p hs k v (subst (StackFits p) (c.in_ok-value.ensures (hs ++ plain_held (entry.Call k) ∷ [])) c.requires.fits)).2.value
 
 pub returns-clause-fits : goal.returns-clause-fits
@@ -41,7 +41,7 @@ returns-clause-fits c =
     let hs = c.args.below.now in
     let k = c.args.call.now in
     let d = c.deliver_noted.new.call in
-    let v = c.in_ok-value.value in
+    let v = c.in_ok-value.value.now in
     let u = under_wraps p hs k v (subst (StackFits p) (c.in_ok-value.ensures (hs ++ plain_held (entry.Call k) ∷ [])) c.requires.fits) in
     subst (λ (o : Option Entry). StackFits p (stood hs d o)) (sym c.taken.ensures.none) (fits_pushed p hs (plain_held (entry.Call d)) u.0 c.deliver_noted.ensures.fits)
 
@@ -51,7 +51,7 @@ returns-clause-goes c =
     let hs = c.args.below.now in
     let k = c.args.call.now in
     let d = c.deliver_noted.new.call in
-    let v = c.in_ok-value.value in
+    let v = c.in_ok-value.value.now in
     let st : stood hs k c.args.over.now ≡ (hs ++ plain_held (entry.Call k) ∷ []) ++ wraps [] v ∷ [] = c.in_ok-value.ensures (hs ++ plain_held (entry.Call k) ∷ []) in (
       omega arith,
       λ self. (
@@ -68,4 +68,4 @@ pub returns-clause-noted : goal.returns-clause-noted
 returns-clause-noted c = subst (λ (ns : List Noted). HasNotes ns c.args.call.now c.deliver_noted.new.sets.items c.deliver_noted.new.call) c.requires.empty c.deliver_noted.ensures.noted
 
 pub taken-requires : goal.taken-requires
-taken-requires c = wraps_there c.args.over.now c.in_ok-value.value (c.in_ok-value.ensures [])
+taken-requires c = wraps_there c.args.over.now c.in_ok-value.value.now (c.in_ok-value.ensures [])
