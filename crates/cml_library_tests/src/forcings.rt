@@ -1,7 +1,7 @@
 //! What forcings of events ask for, and what they end with.
 
 use crate::making::{MEMORY, group, make, many};
-use cml_group::{Forced, ForceFault, Forcing, Next};
+use cml_group::{ForceFault, Forced, Forcing, Next};
 use cml_value::{Event, FnRef, Group, GroupKind, NackId};
 use std::process::Abort;
 
