@@ -32,6 +32,6 @@ pub returns-clause-undone : goal.returns-clause-undone
 returns-clause-undone c =
     let a = c.begin_noted.new.journal in
     let head = c.in_ok-first.ensures.head.0 in
-    let j : Journal = record { at = a.at; wait = a.wait; asked = a.asked; count = a.count; sets = c.noted_run-set.new.sets; over = a.over } in
+    let j : Journal = record { at = a.at; wait = a.wait; asked = a.asked; count = a.count; sets = c.noted_run-set.new.sets; over = a.over; forced = a.forced } in
     before_same c.args.below.now j c.args.call.now c.noted_run-set.new.call c.put_over-put.new.call c.args.over.now (record { at = head.at; wait = head.wait; count = head.count }) c.in_ok-first.ensures.head.1
     (noted_on c.in_ok-first.ensures.noted c.noted_run-set.ensures.noted) c.put_over-put.ensures.had
