@@ -24,6 +24,7 @@ use Rattle.indexmap.specs.contracts.index_table.IndexTable as IndexTable
 use Rattle.cml_index.specs.contracts.index.OfferIndex as OfferIndex
 use Rattle.cml_index.specs.contracts.entries.Entries as Entries
 use Rattle.cml_index.specs.contracts.entry.Entry as Entry
+use Rattle.cml_index.specs.contracts.entry.Spare as Spare
 use Rattle.cml_base.specs.contracts.register.Register as Register
 use Rattle.cml_signal.specs.contracts.clock.Clock as Clock
 use Rattle.cml_book.specs.contracts.state.State as State
@@ -56,11 +57,14 @@ map_send K V S H e h b r k v s = let c = columns_send K V k v in let p = places_
 entry_send : IsSend Entry.the_row
 entry_send = search all_cross depth 60 fits 100000
 
+spare_send : IsSend Spare.the_row
+spare_send = search all_cross depth 60 fits 100000
+
 entries_send : IsSend Entries.the_row
 entries_send = search (sendable, crosses, entry_send) depth 60 fits 100000
 
 index_send : IsSend OfferIndex.the_row
-index_send = search (sendable, crosses, entry_send, entries_send, map_send) depth 60 fits 100000
+index_send = search (sendable, crosses, spare_send, entries_send, map_send) depth 60 fits 100000
 
 -- the book
 clock_send : IsSend Clock.the_row
